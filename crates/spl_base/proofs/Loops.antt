@@ -1,0 +1,45 @@
+-- Reading and writing items one after the other, as loops do.
+use Rattle.std.proofs.Common.{◌≡◌, ℕ, suc, ◌-◌, ◌+◌, ◌≤◌, ◌<◌, List, [], ◌∷◌, ◌++◌, length, get_or, take, Result, Ok, Err, refl, sym, ap, ◌∙◌, append_assoc, arith}
+use Rattle.std.specs.List.{flat_map}
+use Rattle.std.proofs.lemmas.List.{append-nil, take_more}
+use Rattle.std.proofs.lemmas.List.Concat.{flat_map-append}
+use Rattle.spl_base.specs.declared.fault.Malformed.{Malformed}
+use Rattle.spl_base.specs.declared.fault.Malformed.TheVariants as malformed
+use Rattle.spl_base.specs.Input.{Input, ◌>>=◌}
+use Rattle.spl_base.specs.Form.{Form, Parsed, items_at, Fails}
+
+module _ {A : Type 0} where
+  -- what was read before, and what is still read
+  abbrev pub with_front : List A → Parsed (List A) → Parsed (List A)
+  with_front front read = read >>= λ x. Ok (front ++ x.0, x.1)
+
+  regroup : (front : List A) (x : A) (read : Parsed (List A)) → with_front front (read >>= λ y. Ok (x ∷ y.0, y.1)) ≡ with_front (front ++ x ∷ []) read
+  regroup front x (Ok y) = ap (λ (xs : List A). Ok (xs, y.1)) (simp append_assoc)
+  regroup front x (Err f) = refl
+
+  pub goes_on : (p : Input → Parsed A) (front : List A) (count i : ℕ) (s : Input) (x : A) (t : Input) (total : Parsed (List A)) → i < count → p s ≡ Ok (x, t)
+      → with_front front (items_at p (count - i) s) ≡ total → with_front (front ++ x ∷ []) (items_at p (count - (i + 1)) t) ≡ total
+  goes_on p front count i s x t total lt h so_far =
+      let k : count - i ≡ suc (count - (i + 1)) = omega arith in
+      let one : with_front front (items_at p (count - i) s) ≡ with_front (front ++ x ∷ []) (items_at p (count - (i + 1)) t) = rw (k, h) (regroup front x (items_at p (count - (i + 1)) t)) in
+      sym one ∙ so_far
+
+  pub ends : (p : Input → Parsed A) (e : Malformed) (front : List A) (count i : ℕ) (s : Input) (total : Parsed (List A)) → i < count → Fails e (p s)
+      → with_front front (items_at p (count - i) s) ≡ total → Fails e total
+  ends p malformed.NoMemory front count i s total lt h so_far = tt
+  ends p (malformed.At at) front count i s total lt h so_far =
+      let k : count - i ≡ suc (count - (i + 1)) = omega arith in
+      let one : with_front front (items_at p (count - i) s) ≡ Err at = rw (k, h) refl in
+      sym so_far ∙ one
+
+  pub is_done : (p : Input → Parsed A) (front : List A) (count i : ℕ) (s : Input) (total : Parsed (List A)) → count ≤ i → with_front front (items_at p (count - i) s) ≡ total → total ≡ Ok (front, s)
+  is_done p front count i s total le so_far =
+      let k : count - i ≡ 0 = omega arith in
+      let one : with_front front (items_at p (count - i) s) ≡ Ok (front, s) = rw k (ap (λ (xs : List A). Ok (xs, s)) (append-nil front)) in
+      sym so_far ∙ one
+
+  -- one more item written
+  pub flat_map_more : (f : A → List ℕ) (old count : List ℕ) (xs : List A) (i : ℕ) (d : A) → i < length xs → (old ++ (count ++ flat_map f (take i xs))) ++ f (get_or xs i d) ≡ old ++ (count ++ flat_map f (take (i + 1) xs))
+  flat_map_more f old count xs i d lt =
+      let grown : flat_map f (take (i + 1) xs) ≡ flat_map f (take i xs) ++ f (get_or xs i d) = ap (flat_map f) (take_more xs i d lt) ∙ flat_map-append f (take i xs) (get_or xs i d ∷ []) ∙ ap (λ (z : List ℕ). flat_map f (take i xs) ++ z) (append-nil (f (get_or xs i d))) in
+      rw grown (simp append_assoc)

@@ -1,0 +1,11 @@
+use Rattle.std.proofs.Common.{◌≡◌, ◌++◌, length, take, IsTrue}
+use Rattle.std.specs.Int.{w16}
+use Rattle.spl_base.specs.Form.{number_bytes}
+use Rattle.std.specs.List.{flat_map, list_all}
+use Rattle.spl_base.proofs.field.write_list.Given as goal
+
+abbrev pub invariant-loop-x : goal.invariant-loop-x
+invariant-loop-x g l = record {
+  spelled : l.w ≡ l.fn.w ++ (number_bytes w16 (length l.items) ++ flat_map g.T.Field.form.spell (take l.x-index l.items));
+  is_fit : IsTrue (list_all g.T.Field.form.fits (take l.x-index l.items));
+}

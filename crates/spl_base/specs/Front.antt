@@ -1,0 +1,14 @@
+-- A value at the front of bytes, and how many bytes it takes.
+use Rattle.std.specs.Prelude.{◌≡◌, ℕ, List, Result, Ok, Err}
+use Rattle.spl_base.specs.declared.fault.Malformed.{Malformed}
+use Rattle.spl_base.specs.Input.{Input, ◌>>=◌}
+use Rattle.spl_base.specs.Form.{Form, Fails}
+
+-- the value at the front and its length, or where the first unreadable field begins
+abbrev pub front_of : {A : Type 0} → Form A → List ℕ → Result (A × ℕ) ℕ
+front_of f bytes = f.parse (record { rest = bytes; place = 0 }) >>= λ x. Ok (x.0, x.1.place)
+
+-- an answer, unless memory ran out
+abbrev pub Answers : {Y : Type 0} → Result Y Malformed → Result Y ℕ → Type 0
+Answers (Ok x) found = found ≡ Ok x
+Answers (Err e) found = Fails e found

@@ -1,0 +1,198 @@
+//! Values with a form in bytes.
+ghost use Rattle.std.specs.Prelude.{◌≡◌, ◌≤◌, ◌++◌, length, drop, IsTrue, IfOk, OnOk, Ok, List, ℕ};
+ghost use Rattle.spl_base.specs.Front.{front_of, Answers};
+ghost use Rattle.std.specs.List.{flat_map, list_all};
+ghost use Rattle.std.specs.Int.{w16};
+ghost use Rattle.spl_base.specs.Form.{Form, IsExact, Reads, number_bytes, list_of, items_at};
+
+use crate::fault::Malformed;
+use crate::listing::Listing;
+use crate::piece::Piece;
+use crate::reader::Reader;
+use crate::writer::Writer;
+use std::alloc::{AllocError, Global};
+
+/// A value that has one spelling in bytes.
+pub trait Field: Drop {
+    ghost form: { Form Self };
+
+    /// Appends the spelling.
+    fn put(&self, w: &mut Writer) -> Result<(), AllocError>
+        requires { IsTrue (form.bounded self.now) }
+        ensures ok { OnOk result (w.new ≡ w.old ++ form.spell self.now) }
+        ensures fits { OnOk result (IsTrue (form.fits self.now)) };
+
+    /// Reads a value from the front.
+    fn take(alloc: Global, r: &mut Reader) -> Result<Self, Malformed>
+        ensures { Reads (λ x. x) result r.new (form.parse r.old) };
+
+    ghost exact: { IsExact form };
+}
+
+/// Appends a count and the items.
+pub fn write_list<T: Field>(items: &[T], w: &mut Writer) -> Result<(), AllocError>
+    requires few { length items.now ≤ 65535 }
+    requires bounded { IsTrue (list_all T.form.bounded items.now) }
+    ensures ok { OnOk result (w.new ≡ w.old ++ (number_bytes w16 (length items.now) ++ flat_map T.form.spell items.now)) }
+    ensures fits { OnOk result (IsTrue (list_all T.form.fits items.now)) }
+{
+    (items.len() as u16).put(w)?;
+    for x in items {
+        x.put(w)?;
+    }
+    Ok(())
+}
+
+fn read_items<T: Field>(alloc: Global, r: &mut Reader, count: u16) -> Result<Listing<T>, Malformed>
+    ensures { Reads (λ x. x) result r.new (items_at T.form.parse count r.old) }
+{
+    let mut items = Listing::new(alloc);
+    for _ in 0..count {
+        let x = T::take(alloc, r)?;
+        items.push(x)?;
+    }
+    Ok(items)
+}
+
+/// Reads a count of at most so many, and the items.
+pub fn read_list<T: Field>(
+    alloc: Global,
+    r: &mut Reader,
+    most: u16,
+) -> Result<Listing<T>, Malformed>
+    ensures { Reads (λ x. x) result r.new ((list_of most T.form).parse r.old) }
+{
+    let at = r.place();
+    let count = u16::take(alloc, r)?;
+    if most < count {
+        return Err(Malformed::At { at });
+    }
+    read_items(alloc, r, count)
+}
+
+impl Field for u8 {
+    ghost use Rattle.std.specs.Prelude.{◌^◌};
+    ghost use Rattle.std.specs.Int.{w8};
+    ghost use Rattle.spl_base.specs.Form.{number};
+    ghost use Rattle.spl_base.specs.FormLaws.{wide8, exact_number};
+
+    ghost form = { number w8 (2 ^ 8) };
+
+    #[tactic(auto, unfolding(crate::specs::Form::number_bytes))]
+    fn put(&self, w: &mut Writer) -> Result<(), AllocError> {
+        w.put_u8(*self)
+    }
+
+    fn take(_alloc: Global, r: &mut Reader) -> Result<u8, Malformed> {
+        Ok(r.take_u8()?)
+    }
+
+    ghost exact = { exact_number w8 (2 ^ 8) wide8 };
+}
+
+impl Field for u16 {
+    ghost use Rattle.std.specs.Prelude.{◌^◌};
+    ghost use Rattle.std.specs.Int.{w16};
+    ghost use Rattle.spl_base.specs.Form.{number};
+    ghost use Rattle.spl_base.specs.FormLaws.{wide16, exact_number};
+
+    ghost form = { number w16 (2 ^ 16) };
+
+    #[tactic(auto, unfolding(crate::specs::Form::number_bytes))]
+    fn put(&self, w: &mut Writer) -> Result<(), AllocError> {
+        w.put_u16(*self)
+    }
+
+    fn take(_alloc: Global, r: &mut Reader) -> Result<u16, Malformed> {
+        Ok(r.take_u16()?)
+    }
+
+    ghost exact = { exact_number w16 (2 ^ 16) wide16 };
+}
+
+impl Field for u32 {
+    ghost use Rattle.std.specs.Prelude.{◌^◌};
+    ghost use Rattle.std.specs.Int.{w32};
+    ghost use Rattle.spl_base.specs.Form.{number};
+    ghost use Rattle.spl_base.specs.FormLaws.{wide32, exact_number};
+
+    ghost form = { number w32 (2 ^ 32) };
+
+    #[tactic(auto, unfolding(crate::specs::Form::number_bytes))]
+    fn put(&self, w: &mut Writer) -> Result<(), AllocError> {
+        w.put_u32(*self)
+    }
+
+    fn take(_alloc: Global, r: &mut Reader) -> Result<u32, Malformed> {
+        Ok(r.take_u32()?)
+    }
+
+    ghost exact = { exact_number w32 (2 ^ 32) wide32 };
+}
+
+impl Field for u64 {
+    ghost use Rattle.std.specs.Prelude.{◌^◌};
+    ghost use Rattle.std.specs.Int.{w64};
+    ghost use Rattle.spl_base.specs.Form.{number};
+    ghost use Rattle.spl_base.specs.FormLaws.{wide64, exact_number};
+
+    ghost form = { number w64 (2 ^ 64) };
+
+    #[tactic(auto, unfolding(crate::specs::Form::number_bytes))]
+    fn put(&self, w: &mut Writer) -> Result<(), AllocError> {
+        w.put_u64(*self)
+    }
+
+    fn take(_alloc: Global, r: &mut Reader) -> Result<u64, Malformed> {
+        Ok(r.take_u64()?)
+    }
+
+    ghost exact = { exact_number w64 (2 ^ 64) wide64 };
+}
+
+impl Field for bool {
+    ghost use Rattle.spl_base.specs.Form.{flag};
+    ghost use Rattle.spl_base.specs.FormLaws.{exact_flag};
+
+    ghost form = { flag };
+
+    fn put(&self, w: &mut Writer) -> Result<(), AllocError> {
+        if *self { 1u8.put(w) } else { 0u8.put(w) }
+    }
+
+    fn take(alloc: Global, r: &mut Reader) -> Result<bool, Malformed> {
+        let at = r.place();
+        match u8::take(alloc, r)? {
+            0 => Ok(false),
+            1 => Ok(true),
+            _ => Err(Malformed::At { at }),
+        }
+    }
+
+    ghost exact = { exact_flag };
+}
+
+/// Reads a value from the front, and how many bytes it takes.
+pub fn read_front<T: Field>(alloc: Global, bytes: &[u8]) -> Result<(T, usize), Malformed>
+    // Where the first unreadable field begins.
+    ensures exact { Answers result (front_of T.form bytes.now) }
+    // What is read is spelled so.
+    ensures found { IfOk result (λ x. (bytes.now ≡ T.form.spell x.0 ++ drop x.1 bytes.now) × IsTrue (T.form.fits x.0)) }
+    // What is spelled so is read, whatever follows it, unless memory runs out.
+    ensures only { (x : T) (rest : List ℕ) → IsTrue (T.form.fits x) → bytes.now ≡ T.form.spell x ++ rest → Answers result (Ok (x, length (T.form.spell x))) }
+{
+    let mut r = Reader::new(bytes);
+    let x = T::take(alloc, &mut r)?;
+    Ok((x, r.place()))
+}
+
+/// The spelling of a value.
+pub fn spelled<T: Field>(alloc: Global, x: &T) -> Result<Piece, AllocError>
+    requires { IsTrue (T.form.bounded x.now) }
+    ensures spelled { IfOk result (λ p. p ≡ T.form.spell x.now) }
+    ensures fits { OnOk result (IsTrue (T.form.fits x.now)) }
+{
+    let mut w = Writer::new(alloc);
+    x.put(&mut w)?;
+    Ok(w.into_piece())
+}

@@ -1,0 +1,88 @@
+//! Byte strings.
+ghost use Rattle.std.specs.Prelude.{◌≡◌, ◌≤◌, ◌<◌, ◌^◌, length, IfOk};
+
+use crate::fault::Malformed;
+use crate::field::Field;
+use crate::reader::Reader;
+use crate::writer::Writer;
+use std::alloc::{AllocError, Global};
+use std::marker::Model;
+
+/// A byte string.
+#[derive(Debug, Drop)]
+pub struct Piece {
+    bytes: Vec<u8>,
+}
+
+impl Model for Piece {
+    ghost use Rattle.std.specs.Prelude.{List, ℕ};
+
+    ghost Value = { List ℕ };
+
+    ghost view = { λ a. a.bytes.items };
+}
+
+impl Piece {
+    pub(crate) fn from_vec(bytes: Vec<u8>) -> Piece
+        ensures { result ≡ bytes.items }
+    {
+        Piece { bytes }
+    }
+
+    pub fn from(alloc: Global, bytes: &[u8]) -> Result<Piece, AllocError>
+        ensures { IfOk result (λ p. p ≡ bytes.now) }
+    {
+        Ok(Piece {
+            bytes: Vec::from_slice(alloc, bytes)?,
+        })
+    }
+
+    pub fn bytes(&self) -> &[u8]
+        ensures { result.now ≡ self.now }
+    {
+        self.bytes.as_slice()
+    }
+}
+
+impl Field for Piece {
+    ghost use Rattle.std.proofs.Common.{lit<};
+    ghost use Rattle.spl_base.specs.Form.{string};
+    ghost use Rattle.spl_base.specs.FormLaws.{exact_string};
+
+    ghost form = { string 1024 };
+
+    #[tactic(auto, unfolding(crate::specs::Form::number_bytes))]
+    fn put(&self, w: &mut Writer) -> Result<(), AllocError> {
+        w.put_text(self.bytes())
+    }
+
+    fn take(alloc: Global, r: &mut Reader) -> Result<Piece, Malformed> {
+        let bytes = r.take_text(1024)?;
+        Ok(Piece::from(alloc, bytes)?)
+    }
+
+    ghost exact = { exact_string 1024 (lit< tt) };
+}
+
+/// The address of an entry.
+#[derive(Clone, Copy, Debug, PartialEq, Eq, PartialOrd, Ord, Hash)]
+pub struct Address(pub [u8; 35]);
+
+impl Field for Address {
+    ghost use Rattle.spl_base.specs.Fields.{address, exact_address};
+
+    ghost form = { address };
+
+    fn put(&self, w: &mut Writer) -> Result<(), AllocError> {
+        w.put_raw(&self.0)
+    }
+
+    fn take(_alloc: Global, r: &mut Reader) -> Result<Address, Malformed> {
+        let bytes = r.take_raw(35)?;
+        let mut cells = [0; 35];
+        cells.copy_from_slice(bytes);
+        Ok(Address(cells))
+    }
+
+    ghost exact = { exact_address };
+}

@@ -1,0 +1,110 @@
+//! Taking fields from the front of bytes.
+ghost use Rattle.std.specs.Prelude.{◌≡◌, ◌≤◌, ◌<◌, ◌+◌, ◌^◌, length, IfOk};
+ghost use Rattle.std.specs.Int.{w8, w16, w32, w64};
+ghost use Rattle.spl_base.specs.Input.{Input, number_at, raw_at, text_at, Takes};
+
+use crate::fault::FieldFault;
+use std::marker::Model;
+
+/// Takes fields from the front of bytes.
+#[derive(Debug, Drop)]
+pub struct Reader<'a> {
+    rest: &'a [u8],
+    place: usize,
+}
+
+impl<'a> Model for Reader<'a> {
+    ghost use Rattle.std.specs.Prelude.{◌<◌, ◌+◌, ◌^◌, length};
+    ghost use Rattle.spl_base.specs.Input.{Input};
+
+    ghost Value = { Input };
+
+    ghost view = { λ a. record { rest = a.rest.now; place = a.place } };
+
+    ghost invariant = { λ a. a.place + length a.rest.now < 2 ^ 64 };
+}
+
+impl<'a> Reader<'a> {
+    pub fn new(bytes: &'a [u8]) -> Reader<'a>
+        ensures { result ≡ record { rest = bytes.now; place = 0 } }
+    {
+        Reader {
+            rest: bytes,
+            place: 0,
+        }
+    }
+
+    /// How many bytes were taken.
+    pub fn place(&self) -> usize
+        ensures { result ≡ self.now.place }
+    {
+        self.place
+    }
+
+    /// Takes n bytes.
+    pub fn take_raw(&mut self, n: usize) -> Result<&'a [u8], FieldFault>
+        ensures taken { Takes (λ x. x.now) result self.old self.new (raw_at n self.old) }
+        ensures len { IfOk result (λ x. length x.now ≡ n) }
+    {
+        if self.rest.len() < n {
+            return Err(FieldFault::Short { at: self.place });
+        }
+        let (front, rest) = self.rest.split_at(n);
+        self.rest = rest;
+        self.place += n;
+        Ok(front)
+    }
+
+    pub fn take_u8(&mut self) -> Result<u8, FieldFault>
+        ensures { Takes (λ x. x) result self.old self.new (number_at w8 self.old) }
+    {
+        let front = self.take_raw(1)?;
+        Ok(front[0])
+    }
+
+    pub fn take_u16(&mut self) -> Result<u16, FieldFault>
+        ensures { Takes (λ x. x) result self.old self.new (number_at w16 self.old) }
+    {
+        let front = self.take_raw(2)?;
+        Ok(u16::from_be_bytes([front[0], front[1]]))
+    }
+
+    pub fn take_u32(&mut self) -> Result<u32, FieldFault>
+        ensures { Takes (λ x. x) result self.old self.new (number_at w32 self.old) }
+    {
+        let front = self.take_raw(4)?;
+        Ok(u32::from_be_bytes([front[0], front[1], front[2], front[3]]))
+    }
+
+    pub fn take_u64(&mut self) -> Result<u64, FieldFault>
+        ensures { Takes (λ x. x) result self.old self.new (number_at w64 self.old) }
+    {
+        let front = self.take_raw(8)?;
+        Ok(u64::from_be_bytes([
+            front[0], front[1], front[2], front[3], front[4], front[5], front[6], front[7],
+        ]))
+    }
+
+    /// Takes a text of at most so many bytes.
+    pub fn take_text(&mut self, most: u16) -> Result<&'a [u8], FieldFault>
+        ensures { Takes (λ x. x.now) result self.old self.new (text_at most self.old) }
+    {
+        let at = self.place;
+        if self.rest.len() < 2 {
+            return Err(FieldFault::Short { at });
+        }
+        let (front, rest) = self.rest.split_at(2);
+        let n = u16::from_be_bytes([front[0], front[1]]);
+        if most < n {
+            return Err(FieldFault::TooLong { at });
+        }
+        let n = n as usize;
+        if rest.len() < n {
+            return Err(FieldFault::Short { at });
+        }
+        let (text, rest) = rest.split_at(n);
+        self.rest = rest;
+        self.place = self.place + 2 + n;
+        Ok(text)
+    }
+}
