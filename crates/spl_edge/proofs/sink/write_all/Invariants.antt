@@ -1,0 +1,13 @@
+use Rattle.std.proofs.Common.{◌≤◌, ◌-◌, length, take}
+use Rattle.std.specs.Io.KnownBytes.{Appends}
+use Rattle.spl_edge.proofs.sink.write_all.Given as goal
+
+abbrev pub invariant-loop-sent : goal.invariant-loop-sent
+invariant-loop-sent g l = record {
+  within : l.sent ≤ length l.piece;
+  bytes : Appends (g.W.Sink.written l.initial.sink) (g.W.Sink.written l.sink) (take l.sent l.piece);
+  later : g.W.Sink.faults l.initial.sink ≤ g.W.Sink.faults l.sink;
+}
+
+abbrev pub decreases-loop-sent : goal.decreases-loop-sent
+decreases-loop-sent g l = length l.piece - l.sent

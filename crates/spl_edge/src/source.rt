@@ -1,0 +1,91 @@
+//! Where bytes come from.
+ghost use Rattle.std.specs.Prelude.{◌≡◌, ◌≢◌, ◌↔◌, ◌+◌, ◌<◌, ◌≤◌, ◌^◌, ◌++◌, List, ℕ, [], length, take, IfOk, Option};
+ghost use Rattle.std.specs.Io.KnownBytes.{Consumes, IsAtEnd};
+ghost use Rattle.spl_edge.specs.Causes.{HasCause, Rose, moved_by};
+
+use crate::DeviceError;
+use std::alloc::Global;
+
+/// Where bytes come from, one piece after another.
+pub trait Source {
+    /// All bytes taken so far.
+    ghost taken: { Self → List ℕ };
+
+    /// The bytes that are left, where the object tells.
+    ghost left: { Self → Option (List ℕ) };
+
+    /// How often it has failed. The count stops at 2^64 - 1.
+    ghost faults: { Self → ℕ };
+
+    /// Takes some of the next bytes, and tells how many. A read of 0 into a buffer that isn't empty is the end.
+    /// A call that fails takes nothing.
+    fn read(&mut self, buf: &mut [u8]) -> Result<usize, DeviceError>
+        ensures bound { IfOk result (λ n. n ≤ length buf.new) }
+        ensures taken { taken self.new ≡ taken self.old ++ moved_by result buf.new }
+        ensures left { Consumes (left self.old) (left self.new) (moved_by result buf.new) }
+        ensures end { IfOk result (λ n. n ≡ 0 → 0 < length buf.new → IsAtEnd (left self.new)) }
+        ensures cause { HasCause (faults self.old) (faults self.new) result };
+}
+
+/// How a reading ended.
+#[derive(Clone, Copy, Debug, PartialEq, Eq)]
+pub enum ReadEnd {
+    /// The source was read to its end.
+    Whole,
+    /// The source gave more bytes than the limit.
+    TooLong,
+    /// The source failed.
+    Fault,
+    /// Memory ran out.
+    NoMemory,
+}
+
+/// The bytes that were read, and how the reading ended.
+#[derive(Debug, Drop)]
+pub struct Reading {
+    pub bytes: Vec<u8>,
+    pub end: ReadEnd,
+}
+
+const PIECE: usize = 65_536;
+
+/// Takes all there is. It ends early at a fault, where memory runs out, and once it has more bytes than the limit.
+pub fn read_all<S: Source>(alloc: Global, limit: usize, source: &mut S) -> Reading
+    requires { limit < 2 ^ 32 }
+    ensures taken { S.taken source.new ≡ S.taken source.old ++ result.bytes.items }
+    ensures left { Consumes (S.left source.old) (S.left source.new) result.bytes.items }
+    ensures whole { result.end ≡ ReadEnd.Whole → IsAtEnd (S.left source.new) }
+    ensures too_long { result.end ≡ ReadEnd.TooLong ↔ (limit < length result.bytes.items) }
+    ensures fault { result.end ≡ ReadEnd.Fault → Rose (S.faults source.old) (S.faults source.new) }
+    ensures later { S.faults source.old ≤ S.faults source.new }
+{
+    let mut bytes = Vec::new(alloc);
+    let mut buf = [0u8; PIECE];
+    while bytes.len() <= limit {
+        if bytes.try_reserve(PIECE).is_err() {
+            return Reading {
+                bytes,
+                end: ReadEnd::NoMemory,
+            };
+        }
+        match source.read(&mut buf) {
+            Ok(0) => return Reading {
+                bytes,
+                end: ReadEnd::Whole,
+            },
+            Ok(count) => bytes.extend_from_slice(&buf[..count]).unwrap(),
+            Err(DeviceError::Failed) => return Reading {
+                bytes,
+                end: ReadEnd::Fault,
+            },
+            Err(DeviceError::NoMemory) => return Reading {
+                bytes,
+                end: ReadEnd::NoMemory,
+            },
+        }
+    }
+    Reading {
+        bytes,
+        end: ReadEnd::TooLong,
+    }
+}
