@@ -1,0 +1,5 @@
+pub mod Member
+pub mod Rows
+pub mod Fits
+pub mod World
+pub mod Agreement

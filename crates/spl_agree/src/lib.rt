@@ -1,0 +1,16 @@
+//! What the members of a group agree on, what they tell one another, and the rules of one group.
+#![tactic(auto)]
+
+mod agreed;
+mod event;
+mod message;
+mod number;
+mod plan;
+mod reason;
+
+pub use agreed::Agreed;
+pub use event::{GroupChange, GroupEvent, Note, OpenMove};
+pub use message::CommitMsg;
+pub use number::{Generation, Place, Round};
+pub use plan::{GroupChanges, GroupPlan, GroupSends};
+pub use reason::{Admit, Reason};

@@ -1,0 +1,43 @@
+//! What the members of a group tell one another.
+
+use crate::{Generation, Place, Reason, Round};
+
+/// A message between two members of a group, with the generation of the sender's definition.
+#[derive(Debug, Drop)]
+pub enum CommitMsg<V> {
+    /// The coordinator asks for a vote on a value at a place.
+    VoteRequest {
+        generation: Generation,
+        round: Round,
+        place: Place,
+        value: V,
+    },
+    /// A member votes on a round.
+    Vote {
+        generation: Generation,
+        round: Round,
+        yes: bool,
+    },
+    /// The coordinator tells the decision of a round.
+    Decision {
+        generation: Generation,
+        round: Round,
+        commit: bool,
+    },
+    /// A member asks for the decision of a round.
+    DecisionRequest {
+        generation: Generation,
+        round: Round,
+    },
+    /// A member hands a value to the coordinator.
+    Forward {
+        generation: Generation,
+        value: V,
+    },
+    /// A value was refused.
+    Refused {
+        generation: Generation,
+        value: V,
+        reason: Reason,
+    },
+}

@@ -1,0 +1,4 @@
+pub mod Ascents
+pub mod Order
+pub mod Sorting
+pub mod Valid

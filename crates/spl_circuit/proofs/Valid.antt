@@ -1,0 +1,65 @@
+-- What a definition that breaks no rule has.
+use Rattle.std.proofs.Common.{◌≡◌, ◌≤◌, ℕ, zero, suc, ◌+◌, Bool, true, false, leb, ◌&&◌, IsTrue, List, [], ◌∷◌, length, get_or, None, refl, sym, ap, arith}
+use Rattle.std.specs.List.{list_all}
+use Rattle.std.specs.Prelude.{slice_index_or}
+use Rattle.std.proofs.lemmas.Bool.{leb-true, le-leb}
+use Rattle.spl_base.specs.FormLaws.{both_true, and_true}
+use Rattle.spl_circuit.specs.declared.definition.Service.{Service}
+use Rattle.spl_circuit.specs.declared.definition.Definition.{Definition}
+use Rattle.spl_circuit.specs.Forms.{definition, node_id, service}
+use Rattle.spl_circuit.specs.Nodes.{Node, sorted, same_nodes, lowest}
+use Rattle.spl_circuit.specs.Rules as rules
+use Rattle.spl_circuit.specs.Rules.{broken, rules_of, first_false, ascends, ascends_after, ids_of, nodes_of, leading_node, admin}
+use Rattle.spl_circuit.proofs.Sorting.{first_is_lowest, first_service_is_lowest, length_served}
+
+-- each test is passed where none is the first that fails
+test_at : (k n : ℕ) (bs : List Bool) → first_false n bs ≡ None → IsTrue (get_or bs k true)
+test_at k n [] e = refl
+test_at zero n (true ∷ bs) e = refl
+test_at (suc k) n (true ∷ bs) e = test_at k (n + 1) bs e
+test_at k n (false ∷ bs) e = absurd cc
+
+pub few_members : (d : Definition) → broken d ≡ None → (2 ≤ length d.members) × (length d.members ≤ 8)
+few_members d e =
+    let h : IsTrue (leb 2 (length d.members) && leb (length d.members) 8) = test_at 4 1 (rules_of d) e in
+    let b = both_true (leb 2 (length d.members)) (leb (length d.members) 8) h in
+    (leb-true 2 (length d.members) b.0, leb-true (length d.members) 8 b.1)
+
+pub members_ascend : (d : Definition) → broken d ≡ None → IsTrue (ascends d.members)
+members_ascend d e = test_at 5 1 (rules_of d) e
+
+pub services_ascend : (d : Definition) → broken d ≡ None → IsTrue (ascends (ids_of d.services))
+services_ascend d e = test_at 7 1 (rules_of d) e
+
+-- one service a member
+pub as_many_services : (d : Definition) → broken d ≡ None → length d.services ≡ length d.members
+as_many_services d e =
+    let h : IsTrue (same_nodes (sorted (nodes_of d.services)) d.members) = test_at 8 1 (rules_of d) e in
+    length_served d.services d.members h
+
+first_node : (ms : List Node) (x : Node) → IsTrue (ascends ms) → 2 ≤ length ms → slice_index_or ms 0 x ≡ lowest ms
+first_node [] x a l = absurd (omega (arith, l))
+first_node (m ∷ ms) x a l = sym (first_is_lowest m ms a)
+
+pub admin_is_first : (d : Definition) (x : Node) → broken d ≡ None → slice_index_or d.members 0 x ≡ admin d
+admin_is_first d x e = first_node d.members x (members_ascend d e) (few_members d e).0
+
+first_service : (ss : List Service) (s : Service) → IsTrue (ascends (ids_of ss)) → 2 ≤ length ss → (slice_index_or ss 0 s).node ≡ leading_node ss
+first_service [] s a l = absurd (omega (arith, l))
+first_service (t ∷ ts) s a l = ap (λ v. v.node) (sym (first_service_is_lowest t ts a))
+
+pub service_is_first : (d : Definition) (s : Service) → broken d ≡ None → (slice_index_or d.services 0 s).node ≡ rules.service d
+service_is_first d s e = first_service d.services s (services_ascend d e) (omega (arith, as_many_services d e, (few_members d e).0))
+
+all_pass : {A : Type 0} (p : A → Bool) → ((x : A) → p x ≡ true) → (xs : List A) → IsTrue (list_all p xs)
+all_pass p h [] = refl
+all_pass p h (x ∷ xs) = and_true (p x) (list_all p xs) (h x) (all_pass p h xs)
+
+-- it has a byte form
+pub bounded_from_valid : (d : Definition) → broken d ≡ None → IsTrue (definition.bounded d)
+bounded_from_valid d e =
+    let few = (few_members d e).1 in
+    let same = as_many_services d e in
+    and_true (leb (length d.members) 16 && list_all node_id.bounded d.members) (leb (length d.services) 16 && list_all service.bounded d.services)
+    (and_true (leb (length d.members) 16) (list_all node_id.bounded d.members) (le-leb (length d.members) 16 (omega (arith, few))) (all_pass node_id.bounded (λ xs. refl) d.members))
+    (and_true (leb (length d.services) 16) (list_all service.bounded d.services) (le-leb (length d.services) 16 (omega (arith, few, same))) (all_pass service.bounded (λ s. refl) d.services))

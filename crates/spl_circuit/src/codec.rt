@@ -1,0 +1,91 @@
+//! The byte forms of definitions and acts.
+ghost use Rattle.std.specs.Prelude.{◌≡◌, ◌++◌, ◌+◌, List, ℕ, length, Ok, IsTrue, OnOk, OnErr, IfOk};
+ghost use Rattle.spl_base.specs.Input.{Input};
+ghost use Rattle.spl_base.specs.Form.{Reads};
+ghost use Rattle.spl_circuit.specs.Forms.{definition, act};
+ghost use Rattle.spl_circuit.specs.declared.definition.Definition.{Definition as Circuit};
+ghost use Rattle.spl_circuit.specs.declared.act.Act.{Act as Deed};
+ghost use Rattle.sha2.specs.Sha256.{sha256};
+
+use crate::act::Act;
+use crate::definition::Definition;
+use sha2::{Digest, Sha256};
+use spl_base::{Field, Malformed, Reader, Writer, spelled};
+use std::alloc::{AllocError, Global};
+
+impl Definition {
+    /// Appends the byte form, which a definition of at most 16 members and at most 16 services
+    /// has. After want of memory nothing was appended.
+    pub fn write(&self, alloc: Global, w: &mut Writer) -> Result<(), AllocError>
+        requires few { IsTrue (definition.bounded self.now) }
+        ensures ok { OnOk result (w.new ≡ w.old ++ definition.spell self.now) }
+        ensures fits { OnOk result (IsTrue (definition.fits self.now)) }
+        ensures err { OnErr result (w.new ≡ w.old) }
+    {
+        let mut own = Writer::new(alloc);
+        self.put(&mut own)?;
+        w.put_raw(own.bytes())
+    }
+
+    /// Reads a definition from the front, whether or not it keeps the rules. The fault is the
+    /// place of the first field that cannot be read, or want of memory.
+    pub fn read(alloc: Global, r: &mut Reader) -> Result<Definition, Malformed>
+        ensures { Reads (λ x. x) result r.new (definition.parse r.old) }
+    {
+        Definition::take(alloc, r)
+    }
+
+    /// SHA-256 of the byte form.
+    pub fn hash(&self, alloc: Global) -> Result<[u8; 32], AllocError>
+        requires few { IsTrue (definition.bounded self.now) }
+        ensures { IfOk result (λ h. h ≡ sha256 (definition.spell self.now)) }
+    {
+        let form = spelled(alloc, self)?;
+        let mut hasher = Sha256::new();
+        hasher.update(form.bytes());
+        Ok(hasher.finalize())
+    }
+}
+
+impl Act {
+    /// Appends the byte form, which an act has where the definition that it proposes has one.
+    /// After want of memory nothing was appended.
+    pub fn write(&self, alloc: Global, w: &mut Writer) -> Result<(), AllocError>
+        requires few { IsTrue (act.bounded self.now) }
+        ensures ok { OnOk result (w.new ≡ w.old ++ act.spell self.now) }
+        ensures fits { OnOk result (IsTrue (act.fits self.now)) }
+        ensures err { OnErr result (w.new ≡ w.old) }
+    {
+        let mut own = Writer::new(alloc);
+        self.put(&mut own)?;
+        w.put_raw(own.bytes())
+    }
+
+    /// Reads an act from the front. The fault is the place of the first field that cannot be
+    /// read, or want of memory.
+    pub fn read(alloc: Global, r: &mut Reader) -> Result<Act, Malformed>
+        ensures { Reads (λ x. x) result r.new (act.parse r.old) }
+    {
+        Act::take(alloc, r)
+    }
+}
+
+/// What is spelled is read back, whatever follows it.
+pub fn definitions_are_read_back()
+    ensures { (d : Circuit) (rest : List ℕ) (place : ℕ) → IsTrue (definition.fits d) → definition.parse (record { rest = definition.spell d ++ rest; place = place }) ≡ Ok (d, record { rest = rest; place = place + length (definition.spell d) }) }
+{}
+
+/// No spelling of a definition begins another.
+pub fn no_definition_begins_another()
+    ensures { (d e : Circuit) (x y : List ℕ) → IsTrue (definition.fits d) → IsTrue (definition.fits e) → definition.spell d ++ x ≡ definition.spell e ++ y → (d ≡ e) × (x ≡ y) }
+{}
+
+/// What is spelled is read back, whatever follows it.
+pub fn acts_are_read_back()
+    ensures { (a : Deed) (rest : List ℕ) (place : ℕ) → IsTrue (act.fits a) → act.parse (record { rest = act.spell a ++ rest; place = place }) ≡ Ok (a, record { rest = rest; place = place + length (act.spell a) }) }
+{}
+
+/// No spelling of an act begins another.
+pub fn no_act_begins_another()
+    ensures { (a b : Deed) (x y : List ℕ) → IsTrue (act.fits a) → IsTrue (act.fits b) → act.spell a ++ x ≡ act.spell b ++ y → (a ≡ b) × (x ≡ y) }
+{}

@@ -1,0 +1,105 @@
+//! The definition of a circuit.
+ghost use Rattle.std.specs.Prelude.{◌≡◌, ◌++◌, IsTrue, OnOk};
+
+use spl_agree::Generation;
+use spl_base::{
+    CircuitId, Field, Label, Listing, Malformed, NodeId, Reader, ServiceId, Writer, read_list,
+    write_list,
+};
+use std::alloc::{AllocError, Global};
+
+/// A service of a circuit: its id, its type, and the node that it stands on.
+#[derive(Debug, Drop)]
+pub struct Service {
+    pub id: ServiceId,
+    pub kind: Label,
+    pub node: NodeId,
+}
+
+/// The nodes of a circuit.
+pub type Members = Listing<NodeId>;
+
+/// The services of a circuit.
+pub type Services = Listing<Service>;
+
+/// What a circuit is: its members and the services on them.
+#[derive(Debug, Drop)]
+pub struct Definition {
+    pub id: CircuitId,
+    pub generation: Generation,
+    pub version: u8,
+    pub management: Label,
+    pub name: Label,
+    pub members: Members,
+    pub services: Services,
+}
+
+impl Field for Service {
+    ghost use Rattle.spl_circuit.specs.Forms.{service, exact_service};
+
+    ghost form = { service };
+
+    fn put(&self, w: &mut Writer) -> Result<(), AllocError> {
+        self.id.put(w)?;
+        self.kind.put(w)?;
+        self.node.put(w)
+    }
+
+    fn take(alloc: Global, r: &mut Reader) -> Result<Service, Malformed> {
+        let id = ServiceId::take(alloc, r)?;
+        let kind = Label::take(alloc, r)?;
+        let node = NodeId::take(alloc, r)?;
+        Ok(Service { id, kind, node })
+    }
+
+    ghost exact = { exact_service };
+}
+
+impl Definition {
+    ghost use Rattle.spl_circuit.specs.Forms.{lists};
+
+    fn put_lists(&self, w: &mut Writer) -> Result<(), AllocError>
+        requires { IsTrue (lists.bounded (self.now.members, self.now.services)) }
+        ensures ok { OnOk result (w.new ≡ w.old ++ lists.spell (self.now.members, self.now.services)) }
+        ensures fits { OnOk result (IsTrue (lists.fits (self.now.members, self.now.services))) }
+    {
+        write_list(self.members.as_slice(), w)?;
+        write_list(self.services.as_slice(), w)
+    }
+}
+
+impl Field for Definition {
+    ghost use Rattle.spl_circuit.specs.Forms.{definition, exact_definition};
+
+    ghost form = { definition };
+
+    fn put(&self, w: &mut Writer) -> Result<(), AllocError> {
+        self.id.put(w)?;
+        self.generation.0.put(w)?;
+        self.version.put(w)?;
+        self.management.put(w)?;
+        self.name.put(w)?;
+        self.put_lists(w)
+    }
+
+    fn take(alloc: Global, r: &mut Reader) -> Result<Definition, Malformed> {
+        let id = CircuitId::take(alloc, r)?;
+        let generation = Generation(u32::take(alloc, r)?);
+        let version = u8::take(alloc, r)?;
+        let management = Label::take(alloc, r)?;
+        let name = Label::take(alloc, r)?;
+        let members = read_list(alloc, r, 16)?;
+        let services = read_list(alloc, r, 16)?;
+        Ok(Definition {
+            id,
+            generation,
+            version,
+            management,
+            name,
+            members,
+            services,
+        })
+    }
+
+    ghost exact = { exact_definition };
+}

@@ -1,0 +1,20 @@
+//! Circuits: their definitions, the acts on them, and the byte forms of both.
+#![tactic(auto)]
+
+mod act;
+mod codec;
+mod definition;
+mod lifecycle;
+mod rules;
+mod values;
+
+pub use act::{Act, ActKind};
+pub use codec::{
+    acts_are_read_back, definitions_are_read_back, no_act_begins_another,
+    no_definition_begins_another,
+};
+pub use definition::{Definition, Members, Service, Services};
+pub use lifecycle::{Lifecycle, Mark, RouteFault};
+
+#[cfg(test)]
+mod tests;
