@@ -1,0 +1,129 @@
+//! The text of an answer.
+ghost use Rattle.std.specs.Prelude.{◌≡◌, ◌++◌, OnOk, IfOk, decimal};
+ghost use Rattle.spl_answer.specs.Texts.{text, refusal_text, lifecycle_text, mark_text, counts_text, standing_text};
+
+use crate::part::{append, append_nodes, append_number};
+use spl_agree::Generation;
+use spl_base::Piece;
+use spl_circuit::{Lifecycle, Mark};
+use spl_wire::{Answer, Refusal};
+use std::alloc::{AllocError, Global};
+
+fn append_lifecycle(lifecycle: Lifecycle, out: &mut Vec<u8>) -> Result<(), AllocError>
+    ensures { OnOk result (out.new.items ≡ out.old.items ++ lifecycle_text lifecycle) }
+{
+    match lifecycle {
+        Lifecycle::None => append(b"none", out),
+        Lifecycle::Proposed => append(b"proposed", out),
+        Lifecycle::Active => append(b"active", out),
+        Lifecycle::Rejected => append(b"rejected", out),
+        Lifecycle::Removed => append(b"removed", out),
+    }
+}
+
+fn append_mark(mark: Mark, out: &mut Vec<u8>) -> Result<(), AllocError>
+    ensures { OnOk result (out.new.items ≡ out.old.items ++ mark_text mark) }
+{
+    match mark {
+        Mark::Open => append(b"open", out),
+        Mark::Abandoned => append(b"abandoned", out),
+        Mark::Purged => append(b"purged", out),
+    }
+}
+
+fn append_generation(generation: Generation, out: &mut Vec<u8>) -> Result<(), AllocError>
+    ensures { OnOk result (out.new.items ≡ out.old.items ++ decimal generation) }
+{
+    append_number(generation.0, out)
+}
+
+fn append_refusal(refusal: Refusal, out: &mut Vec<u8>) -> Result<(), AllocError>
+    ensures { OnOk result (out.new.items ≡ out.old.items ++ refusal_text refusal) }
+{
+    match refusal {
+        Refusal::NoCircuit => append(b"2", out),
+        Refusal::BadDefinition(rule) => {
+            append(b"3 ", out)?;
+            append_number(u32::from(rule), out)
+        }
+        Refusal::NotMember => append(b"4", out),
+        Refusal::StaleGeneration { bound } => {
+            append(b"5 ", out)?;
+            append_generation(bound, out)
+        }
+        Refusal::CircuitHeld => append(b"6", out),
+    }
+}
+
+fn append_counts(
+    name: &[u8],
+    committed: u32,
+    pending: u32,
+    out: &mut Vec<u8>,
+) -> Result<(), AllocError>
+    ensures { OnOk result (out.new.items ≡ out.old.items ++ counts_text name.now committed pending) }
+{
+    append(name, out)?;
+    append_number(committed, out)?;
+    append(b" ", out)?;
+    append_number(pending, out)
+}
+
+fn append_standing(
+    generation: Generation,
+    lifecycle: Lifecycle,
+    mark: Mark,
+    out: &mut Vec<u8>,
+) -> Result<(), AllocError>
+    ensures { OnOk result (out.new.items ≡ out.old.items ++ standing_text generation lifecycle mark) }
+{
+    append(b"generation ", out)?;
+    append_generation(generation, out)?;
+    append(b" lifecycle ", out)?;
+    append_lifecycle(lifecycle, out)?;
+    append(b" mark ", out)?;
+    append_mark(mark, out)?;
+    Ok(())
+}
+
+/// Appends the text of the answer (docs/RULES.md, Answers), without number and line feed. Where memory runs out, a part
+/// of it may stand there.
+pub fn append_text(answer: &Answer, out: &mut Vec<u8>) -> Result<(), AllocError>
+    ensures { OnOk result (out.new.items ≡ out.old.items ++ text answer.now) }
+{
+    match answer {
+        Answer::Submitted { known: true } => append(b"ok known", out),
+        Answer::Submitted { known: false } => append(b"ok queued", out),
+        Answer::Show {
+            generation,
+            lifecycle,
+            mark,
+            accepted,
+            acts,
+            acts_pending,
+            batches,
+            batches_pending,
+        } => {
+            append(b"ok circuit ", out)?;
+            append_standing(*generation, *lifecycle, *mark, out)?;
+            append(b" accepted ", out)?;
+            append_nodes(accepted, out)?;
+            append_counts(b" acts ", *acts, *acts_pending, out)?;
+            append_counts(b" batches ", *batches, *batches_pending, out)?;
+            Ok(())
+        }
+        Answer::Refused(refusal) => {
+            append(b"refused ", out)?;
+            append_refusal(*refusal, out)
+        }
+    }
+}
+
+/// The text of the answer (docs/RULES.md, Answers), without number and line feed. Fails only where memory runs out.
+pub fn text(alloc: Global, answer: &Answer) -> Result<Piece, AllocError>
+    ensures { IfOk result (λ p. p ≡ text answer.now) }
+{
+    let mut out = Vec::new(alloc);
+    append_text(answer, &mut out)?;
+    Piece::from(alloc, out.as_slice())
+}

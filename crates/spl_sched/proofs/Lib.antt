@@ -1,0 +1,5 @@
+mod Splits
+mod Numbers
+mod WordLaws
+mod GrammarLaws
+mod Items

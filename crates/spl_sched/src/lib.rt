@@ -1,0 +1,23 @@
+//! The lines of a schedule.
+#![tactic(auto)]
+
+mod fault;
+mod laws;
+mod line;
+mod list;
+mod number;
+mod read;
+#[cfg(test)]
+mod tests;
+mod word;
+mod words;
+mod write;
+
+pub use fault::LineFault;
+pub use laws::{
+    lines_are_read_back, lines_have_one_spelling, silent_lines_are_no_lines,
+    spellings_have_one_line,
+};
+pub use line::{Line, Step};
+pub use read::read_line;
+pub use write::write_line;
