@@ -1,0 +1,6 @@
+//! One circuit at one node.
+#![tactic(auto)]
+
+mod cell;
+
+pub use cell::Cell;

@@ -1,0 +1,4 @@
+pub mod Worlds
+pub mod Answers
+pub mod Apart
+pub mod Plain

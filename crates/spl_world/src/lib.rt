@@ -1,0 +1,6 @@
+//! All nodes, each with its cells.
+#![tactic(auto)]
+
+mod world;
+
+pub use world::{Node, World};
