@@ -1,0 +1,7 @@
+mod Behinds
+mod Dues
+mod Feeds
+mod Given
+mod Outputs
+mod Runs
+mod Words

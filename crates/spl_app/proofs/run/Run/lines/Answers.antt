@@ -1,0 +1,61 @@
+use Rattle.std.proofs.Common.{Err, ◌≡◌, ◌-◌, ℕ, List, take, sym, ◌∙◌, ap, subst, rules, arith}
+use Rattle.std.specs.List.{AllByRecursion}
+use Rattle.spl_app.specs.declared.run.RunFault.{RunFault}
+use Rattle.spl_app.specs.declared.run.RunFault.TheVariants.{BadLine}
+use Rattle.spl_app.specs.Lines.{lines_of}
+use Rattle.spl_app.specs.Run.{IsLine, answers}
+use Rattle.spl_app.specs.Due.{IsDue}
+use Rattle.spl_app.specs.Behind.{IsBehind}
+use Rattle.spl_app.proofs.Dues.{due_same, due_whole}
+use Rattle.spl_app.proofs.Runs.{all-push, next_number, within, taken, behind, part_of_all, first_bad, none_left, all_counted}
+use Rattle.spl_app.proofs.run.Run.lines.Goals as goal
+
+pub returns-in-Err-clause-bad : goal.returns-in-Err-clause-bad
+returns-in-Err-clause-bad g c = λ number is.
+    let lines = lines_of c.args.text.now in
+    let same : c.in-Err.fault ≡ BadLine number = cc in
+    let found = c.in-Err.ensures.bad number (ap (λ (e : RunFault). Err e) same) in
+    let before : number - 1 ≡ c.lines.count = omega (arith, found.0) in (
+      first_bad lines c.lines.count c.lines.invariant.counted c.in-Some.line.now (lines_of c.in-Some.behind.now) (sym c.lines.invariant.left ∙ c.in-Some.ensures.0) c.lines.invariant.good found.1 number found.0,
+      rw before (due_same _ _ _ c.lines.self.output _ _ found.3 (search rules) c.lines.invariant.behind.due),
+    )
+
+pub returns-in-Err-clause-part : goal.returns-in-Err-clause-part
+returns-in-Err-clause-part g c =
+    let lines = lines_of c.args.text.now in
+    let here = sym c.lines.invariant.left ∙ c.in-Some.ensures.0 in
+    part_of_all lines c.lines.count c.lines.invariant.counted c.in-Some.line.now (lines_of c.in-Some.behind.now) here _ _ _
+    (c.line.ensures.part (take c.lines.count lines) _ c.lines.invariant.behind (next_number lines c.lines.count c.lines.invariant.counted))
+
+pub lines-preserved : goal.lines-preserved
+lines-preserved g c =
+    let lines = lines_of c.args.text.now in
+    let here = sym c.lines.invariant.left ∙ c.in-Some.ensures.0 in
+    let line = c.in-Some.line.now in
+    let rest = lines_of c.in-Some.behind.now in
+    let more = sym (taken lines c.lines.count c.lines.invariant.counted line rest here) in
+    record {
+      room = omega (arith, c.in-Some.ensures);
+      left = sym (behind lines c.lines.count c.lines.invariant.counted line rest here);
+      counted = omega (arith, within lines c.lines.count c.lines.invariant.counted line rest here);
+      good = subst (AllByRecursion IsLine) more (all-push _ _ c.lines.invariant.good (search rules));
+      behind = subst (λ (ls : List (List ℕ)). IsBehind ls c.line.new.self (g.W.Sink.written c.args.out.now) (g.W.Sink.written c.line.new.out)) more
+          (c.in_default-line.ensures.ok (take c.lines.count lines) _ c.lines.invariant.behind (next_number lines c.lines.count c.lines.invariant.counted));
+      later = search rules;
+    }
+
+pub returns-clause-count : goal.returns-clause-count
+returns-clause-count g c = all_counted (lines_of c.args.text.now) c.lines.count c.lines.invariant.counted (sym c.lines.invariant.left ∙ c.in_default.ensures)
+
+pub returns-clause-good : goal.returns-clause-good
+returns-clause-good g c = subst (AllByRecursion IsLine) (none_left (lines_of c.args.text.now) c.lines.count c.lines.invariant.counted (sym c.lines.invariant.left ∙ c.in_default.ensures)) c.lines.invariant.good
+
+pub returns-clause-due : goal.returns-clause-due
+returns-clause-due g c =
+    let all = none_left (lines_of c.args.text.now) c.lines.count c.lines.invariant.counted (sym c.lines.invariant.left ∙ c.in_default.ensures) in
+    subst (λ (ls : List (List ℕ)). IsDue (g.W.Sink.written c.args.out.now) (g.W.Sink.written c.lines.out) c.lines.self.output (answers ls)) all c.lines.invariant.behind.due
+
+pub returns-clause-part : goal.returns-clause-part
+returns-clause-part g c =
+    let all = none_left (lines_of c.args.text.now) c.lines.count c.lines.invariant.counted (sym c.lines.invariant.left ∙ c.in_default.ensures) in
+    due_whole _ _ _ _ (subst (λ (ls : List (List ℕ)). IsDue (g.W.Sink.written c.args.out.now) (g.W.Sink.written c.lines.out) c.lines.self.output (answers ls)) all c.lines.invariant.behind.due)

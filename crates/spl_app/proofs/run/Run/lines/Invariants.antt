@@ -1,0 +1,19 @@
+use Rattle.std.proofs.Common.{◌≡◌, ◌≤◌, ◌+◌, length, take, drop}
+use Rattle.std.specs.List.{AllByRecursion}
+use Rattle.spl_app.specs.Lines.{lines_of}
+use Rattle.spl_app.specs.Run.{IsLine}
+use Rattle.spl_app.specs.Behind.{IsBehind}
+use Rattle.spl_app.proofs.run.Run.lines.Given as goal
+
+abbrev pub invariant-lines : goal.invariant-lines
+invariant-lines g l = record {
+  room : length l.rest + l.count ≤ length l.text;
+  left : lines_of l.rest ≡ drop l.count (lines_of l.text);
+  counted : l.count ≤ length (lines_of l.text);
+  good : AllByRecursion IsLine (take l.count (lines_of l.text));
+  behind : IsBehind (take l.count (lines_of l.text)) l.self (g.W.Sink.written l.initial.out) (g.W.Sink.written l.out);
+  later : g.W.Sink.faults l.initial.out ≤ g.W.Sink.faults l.out;
+}
+
+abbrev pub decreases-lines : goal.decreases-lines
+decreases-lines g l = length l.rest

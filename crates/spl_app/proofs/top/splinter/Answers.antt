@@ -1,0 +1,79 @@
+use Rattle.std.proofs.Common.{ℕ, ◌≡◌, ◌+◌, ◌≤◌, [], length, ◌<◌, length-take, refl, ap, rules, arith, inl, inr}
+use Rattle.std.specs.Io.{appended_bytes}
+use Rattle.std.proofs.KnownBytes.{Appends-nil}
+use Rattle.spl_app.specs.Run.{answers}
+use Rattle.spl_app.specs.Schedule.{run_of, limit}
+use Rattle.spl_app.proofs.Given.{gave, given_length, part_run, bad_run, good_run, good_given, no_bad, schedule_given, unfinished_run, limit_is}
+use Rattle.spl_app.proofs.top.splinter.Goals as goal
+
+pub run_lines-requires : goal.run_lines-requires
+run_lines-requires g c = omega (arith, limit_is, ap length c.head-text.ensures, length-take {A = ℕ})
+
+pub returns-then-not-is_replay-clause-part : goal.returns-then-not-is_replay-clause-part
+returns-then-not-is_replay-clause-part g c = ([], answers (run_of (appended_bytes (g.S.Source.taken c.args.schedule.now) (g.S.Source.taken c.args.schedule.now))), refl, Appends-nil _)
+
+pub returns-in-Err-BadLine-clause-part : goal.returns-in-Err-BadLine-clause-part
+returns-in-Err-BadLine-clause-part g c = part_run (gave c.read_all-reading.ensures.taken c.head-text.ensures c.deref.ensures.value) _ _ c.run_lines.ensures.part
+
+pub returns-in-Err-Write-clause-part : goal.returns-in-Err-Write-clause-part
+returns-in-Err-Write-clause-part g c = part_run (gave c.read_all-reading.ensures.taken c.head-text.ensures c.deref.ensures.value) _ _ c.run_lines.ensures.part
+
+pub returns-in-Err-NoMemory-clause-part : goal.returns-in-Err-NoMemory-clause-part
+returns-in-Err-NoMemory-clause-part g c = part_run (gave c.read_all-reading.ensures.taken c.head-text.ensures c.deref.ensures.value) _ _ c.run_lines.ensures.part
+
+pub returns-in-Fault-clause-part : goal.returns-in-Fault-clause-part
+returns-in-Fault-clause-part g c = part_run (gave c.read_all-reading.ensures.taken c.head-text.ensures c.deref.ensures.value) _ _ c.run_lines.ensures.part
+
+pub returns-in-TooLong-clause-part : goal.returns-in-TooLong-clause-part
+returns-in-TooLong-clause-part g c = part_run (gave c.read_all-reading.ensures.taken c.head-text.ensures c.deref.ensures.value) _ _ c.run_lines.ensures.part
+
+pub returns-in-NoMemory-clause-part : goal.returns-in-NoMemory-clause-part
+returns-in-NoMemory-clause-part g c = part_run (gave c.read_all-reading.ensures.taken c.head-text.ensures c.deref.ensures.value) _ _ c.run_lines.ensures.part
+
+pub returns-in-Whole-clause-part : goal.returns-in-Whole-clause-part
+returns-in-Whole-clause-part g c = part_run (gave c.read_all-reading.ensures.taken c.head-text.ensures c.deref.ensures.value) _ _ c.run_lines.ensures.part
+
+pub returns-clause-part : goal.returns-clause-part
+returns-clause-part g c = part_run (gave c.read_all-reading.ensures.taken c.head-text.ensures c.deref.ensures.value) _ _ c.run_lines.ensures.part
+
+pub returns-in-Err-BadLine-clause-bad : goal.returns-in-Err-BadLine-clause-bad
+returns-in-Err-BadLine-clause-bad g c = λ line is.
+    let same : c.in-Err-BadLine.line ≡ line = cc in
+    let found = bad_run (gave c.read_all-reading.ensures.taken c.head-text.ensures c.deref.ensures.value) _ _ c.in-Err-BadLine.line line same (c.in-Err-BadLine.ensures.bad c.in-Err-BadLine.line (search rules)) in
+    (inl found.0, found.1)
+
+pub returns-in-Err-BadLine-clause-complete : goal.returns-in-Err-BadLine-clause-complete
+returns-in-Err-BadLine-clause-complete g c = λ form read wrote schedule.
+    let found = c.in-Err-BadLine.ensures.bad c.in-Err-BadLine.line (search rules) in
+    absurd (no_bad (gave c.read_all-reading.ensures.taken c.head-text.ensures c.deref.ensures.value) _ found.0 schedule)
+
+pub returns-in-Fault-clause-read : goal.returns-in-Fault-clause-read
+returns-in-Fault-clause-read g c = λ _.
+    let no : 67108864 < length c.read_all-reading.result.bytes.items → ⊥ = λ long. cc (c.read_all-reading.ensures.too_long.1 long) in
+    let short : length c.read_all-reading.result.bytes.items ≤ limit = omega (arith, no, limit_is) in
+    let good = good_given (gave c.read_all-reading.ensures.taken c.head-text.ensures c.deref.ensures.value) _ _ short c.in-Ok.ensures.good c.in-Ok.ensures.written in
+    (c.read_all-reading.ensures.fault c.in-Fault.is, good.0, good.1)
+
+pub returns-in-Whole-clause-ok : goal.returns-in-Whole-clause-ok
+returns-in-Whole-clause-ok g c = λ _.
+    let no : 67108864 < length c.read_all-reading.result.bytes.items → ⊥ = λ long. cc (c.read_all-reading.ensures.too_long.1 long) in
+    let short : length c.read_all-reading.result.bytes.items ≤ limit = omega (arith, no, limit_is) in
+    let good = good_given (gave c.read_all-reading.ensures.taken c.head-text.ensures c.deref.ensures.value) _ _ short c.in-Ok.ensures.good c.in-Ok.ensures.written in
+    (schedule_given (gave c.read_all-reading.ensures.taken c.head-text.ensures c.deref.ensures.value) short c.in-Ok.ensures.good (search rules), c.read_all-reading.ensures.whole c.in-Whole.is, good.1)
+
+pub returns-in-TooLong-clause-long : goal.returns-in-TooLong-clause-long
+returns-in-TooLong-clause-long g c = λ _.
+    let good = good_run (gave c.read_all-reading.ensures.taken c.head-text.ensures c.deref.ensures.value) _ _ c.in-Ok.ensures.good c.in-Ok.ensures.written in
+    (omega (arith, limit_is, c.read_all-reading.ensures.too_long.0 c.in-TooLong.is, given_length (gave c.read_all-reading.ensures.taken c.head-text.ensures c.deref.ensures.value)), good.0, good.1)
+
+pub returns-in-TooLong-clause-complete : goal.returns-in-TooLong-clause-complete
+returns-in-TooLong-clause-complete g c = λ form read wrote schedule.
+    absurd (omega (arith, limit_is, schedule.short, c.read_all-reading.ensures.too_long.0 c.in-TooLong.is, given_length (gave c.read_all-reading.ensures.taken c.head-text.ensures c.deref.ensures.value)))
+
+pub returns-clause-bad : goal.returns-clause-bad
+returns-clause-bad g c = λ line is.
+    let same : c.in-Ok.count + 1 ≡ line = cc in
+    let no : 67108864 < length c.read_all-reading.result.bytes.items → ⊥ = λ long. cc (c.read_all-reading.ensures.too_long.1 long) in
+    let short : length c.read_all-reading.result.bytes.items ≤ limit = omega (arith, no, limit_is) in
+    let found = unfinished_run (gave c.read_all-reading.ensures.taken c.head-text.ensures c.deref.ensures.value) _ _ line short c.in-Ok.ensures.good (search rules) (omega (arith, c.in-Ok.ensures.count)) c.in-Ok.ensures.written in
+    (inr found.0, found.1)

@@ -1,0 +1,6 @@
+pub mod Lines
+pub mod Due
+pub mod Run
+pub mod Behind
+pub mod Schedule
+pub mod Statuses

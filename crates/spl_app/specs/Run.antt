@@ -1,0 +1,56 @@
+-- The lines of a schedule, and what a run writes (docs/RULES.md, Schedules, Answers).
+use Rattle.std.specs.Prelude.{◌≡◌, ◌⊎◌, ◌<◌, ◌≤◌, ◌+◌, ◌-◌, ℕ, List, [], ◌∷◌, ◌++◌, Option, Some, None, IsSomeAnd, IsTrue, if◌then◌else◌, take, drop, length, codes, decimal}
+use Rattle.std.specs.List.{AllByRecursion, list_all}
+use Rattle.spl_circuit.specs.Nodes.{Node, has_node}
+use Rattle.spl_sched.specs.declared.line.Line.{Line}
+use Rattle.spl_sched.specs.Grammar.{line_of, nodes_of}
+use Rattle.spl_model.specs.Answers.{answer_to}
+use Rattle.spl_answer.specs.Texts.{text}
+use Rattle.spl_app.specs.Lines.{is_silent}
+
+-- the nodes of every run
+abbrev pub registered : List Node
+registered = codes "alpha" ∷ codes "beta" ∷ codes "gamma" ∷ []
+
+-- the line names no other node
+abbrev pub IsKnown : Line → Type 0
+IsKnown l = IsTrue (list_all (has_node registered) (nodes_of l))
+
+-- a line that a schedule may have
+abbrev pub IsLine : List ℕ → Type 0
+IsLine line = (length line ≤ 2048) × (IsTrue (is_silent line) ⊎ IsSomeAnd (line_of line) IsKnown)
+
+-- what is run of a line
+abbrev pub said : List ℕ → Option Line
+said line = if is_silent line then None else line_of line
+
+abbrev pub with_number : ℕ → Option Line → List (ℕ × Line) → List (ℕ × Line)
+with_number n None ls = ls
+with_number n (Some l) ls = (n, l) ∷ ls
+
+-- the lines that are run, with their numbers, which count from n
+abbrev pub numbered : ℕ → List (List ℕ) → List (ℕ × Line)
+numbered n [] = []
+numbered n (line ∷ lines) = with_number n (said line) (numbered (n + 1) lines)
+
+-- a number, a text and a line feed
+abbrev pub printed : ℕ → List ℕ → List ℕ
+printed n answer = decimal n ++ 32 ∷ answer ++ 10 ∷ []
+
+-- the answers to lines that run behind others, with the numbers of the lines
+abbrev pub outputs : List Line → List (ℕ × Line) → List ℕ
+outputs before [] = []
+outputs before (x ∷ xs) = printed x.0 (text (answer_to before x.1)) ++ outputs (before ++ x.1 ∷ []) xs
+
+-- what a run of these lines writes
+abbrev pub answers : List (List ℕ) → List ℕ
+answers lines = outputs [] (numbered 1 lines)
+
+-- the line with this number is the first that a schedule may not have
+pub record IsFirstBad (lines : List (List ℕ)) (number : ℕ) : Type 0 where
+  pub line : List ℕ
+  pub behind : List (List ℕ)
+  pub counted : 0 < number
+  pub before : AllByRecursion IsLine (take (number - 1) lines)
+  pub place : drop (number - 1) lines ≡ line ∷ behind
+  pub bad : IsLine line → ⊥

@@ -1,0 +1,217 @@
+//! Runs the lines of a schedule.
+ghost use Rattle.std.specs.Prelude.{◌≡◌, ◌≤◌, ◌<◌, ◌+◌, ◌-◌, ◌^◌, ◌++◌, ◌∷◌, [], ℕ, List, Option, IfOk, IfSome, OnOk, IsErrOf, IsTrue, take, length};
+ghost use Rattle.std.specs.List.{AllByRecursion};
+ghost use Rattle.std.specs.Io.KnownBytes.{Appends};
+ghost use Rattle.spl_edge.specs.Causes.{Rose, AppendsPart};
+ghost use Rattle.spl_base.specs.Ids.{is_node_id};
+ghost use Rattle.spl_app.specs.Lines.{lines_of};
+ghost use Rattle.spl_app.specs.Due.{IsDue, IsDuePart};
+ghost use Rattle.spl_app.specs.Run.{IsLine, IsKnown, IsFirstBad, registered, said, printed, answers};
+ghost use Rattle.spl_answer.specs.Texts.{text as text_of};
+ghost use Rattle.spl_model.specs.Answers.{answer_to};
+ghost use Rattle.spl_sched.specs.declared.line.Line.{Line as Said};
+ghost use Rattle.spl_world.specs.Views.{ids_of, Stands};
+
+use crate::lines::{first_line, is_silent};
+use crate::output::Output;
+use spl_answer::append_text;
+use spl_base::NodeId;
+use spl_edge::{DeviceError, Sink};
+use spl_sched::{Line, LineFault, read_line};
+use spl_world::World;
+use std::alloc::{AllocError, Global};
+
+/// Why a run ended before its last line.
+#[derive(Clone, Copy, Debug, PartialEq, Eq)]
+pub enum RunFault {
+    /// A schedule may not have the line of this number.
+    BadLine(u32),
+    /// An answer could not be written.
+    Write,
+    /// Memory ran out.
+    NoMemory,
+}
+
+// The longest line.
+const MOST: usize = 2048;
+
+fn node(name: &[u8]) -> NodeId
+    requires { IsTrue (is_node_id name.now) }
+    ensures { result ≡ name.now }
+{
+    NodeId::read(name).unwrap()
+}
+
+/// A run: its nodes, the text of the last answer, and the answers that wait.
+#[derive(Drop)]
+pub struct Run {
+    nodes: [NodeId; 3],
+    world: World,
+    text: Vec<u8>,
+    output: Output,
+    ghost known: { nodes ≡ registered },
+}
+
+impl Run {
+    ghost use Rattle.spl_app.specs.Behind.{IsBehind, ran};
+
+    fn new(alloc: Global) -> Result<Run, AllocError>
+        ensures { IfOk result (λ run. (start : Option (List ℕ)) → IsBehind [] run start start) }
+    {
+        let nodes = [node(b"alpha"), node(b"beta"), node(b"gamma")];
+        Ok(Run {
+            nodes,
+            world: World::new(alloc, &nodes)?,
+            text: Vec::new(alloc),
+            output: Output::new(alloc)?,
+        })
+    }
+
+    // What is run of a line.
+    fn read(&self, alloc: Global, line: &[u8]) -> Result<Option<Line>, LineFault>
+        ensures good { OnOk result (IsLine line.now) }
+        ensures said { IfOk result (λ o. o ≡ said line.now) }
+        ensures known { IfOk result (λ o. IfSome o IsKnown) }
+        ensures bad { IsErrOf result LineFault.BadLine → IsLine line.now → ⊥ }
+    {
+        if line.len() > MOST {
+            return Err(LineFault::BadLine);
+        }
+        if is_silent(line) {
+            return Ok(None);
+        }
+        match read_line(alloc, line) {
+            Ok(said) if said.names_only(&self.nodes) => Ok(Some(said)),
+            Ok(_) => Err(LineFault::BadLine),
+            Err(fault) => Err(fault),
+        }
+    }
+
+    // Runs a line that says this, and keeps the text of the answer.
+    fn ask(&mut self, alloc: Global, said: &Line) -> Result<(), AllocError>
+        requires nodes { ids_of self.old.world ≡ registered }
+        requires known { IsKnown said.now }
+        ensures nodes { ids_of self.new.world ≡ registered }
+        ensures stands { (before : List Said) → Stands before self.old.world → OnOk result (Stands (before ++ said.now ∷ []) self.new.world) }
+        ensures text { (before : List Said) → Stands before self.old.world → OnOk result (self.new.text.items ≡ text_of (answer_to before said.now)) }
+        ensures output { self.new.output ≡ self.old.output }
+    {
+        let answer = self.world.step(alloc, said)?;
+        self.text.clear();
+        append_text(&answer, &mut self.text)
+    }
+
+    // Runs a line that says this, and lets the answer wait.
+    fn answer<W: Sink>(
+        &mut self,
+        alloc: Global,
+        number: u32,
+        said: &Line,
+        out: &mut W,
+    ) -> Result<(), RunFault>
+        requires nodes { ids_of self.old.world ≡ registered }
+        requires known { IsKnown said.now }
+        ensures nodes { ids_of self.new.world ≡ registered }
+        ensures stands { (before : List Said) → Stands before self.old.world → OnOk result (Stands (before ++ said.now ∷ []) self.new.world) }
+        ensures due { (before : List Said) → Stands before self.old.world → OnOk result (IsDue (W.written out.old) (W.written out.new) self.new.output
+            (self.old.output ++ printed number (text_of (answer_to before said.now)))) }
+        ensures part { (before : List Said) → Stands before self.old.world → IsDuePart (W.written out.old) (W.written out.new) self.new.output
+            (self.old.output ++ printed number (text_of (answer_to before said.now))) }
+        ensures good { (n : ℕ) → IsErrOf result (RunFault.BadLine n) → ⊥ }
+        ensures write { IsErrOf result RunFault.Write → Rose (W.faults out.old) (W.faults out.new) }
+        ensures later { W.faults out.old ≤ W.faults out.new }
+    {
+        match self.ask(alloc, said) {
+            Ok(()) => {}
+            Err(AllocError) => return Err(RunFault::NoMemory),
+        }
+        match self.output.put(out, number, &self.text) {
+            Ok(()) => Ok(()),
+            Err(DeviceError::Failed) => Err(RunFault::Write),
+            Err(DeviceError::NoMemory) => Err(RunFault::NoMemory),
+        }
+    }
+
+    // Runs one line. A line that a schedule may not have changes nothing.
+    fn line<W: Sink>(
+        &mut self,
+        alloc: Global,
+        number: u32,
+        line: &[u8],
+        out: &mut W,
+    ) -> Result<(), RunFault>
+        requires nodes { ids_of self.old.world ≡ registered }
+        ensures ok { (lines : List (List ℕ)) → (start : Option (List ℕ)) → IsBehind lines self.old start (W.written out.old) → number ≡ length lines + 1
+            → OnOk result (IsBehind (lines ++ line.now ∷ []) self.new start (W.written out.new)) }
+        ensures good { OnOk result (IsLine line.now) }
+        ensures bad { (n : ℕ) → IsErrOf result (RunFault.BadLine n)
+            → (n ≡ number) × (IsLine line.now → ⊥) × (self.new ≡ self.old) × (W.written out.new ≡ W.written out.old) }
+        ensures part { (lines : List (List ℕ)) → (start : Option (List ℕ)) → IsBehind lines self.old start (W.written out.old) → number ≡ length lines + 1
+            → IsDuePart start (W.written out.new) self.new.output (answers (lines ++ line.now ∷ [])) }
+        ensures write { IsErrOf result RunFault.Write → Rose (W.faults out.old) (W.faults out.new) }
+        ensures later { W.faults out.old ≤ W.faults out.new }
+    {
+        match self.read(alloc, line) {
+            Ok(None) => Ok(()),
+            Ok(Some(said)) => self.answer(alloc, number, &said, out),
+            Err(LineFault::BadLine) => Err(RunFault::BadLine(number)),
+            Err(LineFault::NoMemory) => Err(RunFault::NoMemory),
+        }
+    }
+
+    // Runs each line, up to the first that a schedule may not have, and tells how many there were.
+    fn lines<W: Sink>(&mut self, alloc: Global, text: &[u8], out: &mut W) -> Result<u32, RunFault>
+        requires room { length text.now < 2 ^ 32 - 1 }
+        requires fresh { IsBehind [] self.old (W.written out.old) (W.written out.old) }
+        ensures count { IfOk result (λ count. count ≡ length (lines_of text.now)) }
+        ensures room { IfOk result (λ count. count ≤ length text.now) }
+        ensures good { OnOk result (AllByRecursion IsLine (lines_of text.now)) }
+        ensures due { OnOk result (IsDue (W.written out.old) (W.written out.new) self.new.output (answers (lines_of text.now))) }
+        ensures bad { (number : ℕ) → IsErrOf result (RunFault.BadLine number) → IsFirstBad (lines_of text.now) number
+            × IsDue (W.written out.old) (W.written out.new) self.new.output (answers (take (number - 1) (lines_of text.now))) }
+        ensures part { IsDuePart (W.written out.old) (W.written out.new) self.new.output (answers (lines_of text.now)) }
+        ensures write { IsErrOf result RunFault.Write → Rose (W.faults out.old) (W.faults out.new) }
+        ensures later { W.faults out.old ≤ W.faults out.new }
+    {
+        let mut rest = text;
+        let mut count = 0u32;
+        'lines: while let Some((line, behind)) = first_line(rest) {
+            if let Err(fault) = self.line(alloc, count + 1, line, out) {
+                return Err(fault);
+            }
+            count += 1;
+            rest = behind;
+        }
+        Ok(count)
+    }
+}
+
+/// Runs each line of a text, up to the first that a schedule may not have, writes the answers, and tells how many
+/// lines there were.
+pub fn run_lines<W: Sink>(alloc: Global, text: &[u8], out: &mut W) -> Result<u32, RunFault>
+    requires { length text.now < 2 ^ 32 - 1 }
+    ensures count { IfOk result (λ count. count ≡ length (lines_of text.now)) }
+    ensures room { IfOk result (λ count. count ≤ length text.now) }
+    ensures good { OnOk result (AllByRecursion IsLine (lines_of text.now)) }
+    ensures written { OnOk result (Appends (W.written out.old) (W.written out.new) (answers (lines_of text.now))) }
+
+    // The first line that a schedule may not have.
+    ensures bad { (number : ℕ) → IsErrOf result (RunFault.BadLine number) → IsFirstBad (lines_of text.now) number
+        × Appends (W.written out.old) (W.written out.new) (answers (take (number - 1) (lines_of text.now))) }
+
+    // Whatever the end.
+    ensures part { AppendsPart (W.written out.old) (W.written out.new) (answers (lines_of text.now)) }
+    ensures write { IsErrOf result RunFault.Write → Rose (W.faults out.old) (W.faults out.new) }
+    ensures later { W.faults out.old ≤ W.faults out.new }
+{
+    let mut run = match Run::new(alloc) {
+        Ok(run) => run,
+        Err(AllocError) => return Err(RunFault::NoMemory),
+    };
+    let ended = run.lines(alloc, text, out);
+    match run.output.flush(out) {
+        Ok(()) => ended,
+        Err(DeviceError::Failed) => Err(RunFault::Write),
+        Err(DeviceError::NoMemory) => Err(RunFault::NoMemory),
+    }
+}

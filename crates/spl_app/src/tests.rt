@@ -1,0 +1,320 @@
+use crate::{Status, splinter};
+use spl_edge::{DeviceError, MemSink, MemSource, Sink};
+use std::alloc::{AllocError, Global};
+use std::process::Abort;
+use std::test::Fail;
+
+// A run: the schedule, the calls of the source and of the sink that fail, how it ends and what it writes.
+#[derive(Clone, Copy)]
+struct Row<'a> {
+    schedule: &'a str,
+    reads: &'a [u64],
+    writes: &'a [u64],
+    status: Status,
+    written: &'a str,
+}
+
+fn fault_free<'a>(schedule: &'a str, status: Status, written: &'a str) -> Row<'a> {
+    Row {
+        schedule,
+        reads: &[],
+        writes: &[],
+        status,
+        written,
+    }
+}
+
+fn words(alloc: Global, texts: &[&str]) -> Result<Vec<String>, AllocError> {
+    let mut words = Vec::new(alloc);
+    for text in texts {
+        words.push(String::from_str(alloc, text)?)?;
+    }
+    Ok(words)
+}
+
+// How a run of this schedule ends, and what it writes.
+fn ran(
+    alloc: Global,
+    schedule: Vec<u8>,
+    reads: &[u64],
+    writes: &[u64],
+) -> Result<(Status, Vec<u8>), Fail> {
+    let words = words(alloc, &["replay", "registry", "schedule"])?;
+    let mut source = MemSource::new(schedule, reads.to_vec(alloc)?);
+    let mut out = MemSink::new(alloc, writes.to_vec(alloc)?);
+    let status = splinter(alloc, &words, &mut source, &mut out);
+    Ok((status, out.bytes().to_vec(alloc)?))
+}
+
+fn check(rt: &impl Abort, alloc: Global, rows: &[Row]) -> Result<(), Fail> {
+    for row in rows {
+        let (status, written) = ran(
+            alloc,
+            row.schedule.as_bytes().to_vec(alloc)?,
+            row.reads,
+            row.writes,
+        )?;
+        assert_eq!(rt; status, row.status, "at {}", row.schedule);
+        assert_eq!(rt;
+            written.as_slice(),
+            row.written.as_bytes(),
+            "at {}",
+            row.schedule
+        );
+    }
+    Ok(())
+}
+
+// Memory is ample here, so no run may end for want of it.
+#[test]
+fn answers_stand(rt: HostRuntime) -> Result<(), Fail> {
+    check(
+        &rt,
+        rt.alloc(),
+        &[
+            fault_free("", Status::Ok, ""),
+            fault_free("\n# nothing\n\n", Status::Ok, ""),
+            fault_free(
+                "propose alpha Ab3dE-00001 1 1 grid trade alpha,beta aaaa:scabbard:alpha,bbbb:scabbard:beta\n\
+             show alpha Ab3dE-00001\n\
+             show beta Ab3dE-00001\n\
+             propose alpha Ab3dE-00001 1 1 grid trade alpha,beta aaaa:scabbard:alpha,bbbb:scabbard:beta\n\
+             propose alpha Ab3dE-00001 2 1 grid trade alpha,beta aaaa:scabbard:alpha,bbbb:scabbard:beta\n",
+                Status::Ok,
+                "1 ok queued\n\
+             2 ok circuit generation 1 lifecycle none mark open accepted - acts 0 1 batches 0 0\n\
+             3 refused 2\n\
+             4 refused 5 1\n\
+             5 refused 6\n",
+            ),
+            fault_free(
+                "propose gamma Ab3dE-00001 1 1 grid trade alpha,beta aaaa:scabbard:alpha,bbbb:scabbard:beta\n\
+             show gamma Ab3dE-00001\n",
+                Status::Ok,
+                "1 refused 4\n2 refused 2\n",
+            ),
+            fault_free(
+                "propose alpha Ab3dE-00001 1 1 grid solo alpha aaaa:scabbard:alpha\n\
+             propose alpha Ab3dE-00001 0 1 grid trade alpha,beta aaaa:scabbard:alpha,bbbb:scabbard:beta\n",
+                Status::Ok,
+                "1 refused 3 5\n2 refused 3 2\n",
+            ),
+            // Each circuit by itself.
+            fault_free(
+                "propose alpha Ab3dE-00001 3 1 grid trade alpha,beta aaaa:scabbard:alpha,bbbb:scabbard:beta\n\
+             \n\
+             show alpha Ab3dE-00002\n\
+             propose alpha Ab3dE-00002 7 1 grid trade alpha,beta aaaa:scabbard:alpha,bbbb:scabbard:beta\n\
+             # a comment\n\
+             show alpha Ab3dE-00001\n",
+                Status::Ok,
+                "1 ok queued\n\
+             3 refused 2\n\
+             4 ok queued\n\
+             6 ok circuit generation 3 lifecycle none mark open accepted - acts 0 1 batches 0 0\n",
+            ),
+        ],
+    )
+}
+
+#[test]
+fn bad_lines_are_named(rt: HostRuntime) -> Result<(), Fail> {
+    check(
+        &rt,
+        rt.alloc(),
+        &[
+            fault_free(
+                "show delta Ab3dE-00001\n",
+                Status::BadSchedule { line: 1 },
+                "",
+            ),
+            fault_free(
+                "show alpha Ab3dE-00001\nshow al",
+                Status::BadSchedule { line: 2 },
+                "1 refused 2\n",
+            ),
+            fault_free(
+                "show alpha Ab3dE-00001",
+                Status::BadSchedule { line: 1 },
+                "",
+            ),
+            fault_free(
+                "show alpha Ab3dE-00001\r\n",
+                Status::BadSchedule { line: 1 },
+                "",
+            ),
+            fault_free(
+                "#\n\nshow  alpha Ab3dE-00001\n",
+                Status::BadSchedule { line: 3 },
+                "",
+            ),
+            fault_free(
+                "show alpha Ab3dE-00001 \n",
+                Status::BadSchedule { line: 1 },
+                "",
+            ),
+            fault_free(
+                "show Alpha Ab3dE-00001\n",
+                Status::BadSchedule { line: 1 },
+                "",
+            ),
+            fault_free(
+                "show alpha Ab3dE-0000\n",
+                Status::BadSchedule { line: 1 },
+                "",
+            ),
+            fault_free(
+                "vote alpha Ab3dE-00001 accept\n",
+                Status::BadSchedule { line: 1 },
+                "",
+            ),
+            fault_free(
+                "show beta Ab3dE-00001\n\
+             propose alpha Ab3dE-00001 01 1 grid trade alpha,beta aaaa:scabbard:alpha,bbbb:scabbard:beta\n\
+             show beta Ab3dE-00001\n",
+                Status::BadSchedule { line: 2 },
+                "1 refused 2\n",
+            ),
+            fault_free(
+                "propose alpha Ab3dE-00001 1 1 grid trade alpha,delta aaaa:scabbard:alpha,bbbb:scabbard:beta\n",
+                Status::BadSchedule { line: 1 },
+                "",
+            ),
+            fault_free(
+                "propose alpha Ab3dE-00001 1 1 grid trade alpha,beta aaaa:scabbard:alpha,bbbb:scabbard:delta\n",
+                Status::BadSchedule { line: 1 },
+                "",
+            ),
+        ],
+    )
+}
+
+#[test]
+fn faults_are_told(rt: HostRuntime) -> Result<(), Fail> {
+    let good = "show alpha Ab3dE-00001\n";
+    check(
+        &rt,
+        rt.alloc(),
+        &[
+            Row {
+                schedule: good,
+                reads: &[1],
+                writes: &[],
+                status: Status::ReadFault,
+                written: "",
+            },
+            Row {
+                schedule: good,
+                reads: &[2],
+                writes: &[],
+                status: Status::ReadFault,
+                written: "1 refused 2\n",
+            },
+            Row {
+                schedule: good,
+                reads: &[],
+                writes: &[1],
+                status: Status::WriteFault,
+                written: "",
+            },
+        ],
+    )
+}
+
+fn comment(alloc: Global, length: usize) -> Result<Vec<u8>, AllocError> {
+    let mut line = vec![in alloc; b'#'; length]?;
+    line.push(b'\n')?;
+    Ok(line)
+}
+
+#[test]
+fn long_input(rt: HostRuntime) -> Result<(), Fail> {
+    let alloc = rt.alloc();
+    let (status, _) = ran(alloc, comment(alloc, 2048)?, &[], &[])?;
+    assert_eq!(rt; status, Status::Ok);
+    let (status, _) = ran(alloc, comment(alloc, 2049)?, &[], &[])?;
+    assert_eq!(rt; status, Status::BadSchedule { line: 1 });
+    // One line more than a schedule may have.
+    let line = comment(alloc, 2047)?;
+    let mut schedule = Vec::new(alloc);
+    for _ in 0..32_769 {
+        schedule.extend_from_slice(&line)?;
+    }
+    let (status, written) = ran(alloc, schedule, &[], &[])?;
+    assert_eq!(rt; status, Status::TooLong);
+    assert_eq!(rt; written.len(), 0);
+    Ok(())
+}
+
+// More answers than one piece has: where the second write fails, the first piece is written.
+#[test]
+fn answers_go_out_in_pieces(rt: HostRuntime) -> Result<(), Fail> {
+    let alloc = rt.alloc();
+    let mut schedule = Vec::new(alloc);
+    for _ in 0..500 {
+        schedule.extend_from_slice(b"show alpha Ab3dE-00001\n")?;
+    }
+    let (status, all) = ran(alloc, schedule.as_slice().to_vec(alloc)?, &[], &[])?;
+    assert_eq!(rt; status, Status::Ok);
+    assert_eq!(rt; all.len(), 9 * 12 + 90 * 13 + 401 * 14);
+    let (status, first) = ran(alloc, schedule, &[], &[2])?;
+    assert_eq!(rt; status, Status::WriteFault);
+    assert_eq!(rt; first.len(), 9 * 12 + 90 * 13 + 201 * 14);
+    assert_eq!(rt; all.starts_with(&first), true);
+    Ok(())
+}
+
+// A sink that has no memory.
+#[derive(Drop)]
+struct FullSink;
+
+impl Sink for FullSink {
+    ghost use Rattle.std.specs.Prelude.{None};
+
+    ghost written = { λ _. None };
+
+    ghost faults = { λ _. 0 };
+
+    fn write(&mut self, _piece: &[u8]) -> Result<usize, DeviceError> {
+        Err(DeviceError::NoMemory)
+    }
+}
+
+#[test]
+fn statuses(rt: HostRuntime) -> Result<(), Fail> {
+    let alloc = rt.alloc();
+    for texts in [
+        ["replay"].as_slice(),
+        ["links", "r", "s"].as_slice(),
+        ["replay", "r", "s", "t"].as_slice(),
+    ] {
+        let mut source = MemSource::new(Vec::new(alloc), Vec::new(alloc));
+        let mut out = MemSink::new(alloc, Vec::new(alloc));
+        let status = splinter(alloc, &words(alloc, texts)?, &mut source, &mut out);
+        assert_eq!(rt; status, Status::Usage);
+    }
+    let mut source = MemSource::new(b"show alpha Ab3dE-00001\n".to_vec(alloc)?, Vec::new(alloc));
+    let replay = words(alloc, &["replay", "r", "s"])?;
+    assert_eq!(rt;
+        splinter(alloc, &replay, &mut source, &mut FullSink),
+        Status::NoMemory
+    );
+    let lines = [
+        (Status::Ok, 0, ""),
+        (
+            Status::Usage,
+            1,
+            "usage: splinter replay REGISTRY SCHEDULE or links REGISTRY SCHEDULE DIR or gen N SEED",
+        ),
+        (Status::BadSchedule { line: 12 }, 3, "bad schedule: line 12"),
+        (Status::ReadFault, 5, "read failed"),
+        (Status::WriteFault, 6, "write failed"),
+        (Status::TooLong, 11, "input too long"),
+        (Status::NoMemory, 12, "out of memory"),
+    ];
+    for (status, code, text) in lines {
+        assert_eq!(rt; status.code(), code);
+        assert_eq!(rt; status.text(alloc)?.bytes(), text.as_bytes());
+    }
+    Ok(())
+}

@@ -1,0 +1,105 @@
+//! The call that does all that the program does.
+ghost use Rattle.std.specs.Prelude.{◌≡◌, ◌<◌, ◌↔◌, ◌⊎◌, ◌-◌, ℕ, List, [], IsTrue, take, length, map, string_bytes};
+ghost use Rattle.std.specs.List.{AllByRecursion};
+ghost use Rattle.std.specs.Io.{appended_bytes};
+ghost use Rattle.std.specs.Io.KnownBytes.{Appends, Consumes, IsAtEnd};
+ghost use Rattle.spl_edge.specs.Causes.{Rose, AppendsPart};
+ghost use Rattle.spl_app.specs.Lines.{lines_of};
+ghost use Rattle.spl_app.specs.Run.{IsLine, IsFirstBad, answers};
+ghost use Rattle.spl_app.specs.Schedule.{IsReplay, IsSchedule, IsUnfinished, run_of, limit};
+
+use crate::Status;
+use crate::lines::is_whole;
+use crate::run::{RunFault, run_lines};
+use spl_edge::{ReadEnd, Sink, Source, read_all};
+use std::alloc::Global;
+
+// The most bytes that a schedule may have.
+const LIMIT: usize = 67_108_864;
+
+fn is_replay(words: &[String]) -> bool
+    ensures { IsTrue result ↔ IsReplay (map string_bytes words.now) }
+{
+    match words {
+        [first, _, _] => first.as_str() == "replay",
+        _ => false,
+    }
+}
+
+// The bytes up to the limit.
+fn head(bytes: &[u8]) -> &[u8]
+    ensures { result.now ≡ take limit bytes.now }
+{
+    if bytes.len() < LIMIT {
+        bytes
+    } else {
+        &bytes[..LIMIT]
+    }
+}
+
+/// Does what the words ask for: `replay REGISTRY SCHEDULE` runs the schedule line by line, and writes each answer
+/// with the number of its line. The names are for the caller, who opens them. Want of memory can end any run; then
+/// a front of the answers is written.
+pub fn splinter<S: Source, W: Sink>(
+    alloc: Global,
+    words: &[String],
+    schedule: &mut S,
+    out: &mut W,
+) -> Status
+    // Exactly where the words aren't this command. Nothing is written.
+    ensures usage { (result ≡ Status.Usage) ↔ (IsReplay (map string_bytes words.now) → ⊥) }
+    ensures nothing { result ≡ Status.Usage → Appends (W.written out.old) (W.written out.new) [] }
+
+    // The source was read to its end, it gave a schedule, and the answers to all of its lines are written.
+    ensures ok { result ≡ Status.Ok → let given = appended_bytes (S.taken schedule.old) (S.taken schedule.new) in
+        IsSchedule given × IsAtEnd (S.left schedule.new)
+        × Appends (W.written out.old) (W.written out.new) (answers (lines_of given)) }
+
+    // This is the first line that a schedule may not have, or the last one and without its line feed. The answers to
+    // the lines before it are written.
+    ensures bad { (line : ℕ) → result ≡ Status.BadSchedule line → let given = appended_bytes (S.taken schedule.old) (S.taken schedule.new) in
+        (IsFirstBad (run_of given) line ⊎ IsUnfinished given line)
+        × Appends (W.written out.old) (W.written out.new) (answers (take (line - 1) (run_of given))) }
+
+    // The source failed. The answers to all lines that it gave are written.
+    ensures read { result ≡ Status.ReadFault → let given = appended_bytes (S.taken schedule.old) (S.taken schedule.new) in
+        Rose (S.faults schedule.old) (S.faults schedule.new) × AllByRecursion IsLine (lines_of given)
+        × Appends (W.written out.old) (W.written out.new) (answers (lines_of given)) }
+
+    // The sink failed.
+    ensures write { result ≡ Status.WriteFault → Rose (W.faults out.old) (W.faults out.new) }
+
+    // The source gave more bytes than a schedule may have. The answers to the lines among those are written.
+    ensures long { result ≡ Status.TooLong → let given = appended_bytes (S.taken schedule.old) (S.taken schedule.new) in
+        (limit < length given) × AllByRecursion IsLine (run_of given)
+        × Appends (W.written out.old) (W.written out.new) (answers (run_of given)) }
+
+    // With every status a front of the answers is written, and what was taken is what the source had.
+    ensures part { AppendsPart (W.written out.old) (W.written out.new)
+        (answers (run_of (appended_bytes (S.taken schedule.old) (S.taken schedule.new)))) }
+    ensures taken { Consumes (S.left schedule.old) (S.left schedule.new) (appended_bytes (S.taken schedule.old) (S.taken schedule.new)) }
+
+    // It doesn't give up by itself.
+    ensures complete { IsReplay (map string_bytes words.now)
+        → (Rose (S.faults schedule.old) (S.faults schedule.new) → ⊥) → (Rose (W.faults out.old) (W.faults out.new) → ⊥)
+        → IsSchedule (appended_bytes (S.taken schedule.old) (S.taken schedule.new))
+        → (result ≡ Status.Ok) ⊎ (result ≡ Status.NoMemory) }
+{
+    if !is_replay(words) {
+        return Status::Usage;
+    }
+    let reading = read_all(alloc, LIMIT, schedule);
+    let text = head(&reading.bytes);
+    match run_lines(alloc, text, out) {
+        Err(RunFault::BadLine(line)) => Status::BadSchedule { line },
+        Err(RunFault::Write) => Status::WriteFault,
+        Err(RunFault::NoMemory) => Status::NoMemory,
+        Ok(count) => match reading.end {
+            ReadEnd::Fault => Status::ReadFault,
+            ReadEnd::TooLong => Status::TooLong,
+            ReadEnd::NoMemory => Status::NoMemory,
+            ReadEnd::Whole if is_whole(text) => Status::Ok,
+            ReadEnd::Whole => Status::BadSchedule { line: count + 1 },
+        },
+    }
+}

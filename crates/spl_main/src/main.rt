@@ -1,0 +1,49 @@
+//! The program: it opens the files that its words name, runs, and says how that ended.
+#![tactic(auto)]
+
+mod adapters;
+
+use adapters::{FileSource, StdSink};
+use spl_app::{Status, splinter};
+use std::io::Write;
+use std::process::ExitCode;
+use std::{env, fs, io};
+
+// The words behind the program's name.
+fn words_of(rt: &HostRuntime) -> io::Result<Vec<String>> {
+    let mut words = Vec::new(rt.alloc());
+    for word in env::args(rt)?.skip(1) {
+        words.push(word)?;
+    }
+    Ok(words)
+}
+
+// A file that can't be opened is one whose first read fails.
+fn run(rt: &HostRuntime) -> Status {
+    let Ok(words) = words_of(rt) else {
+        return Status::Usage;
+    };
+    let file = match words.get(2) {
+        Some(name) => fs::open(rt, name.as_str()).ok(),
+        None => None,
+    };
+    let mut schedule = FileSource::new(rt.alloc(), file);
+    let mut out = StdSink::new(rt.stdout());
+    splinter(rt.alloc(), &words, &mut schedule, &mut out)
+}
+
+// One line on standard error.
+fn report(rt: &HostRuntime, status: Status) -> io::Result<()> {
+    let text = status.text(rt.alloc())?;
+    let mut error = rt.stderr();
+    error.write_all(text.bytes())?;
+    error.write_all(b"\n")
+}
+
+fn main(rt: HostRuntime) -> ExitCode {
+    let status = run(&rt);
+    if status != Status::Ok {
+        let _ = report(&rt, status);
+    }
+    ExitCode::from(status.code())
+}
