@@ -11,4 +11,6 @@ pub use status::Status;
 pub use top::splinter;
 
 #[cfg(test)]
+mod plain_tests;
+#[cfg(test)]
 mod tests;

@@ -6,7 +6,7 @@ use Rattle.spl_base.specs.declared.fault.FieldFault.{FieldFault}
 use Rattle.spl_base.specs.declared.fault.FieldFault.TheVariants.{Short, TooLong}
 use Rattle.spl_base.specs.declared.fault.Malformed.{Malformed}
 use Rattle.spl_base.specs.declared.fault.Malformed.TheVariants as malformed
-use Rattle.spl_base.specs.Input.{Input, ◌>>=◌, raw_at, number_at, text_at}
+use Rattle.spl_base.specs.Input.{Input, ◌>>=◌, raw_at, number_at, sized_at}
 use Rattle.std.proofs.Common.{inl, inr}
 
 -- a value and the input behind it, or where the first unreadable field begins
@@ -59,23 +59,35 @@ raw n p = record {
   bounded = λ xs. true;
 }
 
--- a text of at most so many bytes that passes a test
-abbrev pub text : ℕ → (List ℕ → Bool) → Form (List ℕ)
-text most p = record {
-  spell = λ xs. number_bytes w16 (length xs) ++ xs;
-  parse = λ s. located (text_at most s) >>= λ x. if p x.0 then Ok x else Err s.place;
+-- at most so many bytes that pass a test, behind their number
+abbrev pub sized : Width → ℕ → (List ℕ → Bool) → Form (List ℕ)
+sized w most p = record {
+  spell = λ xs. number_bytes w (length xs) ++ xs;
+  parse = λ s. located (sized_at w most s) >>= λ x. if p x.0 then Ok x else Err s.place;
   fits = λ xs. nat_le (length xs) most && p xs;
   bounded = λ xs. true;
 }
 
+-- a text of at most so many bytes that passes a test
+abbrev pub text : ℕ → (List ℕ → Bool) → Form (List ℕ)
+text most p = sized w16 most p
+
 -- at most so many bytes behind their number
-abbrev pub string : ℕ → Form (List ℕ)
-string most = record {
-  spell = λ xs. number_bytes w16 (length xs) ++ xs;
-  parse = λ s. located (text_at most s);
+abbrev pub counted : Width → ℕ → Form (List ℕ)
+counted w most = record {
+  spell = λ xs. number_bytes w (length xs) ++ xs;
+  parse = λ s. located (sized_at w most s);
   fits = λ xs. nat_le (length xs) most;
   bounded = λ xs. nat_le (length xs) most;
 }
+
+-- a byte string of at most so many bytes
+abbrev pub string : ℕ → Form (List ℕ)
+string most = counted w16 most
+
+-- a prefix of an address: one byte of length, at most 35, and that many bytes
+abbrev pub prefix : Form (List ℕ)
+prefix = counted w8 35
 
 abbrev pub flag_of : ℕ → ℕ → Input → Parsed Bool
 flag_of zero at s = Ok (false, s)
@@ -193,12 +205,14 @@ pub record Taken {A : Type 0} (spell : A → List ℕ) (fits : A → Bool) (s : 
   pub is_fit : IsTrue (fits x)
   pub bytes : IsBytes t.rest
 
--- what was spelled is read, whatever follows it; what is read was spelled so
+-- what was spelled is read, whatever follows it; what is read was spelled so; what has a spelling is within its bounds
 pub record IsExact {A : Type 0} (f : Form A) : Type 0 where
   pub again : (x : A) (rest : List ℕ) (place : ℕ) → IsTrue (f.fits x) → f.parse (record { rest = f.spell x ++ rest; place = place }) ≡ Ok (x, record { rest = rest; place = place + length (f.spell x) })
   pub takes : (s : Input) (x : A) (t : Input) → IsBytes s.rest → f.parse s ≡ Ok (x, t) → Taken f.spell f.fits s x t
+  pub bounds : (x : A) → IsTrue (f.fits x) → IsTrue (f.bounded x)
 
 pub record IsExactCases {A : Type 0} (c : Cases A) : Type 0 where
   pub again : (x : A) (rest : List ℕ) (place at : ℕ) → IsTrue (c.fits x) → c.parse (c.index x) at (record { rest = c.spell x ++ rest; place = place }) ≡ Ok (x, record { rest = rest; place = place + length (c.spell x) })
   pub takes : (n at : ℕ) (s : Input) (x : A) (t : Input) → IsBytes s.rest → c.parse n at s ≡ Ok (x, t) → (c.index x ≡ n) × Taken c.spell c.fits s x t
   pub beyond : (n at : ℕ) (s : Input) → c.count ≤ n → c.parse n at s ≡ Err at
+  pub bounds : (x : A) → IsTrue (c.fits x) → IsTrue (c.bounded x)

@@ -8,8 +8,8 @@ use Rattle.std.proofs.lemmas.List.Concat.{flat_map-cons}
 use Rattle.std.proofs.lemmas.Nat.{be_bytes_2, be_bytes_4, be_bytes_8, from_be_bytes-to_be_bytes_2, from_be_bytes-to_be_bytes_4, from_be_bytes-to_be_bytes_8}
 use Rattle.spl_base.specs.declared.fault.FieldFault.{FieldFault}
 use Rattle.spl_base.specs.declared.fault.FieldFault.TheVariants.{Short, TooLong}
-use Rattle.spl_base.specs.Input.{Input, ◌>>=◌, advanced, raw_at, number_at, text_at}
-use Rattle.spl_base.specs.Form.{Form, Parsed, located, IsBytes, Taken, IsExact, IsExactCases, number, number_bytes, raw, text, string, flag, flag_of, ◌&◌, via, items_at, list_of, Cases, no_case, ◌or◌, or_parse, by_tag, tagged, nothing}
+use Rattle.spl_base.specs.Input.{Input, ◌>>=◌, advanced, raw_at, number_at, sized_at}
+use Rattle.spl_base.specs.Form.{Form, Parsed, located, IsBytes, Taken, IsExact, IsExactCases, number, number_bytes, raw, sized, text, counted, string, prefix, flag, flag_of, ◌&◌, via, items_at, list_of, Cases, no_case, ◌or◌, or_parse, by_tag, tagged, nothing}
 
 -- ---- tests
 
@@ -78,7 +78,7 @@ module _ {A B : Type 0} (f : Form A) (g : Form B) (p : IsExact f) (q : IsExact g
       })
 
   pub exact_and : IsExact (f & g)
-  exact_and = record { again = and_again; takes = and_takes }
+  exact_and = record { again = and_again; takes = and_takes; bounds = λ x h. let b = both_true (f.fits x.0) (g.fits x.1) h in and_true (f.bounded x.0) (g.bounded x.1) (p.bounds x.0 b.0) (q.bounds x.1 b.1) }
 
 -- ---- another type
 
@@ -96,6 +96,7 @@ module _ {A B : Type 0} (to : A → B) (from : B → A) (f : Form A) (there : (b
   exact_via = record {
     again = λ x rest place h. rw (p.again (from x) rest place h) (ap (λ (b : B). Ok (b, record { rest = rest; place = place + length (f.spell (from x)) })) (there x));
     takes = via_takes;
+    bounds = λ x h. p.bounds (from x) h;
   }
 
 -- ---- numbers
@@ -182,6 +183,7 @@ module _ (w : Width) (limit : ℕ) (wide : IsWide w limit) where
   exact_number = record {
     again = λ n rest place h. ap located (number_again n rest place (ltb-true _ _ h)) ∙ ap (λ (k : ℕ). Ok (n, record { rest = rest; place = place + k })) (sym (wide.len n));
     takes = number_taken;
+    bounds = λ n h. refl;
   }
 
 -- ---- bytes
@@ -216,54 +218,63 @@ module _ (n : ℕ) (p : List ℕ → Bool) where
       })
 
   pub exact_raw : IsExact (raw n p)
-  exact_raw = record { again = raw_spelled; takes = raw_takes }
+  exact_raw = record { again = raw_spelled; takes = raw_takes; bounds = λ xs h. refl }
 
 -- ---- a text
 
-module _ (most : ℕ) (p : List ℕ → Bool) (small : most < 2 ^ 16) where
-  text_again : (xs rest : List ℕ) (place : ℕ) → length xs ≤ most → text_at most (record { rest = number_bytes w16 (length xs) ++ (xs ++ rest); place = place }) ≡ Ok (xs, record { rest = rest; place = place + 2 + length xs })
-  text_again xs rest place le =
+module _ (w : Width) (limit : ℕ) (wide : IsWide w limit) (most : ℕ) (p : List ℕ → Bool) (small : most < limit) where
+  sized_again : (xs rest : List ℕ) (place : ℕ) → length xs ≤ most → sized_at w most (record { rest = number_bytes w (length xs) ++ (xs ++ rest); place = place }) ≡ Ok (xs, record { rest = rest; place = place + byte_len w + length xs })
+  sized_again xs rest place le =
       let short : ltb most (length xs) ≡ false = le-ltb _ _ le in
       let long : ltb (length (xs ++ rest)) (length xs) ≡ false = le-ltb _ _ (omega (arith, length-append xs rest)) in
-      rw (number_again w16 (2 ^ 16) wide16 (length xs) (xs ++ rest) place (omega arith), short, long, take_at xs rest (length xs) refl, drop_at xs rest (length xs) refl) refl
+      rw (number_again w limit wide (length xs) (xs ++ rest) place (omega (arith, le, small)), short, long, take_at xs rest (length xs) refl, drop_at xs rest (length xs) refl) refl
 
-  text_spelled : (xs rest : List ℕ) (place : ℕ) → IsTrue ((text most p).fits xs) → (text most p).parse (record { rest = (text most p).spell xs ++ rest; place = place }) ≡ Ok (xs, record { rest = rest; place = place + length ((text most p).spell xs) })
-  text_spelled xs rest place h =
+  sized_spelled : (xs rest : List ℕ) (place : ℕ) → IsTrue ((sized w most p).fits xs) → (sized w most p).parse (record { rest = (sized w most p).spell xs ++ rest; place = place }) ≡ Ok (xs, record { rest = rest; place = place + length ((sized w most p).spell xs) })
+  sized_spelled xs rest place h =
       let b = both_true (leb (length xs) most) (p xs) h in
-      let regrouped : (number_bytes w16 (length xs) ++ xs) ++ rest ≡ number_bytes w16 (length xs) ++ (xs ++ rest) = append_assoc (number_bytes w16 (length xs)) xs rest in
-      let places : place + 2 + length xs ≡ place + length (number_bytes w16 (length xs) ++ xs) = omega (arith, length-append (number_bytes w16 (length xs)) xs, wide16.len (length xs)) in
-      ap (λ (r : Result (List ℕ × Input) FieldFault). located r >>= λ x. cond (p x.0) (Ok x) (Err place)) (ap (λ (r : List ℕ). text_at most (record { rest = r; place = place })) regrouped ∙ text_again xs rest place (leb-true _ _ b.0))
+      let regrouped : (number_bytes w (length xs) ++ xs) ++ rest ≡ number_bytes w (length xs) ++ (xs ++ rest) = append_assoc (number_bytes w (length xs)) xs rest in
+      let places : place + byte_len w + length xs ≡ place + length (number_bytes w (length xs) ++ xs) = omega (arith, length-append (number_bytes w (length xs)) xs, wide.len (length xs)) in
+      ap (λ (r : Result (List ℕ × Input) FieldFault). located r >>= λ x. cond (p x.0) (Ok x) (Err place)) (ap (λ (r : List ℕ). sized_at w most (record { rest = r; place = place })) regrouped ∙ sized_again xs rest place (leb-true _ _ b.0))
       ∙ rw b.1 (ap (λ (k : ℕ). Ok (xs, record { rest = rest; place = k })) places)
 
-  text_takes : (s : Input) (xs : List ℕ) (t : Input) → IsBytes s.rest → (text most p).parse s ≡ Ok (xs, t) → Taken (text most p).spell (text most p).fits s xs t
-  text_takes s xs t bytes e =
-      let a = bind_ok (located (text_at most s)) (λ x. cond (p x.0) (Ok x) (Err s.place)) (xs, t) e in
+  sized_takes : (s : Input) (xs : List ℕ) (t : Input) → IsBytes s.rest → (sized w most p).parse s ≡ Ok (xs, t) → Taken (sized w most p).spell (sized w most p).fits s xs t
+  sized_takes s xs t bytes e =
+      let a = bind_ok (located (sized_at w most s)) (λ x. cond (p x.0) (Ok x) (Err s.place)) (xs, t) e in
       let q = guard_ok (p a.0.0) s.place a.0 (xs, t) a.2 in
-      let b = bind_ok (number_at w16 s) (λ n. cond (ltb most n.0) (Err (TooLong s.place)) (cond (ltb (length n.1.rest) n.0) (Err (Short s.place)) (Ok (take n.0 n.1.rest, advanced n.0 n.1)))) a.0 (located_ok (text_at most s) a.0 a.1) in
+      let b = bind_ok (number_at w s) (λ n. cond (ltb most n.0) (Err (TooLong s.place)) (cond (ltb (length n.1.rest) n.0) (Err (Short s.place)) (Ok (take n.0 n.1.rest, advanced n.0 n.1)))) a.0 (located_ok (sized_at w most s) a.0 a.1) in
       let n = b.0 in
       let g = fault_not (ltb most n.0) (TooLong s.place) (cond (ltb (length n.1.rest) n.0) (Err (Short s.place)) (Ok (take n.0 n.1.rest, advanced n.0 n.1))) a.0 b.2 in
       let k = taken_ok (ltb (length n.1.rest) n.0) (Short s.place) (take n.0 n.1.rest, advanced n.0 n.1) a.0 (ap located g.1) in
-      let first = number_taken w16 (2 ^ 16) wide16 s n.0 n.1 bytes (ap located b.1) in
+      let first = number_taken w limit wide s n.0 n.1 bytes (ap located b.1) in
       let le : n.0 ≤ most = ltb-false _ _ g.0 in
       let long : n.0 ≤ length n.1.rest = ltb-false _ _ k.0 in
       let cut = take n.0 n.1.rest in
       let len : length cut ≡ n.0 = omega (arith, length-take n.0 n.1.rest) in
       let passes : IsTrue (p cut) = rw (ap (λ (x : List ℕ × Input). x.0) k.1) q.0 in
       let whole : n.1.rest ≡ cut ++ drop n.0 n.1.rest = sym (take-append-drop n.0 n.1.rest) in
-      let counted : number_bytes w16 n.0 ≡ number_bytes w16 (length cut) = ap (number_bytes w16) (sym len) in
-      subst (λ (x : List ℕ × Input). Taken (text most p).spell (text most p).fits s x.0 x.1) (k.1 ∙ q.1) (record {
-        parts = first.parts ∙ ap (λ (r : List ℕ). number_bytes w16 n.0 ++ r) whole ∙ sym (append_assoc (number_bytes w16 n.0) cut (drop n.0 n.1.rest)) ∙ ap (λ (z : List ℕ). (z ++ cut) ++ drop n.0 n.1.rest) counted;
-        place = omega (arith, first.place, len, length-append (number_bytes w16 (length cut)) cut, wide16.len (length cut), wide16.len n.0);
+      let counted : number_bytes w n.0 ≡ number_bytes w (length cut) = ap (number_bytes w) (sym len) in
+      subst (λ (x : List ℕ × Input). Taken (sized w most p).spell (sized w most p).fits s x.0 x.1) (k.1 ∙ q.1) (record {
+        parts = first.parts ∙ ap (λ (r : List ℕ). number_bytes w n.0 ++ r) whole ∙ sym (append_assoc (number_bytes w n.0) cut (drop n.0 n.1.rest)) ∙ ap (λ (z : List ℕ). (z ++ cut) ++ drop n.0 n.1.rest) counted;
+        place = omega (arith, first.place, len, length-append (number_bytes w (length cut)) cut, wide.len (length cut), wide.len n.0);
         is_fit = and_true (leb (length cut) most) (p cut) (le-leb (length cut) most (omega arith)) passes;
         bytes = IsBytes-drop n.0 n.1.rest first.bytes;
       })
 
-  pub exact_text : IsExact (text most p)
-  exact_text = record { again = text_spelled; takes = text_takes }
+  pub exact_sized : IsExact (sized w most p)
+  exact_sized = record { again = sized_spelled; takes = sized_takes; bounds = λ xs h. refl }
+
+pub exact_text : (most : ℕ) (p : List ℕ → Bool) → most < 2 ^ 16 → IsExact (text most p)
+exact_text most p small = exact_sized w16 (2 ^ 16) wide16 most p small
 
 -- ---- a list
 
 module _ {A : Type 0} (f : Form A) (p : IsExact f) where
+  items_bounds : (xs : List A) → IsTrue (list_all f.fits xs) → IsTrue (list_all f.bounded xs)
+  items_bounds [] h = refl
+  items_bounds (x ∷ xs) h =
+      let b = both_true (f.fits x) (list_all f.fits xs) h in
+      and_true (f.bounded x) (list_all f.bounded xs) (p.bounds x b.0) (items_bounds xs b.1)
+
   items_again : (xs : List A) (rest : List ℕ) (place : ℕ) → IsTrue (list_all f.fits xs) → items_at f.parse (length xs) (record { rest = flat_map f.spell xs ++ rest; place = place }) ≡ Ok (xs, record { rest = rest; place = place + length (flat_map f.spell xs) })
   items_again [] rest place h = ap (λ (k : ℕ). Ok ([], record { rest = rest; place = k })) (omega arith)
   items_again (x ∷ xs) rest place h =
@@ -322,8 +333,13 @@ module _ {A : Type 0} (f : Form A) (p : IsExact f) where
           bytes = others.0.bytes;
         }
 
+    list_bounds : (xs : List A) → IsTrue ((list_of most f).fits xs) → IsTrue ((list_of most f).bounded xs)
+    list_bounds xs h =
+        let b = both_true (leb (length xs) most) (list_all f.fits xs) h in
+        and_true (leb (length xs) most) (list_all f.bounded xs) b.0 (items_bounds xs b.1)
+
     pub exact_list : IsExact (list_of most f)
-    exact_list = record { again = list_again; takes = list_takes }
+    exact_list = record { again = list_again; takes = list_takes; bounds = list_bounds }
 
 -- ---- cases
 
@@ -331,6 +347,7 @@ pub exact_nothing : IsExact nothing
 exact_nothing = record {
   again = λ x rest place h. ap (λ (k : ℕ). Ok (tt, record { rest = rest; place = k })) (omega arith);
   takes = λ s x t bytes e. let made : Unit {0} × Input = (tt, s) in subst (λ (y : Unit {0} × Input). Taken (λ _. []) (λ _. true) s y.0 y.1) (ok_is made (x, t) e) (record { parts = refl; place = omega arith; is_fit = refl; bytes = bytes });
+  bounds = λ x h. refl;
 }
 
 pub exact_no_case : IsExactCases no_case
@@ -338,6 +355,7 @@ exact_no_case = record {
   again = λ x. absurd x;
   takes = λ n at s x t bytes e. absurd x;
   beyond = λ n at s h. refl;
+  bounds = λ x h. absurd x;
 }
 
 module _ {A B : Type 0} (f : Form A) (c : Cases B) (p : IsExact f) (q : IsExactCases c) where
@@ -361,8 +379,12 @@ module _ {A B : Type 0} (f : Form A) (c : Cases B) (p : IsExact f) (q : IsExactC
   or_beyond zero at s h = absurd (omega (arith, h))
   or_beyond (suc n) at s h = rw (q.beyond n at s (omega (arith, h))) refl
 
+  or_bounds : (x : A ⊎ B) → IsTrue ((f or c).fits x) → IsTrue ((f or c).bounded x)
+  or_bounds (inl a) h = p.bounds a h
+  or_bounds (inr b) h = q.bounds b h
+
   pub exact_or : IsExactCases (f or c)
-  exact_or = record { again = or_again; takes = or_takes; beyond = or_beyond }
+  exact_or = record { again = or_again; takes = or_takes; beyond = or_beyond; bounds = or_bounds }
 
 module _ {A : Type 0} (c : Cases A) (q : IsExactCases c) where
   tagged_again : (x : A) (rest : List ℕ) (place : ℕ) → IsTrue ((tagged c).fits x) → (tagged c).parse (record { rest = (tagged c).spell x ++ rest; place = place }) ≡ Ok (x, record { rest = rest; place = place + length ((tagged c).spell x) })
@@ -393,7 +415,7 @@ module _ {A : Type 0} (c : Cases A) (q : IsExactCases c) where
       }
 
   pub exact_tagged : IsExact (tagged c)
-  exact_tagged = record { again = tagged_again; takes = tagged_takes }
+  exact_tagged = record { again = tagged_again; takes = tagged_takes; bounds = λ x h. q.bounds x (both_true (ltb (suc (c.index x)) 256) (c.fits x) h).1 }
 
   -- a tag that no case has
   pub no_tag : (n at : ℕ) (s : Input) → (n ≡ 0) ⊎ (c.count < n) → by_tag c n at s ≡ Err at
@@ -418,22 +440,28 @@ and_true_is : (b : Bool) → (b && true) ≡ b
 and_true_is true = refl
 and_true_is false = refl
 
-module _ (most : ℕ) (small : most < 2 ^ 16) where
-  string_again : (xs rest : List ℕ) (place : ℕ) → IsTrue ((string most).fits xs) → (string most).parse (record { rest = (string most).spell xs ++ rest; place = place }) ≡ Ok (xs, record { rest = rest; place = place + length ((string most).spell xs) })
-  string_again xs rest place h =
-      let regrouped : (number_bytes w16 (length xs) ++ xs) ++ rest ≡ number_bytes w16 (length xs) ++ (xs ++ rest) = append_assoc (number_bytes w16 (length xs)) xs rest in
-      let places : place + 2 + length xs ≡ place + length (number_bytes w16 (length xs) ++ xs) = omega (arith, length-append (number_bytes w16 (length xs)) xs, wide16.len (length xs)) in
-      ap (λ (r : Result (List ℕ × Input) FieldFault). located r) (ap (λ (r : List ℕ). text_at most (record { rest = r; place = place })) regrouped ∙ text_again most passes_all small xs rest place (leb-true _ _ h))
+module _ (w : Width) (limit : ℕ) (wide : IsWide w limit) (most : ℕ) (small : most < limit) where
+  counted_again : (xs rest : List ℕ) (place : ℕ) → IsTrue ((counted w most).fits xs) → (counted w most).parse (record { rest = (counted w most).spell xs ++ rest; place = place }) ≡ Ok (xs, record { rest = rest; place = place + length ((counted w most).spell xs) })
+  counted_again xs rest place h =
+      let regrouped : (number_bytes w (length xs) ++ xs) ++ rest ≡ number_bytes w (length xs) ++ (xs ++ rest) = append_assoc (number_bytes w (length xs)) xs rest in
+      let places : place + byte_len w + length xs ≡ place + length (number_bytes w (length xs) ++ xs) = omega (arith, length-append (number_bytes w (length xs)) xs, wide.len (length xs)) in
+      ap (λ (r : Result (List ℕ × Input) FieldFault). located r) (ap (λ (r : List ℕ). sized_at w most (record { rest = r; place = place })) regrouped ∙ sized_again w limit wide most passes_all small xs rest place (leb-true _ _ h))
       ∙ ap (λ (k : ℕ). Ok (xs, record { rest = rest; place = k })) places
 
-  string_takes : (s : Input) (xs : List ℕ) (t : Input) → IsBytes s.rest → (string most).parse s ≡ Ok (xs, t) → Taken (string most).spell (string most).fits s xs t
+  counted_takes : (s : Input) (xs : List ℕ) (t : Input) → IsBytes s.rest → (counted w most).parse s ≡ Ok (xs, t) → Taken (counted w most).spell (counted w most).fits s xs t
   unfolding passes_all
-  string_takes s xs t bytes e =
-      let all = text_takes most passes_all small s xs t bytes (rw e refl) in
+  counted_takes s xs t bytes e =
+      let all = sized_takes w limit wide most passes_all small s xs t bytes (rw e refl) in
       record { parts = all.parts; place = all.place; is_fit = (both_true (leb (length xs) most) true all.is_fit).0; bytes = all.bytes }
 
-  pub exact_string : IsExact (string most)
-  exact_string = record { again = string_again; takes = string_takes }
+  pub exact_counted : IsExact (counted w most)
+  exact_counted = record { again = counted_again; takes = counted_takes; bounds = λ xs h. h }
+
+pub exact_string : (most : ℕ) → most < 2 ^ 16 → IsExact (string most)
+exact_string most small = exact_counted w16 (2 ^ 16) wide16 most small
+
+pub exact_prefix : IsExact prefix
+exact_prefix = exact_counted w8 (2 ^ 8) wide8 35 (lit< tt)
 
 flag_again : (b : Bool) (rest : List ℕ) (place : ℕ) → IsTrue (flag.fits b) → flag.parse (record { rest = flag.spell b ++ rest; place = place }) ≡ Ok (b, record { rest = rest; place = place + length (flag.spell b) })
 flag_again true rest place h = rw (number_again w8 (2 ^ 8) wide8 1 rest place (lit< tt), wide8.len 1) refl
@@ -454,4 +482,4 @@ flag_takes s b t bytes e =
     flag_takes_by a.0.0 s a.0.1 b t (number_taken w8 (2 ^ 8) wide8 s a.0.0 a.0.1 bytes a.1) a.2
 
 pub exact_flag : IsExact flag
-exact_flag = record { again = flag_again; takes = flag_takes }
+exact_flag = record { again = flag_again; takes = flag_takes; bounds = λ b h. refl }

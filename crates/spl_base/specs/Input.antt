@@ -24,11 +24,15 @@ abbrev pub ◌>>=◌ : {A B E : Type 0} → Result A E → (A → Result B E) �
 (Ok x) >>= f = f x
 (Err e) >>= f = Err e
 
+-- a length of so many bytes, and that many bytes
+abbrev pub sized_at : Width → ℕ → Input → Result (List ℕ × Input) FieldFault
+sized_at w most s = do
+  n ← number_at w s
+  if nat_lt most n.0 then Err (TooLong s.place) else if nat_lt (length n.1.rest) n.0 then Err (Short s.place) else Ok (take n.0 n.1.rest, advanced n.0 n.1)
+
 -- two bytes of length, and that many bytes
 abbrev pub text_at : ℕ → Input → Result (List ℕ × Input) FieldFault
-text_at most s = do
-  n ← number_at w16 s
-  if nat_lt most n.0 then Err (TooLong s.place) else if nat_lt (length n.1.rest) n.0 then Err (Short s.place) else Ok (take n.0 n.1.rest, advanced n.0 n.1)
+text_at most s = sized_at w16 most s
 
 -- A call of a reader gives what the function on inputs gives; after a fault the reader stands where it stood.
 abbrev pub Takes : {X Y : Type 0} → (X → Y) → Result X FieldFault → Input → Input → Result (Y × Input) FieldFault → Type 0

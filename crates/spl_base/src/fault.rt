@@ -16,6 +16,7 @@ pub enum FieldFault {
 impl FieldFault {
     ghost use Rattle.spl_base.specs.Form.{place_of};
 
+    /// Where the field begins.
     pub fn at(self) -> usize
         ensures { result ≡ place_of self }
     {
@@ -26,8 +27,10 @@ impl FieldFault {
     }
 }
 
+/// Why a value could not be read from the front of bytes.
 #[derive(Clone, Copy, Debug, PartialEq, Eq)]
 pub enum Malformed {
+    /// Memory ran out.
     NoMemory,
     /// The first unreadable field begins here.
     At { at: usize },

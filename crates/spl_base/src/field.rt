@@ -178,6 +178,8 @@ pub fn read_front<T: Field>(alloc: Global, bytes: &[u8]) -> Result<(T, usize), M
     ensures exact { Answers result (front_of T.form bytes.now) }
     // What is read is spelled so.
     ensures found { IfOk result (λ x. (bytes.now ≡ T.form.spell x.0 ++ drop x.1 bytes.now) × IsTrue (T.form.fits x.0)) }
+    // What is read can be written.
+    ensures bounded { IfOk result (λ x. IsTrue (T.form.bounded x.0)) }
     // What is spelled so is read, whatever follows it, unless memory runs out.
     ensures only { (x : T) (rest : List ℕ) → IsTrue (T.form.fits x) → bytes.now ≡ T.form.spell x ++ rest → Answers result (Ok (x, length (T.form.spell x))) }
 {

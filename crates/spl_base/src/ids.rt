@@ -1,4 +1,4 @@
-//! The ids.
+//! Ids: fixed arrays of bytes, which are copied, compared, ordered and hashed by their bytes.
 ghost use Rattle.std.specs.Prelude.{◌≡◌, ℕ, ◌≤◌, IsTrue, length};
 ghost use Rattle.spl_base.specs.Ids.{is_circuit_id, is_node_id, is_service_id, is_label, within, is_node_byte, is_base62, is_graphic};
 ghost use Rattle.std.specs.List.{list_all};
@@ -11,7 +11,7 @@ use crate::writer::Writer;
 use std::alloc::{AllocError, Global};
 use std::marker::Model;
 
-/// The id of a node.
+/// The id of a node: 1 to 32 bytes of `a`-`z`, `0`-`9` and `-` (docs/RULES.md, Ids). Contracts see its bytes.
 #[derive(Clone, Copy, Debug, PartialEq, Eq, PartialOrd, Ord, Hash)]
 pub struct NodeId {
     text: Short<32>,
@@ -49,7 +49,7 @@ fn is_node_id(bytes: &[u8]) -> bool
 }
 
 impl NodeId {
-    /// The id that the bytes spell.
+    /// The id that the bytes spell; None exactly where they are outside the grammar.
     pub fn read(bytes: &[u8]) -> Option<NodeId>
         ensures { result ≡ within is_node_id bytes.now }
     {
@@ -61,6 +61,7 @@ impl NodeId {
         })
     }
 
+    /// Its bytes, which are in the grammar.
     pub fn bytes(&self) -> &[u8]
         ensures value { result.now ≡ self.now }
         ensures spelled { IsTrue (is_node_id self.now) }
@@ -91,7 +92,7 @@ impl Field for NodeId {
     ghost exact = { exact_text 32 is_node_id (lit< tt) };
 }
 
-/// A text of graphic characters.
+/// A label: 0 to 128 bytes of 0x21 to 0x7e (docs/RULES.md, Ids). Contracts see its bytes.
 #[derive(Clone, Copy, Debug, PartialEq, Eq, PartialOrd, Ord, Hash)]
 pub struct Label {
     text: Short<128>,
@@ -123,6 +124,7 @@ fn is_label(bytes: &[u8]) -> bool
 }
 
 impl Label {
+    /// The label that the bytes spell; None exactly where they are outside the grammar.
     pub fn read(bytes: &[u8]) -> Option<Label>
         ensures { result ≡ within is_label bytes.now }
     {
@@ -134,6 +136,7 @@ impl Label {
         })
     }
 
+    /// Its bytes, which are in the grammar.
     pub fn bytes(&self) -> &[u8]
         ensures value { result.now ≡ self.now }
         ensures spelled { IsTrue (is_label self.now) }
@@ -164,7 +167,7 @@ impl Field for Label {
     ghost exact = { exact_text 128 is_label (lit< tt) };
 }
 
-/// The id of a service in its circuit.
+/// The id of a service in its circuit: four base62 characters (docs/RULES.md, Ids). Contracts see its bytes.
 #[derive(Clone, Copy, Debug, PartialEq, Eq, PartialOrd, Ord, Hash)]
 pub struct ServiceId {
     cells: [u8; 4],
@@ -202,6 +205,7 @@ fn is_service_id(bytes: &[u8]) -> bool
 }
 
 impl ServiceId {
+    /// The id that the bytes spell; None exactly where they are outside the grammar.
     pub fn read(bytes: &[u8]) -> Option<ServiceId>
         ensures { result ≡ within is_service_id bytes.now }
     {
@@ -213,6 +217,7 @@ impl ServiceId {
         Some(ServiceId { cells })
     }
 
+    /// Its bytes, which are in the grammar.
     pub fn bytes(&self) -> &[u8]
         ensures value { result.now ≡ self.now }
         ensures spelled { IsTrue (is_service_id self.now) }
@@ -242,7 +247,7 @@ impl Field for ServiceId {
     ghost exact = { exact_raw 4 is_service_id };
 }
 
-/// The id of a circuit.
+/// The id of a circuit: five base62 characters, a `-`, and five more (docs/RULES.md, Ids). Contracts see its bytes.
 #[derive(Clone, Copy, Debug, PartialEq, Eq, PartialOrd, Ord, Hash)]
 pub struct CircuitId {
     text: Short<11>,
@@ -268,6 +273,7 @@ fn is_circuit_id(bytes: &[u8]) -> bool
 }
 
 impl CircuitId {
+    /// The id that the bytes spell; None exactly where they are outside the grammar.
     pub fn read(bytes: &[u8]) -> Option<CircuitId>
         ensures { result ≡ within is_circuit_id bytes.now }
     {
@@ -279,6 +285,7 @@ impl CircuitId {
         })
     }
 
+    /// Its bytes, which are in the grammar.
     pub fn bytes(&self) -> &[u8]
         ensures value { result.now ≡ self.now }
         ensures spelled { IsTrue (is_circuit_id self.now) }

@@ -8,7 +8,7 @@ use crate::writer::Writer;
 use std::alloc::{AllocError, Global};
 use std::marker::Model;
 
-/// A byte string.
+/// A byte string. Contracts see the bytes.
 #[derive(Debug, Drop)]
 pub struct Piece {
     bytes: Vec<u8>,
@@ -23,12 +23,14 @@ impl Model for Piece {
 }
 
 impl Piece {
+    /// The bytes of a vector.
     pub(crate) fn from_vec(bytes: Vec<u8>) -> Piece
         ensures { result ≡ bytes.items }
     {
         Piece { bytes }
     }
 
+    /// A copy of the bytes. An error comes for want of memory alone.
     pub fn from(alloc: Global, bytes: &[u8]) -> Result<Piece, AllocError>
         ensures { IfOk result (λ p. p ≡ bytes.now) }
     {
@@ -37,6 +39,7 @@ impl Piece {
         })
     }
 
+    /// Its bytes.
     pub fn bytes(&self) -> &[u8]
         ensures { result.now ≡ self.now }
     {
@@ -62,27 +65,4 @@ impl Field for Piece {
     }
 
     ghost exact = { exact_string 1024 (lit< tt) };
-}
-
-/// The address of an entry.
-#[derive(Clone, Copy, Debug, PartialEq, Eq, PartialOrd, Ord, Hash)]
-pub struct Address(pub [u8; 35]);
-
-impl Field for Address {
-    ghost use Rattle.spl_base.specs.Fields.{address, exact_address};
-
-    ghost form = { address };
-
-    fn put(&self, w: &mut Writer) -> Result<(), AllocError> {
-        w.put_raw(&self.0)
-    }
-
-    fn take(_alloc: Global, r: &mut Reader) -> Result<Address, Malformed> {
-        let bytes = r.take_raw(35)?;
-        let mut cells = [0; 35];
-        cells.copy_from_slice(bytes);
-        Ok(Address(cells))
-    }
-
-    ghost exact = { exact_address };
 }

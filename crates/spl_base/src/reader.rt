@@ -6,7 +6,8 @@ ghost use Rattle.spl_base.specs.Input.{Input, number_at, raw_at, text_at, Takes}
 use crate::fault::FieldFault;
 use std::marker::Model;
 
-/// Takes fields from the front of bytes.
+/// Takes fields from the front of bytes. A call that fails leaves the reader where it stood: `Short` exactly where
+/// too few bytes remain for the field, `TooLong` exactly where a length is above its bound (docs/RULES.md, Byte forms).
 #[derive(Debug, Drop)]
 pub struct Reader<'a> {
     rest: &'a [u8],
@@ -25,6 +26,7 @@ impl<'a> Model for Reader<'a> {
 }
 
 impl<'a> Reader<'a> {
+    /// A reader in front of the first byte.
     pub fn new(bytes: &'a [u8]) -> Reader<'a>
         ensures { result ≡ record { rest = bytes.now; place = 0 } }
     {
@@ -55,6 +57,7 @@ impl<'a> Reader<'a> {
         Ok(front)
     }
 
+    /// Takes a number of one byte, the highest byte first.
     pub fn take_u8(&mut self) -> Result<u8, FieldFault>
         ensures { Takes (λ x. x) result self.old self.new (number_at w8 self.old) }
     {
@@ -62,6 +65,7 @@ impl<'a> Reader<'a> {
         Ok(front[0])
     }
 
+    /// Takes a number of two bytes, the highest byte first.
     pub fn take_u16(&mut self) -> Result<u16, FieldFault>
         ensures { Takes (λ x. x) result self.old self.new (number_at w16 self.old) }
     {
@@ -69,6 +73,7 @@ impl<'a> Reader<'a> {
         Ok(u16::from_be_bytes([front[0], front[1]]))
     }
 
+    /// Takes a number of four bytes, the highest byte first.
     pub fn take_u32(&mut self) -> Result<u32, FieldFault>
         ensures { Takes (λ x. x) result self.old self.new (number_at w32 self.old) }
     {
@@ -76,6 +81,7 @@ impl<'a> Reader<'a> {
         Ok(u32::from_be_bytes([front[0], front[1], front[2], front[3]]))
     }
 
+    /// Takes a number of eight bytes, the highest byte first.
     pub fn take_u64(&mut self) -> Result<u64, FieldFault>
         ensures { Takes (λ x. x) result self.old self.new (number_at w64 self.old) }
     {

@@ -11,7 +11,7 @@ use std::cmp::Ordering;
 use std::hash::{Hash, Hasher};
 use std::marker::Model;
 
-/// At most `CAP` bytes. The cells behind them are 0.
+/// At most `CAP` bytes. The cells behind them are 0. Contracts see the bytes.
 #[derive(Clone, Copy, Debug)]
 pub struct Short<const CAP: usize> {
     cells: [u8; CAP],
@@ -35,6 +35,7 @@ impl<const CAP: usize> Model for Short<CAP> {
 }
 
 impl<const CAP: usize> Short<CAP> {
+    /// These bytes.
     pub fn new(bytes: &[u8]) -> Self
         requires fits { length bytes.now ≤ CAP }
         requires small { length bytes.now < 256 }
@@ -48,6 +49,7 @@ impl<const CAP: usize> Short<CAP> {
         }
     }
 
+    /// The bytes.
     pub fn bytes(&self) -> &[u8]
         ensures value { result.now ≡ self.now }
         ensures len { length self.now ≤ CAP }
