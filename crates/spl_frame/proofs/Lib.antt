@@ -1,0 +1,4 @@
+pub mod Buffers
+pub mod Fronts
+pub mod Hearing
+pub mod Streams

@@ -1,0 +1,8 @@
+use Rattle.std.proofs.Common.{◌≡◌, [], take}
+use Rattle.std.specs.List.{flat_map}
+use Rattle.spl_frame.specs.Frames.{frames_of}
+use Rattle.spl_frame.specs.Heard.{Heard}
+use Rattle.spl_frame.proofs.stream.frames_in.Given as goal
+
+abbrev pub invariant-loop-piece : goal.invariant-loop-piece
+invariant-loop-piece l = Heard (flat_map (λ p. p) (take l.piece-index l.pieces)) l.frames l.framer × (frames_of l.framer ≡ [])

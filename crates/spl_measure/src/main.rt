@@ -1,0 +1,104 @@
+//! Runs parts of splinter by themselves, as often as asked, for bench/run to measure.
+#![tactic(auto)]
+
+use spl_base::Malformed;
+use spl_frame::{FrameFault, Framer};
+use spl_wire::Record;
+use std::alloc::{AllocError, Global};
+use std::process::ExitCode;
+use std::{env, fs, io};
+
+/// Why a part came to no end.
+#[derive(Clone, Copy, Debug, PartialEq, Eq)]
+enum Fault {
+    NoMemory,
+    Malformed,
+    Frame,
+}
+
+impl From<AllocError> for Fault {
+    fn from(_: AllocError) -> Fault {
+        Fault::NoMemory
+    }
+}
+
+impl From<Malformed> for Fault {
+    fn from(_: Malformed) -> Fault {
+        Fault::Malformed
+    }
+}
+
+impl From<FrameFault> for Fault {
+    fn from(_: FrameFault) -> Fault {
+        Fault::Frame
+    }
+}
+
+// Reads the record at the front again and again, and tells how many bytes that were.
+fn decode(alloc: Global, bytes: &[u8], times: u32) -> Result<u64, Fault> {
+    let mut done = 0u64;
+    for _ in 0..times {
+        let (_record, size) = Record::read(alloc, bytes)?;
+        done = done.saturating_add(size as u64);
+    }
+    Ok(done)
+}
+
+// Writes the record that was read from the front again and again, and tells how many bytes that were.
+fn encode(alloc: Global, bytes: &[u8], times: u32) -> Result<u64, Fault> {
+    let (record, _size) = Record::read(alloc, bytes)?;
+    let mut done = 0u64;
+    for _ in 0..times {
+        let piece = record.write(alloc)?;
+        done = done.saturating_add(piece.bytes().len() as u64);
+    }
+    Ok(done)
+}
+
+// Feeds the bytes in pieces of this size, and tells how many bytes the bodies of the frames have.
+fn frames(alloc: Global, bytes: &[u8], size: u32) -> Result<u64, Fault> {
+    let mut framer = Framer::new(alloc);
+    let mut done = 0u64;
+    for piece in bytes.chunks(size.max(1) as usize) {
+        framer.feed(piece)?;
+        for _ in 0..piece.len() {
+            let Some(body) = framer.next(alloc)? else {
+                break;
+            };
+            done = done.saturating_add(body.bytes().len() as u64);
+        }
+    }
+    Ok(done)
+}
+
+// PART FILE NUMBER
+fn run(rt: &HostRuntime) -> io::Result<Option<u64>> {
+    let mut words = Vec::new(rt.alloc());
+    for word in env::args(rt)?.skip(1) {
+        words.push(word)?;
+    }
+    let [part, file, number] = words.as_slice() else {
+        return Ok(None);
+    };
+    let Ok(number) = number.parse::<u32>() else {
+        return Ok(None);
+    };
+    let bytes = fs::read(rt, file.as_str())?;
+    let done = match part.as_str() {
+        "decode" => decode(rt.alloc(), &bytes, number),
+        "encode" => encode(rt.alloc(), &bytes, number),
+        "frames" => frames(rt.alloc(), &bytes, number),
+        _ => return Ok(None),
+    };
+    Ok(done.ok())
+}
+
+fn main(rt: HostRuntime) -> ExitCode {
+    match run(&rt) {
+        Ok(Some(done)) => match println!(rt; "{done}") {
+            Ok(()) => ExitCode::from(0),
+            Err(_) => ExitCode::from(2),
+        },
+        _ => ExitCode::from(1),
+    }
+}

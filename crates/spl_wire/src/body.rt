@@ -1,0 +1,205 @@
+//! The bodies of messages, and the reasons in them.
+ghost use Rattle.std.specs.Prelude.{◌≡◌, ◌++◌, IsTrue, OnOk, IfOk};
+ghost use Rattle.spl_base.specs.Form.{Reads};
+ghost use Rattle.spl_wire.specs.Bodies as form;
+
+use spl_agree::{CommitMsg, Generation, Place, Reason, Round};
+use spl_base::{Field, Malformed, Reader, Value, Writer};
+use std::alloc::{AllocError, Global};
+
+pub(crate) fn put_reason(why: Reason, w: &mut Writer) -> Result<(), AllocError>
+    ensures ok { OnOk result (w.new ≡ w.old ++ form.reason.spell why) }
+    ensures fits { OnOk result (IsTrue (form.reason.fits why)) }
+{
+    why.code.put(w)?;
+    why.at.put(w)
+}
+
+pub(crate) fn take_reason(alloc: Global, r: &mut Reader) -> Result<Reason, Malformed>
+    ensures { Reads (λ x. x) result r.new (form.reason.parse r.old) }
+{
+    let code = u8::take(alloc, r)?;
+    let at = u8::take(alloc, r)?;
+    Ok(Reason { code, at })
+}
+
+/// Appends the byte form of a body.
+pub(crate) fn put_body<V: Field>(message: &CommitMsg<V>, w: &mut Writer) -> Result<(), AllocError>
+    requires { IsTrue ((form.body V.form).bounded message.now) }
+    ensures ok { OnOk result (w.new ≡ w.old ++ (form.body V.form).spell message.now) }
+    ensures fits { OnOk result (IsTrue ((form.body V.form).fits message.now)) }
+{
+    match message {
+        CommitMsg::VoteRequest {
+            generation,
+            round,
+            place,
+            value,
+        } => {
+            1u8.put(w)?;
+            generation.0.put(w)?;
+            round.0.put(w)?;
+            place.0.put(w)?;
+            value.put(w)
+        }
+        CommitMsg::Vote {
+            generation,
+            round,
+            yes,
+        } => {
+            2u8.put(w)?;
+            generation.0.put(w)?;
+            round.0.put(w)?;
+            yes.put(w)
+        }
+        CommitMsg::Decision {
+            generation,
+            round,
+            commit,
+        } => {
+            3u8.put(w)?;
+            generation.0.put(w)?;
+            round.0.put(w)?;
+            commit.put(w)
+        }
+        CommitMsg::DecisionRequest { generation, round } => {
+            4u8.put(w)?;
+            generation.0.put(w)?;
+            round.0.put(w)
+        }
+        CommitMsg::Forward { generation, value } => {
+            5u8.put(w)?;
+            generation.0.put(w)?;
+            value.put(w)
+        }
+        CommitMsg::Refused {
+            generation,
+            value,
+            reason,
+        } => {
+            6u8.put(w)?;
+            generation.0.put(w)?;
+            value.put(w)?;
+            put_reason(*reason, w)
+        }
+    }
+}
+
+/// Reads a body from the front.
+pub(crate) fn take_body<V: Field>(alloc: Global, r: &mut Reader) -> Result<CommitMsg<V>, Malformed>
+    ensures { Reads (λ x. x) result r.new ((form.body V.form).parse r.old) }
+{
+    let at = r.place();
+    match u8::take(alloc, r)? {
+        1 => {
+            let generation = Generation(u32::take(alloc, r)?);
+            let round = Round(u64::take(alloc, r)?);
+            let place = Place(u32::take(alloc, r)?);
+            let value = V::take(alloc, r)?;
+            Ok(CommitMsg::VoteRequest {
+                generation,
+                round,
+                place,
+                value,
+            })
+        }
+        2 => {
+            let generation = Generation(u32::take(alloc, r)?);
+            let round = Round(u64::take(alloc, r)?);
+            let yes = bool::take(alloc, r)?;
+            Ok(CommitMsg::Vote {
+                generation,
+                round,
+                yes,
+            })
+        }
+        3 => {
+            let generation = Generation(u32::take(alloc, r)?);
+            let round = Round(u64::take(alloc, r)?);
+            let commit = bool::take(alloc, r)?;
+            Ok(CommitMsg::Decision {
+                generation,
+                round,
+                commit,
+            })
+        }
+        4 => {
+            let generation = Generation(u32::take(alloc, r)?);
+            let round = Round(u64::take(alloc, r)?);
+            Ok(CommitMsg::DecisionRequest { generation, round })
+        }
+        5 => {
+            let generation = Generation(u32::take(alloc, r)?);
+            let value = V::take(alloc, r)?;
+            Ok(CommitMsg::Forward { generation, value })
+        }
+        6 => {
+            let generation = Generation(u32::take(alloc, r)?);
+            let value = V::take(alloc, r)?;
+            let reason = take_reason(alloc, r)?;
+            Ok(CommitMsg::Refused {
+                generation,
+                value,
+                reason,
+            })
+        }
+        _ => Err(Malformed::At { at }),
+    }
+}
+
+/// An equal body.
+pub(crate) fn copy_body<V: Value>(
+    alloc: Global,
+    body: &CommitMsg<V>,
+) -> Result<CommitMsg<V>, AllocError>
+    ensures { IfOk result (λ b. b ≡ body.now) }
+{
+    match body {
+        CommitMsg::VoteRequest {
+            generation,
+            round,
+            place,
+            value,
+        } => Ok(CommitMsg::VoteRequest {
+            generation: *generation,
+            round: *round,
+            place: *place,
+            value: value.copy(alloc)?,
+        }),
+        CommitMsg::Vote {
+            generation,
+            round,
+            yes,
+        } => Ok(CommitMsg::Vote {
+            generation: *generation,
+            round: *round,
+            yes: *yes,
+        }),
+        CommitMsg::Decision {
+            generation,
+            round,
+            commit,
+        } => Ok(CommitMsg::Decision {
+            generation: *generation,
+            round: *round,
+            commit: *commit,
+        }),
+        CommitMsg::DecisionRequest { generation, round } => Ok(CommitMsg::DecisionRequest {
+            generation: *generation,
+            round: *round,
+        }),
+        CommitMsg::Forward { generation, value } => Ok(CommitMsg::Forward {
+            generation: *generation,
+            value: value.copy(alloc)?,
+        }),
+        CommitMsg::Refused {
+            generation,
+            value,
+            reason,
+        } => Ok(CommitMsg::Refused {
+            generation: *generation,
+            value: value.copy(alloc)?,
+            reason: *reason,
+        }),
+    }
+}

@@ -1,0 +1,87 @@
+//! Messages between nodes.
+ghost use Rattle.std.specs.Prelude.{◌≡◌, IfOk};
+
+use crate::body::{copy_body, put_body, take_body};
+use spl_agree::CommitMsg;
+use spl_base::{CircuitId, Field, Malformed, Piece, Reader, Writer, read_front, spelled};
+use spl_circuit::Act;
+use std::alloc::{AllocError, Global};
+
+/// A message from one node to another.
+#[derive(Debug, Drop)]
+pub enum Message {
+    /// A message of the admin group of a circuit.
+    Admin {
+        circuit: CircuitId,
+        body: CommitMsg<Act>,
+    },
+}
+
+impl Field for Message {
+    ghost use Rattle.spl_wire.specs.Forms.{message_form, exact_message};
+
+    ghost form = { message_form };
+
+    fn put(&self, w: &mut Writer) -> Result<(), AllocError> {
+        match self {
+            Message::Admin { circuit, body } => {
+                1u8.put(w)?;
+                circuit.put(w)?;
+                put_body(body, w)
+            }
+        }
+    }
+
+    fn take(alloc: Global, r: &mut Reader) -> Result<Message, Malformed> {
+        let at = r.place();
+        match u8::take(alloc, r)? {
+            1 => {
+                let circuit = CircuitId::take(alloc, r)?;
+                let body = take_body(alloc, r)?;
+                Ok(Message::Admin { circuit, body })
+            }
+            _ => Err(Malformed::At { at }),
+        }
+    }
+
+    ghost exact = { exact_message };
+}
+
+impl Message {
+    ghost use Rattle.std.specs.Prelude.{◌≡◌, ◌++◌, IsTrue, IfOk, OnOk, Ok, List, ℕ, length, drop};
+    ghost use Rattle.spl_base.specs.Front.{front_of, Answers};
+    ghost use Rattle.spl_wire.specs.Forms.{message_form};
+    ghost use Rattle.spl_wire.specs.declared.message.Message.{Message as Sent};
+
+    /// The byte form, which a message has where the definition in it, if there is one, has at most
+    /// 16 members and at most 16 services.
+    pub fn write(&self, alloc: Global) -> Result<Piece, AllocError>
+        requires few { IsTrue (message_form.bounded self.now) }
+        ensures spelled { IfOk result (λ p. p ≡ message_form.spell self.now) }
+        ensures fits { OnOk result (IsTrue (message_form.fits self.now)) }
+    {
+        spelled(alloc, self)
+    }
+
+    /// The message at the front, and how many bytes it takes. The fault is the place of the first
+    /// field that cannot be read, or want of memory.
+    pub fn read(alloc: Global, bytes: &[u8]) -> Result<(Message, usize), Malformed>
+        ensures exact { Answers result (front_of message_form bytes.now) }
+        ensures found { IfOk result (λ x. (bytes.now ≡ message_form.spell x.0 ++ drop x.1 bytes.now) × IsTrue (message_form.fits x.0)) }
+        ensures bounded { IfOk result (λ x. IsTrue (message_form.bounded x.0)) }
+        ensures only { (x : Sent) (rest : List ℕ) → IsTrue (message_form.fits x) → bytes.now ≡ message_form.spell x ++ rest → Answers result (Ok (x, length (message_form.spell x))) }
+    {
+        read_front(alloc, bytes)
+    }
+
+    /// An equal message.
+    pub fn copy(&self, alloc: Global) -> Result<Message, AllocError>
+        ensures { IfOk result (λ m. m ≡ self.now) }
+    {
+        let Message::Admin { circuit, body } = self;
+        Ok(Message::Admin {
+            circuit: *circuit,
+            body: copy_body(alloc, body)?,
+        })
+    }
+}

@@ -1,0 +1,66 @@
+//! Records of a journal.
+ghost use Rattle.std.specs.Prelude.{◌≡◌};
+
+use crate::change::Change;
+use spl_base::{
+    CircuitId, Field, Listing, Malformed, Piece, Reader, Writer, read_front, read_list, spelled,
+    write_list,
+};
+use std::alloc::{AllocError, Global};
+
+/// Changes in their order.
+pub type ChangeList = Listing<Change>;
+
+/// The changes of one event at the cell of a circuit.
+#[derive(Debug, Drop)]
+pub struct Record {
+    pub circuit: CircuitId,
+    pub changes: ChangeList,
+}
+
+impl Field for Record {
+    ghost use Rattle.spl_wire.specs.Forms.{record_form, exact_record};
+
+    ghost form = { record_form };
+
+    fn put(&self, w: &mut Writer) -> Result<(), AllocError> {
+        self.circuit.put(w)?;
+        write_list(self.changes.as_slice(), w)
+    }
+
+    fn take(alloc: Global, r: &mut Reader) -> Result<Record, Malformed> {
+        let circuit = CircuitId::take(alloc, r)?;
+        let changes = read_list(alloc, r, 64)?;
+        Ok(Record { circuit, changes })
+    }
+
+    ghost exact = { exact_record };
+}
+
+impl Record {
+    ghost use Rattle.std.specs.Prelude.{◌≡◌, ◌++◌, IsTrue, IfOk, OnOk, Ok, List, ℕ, length, drop};
+    ghost use Rattle.spl_base.specs.Front.{front_of, Answers};
+    ghost use Rattle.spl_wire.specs.Forms.{record_form};
+    ghost use Rattle.spl_wire.specs.declared.record.Record.{Record as Kept};
+
+    /// The byte form, which a record of at most 64 changes has where each definition in it has at
+    /// most 16 members and at most 16 services.
+    pub fn write(&self, alloc: Global) -> Result<Piece, AllocError>
+        requires few { IsTrue (record_form.bounded self.now) }
+        ensures spelled { IfOk result (λ p. p ≡ record_form.spell self.now) }
+        ensures fits { OnOk result (IsTrue (record_form.fits self.now)) }
+    {
+        spelled(alloc, self)
+    }
+
+    /// The record at the front, and how many bytes it takes. The fault is the place of the first
+    /// field that cannot be read, or want of memory.
+    pub fn read(alloc: Global, bytes: &[u8]) -> Result<(Record, usize), Malformed>
+        ensures exact { Answers result (front_of record_form bytes.now) }
+        ensures found { IfOk result (λ x. (bytes.now ≡ record_form.spell x.0 ++ drop x.1 bytes.now) × IsTrue (record_form.fits x.0)) }
+        ensures bounded { IfOk result (λ x. IsTrue (record_form.bounded x.0)) }
+        ensures only { (x : Kept) (rest : List ℕ) → IsTrue (record_form.fits x) → bytes.now ≡ record_form.spell x ++ rest → Answers result (Ok (x, length (record_form.spell x))) }
+    {
+        read_front(alloc, bytes)
+    }
+}

@@ -1,0 +1,150 @@
+mod plain;
+
+use super::*;
+use spl_agree::{CommitMsg, Generation, Round};
+use spl_base::{CircuitId, Malformed, Piece};
+use std::alloc::Global;
+use std::test::Fail;
+
+/// A decision: lane, circuit, tag, generation, round, commit.
+const DECISION: &[u8] = b"\x01Ab3dE-00001\x03\x00\x00\x00\x01\x00\x00\x00\x00\x00\x00\x00\x02\x01";
+
+#[test]
+fn a_decision(rt: HostRuntime) -> Result<(), Fail> {
+    let alloc = rt.alloc();
+    let message = Message::Admin {
+        circuit: CircuitId::read(b"Ab3dE-00001").ok_or("a circuit")?,
+        body: CommitMsg::Decision {
+            generation: Generation(1),
+            round: Round(2),
+            commit: true,
+        },
+    };
+    assert_eq!(rt; message.copy(alloc)?.write(alloc)?.bytes(), DECISION);
+    let behind = b"\x01Ab3dE-00001\x03\x00\x00\x00\x01\x00\x00\x00\x00\x00\x00\x00\x02\x01tail!";
+    for (bytes, want) in [
+        (DECISION, Ok(26)),
+        (behind.as_slice(), Ok(26)),
+        (&DECISION[..25], Err(25)),
+        (
+            b"\x01Ab3dE-00001\x03\x00\x00\x00\x01\x00\x00\x00\x00\x00\x00\x00\x02\x02",
+            Err(25),
+        ),
+        (
+            b"\x03Ab3dE-00001\x03\x00\x00\x00\x01\x00\x00\x00\x00\x00\x00\x00\x02\x01",
+            Err(0),
+        ),
+        (b"\x02Ab3dE-00001aaaabbbb\x03", Err(0)),
+        (b"", Err(0)),
+    ] {
+        assert_eq!(rt; message_size(alloc, bytes), want);
+    }
+    Ok(())
+}
+
+fn message_size(alloc: Global, bytes: &[u8]) -> Result<usize, usize> {
+    match Message::read(alloc, bytes) {
+        Ok((_, size)) => Ok(size),
+        Err(Malformed::At { at }) => Err(at),
+        Err(Malformed::NoMemory) => Err(usize::MAX),
+    }
+}
+
+fn record_size(alloc: Global, bytes: &[u8]) -> Result<usize, usize> {
+    match Record::read(alloc, bytes) {
+        Ok((_, size)) => Ok(size),
+        Err(Malformed::At { at }) => Err(at),
+        Err(Malformed::NoMemory) => Err(usize::MAX),
+    }
+}
+
+const REQUEST: &[u8] =
+    b"\x01Ab3dE-00001\x01\x00\x00\x00\x01\x00\x00\x00\x00\x00\x00\x00\x02\x00\x00\x00\x00\x00\x05alpha\x00\x00\x00\x01\x01Ab3dE-00001\x00\x00\x00\x01\x01\x00\x04grid\x00\x05trade\x00\x02\x00\x05alpha\x00\x04beta\x00\x02aaaa\x00\x08scabbard\x00\x05alphabbbb\x00\x08scabbard\x00\x04beta";
+
+const REFUSED: &[u8] =
+    b"\x01Ab3dE-00001\x06\x00\x00\x00\x01\x00\x05alpha\x00\x00\x00\x02\x02\x07\x00";
+
+const BOUND: &[u8] =
+    b"Ab3dE-00001\x00\x02\x01Ab3dE-00001\x00\x00\x00\x01\x01\x00\x04grid\x00\x05trade\x00\x02\x00\x05alpha\x00\x04beta\x00\x02aaaa\x00\x08scabbard\x00\x05alphabbbb\x00\x08scabbard\x00\x04beta\x02\x01\x00\x05alpha\x00\x00\x00\x01\x01Ab3dE-00001\x00\x00\x00\x01\x01\x00\x04grid\x00\x05trade\x00\x02\x00\x05alpha\x00\x04beta\x00\x02aaaa\x00\x08scabbard\x00\x05alphabbbb\x00\x08scabbard\x00\x04beta";
+
+const CHANGES: &[u8] =
+    b"Ab3dE-00001\x00\x08\x03\x01\x00\x04beta\x00\x00\x00\x01\x03\x07\x00\x04\x01\x00\x00\x00\x00\x00\x00\x00\x02\x05\x01\x00\x00\x00\x00\x00\x00\x00\x02\x06\x01\x00\x00\x00\x00\x00\x00\x00\x02\x00\x05alpha\x00\x00\x00\x02\x02\x07\x01\x08\x01\x00\x00\x00\x00\x00\x00\x00\x02\x00\x05alpha\x00\x00\x00\x02\x04\x09\x0a";
+
+const UNCHANGED: &[u8] = b"Ab3dE-00001\x00\x00";
+
+/// Each cut and each other byte at each place of three messages and three records gives what the
+/// plain program gives.
+#[test]
+fn as_the_plain_program(rt: HostRuntime) -> Result<(), Fail> {
+    let alloc = rt.alloc();
+    for spelled in [DECISION, REQUEST, REFUSED] {
+        assert_eq!(rt; message_size(alloc, spelled), Ok(spelled.len()));
+        for size in 0..spelled.len() {
+            let cut = &spelled[..size];
+            assert_eq!(rt;
+                message_size(alloc, cut),
+                plain::message(cut),
+                "cut at {size}"
+            );
+        }
+        let mut bytes = Vec::from_slice(alloc, spelled)?;
+        for i in 0..bytes.len() {
+            for byte in 0..=255u8 {
+                bytes[i] = byte;
+                assert_eq!(rt;
+                    message_size(alloc, bytes.as_slice()),
+                    plain::message(bytes.as_slice()),
+                    "{byte} at {i}"
+                );
+            }
+            bytes[i] = spelled[i];
+        }
+    }
+    for spelled in [BOUND, CHANGES, UNCHANGED] {
+        assert_eq!(rt; record_size(alloc, spelled), Ok(spelled.len()));
+        for size in 0..spelled.len() {
+            let cut = &spelled[..size];
+            assert_eq!(rt;
+                record_size(alloc, cut),
+                plain::record(cut),
+                "cut at {size}"
+            );
+        }
+        let mut bytes = Vec::from_slice(alloc, spelled)?;
+        for i in 0..bytes.len() {
+            for byte in 0..=255u8 {
+                bytes[i] = byte;
+                assert_eq!(rt;
+                    record_size(alloc, bytes.as_slice()),
+                    plain::record(bytes.as_slice()),
+                    "{byte} at {i}"
+                );
+            }
+            bytes[i] = spelled[i];
+        }
+    }
+    Ok(())
+}
+
+fn message_again(alloc: Global, bytes: &[u8]) -> Result<Piece, Malformed> {
+    let (message, _) = Message::read(alloc, bytes)?;
+    Ok(message.write(alloc)?)
+}
+
+fn record_again(alloc: Global, bytes: &[u8]) -> Result<Piece, Malformed> {
+    let (record, _) = Record::read(alloc, bytes)?;
+    Ok(record.write(alloc)?)
+}
+
+/// What is read is written as it was.
+#[test]
+fn written_again(rt: HostRuntime) -> Result<(), Fail> {
+    let alloc = rt.alloc();
+    for spelled in [DECISION, REQUEST, REFUSED] {
+        assert_eq!(rt; message_again(alloc, spelled)?.bytes(), spelled);
+    }
+    for spelled in [BOUND, CHANGES, UNCHANGED] {
+        assert_eq!(rt; record_again(alloc, spelled)?.bytes(), spelled);
+    }
+    Ok(())
+}
