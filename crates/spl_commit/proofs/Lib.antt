@@ -1,0 +1,5 @@
+pub mod Index
+pub mod Positions
+pub mod Keyed
+pub mod RowSteps
+pub mod ChangeSteps

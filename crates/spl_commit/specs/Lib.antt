@@ -1,0 +1,4 @@
+pub mod Places
+pub mod Views
+pub mod Waiting
+pub mod Numbers

@@ -1,0 +1,81 @@
+//! Whether a durable change fits a member.
+ghost use Rattle.std.specs.Prelude.{◌≡◌, ◌-◌, ◌^◌, ◌&&◌, nat_lt, length, IfOk, is_none};
+ghost use Rattle.spl_agree.specs.Member.{known, values};
+ghost use Rattle.spl_agree.specs.Fits.{fits, any_value, is_pending};
+
+use crate::Member;
+use spl_agree::{Agreed, GroupChange, Round};
+use spl_queue::Known;
+use std::alloc::{AllocError, Global};
+
+impl<M: Agreed> Member<M> {
+    /// Whether a change fits, so that it can be made. An error comes for want of memory alone.
+    pub fn fits(&self, alloc: Global, change: &GroupChange<M::Value>) -> Result<bool, AllocError>
+        ensures { IfOk result (λ b. b ≡ fits (M.rules self.now.content) any_value self.now.state change.now) }
+    {
+        match change {
+            GroupChange::Queue(value) => Ok(self.may_queue(value)),
+            GroupChange::Refuse(value, _) => Ok(self.is_pending(value)),
+            GroupChange::Begin(round) => Ok(*round == self.next && round.0 < u64::MAX),
+            GroupChange::Seen(round) => Ok(self.is_newer(*round)),
+            GroupChange::Promise(round, value) => {
+                if !self.is_newer(*round) {
+                    return Ok(false);
+                }
+                self.may_follow(alloc, value)
+            }
+            GroupChange::Abort => Ok(self.promise.is_some()),
+            GroupChange::Commit(_, value) => self.may_follow(alloc, value),
+        }
+    }
+
+    /// Whether a value isn't known, and fewer than 64 are pending.
+    fn may_queue(&self, value: &M::Value) -> bool
+        ensures { result ≡ fits (M.rules self.now.content) any_value self.now.state (GroupChange.Queue value.now) }
+    {
+        self.is_unknown(value) && self.pending_len() < 64
+    }
+
+    /// Whether nothing is known of the key of a value.
+    fn is_unknown(&self, value: &M::Value) -> bool
+        ensures { result ≡ is_none (known (M.rules self.now.content) self.now.state value.now) }
+    {
+        match self.in_history(value) {
+            Some(_) => false,
+            None => match self.in_queue(value) {
+                Known::No => true,
+                Known::Pending(_) => false,
+                Known::Refused(_, _) => false,
+            },
+        }
+    }
+
+    /// Whether an equal value is pending.
+    fn is_pending(&self, value: &M::Value) -> bool
+        ensures { result ≡ is_pending (M.rules self.now.content) value.now self.now.state.pending }
+    {
+        self.queue.keys_differ();
+        match self.in_queue(value) {
+            Known::Pending(there) => self.is_same(there, value),
+            Known::Refused(_, _) => false,
+            Known::No => false,
+        }
+    }
+
+    /// Whether a round is newer than the last one seen, and nothing is promised.
+    fn is_newer(&self, round: Round) -> bool
+        ensures { result ≡ (nat_lt self.now.state.seen round && is_none self.now.state.promise) }
+    {
+        self.seen.0 < round.0 && self.promise.is_none()
+    }
+
+    /// Whether a place is left, and the check of a value is good.
+    fn may_follow(&self, alloc: Global, value: &M::Value) -> Result<bool, AllocError>
+        ensures { IfOk result (λ b. b ≡ (nat_lt (length self.now.state.history) (2 ^ 32 - 1) && is_none ((M.rules self.now.content).check (values self.now.state.history) value.now))) }
+    {
+        if self.place() == u32::MAX {
+            return Ok(false);
+        }
+        Ok(self.content.check(alloc, value)?.is_none())
+    }
+}

@@ -1,0 +1,9 @@
+pub mod Seats
+pub mod Leads
+pub mod Sends
+pub mod SeatRows
+pub mod LeadRows
+pub mod Singles
+pub mod Agreement
+pub mod Sound
+pub mod Fits
