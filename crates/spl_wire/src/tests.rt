@@ -2,7 +2,8 @@ mod plain;
 
 use super::*;
 use spl_agree::{CommitMsg, Generation, Round};
-use spl_base::{CircuitId, Malformed, Piece};
+use spl_base::{CircuitId, Malformed, Piece, Reader};
+use spl_circuit::{Act, Definition};
 use std::alloc::Global;
 use std::test::Fail;
 
@@ -145,6 +146,94 @@ fn written_again(rt: HostRuntime) -> Result<(), Fail> {
     }
     for spelled in [BOUND, CHANGES, UNCHANGED] {
         assert_eq!(rt; record_again(alloc, spelled)?.bytes(), spelled);
+    }
+    Ok(())
+}
+
+const TRADE: &[u8] =
+    b"Ab3dE-00001\x00\x00\x00\x01\x01\x00\x04grid\x00\x05trade\x00\x02\x00\x05alpha\x00\x04beta\x00\x02aaaa\x00\x08scabbard\x00\x05alphabbbb\x00\x08scabbard\x00\x04beta";
+
+const LONE: &[u8] = b"Zz9zZ-zzzzz\xff\xff\xff\xff\x00\x00\x01~\x00\x00\x00\x01\x00\x01-\x00\x00";
+
+const BARE: &[u8] = b"00000-00000\x00\x00\x00\x00\xff\x00\x00\x00\x00\x00\x00\x00\x00";
+
+fn definition_size(alloc: Global, bytes: &[u8]) -> Result<usize, usize> {
+    let mut reader = Reader::new(bytes);
+    match Definition::read(alloc, &mut reader) {
+        Ok(_) => Ok(reader.place()),
+        Err(Malformed::At { at }) => Err(at),
+        Err(Malformed::NoMemory) => Err(usize::MAX),
+    }
+}
+
+/// The same of three definitions.
+#[test]
+fn definitions_as_the_plain_program(rt: HostRuntime) -> Result<(), Fail> {
+    let alloc = rt.alloc();
+    for spelled in [TRADE, LONE, BARE] {
+        assert_eq!(rt; definition_size(alloc, spelled), Ok(spelled.len()));
+        for size in 0..spelled.len() {
+            let cut = &spelled[..size];
+            assert_eq!(rt;
+                definition_size(alloc, cut),
+                plain::definition(cut, 0),
+                "cut at {size}"
+            );
+        }
+        let mut bytes = Vec::from_slice(alloc, spelled)?;
+        for i in 0..bytes.len() {
+            for byte in 0..=255u8 {
+                bytes[i] = byte;
+                assert_eq!(rt;
+                    definition_size(alloc, bytes.as_slice()),
+                    plain::definition(bytes.as_slice(), 0),
+                    "{byte} at {i}"
+                );
+            }
+            bytes[i] = spelled[i];
+        }
+    }
+    Ok(())
+}
+
+const PROPOSE: &[u8] =
+    b"\x00\x05alpha\x00\x00\x00\x01\x01Ab3dE-00001\x00\x00\x00\x01\x01\x00\x04grid\x00\x05trade\x00\x01\x00\x05alpha\x00\x00";
+
+const ACCEPT: &[u8] = b"\x00\x04beta\x00\x00\x00\x01\x02";
+
+const REMOVE: &[u8] = b"\x00\x01-\xff\xff\xff\xff\x04";
+
+fn act_size(alloc: Global, bytes: &[u8]) -> Result<usize, usize> {
+    let mut reader = Reader::new(bytes);
+    match Act::read(alloc, &mut reader) {
+        Ok(_) => Ok(reader.place()),
+        Err(Malformed::At { at }) => Err(at),
+        Err(Malformed::NoMemory) => Err(usize::MAX),
+    }
+}
+
+/// The same of three acts.
+#[test]
+fn acts_as_the_plain_program(rt: HostRuntime) -> Result<(), Fail> {
+    let alloc = rt.alloc();
+    for spelled in [PROPOSE, ACCEPT, REMOVE] {
+        assert_eq!(rt; act_size(alloc, spelled), Ok(spelled.len()));
+        for size in 0..spelled.len() {
+            let cut = &spelled[..size];
+            assert_eq!(rt; act_size(alloc, cut), plain::act(cut, 0), "cut at {size}");
+        }
+        let mut bytes = Vec::from_slice(alloc, spelled)?;
+        for i in 0..bytes.len() {
+            for byte in 0..=255u8 {
+                bytes[i] = byte;
+                assert_eq!(rt;
+                    act_size(alloc, bytes.as_slice()),
+                    plain::act(bytes.as_slice(), 0),
+                    "{byte} at {i}"
+                );
+            }
+            bytes[i] = spelled[i];
+        }
     }
     Ok(())
 }

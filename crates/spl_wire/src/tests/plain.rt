@@ -1,5 +1,5 @@
-//! The grammar of messages and records as a plain program: how many bytes the value at the front
-//! takes, or where its first unreadable field begins.
+//! The grammar of definitions, acts, messages and records as a plain program: how many bytes the value
+//! at the front takes, or where its first unreadable field begins.
 
 #[derive(Clone, Copy, PartialEq, Eq)]
 enum Grammar {
@@ -76,7 +76,7 @@ fn count(bytes: &[u8], at: usize, most: u64) -> Result<(u64, usize), usize> {
     Ok((count, from))
 }
 
-fn definition(bytes: &[u8], at: usize) -> Result<usize, usize> {
+pub fn definition(bytes: &[u8], at: usize) -> Result<usize, usize> {
     let at = circuit(bytes, at)?;
     let (_, at) = number(bytes, at, 4)?;
     let (_, at) = number(bytes, at, 1)?;
@@ -95,7 +95,7 @@ fn definition(bytes: &[u8], at: usize) -> Result<usize, usize> {
     Ok(at)
 }
 
-fn act(bytes: &[u8], at: usize) -> Result<usize, usize> {
+pub fn act(bytes: &[u8], at: usize) -> Result<usize, usize> {
     let at = text(bytes, at, Grammar::Node)?;
     let (_, at) = number(bytes, at, 4)?;
     match number(bytes, at, 1)? {
