@@ -1,8 +1,10 @@
 //! Values that can be compared and copied exactly.
 ghost use Rattle.std.specs.Prelude.{◌≡◌, ◌↔◌, IsTrue, IfOk};
 
+use crate::batch_id::BatchId;
 use crate::ids::{CircuitId, Label, NodeId, ServiceId};
 use crate::listing::Listing;
+use crate::piece::Piece;
 use std::alloc::{AllocError, Global};
 
 /// A value of which there may be equal copies.
@@ -79,6 +81,26 @@ impl Value for CircuitId {
 
     fn copy(&self, _alloc: Global) -> Result<CircuitId, AllocError> {
         Ok(*self)
+    }
+}
+
+impl Value for BatchId {
+    fn same(&self, other: &BatchId) -> bool {
+        self.0 == other.0
+    }
+
+    fn copy(&self, _alloc: Global) -> Result<BatchId, AllocError> {
+        Ok(*self)
+    }
+}
+
+impl Value for Piece {
+    fn same(&self, other: &Piece) -> bool {
+        same_bytes(self.bytes(), other.bytes())
+    }
+
+    fn copy(&self, alloc: Global) -> Result<Piece, AllocError> {
+        Piece::from(alloc, self.bytes())
     }
 }
 

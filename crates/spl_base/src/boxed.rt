@@ -1,0 +1,75 @@
+//! Values on the heap.
+ghost use Rattle.std.specs.Prelude.{◌≡◌, IfOk};
+
+use crate::fault::Malformed;
+use crate::field::Field;
+use crate::reader::Reader;
+use crate::value::Value;
+use crate::writer::Writer;
+use std::alloc::{AllocError, Global};
+use std::marker::Model;
+
+/// A value on the heap, so that what holds it stays small. Contracts see the value.
+#[derive(Debug, Drop)]
+pub struct Boxed<T> {
+    inner: Box<T>,
+}
+
+impl<T> Model for Boxed<T> {
+    ghost Value = { T };
+
+    ghost view = { λ b. b.inner.value };
+}
+
+impl<T> Boxed<T> {
+    /// The value, moved to the heap. An error comes for want of memory alone.
+    pub fn new(alloc: Global, x: T) -> Result<Boxed<T>, AllocError>
+    where
+        T: Drop,
+        ensures { IfOk result (λ b. b ≡ x) }
+    {
+        Ok(Boxed {
+            inner: Box::new(alloc, x)?,
+        })
+    }
+
+    /// The value.
+    pub fn get(&self) -> &T
+        ensures { result.now ≡ self.now }
+    {
+        &self.inner
+    }
+
+    /// The value, moved from the heap.
+    pub fn into_inner(self) -> T
+        ensures { result ≡ self }
+    {
+        Box::into_inner(self.inner)
+    }
+}
+
+impl<T: Field> Field for Boxed<T> {
+    ghost form = { T.form };
+
+    fn put(&self, w: &mut Writer) -> Result<(), AllocError> {
+        self.get().put(w)
+    }
+
+    fn take(alloc: Global, r: &mut Reader) -> Result<Boxed<T>, Malformed> {
+        let x = T::take(alloc, r)?;
+        Ok(Boxed::new(alloc, x)?)
+    }
+
+    ghost exact = { T.exact };
+}
+
+impl<T: Value> Value for Boxed<T> {
+    fn same(&self, other: &Boxed<T>) -> bool {
+        self.get().same(other.get())
+    }
+
+    fn copy(&self, alloc: Global) -> Result<Boxed<T>, AllocError> {
+        let x = self.get().copy(alloc)?;
+        Boxed::new(alloc, x)
+    }
+}
