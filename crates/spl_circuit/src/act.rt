@@ -2,14 +2,14 @@
 ghost use Rattle.std.specs.Prelude.{◌≡◌};
 
 use crate::definition::Definition;
-use spl_base::{Field, Malformed, NodeId, Reader, Writer};
+use spl_base::{Boxed, Field, Malformed, NodeId, Reader, Writer};
 use std::alloc::{AllocError, Global};
 
 /// What a node does to a circuit.
 #[derive(Debug, Drop)]
 pub enum ActKind {
     /// Asks the members for a circuit of this definition.
-    Propose(Definition),
+    Propose(Boxed<Definition>),
     /// Agrees to the circuit that was proposed.
     Accept,
     /// Turns down the circuit that was proposed.
@@ -47,7 +47,7 @@ impl Field for ActKind {
     fn take(alloc: Global, r: &mut Reader) -> Result<ActKind, Malformed> {
         let at = r.place();
         match u8::take(alloc, r)? {
-            1 => Ok(ActKind::Propose(Definition::take(alloc, r)?)),
+            1 => Ok(ActKind::Propose(Boxed::take(alloc, r)?)),
             2 => Ok(ActKind::Accept),
             3 => Ok(ActKind::Reject),
             4 => Ok(ActKind::Remove),

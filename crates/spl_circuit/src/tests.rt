@@ -1,6 +1,8 @@
 use super::*;
 use spl_agree::Generation;
-use spl_base::{CircuitId, Label, Listing, Malformed, NodeId, Reader, ServiceId, Value, Writer};
+use spl_base::{
+    Boxed, CircuitId, Label, Listing, Malformed, NodeId, Reader, ServiceId, Value, Writer,
+};
 use std::alloc::Global;
 use std::test::Fail;
 
@@ -211,7 +213,7 @@ fn a_definition_of_two(rt: HostRuntime) -> Result<(), Fail> {
     let act = Act {
         node: node("alpha")?,
         turn: 1,
-        kind: ActKind::Propose(d.copy(alloc)?),
+        kind: ActKind::Propose(Boxed::new(alloc, d.copy(alloc)?)?),
     };
     act.write(alloc, &mut w)?;
     assert!(rt;

@@ -1,0 +1,74 @@
+-- What the admin group agrees on: the check of an act, and what becomes of a forwarded one (docs/RULES.md, Acts).
+use Rattle.std.specs.Prelude.{ℕ, Bool, true, false, not, List, [], ◌∷◌, if◌then◌else◌, Option, Some, None}
+use Rattle.std.specs.Str.{bytes_eq}
+use Rattle.spl_agree.specs.declared.reason.Reason.{Reason}
+use Rattle.spl_agree.specs.declared.reason.Admit.{Admit}
+use Rattle.spl_agree.specs.declared.reason.Admit.TheVariants as admit
+use Rattle.spl_agree.specs.Member.{Rules}
+use Rattle.spl_circuit.specs.declared.definition.Definition.{Definition}
+use Rattle.spl_circuit.specs.declared.act.ActKind.{ActKind}
+use Rattle.spl_circuit.specs.declared.act.ActKind.TheVariants as kind
+use Rattle.spl_circuit.specs.declared.act.Act.{Act}
+use Rattle.spl_circuit.specs.Nodes.{Node, has_node, node_or}
+use Rattle.spl_circuit.specs.Rules.{is_member}
+use Rattle.spl_circuit.specs.Equality.{same_definition, same_act_key, same_act}
+use Rattle.spl_circuit.specs.Lifecycle.{Life, life, is_proposed}
+
+abbrev pub reason : ℕ → Reason
+reason n = record { code = n; at = 0 }
+
+abbrev pub is_node : Option Node → Node → Bool
+is_node None n = false
+is_node (Some m) n = bytes_eq m n
+
+abbrev pub is_first : List Act → Bool
+is_first [] = true
+is_first (a ∷ rest) = false
+
+-- Accept and Reject: the circuit is proposed, and the node hasn't accepted
+abbrev pub misfit_vote : Life → Node → Option Reason
+misfit_vote l n =
+    if not (is_proposed l.state) then Some (reason 2)
+    else (if has_node l.accepted n then Some (reason 3) else None)
+
+abbrev pub misfit_kind : Definition → List Act → Node → ActKind → Option Reason
+misfit_kind d acts n (kind.Propose e) =
+    if not (same_definition e d) then Some (reason 5)
+    else (if is_first acts then None else Some (reason 2))
+misfit_kind d acts n kind.Accept = misfit_vote (life d acts) n
+misfit_kind d acts n kind.Reject = misfit_vote (life d acts) n
+misfit_kind d acts n kind.Remove =
+    if not (is_proposed (life d acts).state) then Some (reason 2)
+    else (if is_node (life d acts).requester n then None else Some (reason 4))
+
+-- the check of an act against the committed ones: the reason of the first test that fails
+abbrev pub misfit : Definition → List Act → Act → Option Reason
+misfit d acts a = if is_member d a.node then misfit_kind d acts a.node a.kind else Some (reason 1)
+
+-- a forwarded proposal goes back at a member that isn't the coordinator
+abbrev pub stray_act : ActKind → Option Reason
+stray_act (kind.Propose d) = Some (reason 6)
+stray_act kind.Accept = None
+stray_act kind.Reject = None
+stray_act kind.Remove = None
+
+-- a forwarded proposal of another definition goes back
+abbrev pub admits_kind : Definition → ActKind → Admit
+admits_kind d (kind.Propose e) = if same_definition e d then admit.Take else admit.Return (reason 5)
+admits_kind d kind.Accept = admit.Take
+admits_kind d kind.Reject = admit.Take
+admits_kind d kind.Remove = admit.Take
+
+-- an act of another node than the sender's is passed over
+abbrev pub admits_act : Definition → ℕ → Act → Admit
+admits_act d sender a = if bytes_eq (node_or d.members [] sender) a.node then admits_kind d a.kind else admit.Ignore
+
+-- the rules of the admin group of a definition
+abbrev pub act_rules : Definition → Rules Act
+act_rules d = record {
+  same_key = same_act_key;
+  same = same_act;
+  check = misfit d;
+  stray = λ a. stray_act a.kind;
+  admits = admits_act d;
+}
