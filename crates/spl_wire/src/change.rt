@@ -3,7 +3,7 @@ ghost use Rattle.std.specs.Prelude.{◌≡◌};
 
 use crate::body::{put_reason, take_reason};
 use spl_agree::{GroupChange, Round};
-use spl_base::{Field, Malformed, Reader, Writer};
+use spl_base::{Boxed, Field, Malformed, Reader, Writer};
 use spl_circuit::{Act, Definition};
 use std::alloc::{AllocError, Global};
 
@@ -17,7 +17,7 @@ pub(crate) enum Group {
 #[derive(Debug, Drop)]
 pub enum Change {
     /// The cell is bound to the definition, open and fresh.
-    Bind(Definition),
+    Bind(Boxed<Definition>),
     /// A change of the node's member in the admin group.
     Admin(GroupChange<Act>),
     /// The node takes no further part.
@@ -119,7 +119,7 @@ impl Field for Change {
     fn take(alloc: Global, r: &mut Reader) -> Result<Change, Malformed> {
         let at = r.place();
         match u8::take(alloc, r)? {
-            1 => Ok(Change::Bind(Definition::take(alloc, r)?)),
+            1 => Ok(Change::Bind(Boxed::take(alloc, r)?)),
             2 => {
                 let Group::Admin = Group::take(alloc, r)?;
                 let value = Act::take(alloc, r)?;

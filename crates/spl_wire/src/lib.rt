@@ -7,6 +7,7 @@ mod change;
 mod event;
 mod laws;
 mod message;
+mod plan;
 mod record;
 
 pub use answer::{Answer, Refusal};
@@ -14,6 +15,7 @@ pub use change::Change;
 pub use event::Event;
 pub use laws::{no_message_begins_another, no_record_begins_another};
 pub use message::Message;
+pub use plan::{Outgoing, Plan, SendList};
 pub use record::{ChangeList, Record};
 
 #[cfg(test)]
