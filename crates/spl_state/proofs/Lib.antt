@@ -1,0 +1,10 @@
+pub mod Nodes
+pub mod PlainRoot
+pub mod Parts
+pub mod Digits
+pub mod Writes
+pub mod Steps
+pub mod Prefixes
+pub mod Bytes
+pub mod Covers
+pub mod Thin

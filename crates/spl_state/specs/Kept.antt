@@ -1,0 +1,95 @@
+-- What a part of the tree keeps.
+use Rattle.std.specs.Prelude.{ℕ, ◌+◌, ◌-◌, ◌≡◌, ◌<◌, List, [], ◌∷◌, length, min, Bool, true, false, Option, Some, None, IfSome}
+use Rattle.std.specs.List.{flat_map}
+use Rattle.spl_state.specs.Entries.{Entry}
+use Rattle.spl_state.specs.Root.{digit_of}
+use Rattle.spl_state.specs.Levels.{node_of}
+use Rattle.spl_state.specs.Part.{Part, AllAt}
+use Rattle.spl_state.specs.Digits.{tail_cmp}
+use Rattle.std.specs.Ordering.{is_eq}
+use Rattle.spl_state.specs.declared.address.Address.{Address}
+use Rattle.spl_state.specs.declared.tree.Body.{Body}
+use Rattle.spl_state.specs.declared.tree.Body.TheVariants.{Empty, Leaf, Thin, Inner}
+
+-- the entries of some parts, in order
+abbrev pub all_entries : List Part → List Entry
+all_entries ss = flat_map (λ s. s.entries) ss
+
+-- the entries of a part, in order
+abbrev pub entries_of : Body → List Entry
+entries_of Empty = []
+entries_of (Leaf a v) = (a, v) ∷ []
+entries_of (Thin j part) = part.value.entries
+entries_of (Inner kids) = all_entries kids.items
+
+-- whether a part has parts of its own
+abbrev pub is_inner : Body → Bool
+is_inner Empty = false
+is_inner (Leaf a v) = false
+is_inner (Thin j part) = true
+is_inner (Inner kids) = true
+
+-- the digit of a lone part
+abbrev pub thin_digit : Body → Option ℕ
+thin_digit Empty = None
+thin_digit (Leaf a v) = None
+thin_digit (Thin j part) = Some j
+thin_digit (Inner kids) = None
+
+-- each entry has the digit j at depth d
+abbrev pub AllDigit : ℕ → ℕ → List Entry → Type 0
+AllDigit d j [] = Unit {0}
+AllDigit d j (e ∷ es) = (digit_of e.0.0 d ≡ j) × AllDigit d j es
+
+-- the parts from the k-th digit value on have entries of that digit at depth d
+abbrev pub Sorted : ℕ → ℕ → List Part → Type 0
+Sorted d k [] = Unit {0}
+Sorted d k (s ∷ ss) = AllDigit d k s.entries × Sorted d (k + 1) ss
+
+-- sixteen parts, one for each value of the digit
+pub record IsInner (d : ℕ) (parts : List Part) : Type 0 where
+  pub low : d < 70
+  pub sixteen : length parts ≡ 16
+  pub below : AllAt (d + 1) parts
+  pub sorted : Sorted d 0 parts
+
+-- one part, whose entries have the digit j
+pub record IsThin (d : ℕ) (j : ℕ) (part : Part) : Type 0 where
+  pub low : d < 70
+  pub small : j < 16
+  pub deep : part.depth ≡ d + 1
+  pub digits : AllDigit d j part.entries
+
+abbrev pub IsShaped : ℕ → Body → Type 0
+IsShaped d Empty = Unit {0}
+IsShaped d (Leaf a v) = Unit {0}
+IsShaped d (Thin j part) = IsThin d j part.value
+IsShaped d (Inner kids) = IsInner d kids.items
+
+pub record IsKept (d : ℕ) (size : ℕ) (fresh : Bool) (digest : List ℕ) (body : Body) : Type 0 where
+  pub sized : size ≡ min (length (entries_of body)) 2
+  pub digested : fresh ≡ true → digest ≡ node_of (70 - d) d (entries_of body)
+  pub shaped : IsShaped d body
+
+-- a part with no entry
+abbrev pub empty_part : ℕ → Part
+empty_part d = record { depth = d; entries = []; inner = false; thin = None }
+
+-- each entry has the digits of a from the d-th on
+abbrev pub AllSame : ℕ → Address → List Entry → Type 0
+AllSame d a [] = Unit {0}
+AllSame d a (e ∷ es) = (is_eq (tail_cmp d a e.0) ≡ true) × AllSame d a es
+
+-- an entry that stands here alone is the address's
+abbrev pub IsRoom : Address → Part → Type 0
+IsRoom a s = (s.inner ≡ false → AllSame s.depth a s.entries) × IfSome s.thin (λ j. j ≡ digit_of a.0 s.depth)
+
+-- each address has 35 bytes
+abbrev pub AllWhole : List Entry → Type 0
+AllWhole [] = Unit {0}
+AllWhole (e ∷ es) = (length e.0.0 ≡ 35) × AllWhole es
+
+-- what a state keeps: its tree begins at the first digit, and each address has 35 bytes
+pub record IsState (depth : ℕ) (es : List Entry) : Type 0 where
+  pub top : depth ≡ 0
+  pub whole : AllWhole es

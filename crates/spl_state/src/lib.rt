@@ -1,0 +1,16 @@
+//! A finite map from addresses to bytes, in address order, with the root of its 16-way tree.
+#![tactic(auto)]
+
+mod address;
+mod digest;
+mod piece;
+mod prefix;
+mod state;
+mod tree;
+
+pub use address::Address;
+pub use prefix::Prefix;
+pub use state::State;
+
+#[cfg(test)]
+mod tests;

@@ -1,0 +1,115 @@
+//! States: finite maps from addresses to bytes, with their roots.
+ghost use Rattle.std.specs.Prelude.{◌≡◌, ◌≤◌, ◌-◌, [], IfOk, OnOk, OnErr, option_copied, is_some};
+ghost use Rattle.std.specs.Map.{lookup, remove_entry};
+ghost use Rattle.std.specs.BTreeMap.{insert_entry, is_at};
+ghost use Rattle.spl_state.specs.Entries.{address_cmp, covered};
+ghost use Rattle.spl_state.specs.Root.{node_at, digits_of};
+
+use crate::address::Address;
+use crate::piece::Piece;
+use crate::prefix::Prefix;
+use crate::tree::Tree;
+use std::alloc::{AllocError, Global};
+use std::marker::Model;
+
+/// A finite map from addresses to bytes (docs/RULES.md, State). Contracts see its entries in
+/// address order. It keeps the digests of its parts: a write makes those above it stale, and
+/// `renew` makes them anew.
+#[derive(Drop)]
+pub struct State {
+    tree: Tree,
+}
+
+impl Model for State {
+    ghost use Rattle.std.specs.Prelude.{List, ℕ};
+    ghost use Rattle.spl_state.specs.declared.address.Address.{Address as AddressValue};
+    ghost use Rattle.spl_state.specs.Kept.{IsState};
+
+    ghost Value = { List (AddressValue × List ℕ) };
+
+    ghost view = { λ s. s.tree.entries };
+
+    ghost invariant = { λ s. IsState s.tree.depth s.tree.entries };
+}
+
+impl State {
+    /// No entry. It takes no memory.
+    pub fn new() -> State
+        ensures { result ≡ [] }
+    {
+        State { tree: Tree::new(0) }
+    }
+
+    /// The value at an address; None exactly where there is none.
+    #[tactic(auto, using(crate::proofs::Bytes::lookup_by_bytes))]
+    pub fn get(&self, address: &Address) -> Option<&[u8]>
+        ensures { option_copied result ≡ lookup (is_at (address_cmp address.now)) self.now }
+    {
+        self.tree.get(address)
+    }
+
+    /// Writes a value at an address, over the one there. After want of memory nothing is changed.
+    #[tactic(auto, using(crate::proofs::Bytes::insert_by_bytes, crate::proofs::Bytes::insert_whole))]
+    pub fn set(&mut self, alloc: Global, address: Address, value: &[u8]) -> Result<(), AllocError>
+        ensures ok { OnOk result (self.new ≡ insert_entry address_cmp self.old address value.now) }
+        ensures err { OnErr result (self.new ≡ self.old) }
+    {
+        let piece = Piece::from(alloc, value)?;
+        self.tree.set(alloc, address, piece)
+    }
+
+    /// Removes the entry at an address, if there is one, and says whether there was.
+    #[tactic(auto, using(crate::proofs::Bytes::remove_by_bytes, crate::proofs::Bytes::lookup_by_bytes, crate::proofs::Bytes::remove_whole, crate::proofs::Bytes::remove_none))]
+    pub fn delete(&mut self, address: &Address) -> bool
+        ensures deleted { self.new ≡ remove_entry (is_at (address_cmp address.now)) self.old }
+        ensures found { result ≡ is_some (lookup (is_at (address_cmp address.now)) self.old) }
+    {
+        if self.tree.get(address).is_none() {
+            return false;
+        }
+        let found = self.tree.delete(address);
+        self.tree.shrink();
+        found
+    }
+
+    /// The addresses that begin with a prefix, in order.
+    pub fn under(&self, alloc: Global, prefix: &Prefix) -> Result<Vec<Address>, AllocError>
+        ensures { IfOk result (λ v. v.items ≡ covered prefix.now self.now) }
+    {
+        let mut out = Vec::new(alloc);
+        self.tree.collect(prefix, &mut out)?;
+        Ok(out)
+    }
+
+    /// The root, without memory. What is stale is computed and not kept.
+    #[tactic(auto, using(crate::proofs::PlainRoot::root_at_is))]
+    pub fn root(&self) -> [u8; 32]
+        ensures { result ≡ node_at 70 [] self.now }
+    {
+        self.tree.digest()
+    }
+
+    /// The node of the first `digits` digits of an address, without memory.
+    #[tactic(auto, using(crate::proofs::Prefixes::node_under))]
+    pub fn digest_at(&self, address: &Address, digits: u8) -> [u8; 32]
+        requires { digits ≤ 70 }
+        ensures { result ≡ node_at (70 - digits) (digits_of digits 0 address.now.0) self.now }
+    {
+        self.tree.digest_at(address, digits as usize)
+    }
+
+    /// Makes each stale digest anew, so that the next root costs nothing. The entries stay.
+    pub fn renew(&mut self)
+        ensures { self.new ≡ self.old }
+    {
+        self.tree.renew();
+    }
+
+    /// A state with the same entries and digests.
+    pub fn copy(&self, alloc: Global) -> Result<State, AllocError>
+        ensures { IfOk result (λ s. s ≡ self.now) }
+    {
+        let tree = self.tree.copy(alloc)?;
+        Ok(State { tree })
+    }
+}

@@ -1,0 +1,177 @@
+//! A 16-way tree over addresses, which keeps the digests of its parts.
+mod read;
+mod write;
+
+ghost use Rattle.std.specs.Prelude.{◌≡◌, ◌≤◌, ◌-◌, length, min, option_copied};
+ghost use Rattle.std.specs.Map.{lookup};
+ghost use Rattle.std.specs.BTreeMap.{is_at};
+ghost use Rattle.spl_state.specs.Digits.{tail_cmp};
+ghost use Rattle.spl_state.specs.Levels.{node_of};
+ghost use Rattle.spl_state.specs.Kept.{empty_part};
+
+use crate::address::Address;
+use crate::digest::{leaf, lone_part};
+use crate::piece::Piece;
+use sha2::{Digest, Sha256};
+use std::marker::Model;
+
+/// A part of the tree: the entries that share the digits above it.
+#[cycle(tree)]
+#[derive(Drop)]
+pub(crate) struct Tree {
+    /// How many digits stand above.
+    depth: usize,
+    /// How many entries there are, up to two.
+    size: u8,
+    /// Whether `digest` is that of the entries.
+    fresh: bool,
+    digest: [u8; 32],
+    body: Body,
+}
+
+#[cycle(tree)]
+#[derive(Drop)]
+enum Body {
+    Empty,
+    Leaf(Address, Piece),
+    /// One part, below one digit.
+    Thin(u8, Box<Tree>),
+    /// Sixteen parts, one below each digit.
+    Inner(Vec<Tree>),
+}
+
+impl Model for Tree {
+    ghost use Rattle.spl_state.specs.Part.{Part, digits_left};
+
+    ghost Value = { Part };
+
+    ghost use Rattle.spl_state.specs.Kept.{entries_of, is_inner, thin_digit, IsKept};
+
+    ghost view = { λ t. record { depth = t.depth; entries = entries_of t.body; inner = is_inner t.body; thin = thin_digit t.body } };
+
+    ghost invariant = { λ t. IsKept t.depth t.size t.fresh t.digest t.body };
+
+    ghost size = { digits_left };
+
+    ghost use Rattle.spl_state.specs.Falls.{falls};
+
+    ghost size_decreases = { falls };
+}
+
+impl Tree {
+    /// A part with no entry.
+    #[tactic(auto, using(crate::proofs::Nodes::node_none))]
+    pub(crate) fn new(depth: usize) -> Tree
+        requires { depth ≤ 70 }
+        ensures { result ≡ empty_part depth }
+    {
+        Tree {
+            depth,
+            size: 0,
+            fresh: true,
+            digest: [0; 32],
+            body: Body::Empty,
+        }
+    }
+
+    /// The digest of the entries, without memory: what is kept, and what is stale anew.
+    pub(crate) fn digest(&self) -> [u8; 32]
+        ensures { result ≡ node_of (70 - self.now.depth) self.now.depth self.now.entries }
+    {
+        if self.fresh {
+            return self.digest;
+        }
+        match &self.body {
+            Body::Empty => [0; 32],
+            Body::Leaf(at, value) => leaf(at, value),
+            Body::Inner(parts) => {
+                if self.size < 2 {
+                    for part in parts {
+                        if part.size() > 0 {
+                            return part.digest();
+                        }
+                    }
+                    return [0; 32];
+                }
+                let mut hasher = Sha256::new();
+                hasher.update(&[1u8]);
+                for child in parts {
+                    let digest = child.digest();
+                    hasher.update(&digest);
+                }
+                hasher.finalize()
+            }
+            Body::Thin(only, part) => {
+                let below = part.digest();
+                if self.size < 2 {
+                    below
+                } else {
+                    lone_part(&below, *only)
+                }
+            }
+        }
+    }
+
+    /// Makes each stale digest anew.
+    pub(crate) fn renew(&mut self)
+        ensures { self.new ≡ self.old }
+    {
+        if self.fresh {
+            return;
+        }
+        match &mut self.body {
+            Body::Inner(parts) => {
+                for i in 0..16usize {
+                    parts[i].renew();
+                }
+                self.keep();
+            }
+            Body::Thin(_, part) => {
+                part.renew();
+                self.keep();
+            }
+            _ => self.keep(),
+        }
+    }
+
+    /// Keeps the digest.
+    fn keep(&mut self)
+        ensures { self.new ≡ self.old }
+    {
+        self.digest = self.digest();
+        self.fresh = true;
+    }
+
+    /// How many entries there are, up to two.
+    fn size(&self) -> u8
+        ensures { result ≡ min (length self.now.entries) 2 }
+    {
+        self.size
+    }
+
+    /// The value at an address.
+    #[tactic(auto, using(crate::proofs::Steps::depth_of, crate::proofs::Steps::found_below, crate::proofs::Thin::found_in, crate::proofs::Thin::found_not))]
+    pub(crate) fn get(&self, address: &Address) -> Option<&[u8]>
+        requires { self.now.depth ≤ 70 }
+        ensures { option_copied result ≡ lookup (is_at (tail_cmp self.now.depth address.now)) self.now.entries }
+    {
+        match &self.body {
+            Body::Empty => None,
+            Body::Leaf(at, value) => {
+                if address.same_tail(at, self.depth) {
+                    Some(value.bytes())
+                } else {
+                    None
+                }
+            }
+            Body::Inner(parts) => parts[address.digit(self.depth) as usize].get(address),
+            Body::Thin(only, part) => {
+                if address.digit(self.depth) == *only {
+                    part.get(address)
+                } else {
+                    None
+                }
+            }
+        }
+    }
+}

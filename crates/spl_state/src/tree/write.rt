@@ -1,0 +1,295 @@
+//! Entries written and removed: the digests on the path to them become stale.
+ghost use Rattle.std.specs.Prelude.{◌≡◌, ◌≤◌, ◌<◌, ◌+◌, length, min, replicate, true, false, Some, None, IfOk, IfSome, IfNone, OnOk, OnErr, is_some, [], ◌∷◌};
+ghost use Rattle.std.specs.Map.{lookup, remove_entry};
+ghost use Rattle.std.specs.BTreeMap.{insert_entry, is_at};
+ghost use Rattle.spl_state.specs.Digits.{tail_cmp};
+ghost use Rattle.spl_state.specs.Kept.{all_entries, AllDigit, IsRoom, empty_part};
+
+use super::{Body, Tree};
+use crate::address::Address;
+use crate::piece::Piece;
+use std::alloc::{AllocError, Global};
+use std::mem;
+
+impl Tree {
+    /// Writes a value at an address. After want of memory the entries are unchanged.
+    #[tactic(auto, using(crate::proofs::Steps::depth_of, crate::proofs::Steps::kept_stale, crate::proofs::Steps::entries_inserted, crate::proofs::Steps::entries_kept, crate::proofs::Thin::thin_inserted, crate::proofs::Thin::entries_in, crate::proofs::Thin::room_digit))]
+    pub(crate) fn set(
+        &mut self,
+        alloc: Global,
+        address: Address,
+        value: Piece,
+    ) -> Result<(), AllocError>
+        requires { self.old.depth ≤ 70 }
+        ensures depth { self.new.depth ≡ self.old.depth }
+        ensures ok { OnOk result (self.new.entries ≡ insert_entry (tail_cmp self.old.depth) self.old.entries address value) }
+        ensures err { OnErr result (self.new.entries ≡ self.old.entries) }
+    {
+        self.make_room(alloc, &address)?;
+        match &mut self.body {
+            Body::Empty => {
+                self.size = 1;
+                self.fresh = false;
+                self.body = Body::Leaf(address, value);
+                Ok(())
+            }
+            Body::Leaf(at, old) => {
+                self.fresh = false;
+                *old = value;
+                Ok(())
+            }
+            Body::Inner(parts) => {
+                let at = address.digit(self.depth) as usize;
+                let part = &mut parts[at];
+                let done = part.set(alloc, address, value);
+                self.size = size_of_all(parts.as_slice());
+                self.fresh = false;
+                done
+            }
+            Body::Thin(_, part) => {
+                let done = part.set(alloc, address, value);
+                self.size = part.size();
+                self.fresh = false;
+                done
+            }
+        }
+    }
+
+    /// Removes the entry at an address, if there is one, and says whether there was.
+    #[tactic(auto, using(crate::proofs::Steps::depth_of, crate::proofs::Steps::entries_removed, crate::proofs::Steps::found_below, crate::proofs::Thin::found_in))]
+    pub(crate) fn delete(&mut self, address: &Address) -> bool
+        requires { self.old.depth ≤ 70 }
+        ensures depth { self.new.depth ≡ self.old.depth }
+        ensures entries { self.new.entries ≡ remove_entry (is_at (tail_cmp self.old.depth address.now)) self.old.entries }
+        ensures found { result ≡ is_some (lookup (is_at (tail_cmp self.old.depth address.now)) self.old.entries) }
+    {
+        match &mut self.body {
+            Body::Empty => false,
+            Body::Leaf(at, _) => {
+                let found = address.same_tail(at, self.depth);
+                if found {
+                    self.size = 0;
+                    self.fresh = false;
+                    self.body = Body::Empty;
+                }
+                found
+            }
+            Body::Inner(parts) => {
+                let at = address.digit(self.depth) as usize;
+                let part = &mut parts[at];
+                let found = part.delete(address);
+                part.shrink();
+                self.size = size_of_all(parts.as_slice());
+                self.fresh = false;
+                found
+            }
+            Body::Thin(only, part) => {
+                if address.digit(self.depth) != *only {
+                    return false;
+                }
+                let found = part.delete(address);
+                part.shrink();
+                self.size = part.size();
+                self.fresh = false;
+                found
+            }
+        }
+    }
+
+    /// Gives up levels that tell no entries apart: all where no entry is left, and the next where
+    /// one is left in a leaf of it.
+    pub(crate) fn shrink(&mut self)
+        ensures depth { self.new.depth ≡ self.old.depth }
+        ensures entries { self.new.entries ≡ self.old.entries }
+    {
+        match self.size {
+            0 => self.body = Body::Empty,
+            1 => self.lift(),
+            _ => {}
+        }
+    }
+
+    /// Takes the lone entry up, where the next level has it in a leaf.
+    #[tactic(auto, using(crate::proofs::Parts::few_in))]
+    fn lift(&mut self)
+        requires lone { length self.old.entries ≡ 1 }
+        ensures depth { self.new.depth ≡ self.old.depth }
+        ensures entries { self.new.entries ≡ self.old.entries }
+    {
+        match &mut self.body {
+            Body::Inner(parts) => {
+                let Some(i) = filled(parts.as_slice()) else {
+                    return;
+                };
+                let part = &mut parts[i];
+                if let Some((at, value)) = part.take_leaf() {
+                    self.body = Body::Leaf(at, value);
+                }
+            }
+            Body::Thin(_, part) => {
+                if let Some((at, value)) = part.take_leaf() {
+                    self.body = Body::Leaf(at, value);
+                }
+            }
+            _ => {}
+        }
+    }
+
+    /// Takes the entry out of a leaf; None where this is none, and nothing is changed then.
+    fn take_leaf(&mut self) -> Option<(Address, Piece)>
+        ensures depth { self.new.depth ≡ self.old.depth }
+        ensures taken { IfSome result (λ e. self.old.entries ≡ e ∷ []) }
+        ensures kept { IfNone result (self.new ≡ self.old) }
+    {
+        match mem::replace(&mut self.body, Body::Empty) {
+            Body::Leaf(at, value) => {
+                self.size = 0;
+                self.fresh = false;
+                Some((at, value))
+            }
+            body => {
+                self.body = body;
+                None
+            }
+        }
+    }
+
+    /// Sees to it that an entry that stands here alone is the address's, and that a single part is
+    /// that of its digit.
+    #[tactic(auto, using(crate::proofs::Digits::tail_low))]
+    fn make_room(&mut self, alloc: Global, address: &Address) -> Result<(), AllocError>
+        requires { self.old.depth ≤ 70 }
+        ensures depth { self.new.depth ≡ self.old.depth }
+        ensures entries { self.new.entries ≡ self.old.entries }
+        ensures room { OnOk result (IsRoom address.now self.new) }
+    {
+        match &self.body {
+            Body::Leaf(at, _) => {
+                if address.same_tail(at, self.depth) {
+                    return Ok(());
+                }
+                let digit = at.digit(self.depth);
+                if digit == address.digit(self.depth) {
+                    let part = Box::new(alloc, Tree::new(self.depth + 1))?;
+                    self.lengthen(part, digit);
+                    Ok(())
+                } else {
+                    let parts = empty_parts(alloc, self.depth + 1)?;
+                    self.split(parts, digit);
+                    Ok(())
+                }
+            }
+            Body::Thin(only, _) => {
+                if *only == address.digit(self.depth) {
+                    return Ok(());
+                }
+                let parts = empty_parts(alloc, self.depth + 1)?;
+                self.widen(parts);
+                Ok(())
+            }
+            _ => Ok(()),
+        }
+    }
+
+    /// Moves a lone entry into one of the empty parts.
+    fn split(&mut self, parts: Vec<Tree>, digit: u8)
+        requires depth { self.old.depth < 70 }
+        requires lone { length self.old.entries ≡ 1 }
+        requires outer { self.old.inner ≡ false }
+        requires digit { AllDigit self.old.depth digit self.old.entries }
+        requires small { digit < 16 }
+        requires parts { parts.items ≡ replicate 16 (empty_part (self.old.depth + 1)) }
+        ensures depth { self.new.depth ≡ self.old.depth }
+        ensures entries { self.new.entries ≡ self.old.entries }
+        ensures inner { self.new.inner ≡ true }
+        ensures thin { self.new.thin ≡ None }
+    {
+        let mut parts = parts;
+        let body = mem::replace(&mut self.body, Body::Empty);
+        let lone = Tree {
+            depth: self.depth + 1,
+            size: self.size,
+            fresh: self.fresh,
+            digest: self.digest,
+            body,
+        };
+        parts[digit as usize] = lone;
+        self.body = Body::Inner(parts);
+    }
+
+    /// Moves a lone entry one digit down.
+    fn lengthen(&mut self, part: Box<Tree>, digit: u8)
+        requires depth { self.old.depth < 70 }
+        requires lone { length self.old.entries ≡ 1 }
+        requires outer { self.old.inner ≡ false }
+        requires digit { AllDigit self.old.depth digit self.old.entries }
+        requires small { digit < 16 }
+        requires part { part.value ≡ empty_part (self.old.depth + 1) }
+        ensures depth { self.new.depth ≡ self.old.depth }
+        ensures entries { self.new.entries ≡ self.old.entries }
+        ensures inner { self.new.inner ≡ true }
+        ensures thin { self.new.thin ≡ Some digit }
+    {
+        let mut part = part;
+        let body = mem::replace(&mut self.body, Body::Empty);
+        let lone = Tree {
+            depth: self.depth + 1,
+            size: self.size,
+            fresh: self.fresh,
+            digest: self.digest,
+            body,
+        };
+        *part = lone;
+        self.body = Body::Thin(digit, part);
+    }
+
+    /// Gives each digit a part.
+    fn widen(&mut self, parts: Vec<Tree>)
+        requires { parts.items ≡ replicate 16 (empty_part (self.old.depth + 1)) }
+        ensures depth { self.new.depth ≡ self.old.depth }
+        ensures entries { self.new.entries ≡ self.old.entries }
+        ensures inner { self.new.inner ≡ self.old.inner }
+        ensures thin { self.new.thin ≡ None }
+    {
+        let mut parts = parts;
+        match mem::replace(&mut self.body, Body::Empty) {
+            Body::Thin(only, part) => {
+                parts[only as usize] = Box::into_inner(part);
+                self.body = Body::Inner(parts);
+            }
+            body => self.body = body,
+        }
+    }
+}
+
+/// The place of a part that has an entry.
+fn filled(parts: &[Tree]) -> Option<usize>
+    ensures { IfSome result (λ i. i < length parts.now) }
+{
+    parts.iter().position(|part| part.size() > 0)
+}
+
+/// Sixteen parts with no entry.
+#[tactic(auto, using(crate::proofs::Steps::replicate_more))]
+fn empty_parts(alloc: Global, depth: usize) -> Result<Vec<Tree>, AllocError>
+    requires { depth ≤ 70 }
+    ensures { IfOk result (λ v. v.items ≡ replicate 16 (empty_part depth)) }
+{
+    let mut parts = Vec::with_capacity(alloc, 16)?;
+    for i in 0..16usize {
+        parts.push(Tree::new(depth))?;
+    }
+    Ok(parts)
+}
+
+/// How many entries some parts have, up to two.
+#[tactic(auto, using(crate::proofs::Parts::all_entries_more, crate::proofs::Parts::min_more))]
+fn size_of_all(parts: &[Tree]) -> u8
+    ensures { result ≡ min (length (all_entries parts.now)) 2 }
+{
+    let mut size = 0u8;
+    for part in parts {
+        size = (size + part.size()).min(2);
+    }
+    size
+}
