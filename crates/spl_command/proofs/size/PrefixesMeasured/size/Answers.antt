@@ -1,0 +1,8 @@
+use Rattle.std.proofs.Common.{length, ap, arith}
+use Rattle.std.specs.List.{flat_map}
+use Rattle.spl_command.specs.Forms.{prefix}
+use Rattle.spl_command.proofs.Sizes.{list_size}
+use Rattle.spl_command.proofs.size.PrefixesMeasured.size.Goals as goal
+
+pub returns : goal.returns
+returns c = omega (arith, list_size prefix.spell c.args.self.now, ap (λ xs. length (flat_map prefix.spell xs)) c.items.ensures)

@@ -1,0 +1,7 @@
+pub mod Equality
+pub mod Execution
+pub mod Forms
+pub mod Lists
+pub mod Rules
+pub mod Runs
+pub mod Sizes

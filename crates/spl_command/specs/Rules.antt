@@ -1,0 +1,54 @@
+-- The six rules of a batch (docs/RULES.md, Batches).
+use Rattle.std.specs.Prelude.{ℕ, ◌+◌, Bool, true, ◌&&◌, nat_le, List, [], ◌∷◌, length, if◌then◌else◌, Option, Some, None}
+use Rattle.std.specs.List.{list_all}
+use Rattle.spl_command.specs.declared.batch.Command.{Command}
+use Rattle.spl_command.specs.declared.batch.Command.TheVariants.{Set, Get, Delete, Event, Data, Invalid, Error}
+use Rattle.spl_command.specs.declared.batch.Transaction.{Transaction}
+use Rattle.spl_command.specs.declared.batch.Batch.{Batch}
+use Rattle.spl_command.specs.Forms.{batch}
+
+-- the number of the first test that fails
+abbrev pub first_false : ℕ → List Bool → Option ℕ
+first_false n [] = None
+first_false n (b ∷ bs) = if b then first_false (n + 1) bs else Some n
+
+abbrev pub is_short : List ℕ → Bool
+is_short v = nat_le (length v) 256
+
+-- a value, event data and receipt data are short
+abbrev pub has_short_data : Command → Bool
+has_short_data (Set a v) = is_short v
+has_short_data (Get a) = true
+has_short_data (Delete a) = true
+has_short_data (Event k v) = is_short v
+has_short_data (Data v) = is_short v
+has_short_data (Invalid k) = true
+has_short_data (Error k) = true
+
+abbrev pub has_few_prefixes : Transaction → Bool
+has_few_prefixes t = nat_le (length t.inputs) 8 && nat_le (length t.outputs) 8
+
+abbrev pub has_few_commands : Transaction → Bool
+has_few_commands t = nat_le 1 (length t.commands) && nat_le (length t.commands) 16
+
+abbrev pub all_short : Transaction → Bool
+all_short t = list_all has_short_data t.commands
+
+-- the length of the byte form
+abbrev pub size_of : Batch → ℕ
+size_of b = length (batch.spell b)
+
+-- the rules in their order, the first of them rule 1
+abbrev pub rules_of : Batch → List Bool
+rules_of b =
+    nat_le 1 (length b.transactions)
+    ∷ nat_le (length b.transactions) 16
+    ∷ list_all has_few_prefixes b.transactions
+    ∷ list_all has_few_commands b.transactions
+    ∷ list_all all_short b.transactions
+    ∷ nat_le (size_of b) 8192
+    ∷ []
+
+-- the least rule that is broken
+abbrev pub broken_batch : Batch → Option ℕ
+broken_batch b = first_false 1 (rules_of b)

@@ -1,0 +1,36 @@
+-- Runs without a cause: what they leave (docs/RULES.md, Batches).
+use Rattle.std.specs.Prelude.{ℕ, List, [], ◌∷◌, if◌then◌else◌, Option, Some, None, fold}
+use Rattle.std.specs.BTreeMap.{is_at}
+use Rattle.spl_state.specs.declared.address.Address.{Address}
+use Rattle.spl_state.specs.Entries.{Entry, address_cmp}
+use Rattle.spl_command.specs.declared.batch.Command.{Command}
+use Rattle.spl_command.specs.declared.batch.Command.TheVariants.{Set, Get, Delete, Event, Data, Invalid, Error}
+use Rattle.spl_command.specs.declared.batch.Transaction.{Transaction}
+use Rattle.spl_command.specs.declared.receipt.Receipt.{Receipt}
+use Rattle.spl_command.specs.Execution.{Values, values_of, values_after, begun, ran}
+
+-- the value at an address behind a command
+abbrev pub value_after : Address → Option (List ℕ) → Command → Option (List ℕ)
+value_after a v (Set b w) = if is_at (address_cmp a) b then Some w else v
+value_after a v (Get b) = v
+value_after a v (Delete b) = if is_at (address_cmp a) b then None else v
+value_after a v (Event k w) = v
+value_after a v (Data w) = v
+value_after a v (Invalid k) = v
+value_after a v (Error k) = v
+
+-- the state behind transactions
+abbrev pub values_behind : Values → List Transaction → Values
+values_behind m ts = fold (λ m t. fold values_after m t.commands) m ts
+
+-- the state behind transactions and some commands of the next
+abbrev pub values_before : List Entry → List Transaction → List Command → Values
+values_before m ts cs = fold values_after (values_behind (values_of m) ts) cs
+
+-- the receipt of commands
+abbrev pub receipt_of : Values → List Command → Receipt
+receipt_of m cs = (fold ran (begun m) cs).receipt
+
+abbrev pub receipts_of : Values → List Transaction → List Receipt
+receipts_of m [] = []
+receipts_of m (t ∷ ts) = receipt_of m t.commands ∷ receipts_of (fold values_after m t.commands) ts

@@ -1,0 +1,73 @@
+//! Why a batch is invalid.
+ghost use Rattle.std.specs.Prelude.{◌≡◌, ◌≤◌, List, length, None};
+ghost use Rattle.spl_command.specs.Rules.{broken_batch};
+ghost use Rattle.spl_command.specs.Execution.{cause_in, cause_among, cause_from, cause_of, told_cause, verdict_on};
+ghost use Rattle.spl_state.specs.Entries.{Entry};
+
+use crate::batch::{Batch, Command, Transaction};
+
+impl Transaction {
+    /// Why this command would make the batch invalid, if it would.
+    fn cause_in(&self, command: &Command) -> Option<u8>
+        ensures { result ≡ cause_in self.now command.now }
+    {
+        match command {
+            Command::Set(address, _) | Command::Delete(address) => {
+                if self.outputs.cover(address) {
+                    None
+                } else {
+                    Some(9)
+                }
+            }
+            Command::Get(address) => {
+                if self.inputs.cover(address) {
+                    None
+                } else {
+                    Some(10)
+                }
+            }
+            Command::Event(_, _) | Command::Data(_) => None,
+            Command::Invalid(_) => Some(11),
+            Command::Error(_) => Some(12),
+        }
+    }
+
+    /// The first cause among its commands.
+    fn cause(&self) -> Option<u8>
+        ensures { result ≡ cause_among self.now self.now.commands }
+    {
+        for command in self.commands.as_slice() {
+            let cause = self.cause_in(command);
+            if cause.is_some() {
+                return cause;
+            }
+        }
+        None
+    }
+}
+
+fn first_cause(transactions: &[Transaction]) -> Option<(u8, u8)>
+    requires { length transactions.now ≤ 16 }
+    ensures { result ≡ cause_from 1 transactions.now }
+{
+    let mut number = 1u8;
+    for transaction in transactions {
+        if let Some(cause) = transaction.cause() {
+            return Some((number, cause));
+        }
+        number += 1;
+    }
+    None
+}
+
+impl Batch {
+    /// The first cause of invalidity and the number of its transaction, from 1, as the number
+    /// and then the cause; None where the batch is valid. It is the same on every state.
+    pub fn cause(&self) -> Option<(u8, u8)>
+        requires { broken_batch self.now ≡ None }
+        ensures cause { result ≡ cause_of self.now }
+        ensures everywhere { (m : List Entry) → told_cause (verdict_on m self.now) ≡ result }
+    {
+        first_cause(self.transactions.as_slice())
+    }
+}

@@ -1,0 +1,43 @@
+//! The byte form of batches.
+ghost use Rattle.std.specs.Prelude.{◌≡◌, ◌++◌, ◌+◌, List, ℕ, length, Ok, IsTrue, OnOk, OnErr};
+ghost use Rattle.spl_base.specs.Input.{Input};
+ghost use Rattle.spl_base.specs.Form.{Reads};
+ghost use Rattle.spl_command.specs.Forms.{batch};
+ghost use Rattle.spl_command.specs.declared.batch.Batch.{Batch as Group};
+
+use crate::batch::Batch;
+use spl_base::{Field, Malformed, Reader, Writer};
+use std::alloc::{AllocError, Global};
+
+impl Batch {
+    /// Appends the byte form, which a batch has where its lists have at most 1,024 items and its
+    /// byte strings at most 1,024 bytes. After want of memory nothing was appended.
+    pub fn write(&self, alloc: Global, w: &mut Writer) -> Result<(), AllocError>
+        requires few { IsTrue (batch.bounded self.now) }
+        ensures ok { OnOk result (w.new ≡ w.old ++ batch.spell self.now) }
+        ensures fits { OnOk result (IsTrue (batch.fits self.now)) }
+        ensures err { OnErr result (w.new ≡ w.old) }
+    {
+        let mut own = Writer::new(alloc);
+        self.put(&mut own)?;
+        w.put_raw(own.bytes())
+    }
+
+    /// Reads a batch from the front, whether or not it keeps the rules. The fault is the place
+    /// of the first field that cannot be read, or want of memory.
+    pub fn read(alloc: Global, r: &mut Reader) -> Result<Batch, Malformed>
+        ensures { Reads (λ x. x) result r.new (batch.parse r.old) }
+    {
+        Batch::take(alloc, r)
+    }
+}
+
+/// What is spelled is read back, whatever follows it.
+pub fn batches_are_read_back()
+    ensures { (b : Group) (rest : List ℕ) (place : ℕ) → IsTrue (batch.fits b) → batch.parse (record { rest = batch.spell b ++ rest; place = place }) ≡ Ok (b, record { rest = rest; place = place + length (batch.spell b) }) }
+{}
+
+/// No spelling of a batch begins another.
+pub fn no_batch_begins_another()
+    ensures { (b c : Group) (x y : List ℕ) → IsTrue (batch.fits b) → IsTrue (batch.fits c) → batch.spell b ++ x ≡ batch.spell c ++ y → (b ≡ c) × (x ≡ y) }
+{}

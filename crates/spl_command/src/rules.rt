@@ -1,0 +1,93 @@
+//! The rules of a batch.
+ghost use Rattle.std.specs.Prelude.{◌≡◌};
+ghost use Rattle.std.specs.List.{list_all};
+ghost use Rattle.spl_command.specs.Rules.{broken_batch, is_short, has_short_data, has_few_prefixes, has_few_commands, all_short};
+
+use crate::batch::{Batch, Command, Transaction};
+use spl_base::Piece;
+
+fn is_short(piece: &Piece) -> bool
+    ensures { result ≡ is_short piece.now }
+{
+    piece.bytes().len() <= 256
+}
+
+fn has_short_data(command: &Command) -> bool
+    ensures { result ≡ has_short_data command.now }
+{
+    match command {
+        Command::Set(_, value) => is_short(value),
+        Command::Get(_) => true,
+        Command::Delete(_) => true,
+        Command::Event(_, data) => is_short(data),
+        Command::Data(data) => is_short(data),
+        Command::Invalid(_) => true,
+        Command::Error(_) => true,
+    }
+}
+
+fn has_few_prefixes(transaction: &Transaction) -> bool
+    ensures { result ≡ has_few_prefixes transaction.now }
+{
+    transaction.inputs.len() <= 8 && transaction.outputs.len() <= 8
+}
+
+fn has_few_commands(transaction: &Transaction) -> bool
+    ensures { result ≡ has_few_commands transaction.now }
+{
+    let count = transaction.commands.len();
+    1 <= count && count <= 16
+}
+
+fn all_short(transaction: &Transaction) -> bool
+    ensures { result ≡ all_short transaction.now }
+{
+    transaction
+        .commands
+        .as_slice()
+        .iter()
+        .all(|c| has_short_data(c))
+}
+
+fn all_have_few_prefixes(transactions: &[Transaction]) -> bool
+    ensures { result ≡ list_all has_few_prefixes transactions.now }
+{
+    transactions.iter().all(|t| has_few_prefixes(t))
+}
+
+fn all_have_few_commands(transactions: &[Transaction]) -> bool
+    ensures { result ≡ list_all has_few_commands transactions.now }
+{
+    transactions.iter().all(|t| has_few_commands(t))
+}
+
+fn all_have_short_data(transactions: &[Transaction]) -> bool
+    ensures { result ≡ list_all all_short transactions.now }
+{
+    transactions.iter().all(|t| all_short(t))
+}
+
+impl Batch {
+    /// The number of the first rule that the batch breaks, None where it keeps all six. The
+    /// length of its byte form is a sum; the form isn't written.
+    pub fn fault(&self) -> Option<u8>
+        ensures { result ≡ broken_batch self.now }
+    {
+        let transactions = self.transactions.as_slice();
+        if transactions.is_empty() {
+            Some(1)
+        } else if 16 < transactions.len() {
+            Some(2)
+        } else if !all_have_few_prefixes(transactions) {
+            Some(3)
+        } else if !all_have_few_commands(transactions) {
+            Some(4)
+        } else if !all_have_short_data(transactions) {
+            Some(5)
+        } else if 8192 < self.size() {
+            Some(6)
+        } else {
+            None
+        }
+    }
+}

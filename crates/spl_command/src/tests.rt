@@ -1,0 +1,5 @@
+mod build;
+mod codec;
+mod executed;
+mod plain;
+mod rules;
