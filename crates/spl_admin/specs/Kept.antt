@@ -1,0 +1,16 @@
+-- An act ledger as its callers see it (docs/RULES.md, Lifecycle).
+use Rattle.std.specs.Prelude.{List}
+use Rattle.std.specs.List.{filter}
+use Rattle.spl_circuit.specs.declared.definition.Definition.{Definition}
+use Rattle.spl_circuit.specs.declared.act.Act.{Act}
+use Rattle.spl_circuit.specs.Nodes.{Node, has_node}
+use Rattle.spl_circuit.specs.Lifecycle.{life}
+
+-- the circuit's definition, and the acts applied so far
+pub record LedgerView : Type 0 where
+  pub definition : Definition
+  pub acts : List Act
+
+-- the members that have accepted, in member order
+abbrev pub accepted_members : LedgerView → List Node
+accepted_members l = filter (has_node (life l.definition l.acts).accepted) l.definition.members
