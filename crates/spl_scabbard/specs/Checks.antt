@@ -1,0 +1,40 @@
+-- Why a batch can't follow others (docs/RULES.md, Batches).
+use Rattle.std.specs.Prelude.{ℕ, ◌==◌, Bool, List, if◌then◌else◌, Option, Some, None}
+use Rattle.std.specs.List.{list_any}
+use Rattle.spl_agree.specs.declared.reason.Reason.{Reason}
+use Rattle.spl_agree.specs.declared.reason.Admit.TheVariants as admit
+use Rattle.spl_agree.specs.Member.{Rules}
+use Rattle.spl_command.specs.declared.batch.Batch.{Batch}
+use Rattle.spl_command.specs.Equality.{same_batch}
+use Rattle.spl_command.specs.Rules.{broken_batch}
+use Rattle.spl_command.specs.Execution.{verdict_on, told_cause}
+use Rattle.spl_command.specs.Lists.{state_of}
+
+-- one of the batches has the id
+abbrev pub is_taken : List Batch → ℕ → Bool
+is_taken bs i = list_any (λ b. i == b.id) bs
+
+abbrev pub reason_of : Option (ℕ × ℕ) → Option Reason
+reason_of None = None
+reason_of (Some x) = Some (record { code = x.1; at = x.0 })
+
+-- a batch that breaks no rule, behind others
+abbrev pub misfit_valid : List Batch → Batch → Option Reason
+misfit_valid bs b = if is_taken bs b.id then Some (record { code = 8; at = 0 }) else reason_of (told_cause (verdict_on (state_of bs) b))
+
+abbrev pub unless_broken : Option ℕ → Option Reason → Option Reason
+unless_broken None next = next
+unless_broken (Some rule) next = Some (record { code = 13; at = rule })
+
+abbrev pub misfit_batch : List Batch → Batch → Option Reason
+misfit_batch bs b = unless_broken (broken_batch b) (misfit_valid bs b)
+
+-- what the service group of a circuit says of batches
+abbrev pub batch_rules : Rules Batch
+batch_rules = record {
+  same_key = λ b c. b.id == c.id;
+  same = same_batch;
+  check = misfit_batch;
+  stray = λ b. None;
+  admits = λ sender b. admit.Take;
+}

@@ -1,0 +1,150 @@
+//! What the batches that were applied have left.
+ghost use Rattle.std.specs.Prelude.{◌≡◌, [], None, IfOk};
+ghost use Rattle.std.specs.Option.{option_copied};
+ghost use Rattle.spl_state.specs.Root.{node_at};
+ghost use Rattle.spl_command.specs.Rules.{broken_batch};
+ghost use Rattle.spl_command.specs.Lists.{state_of, receipts_behind};
+ghost use Rattle.spl_scabbard.specs.Checks.{is_taken, misfit_valid, misfit_batch};
+ghost use Rattle.spl_scabbard.specs.Readers.{ids_of, place_of, receipts_of};
+
+use indexmap::IndexMap;
+use spl_agree::{Place, Reason};
+use spl_base::{BatchId, Listing};
+use spl_command::{Batch, Receipts, Verdict, execute};
+use spl_state::State;
+use std::alloc::{AllocError, Global};
+use std::marker::Model;
+
+/// The ids of batches, in the order in which they were applied.
+pub type BatchIds = Listing<BatchId>;
+
+/// The batches applied so far, the state that they left, and the receipts of each by its id
+/// (docs/RULES.md, Batches). Contracts see the batches.
+///
+/// A batch that wants memory while it is applied leaves the list as it was, and the service
+/// without its state: the member is halted.
+#[derive(Drop)]
+pub struct Service {
+    pub(crate) batches: Vec<Batch>,
+    pub(crate) ids: BatchIds,
+    pub(crate) kept: IndexMap<BatchId, Receipts>,
+    pub(crate) state: Option<State>,
+}
+
+impl Model for Service {
+    ghost use Rattle.std.specs.Prelude.{List};
+    ghost use Rattle.spl_command.specs.declared.batch.Batch.{Batch as BatchValue};
+    ghost use Rattle.spl_scabbard.specs.Kept.{IsKept};
+
+    ghost Value = { List BatchValue };
+
+    ghost view = { λ s. s.batches.items };
+
+    ghost invariant = { λ s. IsKept s.batches.items s.ids s.kept.entries s.state };
+}
+
+impl Service {
+    /// No batches, and the empty state. Nothing is allocated.
+    pub fn new(alloc: Global) -> Service
+        ensures { result ≡ [] }
+    {
+        Service {
+            batches: Vec::new(alloc),
+            ids: Listing::new(alloc),
+            kept: IndexMap::new(alloc),
+            state: Some(State::new()),
+        }
+    }
+
+    /// The state that the batches left. An error comes only behind a want of memory in `apply`.
+    pub fn state(&self) -> Result<&State, AllocError>
+        ensures { IfOk result (λ s. s.now ≡ state_of self.now) }
+    {
+        match &self.state {
+            Some(state) => Ok(state),
+            None => Err(AllocError),
+        }
+    }
+
+    /// The root of the state. An error comes only behind a want of memory in `apply`.
+    pub fn root(&self) -> Result<[u8; 32], AllocError>
+        ensures { IfOk result (λ r. r ≡ node_at 70 [] (state_of self.now)) }
+    {
+        let state = self.state()?;
+        Ok(state.root())
+    }
+
+    /// Makes the state's stale digests anew, so that the next root costs nothing.
+    pub fn renew(&mut self)
+        ensures { self.new ≡ self.old }
+    {
+        if let Some(state) = &mut self.state {
+            state.renew();
+        }
+    }
+
+    /// The ids of the batches.
+    pub fn history(&self) -> &BatchIds
+        ensures { result.now ≡ ids_of self.now }
+    {
+        &self.ids
+    }
+
+    /// The receipts of the batch of an id; None exactly where no batch has it.
+    pub fn receipt(&self, id: BatchId) -> Option<&Receipts>
+        ensures { option_copied result ≡ receipts_of self.now id }
+    {
+        self.kept.get(&id)
+    }
+
+    /// The place of the batch of an id, from 0; None exactly where no batch has it.
+    pub fn place_of(&self, id: BatchId) -> Option<Place>
+        ensures { result ≡ place_of self.now id }
+    {
+        let place = self.kept.get_index_of(&id)?;
+        Some(Place(place as u32))
+    }
+
+    fn has(&self, id: BatchId) -> bool
+        ensures { result ≡ is_taken self.now id }
+    {
+        self.kept.contains_key(&id)
+    }
+
+    fn misfit_valid(&self, batch: &Batch) -> Option<Reason>
+        requires { broken_batch batch.now ≡ None }
+        ensures { result ≡ misfit_valid self.now batch.now }
+    {
+        if self.has(batch.id) {
+            return Some(Reason { code: 8, at: 0 });
+        }
+        match batch.cause() {
+            Some((transaction, cause)) => Some(Reason {
+                code: cause,
+                at: transaction,
+            }),
+            None => None,
+        }
+    }
+
+    /// Why the batch can't be the next one, if it can't.
+    pub(crate) fn misfit(&self, batch: &Batch) -> Option<Reason>
+        ensures { result ≡ misfit_batch self.now batch.now }
+    {
+        match batch.fault() {
+            Some(rule) => Some(Reason { code: 13, at: rule }),
+            None => self.misfit_valid(batch),
+        }
+    }
+
+    /// The receipts that the batch leaves behind the others.
+    pub(crate) fn run(&self, alloc: Global, batch: &Batch) -> Result<Receipts, AllocError>
+        requires { broken_batch batch.now ≡ None }
+        ensures { IfOk result (λ rs. rs ≡ receipts_behind self.now batch.now) }
+    {
+        match execute(alloc, self.state()?, batch)? {
+            Verdict::Valid(receipts) => Ok(receipts),
+            Verdict::Invalid { .. } => Ok(Receipts::new(alloc)),
+        }
+    }
+}
