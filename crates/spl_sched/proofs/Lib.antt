@@ -1,5 +1,7 @@
 mod Splits
 mod Numbers
 mod WordLaws
+mod HexLaws
 mod GrammarLaws
+mod LineLaws
 mod Items

@@ -1,6 +1,6 @@
 -- What is spelled is read, and what is read is spelled so: a law for each way to make a spelling.
-use Rattle.std.proofs.Common.{◌≡◌, ℕ, ◌^◌, ◌<◌, ◌≤◌, Bool, true, false, cond, ◌&&◌, ◌||◌, eqb, leb, ltb, IsTrue, List, [], ◌∷◌, length, map, Option, Some, None, refl, sym, ap, ◌∙◌, subst, arith, inl, inr, ◌⊎◌}
-use Rattle.std.specs.List.{list_all, list_any, slice_split, join_with_byte}
+use Rattle.std.proofs.Common.{◌≡◌, ℕ, ◌^◌, ◌<◌, ◌≤◌, Bool, true, false, cond, ◌&&◌, eqb, leb, ltb, IsTrue, List, [], ◌∷◌, length, map, Option, Some, None, refl, sym, ap, ◌∙◌, subst, arith}
+use Rattle.std.specs.List.{list_all, slice_split, join_with_byte}
 use Rattle.std.specs.Option.{option_map}
 use Rattle.std.specs.Fmt.{decimal}
 use Rattle.std.specs.Str.{bytes_eq}
@@ -9,7 +9,7 @@ use Rattle.std.proofs.lemmas.List.{length-map}
 use Rattle.std.proofs.lemmas.List.Splits.{join_with_byte-slice_split}
 use Rattle.std.proofs.lemmas.Slice.Eq.{bytes_eq-Decides}
 use Rattle.spl_base.specs.FormLaws.{both_true, and_true}
-use Rattle.spl_sched.specs.Words.{Spelling, Word, Words, Kinds, split, ◌>>=◌, text, is_decimal, value, number, joined, read_end, end, ◌&◌, read_each, up_to, meaning, no_kind, kind, read_kind, any_of}
+use Rattle.spl_sched.specs.Words.{Spelling, Word, Words, Kind, split, ◌>>=◌, text, flag, read_flag, is_decimal, value, number, joined, read_end, end, ◌&◌, read_each, up_to, meaning, that, kind, read_kind}
 use Rattle.spl_sched.proofs.Splits.{lacks, split_join, lacks_join}
 use Rattle.spl_sched.proofs.Numbers.{decimal_is, value-decimal, decimal-value}
 
@@ -18,7 +18,7 @@ pub record IsExact {S A : Type 0} (s : Spelling S A) : Type 0 where
   pub again : (x : A) → IsTrue (s.fits x) → s.read (s.spell x) ≡ Some x
   pub only : (spelled : S) (x : A) → s.read spelled ≡ Some x → (spelled ≡ s.spell x) × IsTrue (s.fits x)
 
-some_is : {A : Type 0} (x y : A) → Some x ≡ Some y → x ≡ y
+pub some_is : {A : Type 0} (x y : A) → Some x ≡ Some y → x ≡ y
 some_is x y e = cc
 
 -- a test that passed
@@ -31,9 +31,15 @@ bind_some : {A B : Type 0} (o : Option A) (f : A → Option B) (y : B) → (o >>
 bind_some None f y e = absurd cc
 bind_some (Some x) f y e = (x, refl, e)
 
-map_some : {A B : Type 0} (f : A → B) (o : Option A) (y : B) → option_map f o ≡ Some y → (x : A) × (o ≡ Some x) × (f x ≡ y)
+pub map_some : {A B : Type 0} (f : A → B) (o : Option A) (y : B) → option_map f o ≡ Some y → (x : A) × (o ≡ Some x) × (f x ≡ y)
 map_some f None y e = absurd cc
 map_some f (Some x) y e = (x, refl, cc)
+
+pub same_bytes : (xs ys : List ℕ) → bytes_eq xs ys ≡ true → xs ≡ ys
+same_bytes xs ys e = (bytes_eq-Decides xs ys).0 e
+
+pub itself : (xs : List ℕ) → bytes_eq xs xs ≡ true
+itself xs = (bytes_eq-Decides xs xs).1 refl
 
 -- ---- single words
 
@@ -58,6 +64,23 @@ exact_number limit wide = record {
       let small : value xs < limit = ltb-true (value xs) limit b.1 in
       (sym (decimal-value xs b.0 (omega arith)) ∙ ap decimal same, subst (λ (m : ℕ). IsTrue (ltb m limit)) same b.1);
 }
+
+flag_other : (on off xs : List ℕ) (x b : Bool) → bytes_eq xs off ≡ b → cond b (Some false) None ≡ Some x → xs ≡ cond x on off
+flag_other on off xs true true same e = absurd cc
+flag_other on off xs false true same e = same_bytes xs off same
+flag_other on off xs x false same e = absurd cc
+
+flag_only : (on off xs : List ℕ) (x b : Bool) → bytes_eq xs on ≡ b → cond b (Some true) (cond (bytes_eq xs off) (Some false) None) ≡ Some x → xs ≡ cond x on off
+flag_only on off xs true true same e = same_bytes xs on same
+flag_only on off xs false true same e = absurd cc
+flag_only on off xs x false same e = flag_other on off xs x (bytes_eq xs off) refl e
+
+flag_again : (on off : List ℕ) → bytes_eq off on ≡ false → (x : Bool) → read_flag on off (cond x on off) ≡ Some x
+flag_again on off other true = rw (itself on) refl
+flag_again on off other false = rw (other, itself off) refl
+
+pub exact_flag : (on off : List ℕ) → bytes_eq off on ≡ false → IsExact (flag on off)
+exact_flag on off other = record { again = λ x h. flag_again on off other x; only = λ xs x e. (flag_only on off xs x (bytes_eq xs on) refl e, refl) }
 
 -- ---- words in a row
 
@@ -153,68 +176,63 @@ exact_meaning {S} {A} {B} ok to from s there back p = record {
       (o.0 ∙ ap s.spell (sym r.0), and_true (ok (to m.0)) (s.fits (from (to m.0))) r.1 (subst (λ (x : A). IsTrue (s.fits x)) (sym r.0) o.1));
 }
 
+-- ---- a test
+
+passed : {A : Type 0} (ok : A → Bool) (x y : A) → cond (ok x) (Some x) None ≡ Some y → (x ≡ y) × IsTrue (ok y)
+passed ok x y e =
+    let g = guard_some (ok x) (Some x) y e in
+    let same : x ≡ y = some_is x y g.1 in
+    (same, subst (λ z. IsTrue (ok z)) same g.0)
+
+pub exact_that : {S A : Type 0} (ok : A → Bool) (s : Spelling S A) → IsExact s → IsExact (that ok s)
+exact_that {S} {A} ok s p = record {
+  again = λ x h.
+      let b = both_true (ok x) (s.fits x) h in
+      let passes : ok x ≡ true = b.0 in
+      rw (p.again x b.1, passes) refl;
+  only = λ bs y e.
+      let m = bind_some (s.read bs) (λ a. cond (ok a) (Some a) None) y e in
+      let w = passed ok m.0 y m.2 in
+      let o = p.only bs m.0 m.1 in
+      (o.0 ∙ ap s.spell w.0, and_true (ok y) (s.fits y) w.1 (subst (λ (x : A). IsTrue (s.fits x)) w.0 o.1));
+}
+
 -- ---- kinds
 
-pub record IsExactKinds {A : Type 0} (ks : Kinds A) : Type 0 where
-  pub again : (x : A) → IsTrue (ks.fits x) → ks.read (ks.name x) (ks.spell x) ≡ Some x
-  pub only : (n : List ℕ) (ws : List (List ℕ)) (x : A) → ks.read n ws ≡ Some x → (n ≡ ks.name x) × (ws ≡ ks.spell x) × IsTrue (ks.fits x)
-  pub named : (x : A) → IsTrue (list_any (bytes_eq (ks.name x)) ks.names)
+-- what words of the kind mean is spelled so
+pub record IsKind {A : Type 0} (spell : A → List (List ℕ)) (fits : A → Bool) (k : Kind A) : Type 0 where
+  pub only : (xs : List (List ℕ)) (a : A) → k.read xs ≡ Some a → (k.name ∷ xs ≡ spell a) × IsTrue (fits a)
 
-pub exact_no_kind : IsExactKinds no_kind
-exact_no_kind = record { again = λ x h. absurd x; only = λ n ws x e. absurd x; named = λ x. absurd x }
+pub is_kind : {A B : Type 0} (spell : B → List (List ℕ)) (fits : B → Bool) (name : List ℕ) (ws : Words A) (to : A → B) → IsExact ws
+    → ((x : A) → IsTrue (ws.fits x) → (name ∷ ws.spell x ≡ spell (to x)) × IsTrue (fits (to x))) → IsKind spell fits (kind name ws to)
+is_kind {A} {B} spell fits name ws to p means = record {
+  only = λ xs b e.
+      let m = map_some to (ws.read xs) b e in
+      let o = p.only xs m.0 m.1 in
+      let r = means m.0 o.1 in
+      subst (λ (z : B). (name ∷ xs ≡ spell z) × IsTrue (fits z)) m.2 (ap (λ (zs : List (List ℕ)). name ∷ zs) o.0 ∙ r.0, r.1);
+}
 
-pub same_bytes : (xs ys : List ℕ) → bytes_eq xs ys ≡ true → xs ≡ ys
-same_bytes xs ys e = (bytes_eq-Decides xs ys).0 e
+abbrev pub AllKinds : {A : Type 0} → (A → List (List ℕ)) → (A → Bool) → List (Kind A) → Type 0
+AllKinds spell fits [] = Unit {0}
+AllKinds spell fits (k ∷ ks) = IsKind spell fits k × AllKinds spell fits ks
 
-pub itself : (xs : List ℕ) → bytes_eq xs xs ≡ true
-itself xs = (bytes_eq-Decides xs xs).1 refl
+module _ {A : Type 0} (spell : A → List (List ℕ)) (fits : A → Bool) where
+  kind_only : (k : Kind A) (name : List ℕ) (xs : List (List ℕ)) (rest : Option A) (a : A) (b : Bool) → bytes_eq name k.name ≡ b → IsKind spell fits k
+      → (rest ≡ Some a → (name ∷ xs ≡ spell a) × IsTrue (fits a)) → cond b (k.read xs) rest ≡ Some a → (name ∷ xs ≡ spell a) × IsTrue (fits a)
+  kind_only k name xs rest a true same p q e =
+      let o = p.only xs a e in
+      (ap (λ (n : List ℕ). n ∷ xs) (same_bytes name k.name same) ∙ o.0, o.1)
+  kind_only k name xs rest a false same p q e = q e
 
-or_second : (a b : Bool) → IsTrue b → IsTrue (a || b)
-or_second true b h = refl
-or_second false b h = h
+  pub kinds_only : (ks : List (Kind A)) (other : Option A) (name : List ℕ) (xs : List (List ℕ)) (a : A) → AllKinds spell fits ks
+      → (other ≡ Some a → (name ∷ xs ≡ spell a) × IsTrue (fits a)) → read_kind ks other name xs ≡ Some a → (name ∷ xs ≡ spell a) × IsTrue (fits a)
+  kinds_only [] other name xs a all q e = q e
+  kinds_only (k ∷ ks) other name xs a all q e = kind_only k name xs (read_kind ks other name xs) a (bytes_eq name k.name) refl all.0 (kinds_only ks other name xs a all.1 q) e
 
-or_first : (a b : Bool) → IsTrue a → IsTrue (a || b)
-or_first true b h = refl
-or_first false b h = absurd cc
-
-module _ {A B : Type 0} (n : List ℕ) (ws : Words A) (ks : Kinds B) (p : IsExact ws) (q : IsExactKinds ks) (new : list_any (bytes_eq n) ks.names ≡ false) where
-  other_name : (y : B) (b : Bool) → bytes_eq (ks.name y) n ≡ b → b ≡ false
-  other_name y true e =
-      let same : ks.name y ≡ n = same_bytes (ks.name y) n e in
-      let old : list_any (bytes_eq n) ks.names ≡ true = subst (λ (m : List ℕ). IsTrue (list_any (bytes_eq m) ks.names)) same (q.named y) in
-      sym old ∙ new
-  other_name y false e = refl
-
-  kind_again : (x : A ⊎ B) → IsTrue ((kind n ws ks).fits x) → (kind n ws ks).read ((kind n ws ks).name x) ((kind n ws ks).spell x) ≡ Some x
-  kind_again (inl a) h = rw (itself n, p.again a h) refl
-  kind_again (inr b) h = rw (other_name b (bytes_eq (ks.name b) n) refl, q.again b h) refl
-
-  kind_only : (m : List ℕ) (xs : List (List ℕ)) (x : A ⊎ B) (b : Bool) → bytes_eq m n ≡ b → cond b (option_map inl (ws.read xs)) (option_map inr (ks.read m xs)) ≡ Some x
-      → (m ≡ (kind n ws ks).name x) × (xs ≡ (kind n ws ks).spell x) × IsTrue ((kind n ws ks).fits x)
-  kind_only m xs x true same e =
-      let a = map_some inl (ws.read xs) x e in
-      let o = p.only xs a.0 a.1 in
-      subst (λ (z : A ⊎ B). (m ≡ (kind n ws ks).name z) × (xs ≡ (kind n ws ks).spell z) × IsTrue ((kind n ws ks).fits z)) a.2 (same_bytes m n same, o.0, o.1)
-  kind_only m xs x false same e =
-      let b = map_some inr (ks.read m xs) x e in
-      let o = q.only m xs b.0 b.1 in
-      subst (λ (z : A ⊎ B). (m ≡ (kind n ws ks).name z) × (xs ≡ (kind n ws ks).spell z) × IsTrue ((kind n ws ks).fits z)) b.2 (o.0, o.1, o.2)
-
-  kind_named : (x : A ⊎ B) → IsTrue (list_any (bytes_eq ((kind n ws ks).name x)) (n ∷ ks.names))
-  kind_named (inl a) = or_first (bytes_eq n n) (list_any (bytes_eq n) ks.names) (itself n)
-  kind_named (inr b) = or_second (bytes_eq (ks.name b) n) (list_any (bytes_eq (ks.name b)) ks.names) (q.named b)
-
-  pub exact_kind : IsExactKinds (kind n ws ks)
-  exact_kind = record { again = kind_again; only = λ m xs x e. kind_only m xs x (bytes_eq m n) refl e; named = kind_named }
-
-any_only : {A : Type 0} (ks : Kinds A) → IsExactKinds ks → (ws : List (List ℕ)) (x : A) → read_kind ks ws ≡ Some x → (ws ≡ ks.name x ∷ ks.spell x) × IsTrue (ks.fits x)
-any_only ks p [] x e = absurd cc
-any_only ks p (w ∷ ws) x e =
-    let o = p.only w ws x e in
-    (ap (λ (z : List ℕ). z ∷ ws) o.0 ∙ ap (λ (zs : List (List ℕ)). ks.name x ∷ zs) o.1, o.2)
-
-pub exact_any_of : {A : Type 0} (ks : Kinds A) → IsExactKinds ks → IsExact (any_of ks)
-exact_any_of ks p = record { again = p.again; only = any_only ks p }
+-- the words of a value are read back
+pub read_as : {A B : Type 0} (ws : Words A) (to : A → B) (x : A) (b : B) → IsExact ws → IsTrue (ws.fits x) → to x ≡ b → option_map to (ws.read (ws.spell x)) ≡ Some b
+read_as {A} {B} ws to x b p h e = ap (option_map to) (p.again x h) ∙ ap (λ (z : B). Some z) e
 
 -- ---- which bytes a spelling lacks
 
@@ -255,3 +273,16 @@ split_up_to c most w p = record {
       omega (arith, length-map xs w.spell);
   each = (up_to_lacks c most w p).free;
 }
+
+pub that_lacks : {A : Type 0} (c : ℕ) (ok : A → Bool) (w : Word A) → Lacks c w → Lacks c (that ok w)
+that_lacks c ok w p = record { free = λ x h. p.free x (both_true (ok x) (w.fits x) h).1 }
+
+pub each_that_lacks : {A : Type 0} (c : ℕ) (ok : A → Bool) (ws : Words A) → EachLacks c ws → EachLacks c (that ok ws)
+each_that_lacks c ok ws p = record { free = λ x h. p.free x (both_true (ok x) (ws.fits x) h).1 }
+
+flag_free : (c : ℕ) (on off : List ℕ) → IsTrue (lacks c on) → IsTrue (lacks c off) → (b : Bool) → IsTrue (lacks c (cond b on off))
+flag_free c on off p q true = p
+flag_free c on off p q false = q
+
+pub flag_lacks : (c : ℕ) (on off : List ℕ) → IsTrue (lacks c on) → IsTrue (lacks c off) → Lacks c (flag on off)
+flag_lacks c on off p q = record { free = λ b h. flag_free c on off p q b }

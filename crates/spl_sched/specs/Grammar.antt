@@ -1,19 +1,21 @@
 -- The lines of a schedule (docs/RULES.md, Schedules).
-use Rattle.std.specs.Prelude.{ℕ, ◌^◌, Bool, true, ◌&&◌, nat_le, nat_lt, ◌⊎◌, List, [], ◌∷◌, ◌++◌, length, map, Option, codes, decimal}
-use Rattle.std.proofs.Common.{inl, inr}
+use Rattle.std.specs.Prelude.{ℕ, ◌^◌, Bool, true, false, not, ◌&&◌, nat_le, nat_lt, List, [], ◌∷◌, ◌++◌, length, map, Option, Some, None, if◌then◌else◌, codes, decimal}
 use Rattle.std.specs.List.{list_all, join_with_byte}
+use Rattle.std.specs.Option.{option_map}
 use Rattle.std.specs.Str.{bytes_eq}
 use Rattle.spl_base.specs.Ids.{is_node_id, is_circuit_id, is_service_id, is_label}
 use Rattle.spl_circuit.specs.declared.definition.Service.{Service}
 use Rattle.spl_circuit.specs.declared.definition.Definition.{Definition}
 use Rattle.spl_circuit.specs.Rules.{nodes_of as service_nodes}
+use Rattle.spl_edge.specs.declared.fill.Fill.{Fill}
+use Rattle.spl_edge.specs.declared.fill.Fill.TheVariants.{Old, New, Byte}
 use Rattle.spl_wire.specs.declared.event.Event.{Event}
-use Rattle.spl_wire.specs.declared.event.Event.TheVariants.{Propose, Show}
+use Rattle.spl_wire.specs.declared.event.Event.TheVariants as event
 use Rattle.spl_sched.specs.declared.line.Step.{Step}
-use Rattle.spl_sched.specs.declared.line.Step.TheVariants.{At}
+use Rattle.spl_sched.specs.declared.line.Step.TheVariants.{At, Deliver}
 use Rattle.spl_sched.specs.declared.line.Line.{Line}
 use Rattle.spl_sched.specs.declared.line.Line.TheVariants as line
-use Rattle.spl_sched.specs.Words.{Word, Words, Kinds, text, number, joined, end, ◌&◌, up_to, meaning, no_kind, kind, any_of}
+use Rattle.spl_sched.specs.Words.{Word, Words, Kind, text, number, flag, hex, hex_byte, joined, end, ◌&◌, up_to, meaning, that, kind, read_kind}
 
 -- 1 to 128 graphic bytes
 abbrev pub is_name : List ℕ → Bool
@@ -33,13 +35,60 @@ service_text s = join_with_byte 58 (s.id ∷ s.kind ∷ s.node ∷ [])
 abbrev pub words_of_terms : Definition → List (List ℕ)
 words_of_terms d = decimal d.generation ∷ decimal d.version ∷ d.management ∷ d.name ∷ join_with_byte 44 d.members ∷ join_with_byte 44 (map service_text d.services) ∷ []
 
-abbrev pub words_of : Step → List (List ℕ)
-words_of (At node id (Propose d)) = codes "propose" ∷ node ∷ id ∷ words_of_terms d
-words_of (At node id Show) = codes "show" ∷ node ∷ id ∷ []
+abbrev pub event_name : Event → List ℕ
+event_name (event.Propose d) = codes "propose"
+event_name (event.Vote accept) = codes "vote"
+event_name event.Remove = codes "remove"
+event_name event.Abandon = codes "abandon"
+event_name event.Purge = codes "purge"
+event_name event.Show = codes "show"
+event_name event.Detail = codes "detail"
+event_name event.Root = codes "root"
+event_name event.History = codes "history"
+event_name (event.Status batch) = codes "status"
+event_name (event.Receipt batch) = codes "receipt"
+event_name (event.Route from sender recipient) = codes "route"
+event_name event.Tick = codes "tick"
+event_name event.Expire = codes "expire"
+event_name (event.Deliver from message) = codes "deliver"
+
+abbrev pub accept_text : Bool → List ℕ
+accept_text accept = if accept then codes "accept" else codes "reject"
+
+-- the words behind name, node and circuit
+abbrev pub event_words : Event → List (List ℕ)
+event_words (event.Propose d) = words_of_terms d
+event_words (event.Vote accept) = accept_text accept ∷ []
+event_words (event.Status batch) = decimal batch ∷ []
+event_words (event.Receipt batch) = decimal batch ∷ []
+event_words (event.Route from sender recipient) = from ∷ sender ∷ recipient ∷ []
+event_words _ = []
+
+abbrev pub step_words : Step → List (List ℕ)
+step_words (At node id e) = event_name e ∷ node ∷ id ∷ event_words e
+step_words (Deliver from to id number) = codes "deliver" ∷ from ∷ to ∷ id ∷ decimal number ∷ []
+
+abbrev pub fill_words : Fill → List (List ℕ)
+fill_words Old = codes "old" ∷ []
+fill_words New = codes "new" ∷ []
+fill_words (Byte b) = codes "byte" ∷ hex_byte b ∷ []
+
+-- old, new or byte:HH
+abbrev pub fill_text : Fill → List ℕ
+fill_text f = join_with_byte 58 (fill_words f)
+
+abbrev pub words_of : Line → List (List ℕ)
+words_of (line.Step s) = step_words s
+words_of (line.Calm id passes) = codes "calm" ∷ id ∷ decimal passes ∷ []
+words_of (line.Stop node) = codes "stop" ∷ node ∷ []
+words_of (line.Start node) = codes "start" ∷ node ∷ []
+words_of (line.Roll node) = codes "roll" ∷ node ∷ []
+words_of (line.Cut calls fill s) = codes "cut" ∷ decimal calls ∷ fill_text fill ∷ step_words s
+words_of (line.Fail call s) = codes "fail" ∷ decimal call ∷ step_words s
 
 -- words with one space between each two
 abbrev pub spelling : Line → List ℕ
-spelling (line.Step s) = join_with_byte 32 (words_of s)
+spelling l = join_with_byte 32 (words_of l)
 
 -- ---- which lines are within their bounds
 
@@ -52,43 +101,77 @@ is_definition d =
     && (nat_le 1 (length d.members) && nat_le (length d.members) 16 && list_all is_node_id d.members)
     && (nat_le 1 (length d.services) && nat_le (length d.services) 16 && list_all is_service d.services)
 
--- the definition that is proposed has the line's id
+-- the definition that is proposed has the line's id, and the event is no delivery
 abbrev pub is_event : List ℕ → Event → Bool
-is_event id (Propose d) = bytes_eq d.id id && is_definition d
-is_event id Show = true
+is_event id (event.Propose d) = bytes_eq d.id id && is_definition d
+is_event id (event.Status batch) = nat_lt batch (2 ^ 64)
+is_event id (event.Receipt batch) = nat_lt batch (2 ^ 64)
+is_event id (event.Route from sender recipient) = is_node_id from && is_service_id sender && is_service_id recipient
+is_event id (event.Deliver from message) = false
+is_event id _ = true
 
+-- a message comes from another node
 abbrev pub is_step : Step → Bool
-is_step (At node id event) = is_node_id node && is_circuit_id id && is_event id event
+is_step (At node id e) = is_node_id node && is_circuit_id id && is_event id e
+is_step (Deliver from to id number) = is_node_id from && is_node_id to && is_circuit_id id && (nat_le 1 number && nat_lt number (2 ^ 32)) && not (bytes_eq from to)
+
+abbrev pub is_fill : Fill → Bool
+is_fill (Byte b) = nat_lt b (2 ^ 8)
+is_fill _ = true
+
+abbrev pub is_passes : ℕ → Bool
+is_passes n = nat_le 1 n && nat_le n 64
 
 abbrev pub is_line : Line → Bool
 is_line (line.Step s) = is_step s
+is_line (line.Calm id passes) = is_circuit_id id && is_passes passes
+is_line (line.Stop node) = is_node_id node
+is_line (line.Start node) = is_node_id node
+is_line (line.Roll node) = is_node_id node
+is_line (line.Cut calls fill s) = nat_lt calls (2 ^ 8) && is_fill fill && is_step s
+is_line (line.Fail call s) = (nat_le 1 call && nat_lt call (2 ^ 8)) && is_step s
 
 -- ---- what a line says
 
 abbrev pub event_nodes : Event → List (List ℕ)
-event_nodes (Propose d) = d.members ++ service_nodes d.services
-event_nodes Show = []
+event_nodes (event.Propose d) = d.members ++ service_nodes d.services
+event_nodes (event.Route from sender recipient) = from ∷ []
+event_nodes (event.Deliver from message) = from ∷ []
+event_nodes _ = []
 
 abbrev pub step_nodes : Step → List (List ℕ)
-step_nodes (At node id event) = node ∷ event_nodes event
+step_nodes (At node id e) = node ∷ event_nodes e
+step_nodes (Deliver from to id number) = from ∷ to ∷ []
 
 -- each node that the line names
 abbrev pub nodes_of : Line → List (List ℕ)
 nodes_of (line.Step s) = step_nodes s
+nodes_of (line.Calm id passes) = []
+nodes_of (line.Stop node) = node ∷ []
+nodes_of (line.Start node) = node ∷ []
+nodes_of (line.Roll node) = node ∷ []
+nodes_of (line.Cut calls fill s) = step_nodes s
+nodes_of (line.Fail call s) = step_nodes s
 
+-- the circuit that the step names
 abbrev pub step_circuit : Step → List ℕ
-step_circuit (At node id event) = id
+step_circuit (At node id e) = id
+step_circuit (Deliver from to id number) = id
 
 -- the circuit that the line names
-abbrev pub circuit_of : Line → List ℕ
-circuit_of (line.Step s) = step_circuit s
+abbrev pub circuit_of : Line → Option (List ℕ)
+circuit_of (line.Step s) = Some (step_circuit s)
+circuit_of (line.Calm id passes) = Some id
+circuit_of (line.Stop node) = None
+circuit_of (line.Start node) = None
+circuit_of (line.Roll node) = None
+circuit_of (line.Cut calls fill s) = Some (step_circuit s)
+circuit_of (line.Fail call s) = Some (step_circuit s)
 
+-- the node that the step takes place at
 abbrev pub step_node : Step → List ℕ
-step_node (At node id event) = node
-
--- the node that the line takes place at
-abbrev pub node_of : Line → List ℕ
-node_of (line.Step s) = step_node s
+step_node (At node id e) = node
+step_node (Deliver from to id number) = to
 
 -- ---- reading
 
@@ -121,43 +204,129 @@ definition_of id x = record { id = id; generation = x.0; version = x.1.0; manage
 abbrev pub terms_of : Definition → Terms
 terms_of d = (d.generation, (d.version, (d.management, (d.name, (d.members, (d.services, tt))))))
 
--- NODE ID and the terms
-abbrev pub proposal : Words (List ℕ × (List ℕ × Terms))
-proposal = text is_node_id & text is_circuit_id & terms
+-- NODE ID and more
+abbrev pub Home : Type 0 → Type 0
+Home A = List ℕ × (List ℕ × A)
 
--- NODE ID
-abbrev pub target : Words (List ℕ × (List ℕ × Unit {0}))
-target = text is_node_id & text is_circuit_id & end
+abbrev pub home : {A : Type 0} → Words A → Words (Home A)
+home ws = text is_node_id & text is_circuit_id & ws
 
-abbrev pub Parts : Type 0
-Parts = (List ℕ × (List ℕ × Terms)) ⊎ ((List ℕ × (List ℕ × Unit {0})) ⊎ ⊥)
+abbrev pub plain : Event → Home (Unit {0}) → Step
+plain e x = At x.0 x.1.0 e
 
-abbrev pub parts : Kinds Parts
-parts = kind (codes "propose") proposal (kind (codes "show") target no_kind)
+abbrev pub proposed : Home Terms → Step
+proposed x = At x.0 x.1.0 (event.Propose (definition_of x.1.0 x.1.1))
 
-abbrev pub step_of : Parts → Step
-step_of (inl x) = At x.0 x.1.0 (Propose (definition_of x.1.0 x.1.1))
-step_of (inr (inl x)) = At x.0 x.1.0 Show
-step_of (inr (inr x)) = absurd x
+abbrev pub accept_or_reject : Word Bool
+accept_or_reject = flag (codes "accept") (codes "reject")
 
-abbrev pub parts_of : Step → Parts
-parts_of (At node id (Propose d)) = inl (node, (id, terms_of d))
-parts_of (At node id Show) = inr (inl (node, (id, tt)))
+abbrev pub answer : Words (Bool × Unit {0})
+answer = accept_or_reject & end
 
--- the definition that is proposed has the step's id
-abbrev pub has_own_id : Step → Bool
-has_own_id (At node id (Propose d)) = bytes_eq d.id id
-has_own_id (At node id Show) = true
+abbrev pub voted : Home (Bool × Unit {0}) → Step
+voted x = At x.0 x.1.0 (event.Vote x.1.1.0)
 
+-- BATCH
+abbrev pub batch : Words (ℕ × Unit {0})
+batch = number (2 ^ 64) & end
+
+abbrev pub about : (ℕ → Event) → Home (ℕ × Unit {0}) → Step
+about to x = At x.0 x.1.0 (to x.1.1.0)
+
+-- FROM FROMSERVICE TOSERVICE
+abbrev pub way : Words (List ℕ × (List ℕ × (List ℕ × Unit {0})))
+way = text is_node_id & text is_service_id & text is_service_id & end
+
+abbrev pub routed : Home (List ℕ × (List ℕ × (List ℕ × Unit {0}))) → Step
+routed x = At x.0 x.1.0 (event.Route x.1.1.0 x.1.1.1.0 x.1.1.1.1.0)
+
+-- FROM TO ID K
+abbrev pub Delivery : Type 0
+Delivery = List ℕ × (List ℕ × (List ℕ × (ℕ × Unit {0})))
+
+abbrev pub is_between_two : Delivery → Bool
+is_between_two x = not (bytes_eq x.0 x.1.0)
+
+abbrev pub delivery : Words Delivery
+delivery = that is_between_two (text is_node_id & text is_node_id & text is_circuit_id & that (nat_le 1) (number (2 ^ 32)) & end)
+
+abbrev pub delivered : Delivery → Step
+delivered x = Deliver x.0 x.1.0 x.1.1.0 x.1.1.1.0
+
+abbrev pub step_kinds : List (Kind Step)
+step_kinds =
+    kind (codes "propose") (home terms) proposed
+    ∷ kind (codes "vote") (home answer) voted
+    ∷ kind (codes "remove") (home end) (plain event.Remove)
+    ∷ kind (codes "abandon") (home end) (plain event.Abandon)
+    ∷ kind (codes "purge") (home end) (plain event.Purge)
+    ∷ kind (codes "show") (home end) (plain event.Show)
+    ∷ kind (codes "detail") (home end) (plain event.Detail)
+    ∷ kind (codes "root") (home end) (plain event.Root)
+    ∷ kind (codes "history") (home end) (plain event.History)
+    ∷ kind (codes "status") (home batch) (about event.Status)
+    ∷ kind (codes "receipt") (home batch) (about event.Receipt)
+    ∷ kind (codes "route") (home way) routed
+    ∷ kind (codes "tick") (home end) (plain event.Tick)
+    ∷ kind (codes "expire") (home end) (plain event.Expire)
+    ∷ kind (codes "deliver") delivery delivered
+    ∷ []
+
+abbrev pub read_step : List (List ℕ) → Option Step
+read_step [] = None
+read_step (name ∷ xs) = read_kind step_kinds None name xs
+
+-- a step, spelled as it stands alone
 abbrev pub step : Words Step
-step = meaning has_own_id step_of parts_of (any_of parts)
+step = record { spell = step_words; read = read_step; fits = is_step }
 
-abbrev pub step_in : Line → Step
-step_in (line.Step s) = s
+abbrev pub fill_kinds : List (Kind Fill)
+fill_kinds = kind (codes "old") end (λ x. Old) ∷ kind (codes "new") end (λ x. New) ∷ kind (codes "byte") (hex & end) (λ x. Byte x.0) ∷ []
 
-abbrev pub line_word : Word Line
-line_word = meaning any line.Step step_in (joined 32 step)
+abbrev pub read_fill : List (List ℕ) → Option Fill
+read_fill [] = None
+read_fill (name ∷ xs) = read_kind fill_kinds None name xs
+
+abbrev pub fill_parts : Words Fill
+fill_parts = record { spell = fill_words; read = read_fill; fits = is_fill }
+
+abbrev pub fill : Word Fill
+fill = joined 58 fill_parts
+
+-- ID PASSES
+abbrev pub calm : Words (List ℕ × (ℕ × Unit {0}))
+calm = text is_circuit_id & that is_passes (number (2 ^ 8)) & end
+
+-- NODE
+abbrev pub node : Words (List ℕ × Unit {0})
+node = text is_node_id & end
+
+-- CALLS FILL and a step
+abbrev pub cut : Words (ℕ × (Fill × Step))
+cut = number (2 ^ 8) & fill & step
+
+-- CALL and a step
+abbrev pub failing : Words (ℕ × Step)
+failing = that (nat_le 1) (number (2 ^ 8)) & step
+
+abbrev pub line_kinds : List (Kind Line)
+line_kinds =
+    kind (codes "calm") calm (λ x. line.Calm x.0 x.1.0)
+    ∷ kind (codes "stop") node (λ x. line.Stop x.0)
+    ∷ kind (codes "start") node (λ x. line.Start x.0)
+    ∷ kind (codes "roll") node (λ x. line.Roll x.0)
+    ∷ kind (codes "cut") cut (λ x. line.Cut x.0 x.1.0 x.1.1)
+    ∷ kind (codes "fail") failing (λ x. line.Fail x.0 x.1)
+    ∷ []
+
+-- any other name begins a step
+abbrev pub read_words : List (List ℕ) → Option Line
+read_words [] = None
+read_words (name ∷ xs) = read_kind line_kinds (option_map line.Step (read_step (name ∷ xs))) name xs
+
+abbrev pub line_words : Words Line
+line_words = record { spell = words_of; read = read_words; fits = is_line }
 
 -- the line that the bytes spell
 abbrev pub line_of : List ℕ → Option Line
-line_of bytes = line_word.read bytes
+line_of bytes = (joined 32 line_words).read bytes

@@ -1,7 +1,6 @@
 -- Words, and words in a row: how a value is spelled, which values have a spelling, and what is read (docs/RULES.md, Schedules).
-use Rattle.std.specs.Prelude.{ℕ, ◌+◌, ◌-◌, ◌*◌, Bool, true, not, ◌&&◌, ◌||◌, ◌==◌, nat_le, nat_lt, ◌⊎◌, List, [], ◌∷◌, length, map, slice_index, Option, Some, None, Result, Ok, Err, ◌≡◌, if◌then◌else◌, decimal}
-use Rattle.std.proofs.Common.{inl, inr}
-use Rattle.std.specs.List.{list_all, slice_split, join_with_byte}
+use Rattle.std.specs.Prelude.{ℕ, ◌+◌, ◌-◌, ◌*◌, ◌/◌, ◌%◌, Bool, true, false, not, ◌&&◌, ◌||◌, ◌==◌, nat_le, nat_lt, List, [], ◌∷◌, length, map, slice_index, Option, Some, None, Result, Ok, Err, ◌≡◌, if◌then◌else◌, decimal}
+use Rattle.std.specs.List.{list_all, flat_map, slice_split, join_with_byte}
 use Rattle.std.specs.Option.{option_map, option_and_then}
 use Rattle.std.specs.Str.{bytes_eq}
 use Rattle.spl_base.specs.Ids.{is_digit, within}
@@ -50,6 +49,30 @@ value xs = value_behind 0 xs
 abbrev pub number : ℕ → Word ℕ
 number limit = record { spell = decimal; read = λ xs. if is_decimal xs && nat_lt (value xs) limit then Some (value xs) else None; fits = λ n. nat_lt n limit }
 
+-- one of two words
+abbrev pub read_flag : List ℕ → List ℕ → List ℕ → Option Bool
+read_flag on off xs = if bytes_eq xs on then Some true else if bytes_eq xs off then Some false else None
+
+abbrev pub flag : List ℕ → List ℕ → Word Bool
+flag on off = record { spell = λ b. if b then on else off; read = read_flag on off; fits = λ b. true }
+
+-- a byte in two digits of 0 to 9 and a to f
+abbrev pub hex_digit : ℕ → ℕ
+hex_digit n = if nat_lt n 10 then 48 + n else 87 + n
+
+abbrev pub hex_byte : ℕ → List ℕ
+hex_byte b = hex_digit (b / 16) ∷ hex_digit (b % 16) ∷ []
+
+abbrev pub hex_value : ℕ → Option ℕ
+hex_value c = if is_digit c then Some (c - 48) else if nat_le 97 c && nat_le c 102 then Some (c - 87) else None
+
+abbrev pub read_hex : List ℕ → Option ℕ
+read_hex (a ∷ b ∷ []) = hex_value a >>= λ high. hex_value b >>= λ low. Some (high * 16 + low)
+read_hex _ = None
+
+abbrev pub hex : Word ℕ
+hex = record { spell = hex_byte; read = read_hex; fits = λ b. nat_lt b 256 }
+
 -- words with the byte c between them are one word
 abbrev pub joined : {A : Type 0} → ℕ → Words A → Word A
 joined c ws = record { spell = λ x. join_with_byte c (ws.spell x); read = λ bs. ws.read (split c bs); fits = ws.fits }
@@ -93,46 +116,26 @@ up_to most w = record {
 abbrev pub meaning : {S A B : Type 0} → (B → Bool) → (A → B) → (B → A) → Spelling S A → Spelling S B
 meaning ok to from s = record { spell = λ x. s.spell (from x); read = λ xs. option_map to (s.read xs); fits = λ x. ok x && s.fits (from x) }
 
--- kinds of words in a row, told apart by the first word
-pub record Kinds (A : Type 0) : Type 0 where
-  pub names : List (List ℕ)
-  pub name : A → List ℕ
-  pub spell : A → List (List ℕ)
-  pub read : List ℕ → List (List ℕ) → Option A
-  pub fits : A → Bool
+-- the values that pass the test alone
+abbrev pub that : {S A : Type 0} → (A → Bool) → Spelling S A → Spelling S A
+that ok s = record { spell = s.spell; read = λ x. s.read x >>= λ a. if ok a then Some a else None; fits = λ a. ok a && s.fits a }
 
-abbrev pub no_kind : Kinds ⊥
-no_kind = record { names = []; name = λ x. absurd x; spell = λ x. absurd x; read = λ n xs. None; fits = λ x. absurd x }
+-- words in a row behind a name, and what they mean
+pub record Kind (A : Type 0) : Type 0 where
+  pub name : List ℕ
+  pub read : List (List ℕ) → Option A
 
-abbrev pub name_of : {A B : Type 0} → List ℕ → Kinds B → A ⊎ B → List ℕ
-name_of n ks (inl a) = n
-name_of n ks (inr b) = ks.name b
+abbrev pub kind : {A B : Type 0} → List ℕ → Words A → (A → B) → Kind B
+kind name ws to = record { name = name; read = λ xs. option_map to (ws.read xs) }
 
-abbrev pub spell_of : {A B : Type 0} → Words A → Kinds B → A ⊎ B → List (List ℕ)
-spell_of ws ks (inl a) = ws.spell a
-spell_of ws ks (inr b) = ks.spell b
+-- what the words behind a name mean, by the first kind of that name
+abbrev pub read_kind : {A : Type 0} → List (Kind A) → Option A → List ℕ → List (List ℕ) → Option A
+read_kind [] other name xs = other
+read_kind (k ∷ ks) other name xs = if bytes_eq name k.name then k.read xs else read_kind ks other name xs
 
-abbrev pub fits_of : {A B : Type 0} → Words A → Kinds B → A ⊎ B → Bool
-fits_of ws ks (inl a) = ws.fits a
-fits_of ws ks (inr b) = ks.fits b
-
--- the words of this name, or one of the other kinds
-abbrev pub kind : {A B : Type 0} → List ℕ → Words A → Kinds B → Kinds (A ⊎ B)
-kind n ws ks = record {
-  names = n ∷ ks.names;
-  name = name_of n ks;
-  spell = spell_of ws ks;
-  read = λ m xs. if bytes_eq m n then option_map inl (ws.read xs) else option_map inr (ks.read m xs);
-  fits = fits_of ws ks;
-}
-
-abbrev pub read_kind : {A : Type 0} → Kinds A → List (List ℕ) → Option A
-read_kind ks [] = None
-read_kind ks (x ∷ xs) = ks.read x xs
-
--- one of the kinds
-abbrev pub any_of : {A : Type 0} → Kinds A → Words A
-any_of ks = record { spell = λ x. ks.name x ∷ ks.spell x; read = read_kind ks; fits = ks.fits }
+-- each word behind a space
+abbrev pub behind_spaces : List (List ℕ) → List ℕ
+behind_spaces ws = flat_map (λ w. 32 ∷ w) ws
 
 -- ---- what a call read
 

@@ -2,11 +2,16 @@
 #![tactic(auto)]
 
 mod fault;
+mod fill;
+mod hex;
+mod known;
 mod laws;
 mod line;
 mod list;
 mod number;
 mod read;
+mod service;
+mod step;
 #[cfg(test)]
 mod tests;
 mod word;

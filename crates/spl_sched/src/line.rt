@@ -1,91 +1,146 @@
 //! What a line of a schedule says.
 ghost use Rattle.std.specs.Prelude.{◌≡◌};
-ghost use Rattle.std.specs.List.{list_all};
-ghost use Rattle.spl_circuit.specs.Nodes.{has_node};
-ghost use Rattle.spl_circuit.specs.Rules.{nodes_of as service_nodes};
+ghost use Rattle.spl_sched.specs.Taken.{is_event_taken};
 
+use crate::known::{event_known, is_known};
 use spl_base::{CircuitId, NodeId};
-use spl_circuit::Service;
+use spl_edge::Fill;
 use spl_wire::Event;
 
 /// A step of a schedule.
 #[derive(Debug, Drop)]
 pub enum Step {
-    /// The event comes at the node's cell of this circuit.
+    /// The event comes at the node's cell of this circuit. It is no delivery, and a definition that
+    /// is proposed has the circuit's id.
     At {
         node: NodeId,
         circuit: CircuitId,
         event: Event,
     },
+    /// The message of this number, from 1, of those that the one node sent to the other in the
+    /// circuit comes there.
+    Deliver {
+        from: NodeId,
+        to: NodeId,
+        circuit: CircuitId,
+        number: u32,
+    },
+}
+
+fn is_event_taken(event: &Event) -> bool
+    ensures { result ≡ is_event_taken event.now }
+{
+    matches!(
+        event,
+        Event::Propose(_)
+            | Event::Vote { .. }
+            | Event::Remove
+            | Event::Show
+            | Event::Tick
+            | Event::Expire
+    )
 }
 
 /// A line of a schedule (docs/RULES.md, Schedules).
 #[derive(Debug, Drop)]
 pub enum Line {
     Step(Step),
+    /// The circuit goes on by itself for so many passes.
+    Calm { circuit: CircuitId, passes: u8 },
+    /// The node goes down.
+    Stop(NodeId),
+    /// The node comes up.
+    Start(NodeId),
+    /// The node is asked for its bound cells.
+    Roll(NodeId),
+    /// The node of the step goes down in it, behind so many calls on its disks, which keep this of
+    /// what wasn't synced.
+    Cut { calls: u8, fill: Fill, step: Step },
+    /// In the step the call of this number, from 1, on the disks of its node fails.
+    Fail { call: u8, step: Step },
 }
 
-fn is_known(known: &[NodeId], node: &NodeId) -> bool
-    ensures { result ≡ has_node known.now node.now }
-{
-    for k in known {
-        if k.bytes() == node.bytes() {
-            return true;
+impl Step {
+    ghost use Rattle.std.specs.List.{list_all};
+    ghost use Rattle.spl_circuit.specs.Nodes.{has_node};
+    ghost use Rattle.spl_sched.specs.Grammar.{step_nodes, step_circuit, step_node};
+
+    /// The circuit that the step names.
+    pub fn circuit(&self) -> CircuitId
+        ensures { result ≡ step_circuit self.now }
+    {
+        match self {
+            Step::At { circuit, .. } => *circuit,
+            Step::Deliver { circuit, .. } => *circuit,
         }
     }
-    false
-}
 
-fn are_known(known: &[NodeId], nodes: &[NodeId]) -> bool
-    ensures { result ≡ list_all (has_node known.now) nodes.now }
-{
-    nodes.iter().all(|node| is_known(known, node))
-}
-
-fn services_known(known: &[NodeId], services: &[Service]) -> bool
-    ensures { result ≡ list_all (has_node known.now) (service_nodes services.now) }
-{
-    for service in services {
-        if !is_known(known, &service.node) {
-            return false;
+    /// The node that the step takes place at.
+    pub fn node(&self) -> NodeId
+        ensures { result ≡ step_node self.now }
+    {
+        match self {
+            Step::At { node, .. } => *node,
+            Step::Deliver { to, .. } => *to,
         }
     }
-    true
+
+    fn names_only(&self, known: &[NodeId]) -> bool
+        ensures { result ≡ list_all (has_node known.now) (step_nodes self.now) }
+    {
+        match self {
+            Step::At { node, event, .. } => is_known(known, node) && event_known(known, event),
+            Step::Deliver { from, to, .. } => is_known(known, from) && is_known(known, to),
+        }
+    }
 }
 
 impl Line {
-    ghost use Rattle.spl_sched.specs.Grammar.{nodes_of, circuit_of, node_of};
+    ghost use Rattle.std.specs.List.{list_all};
+    ghost use Rattle.spl_circuit.specs.Nodes.{has_node};
+    ghost use Rattle.spl_sched.specs.Grammar.{nodes_of, circuit_of};
+    ghost use Rattle.spl_sched.specs.Taken.{is_taken};
 
-    /// Each node that the line names is one of these: where it takes place, members, and the nodes of services.
+    /// Each node that the line names is one of these: where it takes place, members, the nodes of
+    /// services, and where a message comes from.
     pub fn names_only(&self, known: &[NodeId]) -> bool
         ensures { result ≡ list_all (has_node known.now) (nodes_of self.now) }
     {
-        let Line::Step(Step::At { node, event, .. }) = self;
-        if !is_known(known, node) {
-            return false;
-        }
-        match event {
-            Event::Propose(definition) => {
-                are_known(known, definition.members.as_slice())
-                    && services_known(known, definition.services.as_slice())
-            }
-            Event::Show => true,
+        match self {
+            Line::Step(step) => step.names_only(known),
+            Line::Calm { .. } => true,
+            Line::Stop(node) => is_known(known, node),
+            Line::Start(node) => is_known(known, node),
+            Line::Roll(node) => is_known(known, node),
+            Line::Cut { step, .. } => step.names_only(known),
+            Line::Fail { step, .. } => step.names_only(known),
         }
     }
 
-    /// The circuit that the line names.
-    pub fn circuit(&self) -> CircuitId
+    /// The circuit that the line names. None of a line about a node alone: stop, start and roll.
+    pub fn circuit(&self) -> Option<CircuitId>
         ensures { result ≡ circuit_of self.now }
     {
-        let Line::Step(Step::At { circuit, .. }) = self;
-        *circuit
+        match self {
+            Line::Step(step) => Some(step.circuit()),
+            Line::Calm { circuit, .. } => Some(*circuit),
+            Line::Stop(_) => None,
+            Line::Start(_) => None,
+            Line::Roll(_) => None,
+            Line::Cut { step, .. } => Some(step.circuit()),
+            Line::Fail { step, .. } => Some(step.circuit()),
+        }
     }
 
-    /// The node that the line takes place at.
-    pub fn node(&self) -> NodeId
-        ensures { result ≡ node_of self.now }
+    /// A run takes the line today.
+    pub fn is_taken(&self) -> bool
+        ensures { result ≡ is_taken self.now }
     {
-        let Line::Step(Step::At { node, .. }) = self;
-        *node
+        match self {
+            Line::Step(Step::At { event, .. }) => is_event_taken(event),
+            Line::Step(Step::Deliver { .. }) => true,
+            Line::Calm { .. } => true,
+            _ => false,
+        }
     }
 }

@@ -6,7 +6,7 @@ ghost use Rattle.spl_sched.specs.Words.{is_decimal, value, Reads, number};
 
 use crate::fault::LineFault;
 use crate::word::Spelled;
-use spl_base::Writer;
+use spl_base::{BatchId, Writer};
 use std::alloc::{AllocError, Global};
 
 fn all_digits(bytes: &[u8]) -> bool
@@ -103,5 +103,23 @@ impl Spelled for u8 {
 
     fn put(&self, w: &mut Writer) -> Result<(), AllocError> {
         put_number(u64::from(*self), w)
+    }
+}
+
+impl Spelled for BatchId {
+    ghost use Rattle.std.specs.Prelude.{◌^◌};
+    ghost use Rattle.spl_sched.specs.Words.{number};
+
+    ghost word = { number (2 ^ 64) };
+
+    fn read(_alloc: Global, bytes: &[u8]) -> Result<BatchId, LineFault> {
+        match number(bytes) {
+            Some(n) => Ok(BatchId(n)),
+            None => Err(LineFault::BadLine),
+        }
+    }
+
+    fn put(&self, w: &mut Writer) -> Result<(), AllocError> {
+        put_number(self.0, w)
     }
 }

@@ -1,128 +1,116 @@
 //! Reading a line.
-ghost use Rattle.std.specs.Prelude.{◌≡◌, ◌∷◌, IfOk, IsTrue, Some, None, codes};
+ghost use Rattle.std.specs.Prelude.{◌≡◌, ◌∷◌, IfOk, IsTrue, Some, None, nat_le, ◌^◌};
 ghost use Rattle.std.specs.Result.{IsErrOf};
 ghost use Rattle.std.specs.Option.{option_map};
-ghost use Rattle.std.proofs.Common.{inl, inr};
-ghost use Rattle.spl_sched.specs.Words.{Reads, Takes, text, read_first};
-ghost use Rattle.spl_sched.specs.Grammar.{is_type, is_line, spelling, proposal, target, step, step_of, line_of};
+ghost use Rattle.spl_sched.specs.declared.line.Line.TheVariants as line;
+ghost use Rattle.spl_sched.specs.Words.{Reads, Takes, read_first, read_kind, that, number};
+ghost use Rattle.spl_sched.specs.Grammar.{is_line, is_passes, spelling, calm, cut, failing, node, step, read_words, line_of};
 
 use crate::fault::LineFault;
 use crate::line::{Line, Step};
-use crate::word::{Spelled, take};
+use crate::step::read_step;
+use crate::word::take;
 use crate::words::WordReader;
-use spl_agree::Generation;
-use spl_base::{Label, NodeId, Writer};
-use spl_circuit::{Definition, Service};
-use spl_wire::Event;
-use std::alloc::{AllocError, Global};
+use spl_base::NodeId;
+use std::alloc::Global;
 
-/// A type has the grammar of a node's id.
-#[tactic(auto, using(crate::proofs::GrammarLaws::type_is_label))]
-fn read_type(bytes: &[u8]) -> Result<Label, LineFault>
-    ensures { Reads result ((text is_type).read bytes.now) }
+/// Takes a number from 1 to 64.
+fn take_passes(alloc: Global, words: &mut WordReader) -> Result<u8, LineFault>
+    ensures { Takes result words.new (read_first (that is_passes (number (2 ^ 8))) words.old) }
 {
-    if NodeId::read(bytes).is_none() {
+    let passes = take(alloc, words)?;
+    if passes < 1 || passes > 64 {
         return Err(LineFault::BadLine);
     }
-    Label::read(bytes).ok_or(LineFault::BadLine)
+    Ok(passes)
 }
 
-fn take_type(words: &mut WordReader) -> Result<Label, LineFault>
-    ensures { Takes result words.new (read_first (text is_type) words.old) }
+/// Takes a number from 1.
+fn take_call(alloc: Global, words: &mut WordReader) -> Result<u8, LineFault>
+    ensures { Takes result words.new (read_first (that (nat_le 1) (number (2 ^ 8))) words.old) }
+{
+    let call = take(alloc, words)?;
+    if call < 1 {
+        return Err(LineFault::BadLine);
+    }
+    Ok(call)
+}
+
+/// A node and nothing behind it.
+fn read_node(alloc: Global, words: &mut WordReader) -> Result<NodeId, LineFault>
+    ensures { Reads result (option_map (λ x. x.0) (node.read words.old)) }
+{
+    let node = take(alloc, words)?;
+    words.end()?;
+    Ok(node)
+}
+
+fn read_calm(alloc: Global, words: &mut WordReader) -> Result<Line, LineFault>
+    ensures { Reads result (option_map (λ x. line.Calm x.0 x.1.0) (calm.read words.old)) }
+{
+    let circuit = take(alloc, words)?;
+    let passes = take_passes(alloc, words)?;
+    words.end()?;
+    Ok(Line::Calm { circuit, passes })
+}
+
+/// The step that all these words spell.
+fn read_inner(alloc: Global, words: &mut WordReader) -> Result<Step, LineFault>
+    ensures { Reads result (step.read words.old) }
 {
     match words.next() {
-        Some(bytes) => read_type(bytes),
+        Some(name) => read_step(alloc, name, words),
         None => Err(LineFault::BadLine),
     }
 }
 
-impl Spelled for Service {
-    ghost use Rattle.spl_sched.specs.Grammar.{service};
-
-    ghost word = { service };
-
-    fn read(alloc: Global, bytes: &[u8]) -> Result<Service, LineFault> {
-        let mut words = WordReader::new(bytes, b':');
-        let id = take(alloc, &mut words)?;
-        let kind = take_type(&mut words)?;
-        let node = take(alloc, &mut words)?;
-        words.end()?;
-        Ok(Service { id, kind, node })
-    }
-
-    fn put(&self, w: &mut Writer) -> Result<(), AllocError> {
-        self.id.put(w)?;
-        w.put_u8(b':')?;
-        w.put_raw(self.kind.bytes())?;
-        w.put_u8(b':')?;
-        self.node.put(w)
-    }
+fn read_cut(alloc: Global, words: &mut WordReader) -> Result<Line, LineFault>
+    ensures { Reads result (option_map (λ x. line.Cut x.0 x.1.0 x.1.1) (cut.read words.old)) }
+{
+    let calls = take(alloc, words)?;
+    let fill = take(alloc, words)?;
+    let step = read_inner(alloc, words)?;
+    Ok(Line::Cut { calls, fill, step })
 }
 
-fn read_proposal(alloc: Global, words: &mut WordReader) -> Result<Step, LineFault>
-    ensures { Reads result (option_map step_of (option_map inl (proposal.read words.old))) }
+fn read_failing(alloc: Global, words: &mut WordReader) -> Result<Line, LineFault>
+    ensures { Reads result (option_map (λ x. line.Fail x.0 x.1) (failing.read words.old)) }
 {
-    let node = take(alloc, words)?;
-    let circuit = take(alloc, words)?;
-    let generation = take(alloc, words)?;
-    let version = take(alloc, words)?;
-    let management = take(alloc, words)?;
-    let name = take(alloc, words)?;
-    let members = take(alloc, words)?;
-    let services = take(alloc, words)?;
-    words.end()?;
-    let definition = Definition {
-        id: circuit,
-        generation: Generation(generation),
-        version,
-        management,
-        name,
-        members,
-        services,
-    };
-    Ok(Step::At {
-        node,
-        circuit,
-        event: Event::Propose(definition),
-    })
+    let call = take_call(alloc, words)?;
+    let step = read_inner(alloc, words)?;
+    Ok(Line::Fail { call, step })
 }
 
-fn read_show(alloc: Global, words: &mut WordReader) -> Result<Step, LineFault>
-    ensures { Reads result (option_map step_of (option_map inr (option_map inl (target.read words.old)))) }
+fn read_named(alloc: Global, name: &[u8], words: &mut WordReader) -> Result<Line, LineFault>
+    ensures { Reads result (read_words (name.now ∷ words.old)) }
 {
-    let node = take(alloc, words)?;
-    let circuit = take(alloc, words)?;
-    words.end()?;
-    Ok(Step::At {
-        node,
-        circuit,
-        event: Event::Show,
-    })
-}
-
-fn read_step(alloc: Global, name: &[u8], words: &mut WordReader) -> Result<Step, LineFault>
-    ensures { Reads result (step.read (name.now ∷ words.old)) }
-{
-    if name == b"propose".as_slice() {
-        read_proposal(alloc, words)
-    } else if name == b"show".as_slice() {
-        read_show(alloc, words)
+    if name == b"calm".as_slice() {
+        read_calm(alloc, words)
+    } else if name == b"stop".as_slice() {
+        Ok(Line::Stop(read_node(alloc, words)?))
+    } else if name == b"start".as_slice() {
+        Ok(Line::Start(read_node(alloc, words)?))
+    } else if name == b"roll".as_slice() {
+        Ok(Line::Roll(read_node(alloc, words)?))
+    } else if name == b"cut".as_slice() {
+        read_cut(alloc, words)
+    } else if name == b"fail".as_slice() {
+        read_failing(alloc, words)
     } else {
-        Err(LineFault::BadLine)
+        Ok(Line::Step(read_step(alloc, name, words)?))
     }
 }
 
-/// The line that the bytes spell (docs/RULES.md, Schedules), or `BadLine` where they spell none. An empty line and one
-/// that begins with `#` are no lines. Fails besides only where memory runs out.
+/// The line that the bytes spell (docs/RULES.md, Schedules), or `BadLine` where they spell none. An
+/// empty line and one that begins with `#` are no lines. Fails besides only where memory runs out.
 pub fn read_line(alloc: Global, line: &[u8]) -> Result<Line, LineFault>
     ensures ok { IfOk result (λ l. line_of line.now ≡ Some l) }
     ensures bad { IsErrOf result LineFault.BadLine → line_of line.now ≡ None }
     ensures spelled { IfOk result (λ l. (line.now ≡ spelling l) × IsTrue (is_line l)) }
 {
     let mut words = WordReader::new(line, b' ');
-    let Some(name) = words.next() else {
-        return Err(LineFault::BadLine);
-    };
-    let step = read_step(alloc, name, &mut words)?;
-    Ok(Line::Step(step))
+    match words.next() {
+        Some(name) => read_named(alloc, name, &mut words),
+        None => Err(LineFault::BadLine),
+    }
 }

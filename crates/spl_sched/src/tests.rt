@@ -1,15 +1,13 @@
 use super::*;
-use spl_base::{Label, NodeId};
+use spl_base::{CircuitId, Label, NodeId};
 use spl_circuit::Definition;
+use spl_edge::Fill;
 use spl_wire::Event;
 use std::alloc::Global;
 use std::test::Fail;
 
-/// Lines that are read and written back.
-const GOOD: [&[u8]; 8] = [
-    b"show alpha Ab3dE-00001",
-    b"show n-1 00000-zzzzz",
-    b"show aaaaaaaaaaaaaaaaaaaaaaaaaaaaaaaa Ab3dE-00001",
+/// Proposals that are read and written back.
+const GOOD_PROPOSALS: [&[u8]; 5] = [
     b"propose alpha Ab3dE-00001 1 1 grid trade alpha,beta aaaa:scabbard:alpha,bbbb:scabbard:beta",
     b"propose alpha Ab3dE-00001 4294967295 255 ! ~ a 0000:-:z",
     b"propose alpha Ab3dE-00001 0 0 # , alpha Zz09:ssssssssssssssssssssssssssssssss:n",
@@ -17,30 +15,48 @@ const GOOD: [&[u8]; 8] = [
     b"propose alpha Ab3dE-00001 1 1 g n a,b,c,d,e,f,g,h,i,j,k,l,m,n,o,p aaaa:s:a,aaab:s:b,aaac:s:c,aaad:s:d,aaae:s:e,aaaf:s:f,aaag:s:g,aaah:s:h,aaai:s:i,aaaj:s:j,aaak:s:k,aaal:s:l,aaam:s:m,aaan:s:n,aaao:s:o,aaap:s:p",
 ];
 
-/// Bytes that spell no line.
-const BAD: [&[u8]; 56] = [
-    b"",
-    b" ",
-    b"#",
-    b"# show alpha Ab3dE-00001",
-    b"show",
-    b"show alpha",
-    b"show  alpha Ab3dE-00001",
-    b" show alpha Ab3dE-00001",
-    b"show alpha Ab3dE-00001 ",
-    b"show alpha Ab3dE-00001 x",
-    b"show alpha Ab3dE-00001\r",
-    b"show alpha\tAb3dE-00001",
-    b"Show alpha Ab3dE-00001",
-    b"shows alpha Ab3dE-00001",
-    b"show Alpha Ab3dE-00001",
-    b"show al_pha Ab3dE-00001",
-    b"show aaaaaaaaaaaaaaaaaaaaaaaaaaaaaaaaa Ab3dE-00001",
-    b"show alpha Ab3dE-0000",
-    b"show alpha Ab3dE-000011",
-    b"show alpha Ab3dE_00001",
-    b"show alpha Ab3d--00001",
+/// Other steps that are read and written back.
+const GOOD_STEPS: [&[u8]; 20] = [
+    b"show alpha Ab3dE-00001",
+    b"show n-1 00000-zzzzz",
+    b"show aaaaaaaaaaaaaaaaaaaaaaaaaaaaaaaa Ab3dE-00001",
     b"vote alpha Ab3dE-00001 accept",
+    b"vote alpha Ab3dE-00001 reject",
+    b"remove alpha Ab3dE-00001",
+    b"abandon alpha Ab3dE-00001",
+    b"purge alpha Ab3dE-00001",
+    b"detail alpha Ab3dE-00001",
+    b"root alpha Ab3dE-00001",
+    b"history alpha Ab3dE-00001",
+    b"tick alpha Ab3dE-00001",
+    b"expire alpha Ab3dE-00001",
+    b"status alpha Ab3dE-00001 0",
+    b"status alpha Ab3dE-00001 18446744073709551615",
+    b"receipt alpha Ab3dE-00001 7",
+    b"receipt alpha Ab3dE-00001 18446744073709551615",
+    b"route alpha Ab3dE-00001 beta bbbb aaaa",
+    b"deliver alpha beta Ab3dE-00001 1",
+    b"deliver beta alpha Ab3dE-00001 4294967295",
+];
+
+/// Other lines that are read and written back.
+const GOOD_LINES: [&[u8]; 12] = [
+    b"calm Ab3dE-00001 1",
+    b"calm Ab3dE-00001 64",
+    b"stop alpha",
+    b"start alpha",
+    b"roll alpha",
+    b"cut 0 old show alpha Ab3dE-00001",
+    b"cut 255 new propose alpha Ab3dE-00001 1 1 grid trade alpha,beta aaaa:scabbard:alpha,bbbb:scabbard:beta",
+    b"cut 3 byte:00 deliver alpha beta Ab3dE-00001 10",
+    b"cut 3 byte:9f tick alpha Ab3dE-00001",
+    b"cut 3 byte:a0 route alpha Ab3dE-00001 beta bbbb aaaa",
+    b"fail 1 vote alpha Ab3dE-00001 accept",
+    b"fail 255 deliver beta alpha Ab3dE-00001 2",
+];
+
+/// Bytes that spell no proposal, and nothing else.
+const BAD_PROPOSALS: [&[u8]; 34] = [
     b"propose alpha Ab3dE-00001",
     b"propose alpha Ab3dE-00001 1 1 grid trade alpha,beta",
     b"propose alpha Ab3dE-00001 1 1 grid trade alpha,beta aaaa:scabbard:alpha x",
@@ -77,29 +93,158 @@ const BAD: [&[u8]; 56] = [
     b"propose alpha Ab3dE-00001 1 1 g n alpha aaaa:s:a,aaab:s:b,aaac:s:c,aaad:s:d,aaae:s:e,aaaf:s:f,aaag:s:g,aaah:s:h,aaai:s:i,aaaj:s:j,aaak:s:k,aaal:s:l,aaam:s:m,aaan:s:n,aaao:s:o,aaap:s:p,qqqq:s:q",
 ];
 
+/// Bytes that spell no line, with words that begin one among them.
+const BAD_WORDS: [&[u8]; 21] = [
+    b"",
+    b" ",
+    b"#",
+    b"# show alpha Ab3dE-00001",
+    b"show",
+    b"show alpha",
+    b"show  alpha Ab3dE-00001",
+    b" show alpha Ab3dE-00001",
+    b"show alpha Ab3dE-00001 ",
+    b"show alpha Ab3dE-00001 x",
+    b"show alpha Ab3dE-00001\r",
+    b"show alpha\tAb3dE-00001",
+    b"Show alpha Ab3dE-00001",
+    b"shows alpha Ab3dE-00001",
+    b"show Alpha Ab3dE-00001",
+    b"show al_pha Ab3dE-00001",
+    b"show aaaaaaaaaaaaaaaaaaaaaaaaaaaaaaaaa Ab3dE-00001",
+    b"show alpha Ab3dE-0000",
+    b"show alpha Ab3dE-000011",
+    b"show alpha Ab3dE_00001",
+    b"show alpha Ab3d--00001",
+];
+
+/// Bytes that spell no step, and nothing else.
+const BAD_STEPS: [&[u8]; 35] = [
+    b"vote alpha Ab3dE-00001",
+    b"vote alpha Ab3dE-00001 acept",
+    b"vote alpha Ab3dE-00001 Accept",
+    b"vote alpha Ab3dE-00001 rejected",
+    b"vote alpha Ab3dE-00001  accept",
+    b"vote alpha Ab3dE-00001 accept reject",
+    b"remove alpha",
+    b"remove alpha Ab3dE-00001 x",
+    b"abandon Ab3dE-00001",
+    b"purge alpha Ab3dE-00001 ",
+    b"detail Alpha Ab3dE-00001",
+    b"root alpha Ab3dE-00001 1",
+    b"history  alpha Ab3dE-00001",
+    b"tick alpha Ab3dE-00001x",
+    b"expire alpha Ab3d-00001",
+    b"status alpha Ab3dE-00001",
+    b"status alpha Ab3dE-00001 01",
+    b"status alpha Ab3dE-00001 18446744073709551616",
+    b"status alpha Ab3dE-00001 1 2",
+    b"receipt alpha Ab3dE-00001 x",
+    b"receipt alpha Ab3dE-00001 ",
+    b"route alpha Ab3dE-00001 beta bbbb",
+    b"route alpha Ab3dE-00001 Beta bbbb aaaa",
+    b"route alpha Ab3dE-00001 beta bbb aaaa",
+    b"route alpha Ab3dE-00001 beta bbbb aa-a",
+    b"route alpha Ab3dE-00001 beta bbbb aaaa x",
+    b"deliver alpha alpha Ab3dE-00001 1",
+    b"deliver alpha beta Ab3dE-00001 0",
+    b"deliver alpha beta Ab3dE-00001 01",
+    b"deliver alpha beta Ab3dE-00001 4294967296",
+    b"deliver alpha beta Ab3dE-00001",
+    b"deliver alpha Ab3dE-00001 1",
+    b"deliver alpha beta Ab3dE-00001 1 1",
+    b"submit alpha Ab3dE-00001 1 tx",
+    b"list alpha Ab3dE-00001 -",
+];
+
+/// Bytes that spell no other line.
+const BAD_LINES: [&[u8]; 44] = [
+    b"calm Ab3dE-00001",
+    b"calm Ab3dE-00001 0",
+    b"calm Ab3dE-00001 65",
+    b"calm Ab3dE-00001 08",
+    b"calm Ab3dE-00001 256",
+    b"calm alpha Ab3dE-00001 8",
+    b"calm Ab3dE-00001 8 8",
+    b"stop",
+    b"stop alpha Ab3dE-00001",
+    b"start Alpha",
+    b"start  alpha",
+    b"roll ",
+    b"roll alpha beta",
+    b"cut 256 old show alpha Ab3dE-00001",
+    b"cut 00 old show alpha Ab3dE-00001",
+    b"cut -1 old show alpha Ab3dE-00001",
+    b"cut 0 Old show alpha Ab3dE-00001",
+    b"cut 0 byte show alpha Ab3dE-00001",
+    b"cut 0 byte:7 show alpha Ab3dE-00001",
+    b"cut 0 byte:GG show alpha Ab3dE-00001",
+    b"cut 0 byte:0g show alpha Ab3dE-00001",
+    b"cut 0 byte:FF show alpha Ab3dE-00001",
+    b"cut 0 byte:/0 show alpha Ab3dE-00001",
+    b"cut 0 byte:000 show alpha Ab3dE-00001",
+    b"cut 0 byte:00: show alpha Ab3dE-00001",
+    b"cut 0 old: show alpha Ab3dE-00001",
+    b"cut 0 old",
+    b"cut 0 show alpha Ab3dE-00001",
+    b"cut 0 old  show alpha Ab3dE-00001",
+    b"cut 0 old show alpha Ab3dE-00001 x",
+    b"cut 0 old calm Ab3dE-00001 8",
+    b"cut 0 old stop alpha",
+    b"cut 0 old cut 0 old show alpha Ab3dE-00001",
+    b"cut 0 old fail 1 show alpha Ab3dE-00001",
+    b"cut 0 old deliver alpha alpha Ab3dE-00001 1",
+    b"fail 0 show alpha Ab3dE-00001",
+    b"fail 256 show alpha Ab3dE-00001",
+    b"fail 01 show alpha Ab3dE-00001",
+    b"fail show alpha Ab3dE-00001",
+    b"fail 1",
+    b"fail 1 calm Ab3dE-00001 8",
+    b"fail 1 roll alpha",
+    b"fail 1 fail 1 show alpha Ab3dE-00001",
+    b"fail 1 cut 0 old show alpha Ab3dE-00001",
+];
+
 #[test]
 fn good_lines(rt: HostRuntime) -> Result<(), Fail> {
-    for text in GOOD {
-        let line = read_line(rt.alloc(), text)?;
-        let written = write_line(rt.alloc(), &line)?;
-        assert_eq!(rt; written.bytes(), text);
+    for texts in [
+        GOOD_PROPOSALS.as_slice(),
+        GOOD_STEPS.as_slice(),
+        GOOD_LINES.as_slice(),
+    ] {
+        for text in texts {
+            let line = read_line(rt.alloc(), text)?;
+            let written = write_line(rt.alloc(), &line)?;
+            assert_eq!(rt; written.bytes(), *text);
+        }
     }
     Ok(())
 }
 
 #[test]
 fn bad_lines(rt: HostRuntime) {
-    for text in BAD {
-        let fault = read_line(rt.alloc(), text).err();
-        assert_eq!(rt; fault, Some(LineFault::BadLine), "at {text:?}");
+    for texts in [
+        BAD_PROPOSALS.as_slice(),
+        BAD_WORDS.as_slice(),
+        BAD_STEPS.as_slice(),
+        BAD_LINES.as_slice(),
+    ] {
+        for text in texts {
+            let fault = read_line(rt.alloc(), text).err();
+            assert_eq!(rt; fault, Some(LineFault::BadLine), "at {text:?}");
+        }
     }
 }
 
 fn proposed(line: &Line) -> Option<&Definition> {
-    let Line::Step(Step::At { event, .. }) = line;
-    match event {
-        Event::Propose(definition) => Some(definition),
-        Event::Show => None,
+    match line {
+        Line::Step(
+            Step::At {
+                event: Event::Propose(definition),
+                ..
+            },
+        ) => Some(definition.get()),
+        _ => None,
     }
 }
 
@@ -111,15 +256,133 @@ fn nodes(alloc: Global, texts: &[&str]) -> Result<Vec<NodeId>, Fail> {
     Ok(all)
 }
 
+/// A line, the circuit that it names, whether a run takes it, and which of alpha, beta and gamma it names.
+const SAID: [(&[u8], &[u8], bool, [bool; 3]); 16] = [
+    (
+        b"show alpha Ab3dE-00001",
+        b"Ab3dE-00001",
+        true,
+        [true, false, false],
+    ),
+    (
+        b"tick beta Ab3dE-00001",
+        b"Ab3dE-00001",
+        true,
+        [false, true, false],
+    ),
+    (
+        b"expire beta 00000-zzzzz",
+        b"00000-zzzzz",
+        true,
+        [false, true, false],
+    ),
+    (
+        b"vote alpha Ab3dE-00001 accept",
+        b"Ab3dE-00001",
+        true,
+        [true, false, false],
+    ),
+    (
+        b"remove alpha Ab3dE-00001",
+        b"Ab3dE-00001",
+        true,
+        [true, false, false],
+    ),
+    (
+        b"abandon alpha Ab3dE-00001",
+        b"Ab3dE-00001",
+        false,
+        [true, false, false],
+    ),
+    (
+        b"detail alpha Ab3dE-00001",
+        b"Ab3dE-00001",
+        false,
+        [true, false, false],
+    ),
+    (
+        b"status alpha Ab3dE-00001 1",
+        b"Ab3dE-00001",
+        false,
+        [true, false, false],
+    ),
+    (
+        b"route alpha Ab3dE-00001 gamma cccc aaaa",
+        b"Ab3dE-00001",
+        false,
+        [true, false, true],
+    ),
+    (
+        b"deliver gamma beta Ab3dE-00001 1",
+        b"Ab3dE-00001",
+        true,
+        [false, true, true],
+    ),
+    (
+        b"calm Ab3dE-00001 8",
+        b"Ab3dE-00001",
+        true,
+        [false, false, false],
+    ),
+    (b"stop alpha", b"", false, [true, false, false]),
+    (b"start beta", b"", false, [false, true, false]),
+    (b"roll gamma", b"", false, [false, false, true]),
+    (
+        b"cut 1 old deliver gamma beta Ab3dE-00001 1",
+        b"Ab3dE-00001",
+        false,
+        [false, true, true],
+    ),
+    (
+        b"fail 1 show gamma Ab3dE-00001",
+        b"Ab3dE-00001",
+        false,
+        [false, false, true],
+    ),
+];
+
 #[test]
-fn what_a_line_says(rt: HostRuntime) -> Result<(), Fail> {
+fn what_lines_say(rt: HostRuntime) -> Result<(), Fail> {
+    for (text, circuit, taken, named) in SAID {
+        let line = read_line(rt.alloc(), text)?;
+        let found = line.circuit();
+        let bytes = found.as_ref().map_or(b"".as_slice(), |id| id.bytes());
+        assert_eq!(rt; bytes, circuit, "at {text:?}");
+        assert_eq!(rt; line.is_taken(), taken, "at {text:?}");
+        let without = [["beta", "gamma"], ["alpha", "gamma"], ["alpha", "beta"]];
+        for (known, is_named) in without.iter().zip(named) {
+            let known = nodes(rt.alloc(), known)?;
+            assert_eq!(rt; line.names_only(known.as_slice()), !is_named, "at {text:?}");
+        }
+    }
+    Ok(())
+}
+
+#[test]
+fn what_a_step_says(rt: HostRuntime) -> Result<(), Fail> {
+    let line = read_line(
+        rt.alloc(),
+        b"cut 7 byte:9f deliver gamma beta Ab3dE-00001 12",
+    )?;
+    let Line::Cut { calls, fill, step } = line else {
+        return Err("not a cut".into());
+    };
+    assert_eq!(rt; calls, 7);
+    assert_eq!(rt; fill, Fill::Byte(159));
+    assert_eq!(rt; step.node().bytes(), b"beta".as_slice());
+    assert_eq!(rt; step.circuit().bytes(), b"Ab3dE-00001".as_slice());
+    assert!(rt; matches!(step, Step::Deliver { number: 12, .. }));
+    Ok(())
+}
+
+#[test]
+fn what_a_proposal_says(rt: HostRuntime) -> Result<(), Fail> {
     let text =
         b"propose alpha Ab3dE-00001 7 1 grid trade beta,gamma aaaa:scabbard:beta,bbbb:other:delta";
     let line = read_line(rt.alloc(), text)?;
     let definition = proposed(&line).ok_or("not a proposal")?;
     let id: &[u8] = b"Ab3dE-00001";
-    assert_eq!(rt; line.node().bytes(), b"alpha".as_slice());
-    assert_eq!(rt; line.circuit().bytes(), id);
+    assert_eq!(rt; line.circuit(), CircuitId::read(id));
     assert_eq!(rt; definition.id.bytes(), id);
     assert_eq!(rt; definition.generation.0, 7);
     assert_eq!(rt; definition.version, 1);

@@ -1,7 +1,8 @@
 //! Writing a line.
 ghost use Rattle.std.specs.Prelude.{◌≡◌, ◌++◌, ◌∷◌, OnOk, IfOk, IsTrue, Some};
 ghost use Rattle.std.specs.List.{join_with_byte};
-ghost use Rattle.spl_sched.specs.Grammar.{words_of_terms, words_of, spelling, line_of, is_line};
+ghost use Rattle.spl_sched.specs.Words.{behind_spaces};
+ghost use Rattle.spl_sched.specs.Grammar.{accept_or_reject, words_of_terms, event_name, event_words, step_words, spelling, line_of, is_line};
 
 use crate::line::{Line, Step};
 use crate::word::put_next;
@@ -17,8 +18,8 @@ fn put_members(members: &Members, w: &mut Writer) -> Result<(), AllocError>
     put_next(members, w)
 }
 
-fn put_proposal(definition: &Definition, w: &mut Writer) -> Result<(), AllocError>
-    ensures { OnOk result (w.new ≡ w.old ++ 32 ∷ join_with_byte 32 (words_of_terms definition.now)) }
+fn put_terms(definition: &Definition, w: &mut Writer) -> Result<(), AllocError>
+    ensures { OnOk result (w.new ≡ w.old ++ behind_spaces (words_of_terms definition.now)) }
 {
     put_next(&definition.generation.0, w)?;
     put_next(&definition.version, w)?;
@@ -28,37 +29,136 @@ fn put_proposal(definition: &Definition, w: &mut Writer) -> Result<(), AllocErro
     put_next(&definition.services, w)
 }
 
-fn put_step(step: &Step, w: &mut Writer) -> Result<(), AllocError>
-    ensures { OnOk result (w.new ≡ w.old ++ join_with_byte 32 (words_of step.now)) }
+fn put_answer(accept: bool, w: &mut Writer) -> Result<(), AllocError>
+    ensures { OnOk result (w.new ≡ w.old ++ accept_or_reject.spell accept) }
 {
-    let Step::At {
-        node,
-        circuit,
-        event,
-    } = step;
+    if accept {
+        w.put_raw(b"accept")
+    } else {
+        w.put_raw(b"reject")
+    }
+}
+
+fn event_name(event: &Event) -> &'static [u8]
+    ensures { result.now ≡ event_name event.now }
+{
     match event {
-        Event::Propose(definition) => {
-            w.put_raw(b"propose")?;
+        Event::Propose(_) => b"propose",
+        Event::Vote { .. } => b"vote",
+        Event::Remove => b"remove",
+        Event::Abandon => b"abandon",
+        Event::Purge => b"purge",
+        Event::Show => b"show",
+        Event::Detail => b"detail",
+        Event::Root => b"root",
+        Event::History => b"history",
+        Event::Status(_) => b"status",
+        Event::Receipt(_) => b"receipt",
+        Event::Route { .. } => b"route",
+        Event::Tick => b"tick",
+        Event::Expire => b"expire",
+        Event::Deliver { .. } => b"deliver",
+    }
+}
+
+fn put_event(event: &Event, w: &mut Writer) -> Result<(), AllocError>
+    ensures { OnOk result (w.new ≡ w.old ++ behind_spaces (event_words event.now)) }
+{
+    match event {
+        Event::Propose(definition) => put_terms(definition.get(), w),
+        Event::Vote { accept } => {
+            w.put_u8(b' ')?;
+            put_answer(*accept, w)
+        }
+        Event::Status(batch) => put_next(batch, w),
+        Event::Receipt(batch) => put_next(batch, w),
+        Event::Route {
+            from,
+            from_service,
+            to_service,
+        } => {
+            put_next(from, w)?;
+            put_next(from_service, w)?;
+            put_next(to_service, w)
+        }
+        _ => Ok(()),
+    }
+}
+
+fn put_step(step: &Step, w: &mut Writer) -> Result<(), AllocError>
+    ensures { OnOk result (w.new ≡ w.old ++ join_with_byte 32 (step_words step.now)) }
+{
+    match step {
+        Step::At {
+            node,
+            circuit,
+            event,
+        } => {
+            w.put_raw(event_name(event))?;
             put_next(node, w)?;
             put_next(circuit, w)?;
-            put_proposal(definition, w)
+            put_event(event, w)
         }
-        Event::Show => {
-            w.put_raw(b"show")?;
-            put_next(node, w)?;
-            put_next(circuit, w)
+        Step::Deliver {
+            from,
+            to,
+            circuit,
+            number,
+        } => {
+            w.put_raw(b"deliver")?;
+            put_next(from, w)?;
+            put_next(to, w)?;
+            put_next(circuit, w)?;
+            put_next(number, w)
         }
     }
 }
 
-/// The spelling of the line (docs/RULES.md, Schedules). It is read back where the line is within its bounds. Fails only
-/// where memory runs out.
+fn put_line(line: &Line, w: &mut Writer) -> Result<(), AllocError>
+    ensures { OnOk result (w.new ≡ w.old ++ spelling line.now) }
+{
+    match line {
+        Line::Step(step) => put_step(step, w),
+        Line::Calm { circuit, passes } => {
+            w.put_raw(b"calm")?;
+            put_next(circuit, w)?;
+            put_next(passes, w)
+        }
+        Line::Stop(node) => {
+            w.put_raw(b"stop")?;
+            put_next(node, w)
+        }
+        Line::Start(node) => {
+            w.put_raw(b"start")?;
+            put_next(node, w)
+        }
+        Line::Roll(node) => {
+            w.put_raw(b"roll")?;
+            put_next(node, w)
+        }
+        Line::Cut { calls, fill, step } => {
+            w.put_raw(b"cut")?;
+            put_next(calls, w)?;
+            put_next(fill, w)?;
+            w.put_u8(b' ')?;
+            put_step(step, w)
+        }
+        Line::Fail { call, step } => {
+            w.put_raw(b"fail")?;
+            put_next(call, w)?;
+            w.put_u8(b' ')?;
+            put_step(step, w)
+        }
+    }
+}
+
+/// The spelling of the line (docs/RULES.md, Schedules). It is read back where the line is within its
+/// bounds. Fails only where memory runs out.
 pub fn write_line(alloc: Global, line: &Line) -> Result<Piece, AllocError>
     ensures spelled { IfOk result (λ p. p ≡ spelling line.now) }
     ensures read_back { IfOk result (λ p. IsTrue (is_line line.now) → line_of p ≡ Some line.now) }
 {
-    let Line::Step(step) = line;
     let mut w = Writer::new(alloc);
-    put_step(step, &mut w)?;
+    put_line(line, &mut w)?;
     Ok(w.into_piece())
 }

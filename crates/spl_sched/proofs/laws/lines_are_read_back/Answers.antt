@@ -1,4 +1,4 @@
-use Rattle.spl_sched.proofs.GrammarLaws.{read_back}
+use Rattle.spl_sched.proofs.LineLaws.{read_back}
 use Rattle.spl_sched.proofs.laws.lines_are_read_back.Goals as goal
 
 pub returns : goal.returns

@@ -1,4 +1,4 @@
-use Rattle.spl_sched.proofs.GrammarLaws.{comment}
+use Rattle.spl_sched.proofs.LineLaws.{comment}
 use Rattle.spl_sched.proofs.laws.silent_lines_are_no_lines.Goals as goal
 
 pub returns-clause-comment : goal.returns-clause-comment

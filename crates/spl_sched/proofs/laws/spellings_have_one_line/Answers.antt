@@ -1,4 +1,4 @@
-use Rattle.spl_sched.proofs.GrammarLaws.{same_spelling}
+use Rattle.spl_sched.proofs.LineLaws.{same_spelling}
 use Rattle.spl_sched.proofs.laws.spellings_have_one_line.Goals as goal
 
 pub returns : goal.returns

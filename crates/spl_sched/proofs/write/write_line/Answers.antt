@@ -1,5 +1,5 @@
 use Rattle.std.proofs.Common.{rules}
-use Rattle.spl_sched.proofs.GrammarLaws.{read_back_at}
+use Rattle.spl_sched.proofs.LineLaws.{read_back_at}
 use Rattle.spl_sched.proofs.write.write_line.Goals as goal
 
 pub returns-clause-read_back : goal.returns-clause-read_back

@@ -1,0 +1,211 @@
+//! Reading a step.
+ghost use Rattle.std.specs.Prelude.{◌≡◌, None, nat_le, ◌^◌};
+ghost use Rattle.std.specs.Option.{option_map};
+ghost use Rattle.spl_wire.specs.declared.event.Event.TheVariants as event;
+ghost use Rattle.spl_sched.specs.Words.{Reads, Takes, read_first, read_kind, that, number, end};
+ghost use Rattle.spl_sched.specs.Grammar.{accept_or_reject, home, terms, proposed, answer, voted, plain, batch, about, way, routed, delivery, delivered, step_kinds};
+
+use crate::fault::LineFault;
+use crate::line::Step;
+use crate::word::take;
+use crate::words::WordReader;
+use spl_agree::Generation;
+use spl_base::{Boxed, NodeId};
+use spl_circuit::Definition;
+use spl_wire::Event;
+use std::alloc::Global;
+
+fn read_proposal(alloc: Global, words: &mut WordReader) -> Result<Step, LineFault>
+    ensures { Reads result (option_map proposed ((home terms).read words.old)) }
+{
+    let node = take(alloc, words)?;
+    let circuit = take(alloc, words)?;
+    let generation = take(alloc, words)?;
+    let version = take(alloc, words)?;
+    let management = take(alloc, words)?;
+    let name = take(alloc, words)?;
+    let members = take(alloc, words)?;
+    let services = take(alloc, words)?;
+    words.end()?;
+    let definition = Definition {
+        id: circuit,
+        generation: Generation(generation),
+        version,
+        management,
+        name,
+        members,
+        services,
+    };
+    Ok(Step::At {
+        node,
+        circuit,
+        event: Event::Propose(Boxed::new(alloc, definition)?),
+    })
+}
+
+/// Takes `accept` or `reject`.
+fn take_answer(words: &mut WordReader) -> Result<bool, LineFault>
+    ensures { Takes result words.new (read_first accept_or_reject words.old) }
+{
+    match words.next() {
+        Some(word) => {
+            if word == b"accept".as_slice() {
+                Ok(true)
+            } else if word == b"reject".as_slice() {
+                Ok(false)
+            } else {
+                Err(LineFault::BadLine)
+            }
+        }
+        None => Err(LineFault::BadLine),
+    }
+}
+
+fn read_vote(alloc: Global, words: &mut WordReader) -> Result<Step, LineFault>
+    ensures { Reads result (option_map voted ((home answer).read words.old)) }
+{
+    let node = take(alloc, words)?;
+    let circuit = take(alloc, words)?;
+    let accept = take_answer(words)?;
+    words.end()?;
+    Ok(Step::At {
+        node,
+        circuit,
+        event: Event::Vote { accept },
+    })
+}
+
+/// The event behind node and circuit alone.
+fn read_plain(alloc: Global, words: &mut WordReader, event: Event) -> Result<Step, LineFault>
+    ensures { Reads result (option_map (plain event) ((home end).read words.old)) }
+{
+    let node = take(alloc, words)?;
+    let circuit = take(alloc, words)?;
+    words.end()?;
+    Ok(Step::At {
+        node,
+        circuit,
+        event,
+    })
+}
+
+fn read_status(alloc: Global, words: &mut WordReader) -> Result<Step, LineFault>
+    ensures { Reads result (option_map (about event.Status) ((home batch).read words.old)) }
+{
+    let node = take(alloc, words)?;
+    let circuit = take(alloc, words)?;
+    let batch = take(alloc, words)?;
+    words.end()?;
+    Ok(Step::At {
+        node,
+        circuit,
+        event: Event::Status(batch),
+    })
+}
+
+fn read_receipt(alloc: Global, words: &mut WordReader) -> Result<Step, LineFault>
+    ensures { Reads result (option_map (about event.Receipt) ((home batch).read words.old)) }
+{
+    let node = take(alloc, words)?;
+    let circuit = take(alloc, words)?;
+    let batch = take(alloc, words)?;
+    words.end()?;
+    Ok(Step::At {
+        node,
+        circuit,
+        event: Event::Receipt(batch),
+    })
+}
+
+fn read_route(alloc: Global, words: &mut WordReader) -> Result<Step, LineFault>
+    ensures { Reads result (option_map routed ((home way).read words.old)) }
+{
+    let node = take(alloc, words)?;
+    let circuit = take(alloc, words)?;
+    let from = take(alloc, words)?;
+    let from_service = take(alloc, words)?;
+    let to_service = take(alloc, words)?;
+    words.end()?;
+    Ok(Step::At {
+        node,
+        circuit,
+        event: Event::Route {
+            from,
+            from_service,
+            to_service,
+        },
+    })
+}
+
+/// Takes a number from 1.
+fn take_number(alloc: Global, words: &mut WordReader) -> Result<u32, LineFault>
+    ensures { Takes result words.new (read_first (that (nat_le 1) (number (2 ^ 32))) words.old) }
+{
+    let number = take(alloc, words)?;
+    if number < 1 {
+        return Err(LineFault::BadLine);
+    }
+    Ok(number)
+}
+
+fn read_delivery(alloc: Global, words: &mut WordReader) -> Result<Step, LineFault>
+    ensures { Reads result (option_map delivered (delivery.read words.old)) }
+{
+    let from: NodeId = take(alloc, words)?;
+    let to: NodeId = take(alloc, words)?;
+    let circuit = take(alloc, words)?;
+    let number = take_number(alloc, words)?;
+    words.end()?;
+    if from.bytes() == to.bytes() {
+        return Err(LineFault::BadLine);
+    }
+    Ok(Step::Deliver {
+        from,
+        to,
+        circuit,
+        number,
+    })
+}
+
+/// The step that the words behind its name spell.
+pub(crate) fn read_step(
+    alloc: Global,
+    name: &[u8],
+    words: &mut WordReader,
+) -> Result<Step, LineFault>
+    ensures { Reads result (read_kind step_kinds None name.now words.old) }
+{
+    if name == b"propose".as_slice() {
+        read_proposal(alloc, words)
+    } else if name == b"vote".as_slice() {
+        read_vote(alloc, words)
+    } else if name == b"remove".as_slice() {
+        read_plain(alloc, words, Event::Remove)
+    } else if name == b"abandon".as_slice() {
+        read_plain(alloc, words, Event::Abandon)
+    } else if name == b"purge".as_slice() {
+        read_plain(alloc, words, Event::Purge)
+    } else if name == b"show".as_slice() {
+        read_plain(alloc, words, Event::Show)
+    } else if name == b"detail".as_slice() {
+        read_plain(alloc, words, Event::Detail)
+    } else if name == b"root".as_slice() {
+        read_plain(alloc, words, Event::Root)
+    } else if name == b"history".as_slice() {
+        read_plain(alloc, words, Event::History)
+    } else if name == b"status".as_slice() {
+        read_status(alloc, words)
+    } else if name == b"receipt".as_slice() {
+        read_receipt(alloc, words)
+    } else if name == b"route".as_slice() {
+        read_route(alloc, words)
+    } else if name == b"tick".as_slice() {
+        read_plain(alloc, words, Event::Tick)
+    } else if name == b"expire".as_slice() {
+        read_plain(alloc, words, Event::Expire)
+    } else if name == b"deliver".as_slice() {
+        read_delivery(alloc, words)
+    } else {
+        Err(LineFault::BadLine)
+    }
+}
