@@ -1,43 +1,60 @@
 -- The texts of answers (docs/RULES.md, Answers).
 use Rattle.std.specs.Prelude.{ℕ, List, [], ◌∷◌, ◌++◌, if◌then◌else◌, codes, decimal}
-use Rattle.std.specs.List.{flat_map}
+use Rattle.spl_agree.specs.declared.reason.Reason.{Reason}
+use Rattle.spl_agree.specs.declared.event.Note.{Note}
+use Rattle.spl_agree.specs.declared.event.Note.TheVariants as note
 use Rattle.spl_circuit.specs.declared.lifecycle.Lifecycle.{Lifecycle}
-use Rattle.spl_circuit.specs.declared.lifecycle.Lifecycle.TheVariants as lifecycle
 use Rattle.spl_circuit.specs.declared.lifecycle.Mark.{Mark}
-use Rattle.spl_circuit.specs.declared.lifecycle.Mark.TheVariants as mark
 use Rattle.spl_wire.specs.declared.answer.Refusal.{Refusal}
-use Rattle.spl_wire.specs.declared.answer.Refusal.TheVariants.{NoCircuit, BadDefinition, NotMember, StaleGeneration, CircuitHeld}
+use Rattle.spl_wire.specs.declared.answer.Refusal.TheVariants as refusal
 use Rattle.spl_wire.specs.declared.answer.Answer.{Answer}
-use Rattle.spl_wire.specs.declared.answer.Answer.TheVariants.{Submitted, Show, Refused}
-
-abbrev pub lifecycle_text : Lifecycle → List ℕ
-lifecycle_text lifecycle.None = codes "none"
-lifecycle_text lifecycle.Proposed = codes "proposed"
-lifecycle_text lifecycle.Active = codes "active"
-lifecycle_text lifecycle.Rejected = codes "rejected"
-lifecycle_text lifecycle.Removed = codes "removed"
-
-abbrev pub mark_text : Mark → List ℕ
-mark_text mark.Open = codes "open"
-mark_text mark.Abandoned = codes "abandoned"
-mark_text mark.Purged = codes "purged"
-
--- each node behind a `,`
-abbrev pub others_text : List (List ℕ) → List ℕ
-others_text ns = flat_map (λ n. 44 ∷ n) ns
+use Rattle.spl_wire.specs.declared.answer.Answer.TheVariants.{Submitted, Left, Show, Detail, Notes, Delivered, Calm, Refused}
+use Rattle.spl_answer.specs.Names.{lifecycle_text, mark_text}
+use Rattle.spl_answer.specs.Json.{others, detail}
 
 -- the nodes with `,` between them, or `-` where there are none
 abbrev pub nodes_text : List (List ℕ) → List ℕ
 nodes_text [] = codes "-"
-nodes_text (n ∷ ns) = n ++ others_text ns
+nodes_text (n ∷ ns) = n ++ others (λ m. m) ns
 
 -- the number of a refusal, and the rule or the bound generation that it names
 abbrev pub refusal_text : Refusal → List ℕ
-refusal_text NoCircuit = codes "2"
-refusal_text (BadDefinition rule) = codes "3 " ++ decimal rule
-refusal_text NotMember = codes "4"
-refusal_text (StaleGeneration bound) = codes "5 " ++ decimal bound
-refusal_text CircuitHeld = codes "6"
+refusal_text refusal.NoCircuit = codes "2"
+refusal_text (refusal.BadDefinition rule) = codes "3 " ++ decimal rule
+refusal_text refusal.NotMember = codes "4"
+refusal_text (refusal.StaleGeneration bound) = codes "5 " ++ decimal bound
+refusal_text refusal.CircuitHeld = codes "6"
+refusal_text refusal.ActPending = codes "7"
+refusal_text refusal.NoProposal = codes "8"
+refusal_text refusal.AlreadyVoted = codes "9"
+refusal_text refusal.NotRequester = codes "10"
+refusal_text refusal.NotActive = codes "11"
+refusal_text refusal.Closed = codes "12"
+refusal_text refusal.NotPurgeable = codes "16"
+refusal_text refusal.NoMessage = codes "17"
+
+-- code, and where in the value
+abbrev pub reason_text : Reason → List ℕ
+reason_text r = decimal r.code ++ (32 ∷ decimal r.at)
+
+abbrev pub note_text : Note → List ℕ
+note_text note.Idle = codes "idle"
+note_text (note.Asked round) = codes "asked " ++ decimal round
+note_text (note.Refused reason) = codes "refused " ++ reason_text reason
+note_text (note.Begun round) = codes "begun " ++ decimal round
+note_text note.Forwarded = codes "forwarded"
+note_text (note.Expired round) = codes "expired " ++ decimal round
+note_text (note.Declined round) = codes "declined " ++ decimal round
+note_text (note.Again round) = codes "again " ++ decimal round
+note_text note.Ignored = codes "ignored"
+note_text (note.Promised round) = codes "promised " ++ decimal round
+note_text (note.Counted round) = codes "counted " ++ decimal round
+note_text (note.Committed round) = codes "committed " ++ decimal round
+note_text (note.Aborted round) = codes "aborted " ++ decimal round
+note_text (note.Told round commit) = codes "told " ++ (decimal round ++ (if commit then codes " commit" else codes " abort"))
+note_text (note.Returned reason) = codes "returned " ++ reason_text reason
+note_text note.Queued = codes "queued"
+note_text note.Off = codes "-"
 
 -- the number of what is committed and of what is pending
 abbrev pub counts_text : List ℕ → ℕ → ℕ → List ℕ
@@ -48,6 +65,11 @@ standing_text generation lifecycle mark = codes "generation " ++ decimal generat
 
 abbrev pub text : Answer → List ℕ
 text (Submitted known) = if known then codes "ok known" else codes "ok queued"
+text (Left purged) = if purged then codes "ok purged" else codes "ok abandoned"
 text (Show generation lifecycle mark accepted acts acts_pending batches batches_pending) =
     codes "ok circuit " ++ standing_text generation lifecycle mark ++ codes " accepted " ++ nodes_text accepted ++ counts_text (codes " acts ") acts acts_pending ++ counts_text (codes " batches ") batches batches_pending
+text (Detail definition hash lifecycle mark accepted requester) = codes "ok detail " ++ detail definition hash lifecycle mark accepted requester
+text (Notes admin service) = codes "ok " ++ (note_text admin ++ (codes " / " ++ note_text service))
+text (Delivered n) = codes "ok " ++ note_text n
+text (Calm passes) = codes "ok calm " ++ decimal passes
 text (Refused refusal) = codes "refused " ++ refusal_text refusal

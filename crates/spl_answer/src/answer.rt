@@ -1,7 +1,11 @@
 //! The text of an answer.
 ghost use Rattle.std.specs.Prelude.{◌≡◌, ◌++◌, OnOk, IfOk, decimal};
-ghost use Rattle.spl_answer.specs.Texts.{text, refusal_text, lifecycle_text, mark_text, counts_text, standing_text};
+ghost use Rattle.spl_answer.specs.Names.{lifecycle_text, mark_text};
+ghost use Rattle.spl_answer.specs.Texts.{text, refusal_text, counts_text, standing_text};
 
+use crate::json::append_detail;
+use crate::names::{lifecycle_name, mark_name};
+use crate::note::append_note;
 use crate::part::{append, append_nodes, append_number};
 use spl_agree::Generation;
 use spl_base::Piece;
@@ -12,29 +16,19 @@ use std::alloc::{AllocError, Global};
 fn append_lifecycle(lifecycle: Lifecycle, out: &mut Vec<u8>) -> Result<(), AllocError>
     ensures { OnOk result (out.new.items ≡ out.old.items ++ lifecycle_text lifecycle) }
 {
-    match lifecycle {
-        Lifecycle::None => append(b"none", out),
-        Lifecycle::Proposed => append(b"proposed", out),
-        Lifecycle::Active => append(b"active", out),
-        Lifecycle::Rejected => append(b"rejected", out),
-        Lifecycle::Removed => append(b"removed", out),
-    }
+    append(lifecycle_name(lifecycle), out)
 }
 
 fn append_mark(mark: Mark, out: &mut Vec<u8>) -> Result<(), AllocError>
     ensures { OnOk result (out.new.items ≡ out.old.items ++ mark_text mark) }
 {
-    match mark {
-        Mark::Open => append(b"open", out),
-        Mark::Abandoned => append(b"abandoned", out),
-        Mark::Purged => append(b"purged", out),
-    }
+    append(mark_name(mark), out)
 }
 
 fn append_generation(generation: Generation, out: &mut Vec<u8>) -> Result<(), AllocError>
     ensures { OnOk result (out.new.items ≡ out.old.items ++ decimal generation) }
 {
-    append_number(generation.0, out)
+    append_number(u64::from(generation.0), out)
 }
 
 fn append_refusal(refusal: Refusal, out: &mut Vec<u8>) -> Result<(), AllocError>
@@ -44,7 +38,7 @@ fn append_refusal(refusal: Refusal, out: &mut Vec<u8>) -> Result<(), AllocError>
         Refusal::NoCircuit => append(b"2", out),
         Refusal::BadDefinition(rule) => {
             append(b"3 ", out)?;
-            append_number(u32::from(rule), out)
+            append_number(u64::from(rule), out)
         }
         Refusal::NotMember => append(b"4", out),
         Refusal::StaleGeneration { bound } => {
@@ -52,6 +46,14 @@ fn append_refusal(refusal: Refusal, out: &mut Vec<u8>) -> Result<(), AllocError>
             append_generation(bound, out)
         }
         Refusal::CircuitHeld => append(b"6", out),
+        Refusal::ActPending => append(b"7", out),
+        Refusal::NoProposal => append(b"8", out),
+        Refusal::AlreadyVoted => append(b"9", out),
+        Refusal::NotRequester => append(b"10", out),
+        Refusal::NotActive => append(b"11", out),
+        Refusal::Closed => append(b"12", out),
+        Refusal::NotPurgeable => append(b"16", out),
+        Refusal::NoMessage => append(b"17", out),
     }
 }
 
@@ -64,9 +66,9 @@ fn append_counts(
     ensures { OnOk result (out.new.items ≡ out.old.items ++ counts_text name.now committed pending) }
 {
     append(name, out)?;
-    append_number(committed, out)?;
+    append_number(u64::from(committed), out)?;
     append(b" ", out)?;
-    append_number(pending, out)
+    append_number(u64::from(pending), out)
 }
 
 fn append_standing(
@@ -86,8 +88,8 @@ fn append_standing(
     Ok(())
 }
 
-/// Appends the text of the answer (docs/RULES.md, Answers), without number and line feed. Where memory runs out, a part
-/// of it may stand there.
+/// Appends the text of the answer (docs/RULES.md, Answers), without number and line feed. Where
+/// memory runs out, a part of it may stand there.
 pub fn append_text(answer: &Answer, out: &mut Vec<u8>) -> Result<(), AllocError>
     ensures { OnOk result (out.new.items ≡ out.old.items ++ text answer.now) }
 {
@@ -112,6 +114,41 @@ pub fn append_text(answer: &Answer, out: &mut Vec<u8>) -> Result<(), AllocError>
             append_counts(b" batches ", *batches, *batches_pending, out)?;
             Ok(())
         }
+        Answer::Left { purged: true } => append(b"ok purged", out),
+        Answer::Left { purged: false } => append(b"ok abandoned", out),
+        Answer::Detail {
+            definition,
+            hash,
+            lifecycle,
+            mark,
+            accepted,
+            requester,
+        } => {
+            append(b"ok detail ", out)?;
+            append_detail(
+                definition.get(),
+                hash,
+                *lifecycle,
+                *mark,
+                accepted.as_slice(),
+                requester,
+                out,
+            )
+        }
+        Answer::Notes { admin, service } => {
+            append(b"ok ", out)?;
+            append_note(*admin, out)?;
+            append(b" / ", out)?;
+            append_note(*service, out)
+        }
+        Answer::Delivered(note) => {
+            append(b"ok ", out)?;
+            append_note(*note, out)
+        }
+        Answer::Calm { passes } => {
+            append(b"ok calm ", out)?;
+            append_number(u64::from(*passes), out)
+        }
         Answer::Refused(refusal) => {
             append(b"refused ", out)?;
             append_refusal(*refusal, out)
@@ -119,7 +156,8 @@ pub fn append_text(answer: &Answer, out: &mut Vec<u8>) -> Result<(), AllocError>
     }
 }
 
-/// The text of the answer (docs/RULES.md, Answers), without number and line feed. Fails only where memory runs out.
+/// The text of the answer (docs/RULES.md, Answers), without number and line feed. Fails only where
+/// memory runs out.
 pub fn text(alloc: Global, answer: &Answer) -> Result<Piece, AllocError>
     ensures { IfOk result (λ p. p ≡ text answer.now) }
 {

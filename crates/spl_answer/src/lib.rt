@@ -2,6 +2,9 @@
 #![tactic(auto)]
 
 mod answer;
+mod json;
+mod names;
+mod note;
 mod part;
 #[cfg(test)]
 mod tests;

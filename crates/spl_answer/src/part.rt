@@ -1,6 +1,7 @@
 //! Appending pieces of text.
 ghost use Rattle.std.specs.Prelude.{◌≡◌, ◌++◌, OnOk, decimal};
-ghost use Rattle.spl_answer.specs.Texts.{nodes_text, others_text};
+ghost use Rattle.spl_answer.specs.Json.{others};
+ghost use Rattle.spl_answer.specs.Texts.{nodes_text};
 
 use spl_base::NodeId;
 use spl_circuit::Members;
@@ -14,7 +15,7 @@ pub(crate) fn append(bytes: &[u8], out: &mut Vec<u8>) -> Result<(), AllocError>
 
 /// Appends the number in decimal digits.
 #[tactic(auto, using(std::proofs::lemmas::Fmt::decimal_digit))]
-pub(crate) fn append_number(n: u32, out: &mut Vec<u8>) -> Result<(), AllocError>
+pub(crate) fn append_number(n: u64, out: &mut Vec<u8>) -> Result<(), AllocError>
     ensures { OnOk result (out.new.items ≡ out.old.items ++ decimal n) }
 {
     if n < 10 {
@@ -25,7 +26,7 @@ pub(crate) fn append_number(n: u32, out: &mut Vec<u8>) -> Result<(), AllocError>
 }
 
 fn append_others(nodes: &[NodeId], out: &mut Vec<u8>) -> Result<(), AllocError>
-    ensures { OnOk result (out.new.items ≡ out.old.items ++ others_text nodes.now) }
+    ensures { OnOk result (out.new.items ≡ out.old.items ++ others (λ n. n) nodes.now) }
 {
     for node in nodes {
         append(b",", out)?;

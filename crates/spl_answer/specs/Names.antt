@@ -1,0 +1,18 @@
+-- Names in answers (docs/RULES.md, Answers).
+use Rattle.std.specs.Prelude.{ℕ, List, codes}
+use Rattle.spl_circuit.specs.declared.lifecycle.Lifecycle.{Lifecycle}
+use Rattle.spl_circuit.specs.declared.lifecycle.Lifecycle.TheVariants as lifecycle
+use Rattle.spl_circuit.specs.declared.lifecycle.Mark.{Mark}
+use Rattle.spl_circuit.specs.declared.lifecycle.Mark.TheVariants as mark
+
+abbrev pub lifecycle_text : Lifecycle → List ℕ
+lifecycle_text lifecycle.None = codes "none"
+lifecycle_text lifecycle.Proposed = codes "proposed"
+lifecycle_text lifecycle.Active = codes "active"
+lifecycle_text lifecycle.Rejected = codes "rejected"
+lifecycle_text lifecycle.Removed = codes "removed"
+
+abbrev pub mark_text : Mark → List ℕ
+mark_text mark.Open = codes "open"
+mark_text mark.Abandoned = codes "abandoned"
+mark_text mark.Purged = codes "purged"

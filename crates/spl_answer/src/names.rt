@@ -1,0 +1,27 @@
+//! Names in answers.
+ghost use Rattle.std.specs.Prelude.{◌≡◌};
+ghost use Rattle.spl_answer.specs.Names.{lifecycle_text, mark_text};
+
+use spl_circuit::{Lifecycle, Mark};
+
+pub(crate) fn lifecycle_name(lifecycle: Lifecycle) -> &'static [u8]
+    ensures { result.now ≡ lifecycle_text lifecycle }
+{
+    match lifecycle {
+        Lifecycle::None => b"none",
+        Lifecycle::Proposed => b"proposed",
+        Lifecycle::Active => b"active",
+        Lifecycle::Rejected => b"rejected",
+        Lifecycle::Removed => b"removed",
+    }
+}
+
+pub(crate) fn mark_name(mark: Mark) -> &'static [u8]
+    ensures { result.now ≡ mark_text mark }
+{
+    match mark {
+        Mark::Open => b"open",
+        Mark::Abandoned => b"abandoned",
+        Mark::Purged => b"purged",
+    }
+}
