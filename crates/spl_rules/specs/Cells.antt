@@ -1,12 +1,32 @@
--- What a node keeps about one circuit, and what an event does to it (docs/RULES.md, Cells).
-use Rattle.std.specs.Prelude.{ℕ, nat_lt, List, [], ◌∷◌, length, if◌then◌else◌, Option, Some, None, Bool, true, false}
-use Rattle.spl_circuit.specs.Nodes.{Node}
-use Rattle.spl_circuit.specs.Rules.{broken, is_member}
+-- What a node keeps about one circuit, and what an event does there (docs/RULES.md, Cells).
+use Rattle.std.specs.Prelude.{ℕ, ◌+◌, ◌-◌, ◌^◌, Bool, true, false, not, ◌&&◌, ◌||◌, ◌==◌, nat_lt, List, [], ◌∷◌, length, if◌then◌else◌, Option, Some, None, is_some, is_none}
+use Rattle.std.specs.List.{list_any, filter}
+use Rattle.std.specs.Str.{bytes_eq}
+use Rattle.sha2.specs.Sha256.{sha256}
+use Rattle.spl_agree.specs.declared.event.Note.{Note}
+use Rattle.spl_agree.specs.declared.event.Note.TheVariants as note
+use Rattle.spl_agree.specs.declared.message.CommitMsg.{CommitMsg}
+use Rattle.spl_agree.specs.declared.message.CommitMsg.TheVariants as msg
+use Rattle.spl_agree.specs.declared.event.GroupEvent.{GroupEvent}
+use Rattle.spl_agree.specs.declared.event.GroupEvent.TheVariants as group
+use Rattle.spl_agree.specs.Member.{Group, Member, values, known}
+use Rattle.spl_agree.specs.Fits.{generation_of}
 use Rattle.spl_circuit.specs.declared.definition.Definition.{Definition}
-use Rattle.spl_circuit.specs.declared.act.Act.{Act}
+use Rattle.spl_circuit.specs.declared.act.ActKind.{ActKind}
 use Rattle.spl_circuit.specs.declared.act.ActKind.TheVariants as kind
-use Rattle.spl_circuit.specs.declared.lifecycle.Lifecycle.TheVariants as lifecycle
+use Rattle.spl_circuit.specs.declared.act.Act.{Act}
+use Rattle.spl_circuit.specs.declared.lifecycle.Mark.{Mark}
 use Rattle.spl_circuit.specs.declared.lifecycle.Mark.TheVariants as mark
+use Rattle.spl_circuit.specs.declared.lifecycle.Lifecycle.{Lifecycle}
+use Rattle.spl_circuit.specs.declared.lifecycle.Lifecycle.TheVariants as lifecycle
+use Rattle.spl_circuit.specs.Forms.{definition}
+use Rattle.spl_circuit.specs.Nodes.{Node, has_node, position}
+use Rattle.spl_circuit.specs.Rules.{broken, admin, is_member}
+use Rattle.spl_circuit.specs.Lifecycle.{Life, life, is_proposed, is_active}
+use Rattle.spl_circuit.specs.Acts.{reason, is_node, act_rules}
+use Rattle.spl_wire.specs.declared.message.Message.{Message}
+use Rattle.spl_wire.specs.declared.message.Message.TheVariants as message
+use Rattle.spl_wire.specs.Forms.{admin_of}
 use Rattle.spl_wire.specs.declared.event.Event.{Event}
 use Rattle.spl_wire.specs.declared.event.Event.TheVariants as event
 use Rattle.spl_wire.specs.declared.answer.Refusal.{Refusal}
@@ -14,53 +34,264 @@ use Rattle.spl_wire.specs.declared.answer.Refusal.TheVariants as refusal
 use Rattle.spl_wire.specs.declared.answer.Answer.{Answer}
 use Rattle.spl_wire.specs.declared.answer.Answer.TheVariants as answer
 
--- a cell is empty, or bound to a definition, with the acts that wait to be agreed, oldest first
+-- a cell is empty; or bound to a definition, with its mark, the turn of the node, and what the node keeps in the admin
+-- group; or purged with the generation that it last had
 pub data Cell : Type 0 where
   Empty : Cell
-  Held : (definition : Definition) → (pending : List Act) → Cell
+  Held : (definition : Definition) → (mark : Mark) → (turn : ℕ) → (acts : Member Act) → Cell
+  Purged : (generation : ℕ) → Cell
 
--- what an event does: it is refused, or tells something and changes nothing, or binds the cell to a definition and queues the proposal of it
+abbrev pub is_bound : Cell → Bool
+is_bound Empty = false
+is_bound (Held d m turn a) = true
+is_bound (Purged old) = false
+
+-- the admin group of a definition
+abbrev pub admin_group : Definition → Group Act
+admin_group d = record { rules = act_rules d; generation = d.generation; members = length d.members; coordinator = position d.members (admin d) }
+
+abbrev pub is_open : Mark → Bool
+is_open mark.Open = true
+is_open mark.Abandoned = false
+is_open mark.Purged = false
+
+-- bound, and the node takes part
+abbrev pub is_open_cell : Cell → Bool
+is_open_cell Empty = false
+is_open_cell (Held d m turn a) = is_open m
+is_open_cell (Purged old) = false
+
+-- the lifecycle of the acts in its own history
+abbrev pub own_life : Definition → Member Act → Life
+own_life d a = life d (values a.history)
+
+-- the circuit is active here
+abbrev pub runs : Definition → Member Act → Bool
+runs d a = is_active (own_life d a).state
+
+-- what an event does at a cell
 pub data Deed : Type 0 where
+  -- it is refused
   Refuses : Refusal → Deed
+  -- it is answered, and changes nothing
   Tells : Answer → Deed
-  Binds : Definition → Deed
+  -- a message goes to one node, and nothing changes
+  Replies : Note → Node → Message → Deed
+  -- the cell is bound, and its admin group does this; a message came from `back`
+  Binds : (Note → Answer) → (d : Definition) → (back : Node) → GroupEvent Act → Deed
+  -- the admin group does this
+  Acts : (Note → Answer) → (d : Definition) → (acts : Member Act) → (back : Node) → GroupEvent Act → Deed
+  Abandons : Deed
+  Purges : Deed
 
--- a definition that breaks no rule, at one of its members
-abbrev pub may_bind : Cell → Definition → Deed
-may_bind Empty d = Binds d
-may_bind (Held e pending) d = Refuses (if nat_lt e.generation d.generation then refusal.CircuitHeld else refusal.StaleGeneration e.generation)
+-- how a note is answered: what is queued, what the groups did (no service group runs yet), what a message did
+abbrev pub submitted : Note → Answer
+submitted n = answer.Submitted false
 
--- a proposal, by the first rule that its definition breaks
-abbrev pub proposes : Node → Cell → Definition → Option ℕ → Deed
-proposes here k d (Some rule) = Refuses (refusal.BadDefinition rule)
-proposes here k d None = if is_member d here then may_bind k d else Refuses refusal.NotMember
+abbrev pub alone : Note → Answer
+alone n = answer.Notes n note.Off
 
--- nothing is committed while no line carries an act to another node
-abbrev pub shows : Cell → Deed
-shows Empty = Refuses refusal.NoCircuit
-shows (Held d pending) = Tells (answer.Show d.generation lifecycle.None mark.Open [] 0 (length pending) 0 0)
+-- ---- binding
 
--- what an event does at a cell of the node here
-abbrev pub does : Node → Cell → Event → Deed
-does here k (event.Propose d) = proposes here k d (broken d)
-does here k event.Show = shows k
+-- the cell may be bound to a definition of this generation
+abbrev pub is_free : Cell → ℕ → Bool
+is_free Empty generation = true
+is_free (Held d m turn a) generation = false
+is_free (Purged old) generation = nat_lt old generation
 
--- what is answered
-abbrev pub answered : Deed → Answer
-answered (Refuses r) = answer.Refused r
-answered (Tells a) = a
-answered (Binds d) = answer.Submitted false
+-- a message of this generation can bind the definition
+abbrev pub can_bind : Node → Node → Cell → ℕ → Definition → Bool
+can_bind here c k generation d = bytes_eq d.id c && (d.generation == generation && (is_none (broken d) && (is_member d here && is_free k generation)))
 
 -- the proposal of a definition: the first act of its node
 abbrev pub proposal : Node → Definition → Act
 proposal here d = record { node = here; turn = 1; kind = kind.Propose d }
 
--- the cell behind a deed
-abbrev pub cell_after : Node → Cell → Deed → Cell
-cell_after here k (Refuses r) = k
-cell_after here k (Tells a) = k
-cell_after here k (Binds d) = Held d (proposal here d ∷ [])
+-- ---- propose
 
-abbrev pub is_bound : Cell → Bool
-is_bound Empty = false
-is_bound (Held d pending) = true
+abbrev pub stale_or_held : ℕ → Definition → Refusal
+stale_or_held bound d = if nat_lt bound d.generation then refusal.CircuitHeld else refusal.StaleGeneration bound
+
+-- a definition that breaks no rule, at one of its members
+abbrev pub proposes_at : Node → Definition → Cell → Deed
+proposes_at here d Empty = Binds submitted d here (group.Submit (proposal here d))
+proposes_at here d (Held e m turn a) = Refuses (stale_or_held e.generation d)
+proposes_at here d (Purged old) = if nat_lt old d.generation then Binds submitted d here (group.Submit (proposal here d)) else Refuses (refusal.StaleGeneration old)
+
+-- a proposal, by the first rule that its definition breaks
+abbrev pub proposes : Node → Definition → Cell → Option ℕ → Deed
+proposes here d k (Some rule) = Refuses (refusal.BadDefinition rule)
+proposes here d k None = if is_member d here then proposes_at here d k else Refuses refusal.NotMember
+
+-- ---- vote, remove
+
+-- the next act of this node
+abbrev pub next_act : Node → ℕ → ActKind → Act
+next_act here turn k = record { node = here; turn = turn + 1; kind = k }
+
+-- no further act of this node may be pending here
+abbrev pub is_act_pending : Definition → Node → ℕ → Member Act → Bool
+is_act_pending d here turn a =
+    list_any (λ v. bytes_eq v.node here) a.pending || (length a.pending == 64
+    || (is_some (known (act_rules d) a (next_act here turn kind.Accept)) || turn == 2 ^ 32 - 1))
+
+abbrev pub votes : Node → Definition → ℕ → Member Act → ActKind → Deed
+votes here d turn a k =
+    if is_act_pending d here turn a then Refuses refusal.ActPending
+    else (if not (is_proposed (own_life d a).state) then Refuses refusal.NoProposal
+    else (if has_node (own_life d a).accepted here then Refuses refusal.AlreadyVoted
+    else Acts submitted d a here (group.Submit (next_act here turn k))))
+
+abbrev pub removes : Node → Definition → ℕ → Member Act → Deed
+removes here d turn a =
+    if is_act_pending d here turn a then Refuses refusal.ActPending
+    else (if not (is_proposed (own_life d a).state) then Refuses refusal.NoProposal
+    else (if not (is_node (own_life d a).requester here) then Refuses refusal.NotRequester
+    else Acts submitted d a here (group.Submit (next_act here turn kind.Remove))))
+
+-- ---- abandon, purge
+
+abbrev pub abandons : Definition → Mark → Member Act → Deed
+abandons d m a =
+    if not (runs d a) then Refuses refusal.NotActive
+    else (if is_open m then Abandons else Refuses refusal.Closed)
+
+-- what keeps an open cell from being purged
+abbrev pub is_waiting : Lifecycle → Member Act → Bool
+is_waiting lifecycle.None a = nat_lt 0 (length a.pending) || is_some a.promise
+is_waiting lifecycle.Proposed a = true
+is_waiting lifecycle.Active a = true
+is_waiting lifecycle.Rejected a = false
+is_waiting lifecycle.Removed a = false
+
+abbrev pub purges : Definition → Mark → Member Act → Deed
+purges d m a = if is_open m && is_waiting (own_life d a).state a then Refuses refusal.NotPurgeable else Purges
+
+-- ---- show, detail
+
+-- the members that have accepted, in member order
+abbrev pub accepted_in_order : Definition → Member Act → List Node
+accepted_in_order d a = filter (λ m. has_node (own_life d a).accepted m) d.members
+
+abbrev pub shows : Definition → Mark → Member Act → Answer
+shows d m a = answer.Show d.generation (own_life d a).state m (accepted_in_order d a) (length a.history) (length a.pending) 0 0
+
+abbrev pub details : Definition → Mark → Member Act → Answer
+details d m a = answer.Detail d (sha256 (definition.spell d)) (own_life d a).state m (accepted_in_order d a) (own_life d a).requester
+
+-- ---- tick, expire
+
+abbrev pub turns : Node → Definition → Mark → Member Act → GroupEvent Act → Deed
+turns here d m a x = if is_open m then Acts alone d a here x else Refuses refusal.Closed
+
+-- ---- messages
+
+abbrev pub ignores : Deed
+ignores = Tells (answer.Delivered note.Ignored)
+
+abbrev pub declines : Node → Node → ℕ → ℕ → Deed
+declines c from gen r = Replies (note.Declined r) from (message.Admin c (msg.Vote gen r false))
+
+-- the coordinator can't bind the definition
+abbrev pub returns_unbound : Node → Node → ℕ → Act → Deed
+returns_unbound c from gen v = Replies (note.Returned (reason 6)) from (message.Admin c (msg.Refused gen v (reason 6)))
+
+-- a request at a cell that is not bound to its generation, or not open
+abbrev pub asked_first : Node → Node → Cell → Node → ℕ → ℕ → ℕ → Act → ActKind → Deed
+asked_first here c k from gen r place v (kind.Propose d) =
+    if place == 0 && (can_bind here c k gen d && bytes_eq (admin d) from)
+    then Binds answer.Delivered d from (group.From (position d.members from) (msg.VoteRequest gen r place v))
+    else declines c from gen r
+asked_first here c k from gen r place v kind.Accept = declines c from gen r
+asked_first here c k from gen r place v kind.Reject = declines c from gen r
+asked_first here c k from gen r place v kind.Remove = declines c from gen r
+
+-- a forwarded act there
+abbrev pub forwarded_first : Node → Node → Cell → Node → ℕ → Act → ActKind → Deed
+forwarded_first here c k from gen v (kind.Propose d) =
+    if can_bind here c k gen d && (bytes_eq (admin d) here && (bytes_eq v.node from && (is_member d from && not (bytes_eq from here))))
+    then Binds answer.Delivered d from (group.Submit v)
+    else returns_unbound c from gen v
+forwarded_first here c k from gen v kind.Accept = ignores
+forwarded_first here c k from gen v kind.Reject = ignores
+forwarded_first here c k from gen v kind.Remove = ignores
+
+-- a message there
+abbrev pub hears_first : Node → Node → Cell → Node → CommitMsg Act → Deed
+hears_first here c k from (msg.VoteRequest gen r place v) = asked_first here c k from gen r place v v.kind
+hears_first here c k from (msg.Vote gen r aye) = ignores
+hears_first here c k from (msg.Decision gen r commit) = ignores
+hears_first here c k from (msg.DecisionRequest gen r) = ignores
+hears_first here c k from (msg.Forward gen v) = forwarded_first here c k from gen v v.kind
+hears_first here c k from (msg.Refused gen v why) = ignores
+
+-- a message from a node
+abbrev pub hears : Node → Node → Cell → Node → CommitMsg Act → Deed
+hears here c Empty from x = hears_first here c Empty from x
+hears here c (Purged old) from x = hears_first here c (Purged old) from x
+hears here c (Held d m turn a) from x =
+    if is_open m && generation_of x == d.generation
+    then Acts answer.Delivered d a from (group.From (position d.members from) x)
+    else hears_first here c (Held d m turn a) from x
+
+-- ---- events
+
+-- the events that a node handles; the others are about batches, which no line submits yet
+abbrev pub is_handled : Event → Bool
+is_handled (event.Propose d) = true
+is_handled (event.Vote accept) = true
+is_handled event.Remove = true
+is_handled event.Abandon = true
+is_handled event.Purge = true
+is_handled event.Show = true
+is_handled event.Detail = true
+is_handled event.Root = false
+is_handled event.History = false
+is_handled (event.Status i) = false
+is_handled (event.Receipt i) = false
+is_handled (event.Route from s t) = false
+is_handled event.Tick = true
+is_handled event.Expire = true
+is_handled (event.Deliver from x) = true
+
+-- at a bound cell
+abbrev pub held_does : Node → Node → Definition → Mark → ℕ → Member Act → Event → Deed
+held_does here c d m turn a (event.Propose e) = proposes here e (Held d m turn a) (broken e)
+held_does here c d m turn a (event.Vote accept) = votes here d turn a (if accept then kind.Accept else kind.Reject)
+held_does here c d m turn a event.Remove = removes here d turn a
+held_does here c d m turn a event.Abandon = abandons d m a
+held_does here c d m turn a event.Purge = purges d m a
+held_does here c d m turn a event.Show = Tells (shows d m a)
+held_does here c d m turn a event.Detail = Tells (details d m a)
+held_does here c d m turn a event.Root = Refuses refusal.NotActive
+held_does here c d m turn a event.History = Refuses refusal.NotActive
+held_does here c d m turn a (event.Status i) = Refuses refusal.NotActive
+held_does here c d m turn a (event.Receipt i) = Refuses refusal.NotActive
+held_does here c d m turn a (event.Route from s t) = Refuses refusal.NotActive
+held_does here c d m turn a event.Tick = turns here d m a group.Tick
+held_does here c d m turn a event.Expire = turns here d m a group.Expire
+held_does here c d m turn a (event.Deliver from x) = hears here c (Held d m turn a) from (admin_of x)
+
+-- at any other cell
+abbrev pub other_does : Node → Node → Cell → Event → Deed
+other_does here c k (event.Propose e) = proposes here e k (broken e)
+other_does here c k (event.Vote accept) = Refuses refusal.NoCircuit
+other_does here c k event.Remove = Refuses refusal.NoCircuit
+other_does here c k event.Abandon = Refuses refusal.NoCircuit
+other_does here c k event.Purge = Refuses refusal.NoCircuit
+other_does here c k event.Show = Refuses refusal.NoCircuit
+other_does here c k event.Detail = Refuses refusal.NoCircuit
+other_does here c k event.Root = Refuses refusal.NoCircuit
+other_does here c k event.History = Refuses refusal.NoCircuit
+other_does here c k (event.Status i) = Refuses refusal.NoCircuit
+other_does here c k (event.Receipt i) = Refuses refusal.NoCircuit
+other_does here c k (event.Route from s t) = Refuses refusal.NoCircuit
+other_does here c k event.Tick = Refuses refusal.NoCircuit
+other_does here c k event.Expire = Refuses refusal.NoCircuit
+other_does here c k (event.Deliver from x) = hears here c k from (admin_of x)
+
+-- what an event does at a cell of the circuit c at the node here
+abbrev pub does : Node → Node → Cell → Event → Deed
+does here c Empty e = other_does here c Empty e
+does here c (Purged old) e = other_does here c (Purged old) e
+does here c (Held d m turn a) e = held_does here c d m turn a e

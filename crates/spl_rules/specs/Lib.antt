@@ -1,1 +1,4 @@
 pub mod Cells
+pub mod Plans
+pub mod Changes
+pub mod Valid

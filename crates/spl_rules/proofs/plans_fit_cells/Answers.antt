@@ -1,0 +1,17 @@
+use Rattle.std.proofs.Common.{subst}
+use Rattle.spl_rules.specs.Plans.{plan_of}
+use Rattle.spl_rules.specs.Cells.{does}
+use Rattle.spl_rules.specs.Valid.{IsKept}
+use Rattle.spl_rules.proofs.Cells.{kept-applied, valid-moved}
+use Rattle.spl_rules.proofs.Events.{fits-does}
+use Rattle.spl_rules.proofs.Plans.{fitting-planned}
+use Rattle.spl_rules.proofs.plans_fit_cells.Goals as goal
+
+pub returns : goal.returns
+returns g = record {
+  changes = λ here c k e own s. (fitting-planned here c k (does here c k e) s (fits-does here c k e own s.kept)).changes;
+  moves = λ here c k e own s. (fitting-planned here c k (does here c k e) s (fits-does here c k e own s.kept)).moves;
+  valid = λ here c k e own s.
+      let fit = fitting-planned here c k (does here c k e) s (fits-does here c k e own s.kept) in
+      valid-moved here c _ (plan_of here c k e).admin (subst (IsKept here c) fit.changes (kept-applied here c k (plan_of here c k e).changes s.kept)) fit.moves;
+}

@@ -1,0 +1,104 @@
+-- Durable changes of a cell (docs/RULES.md, Cells).
+use Rattle.std.specs.Prelude.{ℕ, Bool, true, false, not, ◌&&◌, nat_le, List, [], ◌∷◌, if◌then◌else◌, is_none}
+use Rattle.std.specs.List.{list_any}
+use Rattle.std.specs.Str.{bytes_eq}
+use Rattle.spl_agree.specs.declared.event.GroupChange.{GroupChange}
+use Rattle.spl_agree.specs.declared.event.GroupChange.TheVariants as change
+use Rattle.spl_agree.specs.declared.event.OpenMove.{OpenMove}
+use Rattle.spl_agree.specs.Member.{Member, new_member, changed, moved, restarted}
+use Rattle.spl_agree.specs.Fits.{fits as fits_group}
+use Rattle.spl_circuit.specs.declared.definition.Definition.{Definition}
+use Rattle.spl_circuit.specs.declared.act.Act.{Act}
+use Rattle.spl_circuit.specs.declared.lifecycle.Mark.{Mark}
+use Rattle.spl_circuit.specs.declared.lifecycle.Mark.TheVariants as mark
+use Rattle.spl_circuit.specs.Nodes.{Node, position}
+use Rattle.spl_circuit.specs.Rules.{broken, is_member}
+use Rattle.spl_circuit.specs.Acts.{act_rules}
+use Rattle.spl_wire.specs.declared.change.Change.{Change}
+use Rattle.spl_wire.specs.declared.change.Change.TheVariants as durable
+use Rattle.spl_wire.specs.declared.plan.Plan.{Plan}
+use Rattle.spl_rules.specs.Cells.{Cell, Empty, Held, Purged, admin_group, is_open, is_free, runs}
+
+-- ---- the effect of a change
+
+-- an own act that is queued sets the node's turn
+abbrev pub turn_after : Node → ℕ → GroupChange Act → ℕ
+turn_after here turn (change.Queue v) = if bytes_eq v.node here then v.turn else turn
+turn_after here turn (change.Refuse v why) = turn
+turn_after here turn (change.Begin r) = turn
+turn_after here turn (change.Seen r) = turn
+turn_after here turn (change.Promise r v) = turn
+turn_after here turn change.Abort = turn
+turn_after here turn (change.Commit r v) = turn
+
+abbrev pub held_after : Node → Definition → Mark → ℕ → Member Act → Change → Cell
+held_after here d m turn a (durable.Bind e) = Held e mark.Open 0 new_member
+held_after here d m turn a (durable.Admin x) = Held d m (turn_after here turn x) (changed (act_rules d) a x)
+held_after here d m turn a durable.Abandon = Held d mark.Abandoned turn a
+held_after here d m turn a durable.Purge = Purged d.generation
+
+abbrev pub free_after : Cell → Change → Cell
+free_after k (durable.Bind d) = Held d mark.Open 0 new_member
+free_after k (durable.Admin x) = k
+free_after k durable.Abandon = k
+free_after k durable.Purge = k
+
+abbrev pub made_one : Node → Cell → Change → Cell
+made_one here Empty x = free_after Empty x
+made_one here (Purged old) x = free_after (Purged old) x
+made_one here (Held d m turn a) x = held_after here d m turn a x
+
+-- changes that are made
+abbrev pub made : Node → Cell → List Change → Cell
+made here k [] = k
+made here k (x ∷ xs) = made here (made_one here k x) xs
+
+-- ---- where a change fits
+
+-- an act of this node is queued alone, and with no turn behind
+abbrev pub may_queue : Node → ℕ → List Act → Act → Bool
+may_queue here turn pending v =
+    if bytes_eq v.node here then not (list_any (λ u. bytes_eq u.node here) pending) && nat_le turn v.turn else true
+
+abbrev pub fits_held : Node → Definition → Mark → ℕ → Member Act → Change → Bool
+fits_held here d m turn a (durable.Bind e) = false
+fits_held here d m turn a (durable.Admin x) = is_open m && fits_group (act_rules d) (may_queue here turn a.pending) a x
+fits_held here d m turn a durable.Abandon = is_open m && runs d a
+fits_held here d m turn a durable.Purge = true
+
+abbrev pub fits_free : Node → Node → Cell → Change → Bool
+fits_free here c k (durable.Bind e) = is_free k e.generation && (bytes_eq e.id c && (is_none (broken e) && is_member e here))
+fits_free here c k (durable.Admin x) = false
+fits_free here c k durable.Abandon = false
+fits_free here c k durable.Purge = false
+
+abbrev pub fits : Node → Node → Cell → Change → Bool
+fits here c Empty x = fits_free here c Empty x
+fits here c (Purged old) x = fits_free here c (Purged old) x
+fits here c (Held d m turn a) x = fits_held here d m turn a x
+
+-- a change that does not fit changes nothing
+abbrev pub applied_one : Node → Node → Cell → Change → Cell
+applied_one here c k x = if fits here c k x then made_one here k x else k
+
+-- changes as they are read
+abbrev pub applied : Node → Node → Cell → List Change → Cell
+applied here c k [] = k
+applied here c k (x ∷ xs) = applied here c (applied_one here c k x) xs
+
+-- ---- moves
+
+abbrev pub moved_cell : Node → Cell → OpenMove → Cell
+moved_cell here Empty x = Empty
+moved_cell here (Purged old) x = Purged old
+moved_cell here (Held d m turn a) x = Held d m turn (moved (admin_group d) (position d.members here) a x)
+
+-- a stop forgets the open round
+abbrev pub stopped_cell : Cell → Cell
+stopped_cell Empty = Empty
+stopped_cell (Purged old) = Purged old
+stopped_cell (Held d m turn a) = Held d m turn (restarted a)
+
+-- the cell behind a plan: its changes and its move are made
+abbrev pub after_plan : Node → Cell → Plan → Cell
+after_plan here k p = moved_cell here (made here k p.changes) p.admin
