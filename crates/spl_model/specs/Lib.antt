@@ -1,4 +1,4 @@
 pub mod Worlds
+pub mod Calm
 pub mod Answers
 pub mod Apart
-pub mod Plain
