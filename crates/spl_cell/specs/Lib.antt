@@ -1,1 +1,4 @@
 pub mod Views
+pub mod States
+pub mod Says
+pub mod Mays

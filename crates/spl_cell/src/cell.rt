@@ -1,130 +1,119 @@
-//! What a node keeps about one circuit, and what it does at an event.
-ghost use Rattle.std.specs.Prelude.{◌≡◌, ◌≤◌, length, IfOk, OnErr};
-ghost use Rattle.spl_rules.specs.Cells.{Empty, shows, proposes, proposal, does, answered, cell_after, is_bound};
-ghost use Rattle.spl_circuit.specs.Rules.{broken};
+//! The cell of a circuit at a node.
+ghost use Rattle.std.specs.Prelude.{◌≡◌, true, IfOk, OnOk};
+ghost use Rattle.spl_rules.specs.Cells.{Empty, is_bound, is_handled, is_open_cell};
+ghost use Rattle.spl_rules.specs.Plans.{plan_of};
+ghost use Rattle.spl_rules.specs.Changes.{made, applied, moved_cell, stopped_cell};
+ghost use Rattle.spl_rules.specs.Valid.{IsValid, IsFor, FitsMoveAt};
+ghost use Rattle.spl_cell.specs.States.{IsStill, is_empty_cell};
 
-use spl_base::{Listing, NodeId, Value};
-use spl_circuit::{Act, ActKind, Definition, Lifecycle, Mark};
-use spl_wire::{Answer, Event, Refusal};
+use crate::site::Site;
+use crate::state::State;
+use spl_base::{CircuitId, NodeId};
+use spl_rules::{cells_stay_valid, plans_fit_cells};
+use spl_wire::{ChangeList, Event, Plan};
 use std::alloc::{AllocError, Global};
 use std::marker::Model;
+use std::mem;
 
-/// What a cell is bound to, and the acts that wait to be agreed, oldest first.
-#[derive(Debug, Drop)]
-pub struct Binding {
-    definition: Definition,
-    pending: Listing<Act>,
-    ghost few: { length pending ≤ 64 },
-}
-
-/// What a node keeps about one circuit: nothing, or a binding. Contracts see the cell of the rules
-/// (docs/RULES.md, Cells).
-#[derive(Debug, Drop)]
+/// What a node keeps about one circuit (docs/RULES.md, Cells). Contracts see the node, the circuit, and the cell of the rules.
+#[derive(Drop)]
 pub struct Cell {
-    binding: Option<Binding>,
+    site: Site,
+    state: State,
 }
 
 impl Model for Cell {
-    ghost use Rattle.spl_rules.specs.Cells as rules;
-    ghost use Rattle.spl_cell.specs.Views.{cell_of};
+    ghost use Rattle.spl_rules.specs.Valid.{IsValid};
+    ghost use Rattle.spl_cell.specs.Views.{CellView};
+    ghost use Rattle.spl_cell.specs.States.{cell_of, IsAt};
 
-    ghost Value = { rules.Cell };
+    ghost Value = { CellView };
 
-    ghost view = { λ a. cell_of a.binding };
-}
+    ghost view = { λ s. record { here = s.site.here; circuit = s.site.circuit; state = cell_of s.state } };
 
-/// The proposal of a definition by a node: its first act.
-fn proposal(alloc: Global, here: NodeId, definition: &Definition) -> Result<Act, AllocError>
-    ensures { IfOk result (λ a. a ≡ proposal here definition.now) }
-{
-    Ok(Act {
-        node: here,
-        turn: 1,
-        kind: ActKind::Propose(definition.copy(alloc)?),
-    })
+    ghost invariant = { λ s. IsAt s.site.here s.site.circuit s.state × IsValid s.site.here s.site.circuit (cell_of s.state) };
 }
 
 impl Cell {
     /// An empty cell.
-    pub fn empty() -> Cell
-        ensures { result ≡ Empty }
+    pub fn empty(here: NodeId, circuit: CircuitId) -> Cell
+        ensures { result ≡ record { here = here; circuit = circuit; state = Empty } }
     {
-        Cell { binding: None }
+        let site = Site { here, circuit };
+        let state = State::Empty;
+        Cell { site, state }
     }
 
     /// Whether the cell is bound to a definition.
     pub fn bound(&self) -> bool
-        ensures { result ≡ is_bound self.now }
+        ensures { result ≡ is_bound self.now.state }
     {
-        self.binding.is_some()
+        matches!(self.state, State::Held(_))
     }
 
-    /// Does what an event asks of the cell, at the node `here`, and answers it.
-    /// After want of memory the cell is as it was.
-    pub fn handle(
-        &mut self,
-        alloc: Global,
-        here: NodeId,
-        event: &Event,
-    ) -> Result<Answer, AllocError>
-        ensures answer { IfOk result (λ a. a ≡ answered (does here self.old event.now)) }
-        ensures cell { IfOk result (λ _. self.new ≡ cell_after here self.old (does here self.old event.now)) }
-        ensures err { OnErr result (self.new ≡ self.old) }
+    /// Whether nothing is kept.
+    pub fn is_empty(&self) -> bool
+        ensures { result ≡ is_empty_cell self.now.state }
     {
-        match event {
-            Event::Propose(definition) => self.propose(alloc, here, definition),
-            Event::Show => Ok(self.show(alloc)),
-        }
+        matches!(self.state, State::Empty)
     }
 
-    fn show(&self, alloc: Global) -> Answer
-        ensures { result ≡ answered (shows self.now) }
+    /// Whether the cell is bound, and the node takes part.
+    pub fn is_open(&self) -> bool
+        ensures { result ≡ is_open_cell self.now.state }
     {
-        let Some(binding) = &self.binding else {
-            return Answer::Refused(Refusal::NoCircuit);
-        };
-        Answer::Show {
-            generation: binding.definition.generation,
-            lifecycle: Lifecycle::None,
-            mark: Mark::Open,
-            accepted: Listing::new(alloc),
-            acts: 0,
-            acts_pending: binding.pending.len() as u32,
-            batches: 0,
-            batches_pending: 0,
+        match &self.state {
+            State::Empty => false,
+            State::Held(held) => held.is_open(),
+            State::Purged(_) => false,
         }
     }
 
-    fn propose(
-        &mut self,
-        alloc: Global,
-        here: NodeId,
-        definition: &Definition,
-    ) -> Result<Answer, AllocError>
-        ensures answer { IfOk result (λ a. a ≡ answered (proposes here self.old definition.now (broken definition.now))) }
-        ensures cell { IfOk result (λ _. self.new ≡ cell_after here self.old (proposes here self.old definition.now (broken definition.now))) }
-        ensures err { OnErr result (self.new ≡ self.old) }
+    /// What an event gives: an answer, durable changes, a move of the open round, and messages. Nothing is changed. An error comes for want of memory alone.
+    pub fn plan(&self, alloc: Global, event: &Event) -> Result<Plan, AllocError>
+        requires handled { is_handled event.now ≡ true }
+        requires own { IsFor self.now.here self.now.circuit event.now }
+        ensures plan { IfOk result (λ p. p ≡ plan_of self.now.here self.now.circuit self.now.state event.now) }
+        ensures valid { IsValid self.now.here self.now.circuit self.now.state }
+
+        // Its changes fit, each behind those before it, and its move fits behind them.
+        ensures fits { IfOk result (λ p. (applied self.now.here self.now.circuit self.now.state p.changes ≡ made self.now.here self.now.state p.changes) × FitsMoveAt self.now.here (made self.now.here self.now.state p.changes) p.admin) }
     {
-        if let Some(rule) = definition.fault() {
-            return Ok(Answer::Refused(Refusal::BadDefinition(rule)));
-        }
-        if !definition.is_member(&here) {
-            return Ok(Answer::Refused(Refusal::NotMember));
-        }
-        if let Some(binding) = &self.binding {
-            let bound = binding.definition.generation;
-            return Ok(Answer::Refused(if bound < definition.generation {
-                Refusal::CircuitHeld
-            } else {
-                Refusal::StaleGeneration { bound }
-            }));
-        }
-        let mut pending = Listing::new(alloc);
-        pending.push(proposal(alloc, here, definition)?)?;
-        self.binding = Some(Binding {
-            definition: definition.copy(alloc)?,
-            pending,
-        });
-        Ok(Answer::Submitted { known: false })
+        plans_fit_cells();
+        self.site.plan(alloc, &self.state, event)
+    }
+
+    /// Makes the changes of a plan, each where it fits, and then its move. An error comes for want of memory alone, and the cell is halted then.
+    pub fn apply(&mut self, alloc: Global, plan: &Plan) -> Result<(), AllocError>
+        requires { FitsMoveAt self.old.here (applied self.old.here self.old.circuit self.old.state plan.now.changes) plan.now.admin }
+        ensures fixed { (self.new.here ≡ self.old.here) × (self.new.circuit ≡ self.old.circuit) }
+        ensures ok { OnOk result (self.new.state ≡ moved_cell self.old.here (applied self.old.here self.old.circuit self.old.state plan.now.changes) plan.now.admin) }
+    {
+        cells_stay_valid();
+        let state = mem::replace(&mut self.state, State::Empty);
+        let state = self.site.applied(alloc, state, plan.changes.as_slice())?;
+        self.state = self.site.moved(state, plan.admin);
+        Ok(())
+    }
+
+    /// Makes changes that were read, each where it fits. An error comes for want of memory alone, and the cell is halted then.
+    pub fn replay(&mut self, alloc: Global, changes: &ChangeList) -> Result<(), AllocError>
+        requires { IsStill self.old.state }
+        ensures fixed { (self.new.here ≡ self.old.here) × (self.new.circuit ≡ self.old.circuit) }
+        ensures ok { OnOk result (self.new.state ≡ applied self.old.here self.old.circuit self.old.state changes.now) }
+    {
+        cells_stay_valid();
+        let state = mem::replace(&mut self.state, State::Empty);
+        self.state = self.site.applied(alloc, state, changes.as_slice())?;
+        Ok(())
+    }
+
+    /// A stop forgets the open round, and nothing else.
+    pub fn restart(&mut self)
+        ensures { self.new ≡ record self.old { state = stopped_cell self.old.state } }
+    {
+        cells_stay_valid();
+        let state = mem::replace(&mut self.state, State::Empty);
+        self.state = self.site.stopped(state);
     }
 }

@@ -1,0 +1,102 @@
+-- Changes that fit.
+use Rattle.std.proofs.Common.{◌≡◌, ℕ, zero, suc, ◌+◌, ◌≤◌, Bool, true, false, ◌&&◌, List, [], ◌∷◌, length, refl, sym, ap, subst, ◌∙◌, arith}
+use Rattle.std.specs.Prelude.{nat_lt, is_none, if◌then◌else◌}
+use Rattle.spl_agree.proofs.Tests.{and_right}
+use Rattle.spl_agree.specs.declared.event.GroupChange.{GroupChange}
+use Rattle.spl_agree.specs.declared.event.GroupChange.TheVariants as change
+use Rattle.spl_agree.specs.Member.{Rules, Member, known, changed}
+use Rattle.spl_agree.specs.Fits.{fits, any_value}
+use Rattle.spl_circuit.specs.declared.definition.Definition.{Definition}
+use Rattle.spl_circuit.specs.declared.act.Act.{Act}
+use Rattle.spl_agree.specs.declared.reason.Admit.TheVariants as admit
+use Rattle.spl_circuit.specs.declared.act.ActKind.TheVariants as kind
+use Rattle.spl_circuit.specs.declared.lifecycle.Mark.{Mark}
+use Rattle.spl_circuit.specs.Nodes.{Node, position, node_or}
+use Rattle.spl_circuit.specs.Rules.{admin}
+use Rattle.spl_circuit.specs.Equality.{same_definition}
+use Rattle.spl_circuit.specs.Acts.{reason, admits_act, admits_kind, act_rules}
+use Rattle.spl_admin.specs.Kept.{LedgerView}
+use Rattle.spl_admin.specs.Same.{definition_is, definition_same}
+use Rattle.spl_commit.specs.Views.{MemberView, IsFixed}
+use Rattle.spl_rules.specs.Changes.{turn_after}
+use Rattle.spl_cell.specs.Views.{HeldView, seated}
+use Rattle.spl_cell.specs.Mays.{may_by}
+
+three : (a b c : Bool) → (a && (b && c)) ≡ (c && (a && (b && true)))
+three true true true = refl
+three true true false = refl
+three true false true = refl
+three true false false = refl
+three false true true = refl
+three false true false = refl
+three false false true = refl
+three false false false = refl
+
+-- what a change queues may be pending, and it fits beside that
+pub fits_may : {V : Type 0} (rules : Rules V) (may : V → Bool) (m : Member V) (x : GroupChange V) → fits rules may m x ≡ (may_by may x && fits rules any_value m x)
+fits_may rules may m (change.Queue v) = three (is_none (known rules m v)) (nat_lt (length m.pending) 64) (may v)
+fits_may rules may m (change.Refuse v why) = refl
+fits_may rules may m (change.Begin r) = refl
+fits_may rules may m (change.Seen r) = refl
+fits_may rules may m (change.Promise r v) = refl
+fits_may rules may m change.Abort = refl
+fits_may rules may m (change.Commit r v) = refl
+
+pub fits_any : {V : Type 0} (b : Bool) (rules : Rules V) (may : V → Bool) (m : Member V) (x : GroupChange V) → (b && fits rules may m x) ≡ true → fits rules any_value m x ≡ true
+fits_any b rules may m x h = and_right (may_by may x) (fits rules any_value m x) (sym (fits_may rules may m x) ∙ and_right b (fits rules may m x) h)
+
+-- ---- the seat stays
+
+-- the rules of two definitions are equal only where these are
+node_or_none : (ms : List Node) (p : ℕ) → length ms ≤ p → node_or ms [] p ≡ []
+node_or_none [] p l = refl
+node_or_none (m ∷ ms) zero l = absurd (omega (arith, l))
+node_or_none (m ∷ ms) (suc p) l = node_or_none ms p (omega (arith, l))
+
+abbrev stranger : Definition → Act
+stranger d = record { node = []; turn = 0; kind = kind.Propose d }
+
+admits_stranger : (d e : Definition) (p : ℕ) → length d.members ≤ p → admits_act d p (stranger e) ≡ admits_kind d (kind.Propose e)
+admits_stranger d e p l = rw (node_or_none d.members p l)
+
+same_from_admit : (b : Bool) → (if b then admit.Take else admit.Return (reason 5)) ≡ admit.Take → b ≡ true
+same_from_admit true h = refl
+same_from_admit false h = absurd cc
+
+pub rules_tell : (d e : Definition) → act_rules d ≡ act_rules e → d ≡ e
+rules_tell d e h =
+    let p : ℕ = length d.members + length e.members in
+    let one : admits_act e p (stranger e) ≡ admit.Take = admits_stranger e e p (omega arith) ∙ rw (definition_same e) in
+    let two : admits_act d p (stranger e) ≡ admit.Take = ap (λ (r : Rules Act). r.admits p (stranger e)) h ∙ one in
+    sym (definition_is e d (same_from_admit (same_definition e d) (sym (admits_stranger d e p (omega arith)) ∙ two)))
+
+abbrev member_by : LedgerView → Member Act → ℕ → ℕ → ℕ → ℕ → MemberView LedgerView Act
+member_by content state g n k p = record { content = content; state = state; generation = g; members = n; coordinator = k; here = p }
+
+made_member : (content : LedgerView) (state : Member Act) (g g2 n n2 k k2 p p2 : ℕ) → g ≡ g2 → n ≡ n2 → k ≡ k2 → p ≡ p2 → member_by content state g n k p ≡ member_by content state g2 n2 k2 p2
+made_member content state g g2 n n2 k k2 p p2 a b c d = cc
+
+-- a member that keeps its rules and its place keeps its seat
+pub seat_stays : (here : Node) (old new : MemberView LedgerView Act) → old ≡ seated here old → act_rules new.content.definition ≡ act_rules old.content.definition → IsFixed old new → new ≡ seated here new
+seat_stays here old new e h f =
+    let d : new.content.definition ≡ old.content.definition = rules_tell new.content.definition old.content.definition h in
+    made_member new.content new.state new.generation new.content.definition.generation new.members (length new.content.definition.members) new.coordinator (position new.content.definition.members (admin new.content.definition)) new.here (position new.content.definition.members here)
+    (f.generation ∙ (ap (λ (m : MemberView LedgerView Act). m.generation) e ∙ ap (λ (x : Definition). x.generation) (sym d)))
+    (f.members ∙ (ap (λ (m : MemberView LedgerView Act). m.members) e ∙ ap (λ (x : Definition). length x.members) (sym d)))
+    (f.coordinator ∙ (ap (λ (m : MemberView LedgerView Act). m.coordinator) e ∙ ap (λ (x : Definition). position x.members (admin x)) (sym d)))
+    (f.here ∙ (ap (λ (m : MemberView LedgerView Act). m.here) e ∙ ap (λ (x : Definition). position x.members here) (sym d)))
+
+pub definition_stays : (old new : MemberView LedgerView Act) → act_rules new.content.definition ≡ act_rules old.content.definition → new.content.definition ≡ old.content.definition
+definition_stays old new h = rules_tell new.content.definition old.content.definition h
+
+pub ruleset seat_facts = (seat_stays, definition_stays)
+
+abbrev held_by : Node → Node → Definition → Mark → ℕ → Member Act → HeldView
+held_by here c d m turn a = record { here = here; circuit = c; definition = d; mark = m; turn = turn; acts = a }
+
+same_held : (here c : Node) (d e : Definition) (m : Mark) (t u : ℕ) (a b : Member Act) → d ≡ e → t ≡ u → a ≡ b → held_by here c d m t a ≡ held_by here c e m u b
+same_held here c d e m t u a b p q r = cc
+
+-- a bound cell with one change more
+pub held_changed : (here c : Node) (d e : Definition) (m : Mark) (t u : ℕ) (a b : Member Act) (x y : GroupChange Act) (h : HeldView) → held_by here c d m t a ≡ h → e ≡ d → u ≡ turn_after h.here h.turn x → b ≡ changed (act_rules d) a y → y ≡ x → held_by here c e m u b ≡ record h { turn = turn_after h.here h.turn x; acts = changed (act_rules h.definition) h.acts x }
+held_changed here c d e m t u a b x y h v p q r s = subst (λ (k : HeldView). u ≡ turn_after k.here k.turn x → held_by here c e m u b ≡ record k { turn = turn_after k.here k.turn x; acts = changed (act_rules k.definition) k.acts x }) v (λ z. same_held here c e d m u (turn_after here t x) b (changed (act_rules d) a x) p z (r ∙ ap (changed (act_rules d) a) s)) q

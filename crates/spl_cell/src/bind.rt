@@ -1,0 +1,66 @@
+//! A cell is bound.
+ghost use Rattle.std.specs.Prelude.{◌≡◌, ◌∷◌, [], true, None, IfOk};
+ghost use Rattle.spl_agree.specs.Member.{new_member};
+ghost use Rattle.spl_agree.specs.Fits.{IsDue};
+ghost use Rattle.spl_circuit.specs.Nodes.{position};
+ghost use Rattle.spl_circuit.specs.Rules.{broken, is_member};
+ghost use Rattle.spl_rules.specs.Cells.{Binds, admin_group};
+ghost use Rattle.spl_rules.specs.Plans.{admin_row, planned};
+ghost use Rattle.spl_cell.specs.Says.{said};
+
+use crate::held::Held;
+use crate::plans::Say;
+use crate::site::Site;
+use spl_agree::{GroupEvent, GroupPlan};
+use spl_base::{Boxed, NodeId, Value};
+use spl_circuit::{Act, Definition};
+use spl_wire::{Change, ChangeList, Plan};
+use std::alloc::{AllocError, Global};
+
+/// The change that binds a cell to a definition.
+fn binding(alloc: Global, definition: &Definition) -> Result<ChangeList, AllocError>
+    ensures { IfOk result (λ cs. cs ≡ Change.Bind definition.now ∷ []) }
+{
+    let bound = Boxed::new(alloc, definition.copy(alloc)?)?;
+    let mut changes = ChangeList::new(alloc);
+    changes.push(Change::Bind(bound))?;
+    Ok(changes)
+}
+
+impl Site {
+    /// What an event gives in the admin group of a cell that is bound just now.
+    #[tactic(auto, using(crate::proofs::Seats::settled_new))]
+    fn first_row(
+        &self,
+        alloc: Global,
+        definition: &Definition,
+        event: &GroupEvent<Act>,
+    ) -> Result<GroupPlan<Act>, AllocError>
+        requires valid { broken definition.now ≡ None }
+        requires member { is_member definition.now self.now.here ≡ true }
+        requires due { IsDue (admin_group definition.now) (position definition.now.members self.now.here) new_member event.now }
+        ensures { IfOk result (λ p. p ≡ admin_row self.now.here definition.now new_member event.now) }
+    {
+        let held = Held::new(alloc, *self, definition.copy(alloc)?);
+        held.row(alloc, event)
+    }
+
+    /// The cell is bound to a definition, and its admin group goes on by an event. A message came from `back`.
+    pub(crate) fn binds(
+        &self,
+        alloc: Global,
+        say: Say,
+        definition: &Definition,
+        back: &NodeId,
+        event: &GroupEvent<Act>,
+    ) -> Result<Plan, AllocError>
+        requires valid { broken definition.now ≡ None }
+        requires member { is_member definition.now self.now.here ≡ true }
+        requires due { IsDue (admin_group definition.now) (position definition.now.members self.now.here) new_member event.now }
+        ensures { IfOk result (λ p. p ≡ planned self.now.here self.now.circuit (Binds (said say) definition.now back.now event.now)) }
+    {
+        let plan = self.first_row(alloc, definition, event)?;
+        let first = binding(alloc, definition)?;
+        self.admin_plan(alloc, say, first, definition, back, plan)
+    }
+}

@@ -1,0 +1,212 @@
+//! Durable changes of a cell.
+ghost use Rattle.std.specs.Prelude.{◌≡◌, ◌&&◌, true, if◌then◌else◌, IfOk, OnOk};
+ghost use Rattle.spl_agree.specs.Member.{changed};
+ghost use Rattle.spl_agree.specs.Fits.{fits as fits_group, any_value};
+ghost use Rattle.spl_circuit.specs.Acts.{act_rules};
+ghost use Rattle.spl_rules.specs.Cells.{is_open, runs};
+ghost use Rattle.spl_rules.specs.Changes.{turn_after, may_queue, fits_free, free_after, applied_one, applied};
+ghost use Rattle.spl_cell.specs.States.{cell_of, IsAt};
+ghost use Rattle.spl_cell.specs.Mays.{may_by};
+
+use crate::held::Held;
+use crate::site::Site;
+use crate::state::State;
+use spl_agree::{Agreed, GroupChange};
+use spl_base::{Boxed, Value};
+use spl_circuit::{Act, Definition, Mark};
+use spl_wire::Change;
+use std::alloc::{AllocError, Global};
+
+/// An equal change.
+fn copy_change(alloc: Global, change: &GroupChange<Act>) -> Result<GroupChange<Act>, AllocError>
+    ensures { IfOk result (λ x. x ≡ change.now) }
+{
+    match change {
+        GroupChange::Queue(act) => Ok(GroupChange::Queue(act.copy(alloc)?)),
+        GroupChange::Refuse(act, reason) => Ok(GroupChange::Refuse(act.copy(alloc)?, *reason)),
+        GroupChange::Begin(round) => Ok(GroupChange::Begin(*round)),
+        GroupChange::Seen(round) => Ok(GroupChange::Seen(*round)),
+        GroupChange::Promise(round, act) => Ok(GroupChange::Promise(*round, act.copy(alloc)?)),
+        GroupChange::Abort => Ok(GroupChange::Abort),
+        GroupChange::Commit(round, act) => Ok(GroupChange::Commit(*round, act.copy(alloc)?)),
+    }
+}
+
+impl Held {
+    /// The turn of the node behind a change: an own act that is queued sets it.
+    fn turn_after(&self, change: &GroupChange<Act>) -> u32
+        ensures { result ≡ turn_after self.now.here self.now.turn change.now }
+    {
+        match change {
+            GroupChange::Queue(act) => {
+                if act.node == self.site.here {
+                    act.turn
+                } else {
+                    self.turn
+                }
+            }
+            GroupChange::Refuse(_, _) => self.turn,
+            GroupChange::Begin(_) => self.turn,
+            GroupChange::Seen(_) => self.turn,
+            GroupChange::Promise(_, _) => self.turn,
+            GroupChange::Abort => self.turn,
+            GroupChange::Commit(_, _) => self.turn,
+        }
+    }
+
+    /// Whether an act may be pending: one of this node is queued alone, and with no turn behind.
+    fn may_queue(&self, act: &Act) -> bool
+        ensures { result ≡ may_queue self.now.here self.now.turn self.now.acts.pending act.now }
+    {
+        if act.node != self.site.here {
+            return true;
+        }
+        if self.has_pending_of(&self.site.here) {
+            return false;
+        }
+        self.turn <= act.turn
+    }
+
+    /// Whether what a change queues may be pending.
+    fn may(&self, change: &GroupChange<Act>) -> bool
+        ensures { result ≡ may_by (may_queue self.now.here self.now.turn self.now.acts.pending) change.now }
+    {
+        match change {
+            GroupChange::Queue(act) => self.may_queue(act),
+            GroupChange::Refuse(_, _) => true,
+            GroupChange::Begin(_) => true,
+            GroupChange::Seen(_) => true,
+            GroupChange::Promise(_, _) => true,
+            GroupChange::Abort => true,
+            GroupChange::Commit(_, _) => true,
+        }
+    }
+
+    /// Whether a change of the admin group fits. An error comes for want of memory alone.
+    #[tactic(auto, using(crate::proofs::Changes::fits_may))]
+    fn fits(&self, alloc: Global, change: &GroupChange<Act>) -> Result<bool, AllocError>
+        ensures { IfOk result (λ b. b ≡ (is_open self.now.mark && fits_group (act_rules self.now.definition) (may_queue self.now.here self.now.turn self.now.acts.pending) self.now.acts change.now)) }
+    {
+        if !self.is_open() {
+            return Ok(false);
+        }
+        if !self.may(change) {
+            return Ok(false);
+        }
+        self.acts.fits(alloc, change)
+    }
+
+    /// Makes a change of the admin group that fits. An error comes for want of memory alone, and the cell is halted then.
+    #[tactic(auto, using(crate::proofs::Changes::seat_facts))]
+    fn makes(&mut self, alloc: Global, change: &GroupChange<Act>) -> Result<(), AllocError>
+        requires { fits_group (act_rules self.old.definition) any_value self.old.acts change.now ≡ true }
+        ensures ok { OnOk result (self.new ≡ record self.old { turn = turn_after self.old.here self.old.turn change.now; acts = changed (act_rules self.old.definition) self.old.acts change.now }) }
+        ensures here { self.new.here ≡ self.old.here }
+        ensures circuit { self.new.circuit ≡ self.old.circuit }
+    {
+        let turn = self.turn_after(change);
+        let change = copy_change(alloc, change)?;
+        self.acts.apply(alloc, change)?;
+        self.turn = turn;
+        Ok(())
+    }
+}
+
+impl Site {
+    /// A bound cell with a change, if it fits.
+    #[tactic(auto, using(crate::proofs::Changes::fits_any))]
+    fn held_with(
+        &self,
+        alloc: Global,
+        held: Box<Held>,
+        change: &Change,
+    ) -> Result<State, AllocError>
+        requires at { IsAt self.now.here self.now.circuit (State.Held held) }
+        ensures cell { IfOk result (λ s. cell_of s ≡ applied_one self.now.here self.now.circuit (cell_of (State.Held held)) change.now) }
+        ensures at { IfOk result (λ s. IsAt self.now.here self.now.circuit s) }
+    {
+        let mut held = held;
+        match change {
+            Change::Bind(_) => Ok(State::Held(held)),
+            Change::Admin(change) => {
+                if held.fits(alloc, change)? {
+                    held.makes(alloc, change)?;
+                }
+                Ok(State::Held(held))
+            }
+            Change::Abandon => {
+                if held.is_open() && held.runs() {
+                    held.mark = Mark::Abandoned;
+                }
+                Ok(State::Held(held))
+            }
+            Change::Purge => Ok(State::Purged(held.definition().generation)),
+        }
+    }
+
+    /// Whether a definition fits an unbound cell.
+    fn fits_free(&self, state: &State, definition: &Definition) -> bool
+        ensures { result ≡ fits_free self.now.here self.now.circuit (cell_of state.now) (Change.Bind definition.now) }
+    {
+        if !state.is_free(definition.generation) {
+            return false;
+        }
+        if definition.id != self.circuit {
+            return false;
+        }
+        if definition.fault().is_some() {
+            return false;
+        }
+        definition.is_member(&self.here)
+    }
+
+    /// An unbound cell with a change, if it fits.
+    #[tactic(auto, using(crate::proofs::Binds::free_facts))]
+    fn free_with(&self, alloc: Global, state: State, change: &Change) -> Result<State, AllocError>
+        requires at { IsAt self.now.here self.now.circuit state }
+        ensures cell { IfOk result (λ s. cell_of s ≡ (if fits_free self.now.here self.now.circuit (cell_of state) change.now then free_after (cell_of state) change.now else cell_of state)) }
+        ensures at { IfOk result (λ s. IsAt self.now.here self.now.circuit s) }
+    {
+        let Change::Bind(definition) = change else {
+            return Ok(state);
+        };
+        let definition = definition.get();
+        if !self.fits_free(&state, definition) {
+            return Ok(state);
+        }
+        let held = Held::new(alloc, *self, definition.copy(alloc)?);
+        Ok(State::Held(Box::new(alloc, held)?))
+    }
+
+    /// A cell with a change, if it fits.
+    fn applied_one(&self, alloc: Global, state: State, change: &Change) -> Result<State, AllocError>
+        requires at { IsAt self.now.here self.now.circuit state }
+        ensures cell { IfOk result (λ s. cell_of s ≡ applied_one self.now.here self.now.circuit (cell_of state) change.now) }
+        ensures at { IfOk result (λ s. IsAt self.now.here self.now.circuit s) }
+    {
+        match state {
+            State::Empty => self.free_with(alloc, State::Empty, change),
+            State::Held(held) => self.held_with(alloc, held, change),
+            State::Purged(old) => self.free_with(alloc, State::Purged(old), change),
+        }
+    }
+
+    /// A cell with changes, each of which is made where it fits.
+    #[tactic(auto, using(crate::proofs::Lists::applied_step))]
+    pub(crate) fn applied(
+        &self,
+        alloc: Global,
+        state: State,
+        changes: &[Change],
+    ) -> Result<State, AllocError>
+        requires at { IsAt self.now.here self.now.circuit state }
+        ensures cell { IfOk result (λ s. cell_of s ≡ applied self.now.here self.now.circuit (cell_of state) changes.now) }
+        ensures at { IfOk result (λ s. IsAt self.now.here self.now.circuit s) }
+    {
+        let mut state = state;
+        for change in changes {
+            state = self.applied_one(alloc, state, change)?;
+        }
+        Ok(state)
+    }
+}

@@ -1,0 +1,285 @@
+//! A message comes from another node.
+ghost use Rattle.std.specs.Prelude.{◌≡◌, ◌&&◌, true, false, not, None, IfOk};
+ghost use Rattle.std.specs.Str.{bytes_eq};
+ghost use Rattle.spl_agree.specs.Fits.{generation_of};
+ghost use Rattle.spl_circuit.specs.Nodes.{position};
+ghost use Rattle.spl_circuit.specs.Rules.{admin, broken, is_member};
+ghost use Rattle.spl_rules.specs.Cells.{Acts, admin_group, can_bind, declines, returns_unbound, ignores, asked_first, forwarded_first, hears_first, hears};
+ghost use Rattle.spl_rules.specs.Plans.{planned};
+ghost use Rattle.spl_rules.specs.Valid.{IsValid};
+ghost use Rattle.spl_wire.specs.Forms.{admin_of};
+ghost use Rattle.spl_wire.specs.declared.answer.Answer.TheVariants as answer;
+ghost use Rattle.spl_cell.specs.States.{cell_of, IsAt};
+ghost use Rattle.spl_cell.specs.Views.{IsSettledHeld};
+
+use crate::held::Held;
+use crate::node::position;
+use crate::plans::{Say, tells_only};
+use crate::site::Site;
+use crate::state::State;
+use spl_agree::{CommitMsg, Generation, GroupEvent, Note, Place, Reason, Round};
+use spl_base::{NodeId, Value};
+use spl_circuit::{Act, ActKind, Definition};
+use spl_wire::{Answer, Message, Plan};
+use std::alloc::{AllocError, Global};
+
+/// The coordinator can't bind the definition.
+const UNBOUND: Reason = Reason { code: 6, at: 0 };
+
+/// The message of the admin group.
+fn admin_of(message: &Message) -> &CommitMsg<Act>
+    ensures { result.now ≡ admin_of message.now }
+{
+    let Message::Admin { body, .. } = message;
+    body
+}
+
+/// An equal message of the admin group.
+fn admin_copy(alloc: Global, message: &Message) -> Result<CommitMsg<Act>, AllocError>
+    ensures { IfOk result (λ b. b ≡ admin_of message.now) }
+{
+    let Message::Admin { body, .. } = message.copy(alloc)?;
+    Ok(body)
+}
+
+/// The generation of a message.
+fn generation_of(body: &CommitMsg<Act>) -> Generation
+    ensures { result ≡ generation_of body.now }
+{
+    match body {
+        CommitMsg::VoteRequest { generation, .. } => *generation,
+        CommitMsg::Vote { generation, .. } => *generation,
+        CommitMsg::Decision { generation, .. } => *generation,
+        CommitMsg::DecisionRequest { generation, .. } => *generation,
+        CommitMsg::Forward { generation, .. } => *generation,
+        CommitMsg::Refused { generation, .. } => *generation,
+    }
+}
+
+impl Held {
+    /// A message of the cell's generation, from another node.
+    #[tactic(auto, using(crate::proofs::Positions::sender_facts))]
+    fn hears(&self, alloc: Global, from: &NodeId, message: &Message) -> Result<Plan, AllocError>
+        requires settled { IsSettledHeld self.now }
+        requires member { is_member self.now.definition self.now.here ≡ true }
+        requires other { bytes_eq from.now self.now.here ≡ false }
+        requires same { generation_of (admin_of message.now) ≡ self.now.definition.generation }
+        ensures { IfOk result (λ p. p ≡ planned self.now.here self.now.circuit (Acts answer.Delivered self.now.definition self.now.acts from.now (GroupEvent.From (position self.now.definition.members from.now) (admin_of message.now)))) }
+    {
+        let sender = position(self.definition().members.as_slice(), from);
+        let message = admin_copy(alloc, message)?;
+        let event = GroupEvent::From { sender, message };
+        self.acts(alloc, Say::Delivered, from, &event)
+    }
+}
+
+impl Site {
+    /// Whether a message of a generation can bind the definition.
+    fn can_bind(&self, state: &State, generation: Generation, definition: &Definition) -> bool
+        ensures { result ≡ can_bind self.now.here self.now.circuit (cell_of state.now) generation definition.now }
+    {
+        if definition.id != self.circuit {
+            return false;
+        }
+        if definition.generation != generation {
+            return false;
+        }
+        if definition.fault().is_some() {
+            return false;
+        }
+        if !definition.is_member(&self.here) {
+            return false;
+        }
+        state.is_free(generation)
+    }
+
+    fn ignores(&self, alloc: Global) -> Plan
+        ensures { result ≡ planned self.now.here self.now.circuit ignores }
+    {
+        tells_only(alloc, Answer::Delivered(Note::Ignored))
+    }
+
+    /// The vote is no.
+    fn declines(
+        &self,
+        alloc: Global,
+        from: &NodeId,
+        generation: Generation,
+        round: Round,
+    ) -> Result<Plan, AllocError>
+        ensures { IfOk result (λ p. p ≡ planned self.now.here self.now.circuit (declines self.now.circuit from.now generation round)) }
+    {
+        let yes = false;
+        let vote = CommitMsg::Vote {
+            generation,
+            round,
+            yes,
+        };
+        self.replies(alloc, Note::Declined(round), from, vote)
+    }
+
+    /// The coordinator can't bind the definition, so the act goes back.
+    fn returns_unbound(
+        &self,
+        alloc: Global,
+        from: &NodeId,
+        generation: Generation,
+        act: &Act,
+    ) -> Result<Plan, AllocError>
+        ensures { IfOk result (λ p. p ≡ planned self.now.here self.now.circuit (returns_unbound self.now.circuit from.now generation act.now)) }
+    {
+        let refused = CommitMsg::Refused {
+            generation,
+            value: act.copy(alloc)?,
+            reason: UNBOUND,
+        };
+        self.replies(alloc, Note::Returned(UNBOUND), from, refused)
+    }
+
+    /// A request at a cell that isn't bound to its generation, or not open.
+    #[tactic(auto, using(crate::proofs::Positions::sender_facts, crate::proofs::Binds::bind_facts))]
+    fn asked_first(
+        &self,
+        alloc: Global,
+        state: &State,
+        from: &NodeId,
+        generation: Generation,
+        round: Round,
+        place: Place,
+        act: &Act,
+    ) -> Result<Plan, AllocError>
+        requires other { bytes_eq from.now self.now.here ≡ false }
+        ensures { IfOk result (λ p. p ≡ planned self.now.here self.now.circuit (asked_first self.now.here self.now.circuit (cell_of state.now) from.now generation round place act.now act.now.kind)) }
+    {
+        let ActKind::Propose(definition) = &act.kind else {
+            return self.declines(alloc, from, generation, round);
+        };
+        let definition = definition.get();
+        if place.0 != 0 {
+            return self.declines(alloc, from, generation, round);
+        }
+        if !self.can_bind(state, generation, definition) {
+            return self.declines(alloc, from, generation, round);
+        }
+        if definition.admin_coordinator() != *from {
+            return self.declines(alloc, from, generation, round);
+        }
+        let message = CommitMsg::VoteRequest {
+            generation,
+            round,
+            place,
+            value: act.copy(alloc)?,
+        };
+        let sender = position(definition.members.as_slice(), from);
+        let event = GroupEvent::From { sender, message };
+        self.binds(alloc, Say::Delivered, definition, from, &event)
+    }
+
+    /// Whether a proposal that a node forwards can bind the definition.
+    #[tactic(auto, using(crate::proofs::Binds::bind_facts))]
+    fn can_bind_forwarded(
+        &self,
+        state: &State,
+        from: &NodeId,
+        generation: Generation,
+        node: &NodeId,
+        definition: &Definition,
+    ) -> bool
+        ensures valid { result ≡ true → broken definition.now ≡ None }
+        ensures member { result ≡ true → is_member definition.now self.now.here ≡ true }
+        ensures value { result ≡ (can_bind self.now.here self.now.circuit (cell_of state.now) generation definition.now && (bytes_eq (admin definition.now) self.now.here && (bytes_eq node.now from.now && (is_member definition.now from.now && not (bytes_eq from.now self.now.here))))) }
+    {
+        if !self.can_bind(state, generation, definition) {
+            return false;
+        }
+        if definition.admin_coordinator() != self.here {
+            return false;
+        }
+        if *node != *from {
+            return false;
+        }
+        if !definition.is_member(from) {
+            return false;
+        }
+        *from != self.here
+    }
+
+    /// A forwarded act there.
+    fn forwarded_first(
+        &self,
+        alloc: Global,
+        state: &State,
+        from: &NodeId,
+        generation: Generation,
+        act: &Act,
+    ) -> Result<Plan, AllocError>
+        ensures { IfOk result (λ p. p ≡ planned self.now.here self.now.circuit (forwarded_first self.now.here self.now.circuit (cell_of state.now) from.now generation act.now act.now.kind)) }
+    {
+        let ActKind::Propose(definition) = &act.kind else {
+            return Ok(self.ignores(alloc));
+        };
+        let definition = definition.get();
+        if !self.can_bind_forwarded(state, from, generation, &act.node, definition) {
+            return self.returns_unbound(alloc, from, generation, act);
+        }
+        let event = GroupEvent::Submit(act.copy(alloc)?);
+        self.binds(alloc, Say::Delivered, definition, from, &event)
+    }
+
+    /// A message at a cell that isn't bound to its generation, or not open.
+    fn hears_first(
+        &self,
+        alloc: Global,
+        state: &State,
+        from: &NodeId,
+        body: &CommitMsg<Act>,
+    ) -> Result<Plan, AllocError>
+        requires other { bytes_eq from.now self.now.here ≡ false }
+        ensures { IfOk result (λ p. p ≡ planned self.now.here self.now.circuit (hears_first self.now.here self.now.circuit (cell_of state.now) from.now body.now)) }
+    {
+        match body {
+            CommitMsg::VoteRequest {
+                generation,
+                round,
+                place,
+                value,
+            } => self.asked_first(alloc, state, from, *generation, *round, *place, value),
+            CommitMsg::Vote { .. } => Ok(self.ignores(alloc)),
+            CommitMsg::Decision { .. } => Ok(self.ignores(alloc)),
+            CommitMsg::DecisionRequest { .. } => Ok(self.ignores(alloc)),
+            CommitMsg::Forward { generation, value } => {
+                self.forwarded_first(alloc, state, from, *generation, value)
+            }
+            CommitMsg::Refused { .. } => Ok(self.ignores(alloc)),
+        }
+    }
+
+    /// A message comes from another node.
+    pub(crate) fn hears(
+        &self,
+        alloc: Global,
+        state: &State,
+        from: &NodeId,
+        message: &Message,
+    ) -> Result<Plan, AllocError>
+        requires at { IsAt self.now.here self.now.circuit state.now }
+        requires valid { IsValid self.now.here self.now.circuit (cell_of state.now) }
+        requires other { bytes_eq from.now self.now.here ≡ false }
+        ensures { IfOk result (λ p. p ≡ planned self.now.here self.now.circuit (hears self.now.here self.now.circuit (cell_of state.now) from.now (admin_of message.now))) }
+    {
+        let body = admin_of(message);
+        match state {
+            State::Empty => self.hears_first(alloc, state, from, body),
+            State::Purged(_) => self.hears_first(alloc, state, from, body),
+            State::Held(held) => {
+                if !held.is_open() {
+                    return self.hears_first(alloc, state, from, body);
+                }
+                if generation_of(body) != held.definition().generation {
+                    return self.hears_first(alloc, state, from, body);
+                }
+                held.hears(alloc, from, message)
+            }
+        }
+    }
+}

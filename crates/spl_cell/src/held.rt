@@ -1,0 +1,155 @@
+//! A bound cell.
+ghost use Rattle.std.specs.Prelude.{◌≡◌, ◌&&◌, [], true, None, length, IfOk};
+ghost use Rattle.spl_agree.specs.Member.{values};
+ghost use Rattle.spl_agree.specs.Fits.{IsDue};
+ghost use Rattle.spl_circuit.specs.Nodes.{position, has_node};
+ghost use Rattle.spl_circuit.specs.Rules.{broken, is_member};
+ghost use Rattle.spl_rules.specs.Cells.{Acts, admin_group, own_life, runs, accepted_in_order};
+ghost use Rattle.spl_rules.specs.Plans.{admin_row, planned};
+ghost use Rattle.spl_cell.specs.Says.{said};
+ghost use Rattle.spl_cell.specs.Views.{IsSettledHeld, fresh};
+
+use crate::node::position;
+use crate::plans::Say;
+use crate::site::Site;
+use spl_admin::Ledger;
+use spl_agree::{Generation, GroupEvent, GroupPlan};
+use spl_base::NodeId;
+use spl_circuit::{Act, Definition, Lifecycle, Mark, Members};
+use spl_commit::Member;
+use spl_wire::{ChangeList, Plan};
+use std::alloc::{AllocError, Global};
+use std::marker::Model;
+
+/// What a bound cell keeps: its mark, the turn of the node, and the node's member in the admin group, whose content has the definition.
+#[derive(Drop)]
+pub(crate) struct Held {
+    pub site: Site,
+    pub mark: Mark,
+    pub turn: u32,
+    pub acts: Member<Ledger>,
+}
+
+impl Model for Held {
+    ghost use Rattle.std.specs.Prelude.{◌≡◌};
+    ghost use Rattle.spl_cell.specs.Views.{HeldView, seated};
+
+    ghost Value = { HeldView };
+
+    ghost view = { λ s. record { here = s.site.here; circuit = s.site.circuit; definition = s.acts.content.definition; mark = s.mark; turn = s.turn; acts = s.acts.state } };
+
+    ghost invariant = { λ s. s.acts ≡ seated s.site.here s.acts };
+}
+
+impl Held {
+    /// A cell that is bound to a definition, open and fresh.
+    #[tactic(auto, using(crate::proofs::Positions::seat_facts))]
+    pub(crate) fn new(alloc: Global, site: Site, definition: Definition) -> Held
+        requires valid { broken definition ≡ None }
+        requires member { is_member definition site.here ≡ true }
+        ensures { result ≡ fresh site.here site.circuit definition }
+    {
+        let generation = definition.generation;
+        let members = definition.members.as_slice();
+        let count = members.len() as u8;
+        let coordinator = position(members, &definition.admin_coordinator());
+        let here = position(members, &site.here);
+        let ledger = Ledger::new(alloc, definition);
+        Held {
+            site,
+            mark: Mark::Open,
+            turn: 0,
+            acts: Member::new(alloc, ledger, generation, count, coordinator, here),
+        }
+    }
+
+    /// The acts that are committed here, and the definition, which breaks no rule.
+    pub(crate) fn ledger(&self) -> &Ledger
+        ensures definition { result.now.definition ≡ self.now.definition }
+        ensures acts { result.now.acts ≡ values self.now.acts.history }
+    {
+        self.acts.content()
+    }
+
+    /// The definition.
+    pub(crate) fn definition(&self) -> &Definition
+        ensures value { result.now ≡ self.now.definition }
+        ensures valid { broken self.now.definition ≡ None }
+    {
+        self.ledger().definition()
+    }
+
+    /// Where the acts that are committed here have brought the circuit.
+    pub(crate) fn lifecycle(&self) -> Lifecycle
+        ensures { result ≡ (own_life self.now.definition self.now.acts).state }
+    {
+        self.ledger().lifecycle()
+    }
+
+    /// The node that proposed the circuit, if one did.
+    pub(crate) fn requester(&self) -> Option<NodeId>
+        ensures { result ≡ (own_life self.now.definition self.now.acts).requester }
+    {
+        self.ledger().requester()
+    }
+
+    /// Whether this node has accepted the circuit.
+    pub(crate) fn has_accepted(&self) -> bool
+        ensures { result ≡ has_node (own_life self.now.definition self.now.acts).accepted self.now.here }
+    {
+        self.ledger().accepted(&self.site.here)
+    }
+
+    /// The members that have accepted, in member order.
+    pub(crate) fn accepted_in_order(&self, alloc: Global) -> Result<Members, AllocError>
+        ensures { IfOk result (λ ms. ms ≡ accepted_in_order self.now.definition self.now.acts) }
+    {
+        self.ledger().accepted_members(alloc)
+    }
+
+    /// Whether the circuit is active here.
+    pub(crate) fn runs(&self) -> bool
+        ensures { result ≡ runs self.now.definition self.now.acts }
+    {
+        matches!(self.lifecycle(), Lifecycle::Active)
+    }
+
+    /// Whether the node takes part.
+    pub(crate) fn is_open(&self) -> bool
+        ensures { result ≡ Rattle.spl_rules.specs.Cells.is_open self.now.mark }
+    {
+        matches!(self.mark, Mark::Open)
+    }
+
+    /// What an event gives in the admin group.
+    #[tactic(auto, using(crate::proofs::Seats::settled_seat))]
+    pub(crate) fn row(
+        &self,
+        alloc: Global,
+        event: &GroupEvent<Act>,
+    ) -> Result<GroupPlan<Act>, AllocError>
+        requires settled { IsSettledHeld self.now }
+        requires due { IsDue (admin_group self.now.definition) (position self.now.definition.members self.now.here) self.now.acts event.now }
+        ensures { IfOk result (λ p. p ≡ admin_row self.now.here self.now.definition self.now.acts event.now) }
+    {
+        self.acts.plan(alloc, event)
+    }
+
+    /// The admin group goes on by an event. A message came from `back`.
+    pub(crate) fn acts(
+        &self,
+        alloc: Global,
+        say: Say,
+        back: &NodeId,
+        event: &GroupEvent<Act>,
+    ) -> Result<Plan, AllocError>
+        requires settled { IsSettledHeld self.now }
+        requires due { IsDue (admin_group self.now.definition) (position self.now.definition.members self.now.here) self.now.acts event.now }
+        ensures { IfOk result (λ p. p ≡ planned self.now.here self.now.circuit (Acts (said say) self.now.definition self.now.acts back.now event.now)) }
+    {
+        let plan = self.row(alloc, event)?;
+        let first = ChangeList::new(alloc);
+        self.site
+            .admin_plan(alloc, say, first, self.definition(), back, plan)
+    }
+}

@@ -1,0 +1,69 @@
+//! Moves of the open round, and stops.
+ghost use Rattle.std.specs.Prelude.{◌≡◌};
+ghost use Rattle.spl_agree.specs.Member.{moved, restarted};
+ghost use Rattle.spl_agree.specs.Fits.{FitsMove};
+ghost use Rattle.spl_circuit.specs.Nodes.{position};
+ghost use Rattle.spl_rules.specs.Cells.{admin_group};
+ghost use Rattle.spl_rules.specs.Changes.{moved_cell, stopped_cell};
+ghost use Rattle.spl_rules.specs.Valid.{FitsMoveAt};
+ghost use Rattle.spl_cell.specs.States.{cell_of, IsAt};
+
+use crate::held::Held;
+use crate::site::Site;
+use crate::state::State;
+use spl_agree::OpenMove;
+
+impl Held {
+    /// Moves the open round by a move that fits.
+    #[tactic(auto, using(crate::proofs::Seats::move_facts))]
+    fn move_open(&mut self, x: OpenMove)
+        requires { FitsMove (admin_group self.old.definition) (position self.old.definition.members self.old.here) self.old.acts x }
+        ensures { self.new ≡ record self.old { acts = moved (admin_group self.old.definition) (position self.old.definition.members self.old.here) self.old.acts x } }
+    {
+        self.acts.move_open(x);
+    }
+
+    /// A stop forgets the open round.
+    fn restart(&mut self)
+        ensures { self.new ≡ record self.old { acts = restarted self.old.acts } }
+    {
+        self.acts.restart();
+    }
+}
+
+impl Site {
+    /// A cell whose open round is moved.
+    pub(crate) fn moved(&self, state: State, x: OpenMove) -> State
+        requires at { IsAt self.now.here self.now.circuit state }
+        requires fits { FitsMoveAt self.now.here (cell_of state) x }
+        ensures cell { cell_of result ≡ moved_cell self.now.here (cell_of state) x }
+        ensures at { IsAt self.now.here self.now.circuit result }
+    {
+        match state {
+            State::Empty => State::Empty,
+            State::Purged(old) => State::Purged(old),
+            State::Held(held) => {
+                let mut held = held;
+                held.move_open(x);
+                State::Held(held)
+            }
+        }
+    }
+
+    /// A cell behind a stop.
+    pub(crate) fn stopped(&self, state: State) -> State
+        requires at { IsAt self.now.here self.now.circuit state }
+        ensures cell { cell_of result ≡ stopped_cell (cell_of state) }
+        ensures at { IsAt self.now.here self.now.circuit result }
+    {
+        match state {
+            State::Empty => State::Empty,
+            State::Purged(old) => State::Purged(old),
+            State::Held(held) => {
+                let mut held = held;
+                held.restart();
+                State::Held(held)
+            }
+        }
+    }
+}

@@ -1,0 +1,144 @@
+//! A node votes, or takes back what it proposed.
+ghost use Rattle.std.specs.Prelude.{◌≡◌, ◌-◌, ◌^◌, ◌<◌, false, is_some, slice_get, IfOk};
+ghost use Rattle.spl_agree.specs.Member.{known};
+ghost use Rattle.std.specs.List.{list_any};
+ghost use Rattle.std.specs.Str.{bytes_eq};
+ghost use Rattle.spl_agree.specs.Fits.{IsDue};
+ghost use Rattle.spl_circuit.specs.declared.act.ActKind.{ActKind as Kind};
+ghost use Rattle.spl_circuit.specs.Nodes.{position};
+ghost use Rattle.spl_circuit.specs.Acts.{act_rules, is_node};
+ghost use Rattle.spl_circuit.specs.Lifecycle.{is_proposed};
+ghost use Rattle.spl_rules.specs.Cells.{votes, removes, next_act, is_act_pending, admin_group, own_life};
+ghost use Rattle.spl_rules.specs.Plans.{planned};
+ghost use Rattle.spl_cell.specs.Mays.{some_is};
+ghost use Rattle.spl_cell.specs.Views.{IsSettledHeld};
+
+use crate::held::Held;
+use crate::plans::{Say, refuses};
+use spl_admin::ActKey;
+use spl_agree::GroupEvent;
+use spl_base::NodeId;
+use spl_circuit::{Act, ActKind, Lifecycle};
+use spl_wire::{Plan, Refusal};
+use std::alloc::{AllocError, Global};
+
+impl Held {
+    /// Whether the pending act at a position is one of a node.
+    #[tactic(auto, using(crate::proofs::Pendings::get_seconds))]
+    fn is_pending_of(&self, at: u32, node: &NodeId) -> bool
+        ensures { result ≡ some_is (λ v. bytes_eq v.node node.now) (slice_get self.now.acts.pending at) }
+    {
+        match self.acts.queue().pending_at(at) {
+            Some(act) => act.node == *node,
+            None => false,
+        }
+    }
+
+    /// Whether an act of a node is pending here.
+    #[tactic(auto, using(crate::proofs::Pendings::any_step))]
+    pub(crate) fn has_pending_of(&self, node: &NodeId) -> bool
+        ensures { result ≡ list_any (λ v. bytes_eq v.node node.now) self.now.acts.pending }
+    {
+        for i in 0..self.acts_pending() {
+            if self.is_pending_of(i, node) {
+                return true;
+            }
+        }
+        false
+    }
+
+    /// Whether the next act of this node is known here.
+    fn knows_next(&self) -> bool
+        requires { self.now.turn < 2 ^ 32 - 1 }
+        ensures { result ≡ is_some (known (act_rules self.now.definition) self.now.acts (next_act self.now.here self.now.turn ActKind.Accept)) }
+    {
+        let key = ActKey {
+            node: self.site.here,
+            turn: self.turn + 1,
+        };
+        self.acts.known(&key).is_some()
+    }
+
+    /// Whether no further act of this node may be pending here.
+    fn is_act_pending(&self) -> bool
+        ensures pending { result ≡ is_act_pending self.now.definition self.now.here self.now.turn self.now.acts }
+        ensures turn { result ≡ false → self.now.turn < 2 ^ 32 - 1 }
+        ensures due { result ≡ false → (k : Kind) → IsDue (admin_group self.now.definition) (position self.now.definition.members self.now.here) self.now.acts (GroupEvent.Submit (next_act self.now.here self.now.turn k)) }
+    {
+        if self.has_pending_of(&self.site.here) {
+            return true;
+        }
+        if self.acts_pending() == 64 {
+            return true;
+        }
+        if self.turn == u32::MAX {
+            return true;
+        }
+        self.knows_next()
+    }
+
+    /// The next act of this node.
+    fn next_act(&self, kind: ActKind) -> Act
+        requires { self.now.turn < 2 ^ 32 - 1 }
+        ensures { result ≡ next_act self.now.here self.now.turn kind }
+    {
+        Act {
+            node: self.site.here,
+            turn: self.turn + 1,
+            kind,
+        }
+    }
+
+    /// Whether the circuit is proposed here.
+    fn is_proposed(&self) -> bool
+        ensures { result ≡ is_proposed (own_life self.now.definition self.now.acts).state }
+    {
+        matches!(self.lifecycle(), Lifecycle::Proposed)
+    }
+
+    /// Whether this node proposed the circuit.
+    fn is_requester(&self) -> bool
+        ensures { result ≡ is_node (own_life self.now.definition self.now.acts).requester self.now.here }
+    {
+        match self.requester() {
+            Some(node) => node == self.site.here,
+            None => false,
+        }
+    }
+
+    /// The node accepts or rejects.
+    pub(crate) fn votes(&self, alloc: Global, kind: ActKind) -> Result<Plan, AllocError>
+        requires settled { IsSettledHeld self.now }
+        ensures { IfOk result (λ p. p ≡ planned self.now.here self.now.circuit (votes self.now.here self.now.definition self.now.turn self.now.acts kind)) }
+    {
+        if self.is_act_pending() {
+            return Ok(refuses(alloc, Refusal::ActPending));
+        }
+        if !self.is_proposed() {
+            return Ok(refuses(alloc, Refusal::NoProposal));
+        }
+        if self.has_accepted() {
+            return Ok(refuses(alloc, Refusal::AlreadyVoted));
+        }
+        let event = GroupEvent::Submit(self.next_act(kind));
+        self.acts(alloc, Say::Submitted, &self.site.here, &event)
+    }
+
+    /// The node takes back what it proposed.
+    pub(crate) fn removes(&self, alloc: Global) -> Result<Plan, AllocError>
+        requires settled { IsSettledHeld self.now }
+        ensures { IfOk result (λ p. p ≡ planned self.now.here self.now.circuit (removes self.now.here self.now.definition self.now.turn self.now.acts)) }
+    {
+        if self.is_act_pending() {
+            return Ok(refuses(alloc, Refusal::ActPending));
+        }
+        if !self.is_proposed() {
+            return Ok(refuses(alloc, Refusal::NoProposal));
+        }
+        if !self.is_requester() {
+            return Ok(refuses(alloc, Refusal::NotRequester));
+        }
+        let event = GroupEvent::Submit(self.next_act(ActKind::Remove));
+        self.acts(alloc, Say::Submitted, &self.site.here, &event)
+    }
+}
