@@ -1,22 +1,16 @@
--- The node with an id, in a list of nodes, and the cells after it changed.
-use Rattle.std.proofs.Common.{◌≡◌, ℕ, zero, suc, ◌+◌, ◌<◌, ◌⊎◌, Bool, true, false, ◌||◌, cond, List, [], ◌∷◌, ◌++◌, length, slice_get, slice_set, Option, Some, None, IsSome, refl, ap, sym, ◌∙◌, subst, inl, inr, arith}
+-- Nodes by their index, and one of them written.
+use Rattle.std.proofs.Common.{◌≡◌, ℕ, zero, suc, ◌+◌, ◌<◌, ◌⊎◌, inl, inr, true, false, true≢false, List, [], ◌∷◌, ◌++◌, length, slice_get, slice_set, take, Some, IsSome, refl, ap, sym, ◌∙◌, subst, arith}
 use Rattle.std.specs.List.{position_from}
 use Rattle.std.specs.Str.{bytes_eq}
-use Rattle.std.proofs.lemmas.Slice.Eq.{bytes_eq-Decides}
-use Rattle.spl_circuit.specs.Nodes.{Node, has_node}
-use Rattle.std.specs.Ordering.{nat_cmp}
-use Rattle.std.specs.Cmp.Lexicographic.{slice_cmp}
-use Rattle.std.specs.BTreeMap.{is_at}
-use Rattle.std.specs.Map.{lookup}
-use Rattle.spl_rules.specs.Cells.{Cell, Empty}
-use Rattle.spl_world.specs.Views.{has_id, IsFirst, AreEmpty, cell_or_empty, kept_by, cell_in, ids_in}
-use Rattle.spl_world.specs.declared.world.Node.{Node as Keeper}
+use Rattle.spl_base.specs.FormLaws.{both_true}
+use Rattle.spl_circuit.specs.Nodes.{Node, has_node, is_below}
+use Rattle.spl_circuit.specs.Rules.{ascends, ascends_after}
+use Rattle.spl_circuit.proofs.Order.{below_trans, not_below_itself}
+use Rattle.spl_world.specs.Kept.{NodeView}
+use Rattle.spl_world.specs.Views.{ids_in, has_id}
+use Rattle.spl_world.proofs.Sends.{bool_cases, bytes_are}
 
-pub bool_cases : (b : Bool) → (b ≡ true) ⊎ (b ≡ false)
-bool_cases true = inl refl
-bool_cases false = inr refl
-
-pub known_is_found : (xs : List Keeper) (n : Node) (k : ℕ) → has_node (ids_in xs) n ≡ true → IsSome (position_from (has_id n) k xs)
+pub known_is_found : (xs : List NodeView) (n : Node) (k : ℕ) → has_node (ids_in xs) n ≡ true → IsSome (position_from (has_id n) k xs)
 known_is_found [] n k h = cc
 known_is_found (x ∷ xs) n k h = go (bool_cases (has_id n x)) (known_is_found xs n (k + 1))
   where
@@ -24,93 +18,116 @@ known_is_found (x ∷ xs) n k h = go (bool_cases (has_id n x)) (known_is_found x
     go (inl q) more = rw q refl
     go (inr q) more = rw q (more (rw q at h))
 
-found_from : (xs : List Keeper) (n : Node) (k j : ℕ) → position_from (has_id n) k xs ≡ Some j → (i : ℕ) × (j ≡ k + i) × IsFirst xs n i
+found_from : (xs : List NodeView) (n : Node) (k j : ℕ) → position_from (has_id n) k xs ≡ Some j → (i : ℕ) × (j ≡ k + i) × (slice_get (ids_in xs) i ≡ Some n)
 found_from [] n k j h = cc
 found_from (x ∷ xs) n k j h = go (bool_cases (has_id n x)) (found_from xs n (k + 1) j)
   where
-    later : has_id n x ≡ false → (i : ℕ) × (j ≡ (k + 1) + i) × IsFirst xs n i → (i : ℕ) × (j ≡ k + i) × IsFirst (x ∷ xs) n i
-    later q r = let e : j ≡ k + suc r.0 = omega (arith, r.1) in (suc r.0, e, (q, r.2))
+    later : (i : ℕ) × (j ≡ (k + 1) + i) × (slice_get (ids_in xs) i ≡ Some n) → (i : ℕ) × (j ≡ k + i) × (slice_get (ids_in (x ∷ xs)) i ≡ Some n)
+    later r = let e : j ≡ k + suc r.0 = omega (arith, r.1) in (suc r.0, e, r.2)
 
-    go : (has_id n x ≡ true) ⊎ (has_id n x ≡ false) → (position_from (has_id n) (k + 1) xs ≡ Some j → (i : ℕ) × (j ≡ (k + 1) + i) × IsFirst xs n i) → (i : ℕ) × (j ≡ k + i) × IsFirst (x ∷ xs) n i
-    go (inl q) more = let here : Some k ≡ Some j = rw q at h in let same : k ≡ j = cc in let e : j ≡ k + 0 = omega (arith, same) in (0, e, q)
-    go (inr q) more = later q (more (rw q at h))
+    go : (has_id n x ≡ true) ⊎ (has_id n x ≡ false) → (position_from (has_id n) (k + 1) xs ≡ Some j → (i : ℕ) × (j ≡ (k + 1) + i) × (slice_get (ids_in xs) i ≡ Some n)) → (i : ℕ) × (j ≡ k + i) × (slice_get (ids_in (x ∷ xs)) i ≡ Some n)
+    go (inl q) more = let here : Some k ≡ Some j = rw q at h in let same : k ≡ j = cc in let e : j ≡ k + 0 = omega (arith, same) in (0, e, ap Some (bytes_are x.id n q))
+    go (inr q) more = later (more (rw q at h))
 
-pub found_is_first : (xs : List Keeper) (n : Node) (j : ℕ) → position_from (has_id n) 0 xs ≡ Some j → IsFirst xs n j
-found_is_first xs n j h = let r = found_from xs n 0 j h in let e : r.0 ≡ j = omega (arith, r.1) in subst (λ (i : ℕ). IsFirst xs n i) e r.2
+pub found_at : (xs : List NodeView) (n : Node) (j : ℕ) → position_from (has_id n) 0 xs ≡ Some j → slice_get (ids_in xs) j ≡ Some n
+found_at xs n j h = let r = found_from xs n 0 j h in let e : r.0 ≡ j = omega (arith, r.1) in subst (λ (i : ℕ). slice_get (ids_in xs) i ≡ Some n) e r.2
 
-pub first_below : (xs : List Keeper) (n : Node) (i : ℕ) → IsFirst xs n i → i < length xs
-first_below [] n i h = absurd h
-first_below (x ∷ xs) n zero h = omega arith
-first_below (x ∷ xs) n (suc i) h = let r : i < length xs = first_below xs n i h.1 in omega (arith, r)
+pub length_ids : (xs : List NodeView) → length (ids_in xs) ≡ length xs
+length_ids [] = refl
+length_ids (x ∷ xs) = ap suc (length_ids xs)
 
-pub first_has_id : (xs : List Keeper) (n : Node) (i : ℕ) (x : Keeper) → IsFirst xs n i → slice_get xs i ≡ Some x → has_id n x ≡ true
-first_has_id [] n i x h e = absurd h
-first_has_id (y ∷ xs) n zero x h e = let same : y ≡ x = cc in subst (λ (z : Keeper). has_id n z ≡ true) same h
-first_has_id (y ∷ xs) n (suc i) x h e = first_has_id xs n i x h.1 e
+pub at_below : (xs : List NodeView) (i : ℕ) (n : Node) → slice_get (ids_in xs) i ≡ Some n → i < length xs
+at_below [] i n h = absurd cc
+at_below (x ∷ xs) zero n h = omega arith
+at_below (x ∷ xs) (suc i) n h = let r : i < length xs = at_below xs i n h in omega (arith, r)
 
-pub same_ids : (xs : List Keeper) (i : ℕ) (x y : Keeper) → slice_get xs i ≡ Some x → y.id ≡ x.id → ids_in (slice_set xs i y) ≡ ids_in xs
+-- the id of the node at an index
+pub id_at : (xs : List NodeView) (i : ℕ) (x : NodeView) → slice_get xs i ≡ Some x → slice_get (ids_in xs) i ≡ Some x.id
+id_at [] i x h = absurd cc
+id_at (y ∷ xs) zero x h = let same : y ≡ x = cc in ap (λ (z : NodeView). Some z.id) same
+id_at (y ∷ xs) (suc i) x h = id_at xs i x h
+
+pub same_at : (xs : List NodeView) (i : ℕ) (x : NodeView) (n : Node) → slice_get xs i ≡ Some x → slice_get (ids_in xs) i ≡ Some n → x.id ≡ n
+same_at xs i x n h e = let q : Some x.id ≡ Some n = sym (id_at xs i x h) ∙ e in cc
+
+pub same_ids : (xs : List NodeView) (i : ℕ) (x y : NodeView) → slice_get xs i ≡ Some x → y.id ≡ x.id → ids_in (slice_set xs i y) ≡ ids_in xs
 same_ids [] i x y e s = refl
 same_ids (z ∷ xs) zero x y e s = let same : z ≡ x = cc in let ids : y.id ≡ z.id = cc in ap (λ n. n ∷ ids_in xs) ids
 same_ids (z ∷ xs) (suc i) x y e s = ap (λ ns. z.id ∷ ns) (same_ids xs i x y e s)
 
-pub cell_of_first : (xs : List Keeper) (n c : Node) (i : ℕ) (x : Keeper) → IsFirst xs n i → slice_get xs i ≡ Some x → cell_in xs n c ≡ kept_by x c
-cell_of_first [] n c i x h e = absurd h
-cell_of_first (y ∷ xs) n c zero x h e = let same : y ≡ x = cc in rw h (ap (λ z. kept_by z c) same)
-cell_of_first (y ∷ xs) n c (suc i) x h e = let off : has_id n y ≡ false = h.0 in rw off (cell_of_first xs n c i x h.1 e)
-
-pub cell_set_here : (xs : List Keeper) (n c : Node) (i : ℕ) (y : Keeper) → IsFirst xs n i → has_id n y ≡ true → cell_in (slice_set xs i y) n c ≡ kept_by y c
-cell_set_here [] n c i y h e = absurd h
-cell_set_here (z ∷ xs) n c zero y h e = rw e refl
-cell_set_here (z ∷ xs) n c (suc i) y h e = let off : has_id n z ≡ false = h.0 in rw off (cell_set_here xs n c i y h.1 e)
-
--- a node of another id has the cells that it had
-pub cell_set_other : (xs : List Keeper) (n c : Node) (i : ℕ) (x y : Keeper) → slice_get xs i ≡ Some x → y.id ≡ x.id → has_id n x ≡ false → cell_in (slice_set xs i y) n c ≡ cell_in xs n c
-cell_set_other [] n c i x y e s h = refl
-cell_set_other (z ∷ xs) n c zero x y e s h =
-    let same : z ≡ x = cc in
-    let left : bytes_eq y.id n ≡ false = ap (λ (a : Node). bytes_eq a n) s ∙ h in
-    let right : bytes_eq z.id n ≡ false = ap (λ (a : Keeper). bytes_eq a.id n) same ∙ h in
-    rw (left, right) refl
-cell_set_other (z ∷ xs) n c (suc i) x y e s h = ap (λ (k : Cell). if_other n z (kept_by z c) k) (cell_set_other xs n c i x y e s h)
+-- what stands at an index behind a write: what was written, or what stood there
+pub set_cases : {X : Type 0} (xs : List X) (i j : ℕ) (y z : X) → slice_get (slice_set xs i y) j ≡ Some z → ((j ≡ i) × (y ≡ z)) ⊎ ((j ≡ i → ⊥) × (slice_get xs j ≡ Some z))
+set_cases [] i j y z h = absurd cc
+set_cases (x ∷ xs) zero zero y z h = let same : y ≡ z = cc in inl (refl, same)
+set_cases (x ∷ xs) zero (suc j) y z h = inr (λ e. omega (arith, e), h)
+set_cases (x ∷ xs) (suc i) zero y z h = inr (λ e. omega (arith, e), h)
+set_cases (x ∷ xs) (suc i) (suc j) y z h = go (set_cases xs i j y z h)
   where
-    if_other : Node → Keeper → Cell → Cell → Cell
-    if_other m a here there = cond (bytes_eq a.id m) here there
+    go : ((j ≡ i) × (y ≡ z)) ⊎ ((j ≡ i → ⊥) × (slice_get xs j ≡ Some z)) → ((suc j ≡ suc i) × (y ≡ z)) ⊎ ((suc j ≡ suc i → ⊥) × (slice_get (x ∷ xs) (suc j) ≡ Some z))
+    go (inl p) = inl (ap suc p.0, p.1)
+    go (inr p) = inr (λ e. let f : j ≡ i = omega (arith, e) in p.0 f, p.1)
 
--- a cell that stays at its node stays
-pub cell_set_same : (xs : List Keeper) (n c : Node) (i : ℕ) (x y : Keeper) → slice_get xs i ≡ Some x → y.id ≡ x.id → kept_by y c ≡ kept_by x c → cell_in (slice_set xs i y) n c ≡ cell_in xs n c
-cell_set_same [] n c i x y e s k = refl
-cell_set_same (z ∷ xs) n c zero x y e s k = go (bool_cases (has_id n x))
+-- ---- ids that ascend are apart
+
+pub below_after : (p : Node) (ns : List Node) (j : ℕ) (b : Node) → ascends_after p ns ≡ true → slice_get ns j ≡ Some b → is_below p b ≡ true
+below_after p [] j b a e = absurd cc
+below_after p (n ∷ ns) zero b a e = let same : n ≡ b = cc in subst (λ (m : Node). is_below p m ≡ true) same (both_true (is_below p n) (ascends_after n ns) a).0
+below_after p (n ∷ ns) (suc j) b a e =
+    let h = both_true (is_below p n) (ascends_after n ns) a in
+    below_trans p n b h.0 (below_after n ns j b h.1 e)
+
+pub differ : (a b : Node) → is_below a b ≡ true → bytes_eq a b ≡ false
+differ a b p = by (bool_cases (bytes_eq a b))
   where
-    same : z ≡ x
-    same = cc
+    by : (bytes_eq a b ≡ true) ⊎ (bytes_eq a b ≡ false) → bytes_eq a b ≡ false
+    by (inl q) = absurd (true≢false (sym p ∙ ap (λ (v : Node). is_below v b) (bytes_are a b q) ∙ not_below_itself b))
+    by (inr q) = q
 
-    go : (has_id n x ≡ true) ⊎ (has_id n x ≡ false) → cell_in (y ∷ xs) n c ≡ cell_in (z ∷ xs) n c
-    go (inl q) =
-        let left : bytes_eq y.id n ≡ true = ap (λ (a : Node). bytes_eq a n) s ∙ q in
-        let right : bytes_eq z.id n ≡ true = ap (λ (a : Keeper). bytes_eq a.id n) same ∙ q in
-        rw (left, right) (k ∙ ap (λ (a : Keeper). kept_by a c) (sym same))
-    go (inr q) = cell_set_other (z ∷ xs) n c 0 x y e s q
-cell_set_same (z ∷ xs) n c (suc i) x y e s k = ap (λ (d : Cell). cond (bytes_eq z.id n) (kept_by z c) d) (cell_set_same xs n c i x y e s k)
-
-pub bytes_are : (a b : List ℕ) → bytes_eq a b ≡ true → a ≡ b
-bytes_are a b = (bytes_eq-Decides a b).0
-
-pub ids_in-append : (xs ys : List Keeper) → ids_in (xs ++ ys) ≡ ids_in xs ++ ids_in ys
-ids_in-append [] ys = refl
-ids_in-append (x ∷ xs) ys = ap (λ ns. x.id ∷ ns) (ids_in-append xs ys)
-
-pub empty-append : (xs : List Keeper) (y : Keeper) → AreEmpty xs → y.cells.entries ≡ [] → AreEmpty (xs ++ y ∷ [])
-empty-append [] y h e = (e, tt)
-empty-append (x ∷ xs) y h e = (h.0, empty-append xs y h.1 e)
-
--- where no node keeps a cell, each cell is empty
-pub all_empty : (xs : List Keeper) (n c : Node) → AreEmpty xs → cell_in xs n c ≡ Empty
-all_empty [] n c h = refl
-all_empty (x ∷ xs) n c h = go (bool_cases (has_id n x)) (all_empty xs n c h.1)
+pub differ_back : (a b : Node) → is_below a b ≡ true → bytes_eq b a ≡ false
+differ_back a b p = by (bool_cases (bytes_eq b a))
   where
-    kept : kept_by x c ≡ Empty
-    kept = ap (λ (es : List (List ℕ × Cell)). cell_or_empty (lookup (is_at (slice_cmp nat_cmp c)) es)) h.0
+    by : (bytes_eq b a ≡ true) ⊎ (bytes_eq b a ≡ false) → bytes_eq b a ≡ false
+    by (inl q) = absurd (true≢false (sym p ∙ ap (λ (v : Node). is_below a v) (bytes_are b a q) ∙ not_below_itself a))
+    by (inr q) = q
 
-    go : (has_id n x ≡ true) ⊎ (has_id n x ≡ false) → cell_in xs n c ≡ Empty → cell_in (x ∷ xs) n c ≡ Empty
-    go (inl q) rest = rw q kept
-    go (inr q) rest = rw q rest
+pub tail_ascends : (n : Node) (ns : List Node) → ascends (n ∷ ns) ≡ true → ascends ns ≡ true
+tail_ascends n [] a = refl
+tail_ascends n (m ∷ ms) a = (both_true (is_below n m) (ascends_after m ms) a).1
+
+pub apart : (ns : List Node) (i j : ℕ) (a b : Node) → ascends ns ≡ true → slice_get ns i ≡ Some a → slice_get ns j ≡ Some b → (j ≡ i → ⊥) → bytes_eq b a ≡ false
+apart [] i j a b h e f ne = absurd cc
+apart (n ∷ ns) zero zero a b h e f ne = absurd (ne refl)
+apart (n ∷ ns) zero (suc j) a b h e f ne = let same : n ≡ a = cc in subst (λ (m : Node). bytes_eq b m ≡ false) same (differ_back n b (below_after n ns j b h f))
+apart (n ∷ ns) (suc i) zero a b h e f ne = let same : n ≡ b = cc in subst (λ (m : Node). bytes_eq m a ≡ false) same (differ n a (below_after n ns i a h e))
+apart (n ∷ ns) (suc i) (suc j) a b h e f ne = apart ns i j a b (tail_ascends n ns h) e f (λ q. ne (ap suc q))
+
+-- ---- the first ids, and one more
+
+take_suc : {X : Type 0} (xs : List X) (i : ℕ) (x : X) → slice_get xs i ≡ Some x → take (suc i) xs ≡ take i xs ++ x ∷ []
+take_suc [] i x e = absurd cc
+take_suc (y ∷ ys) zero x e = let same : y ≡ x = cc in ap (λ z. z ∷ []) same
+take_suc (y ∷ ys) (suc i) x e = ap (λ zs. y ∷ zs) (take_suc ys i x e)
+
+plus_one : (i : ℕ) → i + 1 ≡ suc i
+plus_one i = omega arith
+
+pub take_one : {X : Type 0} (xs : List X) (i : ℕ) (x : X) → slice_get xs i ≡ Some x → take (i + 1) xs ≡ take i xs ++ x ∷ []
+take_one xs i x e = ap (λ (k : ℕ). take k xs) (plus_one i) ∙ take_suc xs i x e
+
+pub some_at : (xs : List NodeView) (i : ℕ) → i < length xs → (n : Node) × (slice_get (ids_in xs) i ≡ Some n)
+some_at [] i h = absurd (omega (arith, h))
+some_at (x ∷ xs) zero h = (x.id, refl)
+some_at (x ∷ xs) (suc i) h = let r : i < length xs = omega (arith, h) in some_at xs i r
+
+pub same_length : (xs ys : List NodeView) → ids_in ys ≡ ids_in xs → length ys ≡ length xs
+same_length xs ys e = sym (length_ids ys) ∙ ap length e ∙ length_ids xs
+
+pub not_before : (ns : List Node) (i : ℕ) (n : Node) → ascends ns ≡ true → slice_get ns i ≡ Some n → has_node (take i ns) n ≡ false
+not_before [] i n a e = absurd cc
+not_before (m ∷ ms) zero n a e = refl
+not_before (m ∷ ms) (suc i) n a e = rw (differ m n (below_after m ms i n a e)) (not_before ms i n (tail_ascends m ms a) e)
+
+pub set_length : {X : Type 0} (xs : List X) (i : ℕ) (y : X) → length (slice_set xs i y) ≡ length xs
+set_length [] i y = refl
+set_length (x ∷ xs) zero y = refl
+set_length (x ∷ xs) (suc i) y = ap suc (set_length xs i y)

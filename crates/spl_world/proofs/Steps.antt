@@ -1,41 +1,62 @@
--- What a step at one cell does to what stands.
-use Rattle.std.proofs.Common.{◌≡◌, ℕ, ◌⊎◌, true, false, List, [], ◌∷◌, ◌++◌, refl, ap, sym, ◌∙◌, subst, inl, inr}
+-- What a line that may run says of its step.
+use Rattle.std.proofs.Common.{◌≡◌, ℕ, zero, suc, ◌+◌, ◌-◌, Bool, true, false, not, ◌&&◌, nat_le, nat_lt, ◌^◌, List, [], ◌∷◌, refl, arith}
+use Rattle.std.specs.List.{list_all}
 use Rattle.std.specs.Str.{bytes_eq}
+use Rattle.spl_base.specs.FormLaws.{both_true}
+use Rattle.spl_base.specs.Ids.{is_node_id, is_circuit_id}
 use Rattle.spl_circuit.specs.Nodes.{Node, has_node}
 use Rattle.spl_wire.specs.declared.event.Event.{Event}
-use Rattle.spl_sched.specs.declared.line.Line.{Line}
-use Rattle.spl_sched.specs.declared.line.Line.TheVariants as line
+use Rattle.spl_wire.specs.declared.event.Event.TheVariants as event
 use Rattle.spl_sched.specs.declared.line.Step.TheVariants as step
-use Rattle.spl_sched.specs.Grammar.{node_of, circuit_of}
-use Rattle.spl_rules.specs.Cells.{Cell, does, cell_after}
-use Rattle.spl_model.specs.Worlds.{put_at}
-use Rattle.spl_model.specs.Answers.{circuit_world}
-use Rattle.spl_model.specs.Apart.{moves-own, keeps-other, put_at-here, put_at-other}
-use Rattle.spl_world.specs.Views.{cell_at, event_of, ids_of, Stands}
-use Rattle.spl_world.specs.declared.world.World.{World}
-use Rattle.spl_world.proofs.Slots.{bool_cases, bytes_are}
+use Rattle.spl_sched.specs.Grammar.{is_event, is_step, step_nodes, is_definition}
+use Rattle.spl_rules.specs.Valid.{IsFor}
 
--- the cell of one circuit at one node is moved, and every other one stays
-pub step_stands : (old new : World) (before : List Line) (node circuit : Node) (e : Event) → Stands before old → ids_of new ≡ ids_of old → has_node (ids_of old) node ≡ true
-    → ((n c : Node) → bytes_eq node n ≡ false → cell_at new n c ≡ cell_at old n c) → ((n c : Node) → bytes_eq circuit c ≡ false → cell_at new n c ≡ cell_at old n c)
-    → cell_at new node circuit ≡ cell_after node (cell_at old node circuit) (does node (cell_at old node circuit) e)
-    → Stands (before ++ line.Step (step.At node circuit e) ∷ []) new
-step_stands old new before node circuit e stands ids known nodes circuits cell = λ n c there. go n c (subst (λ (ns : List Node). has_node ns n ≡ true) ids there) (bool_cases (bytes_eq circuit c))
-  where
-    l : Line
-    l = line.Step (step.At node circuit e)
+event_for : (n c : Node) (e : Event) → is_event c e ≡ true → IsFor n c e
+event_for n c (event.Propose d) h = (both_true (bytes_eq d.id c) (is_definition d) h).0
+event_for n c (event.Vote accept) h = tt
+event_for n c event.Remove h = tt
+event_for n c event.Abandon h = tt
+event_for n c event.Purge h = tt
+event_for n c event.Show h = tt
+event_for n c event.Detail h = tt
+event_for n c event.Root h = tt
+event_for n c event.History h = tt
+event_for n c (event.Status i) h = tt
+event_for n c (event.Receipt i) h = tt
+event_for n c (event.Route from s t) h = tt
+event_for n c event.Tick h = tt
+event_for n c event.Expire h = tt
+event_for n c (event.Deliver from x) h = absurd cc
 
-    at_circuit : (n : Node) → has_node (ids_of old) n ≡ true → (bytes_eq node n ≡ true) ⊎ (bytes_eq node n ≡ false) → cell_at new n circuit ≡ circuit_world circuit (before ++ l ∷ []) n
-    at_circuit n there (inl q) =
-        let here : node ≡ n = bytes_are node n q in
-        let moved : cell_at new node circuit ≡ cell_after node (circuit_world circuit before node) (does node (circuit_world circuit before node) e) =
-        cell ∙ ap (λ (k : Cell). cell_after node k (does node k e)) (stands node circuit known) in
-        ap (λ (m : Node). cell_at new m circuit) (sym here) ∙ moved ∙ sym (put_at-here (circuit_world circuit before) node n _ q) ∙ sym (ap (λ w. w n) (moves-own before l))
-    at_circuit n there (inr q) = nodes n circuit q ∙ stands n circuit there ∙ sym (put_at-other (circuit_world circuit before) node n _ q) ∙ sym (ap (λ w. w n) (moves-own before l))
+last_true : (a b c : Bool) → (a && b && c) ≡ true → c ≡ true
+last_true true true c h = h
+last_true true false c h = absurd cc
+last_true false b c h = absurd cc
 
-    go : (n c : Node) → has_node (ids_of old) n ≡ true → (bytes_eq circuit c ≡ true) ⊎ (bytes_eq circuit c ≡ false) → cell_at new n c ≡ circuit_world c (before ++ l ∷ []) n
-    go n c there (inl q) = subst (λ (d : Node). cell_at new n d ≡ circuit_world d (before ++ l ∷ []) n) (bytes_are circuit c q) (at_circuit n there (bool_cases (bytes_eq node n)))
-    go n c there (inr q) = circuits n c q ∙ stands n c there ∙ sym (ap (λ w. w n) (keeps-other before l c q))
+pub step_for : (n node c : Node) (e : Event) → is_step (step.At node c e) ≡ true → IsFor n c e
+step_for n node c e h = event_for n c e (last_true (is_node_id node) (is_circuit_id c) (is_event c e) h)
 
-pub line_is : (l : Line) → line.Step (step.At (node_of l) (circuit_of l) (event_of l)) ≡ l
-line_is (line.Step (step.At n c e)) = refl
+tests : (a b c d e : Bool) → (a && b && c && d && e) ≡ true → (d ≡ true) × (e ≡ true)
+tests true true true true true h = (refl, refl)
+tests true true true true false h = absurd cc
+tests true true true false e h = absurd cc
+tests true true false d e h = absurd cc
+tests true false c d e h = absurd cc
+tests false b c d e h = absurd cc
+
+not_true : (b : Bool) → not b ≡ true → b ≡ false
+not_true true h = absurd cc
+not_true false h = refl
+
+pub pair_apart : (from to c : Node) (k : ℕ) → is_step (step.Deliver from to c k) ≡ true → bytes_eq from to ≡ false
+pair_apart from to c k h = not_true (bytes_eq from to) (tests (is_node_id from) (is_node_id to) (is_circuit_id c) (nat_le 1 k && nat_lt k (2 ^ 32)) (not (bytes_eq from to)) h).1
+
+back : (k : ℕ) → nat_le 1 k ≡ true → (k - 1) + 1 ≡ k
+back zero h = absurd cc
+back (suc k) h = omega arith
+
+pub number_back : (from to c : Node) (k : ℕ) → is_step (step.Deliver from to c k) ≡ true → (k - 1) + 1 ≡ k
+number_back from to c k h = back k (both_true (nat_le 1 k) (nat_lt k (2 ^ 32)) (tests (is_node_id from) (is_node_id to) (is_circuit_id c) (nat_le 1 k && nat_lt k (2 ^ 32)) (not (bytes_eq from to)) h).0).0
+
+pub second_known : (ns : List Node) (from to c : Node) (k : ℕ) → list_all (has_node ns) (step_nodes (step.Deliver from to c k)) ≡ true → has_node ns to ≡ true
+second_known ns from to c k h = (both_true (has_node ns to) true (both_true (has_node ns from) (list_all (has_node ns) (to ∷ [])) h).1).0

@@ -1,6 +1,14 @@
-//! All nodes, each with its cells.
+//! All nodes, each with its cells, and the messages between them.
 #![tactic(auto)]
 
+mod calm;
+mod node;
+mod outbox;
+mod place;
+mod step;
 mod world;
 
-pub use world::{Node, World};
+pub use world::World;
+
+#[cfg(test)]
+mod tests;

@@ -1,133 +1,146 @@
-//! All nodes of a run, and what a line does to them.
-ghost use Rattle.std.specs.Prelude.{◌≡◌, ◌++◌, ◌∷◌, ◌<◌, [], List, length, IfOk, OnOk, OnErr, IsTrue, true, false, ℕ};
-ghost use Rattle.spl_circuit.specs.Nodes.{has_node};
-ghost use Rattle.spl_sched.specs.declared.line.Line.{Line as Told};
-ghost use Rattle.spl_sched.specs.Grammar.{node_of};
-ghost use Rattle.spl_model.specs.Answers.{answer_to};
-ghost use Rattle.spl_rules.specs.Cells.{does, answered, cell_after};
-ghost use Rattle.std.specs.Str.{bytes_eq};
+//! All nodes of a run, and what happens at one of them.
+ghost use Rattle.std.specs.Prelude.{◌≡◌, ◌+◌, ◌<◌, [], length, true, false, IsTrue, IfOk, OnOk};
 ghost use Rattle.std.specs.List.{position_from};
-ghost use Rattle.spl_world.specs.Views.{IsFirst, has_id, cell_at, event_of, ids_in, ids_of, kept_by, Stands};
+ghost use Rattle.std.specs.Str.{bytes_eq};
+ghost use Rattle.spl_circuit.specs.Nodes.{Node as Id, has_node};
+ghost use Rattle.spl_circuit.specs.Rules.{ascends};
+ghost use Rattle.spl_sched.specs.declared.line.Step.TheVariants as step;
+ghost use Rattle.spl_rules.specs.Cells.{is_handled, is_open_cell};
+ghost use Rattle.spl_rules.specs.Plans.{plan_of};
+ghost use Rattle.spl_rules.specs.Valid.{IsFor};
+ghost use Rattle.spl_model.specs.Worlds.{World as CircuitWorld, messages, carried_out, step_plan, step_world};
+ghost use Rattle.spl_world.specs.Views.{Holds, IsAt, Moves, Stands, has_id, ids_of};
 
-use spl_base::{CircuitId, NodeId};
-use spl_cell::Cell;
-use spl_sched::{Line, Step};
-use spl_wire::{Answer, Event};
+use crate::node::Node;
+use spl_base::{Boxed, CircuitId, NodeId};
+use spl_wire::{Answer, Event, Message, Refusal};
 use std::alloc::{AllocError, Global};
-use std::collections::BTreeMap;
 
-/// A node, and its cells by their circuits: those that aren't empty.
-#[derive(Debug, Drop)]
-pub struct Node {
-    id: NodeId,
-    cells: BTreeMap<CircuitId, Cell>,
-}
-
-/// The nodes of a run. Each keeps its cells by itself.
-#[derive(Debug, Drop)]
+/// The nodes of a run, in the order of their ids. Each keeps its cells, and what it sent, by
+/// itself.
+#[derive(Drop)]
 pub struct World {
     nodes: Vec<Node>,
-}
-
-impl Node {
-    /// Does what an event asks of the cell of a circuit, and answers it. The other cells stay as they were, and
-    /// after want of memory all do.
-    fn handle(
-        &mut self,
-        alloc: Global,
-        circuit: CircuitId,
-        event: &Event,
-    ) -> Result<Answer, AllocError>
-        ensures id { self.new.id ≡ self.old.id }
-        ensures answer { IfOk result (λ a. a ≡ answered (does self.old.id (kept_by self.old circuit) event.now)) }
-        ensures cell { OnOk result (kept_by self.new circuit ≡ cell_after self.old.id (kept_by self.old circuit) (does self.old.id (kept_by self.old circuit) event.now)) }
-        ensures others { (c : List ℕ) → bytes_eq circuit c ≡ false → kept_by self.new c ≡ kept_by self.old c }
-        ensures err { OnErr result ((c : List ℕ) → kept_by self.new c ≡ kept_by self.old c) }
-    {
-        if let Some(cell) = self.cells.get_mut(&circuit) {
-            return cell.handle(alloc, self.id, event);
-        }
-        let mut cell = Cell::empty();
-        let answer = cell.handle(alloc, self.id, event)?;
-        if !cell.bound() {
-            return Ok(answer);
-        }
-        match self.cells.insert(circuit, cell) {
-            Ok(_) => Ok(answer),
-            Err(_) => Err(AllocError),
-        }
-    }
-}
-
-// What happens at the line's cell.
-fn event(line: &Line) -> &Event
-    ensures { result.now ≡ event_of line.now }
-{
-    match line {
-        Line::Step(Step::At { event, .. }) => event,
-    }
 }
 
 fn position_of(nodes: &[Node], node: &NodeId) -> Option<usize>
     ensures { result ≡ position_from (has_id node.now) 0 nodes.now }
 {
-    nodes.iter().position(|x| x.id == *node)
+    nodes.iter().position(|x| x.id() == *node)
 }
 
-// The index of the first node with this id.
-fn slot(nodes: &[Node], node: &NodeId) -> usize
-    requires known { has_node (ids_in nodes.now) node.now ≡ true }
-    ensures first { IsFirst nodes.now node.now result }
-    ensures below { result < length nodes.now }
+// An equal message, on the heap.
+fn boxed(alloc: Global, message: &Message) -> Result<Boxed<Message>, AllocError>
+    ensures { IfOk result (λ m. m ≡ message.now) }
 {
-    position_of(nodes, node).unwrap()
+    Boxed::new(alloc, message.copy(alloc)?)
 }
 
 impl World {
-    /// The nodes with these ids, each without any cell.
+    /// The nodes with these ids, where nothing happened yet.
     pub fn new(alloc: Global, ids: &[NodeId]) -> Result<World, AllocError>
+        requires ordered { IsTrue (ascends ids.now) }
         ensures ids { IfOk result (λ w. ids_of w ≡ ids.now) }
         ensures stands { IfOk result (λ w. Stands [] w) }
     {
         let mut nodes = Vec::new(alloc);
         for id in ids {
-            nodes.push(Node {
-                id: *id,
-                cells: BTreeMap::new(alloc),
-            })?;
+            nodes.push(Node::new(alloc, *id))?;
         }
         Ok(World { nodes })
     }
 
-    // Does what an event asks of the cell of a circuit at a known node, and answers it. All other cells stay.
-    fn handle(
+    // How many nodes there are.
+    pub(crate) fn len(&self) -> usize
+        ensures { result ≡ length self.now.nodes.items }
+    {
+        self.nodes.len()
+    }
+
+    // The index of a node.
+    pub(crate) fn slot(&self, node: &NodeId) -> usize
+        requires known { has_node (ids_of self.now) node.now ≡ true }
+        ensures at { IsAt self.now.nodes.items result node.now }
+        ensures below { result < length self.now.nodes.items }
+    {
+        position_of(&self.nodes, node).unwrap()
+    }
+
+    // An event at the cell of a circuit at the node of this index, and its answer.
+    pub(crate) fn handle(
         &mut self,
         alloc: Global,
-        node: NodeId,
+        slot: usize,
         circuit: CircuitId,
         event: &Event,
     ) -> Result<Answer, AllocError>
-        requires known { has_node (ids_of self.old) node ≡ true }
+        requires below { slot < length self.old.nodes.items }
+        requires handled { is_handled event.now ≡ true }
+        requires own { (n : Id) → IsAt self.old.nodes.items slot n → IsFor n circuit event.now }
         ensures ids { ids_of self.new ≡ ids_of self.old }
-        ensures answer { IfOk result (λ a. a ≡ answered (does node (cell_at self.old node circuit) event.now)) }
-        ensures cell { OnOk result (cell_at self.new node circuit ≡ cell_after node (cell_at self.old node circuit) (does node (cell_at self.old node circuit) event.now)) }
-        ensures nodes { (n c : List ℕ) → bytes_eq node n ≡ false → cell_at self.new n c ≡ cell_at self.old n c }
-        ensures circuits { (n c : List ℕ) → bytes_eq circuit c ≡ false → cell_at self.new n c ≡ cell_at self.old n c }
-        ensures err { OnErr result ((n c : List ℕ) → cell_at self.new n c ≡ cell_at self.old n c) }
+        ensures answer { (m : CircuitWorld) (n : Id) → Holds circuit m self.old.nodes.items → IsAt self.old.nodes.items slot n → IfOk result (λ a. a ≡ (plan_of n circuit (m.at n) event.now).answer) }
+        ensures moves { (n : Id) → IsAt self.old.nodes.items slot n → OnOk result (Moves circuit (λ m. carried_out m n (plan_of n circuit (m.at n) event.now)) self.old.nodes.items self.new.nodes.items) }
     {
-        let slot = slot(&self.nodes, &node);
         self.nodes[slot].handle(alloc, circuit, event)
     }
 
-    /// Runs a line that names a known node, and answers it. `before` are the lines that ran so far.
-    /// After want of memory the world stands as it did.
-    pub fn step(&mut self, alloc: Global, line: &Line) -> Result<Answer, AllocError>
-        requires known { has_node (ids_of self.old) (node_of line.now) ≡ true }
-        ensures ids { ids_of self.new ≡ ids_of self.old }
-        ensures answer { (before : List Told) → Stands before self.old → IfOk result (λ a. a ≡ answer_to before line.now) }
-        ensures stands { (before : List Told) → Stands before self.old → OnOk result (Stands (before ++ line.now ∷ []) self.new) }
-        ensures err { (before : List Told) → Stands before self.old → OnErr result (Stands before self.new) }
+    // Whether the cell of a circuit at the node of this index is bound and open.
+    pub(crate) fn is_open(&self, slot: usize, circuit: &CircuitId) -> bool
+        requires below { slot < length self.now.nodes.items }
+        ensures { (m : CircuitWorld) (n : Id) → Holds circuit.now m self.now.nodes.items → IsAt self.now.nodes.items slot n → result ≡ is_open_cell (m.at n) }
     {
-        self.handle(alloc, line.node(), line.circuit(), event(line))
+        self.nodes[slot].is_open(circuit)
+    }
+
+    // Whether the nodes of these indexes are the same.
+    pub(crate) fn is_same(&self, from: usize, to: usize) -> bool
+        requires from_below { from < length self.now.nodes.items }
+        requires to_below { to < length self.now.nodes.items }
+        ensures { (a b : Id) → IsAt self.now.nodes.items from a → IsAt self.now.nodes.items to b → result ≡ bytes_eq a b }
+    {
+        self.nodes[from].id() == self.nodes[to].id()
+    }
+
+    // How many messages about a circuit one node sent to another.
+    pub(crate) fn count(&self, from: usize, to: usize, circuit: &CircuitId) -> usize
+        requires from_below { from < length self.now.nodes.items }
+        requires to_below { to < length self.now.nodes.items }
+        ensures { (m : CircuitWorld) (a b : Id) → Holds circuit.now m self.now.nodes.items → IsAt self.now.nodes.items from a → IsAt self.now.nodes.items to b → result ≡ length (messages m a b) }
+    {
+        if self.is_same(from, to) {
+            return 0;
+        }
+        let recipient = self.nodes[to].id();
+        self.nodes[from].count(circuit, &recipient)
+    }
+
+    // The message of this index, from 0, of those about a circuit that one node sent to another
+    // comes there; and the answer.
+    pub(crate) fn deliver(
+        &mut self,
+        alloc: Global,
+        from: usize,
+        to: usize,
+        circuit: CircuitId,
+        index: usize,
+    ) -> Result<Answer, AllocError>
+        requires from_below { from < length self.old.nodes.items }
+        requires to_below { to < length self.old.nodes.items }
+        requires apart { (a b : Id) → IsAt self.old.nodes.items from a → IsAt self.old.nodes.items to b → bytes_eq a b ≡ false }
+        ensures ids { ids_of self.new ≡ ids_of self.old }
+        ensures answer { (m : CircuitWorld) (a b : Id) → Holds circuit m self.old.nodes.items → IsAt self.old.nodes.items from a → IsAt self.old.nodes.items to b → IfOk result (λ r. r ≡ (step_plan m (step.Deliver a b circuit (index + 1))).answer) }
+        ensures moves { (a b : Id) → IsAt self.old.nodes.items from a → IsAt self.old.nodes.items to b → OnOk result (Moves circuit (λ m. step_world m (step.Deliver a b circuit (index + 1))) self.old.nodes.items self.new.nodes.items) }
+    {
+        let sender = self.nodes[from].id();
+        let recipient = self.nodes[to].id();
+        let message = match self.nodes[from].message(&circuit, &recipient, index) {
+            Some(message) => boxed(alloc, message)?,
+            None => return Ok(Answer::Refused(Refusal::NoMessage)),
+        };
+        let event = Event::Deliver {
+            from: sender,
+            message,
+        };
+        self.handle(alloc, to, circuit, &event)
     }
 }

@@ -1,14 +1,18 @@
-use Rattle.std.proofs.Common.{◌≡◌, List, [], ◌∷◌, ◌++◌, subst}
-use Rattle.spl_sched.specs.declared.line.Line.{Line}
-use Rattle.spl_sched.specs.declared.line.Line.TheVariants as line
-use Rattle.spl_sched.specs.declared.line.Step.TheVariants as step
-use Rattle.spl_world.specs.Views.{Stands}
-use Rattle.spl_world.proofs.Kept.{at_ok}
-use Rattle.spl_world.proofs.Steps.{step_stands, line_is}
+use Rattle.std.proofs.Common.{ap}
+use Rattle.spl_sched.specs.Grammar.{step_circuit, circuit_of}
+use Rattle.spl_model.specs.Answers.{circuit_world}
+use Rattle.spl_world.specs.Views.{ids_of}
+use Rattle.spl_world.proofs.Results.{at_ok}
+use Rattle.spl_world.proofs.Standing.{stands_after}
 use Rattle.spl_world.proofs.world.World.step.Goals as goal
 
-pub returns-clause-stands : goal.returns-clause-stands
-returns-clause-stands c = λ before stands. at_ok c.handle.result (λ cell.
-    let parts : line.Step (step.At c.node.result c.circuit.result c.event.result.now) ≡ c.args.line.now = rw (c.node.ensures, c.circuit.ensures, c.event.ensures) (line_is c.args.line.now) in
-    subst (λ (l : Line). Stands (before ++ l ∷ []) c.handle.new.self) parts
-    (step_stands c.args.self.now c.handle.new.self before c.node.result c.circuit.result c.event.result.now stands c.handle.ensures.ids (rw c.node.ensures c.requires.known) c.handle.ensures.nodes c.handle.ensures.circuits cell)) c.handle.ensures.cell
+pub returns-in-Step-clause-answer : goal.returns-in-Step-clause-answer
+returns-in-Step-clause-answer c = λ before stands. rw (c.in-Step.is) (c.run.ensures.answer (circuit_world (ids_of c.args.self.now) (step_circuit c.in-Step.step) before) (stands (step_circuit c.in-Step.step)))
+
+pub returns-in-Step-clause-stands : goal.returns-in-Step-clause-stands
+returns-in-Step-clause-stands c = λ before stands.
+    at_ok c.run.result (λ moves. stands_after before c.args.line.now (step_circuit c.in-Step.step) c.args.self.now c.run.new.self (ap circuit_of c.in-Step.is) c.run.ensures.ids stands (rw (c.in-Step.is) moves)) c.run.ensures.moves
+
+pub returns-in_ok-calm-in-Calm-clause-stands : goal.returns-in_ok-calm-in-Calm-clause-stands
+returns-in_ok-calm-in-Calm-clause-stands c = λ before stands.
+    stands_after before c.args.line.now c.in-Calm.circuit c.args.self.now c.calm.new.self (ap circuit_of c.in-Calm.is) c.calm.ensures.ids stands (rw (c.in-Calm.is) c.in_ok-calm-in-Calm.ensures.moves)

@@ -1,0 +1,22 @@
+-- What follows where a call succeeded.
+use Rattle.std.proofs.Common.{Result, Ok, Err, OnOk, OnErr, IfOk}
+
+pub at_ok : {A E : Type 0} {P Q : Type 0} (r : Result A E) → (P → Q) → OnOk r P → OnOk r Q
+at_ok (Ok a) f p = f p
+at_ok (Err e) f p = p
+
+pub when_ok : {A E : Type 0} {P Q : A → Type 0} (r : Result A E) → ((a : A) → P a → Q a) → IfOk r P → IfOk r Q
+when_ok (Ok a) f p = f a p
+when_ok (Err e) f p = p
+
+pub both_ok : {A E : Type 0} {P Q R : A → Type 0} (r : Result A E) → ((a : A) → P a → Q a → R a) → IfOk r P → IfOk r Q → IfOk r R
+both_ok (Ok a) f p q = f a p q
+both_ok (Err e) f p q = p
+
+pub at_err : {A E : Type 0} {P Q : Type 0} (r : Result A E) → (P → Q) → OnErr r P → OnErr r Q
+at_err (Ok a) f p = p
+at_err (Err e) f p = f p
+
+pub ok_both : {A E : Type 0} {P Q R : Type 0} (r : Result A E) → (P → Q → R) → OnOk r P → OnOk r Q → OnOk r R
+ok_both (Ok a) f p q = f p q
+ok_both (Err e) f p q = p

@@ -1,0 +1,25 @@
+use Rattle.std.proofs.Common.{rules, ◌≡◌, ◌++◌, ◌∷◌, [], Some, ap, sym, ◌∙◌}
+use Rattle.spl_world.specs.Kept.{list_or_none, sent_to}
+use Rattle.spl_world.proofs.Entries.{others_stay, written_back}
+use Rattle.spl_world.proofs.Results.{at_ok, at_err}
+use Rattle.spl_world.proofs.outbox.Outbox.post.Goals as goal
+
+pub returns-in-Some-clause-others : goal.returns-in-Some-clause-others
+returns-in-Some-clause-others c = at_ok c.push.result (λ _ b h.
+    let w = c.push.new.self in
+    ap list_or_none (others_stay c.self.inside.lists (c.get_mut.follows.lender w) c.args.to (Some w) ((c.get_mut.follows.holds w).3 (search rules)) b h) ∙ ap (λ es. sent_to es b) c.self.view_is) c.push.ensures.ok
+
+pub returns-in-Ok-clause-recipient : goal.returns-in-Ok-clause-recipient
+returns-in-Ok-clause-recipient c =
+    let u = rw c.get_mut.follows.holds-at-none at c.in-Ok.ensures.updates in
+    let none : sent_to c.args.self.now c.args.to ≡ [] = ap (λ es. sent_to es c.args.to) (sym c.self.view_is) ∙ ap list_or_none (sym c.in_default.ensures.value) in
+    ap list_or_none u.1 ∙ c.in_ok-push.ensures.ok ∙ ap (λ ms. ms ++ c.args.message ∷ []) (c.new-list.ensures ∙ sym none)
+
+pub returns-in-Ok-clause-others : goal.returns-in-Ok-clause-others
+returns-in-Ok-clause-others c = λ b h.
+    ap list_or_none (others_stay c.self.inside.lists c.insert.new.self c.args.to _ (rw c.get_mut.follows.holds-at-none at c.in-Ok.ensures.updates) b h) ∙ ap (λ es. sent_to es b) c.self.view_is
+
+pub returns-in-Some-clause-err : goal.returns-in-Some-clause-err
+returns-in-Some-clause-err c = at_err c.push.result (λ same b.
+    let w = c.push.new.self in
+    ap (λ es. sent_to es b) (written_back c.self.inside.lists (c.get_mut.follows.lender w) c.args.to w (ap Some same ∙ c.in-Some.ensures.value) ((c.get_mut.follows.holds w).0)) ∙ ap (λ es. sent_to es b) c.self.view_is) c.push.ensures.err

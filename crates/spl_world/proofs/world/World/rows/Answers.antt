@@ -1,0 +1,17 @@
+use Rattle.std.proofs.Common.{◌≡◌, ℕ, ◌∙◌, subst, length, slice_get, Some, arith}
+use Rattle.spl_world.specs.Calms.{sent_count}
+use Rattle.spl_world.specs.Views.{ids_of}
+use Rattle.spl_world.proofs.Turns.{length_more, wide_more, rows_more}
+use Rattle.spl_world.proofs.world.World.rows.Goals as goal
+
+pub loop-from-preserved : goal.loop-from-preserved
+loop-from-preserved c = (
+  rw (c.in_ok-push.ensures.items) (length_more c.loop-from.rows.items _ c.loop-from.from c.loop-from.invariant.0),
+  rw (c.in_ok-push.ensures.items) (wide_more (length c.args.self.now.nodes.items) c.loop-from.rows.items _ c.loop-from.invariant.1 c.in_ok-row.ensures.wide),
+  λ m h. rw (c.in_ok-push.ensures.items) (rows_more (sent_count m) (ids_of c.args.self.now) c.loop-from.rows.items _ (c.loop-from.invariant.2 m h) (λ a at. c.in_ok-row.ensures.counts m a h (subst (λ (k : ℕ). slice_get (ids_of c.args.self.now) k ≡ Some a) c.loop-from.invariant.0 at))),
+)
+
+pub returns-clause-square : goal.returns-clause-square
+returns-clause-square c =
+    let all : c.loop-from.from ≡ c.len-from-end.result = omega (arith, c.loop-from.auto.from-end, c.loop-from-test.false) in
+    record { tall = c.loop-from.invariant.0 ∙ all ∙ c.len-from-end.ensures; wide = c.loop-from.invariant.1 }

@@ -1,0 +1,41 @@
+use Rattle.std.proofs.Common.{◌≡◌, ℕ, ◌∙◌, sym, subst, Some, false, IfOk, OnOk}
+use Rattle.std.specs.Str.{bytes_eq}
+use Rattle.spl_circuit.specs.Nodes.{Node}
+use Rattle.spl_wire.specs.declared.answer.Answer.{Answer}
+use Rattle.spl_sched.specs.declared.line.Step.TheVariants as step
+use Rattle.spl_model.specs.Worlds.{step_plan, step_world}
+use Rattle.spl_world.specs.Views.{Moves, ids_of}
+use Rattle.spl_world.proofs.Steps.{step_for, pair_apart, number_back, second_known}
+use Rattle.spl_world.proofs.world.World.run.Goals as goal
+
+pub handle-requires-clause-own : goal.handle-requires-clause-own
+handle-requires-clause-own c = λ n at. step_for n c.in-At.node c.in-At.circuit c.in-At.event (rw (c.in-At.is) at c.requires.fits)
+
+pub slot-recipient-requires : goal.slot-recipient-requires
+slot-recipient-requires c = record { known = second_known (ids_of c.args.self.now) c.in-Deliver.from c.in-Deliver.to c.in-Deliver.circuit c.in-Deliver.number (rw (c.in-Deliver.is) at c.requires.known) }
+
+pub deliver-requires-clause-apart : goal.deliver-requires-clause-apart
+deliver-requires-clause-apart c = λ a b at to.
+    let sender : Some c.in-Deliver.from ≡ Some a = sym c.slot-sender.ensures.at ∙ at in
+    let recipient : Some c.in-Deliver.to ≡ Some b = sym c.slot-recipient.ensures.at ∙ to in
+    let from_is : c.in-Deliver.from ≡ a = cc in
+    let to_is : c.in-Deliver.to ≡ b = cc in
+    subst (λ (y : Node). bytes_eq a y ≡ false) to_is (subst (λ (x : Node). bytes_eq x c.in-Deliver.to ≡ false) from_is (pair_apart c.in-Deliver.from c.in-Deliver.to c.in-Deliver.circuit c.in-Deliver.number (rw (c.in-Deliver.is) at c.requires.fits)))
+
+pub returns-in-At-clause-answer : goal.returns-in-At-clause-answer
+returns-in-At-clause-answer c = λ m h. rw (c.in-At.is) (c.handle.ensures.answer m c.in-At.node (rw (c.in-At.is) at h) c.slot-slot.ensures.at)
+
+pub returns-in-At-clause-moves : goal.returns-in-At-clause-moves
+returns-in-At-clause-moves c = rw (c.in-At.is) (c.handle.ensures.moves c.in-At.node c.slot-slot.ensures.at)
+
+pub returns-in-Deliver-clause-answer : goal.returns-in-Deliver-clause-answer
+returns-in-Deliver-clause-answer c = λ m h.
+    let back = number_back c.in-Deliver.from c.in-Deliver.to c.in-Deliver.circuit c.in-Deliver.number (rw (c.in-Deliver.is) at c.requires.fits) in
+    rw (c.in-Deliver.is) (subst (λ (k : ℕ). IfOk c.deliver.result (λ (a : Answer). a ≡ (step_plan m (step.Deliver c.in-Deliver.from c.in-Deliver.to c.in-Deliver.circuit k)).answer)) back
+    (c.deliver.ensures.answer m c.in-Deliver.from c.in-Deliver.to (rw (c.in-Deliver.is) at h) c.slot-sender.ensures.at c.slot-recipient.ensures.at))
+
+pub returns-in-Deliver-clause-moves : goal.returns-in-Deliver-clause-moves
+returns-in-Deliver-clause-moves c =
+    let back = number_back c.in-Deliver.from c.in-Deliver.to c.in-Deliver.circuit c.in-Deliver.number (rw (c.in-Deliver.is) at c.requires.fits) in
+    rw (c.in-Deliver.is) (subst (λ (k : ℕ). OnOk c.deliver.result (Moves c.in-Deliver.circuit (λ m. step_world m (step.Deliver c.in-Deliver.from c.in-Deliver.to c.in-Deliver.circuit k)) c.args.self.now.nodes.items c.deliver.new.self.nodes.items)) back
+    (c.deliver.ensures.moves c.in-Deliver.from c.in-Deliver.to c.slot-sender.ensures.at c.slot-recipient.ensures.at))

@@ -1,0 +1,89 @@
+-- What a node keeps about the circuits, as its callers see it (docs/RULES.md, Circuits as worlds).
+use Rattle.std.specs.Prelude.{◌≡◌, Bool, true, List, [], ◌∷◌, ◌++◌, if◌then◌else◌, Option, Some, None}
+use Rattle.std.specs.List.{list_all}
+use Rattle.std.specs.Ordering.{nat_cmp}
+use Rattle.std.specs.Cmp.Lexicographic.{slice_cmp}
+use Rattle.std.specs.BTreeMap.{is_at}
+use Rattle.std.specs.Map.{lookup}
+use Rattle.std.specs.Str.{bytes_eq}
+use Rattle.spl_circuit.specs.Nodes.{Node}
+use Rattle.spl_wire.specs.declared.message.Message.{Message}
+use Rattle.spl_wire.specs.declared.plan.Outgoing.{Outgoing}
+use Rattle.spl_wire.specs.declared.plan.Plan.{Plan}
+use Rattle.spl_wire.specs.Forms.{circuit_of}
+use Rattle.spl_rules.specs.Cells.{Cell, Empty}
+use Rattle.spl_rules.specs.Changes.{made, applied, after_plan}
+use Rattle.spl_rules.specs.Valid.{FitsMoveAt}
+
+-- what was ever sent, by recipient
+abbrev pub Lists : Type 0
+Lists = List (Node × List Message)
+
+-- one circuit at one node: the cell, and what the node ever sent about it
+pub record PlaceView : Type 0 where
+  pub here : Node
+  pub circuit : Node
+  pub state : Cell
+  pub sent : Lists
+
+-- a node, with its places by circuit
+pub record NodeView : Type 0 where
+  pub id : Node
+  pub places : List (Node × PlaceView)
+
+abbrev pub list_or_none : Option (List Message) → List Message
+list_or_none None = []
+list_or_none (Some ms) = ms
+
+-- what was ever sent to a node
+abbrev pub sent_to : Lists → Node → List Message
+sent_to es b = list_or_none (lookup (is_at (slice_cmp nat_cmp b)) es)
+
+-- nothing is kept, and nothing was sent
+abbrev pub fresh_place : Node → Node → PlaceView
+fresh_place n c = record { here = n; circuit = c; state = Empty; sent = [] }
+
+abbrev pub place_or_fresh : Node → Node → Option PlaceView → PlaceView
+place_or_fresh n c None = fresh_place n c
+place_or_fresh n c (Some p) = p
+
+-- the place of a circuit at a node
+abbrev pub place_of : NodeView → Node → PlaceView
+place_of x c = place_or_fresh x.id c (lookup (is_at (slice_cmp nat_cmp c)) x.places)
+
+-- the messages of a plan that go to a node
+abbrev pub sends_to : Node → List Outgoing → List Message
+sends_to b [] = []
+sends_to b (o ∷ os) = if bytes_eq o.to b then o.message ∷ sends_to b os else sends_to b os
+
+abbrev pub is_about : Node → Message → Bool
+is_about c m = bytes_eq (circuit_of m) c
+
+abbrev pub AreAbout : Node → List Message → Type 0
+AreAbout c ms = list_all (is_about c) ms ≡ true
+
+abbrev pub sends_about : Node → Outgoing → Bool
+sends_about c o = is_about c o.message
+
+abbrev pub SendsAreAbout : Node → List Outgoing → Type 0
+SendsAreAbout c os = list_all (sends_about c) os ≡ true
+
+-- a plan that can be carried out at a place: its changes fit, one behind the other, and its move behind them; what it
+-- sends is about the circuit
+pub record Suits (v : PlaceView) (p : Plan) : Type 0 where
+  pub fits : applied v.here v.circuit v.state p.changes ≡ made v.here v.state p.changes
+  pub moves : FitsMoveAt v.here (made v.here v.state p.changes) p.admin
+  pub about : SendsAreAbout v.circuit p.sends
+
+-- a plan was carried out at a place of this node: its changes and its move are made, and its messages sent
+pub record IsDone (here : Node) (p : Plan) (old new : PlaceView) : Type 0 where
+  pub state : new.state ≡ after_plan here old.state p
+  pub sent : (b : Node) → sent_to new.sent b ≡ sent_to old.sent b ++ sends_to b p.sends
+
+-- a place is that of its node and of its circuit
+abbrev pub IsOwn : Node → Node → PlaceView → Type 0
+IsOwn n c p = (p.here ≡ n) × (p.circuit ≡ c)
+
+-- each place stands at its circuit
+abbrev pub AreOwn : Node → List (Node × PlaceView) → Type 0
+AreOwn n ps = (c : Node) (p : PlaceView) → lookup (is_at (slice_cmp nat_cmp c)) ps ≡ Some p → IsOwn n c p

@@ -1,0 +1,184 @@
+//! A calm: passes of ticks and deliveries.
+ghost use Rattle.std.specs.Prelude.{◌≡◌, ◌+◌, ◌-◌, ◌<◌, length, false, IfOk, OnOk};
+ghost use Rattle.std.specs.Str.{bytes_eq};
+ghost use Rattle.spl_circuit.specs.Nodes.{Node as Id};
+ghost use Rattle.spl_model.specs.Worlds.{World as CircuitWorld};
+ghost use Rattle.spl_model.specs.Calm.{Calming, ticks, open_nodes, delivers, pair_turn, to_all, from_all, pass, calm};
+ghost use Rattle.spl_world.specs.Calms.{tick_at, AreRows, IsSquare, row_of, sent_count};
+ghost use Rattle.spl_world.specs.Views.{Holds, IsAt, Moves, Spares, ids_of};
+
+use crate::world::World;
+use spl_base::CircuitId;
+use spl_wire::Event;
+use std::alloc::{AllocError, Global};
+
+impl World {
+    // How many messages about a circuit a node sent to each node.
+    fn row(&self, alloc: Global, circuit: &CircuitId, from: usize) -> Result<Vec<usize>, AllocError>
+        requires below { from < length self.now.nodes.items }
+        ensures wide { IfOk result (λ r. length r.items ≡ length self.now.nodes.items) }
+        ensures counts { (m : CircuitWorld) (a : Id) → Holds circuit.now m self.now.nodes.items → IsAt self.now.nodes.items from a → IfOk result (λ r. r.items ≡ row_of (sent_count m) a (ids_of self.now)) }
+    {
+        let mut row = Vec::new(alloc);
+        for to in 0..self.len() {
+            row.push(self.count(from, to, circuit))?;
+        }
+        Ok(row)
+    }
+
+    // The same for all nodes.
+    fn rows(&self, alloc: Global, circuit: &CircuitId) -> Result<Vec<Vec<usize>>, AllocError>
+        ensures square { IfOk result (λ rs. IsSquare (length self.now.nodes.items) rs.items) }
+        ensures counts { (m : CircuitWorld) → Holds circuit.now m self.now.nodes.items → IfOk result (λ rs. AreRows (sent_count m) (ids_of self.now) rs.items) }
+    {
+        let mut rows = Vec::new(alloc);
+        for from in 0..self.len() {
+            rows.push(self.row(alloc, circuit, from)?)?;
+        }
+        Ok(rows)
+    }
+
+    // A tick at a node, where the circuit is bound and open there.
+    fn tick(&mut self, alloc: Global, circuit: CircuitId, slot: usize) -> Result<(), AllocError>
+        requires below { slot < length self.old.nodes.items }
+        ensures ids { ids_of self.new ≡ ids_of self.old }
+        ensures moves { (n : Id) → IsAt self.old.nodes.items slot n → OnOk result (Moves circuit (tick_at circuit n) self.old.nodes.items self.new.nodes.items) }
+    {
+        if !self.is_open(slot, &circuit) {
+            return Ok(());
+        }
+        self.handle(alloc, slot, circuit, &Event::Tick)?;
+        Ok(())
+    }
+
+    // A tick at each node where the circuit is bound and open.
+    fn tick_all(&mut self, alloc: Global, circuit: CircuitId) -> Result<(), AllocError>
+        ensures ids { ids_of self.new ≡ ids_of self.old }
+        ensures moves { (z : Calming) → OnOk result (Moves circuit (λ m. (ticks circuit (record z { world = m }) (open_nodes m (ids_of self.old))).world) self.old.nodes.items self.new.nodes.items) }
+    {
+        for slot in 0..self.len() {
+            self.tick(alloc, circuit, slot)?;
+        }
+        Ok(())
+    }
+
+    // The messages of a pair from one index to another are delivered.
+    fn deliver_from(
+        &mut self,
+        alloc: Global,
+        circuit: CircuitId,
+        from: usize,
+        to: usize,
+        taken: usize,
+        all: usize,
+    ) -> Result<(), AllocError>
+        requires from_below { from < length self.old.nodes.items }
+        requires to_below { to < length self.old.nodes.items }
+        requires apart { (a b : Id) → IsAt self.old.nodes.items from a → IsAt self.old.nodes.items to b → bytes_eq a b ≡ false }
+        ensures ids { ids_of self.new ≡ ids_of self.old }
+        ensures moves { (z : Calming) (a b : Id) → IsAt self.old.nodes.items from a → IsAt self.old.nodes.items to b → OnOk result (Moves circuit (λ m. (delivers circuit (record z { world = m }) a b (taken + 1) (all - taken)).world) self.old.nodes.items self.new.nodes.items) }
+    {
+        for index in taken..all {
+            self.deliver(alloc, from, to, circuit, index)?;
+        }
+        Ok(())
+    }
+
+    // The turn of a pair: what was sent on it and isn't taken yet is delivered. Answers how many
+    // are taken now.
+    fn pair_turn(
+        &mut self,
+        alloc: Global,
+        circuit: CircuitId,
+        from: usize,
+        to: usize,
+        taken: usize,
+    ) -> Result<usize, AllocError>
+        requires from_below { from < length self.old.nodes.items }
+        requires to_below { to < length self.old.nodes.items }
+        ensures ids { ids_of self.new ≡ ids_of self.old }
+        ensures count { (m : CircuitWorld) (a b : Id) → Holds circuit m self.old.nodes.items → IsAt self.old.nodes.items from a → IsAt self.old.nodes.items to b → IfOk result (λ k. k ≡ sent_count m a b) }
+        ensures moves { (z : Calming) (a b : Id) → IsAt self.old.nodes.items from a → IsAt self.old.nodes.items to b → z.taken a b ≡ taken → OnOk result (Moves circuit (λ m. (pair_turn circuit (record z { world = m }) a b).world) self.old.nodes.items self.new.nodes.items) }
+    {
+        if self.is_same(from, to) {
+            return Ok(0);
+        }
+        let all = self.count(from, to, &circuit);
+        self.deliver_from(alloc, circuit, from, to, taken, all)?;
+        Ok(all)
+    }
+
+    // The turns of the pairs of one sender.
+    fn to_all(
+        &mut self,
+        alloc: Global,
+        circuit: CircuitId,
+        from: usize,
+        row: &mut Vec<usize>,
+    ) -> Result<(), AllocError>
+        requires below { from < length self.old.nodes.items }
+        requires wide { length row.old.items ≡ length self.old.nodes.items }
+        ensures ids { ids_of self.new ≡ ids_of self.old }
+        ensures wide { length row.new.items ≡ length row.old.items }
+        ensures own { (z : Calming) (a : Id) → Holds circuit z.world self.old.nodes.items → IsAt self.old.nodes.items from a → row.old.items ≡ row_of z.taken a (ids_of self.old) → OnOk result (Holds circuit (to_all circuit z a (ids_of self.old)).world self.new.nodes.items × (row.new.items ≡ row_of (to_all circuit z a (ids_of self.old)).taken a (ids_of self.old))) }
+        ensures others { OnOk result (Spares circuit self.old.nodes.items self.new.nodes.items) }
+    {
+        for to in 0..self.len() {
+            row[to] = self.pair_turn(alloc, circuit, from, to, row[to])?;
+        }
+        Ok(())
+    }
+
+    // The turns of all pairs.
+    fn from_all(
+        &mut self,
+        alloc: Global,
+        circuit: CircuitId,
+        rows: &mut Vec<Vec<usize>>,
+    ) -> Result<(), AllocError>
+        requires square { IsSquare (length self.old.nodes.items) rows.old.items }
+        ensures ids { ids_of self.new ≡ ids_of self.old }
+        ensures square { IsSquare (length self.old.nodes.items) rows.new.items }
+        ensures own { (z : Calming) → Holds circuit z.world self.old.nodes.items → AreRows z.taken (ids_of self.old) rows.old.items → OnOk result (Holds circuit (from_all circuit z (ids_of self.old) (ids_of self.old)).world self.new.nodes.items × AreRows (from_all circuit z (ids_of self.old) (ids_of self.old)).taken (ids_of self.old) rows.new.items) }
+        ensures others { OnOk result (Spares circuit self.old.nodes.items self.new.nodes.items) }
+    {
+        for from in 0..self.len() {
+            self.to_all(alloc, circuit, from, &mut rows[from])?;
+        }
+        Ok(())
+    }
+
+    // A pass: the ticks, and then the turns of all pairs.
+    fn pass(
+        &mut self,
+        alloc: Global,
+        circuit: CircuitId,
+        rows: &mut Vec<Vec<usize>>,
+    ) -> Result<(), AllocError>
+        requires square { IsSquare (length self.old.nodes.items) rows.old.items }
+        ensures ids { ids_of self.new ≡ ids_of self.old }
+        ensures square { IsSquare (length self.old.nodes.items) rows.new.items }
+        ensures own { (z : Calming) → Holds circuit z.world self.old.nodes.items → AreRows z.taken (ids_of self.old) rows.old.items → OnOk result (Holds circuit (pass circuit (ids_of self.old) z).world self.new.nodes.items × AreRows (pass circuit (ids_of self.old) z).taken (ids_of self.old) rows.new.items) }
+        ensures others { OnOk result (Spares circuit self.old.nodes.items self.new.nodes.items) }
+    {
+        self.tick_all(alloc, circuit)?;
+        self.from_all(alloc, circuit, rows)
+    }
+
+    // So many passes. After want of memory the world is done.
+    pub(crate) fn calm(
+        &mut self,
+        alloc: Global,
+        circuit: CircuitId,
+        passes: u8,
+    ) -> Result<(), AllocError>
+        ensures ids { ids_of self.new ≡ ids_of self.old }
+        ensures moves { OnOk result (Moves circuit (λ m. (calm circuit m passes).world) self.old.nodes.items self.new.nodes.items) }
+    {
+        let mut rows = self.rows(alloc, &circuit)?;
+        for _ in 0..passes {
+            self.pass(alloc, circuit, &mut rows)?;
+        }
+        Ok(())
+    }
+}

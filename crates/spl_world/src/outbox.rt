@@ -1,0 +1,87 @@
+//! What a node ever sent about one circuit.
+ghost use Rattle.std.specs.Prelude.{◌≡◌, ◌++◌, ◌∷◌, [], List, length, slice_get, false, OnOk, OnErr};
+ghost use Rattle.std.specs.Option.{option_copied};
+ghost use Rattle.std.specs.Str.{bytes_eq};
+ghost use Rattle.spl_circuit.specs.Nodes.{Node as Id};
+ghost use Rattle.spl_world.specs.Kept.{AreAbout, SendsAreAbout, sent_to, sends_to};
+
+use spl_base::{Listing, NodeId};
+use spl_wire::{Message, Outgoing};
+use std::alloc::{AllocError, Global};
+use std::collections::BTreeMap;
+use std::marker::Model;
+
+/// The messages that a node ever sent about one circuit, by recipient, in the order in which they
+/// were sent.
+#[derive(Drop)]
+pub struct Outbox {
+    lists: BTreeMap<NodeId, Listing<Message>>,
+}
+
+impl Model for Outbox {
+    ghost use Rattle.spl_world.specs.Kept.{Lists};
+
+    ghost Value = { Lists };
+
+    ghost view = { λ s. s.lists.entries };
+}
+
+impl Outbox {
+    /// Nothing was sent yet.
+    pub fn new(alloc: Global) -> Outbox
+        ensures { result ≡ [] }
+    {
+        Outbox {
+            lists: BTreeMap::new(alloc),
+        }
+    }
+
+    /// How many messages were sent to a node.
+    pub fn count(&self, to: &NodeId) -> usize
+        ensures { result ≡ length (sent_to self.now to.now) }
+    {
+        match self.lists.get(to) {
+            Some(list) => list.len(),
+            None => 0,
+        }
+    }
+
+    /// The message of this index, from 0, of those that were sent to a node; None exactly where
+    /// there are fewer.
+    pub fn message(&self, to: &NodeId, index: usize) -> Option<&Message>
+        ensures { option_copied result ≡ slice_get (sent_to self.now to.now) index }
+    {
+        match self.lists.get(to) {
+            Some(list) => list.get(index),
+            None => None,
+        }
+    }
+
+    // One message more.
+    fn post(&mut self, alloc: Global, to: NodeId, message: Message) -> Result<(), AllocError>
+        ensures recipient { OnOk result (sent_to self.new to ≡ sent_to self.old to ++ message ∷ []) }
+        ensures others { OnOk result ((b : Id) → bytes_eq to b ≡ false → sent_to self.new b ≡ sent_to self.old b) }
+        ensures err { OnErr result ((b : Id) → sent_to self.new b ≡ sent_to self.old b) }
+    {
+        if let Some(list) = self.lists.get_mut(&to) {
+            return list.push(message);
+        }
+        let mut list = Listing::new(alloc);
+        list.push(message)?;
+        match self.lists.insert(to, list) {
+            Ok(_) => Ok(()),
+            Err(_) => Err(AllocError),
+        }
+    }
+
+    /// Messages are sent, in their order.
+    pub fn post_all(&mut self, alloc: Global, sends: &[Outgoing]) -> Result<(), AllocError>
+        ensures sent { OnOk result ((b : Id) → sent_to self.new b ≡ sent_to self.old b ++ sends_to b sends.now) }
+        ensures about { (c : Id) → ((b : Id) → AreAbout c (sent_to self.old b)) → SendsAreAbout c sends.now → (b : Id) → AreAbout c (sent_to self.new b) }
+    {
+        for send in sends {
+            self.post(alloc, send.to, send.message.copy(alloc)?)?;
+        }
+        Ok(())
+    }
+}

@@ -1,0 +1,70 @@
+//! A line of a schedule in the world.
+ghost use Rattle.std.specs.Prelude.{◌≡◌, ◌++◌, ◌∷◌, [], List, true, IsTrue, IfOk, OnOk};
+ghost use Rattle.std.specs.List.{list_all};
+ghost use Rattle.spl_circuit.specs.Nodes.{has_node};
+ghost use Rattle.spl_sched.specs.declared.line.Line.{Line as Told};
+ghost use Rattle.spl_sched.specs.declared.line.Line.TheVariants as line;
+ghost use Rattle.spl_sched.specs.Grammar.{nodes_of, step_nodes, step_circuit, is_line, is_step};
+ghost use Rattle.spl_sched.specs.Taken.{is_taken, is_step_taken};
+ghost use Rattle.spl_model.specs.Worlds.{World as CircuitWorld, step_plan, step_world};
+ghost use Rattle.spl_model.specs.Answers.{answer_to, line_world};
+ghost use Rattle.spl_world.specs.Views.{Holds, Moves, Stands, ids_of};
+
+use crate::world::World;
+use spl_sched::{Line, Step};
+use spl_wire::{Answer, Refusal};
+use std::alloc::{AllocError, Global};
+
+impl World {
+    // Runs a step.
+    fn run(&mut self, alloc: Global, step: &Step) -> Result<Answer, AllocError>
+        requires known { list_all (has_node (ids_of self.old)) (step_nodes step.now) ≡ true }
+        requires fits { is_step step.now ≡ true }
+        requires taken { is_step_taken step.now ≡ true }
+        ensures ids { ids_of self.new ≡ ids_of self.old }
+        ensures answer { (m : CircuitWorld) → Holds (step_circuit step.now) m self.old.nodes.items → IfOk result (λ a. a ≡ (step_plan m step.now).answer) }
+        ensures moves { OnOk result (Moves (step_circuit step.now) (λ m. step_world m step.now) self.old.nodes.items self.new.nodes.items) }
+    {
+        match step {
+            Step::At {
+                node,
+                circuit,
+                event,
+            } => {
+                let slot = self.slot(node);
+                self.handle(alloc, slot, *circuit, event)
+            }
+            Step::Deliver {
+                from,
+                to,
+                circuit,
+                number,
+            } => {
+                let sender = self.slot(from);
+                let recipient = self.slot(to);
+                let index = (*number - 1) as usize;
+                self.deliver(alloc, sender, recipient, *circuit, index)
+            }
+        }
+    }
+
+    /// Runs a line and answers it. `before` are the lines that ran so far. After want of memory the
+    /// world is done: no further call is made on it.
+    pub fn step(&mut self, alloc: Global, line: &Line) -> Result<Answer, AllocError>
+        requires known { IsTrue (list_all (has_node (ids_of self.old)) (nodes_of line.now)) }
+        requires fits { IsTrue (is_line line.now) }
+        requires taken { is_taken line.now ≡ true }
+        ensures ids { ids_of self.new ≡ ids_of self.old }
+        ensures answer { (before : List Told) → Stands before self.old → IfOk result (λ a. a ≡ answer_to (ids_of self.old) before line.now) }
+        ensures stands { (before : List Told) → Stands before self.old → OnOk result (Stands (before ++ line.now ∷ []) self.new) }
+    {
+        match line {
+            Line::Step(step) => self.run(alloc, step),
+            Line::Calm { circuit, passes } => {
+                self.calm(alloc, *circuit, *passes)?;
+                Ok(Answer::Calm { passes: *passes })
+            }
+            _ => Ok(Answer::Refused(Refusal::NoCircuit)),
+        }
+    }
+}
