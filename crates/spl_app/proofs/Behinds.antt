@@ -31,12 +31,12 @@ module _ (lines : List (List ℕ)) (run : Run) (a b : Option (List ℕ)) (behind
 
     module _ (number : ℕ) (l : Line) (counted : number ≡ length lines + 1) (is : said line ≡ Some l) (c : Option (List ℕ)) (later : Run) where
       pub behind_said : ids_of later.world ≡ registered → Stands (ran lines ++ l ∷ []) later.world
-          → IsDue b c later.output (run.output ++ printed number (text (answer_to (ran lines) l))) → IsBehind (lines ++ line ∷ []) later a c
+          → IsDue b c later.output (run.output ++ printed number (text (answer_to registered (ran lines) l))) → IsBehind (lines ++ line ∷ []) later a c
       behind_said nodes stands due = record {
         nodes = nodes;
         stands = subst (λ (ls : List Line). Stands ls later.world) (sym (ran_said lines line l is)) stands;
         due = subst (IsDue a c later.output) (sym (answers_said lines line number l counted is)) (due_due a b c _ _ _ _ behind.due due);
       }
 
-      pub part_said : IsDuePart b c later.output (run.output ++ printed number (text (answer_to (ran lines) l))) → IsDuePart a c later.output (answers (lines ++ line ∷ []))
+      pub part_said : IsDuePart b c later.output (run.output ++ printed number (text (answer_to registered (ran lines) l))) → IsDuePart a c later.output (answers (lines ++ line ∷ []))
       part_said part = subst (IsDuePart a c later.output) (sym (answers_said lines line number l counted is)) (due_then a b c _ _ _ _ behind.due part)

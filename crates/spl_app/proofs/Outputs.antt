@@ -1,15 +1,10 @@
 -- What a run writes, line by line.
-use Rattle.std.proofs.Common.{◌&&◌, Bool, true, false, IsTrue, ◌≡◌, ℕ, suc, ◌+◌, List, [], ◌∷◌, ◌++◌, Option, Some, None, length, map, refl, sym, ◌∙◌, ap, arith, append_assoc, append-nil}
+use Rattle.std.proofs.Common.{◌≡◌, ℕ, suc, ◌+◌, List, [], ◌∷◌, ◌++◌, Option, Some, None, length, map, refl, sym, ◌∙◌, ap, arith, append_assoc, append-nil}
 use Rattle.std.proofs.lemmas.List.{map-append}
-use Rattle.std.specs.List.{list_all}
-use Rattle.spl_circuit.specs.Nodes.{Node, has_node}
 use Rattle.spl_sched.specs.declared.line.Line.{Line}
-use Rattle.spl_sched.specs.declared.line.Line.TheVariants as line
-use Rattle.spl_sched.specs.declared.line.Step.TheVariants as step
-use Rattle.spl_sched.specs.Grammar.{nodes_of, node_of, event_nodes}
 use Rattle.spl_model.specs.Answers.{answer_to}
 use Rattle.spl_answer.specs.Texts.{text}
-use Rattle.spl_app.specs.Run.{said, with_number, numbered, printed, outputs, answers}
+use Rattle.spl_app.specs.Run.{registered, said, with_number, numbered, printed, outputs, answers}
 use Rattle.spl_app.specs.Behind.{ran}
 
 said_of : List (ℕ × Line) → List Line
@@ -29,7 +24,7 @@ numbered-append n (x ∷ xs) ys =
 outputs-append : (before : List Line) (xs ys : List (ℕ × Line)) → outputs before (xs ++ ys) ≡ outputs before xs ++ outputs (before ++ map (λ (x : ℕ × Line). x.1) xs) ys
 outputs-append before [] ys = ap (λ (b : List Line). outputs b ys) (sym (append-nil before))
 outputs-append before (x ∷ xs) ys =
-    let first = printed x.0 (text (answer_to before x.1)) in
+    let first = printed x.0 (text (answer_to registered before x.1)) in
     ap (λ (l : List ℕ). first ++ l) (outputs-append (before ++ x.1 ∷ []) xs ys
     ∙ ap (λ (b : List Line). outputs (before ++ x.1 ∷ []) xs ++ outputs b ys) (append_assoc before (x.1 ∷ []) (map (λ (y : ℕ × Line). y.1) xs)))
     ∙ sym (append_assoc first (outputs (before ++ x.1 ∷ []) xs) (outputs (before ++ x.1 ∷ map (λ (y : ℕ × Line). y.1) xs) ys))
@@ -53,19 +48,11 @@ module _ (lines : List (List ℕ)) (line : List ℕ) where
   ran_silent is = ran-append lines (line ∷ []) ∙ ap (λ (l : List (ℕ × Line)). ran lines ++ map (λ (x : ℕ × Line). x.1) l) (alone None is) ∙ append-nil (ran lines)
 
   -- a line that is run
-  pub answers_said : (number : ℕ) (l : Line) → number ≡ length lines + 1 → said line ≡ Some l → answers (lines ++ line ∷ []) ≡ answers lines ++ printed number (text (answer_to (ran lines) l))
+  pub answers_said : (number : ℕ) (l : Line) → number ≡ length lines + 1 → said line ≡ Some l → answers (lines ++ line ∷ []) ≡ answers lines ++ printed number (text (answer_to registered (ran lines) l))
   answers_said number l counted is =
       let same : 1 + length lines ≡ number = omega arith in
       answers-append lines (line ∷ []) ∙ ap (λ (ls : List (ℕ × Line)). answers lines ++ outputs (ran lines) ls) (alone (Some l) is)
-      ∙ ap (λ (t : List ℕ). answers lines ++ t) (append-nil (printed (1 + length lines) (text (answer_to (ran lines) l))) ∙ ap (λ (n : ℕ). printed n (text (answer_to (ran lines) l))) same)
+      ∙ ap (λ (t : List ℕ). answers lines ++ t) (append-nil (printed (1 + length lines) (text (answer_to registered (ran lines) l))) ∙ ap (λ (n : ℕ). printed n (text (answer_to registered (ran lines) l))) same)
 
   pub ran_said : (l : Line) → said line ≡ Some l → ran (lines ++ line ∷ []) ≡ ran lines ++ l ∷ []
   ran_said l is = ran-append lines (line ∷ []) ∙ ap (λ (ls : List (ℕ × Line)). ran lines ++ map (λ (x : ℕ × Line). x.1) ls) (alone (Some l) is)
-
-and_true_left : (a b : Bool) → IsTrue (a && b) → a ≡ true
-and_true_left true b all = refl
-and_true_left false b all = absurd (cc)
-
--- the node that a line takes place at is one that it names
-pub knows_node : (known : List Node) (l : Line) → IsTrue (list_all (has_node known) (nodes_of l)) → has_node known (node_of l) ≡ true
-knows_node known (line.Step (step.At n c e)) all = and_true_left (has_node known n) (list_all (has_node known) (event_nodes e)) all

@@ -1,9 +1,10 @@
 -- The lines of a schedule, and what a run writes (docs/RULES.md, Schedules, Answers).
-use Rattle.std.specs.Prelude.{◌≡◌, ◌⊎◌, ◌<◌, ◌≤◌, ◌+◌, ◌-◌, ℕ, List, [], ◌∷◌, ◌++◌, Option, Some, None, IsSomeAnd, IsTrue, if◌then◌else◌, take, drop, length, codes, decimal}
+use Rattle.std.specs.Prelude.{true, ◌≡◌, ◌⊎◌, ◌<◌, ◌≤◌, ◌+◌, ◌-◌, ℕ, List, [], ◌∷◌, ◌++◌, Option, Some, None, IsSomeAnd, IsTrue, if◌then◌else◌, take, drop, length, codes, decimal}
 use Rattle.std.specs.List.{AllByRecursion, list_all}
 use Rattle.spl_circuit.specs.Nodes.{Node, has_node}
 use Rattle.spl_sched.specs.declared.line.Line.{Line}
-use Rattle.spl_sched.specs.Grammar.{line_of, nodes_of}
+use Rattle.spl_sched.specs.Grammar.{line_of, nodes_of, is_line}
+use Rattle.spl_sched.specs.Taken.{is_taken}
 use Rattle.spl_model.specs.Answers.{answer_to}
 use Rattle.spl_answer.specs.Texts.{text}
 use Rattle.spl_app.specs.Lines.{is_silent}
@@ -12,13 +13,19 @@ use Rattle.spl_app.specs.Lines.{is_silent}
 abbrev pub registered : List Node
 registered = codes "alpha" ∷ codes "beta" ∷ codes "gamma" ∷ []
 
--- the line names no other node
-abbrev pub IsKnown : Line → Type 0
-IsKnown l = IsTrue (list_all (has_node registered) (nodes_of l))
+-- the line names no other node, and a run takes it
+abbrev pub IsAdmitted : Line → Type 0
+IsAdmitted l = IsTrue (list_all (has_node registered) (nodes_of l)) × IsTrue (is_taken l)
+
+-- a line that the world runs
+pub record IsRunnable (l : Line) : Type 0 where
+  pub known : IsTrue (list_all (has_node registered) (nodes_of l))
+  pub fits : IsTrue (is_line l)
+  pub taken : is_taken l ≡ true
 
 -- a line that a schedule may have
 abbrev pub IsLine : List ℕ → Type 0
-IsLine line = (length line ≤ 2048) × (IsTrue (is_silent line) ⊎ IsSomeAnd (line_of line) IsKnown)
+IsLine line = (length line ≤ 2048) × (IsTrue (is_silent line) ⊎ IsSomeAnd (line_of line) IsAdmitted)
 
 -- what is run of a line
 abbrev pub said : List ℕ → Option Line
@@ -40,7 +47,7 @@ printed n answer = decimal n ++ 32 ∷ answer ++ 10 ∷ []
 -- the answers to lines that run behind others, with the numbers of the lines
 abbrev pub outputs : List Line → List (ℕ × Line) → List ℕ
 outputs before [] = []
-outputs before (x ∷ xs) = printed x.0 (text (answer_to before x.1)) ++ outputs (before ++ x.1 ∷ []) xs
+outputs before (x ∷ xs) = printed x.0 (text (answer_to registered before x.1)) ++ outputs (before ++ x.1 ∷ []) xs
 
 -- what a run of these lines writes
 abbrev pub answers : List (List ℕ) → List ℕ

@@ -11,6 +11,10 @@ pub use status::Status;
 pub use top::splinter;
 
 #[cfg(test)]
+mod act_tests;
+#[cfg(test)]
+mod plain;
+#[cfg(test)]
 mod plain_tests;
 #[cfg(test)]
 mod tests;

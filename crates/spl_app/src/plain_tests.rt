@@ -1,47 +1,72 @@
-// The top call against the plain program of the definitions, over schedules without silent lines.
+// The top call against the plain program of the definitions.
+use crate::plain::Plain;
 use crate::{Status, splinter};
 use spl_answer::append_text;
+use spl_base::{CircuitId, NodeId};
 use spl_edge::{MemSink, MemSource};
-use spl_model::answers;
-use spl_sched::read_line;
-use std::alloc::{AllocError, Global};
+use spl_sched::{Line, read_line};
+use std::alloc::Global;
 use std::test::Fail;
 
-// What the plain program answers to these lines, each with its number.
-fn plain(alloc: Global, lines: &[&str]) -> Result<Vec<u8>, Fail> {
-    let mut read = Vec::new(alloc);
-    for line in lines {
-        read.push(read_line(alloc, line.as_bytes())?)?;
+fn node(name: &[u8]) -> Result<NodeId, Fail> {
+    match NodeId::read(name) {
+        Some(node) => Ok(node),
+        None => Err(Fail::from("no node id")),
     }
+}
+
+// The world of a circuit, among those that are there or a new one.
+fn world_of(
+    alloc: Global,
+    worlds: &mut Vec<Plain>,
+    circuit: CircuitId,
+    nodes: [NodeId; 3],
+) -> Result<&mut Plain, Fail> {
+    let found = worlds.iter().position(|world| world.circuit() == circuit);
+    if found.is_none() {
+        worlds.push(Plain::new(alloc, circuit, nodes))?;
+    }
+    let last = worlds.len().saturating_sub(1);
+    match worlds.get_mut(found.unwrap_or(last)) {
+        Some(world) => Ok(world),
+        None => Err(Fail::from("no world")),
+    }
+}
+
+fn line_of(alloc: Global, text: &str) -> Result<(CircuitId, Line), Fail> {
+    let line = read_line(alloc, text.as_bytes())?;
+    match line.circuit() {
+        Some(circuit) => Ok((circuit, line)),
+        None => Err(Fail::from("no circuit")),
+    }
+}
+
+// What the plain program answers to these lines, each with its number.
+fn plain(alloc: Global, schedule: &str) -> Result<Vec<u8>, Fail> {
+    let nodes = [node(b"alpha")?, node(b"beta")?, node(b"gamma")?];
+    let mut worlds = Vec::new(alloc);
     let mut written = Vec::new(alloc);
-    let told = answers(alloc, &read)?;
-    let mut number = 0u64;
-    for answer in told.as_slice() {
-        number = number.saturating_add(1);
-        let head = format!(in alloc; "{number} ")?;
+    for (i, text) in schedule.lines().enumerate() {
+        if text.is_empty() || text.starts_with('#') {
+            continue;
+        }
+        let (circuit, line) = line_of(alloc, text)?;
+        let answer = world_of(alloc, &mut worlds, circuit, nodes)?.run(alloc, line)?;
+        let head = format!(in alloc; "{} ", i.saturating_add(1))?;
         written.extend_from_slice(head.as_bytes())?;
-        append_text(answer, &mut written)?;
+        append_text(&answer, &mut written)?;
         written.push(b'\n')?;
     }
     Ok(written)
 }
 
-fn text(alloc: Global, lines: &[&str]) -> Result<Vec<u8>, AllocError> {
-    let mut text = Vec::new(alloc);
-    for line in lines {
-        text.extend_from_slice(line.as_bytes())?;
-        text.push(b'\n')?;
-    }
-    Ok(text)
-}
-
 // What the top call writes.
-fn real(alloc: Global, lines: &[&str]) -> Result<Vec<u8>, Fail> {
+fn real(alloc: Global, schedule: &str) -> Result<Vec<u8>, Fail> {
     let mut words = Vec::new(alloc);
     for word in ["replay", "registry", "schedule"] {
         words.push(String::from_str(alloc, word)?)?;
     }
-    let mut source = MemSource::new(text(alloc, lines)?, Vec::new(alloc));
+    let mut source = MemSource::new(schedule.as_bytes().to_vec(alloc)?, Vec::new(alloc));
     let mut out = MemSink::new(alloc, Vec::new(alloc));
     if splinter(alloc, &words, &mut source, &mut out) != Status::Ok {
         return Err(Fail::from("no good schedule"));
@@ -49,27 +74,316 @@ fn real(alloc: Global, lines: &[&str]) -> Result<Vec<u8>, Fail> {
     Ok(out.bytes().to_vec(alloc)?)
 }
 
+const SCHEDULES: [&str; 10] = [
+    "propose beta Ab3dE-00005 1 1 grid trade alpha,beta 0000:scabbard:beta,5mqJ:scabbard:alpha\n\
+     calm Ab3dE-00005 4\n\
+     vote alpha Ab3dE-00005 accept\n\
+     calm Ab3dE-00005 4\n\
+     calm Ab3dE-00005 8\n\
+     deliver beta alpha Ab3dE-00005 5\n\
+     vote beta Ab3dE-00005 accept\n\
+     show beta Ab3dE-00005\n\
+     deliver beta alpha Ab3dE-00005 2\n\
+     deliver alpha beta Ab3dE-00005 7\n\
+     deliver alpha beta Ab3dE-00005 2\n\
+     remove alpha Ab3dE-00005\n\
+     tick beta Ab3dE-00005\n\
+     tick beta Ab3dE-00005\n\
+     deliver beta alpha Ab3dE-00005 5\n\
+     show beta Ab3dE-00005\n\
+     deliver alpha beta Ab3dE-00005 4\n\
+     deliver alpha beta Ab3dE-00005 6\n\
+     show beta Ab3dE-00005\n\
+     show alpha Ab3dE-00005\n\
+     calm Ab3dE-00005 64\n\
+     tick beta Ab3dE-00005\n\
+     deliver beta alpha Ab3dE-00005 3\n\
+     show alpha Ab3dE-00005\n\
+     vote alpha Ab3dE-00005 accept\n\
+     deliver beta alpha Ab3dE-00005 7\n\
+     expire gamma Ab3dE-00005\n\
+     tick beta Ab3dE-00005\n\
+     deliver beta alpha Ab3dE-00005 5\n\
+     tick alpha Ab3dE-00005\n",
+    "propose alpha kD6ZP-mcJB6 3 1 grid <&> alpha,beta,gamma 0000:scabbard:alpha,Rw1B:scabbard:beta,aaaa:scabbard:gamma\n\
+     calm kD6ZP-mcJB6 4\n\
+     vote beta kD6ZP-mcJB6 accept\n\
+     calm kD6ZP-mcJB6 4\n\
+     vote gamma kD6ZP-mcJB6 accept\n\
+     calm kD6ZP-mcJB6 8\n\
+     tick gamma kD6ZP-mcJB6\n\
+     calm fhcdH-g3nnp 2\n\
+     calm Vpkmi-jspjo 1\n\
+     tick beta kD6ZP-mcJB6\n\
+     propose gamma fhcdH-g3nnp 1 1 gr:id <&> alpha,beta,gamma Zz9a:scabbard:gamma,aaaa:scabbard:beta,bbbb:scabbard:alpha\n\
+     calm fhcdH-g3nnp 2\n\
+     vote alpha fhcdH-g3nnp accept\n\
+     calm fhcdH-g3nnp 2\n\
+     vote beta fhcdH-g3nnp accept\n\
+     calm fhcdH-g3nnp 8\n\
+     deliver beta alpha kD6ZP-mcJB6 9\n\
+     tick beta kD6ZP-mcJB6\n\
+     tick beta fhcdH-g3nnp\n\
+     tick beta kD6ZP-mcJB6\n\
+     vote beta Vpkmi-jspjo accept\n\
+     deliver gamma alpha kD6ZP-mcJB6 2\n\
+     vote alpha kD6ZP-mcJB6 accept\n\
+     calm Vpkmi-jspjo 1\n\
+     tick gamma kD6ZP-mcJB6\n\
+     deliver gamma alpha kD6ZP-mcJB6 3\n\
+     remove alpha Vpkmi-jspjo\n\
+     deliver alpha beta fhcdH-g3nnp 13\n\
+     tick beta fhcdH-g3nnp\n\
+     deliver gamma alpha fhcdH-g3nnp 9\n",
+    "propose gamma 5b8gk-GFN6B 2 1 gr:id trade alpha,beta,gamma 0000:scabbard:alpha,aaaa:scabbard:gamma,bbbb:scabbard:beta\n\
+     calm 5b8gk-GFN6B 8\n\
+     vote alpha 5b8gk-GFN6B accept\n\
+     vote beta 5b8gk-GFN6B accept\n\
+     calm 5b8gk-GFN6B 8\n\
+     calm 5b8gk-GFN6B 8\n\
+     deliver alpha gamma 5b8gk-GFN6B 2\n\
+     deliver gamma alpha 5b8gk-GFN6B 2\n\
+     vote gamma IfDR3-0yhqm accept\n\
+     tick beta 5b8gk-GFN6B\n\
+     tick gamma 5b8gk-GFN6B\n\
+     tick gamma 5b8gk-GFN6B\n\
+     deliver beta alpha 5b8gk-GFN6B 8\n\
+     deliver alpha beta 5b8gk-GFN6B 2\n\
+     deliver beta alpha 5b8gk-GFN6B 2\n\
+     deliver gamma alpha 5b8gk-GFN6B 3\n\
+     tick alpha 5b8gk-GFN6B\n\
+     deliver beta alpha 5b8gk-GFN6B 3\n\
+     deliver alpha beta 5b8gk-GFN6B 6\n\
+     tick gamma 5b8gk-GFN6B\n\
+     propose gamma IfDR3-0yhqm 1 1 \" /\\/ beta,gamma cccc:scabbard:beta,rtd6:scabbard:gamma\n\
+     show gamma IfDR3-0yhqm\n\
+     deliver gamma alpha 5b8gk-GFN6B 4\n\
+     vote alpha 7OsFy-hsaYM accept\n\
+     deliver gamma beta IfDR3-0yhqm 1\n\
+     tick gamma IfDR3-0yhqm\n\
+     tick alpha Ab3dE-00003\n\
+     deliver alpha beta 5b8gk-GFN6B 7\n\
+     # a comment\n\
+     tick gamma IfDR3-0yhqm\n",
+    "propose alpha Ab3dE-00001 2 1 grid {}:,= alpha,beta,gamma 0000:scabbard:alpha,aaaa:scabbard:gamma,cccc:scabbard:beta\n\
+     calm Ab3dE-00001 8\n\
+     vote beta Ab3dE-00001 accept\n\
+     vote gamma Ab3dE-00001 accept\n\
+     calm Ab3dE-00001 8\n\
+     deliver beta alpha Ab3dE-00001 2\n\
+     tick alpha Ab3dE-00001\n\
+     deliver beta alpha Ab3dE-00001 2\n\
+     vote gamma Ab3dE-00001 accept\n\
+     show alpha Ab3dE-00001\n\
+     deliver alpha beta Ab3dE-00001 1\n\
+     vote gamma Ab3dE-00001 accept\n\
+     deliver alpha gamma Ab3dE-00001 9\n\
+     show alpha Ab3dE-00001\n\
+     deliver gamma alpha Ab3dE-00001 2\n\
+     vote beta Ab3dE-00001 accept\n\
+     propose alpha Ab3dE-00001 2 1 grid {}:,= alpha,beta,gamma 0000:scabbard-:alpha,aaaa:scabbard:gamma,cccc:scabbard:beta\n\
+     show beta Ab3dE-00001\n\
+     vote alpha Ab3dE-00001 accept\n\
+     tick beta Ab3dE-00001\n\
+     tick alpha Ab3dE-00001\n\
+     show beta Ab3dE-00001\n\
+     calm Ab3dE-00001 1\n\
+     show alpha Ab3dE-00001\n\
+     deliver beta alpha Ab3dE-00001 7\n\
+     tick beta Ab3dE-00001\n\
+     deliver alpha beta Ab3dE-00001 9\n\
+     show beta Ab3dE-00001\n\
+     tick beta Ab3dE-00001\n\
+     show beta Ab3dE-00001\n",
+    "propose gamma Ab3dE-00002 1 1 gr:id it's alpha,beta,gamma Zz9a:scabbard:alpha,cccc:scabbard:beta,hhdX:scabbard:gamma\n\
+     calm Ab3dE-00002 4\n\
+     vote alpha Ab3dE-00002 accept\n\
+     vote beta Ab3dE-00002 accept\n\
+     calm Ab3dE-00002 8\n\
+     deliver alpha gamma Ab3dE-00002 1\n\
+     vote alpha Ab3dE-00002 accept\n\
+     deliver beta alpha Ab3dE-00002 1\n\
+     tick alpha Ab3dE-00002\n\
+     deliver alpha gamma Ab3dE-00002 2\n\
+     deliver gamma alpha Ab3dE-00002 1\n\
+     deliver alpha gamma Ab3dE-00002 9\n\
+     show gamma Ab3dE-00002\n\
+     calm Ab3dE-00002 8\n\
+     tick alpha Ab3dE-00002\n\
+     deliver beta alpha Ab3dE-00002 2\n\
+     tick beta Ab3dE-00002\n\
+     deliver gamma alpha Ab3dE-00002 9\n\
+     show alpha Ab3dE-00002\n\
+     vote beta Ab3dE-00002 accept\n\
+     show gamma Ab3dE-00002\n\
+     tick gamma Ab3dE-00002\n\
+     show alpha Ab3dE-00002\n\
+     propose alpha Ab3dE-00002 1 1 gr:id it's alpha,beta,gamma Zz9a:scabbard:alpha,cccc:scabbard:beta,hhdX:scabbard:gamma\n\
+     vote beta Ab3dE-00002 accept\n\
+     show beta Ab3dE-00003\n\
+     deliver beta alpha Ab3dE-00002 3\n\
+     tick alpha Ab3dE-00002\n\
+     vote gamma Ab3dE-00002 accept\n\
+     tick alpha Ab3dE-00002\n",
+    "deliver alpha gamma Ab3dE-00003 4294967295\n\
+     tick beta Ab3dE-00005\n\
+     propose alpha Ab3dE-00005 1 1 grid one alpha,gamma 0000:scabbard:alpha,0001:scabbard:gamma\n\
+     propose beta Ab3dE-00005 1 1 grid two beta,gamma 0000:scabbard:beta,0001:scabbard:gamma\n\
+     tick alpha Ab3dE-00005\n\
+     tick beta Ab3dE-00005\n\
+     deliver alpha gamma Ab3dE-00005 1\n\
+     deliver beta gamma Ab3dE-00005 1\n\
+     deliver gamma beta Ab3dE-00005 1\n\
+     deliver beta gamma Ab3dE-00005 2\n\
+     deliver beta gamma Ab3dE-00005 3\n\
+     deliver alpha gamma Ab3dE-00005 1\n\
+     tick gamma Ab3dE-00005\n\
+     tick gamma Ab3dE-00005\n\
+     tick gamma Ab3dE-00005\n\
+     vote beta Ab3dE-00005 accept\n\
+     deliver alpha gamma Ab3dE-00005 1\n\
+     propose beta Ab3dE-00003 2 1 grid <&> alpha,beta bbbb:scabbard:beta,cccc:scabbard:alpha\n\
+     calm Ab3dE-00003 4\n\
+     vote alpha Ab3dE-00003 accept\n\
+     calm Ab3dE-00003 4\n\
+     calm Ab3dE-00003 8\n\
+     tick alpha Ab3dE-00005\n\
+     tick alpha Ab3dE-00005\n\
+     vote alpha Ab3dE-00005 accept\n\
+     tick beta Ab3dE-00003\n\
+     tick gamma Ab3dE-00005\n\
+     deliver beta alpha Ab3dE-00003 1\n\
+     tick gamma Ab3dE-00005\n\
+     deliver gamma alpha Ab3dE-00005 1\n",
+    "propose gamma Ab3dE-00004 1 1 gr:id yyyyyyyyyyyyyyyyyyyyyyyyyyyyyyyyyyyyyyyyyyyyyyyyyyyyyyyyyyyyyyyy alpha,beta,gamma 0000:scabbard:alpha,Zz9a:scabbard:gamma,aaaa:scabbard:beta\n\
+     calm Ab3dE-00004 2\n\
+     vote alpha Ab3dE-00004 accept\n\
+     calm Ab3dE-00004 2\n\
+     vote beta Ab3dE-00004 accept\n\
+     calm Ab3dE-00004 8\n\
+     tick beta Ab3dE-00004\n\
+     vote gamma zvCSc-hNR8z accept\n\
+     deliver gamma alpha Ab3dE-00004 5\n\
+     propose alpha kYZZI-cRYrM 3 1 \" trio alpha,beta 0000:scabbard:beta,bbbb:scabbard:alpha\n\
+     calm kYZZI-cRYrM 2\n\
+     vote beta kYZZI-cRYrM accept\n\
+     calm kYZZI-cRYrM 8\n\
+     tick alpha kYZZI-cRYrM\n\
+     deliver beta alpha Ab3dE-00004 2\n\
+     deliver gamma alpha Ab3dE-00004 2\n\
+     tick alpha kYZZI-cRYrM\n\
+     tick alpha Ab3dE-00004\n\
+     deliver beta alpha Ab3dE-00004 3\n\
+     deliver beta alpha kYZZI-cRYrM 1\n\
+     deliver beta alpha Ab3dE-00004 6\n\
+     expire gamma kYZZI-cRYrM\n\
+     tick gamma Ab3dE-00004\n\
+     vote alpha kYZZI-cRYrM accept\n\
+     deliver beta alpha Ab3dE-00004 4\n\
+     deliver beta alpha Ab3dE-00004 6\n\
+     deliver alpha gamma Ab3dE-00004 14\n\
+     deliver beta alpha kYZZI-cRYrM 2\n\
+     deliver beta alpha Ab3dE-00004 7\n\
+     deliver alpha beta kYZZI-cRYrM 2\n",
+    "propose beta Ab3dE-00001 1 1 mmmmmmmmmmmmmmmmmmmmmmmmmmmmmmmm it's alpha,beta,gamma aaaa:scabbard:alpha,bbbb:scabbard:beta,cccc:scabbard:gamma\n\
+     calm Ab3dE-00001 4\n\
+     vote alpha Ab3dE-00001 accept\n\
+     calm Ab3dE-00001 4\n\
+     vote gamma Ab3dE-00001 accept\n\
+     calm Ab3dE-00001 8\n\
+     vote alpha iplM2-z6tgu accept\n\
+     deliver alpha beta Ab3dE-00001 2\n\
+     deliver alpha gamma Ab3dE-00001 1\n\
+     deliver beta alpha Ab3dE-00001 1\n\
+     deliver gamma alpha Ab3dE-00001 6\n\
+     show gamma Ab3dE-00001\n\
+     deliver beta alpha Ab3dE-00001 9\n\
+     deliver beta alpha Ab3dE-00001 3\n\
+     vote beta Ab3dE-00001 accept\n\
+     tick alpha Ab3dE-00001\n\
+     vote alpha Ab3dE-00004 accept\n\
+     deliver gamma alpha Ab3dE-00001 2\n\
+     vote beta Ab3dE-00004 accept\n\
+     tick beta Ab3dE-00001\n\
+     show gamma Ab3dE-00001\n\
+     propose beta Ab3dE-00004 1 1 mmmmmmmmmmmmmmmmmmmmmmmmmmmmmmmm <&> alpha,beta,gamma Zz9a:scabbard:gamma,cccc:scabbard:alpha,mv5u:scabbard:beta\n\
+     deliver beta alpha Ab3dE-00004 1\n\
+     deliver gamma alpha Ab3dE-00001 9\n\
+     tick beta Ab3dE-00004\n\
+     deliver alpha beta Ab3dE-00001 4\n\
+     deliver beta alpha Ab3dE-00001 9\n\
+     calm iplM2-z6tgu 1\n\
+     deliver gamma alpha Ab3dE-00001 4\n\
+     deliver alpha gamma Ab3dE-00001 4\n",
+    "propose alpha Ab3dE-00004 2 1 gr:id x alpha,beta,gamma Zz9a:scabbard:gamma,aaaa:scabbard:alpha,euJr:scabbard:beta\n\
+     calm Ab3dE-00004 4\n\
+     vote beta Ab3dE-00004 accept\n\
+     calm Ab3dE-00004 4\n\
+     vote gamma Ab3dE-00004 accept\n\
+     calm Ab3dE-00004 4\n\
+     calm Ab3dE-00004 8\n\
+     vote alpha 6D0J1-fNNiA reject\n\
+     deliver beta alpha Ab3dE-00004 7\n\
+     propose beta 6D0J1-fNNiA 1 1 grid one alpha,beta 0000:scabbard:alpha,0001:scabbard:beta\n\
+     tick beta 6D0J1-fNNiA\n\
+     tick gamma 6D0J1-fNNiA\n\
+     deliver beta alpha 6D0J1-fNNiA 2\n\
+     deliver gamma alpha 6D0J1-fNNiA 1\n\
+     deliver alpha gamma 6D0J1-fNNiA 1\n\
+     deliver gamma alpha 6D0J1-fNNiA 1\n\
+     deliver gamma alpha 6D0J1-fNNiA 1\n\
+     propose alpha Ab3dE-00004 2 1 gr:id x alpha,beta,gamma Zz9a:scabbard:gamma,aaaa:scabbard:alpha,euJr:scabbard:beta\n\
+     deliver beta alpha Ab3dE-00004 1\n\
+     tick alpha Ab3dE-00004\n\
+     deliver alpha beta Ab3dE-00004 1\n\
+     deliver beta alpha 6D0J1-fNNiA 2\n\
+     #\n\
+     deliver gamma alpha Ab3dE-00004 2\n\
+     deliver alpha beta Ab3dE-00004 4\n\
+     propose gamma 6D0J1-fNNiA 3 1 mmmmmmmmmmmmmmmmmmmmmmmmmmmmmmmm <&> alpha,gamma Zz9a:scabbard:gamma,kXgI:scabbard:alpha\n\
+     tick beta Ab3dE-00004\n\
+     tick alpha 6D0J1-fNNiA\n\
+     calm 6D0J1-fNNiA 8\n\
+     deliver alpha gamma 6D0J1-fNNiA 2\n",
+    "propose gamma 3yR00-94rSQ 3 1 \" trade alpha,beta,gamma 0000:scabbard:beta,cccc:scabbard:gamma,dBr1:scabbard:alpha\n\
+     calm 3yR00-94rSQ 8\n\
+     vote alpha 3yR00-94rSQ accept\n\
+     vote beta 3yR00-94rSQ accept\n\
+     calm 3yR00-94rSQ 8\n\
+     calm 3yR00-94rSQ 8\n\
+     tick beta 3yR00-94rSQ\n\
+     show alpha 3yR00-94rSQ\n\
+     propose beta 3yR00-94rSQ 3 1 \" trade alpha,beta,gamma 0000:scabbard:beta,cccc:scabbard:gamma,dBr1:scabbard:alpha\n\
+     deliver beta alpha 3yR00-94rSQ 1\n\
+     show alpha 3yR00-94rSQ\n\
+     deliver alpha gamma 3yR00-94rSQ 1\n\
+     show alpha 3yR00-94rSQ\n\
+     deliver alpha gamma 3yR00-94rSQ 2\n\
+     deliver gamma alpha 3yR00-94rSQ 2\n\
+     tick beta 3yR00-94rSQ\n\
+     deliver gamma alpha 3yR00-94rSQ 2\n\
+     vote beta 3yR00-94rSQ accept\n\
+     vote beta 3yR00-94rSQ accept\n\
+     deliver gamma alpha 3yR00-94rSQ 4\n\
+     propose alpha 3yR00-94rSQ 3 1 \" trade alpha,beta,gamma 0000:scabbard:beta,cccc:scabbard:gamma,dBr1:scabbard:alpha\n\
+     deliver gamma alpha 3yR00-94rSQ 5\n\
+     propose gamma 3yR00-94rSQ 4 1 grid two alpha,gamma 0000:scabbard:alpha,0001:scabbard:gamma\n\
+     tick beta 3yR00-94rSQ\n\
+     tick gamma 3yR00-94rSQ\n\
+     deliver beta alpha 3yR00-94rSQ 8\n\
+     deliver gamma alpha 3yR00-94rSQ 9\n\
+     deliver alpha gamma 3yR00-94rSQ 11\n\
+     deliver gamma alpha 3yR00-94rSQ 8\n\
+     deliver gamma alpha 3yR00-94rSQ 9\n",
+];
+
 #[test]
 fn plain_and_real_agree(rt: HostRuntime) -> Result<(), Fail> {
-    let lines = [
-        "show alpha Ab3dE-00001",
-        "propose alpha Ab3dE-00001 1 1 grid trade alpha,beta aaaa:scabbard:alpha,bbbb:scabbard:beta",
-        "show alpha Ab3dE-00001",
-        "show beta Ab3dE-00001",
-        "propose alpha Ab3dE-00001 1 1 grid trade alpha,beta aaaa:scabbard:alpha,bbbb:scabbard:beta",
-        "propose alpha Ab3dE-00001 2 1 grid trade alpha,beta aaaa:scabbard:alpha,bbbb:scabbard:beta",
-        "propose gamma Ab3dE-00001 1 1 grid trade alpha,beta aaaa:scabbard:alpha,bbbb:scabbard:beta",
-        "propose beta Ab3dE-00001 1 1 grid solo beta bbbb:scabbard:beta",
-        "propose beta Ab3dE-00002 9 1 grid lend beta,gamma cccc:scabbard:beta,dddd:scabbard:gamma",
-        "propose beta Ab3dE-00001 0 1 grid trade alpha,beta aaaa:scabbard:alpha,bbbb:scabbard:beta",
-        "show beta Ab3dE-00002",
-        "show alpha Ab3dE-00002",
-        "show beta Ab3dE-00001",
-        "propose beta Ab3dE-00002 8 1 grid lend beta,gamma cccc:scabbard:beta,dddd:scabbard:gamma",
-    ];
     let alloc = rt.alloc();
-    let told = plain(alloc, &lines)?;
-    assert_eq!(rt; told.as_slice(), real(alloc, &lines)?.as_slice());
-    assert!(rt; told.as_slice().starts_with(b"1 refused 2\n2 ok queued\n"));
+    for schedule in SCHEDULES {
+        let told = plain(alloc, schedule)?;
+        assert_eq!(rt; told.as_slice(), real(alloc, schedule)?.as_slice());
+        assert!(rt; told.as_slice().starts_with(b"1 "));
+    }
     Ok(())
 }

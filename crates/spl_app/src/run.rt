@@ -6,7 +6,7 @@ ghost use Rattle.spl_edge.specs.Causes.{Rose, AppendsPart};
 ghost use Rattle.spl_base.specs.Ids.{is_node_id};
 ghost use Rattle.spl_app.specs.Lines.{lines_of};
 ghost use Rattle.spl_app.specs.Due.{IsDue, IsDuePart};
-ghost use Rattle.spl_app.specs.Run.{IsLine, IsKnown, IsFirstBad, registered, said, printed, answers};
+ghost use Rattle.spl_app.specs.Run.{IsLine, IsRunnable, IsFirstBad, registered, said, printed, answers};
 ghost use Rattle.spl_answer.specs.Texts.{text as text_of};
 ghost use Rattle.spl_model.specs.Answers.{answer_to};
 ghost use Rattle.spl_sched.specs.declared.line.Line.{Line as Said};
@@ -71,7 +71,7 @@ impl Run {
     fn read(&self, alloc: Global, line: &[u8]) -> Result<Option<Line>, LineFault>
         ensures good { OnOk result (IsLine line.now) }
         ensures said { IfOk result (λ o. o ≡ said line.now) }
-        ensures known { IfOk result (λ o. IfSome o IsKnown) }
+        ensures known { IfOk result (λ o. IfSome o IsRunnable) }
         ensures bad { IsErrOf result LineFault.BadLine → IsLine line.now → ⊥ }
     {
         if line.len() > MOST {
@@ -81,7 +81,7 @@ impl Run {
             return Ok(None);
         }
         match read_line(alloc, line) {
-            Ok(said) if said.names_only(&self.nodes) => Ok(Some(said)),
+            Ok(said) if said.names_only(&self.nodes) && said.is_taken() => Ok(Some(said)),
             Ok(_) => Err(LineFault::BadLine),
             Err(fault) => Err(fault),
         }
@@ -90,10 +90,10 @@ impl Run {
     // Runs a line that says this, and keeps the text of the answer.
     fn ask(&mut self, alloc: Global, said: &Line) -> Result<(), AllocError>
         requires nodes { ids_of self.old.world ≡ registered }
-        requires known { IsKnown said.now }
+        requires known { IsRunnable said.now }
         ensures nodes { ids_of self.new.world ≡ registered }
         ensures stands { (before : List Said) → Stands before self.old.world → OnOk result (Stands (before ++ said.now ∷ []) self.new.world) }
-        ensures text { (before : List Said) → Stands before self.old.world → OnOk result (self.new.text.items ≡ text_of (answer_to before said.now)) }
+        ensures text { (before : List Said) → Stands before self.old.world → OnOk result (self.new.text.items ≡ text_of (answer_to registered before said.now)) }
         ensures output { self.new.output ≡ self.old.output }
     {
         let answer = self.world.step(alloc, said)?;
@@ -110,13 +110,13 @@ impl Run {
         out: &mut W,
     ) -> Result<(), RunFault>
         requires nodes { ids_of self.old.world ≡ registered }
-        requires known { IsKnown said.now }
+        requires known { IsRunnable said.now }
         ensures nodes { ids_of self.new.world ≡ registered }
         ensures stands { (before : List Said) → Stands before self.old.world → OnOk result (Stands (before ++ said.now ∷ []) self.new.world) }
         ensures due { (before : List Said) → Stands before self.old.world → OnOk result (IsDue (W.written out.old) (W.written out.new) self.new.output
-            (self.old.output ++ printed number (text_of (answer_to before said.now)))) }
+            (self.old.output ++ printed number (text_of (answer_to registered before said.now)))) }
         ensures part { (before : List Said) → Stands before self.old.world → IsDuePart (W.written out.old) (W.written out.new) self.new.output
-            (self.old.output ++ printed number (text_of (answer_to before said.now))) }
+            (self.old.output ++ printed number (text_of (answer_to registered before said.now))) }
         ensures good { (n : ℕ) → IsErrOf result (RunFault.BadLine n) → ⊥ }
         ensures write { IsErrOf result RunFault.Write → Rose (W.faults out.old) (W.faults out.new) }
         ensures later { W.faults out.old ≤ W.faults out.new }

@@ -6,7 +6,7 @@ use std::test::Fail;
 
 // A run: the schedule, the calls of the source and of the sink that fail, how it ends and what it writes.
 #[derive(Clone, Copy)]
-struct Row<'a> {
+pub(crate) struct Row<'a> {
     schedule: &'a str,
     reads: &'a [u64],
     writes: &'a [u64],
@@ -14,7 +14,7 @@ struct Row<'a> {
     written: &'a str,
 }
 
-fn fault_free<'a>(schedule: &'a str, status: Status, written: &'a str) -> Row<'a> {
+pub(crate) fn fault_free<'a>(schedule: &'a str, status: Status, written: &'a str) -> Row<'a> {
     Row {
         schedule,
         reads: &[],
@@ -46,7 +46,7 @@ fn ran(
     Ok((status, out.bytes().to_vec(alloc)?))
 }
 
-fn check(rt: &impl Abort, alloc: Global, rows: &[Row]) -> Result<(), Fail> {
+pub(crate) fn check(rt: &impl Abort, alloc: Global, rows: &[Row]) -> Result<(), Fail> {
     for row in rows {
         let (status, written) = ran(
             alloc,
@@ -164,7 +164,7 @@ fn bad_lines_are_named(rt: HostRuntime) -> Result<(), Fail> {
                 "",
             ),
             fault_free(
-                "vote alpha Ab3dE-00001 accept\n",
+                "abandon alpha Ab3dE-00001\n",
                 Status::BadSchedule { line: 1 },
                 "",
             ),
