@@ -1,8 +1,10 @@
 //! Runs parts of splinter by themselves, as often as asked, for bench/run to measure.
 #![tactic(auto)]
 
-use spl_base::Malformed;
+use spl_base::{Malformed, Reader};
+use spl_command::{Batch, execute};
 use spl_frame::{FrameFault, Framer};
+use spl_state::{Address, State};
 use spl_wire::Record;
 use std::alloc::{AllocError, Global};
 use std::process::ExitCode;
@@ -71,6 +73,43 @@ fn frames(alloc: Global, bytes: &[u8], size: u32) -> Result<u64, Fault> {
     Ok(done)
 }
 
+// The state with one value at each of the addresses, which stand one behind the other.
+fn state_of(alloc: Global, addresses: &[u8]) -> Result<State, Fault> {
+    let mut state = State::new();
+    for bytes in addresses.chunks_exact(35) {
+        let mut address = [0u8; 35];
+        address.copy_from_slice(bytes);
+        state.set(alloc, Address(address), b"value")?;
+    }
+    Ok(state)
+}
+
+// The root of the state with these addresses, so many times from nothing; tells its first byte.
+fn root(alloc: Global, addresses: &[u8], times: u32) -> Result<u64, Fault> {
+    let state = state_of(alloc, addresses)?;
+    let mut done = 0u64;
+    for _ in 0..times {
+        done = u64::from(state.root()[0]);
+    }
+    Ok(done)
+}
+
+// Executes the batch at the front again and again on the state with the addresses behind it, and tells how often.
+fn execution(alloc: Global, bytes: &[u8], times: u32) -> Result<u64, Fault> {
+    let mut reader = Reader::new(bytes);
+    let batch = Batch::read(alloc, &mut reader)?;
+    let behind = reader.place().min(bytes.len());
+    let state = state_of(alloc, &bytes[behind..])?;
+    let mut done = 0u64;
+    if batch.fault().is_none() {
+        for _ in 0..times {
+            let _verdict = execute(alloc, &state, &batch)?;
+            done = done.saturating_add(1);
+        }
+    }
+    Ok(done)
+}
+
 // PART FILE NUMBER
 fn run(rt: &HostRuntime) -> io::Result<Option<u64>> {
     let mut words = Vec::new(rt.alloc());
@@ -88,6 +127,8 @@ fn run(rt: &HostRuntime) -> io::Result<Option<u64>> {
         "decode" => decode(rt.alloc(), &bytes, number),
         "encode" => encode(rt.alloc(), &bytes, number),
         "frames" => frames(rt.alloc(), &bytes, number),
+        "root" => root(rt.alloc(), &bytes, number),
+        "execute" => execution(rt.alloc(), &bytes, number),
         _ => return Ok(None),
     };
     Ok(done.ok())
