@@ -15,7 +15,8 @@ use spl_circuit::{Act, ActKind, Definition, Lifecycle, Members};
 use std::alloc::{AllocError, Global};
 use std::marker::Model;
 
-/// The acts applied so far to a circuit of one definition, and what they have brought it to (docs/RULES.md, Lifecycle). Contracts see the definition and the acts.
+/// The acts applied so far to a circuit of one definition, and what they have brought it to
+/// (docs/RULES.md, Lifecycle). Contracts see the definition and the acts.
 #[derive(Drop)]
 pub struct Ledger {
     pub(crate) definition: Definition,
@@ -85,7 +86,8 @@ impl Ledger {
         self.standing.has_accepted(node)
     }
 
-    /// The members that have accepted the circuit, in member order. An error comes for want of memory alone.
+    /// The members that have accepted the circuit, in member order. An error comes for want of
+    /// memory alone.
     pub fn accepted_members(&self, alloc: Global) -> Result<Members, AllocError>
         ensures { IfOk result (λ ms. ms ≡ accepted_members self.now) }
     {
@@ -153,7 +155,8 @@ impl Ledger {
         }
     }
 
-    /// Whether the member at a position is this node. Behind the members there is the empty id, which is no node's.
+    /// Whether the member at a position is this node. Behind the members there is the empty id,
+    /// which is no node's.
     pub(crate) fn is_at(&self, position: u8, node: &NodeId) -> bool
         ensures { result ≡ bytes_eq (node_or self.now.definition.members [] position) node.now }
     {

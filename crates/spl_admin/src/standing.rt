@@ -10,7 +10,8 @@ use spl_circuit::{Act, ActKind, Definition, Lifecycle};
 use std::alloc::{AllocError, Global};
 use std::marker::Model;
 
-/// Where a circuit stands, who proposed it, and who has accepted it, in their order (docs/RULES.md, Lifecycle).
+/// Where a circuit stands, who proposed it, and who has accepted it, in their order (docs/RULES.md,
+/// Lifecycle).
 #[derive(Drop)]
 pub(crate) struct Standing {
     lifecycle: Lifecycle,

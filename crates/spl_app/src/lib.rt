@@ -1,4 +1,5 @@
-//! The call that does all that the program does: it reads a schedule, runs its lines, and writes their answers.
+//! The call that does all that the program does: it reads a schedule, runs its lines, and writes
+//! their answers.
 #![tactic(auto)]
 
 mod lines;

@@ -75,7 +75,8 @@ impl Output {
         Ok(())
     }
 
-    /// Lets an answer wait, with the number of its line. It hands over what waits before, where both together are
+    /// Lets an answer wait, with the number of its line. It hands over what waits before, where
+    /// both together are
     /// more than a piece.
     pub fn put<W: Sink>(
         &mut self,

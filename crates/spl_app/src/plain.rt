@@ -1,4 +1,5 @@
-//! The answers to lines by a plain program of the definitions: each circuit by itself, one list of what happened
+//! The answers to lines by a plain program of the definitions: each circuit by itself, one list of
+//! what happened
 //! there and one of the messages that were sent, and a pass over them for each question.
 ghost use Rattle.std.specs.Prelude.{◌≡◌, true, IfOk};
 ghost use Rattle.spl_rules.specs.Cells.{is_handled};

@@ -186,7 +186,8 @@ impl Run {
     }
 }
 
-/// Runs each line of a text, up to the first that a schedule may not have, writes the answers, and tells how many
+/// Runs each line of a text, up to the first that a schedule may not have, writes the answers, and
+/// tells how many
 /// lines there were.
 pub fn run_lines<W: Sink>(alloc: Global, text: &[u8], out: &mut W) -> Result<u32, RunFault>
     requires { length text.now < 2 ^ 32 - 1 }

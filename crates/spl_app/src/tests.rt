@@ -4,7 +4,8 @@ use std::alloc::{AllocError, Global};
 use std::process::Abort;
 use std::test::Fail;
 
-// A run: the schedule, the calls of the source and of the sink that fail, how it ends and what it writes.
+// A run: the schedule, the calls of the source and of the sink that fail, how it ends and what it
+// writes.
 #[derive(Clone, Copy)]
 pub(crate) struct Row<'a> {
     schedule: &'a str,

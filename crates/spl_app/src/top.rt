@@ -37,8 +37,10 @@ fn head(bytes: &[u8]) -> &[u8]
     }
 }
 
-/// Does what the words ask for: `replay REGISTRY SCHEDULE` runs the schedule line by line, and writes each answer
-/// with the number of its line. The names are for the caller, who opens them. Want of memory can end any run; then
+/// Does what the words ask for: `replay REGISTRY SCHEDULE` runs the schedule line by line, and
+/// writes each answer
+/// with the number of its line. The names are for the caller, who opens them. Want of memory can
+/// end any run; then
 /// a front of the answers is written.
 pub fn splinter<S: Source, W: Sink>(
     alloc: Global,
@@ -50,12 +52,14 @@ pub fn splinter<S: Source, W: Sink>(
     ensures usage { (result ≡ Status.Usage) ↔ (IsReplay (map string_bytes words.now) → ⊥) }
     ensures nothing { result ≡ Status.Usage → Appends (W.written out.old) (W.written out.new) [] }
 
-    // The source was read to its end, it gave a schedule, and the answers to all of its lines are written.
+    // The source was read to its end, it gave a schedule, and the answers to all of its lines are
+    // written.
     ensures ok { result ≡ Status.Ok → let given = appended_bytes (S.taken schedule.old) (S.taken schedule.new) in
         IsSchedule given × IsAtEnd (S.left schedule.new)
         × Appends (W.written out.old) (W.written out.new) (answers (lines_of given)) }
 
-    // This is the first line that a schedule may not have, or the last one and without its line feed. The answers to
+    // This is the first line that a schedule may not have, or the last one and without its line
+    // feed. The answers to
     // the lines before it are written.
     ensures bad { (line : ℕ) → result ≡ Status.BadSchedule line → let given = appended_bytes (S.taken schedule.old) (S.taken schedule.new) in
         (IsFirstBad (run_of given) line ⊎ IsUnfinished given line)
@@ -69,12 +73,14 @@ pub fn splinter<S: Source, W: Sink>(
     // The sink failed.
     ensures write { result ≡ Status.WriteFault → Rose (W.faults out.old) (W.faults out.new) }
 
-    // The source gave more bytes than a schedule may have. The answers to the lines among those are written.
+    // The source gave more bytes than a schedule may have. The answers to the lines among those are
+    // written.
     ensures long { result ≡ Status.TooLong → let given = appended_bytes (S.taken schedule.old) (S.taken schedule.new) in
         (limit < length given) × AllByRecursion IsLine (run_of given)
         × Appends (W.written out.old) (W.written out.new) (answers (run_of given)) }
 
-    // With every status a front of the answers is written, and what was taken is what the source had.
+    // With every status a front of the answers is written, and what was taken is what the source
+    // had.
     ensures part { AppendsPart (W.written out.old) (W.written out.new)
         (answers (run_of (appended_bytes (S.taken schedule.old) (S.taken schedule.new)))) }
     ensures taken { Consumes (S.left schedule.old) (S.left schedule.new) (appended_bytes (S.taken schedule.old) (S.taken schedule.new)) }

@@ -45,7 +45,8 @@ impl Site {
         held.row(alloc, event)
     }
 
-    /// The cell is bound to a definition, and its admin group goes on by an event. A message came from `back`.
+    /// The cell is bound to a definition, and its admin group goes on by an event. A message came
+    /// from `back`.
     pub(crate) fn binds(
         &self,
         alloc: Global,

@@ -15,7 +15,8 @@ use std::alloc::{AllocError, Global};
 use std::marker::Model;
 use std::mem;
 
-/// What a node keeps about one circuit (docs/RULES.md, Cells). Contracts see the node, the circuit, and the cell of the rules.
+/// What a node keeps about one circuit (docs/RULES.md, Cells). Contracts see the node, the circuit,
+/// and the cell of the rules.
 #[derive(Drop)]
 pub struct Cell {
     site: Site,
@@ -69,7 +70,8 @@ impl Cell {
         }
     }
 
-    /// What an event gives: an answer, durable changes, a move of the open round, and messages. Nothing is changed. An error comes for want of memory alone.
+    /// What an event gives: an answer, durable changes, a move of the open round, and messages.
+    /// Nothing is changed. An error comes for want of memory alone.
     pub fn plan(&self, alloc: Global, event: &Event) -> Result<Plan, AllocError>
         requires handled { is_handled event.now ≡ true }
         requires own { IsFor self.now.here self.now.circuit event.now }
@@ -83,7 +85,8 @@ impl Cell {
         self.site.plan(alloc, &self.state, event)
     }
 
-    /// Makes the changes of a plan, each where it fits, and then its move. An error comes for want of memory alone, and the cell is halted then.
+    /// Makes the changes of a plan, each where it fits, and then its move. An error comes for want
+    /// of memory alone, and the cell is halted then.
     pub fn apply(&mut self, alloc: Global, plan: &Plan) -> Result<(), AllocError>
         requires { FitsMoveAt self.old.here (applied self.old.here self.old.circuit self.old.state plan.now.changes) plan.now.admin }
         ensures fixed { (self.new.here ≡ self.old.here) × (self.new.circuit ≡ self.old.circuit) }
@@ -96,7 +99,8 @@ impl Cell {
         Ok(())
     }
 
-    /// Makes changes that were read, each where it fits. An error comes for want of memory alone, and the cell is halted then.
+    /// Makes changes that were read, each where it fits. An error comes for want of memory alone,
+    /// and the cell is halted then.
     pub fn replay(&mut self, alloc: Global, changes: &ChangeList) -> Result<(), AllocError>
         requires { IsStill self.old.state }
         ensures fixed { (self.new.here ≡ self.old.here) × (self.new.circuit ≡ self.old.circuit) }

@@ -96,7 +96,8 @@ impl Held {
         self.acts.fits(alloc, change)
     }
 
-    /// Makes a change of the admin group that fits. An error comes for want of memory alone, and the cell is halted then.
+    /// Makes a change of the admin group that fits. An error comes for want of memory alone, and
+    /// the cell is halted then.
     #[tactic(auto, using(crate::proofs::Changes::seat_facts))]
     fn makes(&mut self, alloc: Global, change: &GroupChange<Act>) -> Result<(), AllocError>
         requires { fits_group (act_rules self.old.definition) any_value self.old.acts change.now ≡ true }

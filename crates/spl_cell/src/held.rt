@@ -21,7 +21,8 @@ use spl_wire::{ChangeList, Plan};
 use std::alloc::{AllocError, Global};
 use std::marker::Model;
 
-/// What a bound cell keeps: its mark, the turn of the node, and the node's member in the admin group, whose content has the definition.
+/// What a bound cell keeps: its mark, the turn of the node, and the node's member in the admin
+/// group, whose content has the definition.
 #[derive(Drop)]
 pub(crate) struct Held {
     pub site: Site,

@@ -115,7 +115,8 @@ impl Site {
         Ok(sends)
     }
 
-    /// What the admin group of a definition gives, behind a first change. A message came from `back`.
+    /// What the admin group of a definition gives, behind a first change. A message came from
+    /// `back`.
     pub(crate) fn admin_plan(
         &self,
         alloc: Global,

@@ -6,7 +6,8 @@ ghost use Rattle.spl_cell.specs.States.{cell_of};
 use crate::held::Held;
 use spl_agree::Generation;
 
-/// What a node keeps about one circuit: nothing, what a bound cell keeps, or the generation that a purged one last had (docs/RULES.md, Cells).
+/// What a node keeps about one circuit: nothing, what a bound cell keeps, or the generation that a
+/// purged one last had (docs/RULES.md, Cells).
 #[derive(Drop)]
 pub(crate) enum State {
     Empty,

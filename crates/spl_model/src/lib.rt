@@ -1,4 +1,5 @@
-//! The world of one circuit, and the answers to a schedule: definitions, and what follows from them.
+//! The world of one circuit, and the answers to a schedule: definitions, and what follows from
+//! them.
 #![tactic(auto)]
 
 ghost use Rattle.std.specs.Prelude.{◌≡◌, Some, true, false, List, [], ◌∷◌, ◌++◌};
@@ -7,7 +8,8 @@ ghost use Rattle.spl_sched.specs.declared.line.Line.{Line};
 ghost use Rattle.spl_sched.specs.Grammar.{circuit_of};
 ghost use Rattle.spl_model.specs.Answers.{names, line_world, circuit_world, answer_to};
 
-/// A line moves the world of its own circuit, and no other; so it changes the answer to no line about another circuit.
+/// A line moves the world of its own circuit, and no other; so it changes the answer to no line
+/// about another circuit.
 pub fn circuits_are_apart()
     ensures own { (ns : List Node) (before : List Line) (l : Line) (c : Node) → names c l ≡ true → circuit_world ns c (before ++ l ∷ []) ≡ line_world (circuit_world ns c before) l }
     ensures others { (ns : List Node) (before : List Line) (l : Line) (c : Node) → names c l ≡ false → circuit_world ns c (before ++ l ∷ []) ≡ circuit_world ns c before }

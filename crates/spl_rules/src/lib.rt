@@ -14,13 +14,15 @@ ghost use Rattle.spl_rules.specs.Valid.{IsKept, IsSettledCell, IsValid, FitsMove
 ghost use Rattle.spl_wire.specs.declared.change.Change.{Change};
 ghost use Rattle.spl_agree.specs.declared.event.OpenMove.{OpenMove};
 
-/// An event that is refused changes nothing and sends nothing; one that only tells something does neither.
+/// An event that is refused changes nothing and sends nothing; one that only tells something does
+/// neither.
 pub fn refusals_change_nothing()
     ensures refused { (here c : Node) (k : Cell) (e : Event) (r : Refusal) → does here c k e ≡ Refuses r → ((plan_of here c k e).answer ≡ answer.Refused r) × (after_plan here k (plan_of here c k e) ≡ k) × ((plan_of here c k e).sends ≡ []) }
     ensures told { (here c : Node) (k : Cell) (e : Event) (a : Told) → does here c k e ≡ Tells a → (after_plan here k (plan_of here c k e) ≡ k) × ((plan_of here c k e).sends ≡ []) }
 {}
 
-/// What a cell keeps: it is valid at first; a change that is read keeps what a cell keeps, whether it fits or not, and a move that fits leaves the cell valid; a stop leaves it valid.
+/// What a cell keeps: it is valid at first; a change that is read keeps what a cell keeps, whether
+/// it fits or not, and a move that fits leaves the cell valid; a stop leaves it valid.
 pub fn cells_stay_valid()
     ensures empty { (here c : Node) → IsValid here c Empty }
     ensures change { (here c : Node) (k : Cell) (x : Change) → IsKept here c k → IsKept here c (applied_one here c k x) }
@@ -28,7 +30,8 @@ pub fn cells_stay_valid()
     ensures stop { (here c : Node) (k : Cell) → IsKept here c k → IsValid here c (stopped_cell k) }
 {}
 
-/// At a valid cell each change of a plan fits behind those before it, and the move fits behind them; so the cell behind a plan is valid.
+/// At a valid cell each change of a plan fits behind those before it, and the move fits behind
+/// them; so the cell behind a plan is valid.
 pub fn plans_fit_cells()
     ensures changes { (here c : Node) (k : Cell) (e : Event) → IsFor here c e → IsValid here c k → applied here c k (plan_of here c k e).changes ≡ made here k (plan_of here c k e).changes }
     ensures moves { (here c : Node) (k : Cell) (e : Event) → IsFor here c e → IsValid here c k → FitsMoveAt here (made here k (plan_of here c k e).changes) (plan_of here c k e).admin }

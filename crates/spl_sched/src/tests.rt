@@ -256,7 +256,8 @@ fn nodes(alloc: Global, texts: &[&str]) -> Result<Vec<NodeId>, Fail> {
     Ok(all)
 }
 
-/// A line, the circuit that it names, whether a run takes it, and which of alpha, beta and gamma it names.
+/// A line, the circuit that it names, whether a run takes it, and which of alpha, beta and gamma it
+/// names.
 const SAID: [(&[u8], &[u8], bool, [bool; 3]); 16] = [
     (
         b"show alpha Ab3dE-00001",

@@ -152,7 +152,8 @@ fn put_line(line: &Line, w: &mut Writer) -> Result<(), AllocError>
     }
 }
 
-/// The spelling of the line (docs/RULES.md, Schedules). It is read back where the line is within its
+/// The spelling of the line (docs/RULES.md, Schedules). It is read back where the line is within
+/// its
 /// bounds. Fails only where memory runs out.
 pub fn write_line(alloc: Global, line: &Line) -> Result<Piece, AllocError>
     ensures spelled { IfOk result (λ p. p ≡ spelling line.now) }

@@ -4,7 +4,8 @@ use spl_agree::{Generation, Note};
 use spl_base::{Boxed, NodeId};
 use spl_circuit::{Definition, Lifecycle, Mark, Members};
 
-/// Why an event is refused. A refused event changes nothing and sends nothing (docs/RULES.md, Cells).
+/// Why an event is refused. A refused event changes nothing and sends nothing (docs/RULES.md,
+/// Cells).
 #[derive(Clone, Copy, Debug, PartialEq, Eq)]
 pub enum Refusal {
     /// The cell is empty or purged.

@@ -1,4 +1,5 @@
-//! The grammar of definitions, acts, messages and records as a plain program: how many bytes the value
+//! The grammar of definitions, acts, messages and records as a plain program: how many bytes the
+//! value
 //! at the front takes, or where its first unreadable field begins.
 
 #[derive(Clone, Copy, PartialEq, Eq)]
