@@ -1,6 +1,7 @@
 //! The ids of batches.
 ghost use Rattle.std.specs.Prelude.{◌≡◌};
 
+use crate::listing::Listing;
 use std::marker::Model;
 
 /// The id of a batch, which its submitter chooses (docs/RULES.md, Ids). Contracts see its number.
@@ -16,3 +17,6 @@ impl Model for BatchId {
 
     ghost inverse = { λ n. record { 0 = n } };
 }
+
+/// The ids of batches, in an order that their holder tells.
+pub type BatchIds = Listing<BatchId>;
