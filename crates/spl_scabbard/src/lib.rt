@@ -4,7 +4,8 @@
 mod agreed;
 mod service;
 
-pub use service::{BatchIds, Service};
+pub use service::Service;
+pub use spl_base::BatchIds;
 
 #[cfg(test)]
 mod tests;

@@ -9,14 +9,11 @@ ghost use Rattle.spl_scabbard.specs.Readers.{ids_of, place_of, receipts_of};
 
 use indexmap::IndexMap;
 use spl_agree::{Place, Reason};
-use spl_base::{BatchId, Listing};
+use spl_base::{BatchId, BatchIds, Listing};
 use spl_command::{Batch, Receipts, Verdict, execute};
 use spl_state::State;
 use std::alloc::{AllocError, Global};
 use std::marker::Model;
-
-/// The ids of batches, in the order in which they were applied.
-pub type BatchIds = Listing<BatchId>;
 
 /// The batches applied so far, the state that they left, and the receipts of each by its id
 /// (docs/RULES.md, Batches). Contracts see the batches.
@@ -83,7 +80,7 @@ impl Service {
         }
     }
 
-    /// The ids of the batches.
+    /// The ids of the batches, in the order in which they were applied.
     pub fn history(&self) -> &BatchIds
         ensures { result.now ≡ ids_of self.now }
     {
