@@ -4,3 +4,4 @@ pub mod Rules
 pub mod Equality
 pub mod Lifecycle
 pub mod Acts
+pub mod Routing
