@@ -1,2 +1,4 @@
 pub mod Bodies
+pub mod Messages
+pub mod Changes
 pub mod Forms

@@ -1,13 +1,17 @@
 //! What a node answers to an event.
 
-use spl_agree::{Generation, Note};
-use spl_base::{Boxed, NodeId};
-use spl_circuit::{Definition, Lifecycle, Mark, Members};
+use spl_agree::{Generation, Note, Place, Reason};
+use spl_base::{BatchId, BatchIds, Boxed, Listing, NodeId, Piece};
+use spl_circuit::{Definition, Lifecycle, Mark, Members, RouteFault};
+use spl_command::Receipts;
+use spl_state::Address;
 
 /// Why an event is refused. A refused event changes nothing and sends nothing (docs/RULES.md,
 /// Cells).
 #[derive(Clone, Copy, Debug, PartialEq, Eq)]
 pub enum Refusal {
+    /// The node is down.
+    Down,
     /// The cell is empty or purged.
     NoCircuit,
     /// The definition breaks the rule of this number, and none before it.
@@ -30,11 +34,41 @@ pub enum Refusal {
     NotActive,
     /// The node takes no further part.
     Closed,
+    /// The batch breaks the rule of this number, and none before it.
+    BadBatch(u8),
+    /// The id of the batch is known here with other content.
+    IdTaken,
+    /// The id isn't known here, and 64 batches are pending here.
+    QueueFull,
     /// The node takes part, and its part isn't over.
     NotPurgeable,
     /// Fewer messages were sent.
     NoMessage,
+    /// A message between these services isn't delivered.
+    NotRouted(RouteFault),
+    /// No batch of the id is known here; of a receipt: none is committed here.
+    UnknownId,
 }
+
+/// Where a batch stands at a node.
+#[derive(Clone, Copy, Debug, PartialEq, Eq)]
+pub enum BatchStatus {
+    /// It is at this place of the agreed list.
+    Committed(Place),
+    Pending,
+    /// It was refused, for this reason.
+    Refused(Reason),
+}
+
+/// An entry of a state.
+#[derive(Debug, Drop)]
+pub struct Entry {
+    pub address: Address,
+    pub value: Piece,
+}
+
+/// Entries of a state, in the order of their addresses.
+pub type Entries = Listing<Entry>;
 
 /// The answer to an event (docs/RULES.md, Answers).
 #[derive(Debug, Drop)]
@@ -68,6 +102,27 @@ pub enum Answer {
         accepted: Members,
         requester: Option<NodeId>,
     },
+    /// How many batches are committed here, and the root of the state that they left.
+    Root {
+        count: u32,
+        root: [u8; 32],
+    },
+    /// The ids of the batches that are committed here, in their order.
+    History(BatchIds),
+    /// The value at an address, if there is one.
+    Value(Option<Piece>),
+    /// The entries under a prefix.
+    Listed(Entries),
+    /// Where a batch stands.
+    Status(BatchStatus),
+    /// What a committed batch left, and its place in the agreed list.
+    Receipt {
+        batch: BatchId,
+        place: Place,
+        receipts: Receipts,
+    },
+    /// A message between these services would be delivered.
+    Routed,
     /// What the two groups did.
     Notes {
         admin: Note,

@@ -1,17 +1,14 @@
 //! Durable changes of a cell.
-ghost use Rattle.std.specs.Prelude.{◌≡◌};
+ghost use Rattle.std.specs.Prelude.{◌≡◌, ◌++◌, IsTrue, OnOk};
+ghost use Rattle.spl_base.specs.Form.{Reads, ◌&◌};
+ghost use Rattle.spl_wire.specs.Bodies as form;
 
 use crate::body::{put_reason, take_reason};
-use spl_agree::{GroupChange, Round};
+use spl_agree::{GroupChange, Reason, Round};
 use spl_base::{Boxed, Field, Malformed, Reader, Writer};
 use spl_circuit::{Act, Definition};
+use spl_command::Batch;
 use std::alloc::{AllocError, Global};
-
-/// A group of a circuit.
-#[derive(Clone, Copy, Debug)]
-pub(crate) enum Group {
-    Admin,
-}
 
 /// A durable change of a cell.
 #[derive(Debug, Drop)]
@@ -20,87 +17,184 @@ pub enum Change {
     Bind(Boxed<Definition>),
     /// A change of the node's member in the admin group.
     Admin(GroupChange<Act>),
+    /// A change of the node's member in the service group.
+    Service(GroupChange<Batch>),
     /// The node takes no further part.
     Abandon,
     /// The cell forgets all but the generation.
     Purge,
 }
 
-impl Field for Group {
-    ghost use Rattle.spl_wire.specs.Forms.{group_form, exact_group};
+fn take_refused<V: Field>(alloc: Global, r: &mut Reader) -> Result<(V, Reason), Malformed>
+    ensures { Reads (λ x. x) result r.new ((V.form & form.reason).parse r.old) }
+{
+    let value = V::take(alloc, r)?;
+    let reason = take_reason(alloc, r)?;
+    Ok((value, reason))
+}
 
-    ghost form = { group_form };
-
-    fn put(&self, w: &mut Writer) -> Result<(), AllocError> {
-        let Group::Admin = self;
-        1u8.put(w)
-    }
-
-    fn take(alloc: Global, r: &mut Reader) -> Result<Group, Malformed> {
-        let at = r.place();
-        match u8::take(alloc, r)? {
-            1 => Ok(Group::Admin),
-            _ => Err(Malformed::At { at }),
-        }
-    }
-
-    ghost exact = { exact_group };
+fn take_rounded<V: Field>(alloc: Global, r: &mut Reader) -> Result<(u64, V), Malformed>
+    ensures { Reads (λ x. x) result r.new ((form.long & V.form).parse r.old) }
+{
+    let round = u64::take(alloc, r)?;
+    let value = V::take(alloc, r)?;
+    Ok((round, value))
 }
 
 impl Change {
     ghost use Rattle.std.specs.Prelude.{◌≡◌, ◌++◌, IsTrue, OnOk};
-    ghost use Rattle.spl_wire.specs.Forms.{change_form};
-    ghost use Rattle.spl_wire.specs.declared.change.Change.TheVariants.{Admin};
+    ghost use Rattle.spl_base.specs.Form.{Reads};
+    ghost use Rattle.spl_wire.specs.Changes.{group_change, fits_change, bounded_change, behind_tag};
 
-    fn put_admin(change: &GroupChange<Act>, w: &mut Writer) -> Result<(), AllocError>
-        requires { IsTrue (change_form.bounded (Admin change.now)) }
-        ensures ok { OnOk result (w.new ≡ w.old ++ change_form.spell (Admin change.now)) }
-        ensures fits { OnOk result (IsTrue (change_form.fits (Admin change.now))) }
+    /// Appends the byte form of a change of the group of this number.
+    fn put_group<V: Field>(
+        group: u8,
+        change: &GroupChange<V>,
+        w: &mut Writer,
+    ) -> Result<(), AllocError>
+        requires { IsTrue (bounded_change V.form change.now) }
+        ensures ok { OnOk result (w.new ≡ w.old ++ group_change V.form group change.now) }
+        ensures fits { OnOk result (IsTrue (fits_change V.form change.now)) }
     {
         match change {
             GroupChange::Queue(value) => {
                 2u8.put(w)?;
-                Group::Admin.put(w)?;
+                group.put(w)?;
                 value.put(w)
             }
             GroupChange::Refuse(value, reason) => {
                 3u8.put(w)?;
-                Group::Admin.put(w)?;
+                group.put(w)?;
                 value.put(w)?;
                 put_reason(*reason, w)
             }
             GroupChange::Begin(round) => {
                 4u8.put(w)?;
-                Group::Admin.put(w)?;
+                group.put(w)?;
                 round.0.put(w)
             }
             GroupChange::Seen(round) => {
                 5u8.put(w)?;
-                Group::Admin.put(w)?;
+                group.put(w)?;
                 round.0.put(w)
             }
             GroupChange::Promise(round, value) => {
                 6u8.put(w)?;
-                Group::Admin.put(w)?;
+                group.put(w)?;
                 round.0.put(w)?;
                 value.put(w)
             }
             GroupChange::Abort => {
                 7u8.put(w)?;
-                Group::Admin.put(w)
+                group.put(w)
             }
             GroupChange::Commit(round, value) => {
                 8u8.put(w)?;
-                Group::Admin.put(w)?;
+                group.put(w)?;
                 round.0.put(w)?;
                 value.put(w)
             }
         }
     }
+
+    fn take_queue(alloc: Global, r: &mut Reader) -> Result<Change, Malformed>
+        ensures { Reads (λ x. x) result r.new (behind_tag 2 r.old) }
+    {
+        let at = r.place();
+        match u8::take(alloc, r)? {
+            1 => Ok(Change::Admin(GroupChange::Queue(Act::take(alloc, r)?))),
+            2 => Ok(Change::Service(GroupChange::Queue(Batch::take(alloc, r)?))),
+            _ => Err(Malformed::At { at }),
+        }
+    }
+
+    fn take_refuse(alloc: Global, r: &mut Reader) -> Result<Change, Malformed>
+        ensures { Reads (λ x. x) result r.new (behind_tag 3 r.old) }
+    {
+        let at = r.place();
+        match u8::take(alloc, r)? {
+            1 => {
+                let (value, reason) = take_refused(alloc, r)?;
+                Ok(Change::Admin(GroupChange::Refuse(value, reason)))
+            }
+            2 => {
+                let (value, reason) = take_refused(alloc, r)?;
+                Ok(Change::Service(GroupChange::Refuse(value, reason)))
+            }
+            _ => Err(Malformed::At { at }),
+        }
+    }
+
+    fn take_begin(alloc: Global, r: &mut Reader) -> Result<Change, Malformed>
+        ensures { Reads (λ x. x) result r.new (behind_tag 4 r.old) }
+    {
+        let at = r.place();
+        match u8::take(alloc, r)? {
+            1 => Ok(Change::Admin(GroupChange::Begin(Round(u64::take(alloc, r)?)))),
+            2 => Ok(Change::Service(GroupChange::Begin(Round(u64::take(alloc, r)?)))),
+            _ => Err(Malformed::At { at }),
+        }
+    }
+
+    fn take_seen(alloc: Global, r: &mut Reader) -> Result<Change, Malformed>
+        ensures { Reads (λ x. x) result r.new (behind_tag 5 r.old) }
+    {
+        let at = r.place();
+        match u8::take(alloc, r)? {
+            1 => Ok(Change::Admin(GroupChange::Seen(Round(u64::take(alloc, r)?)))),
+            2 => Ok(Change::Service(GroupChange::Seen(Round(u64::take(alloc, r)?)))),
+            _ => Err(Malformed::At { at }),
+        }
+    }
+
+    fn take_promise(alloc: Global, r: &mut Reader) -> Result<Change, Malformed>
+        ensures { Reads (λ x. x) result r.new (behind_tag 6 r.old) }
+    {
+        let at = r.place();
+        match u8::take(alloc, r)? {
+            1 => {
+                let (round, value) = take_rounded(alloc, r)?;
+                Ok(Change::Admin(GroupChange::Promise(Round(round), value)))
+            }
+            2 => {
+                let (round, value) = take_rounded(alloc, r)?;
+                Ok(Change::Service(GroupChange::Promise(Round(round), value)))
+            }
+            _ => Err(Malformed::At { at }),
+        }
+    }
+
+    fn take_abort(alloc: Global, r: &mut Reader) -> Result<Change, Malformed>
+        ensures { Reads (λ x. x) result r.new (behind_tag 7 r.old) }
+    {
+        let at = r.place();
+        match u8::take(alloc, r)? {
+            1 => Ok(Change::Admin(GroupChange::Abort)),
+            2 => Ok(Change::Service(GroupChange::Abort)),
+            _ => Err(Malformed::At { at }),
+        }
+    }
+
+    fn take_commit(alloc: Global, r: &mut Reader) -> Result<Change, Malformed>
+        ensures { Reads (λ x. x) result r.new (behind_tag 8 r.old) }
+    {
+        let at = r.place();
+        match u8::take(alloc, r)? {
+            1 => {
+                let (round, value) = take_rounded(alloc, r)?;
+                Ok(Change::Admin(GroupChange::Commit(Round(round), value)))
+            }
+            2 => {
+                let (round, value) = take_rounded(alloc, r)?;
+                Ok(Change::Service(GroupChange::Commit(Round(round), value)))
+            }
+            _ => Err(Malformed::At { at }),
+        }
+    }
 }
 
 impl Field for Change {
-    ghost use Rattle.spl_wire.specs.Forms.{change_form, exact_change};
+    ghost use Rattle.spl_wire.specs.Changes.{change_form, exact_change};
 
     ghost form = { change_form };
 
@@ -110,7 +204,8 @@ impl Field for Change {
                 1u8.put(w)?;
                 definition.put(w)
             }
-            Change::Admin(change) => Change::put_admin(change, w),
+            Change::Admin(change) => Change::put_group(1, change, w),
+            Change::Service(change) => Change::put_group(2, change, w),
             Change::Abandon => 9u8.put(w),
             Change::Purge => 10u8.put(w),
         }
@@ -120,43 +215,13 @@ impl Field for Change {
         let at = r.place();
         match u8::take(alloc, r)? {
             1 => Ok(Change::Bind(Boxed::take(alloc, r)?)),
-            2 => {
-                let Group::Admin = Group::take(alloc, r)?;
-                let value = Act::take(alloc, r)?;
-                Ok(Change::Admin(GroupChange::Queue(value)))
-            }
-            3 => {
-                let Group::Admin = Group::take(alloc, r)?;
-                let value = Act::take(alloc, r)?;
-                let reason = take_reason(alloc, r)?;
-                Ok(Change::Admin(GroupChange::Refuse(value, reason)))
-            }
-            4 => {
-                let Group::Admin = Group::take(alloc, r)?;
-                let round = Round(u64::take(alloc, r)?);
-                Ok(Change::Admin(GroupChange::Begin(round)))
-            }
-            5 => {
-                let Group::Admin = Group::take(alloc, r)?;
-                let round = Round(u64::take(alloc, r)?);
-                Ok(Change::Admin(GroupChange::Seen(round)))
-            }
-            6 => {
-                let Group::Admin = Group::take(alloc, r)?;
-                let round = Round(u64::take(alloc, r)?);
-                let value = Act::take(alloc, r)?;
-                Ok(Change::Admin(GroupChange::Promise(round, value)))
-            }
-            7 => {
-                let Group::Admin = Group::take(alloc, r)?;
-                Ok(Change::Admin(GroupChange::Abort))
-            }
-            8 => {
-                let Group::Admin = Group::take(alloc, r)?;
-                let round = Round(u64::take(alloc, r)?);
-                let value = Act::take(alloc, r)?;
-                Ok(Change::Admin(GroupChange::Commit(round, value)))
-            }
+            2 => Change::take_queue(alloc, r),
+            3 => Change::take_refuse(alloc, r),
+            4 => Change::take_begin(alloc, r),
+            5 => Change::take_seen(alloc, r),
+            6 => Change::take_promise(alloc, r),
+            7 => Change::take_abort(alloc, r),
+            8 => Change::take_commit(alloc, r),
             9 => Ok(Change::Abandon),
             10 => Ok(Change::Purge),
             _ => Err(Malformed::At { at }),

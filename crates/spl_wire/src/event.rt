@@ -3,6 +3,8 @@
 use crate::message::Message;
 use spl_base::{BatchId, Boxed, NodeId, ServiceId};
 use spl_circuit::Definition;
+use spl_command::Batch;
+use spl_state::{Address, Prefix};
 
 /// An event at a cell (docs/RULES.md, Cells).
 #[derive(Debug, Drop)]
@@ -19,6 +21,8 @@ pub enum Event {
     Abandon,
     /// The node forgets the circuit, all but its generation.
     Purge,
+    /// The node submits a batch.
+    Submit(Boxed<Batch>),
     /// The cell is asked for what it keeps.
     Show,
     /// The cell is asked for its definition and where it stands.
@@ -27,6 +31,10 @@ pub enum Event {
     Root,
     /// The cell is asked for the ids of the committed batches.
     History,
+    /// The cell is asked for the value at an address.
+    Get(Address),
+    /// The cell is asked for the entries under a prefix.
+    List(Prefix),
     /// The cell is asked where a batch stands.
     Status(BatchId),
     /// The cell is asked what a committed batch left.

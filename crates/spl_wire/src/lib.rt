@@ -10,7 +10,7 @@ mod message;
 mod plan;
 mod record;
 
-pub use answer::{Answer, Refusal};
+pub use answer::{Answer, BatchStatus, Entries, Entry, Refusal};
 pub use change::Change;
 pub use event::Event;
 pub use laws::{no_message_begins_another, no_record_begins_another};

@@ -3,8 +3,11 @@ ghost use Rattle.std.specs.Prelude.{◌≡◌, IfOk};
 
 use crate::body::{copy_body, put_body, take_body};
 use spl_agree::CommitMsg;
-use spl_base::{CircuitId, Field, Malformed, Piece, Reader, Writer, read_front, spelled};
+use spl_base::{
+    CircuitId, Field, Malformed, Piece, Reader, ServiceId, Writer, read_front, spelled,
+};
 use spl_circuit::Act;
+use spl_command::Batch;
 use std::alloc::{AllocError, Global};
 
 /// A message from one node to another.
@@ -14,6 +17,13 @@ pub enum Message {
     Admin {
         circuit: CircuitId,
         body: CommitMsg<Act>,
+    },
+    /// A message of the service group of a circuit, from one service to another.
+    Scabbard {
+        circuit: CircuitId,
+        from: ServiceId,
+        to: ServiceId,
+        body: CommitMsg<Batch>,
     },
 }
 
@@ -29,6 +39,18 @@ impl Field for Message {
                 circuit.put(w)?;
                 put_body(body, w)
             }
+            Message::Scabbard {
+                circuit,
+                from,
+                to,
+                body,
+            } => {
+                2u8.put(w)?;
+                circuit.put(w)?;
+                from.put(w)?;
+                to.put(w)?;
+                put_body(body, w)
+            }
         }
     }
 
@@ -39,6 +61,18 @@ impl Field for Message {
                 let circuit = CircuitId::take(alloc, r)?;
                 let body = take_body(alloc, r)?;
                 Ok(Message::Admin { circuit, body })
+            }
+            2 => {
+                let circuit = CircuitId::take(alloc, r)?;
+                let from = ServiceId::take(alloc, r)?;
+                let to = ServiceId::take(alloc, r)?;
+                let body = take_body(alloc, r)?;
+                Ok(Message::Scabbard {
+                    circuit,
+                    from,
+                    to,
+                    body,
+                })
             }
             _ => Err(Malformed::At { at }),
         }
@@ -53,8 +87,9 @@ impl Message {
     ghost use Rattle.spl_wire.specs.Forms.{message_form};
     ghost use Rattle.spl_wire.specs.declared.message.Message.{Message as Sent};
 
-    /// The byte form, which a message has where the definition in it, if there is one, has at most
-    /// 16 members and at most 16 services.
+    /// The byte form, which a message has where a definition in it has at most 16 members and at
+    /// most 16 services, and a batch in it has lists of at most 1,024 items and byte strings of at
+    /// most 1,024 bytes. Fails only where memory runs out.
     pub fn write(&self, alloc: Global) -> Result<Piece, AllocError>
         requires few { IsTrue (message_form.bounded self.now) }
         ensures spelled { IfOk result (λ p. p ≡ message_form.spell self.now) }
@@ -78,10 +113,22 @@ impl Message {
     pub fn copy(&self, alloc: Global) -> Result<Message, AllocError>
         ensures { IfOk result (λ m. m ≡ self.now) }
     {
-        let Message::Admin { circuit, body } = self;
-        Ok(Message::Admin {
-            circuit: *circuit,
-            body: copy_body(alloc, body)?,
-        })
+        match self {
+            Message::Admin { circuit, body } => Ok(Message::Admin {
+                circuit: *circuit,
+                body: copy_body(alloc, body)?,
+            }),
+            Message::Scabbard {
+                circuit,
+                from,
+                to,
+                body,
+            } => Ok(Message::Scabbard {
+                circuit: *circuit,
+                from: *from,
+                to: *to,
+                body: copy_body(alloc, body)?,
+            }),
+        }
     }
 }

@@ -16,12 +16,13 @@ pub struct Outgoing {
 /// Messages in the order in which they are sent.
 pub type SendList = Listing<Outgoing>;
 
-/// What an event gives at a cell: an answer, durable changes, a move of the open round of the
-/// admin group, and messages (docs/RULES.md, Cells).
+/// What an event gives at a cell: an answer, durable changes, a move of the open round of each
+/// group, and messages (docs/RULES.md, Cells).
 #[derive(Debug, Drop)]
 pub struct Plan {
     pub answer: Answer,
     pub changes: ChangeList,
     pub admin: OpenMove,
+    pub service: OpenMove,
     pub sends: SendList,
 }

@@ -44,7 +44,8 @@ impl Record {
     ghost use Rattle.spl_wire.specs.declared.record.Record.{Record as Kept};
 
     /// The byte form, which a record of at most 64 changes has where each definition in it has at
-    /// most 16 members and at most 16 services.
+    /// most 16 members and at most 16 services, and each batch in it has lists of at most 1,024
+    /// items and byte strings of at most 1,024 bytes. Fails only where memory runs out.
     pub fn write(&self, alloc: Global) -> Result<Piece, AllocError>
         requires few { IsTrue (record_form.bounded self.now) }
         ensures spelled { IfOk result (λ p. p ≡ record_form.spell self.now) }

@@ -2,7 +2,7 @@ mod plain;
 
 use super::*;
 use spl_agree::{CommitMsg, Generation, Round};
-use spl_base::{CircuitId, Malformed, Piece, Reader};
+use spl_base::{CircuitId, Malformed, Piece, Reader, ServiceId};
 use spl_circuit::{Act, Definition};
 use std::alloc::Global;
 use std::test::Fail;
@@ -35,10 +35,60 @@ fn a_decision(rt: HostRuntime) -> Result<(), Fail> {
             b"\x03Ab3dE-00001\x03\x00\x00\x00\x01\x00\x00\x00\x00\x00\x00\x00\x02\x01",
             Err(0),
         ),
-        (b"\x02Ab3dE-00001aaaabbbb\x03", Err(0)),
         (b"", Err(0)),
     ] {
         assert_eq!(rt; message_size(alloc, bytes), want);
+    }
+    Ok(())
+}
+
+/// The same on a batch: behind the circuit stand the sender and the recipient.
+const SERVICE_DECISION: &[u8] =
+    b"\x02Ab3dE-00001bbbbaaaa\x03\x00\x00\x00\x01\x00\x00\x00\x00\x00\x00\x00\x02\x01";
+
+#[test]
+fn a_decision_between_services(rt: HostRuntime) -> Result<(), Fail> {
+    let alloc = rt.alloc();
+    let message = Message::Scabbard {
+        circuit: CircuitId::read(b"Ab3dE-00001").ok_or("a circuit")?,
+        from: ServiceId::read(b"bbbb").ok_or("a sender")?,
+        to: ServiceId::read(b"aaaa").ok_or("a recipient")?,
+        body: CommitMsg::Decision {
+            generation: Generation(1),
+            round: Round(2),
+            commit: true,
+        },
+    };
+    assert_eq!(rt;
+        message.copy(alloc)?.write(alloc)?.bytes(),
+        SERVICE_DECISION
+    );
+    for (bytes, want) in [
+        (SERVICE_DECISION, Ok(34)),
+        (b"\x02Ab3dE-00001bbbbaaaa\x03".as_slice(), Err(21)),
+        (b"\x02Ab3dE-00001bbbbaaaa\x07\x00", Err(20)),
+        (b"\x02Ab3dE-00001bbbbaa-a\x03", Err(16)),
+        (b"\x02Ab3dE-00001bb bbaaa\x03", Err(12)),
+        (b"\x02Ab3dE-00001bbb", Err(12)),
+    ] {
+        assert_eq!(rt; message_size(alloc, bytes), want);
+    }
+    Ok(())
+}
+
+/// The byte behind the tag of a change of a group names the group.
+#[test]
+fn groups_of_changes(rt: HostRuntime) -> Result<(), Fail> {
+    let alloc = rt.alloc();
+    for (bytes, want) in [
+        (b"Ab3dE-00001\x00\x01\x07\x01".as_slice(), Ok(15)),
+        (b"Ab3dE-00001\x00\x01\x07\x02", Ok(15)),
+        (b"Ab3dE-00001\x00\x01\x07\x00", Err(14)),
+        (b"Ab3dE-00001\x00\x01\x07\x03", Err(14)),
+        (b"Ab3dE-00001\x00\x01\x02\x03", Err(14)),
+        (b"Ab3dE-00001\x00\x01\x08\x03", Err(14)),
+    ] {
+        assert_eq!(rt; record_size(alloc, bytes), want);
     }
     Ok(())
 }
@@ -65,61 +115,65 @@ const REQUEST: &[u8] =
 const REFUSED: &[u8] =
     b"\x01Ab3dE-00001\x06\x00\x00\x00\x01\x00\x05alpha\x00\x00\x00\x02\x02\x07\x00";
 
+/// A batch with each command.
+const FORWARD: &[u8] =
+    b"\x02Ab3dE-00001bbbbaaaa\x05\x00\x00\x00\x01\x00\x00\x00\x00\x00\x00\x00\x09\x00\x01\x00\x01\x02\x01\xff\x00\x01\x00\x00\x07\x01.the address that a value lies at..\x00\x01\x2a\x02.the address that a value lies at..\x03.the address that a value lies at..\x04\x00\x04made\x00\x01\x07\x05\x00\x01\x00\x06\x00\x00\x07\x00\x02no";
+
 const BOUND: &[u8] =
     b"Ab3dE-00001\x00\x02\x01Ab3dE-00001\x00\x00\x00\x01\x01\x00\x04grid\x00\x05trade\x00\x02\x00\x05alpha\x00\x04beta\x00\x02aaaa\x00\x08scabbard\x00\x05alphabbbb\x00\x08scabbard\x00\x04beta\x02\x01\x00\x05alpha\x00\x00\x00\x01\x01Ab3dE-00001\x00\x00\x00\x01\x01\x00\x04grid\x00\x05trade\x00\x02\x00\x05alpha\x00\x04beta\x00\x02aaaa\x00\x08scabbard\x00\x05alphabbbb\x00\x08scabbard\x00\x04beta";
 
 const CHANGES: &[u8] =
     b"Ab3dE-00001\x00\x08\x03\x01\x00\x04beta\x00\x00\x00\x01\x03\x07\x00\x04\x01\x00\x00\x00\x00\x00\x00\x00\x02\x05\x01\x00\x00\x00\x00\x00\x00\x00\x02\x06\x01\x00\x00\x00\x00\x00\x00\x00\x02\x00\x05alpha\x00\x00\x00\x02\x02\x07\x01\x08\x01\x00\x00\x00\x00\x00\x00\x00\x02\x00\x05alpha\x00\x00\x00\x02\x04\x09\x0a";
 
+/// The changes of a group, of the service group.
+const SERVICE_CHANGES: &[u8] =
+    b"Ab3dE-00001\x00\x07\x02\x02\x00\x00\x00\x00\x00\x00\x00\x07\x00\x01\x00\x00\x00\x01\x00\x00\x01\x05\x00\x01\x00\x03\x02\x00\x00\x00\x00\x00\x00\x00\x07\x00\x01\x00\x00\x00\x01\x00\x00\x01\x05\x00\x01\x00\x07\x00\x04\x02\x00\x00\x00\x00\x00\x00\x00\x02\x05\x02\x00\x00\x00\x00\x00\x00\x00\x02\x06\x02\x00\x00\x00\x00\x00\x00\x00\x02\x00\x00\x00\x00\x00\x00\x00\x07\x00\x00\x07\x02\x08\x02\x00\x00\x00\x00\x00\x00\x00\x02\x00\x00\x00\x00\x00\x00\x00\x07\x00\x01\x00\x00\x00\x01\x00\x00\x01\x05\x00\x01\x00";
+
 const UNCHANGED: &[u8] = b"Ab3dE-00001\x00\x00";
 
-/// Each cut and each other byte at each place of three messages and three records gives what the
-/// plain program gives.
+fn message_as_plain(alloc: Global, bytes: &[u8]) -> bool {
+    message_size(alloc, bytes) == plain::message(bytes)
+}
+
+fn record_as_plain(alloc: Global, bytes: &[u8]) -> bool {
+    record_size(alloc, bytes) == plain::record(bytes)
+}
+
+/// Each cut and each other byte at each place of some messages gives what the plain program gives.
 #[test]
-fn as_the_plain_program(rt: HostRuntime) -> Result<(), Fail> {
+fn messages_as_the_plain_program(rt: HostRuntime) -> Result<(), Fail> {
     let alloc = rt.alloc();
-    for spelled in [DECISION, REQUEST, REFUSED] {
+    for spelled in [DECISION, REQUEST, REFUSED, SERVICE_DECISION, FORWARD] {
         assert_eq!(rt; message_size(alloc, spelled), Ok(spelled.len()));
         for size in 0..spelled.len() {
-            let cut = &spelled[..size];
-            assert_eq!(rt;
-                message_size(alloc, cut),
-                plain::message(cut),
-                "cut at {size}"
-            );
+            assert!(rt; message_as_plain(alloc, &spelled[..size]), "cut at {size}");
         }
         let mut bytes = Vec::from_slice(alloc, spelled)?;
         for i in 0..bytes.len() {
             for byte in 0..=255u8 {
                 bytes[i] = byte;
-                assert_eq!(rt;
-                    message_size(alloc, bytes.as_slice()),
-                    plain::message(bytes.as_slice()),
-                    "{byte} at {i}"
-                );
+                assert!(rt; message_as_plain(alloc, bytes.as_slice()), "{byte} at {i}");
             }
             bytes[i] = spelled[i];
         }
     }
-    for spelled in [BOUND, CHANGES, UNCHANGED] {
+    Ok(())
+}
+
+/// The same of some records.
+#[test]
+fn records_as_the_plain_program(rt: HostRuntime) -> Result<(), Fail> {
+    let alloc = rt.alloc();
+    for spelled in [BOUND, CHANGES, SERVICE_CHANGES, UNCHANGED] {
         assert_eq!(rt; record_size(alloc, spelled), Ok(spelled.len()));
         for size in 0..spelled.len() {
-            let cut = &spelled[..size];
-            assert_eq!(rt;
-                record_size(alloc, cut),
-                plain::record(cut),
-                "cut at {size}"
-            );
+            assert!(rt; record_as_plain(alloc, &spelled[..size]), "cut at {size}");
         }
         let mut bytes = Vec::from_slice(alloc, spelled)?;
         for i in 0..bytes.len() {
             for byte in 0..=255u8 {
                 bytes[i] = byte;
-                assert_eq!(rt;
-                    record_size(alloc, bytes.as_slice()),
-                    plain::record(bytes.as_slice()),
-                    "{byte} at {i}"
-                );
+                assert!(rt; record_as_plain(alloc, bytes.as_slice()), "{byte} at {i}");
             }
             bytes[i] = spelled[i];
         }
@@ -141,10 +195,10 @@ fn record_again(alloc: Global, bytes: &[u8]) -> Result<Piece, Malformed> {
 #[test]
 fn written_again(rt: HostRuntime) -> Result<(), Fail> {
     let alloc = rt.alloc();
-    for spelled in [DECISION, REQUEST, REFUSED] {
+    for spelled in [DECISION, REQUEST, REFUSED, SERVICE_DECISION, FORWARD] {
         assert_eq!(rt; message_again(alloc, spelled)?.bytes(), spelled);
     }
-    for spelled in [BOUND, CHANGES, UNCHANGED] {
+    for spelled in [BOUND, CHANGES, SERVICE_CHANGES, UNCHANGED] {
         assert_eq!(rt; record_again(alloc, spelled)?.bytes(), spelled);
     }
     Ok(())

@@ -1,6 +1,5 @@
-//! The grammar of definitions, acts, messages and records as a plain program: how many bytes the
-//! value
-//! at the front takes, or where its first unreadable field begins.
+//! The grammar of definitions, acts, batches, messages and records as a plain program: how many
+//! bytes the value at the front takes, or where its first unreadable field begins.
 
 #[derive(Clone, Copy, PartialEq, Eq)]
 enum Grammar {
@@ -106,6 +105,72 @@ pub fn act(bytes: &[u8], at: usize) -> Result<usize, usize> {
     }
 }
 
+/// Any bytes, at most so many, behind their number.
+fn counted(bytes: &[u8], at: usize, width: usize, most: u64) -> Result<usize, usize> {
+    let (size, from) = number(bytes, at, width)?;
+    if most < size {
+        return Err(at);
+    }
+    let size = size as usize;
+    field(bytes, from, size).ok_or(at)?;
+    Ok(from.wrapping_add(size))
+}
+
+fn string(bytes: &[u8], at: usize) -> Result<usize, usize> {
+    counted(bytes, at, 2, 1024)
+}
+
+fn address(bytes: &[u8], at: usize) -> Result<usize, usize> {
+    field(bytes, at, 35).ok_or(at)?;
+    Ok(at.wrapping_add(35))
+}
+
+fn command(bytes: &[u8], at: usize) -> Result<usize, usize> {
+    match number(bytes, at, 1)? {
+        (1, from) => string(bytes, address(bytes, from)?),
+        (2..=3, from) => address(bytes, from),
+        (4, from) => string(bytes, text(bytes, from, Grammar::Label)?),
+        (5, from) => string(bytes, from),
+        (6..=7, from) => text(bytes, from, Grammar::Label),
+        _ => Err(at),
+    }
+}
+
+fn prefixes(bytes: &[u8], at: usize) -> Result<usize, usize> {
+    let (prefixes, mut at) = count(bytes, at, 1024)?;
+    for _ in 0..prefixes {
+        at = counted(bytes, at, 1, 35)?;
+    }
+    Ok(at)
+}
+
+fn transaction(bytes: &[u8], at: usize) -> Result<usize, usize> {
+    let at = prefixes(bytes, at)?;
+    let at = prefixes(bytes, at)?;
+    let (commands, mut at) = count(bytes, at, 1024)?;
+    for _ in 0..commands {
+        at = command(bytes, at)?;
+    }
+    Ok(at)
+}
+
+fn batch(bytes: &[u8], at: usize) -> Result<usize, usize> {
+    let (_, at) = number(bytes, at, 8)?;
+    let (transactions, mut at) = count(bytes, at, 1024)?;
+    for _ in 0..transactions {
+        at = transaction(bytes, at)?;
+    }
+    Ok(at)
+}
+
+/// What the group of this number agrees on.
+fn value(bytes: &[u8], at: usize, group: u64) -> Result<usize, usize> {
+    match group {
+        1 => act(bytes, at),
+        _ => batch(bytes, at),
+    }
+}
+
 fn truth(bytes: &[u8], at: usize) -> Result<usize, usize> {
     match number(bytes, at, 1)? {
         (0..=1, from) => Ok(from),
@@ -125,10 +190,18 @@ fn reason(bytes: &[u8], at: usize) -> Result<usize, usize> {
 /// How many bytes the message at the front takes.
 pub fn message(bytes: &[u8]) -> Result<usize, usize> {
     let (lane, at) = number(bytes, 0, 1)?;
-    if lane != 1 {
+    if lane != 1 && lane != 2 {
         return Err(0);
     }
-    let tag_at = circuit(bytes, at)?;
+    let at = circuit(bytes, at)?;
+    if lane == 1 {
+        return body(bytes, at, lane);
+    }
+    let at = service_id(bytes, at)?;
+    body(bytes, service_id(bytes, at)?, lane)
+}
+
+fn body(bytes: &[u8], tag_at: usize, lane: u64) -> Result<usize, usize> {
     let (tag, at) = number(bytes, tag_at, 1)?;
     if !(1..=6).contains(&tag) {
         return Err(tag_at);
@@ -138,19 +211,26 @@ pub fn message(bytes: &[u8]) -> Result<usize, usize> {
         1 => {
             let at = round(bytes, at)?;
             let (_, at) = number(bytes, at, 4)?;
-            act(bytes, at)
+            value(bytes, at, lane)
         }
         2 | 3 => truth(bytes, round(bytes, at)?),
         4 => round(bytes, at),
-        5 => act(bytes, at),
-        _ => reason(bytes, act(bytes, at)?),
+        5 => value(bytes, at, lane),
+        _ => reason(bytes, value(bytes, at, lane)?),
     }
 }
 
-fn group(bytes: &[u8], at: usize) -> Result<usize, usize> {
-    match number(bytes, at, 1)? {
-        (1, from) => Ok(from),
-        _ => Err(at),
+fn group_change(bytes: &[u8], at: usize, tag: u64) -> Result<usize, usize> {
+    let (group, from) = number(bytes, at, 1)?;
+    if group != 1 && group != 2 {
+        return Err(at);
+    }
+    match tag {
+        2 => value(bytes, from, group),
+        3 => reason(bytes, value(bytes, from, group)?),
+        4 | 5 => round(bytes, from),
+        6 | 8 => value(bytes, round(bytes, from)?, group),
+        _ => Ok(from),
     }
 }
 
@@ -158,11 +238,7 @@ fn change(bytes: &[u8], at: usize) -> Result<usize, usize> {
     let (tag, from) = number(bytes, at, 1)?;
     match tag {
         1 => definition(bytes, from),
-        2 => act(bytes, group(bytes, from)?),
-        3 => reason(bytes, act(bytes, group(bytes, from)?)?),
-        4 | 5 => round(bytes, group(bytes, from)?),
-        6 | 8 => act(bytes, round(bytes, group(bytes, from)?)?),
-        7 => group(bytes, from),
+        2..=8 => group_change(bytes, from, tag),
         9 | 10 => Ok(from),
         _ => Err(at),
     }

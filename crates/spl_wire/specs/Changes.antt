@@ -1,0 +1,199 @@
+-- The byte forms of durable changes (docs/RULES.md, Byte forms).
+use Rattle.std.specs.Prelude.{◌≡◌, ℕ, ◌⊎◌, List, ◌++◌, suc, Bool, Ok, refl}
+use Rattle.std.proofs.Common.{inl, inr}
+use Rattle.std.specs.Int.{w8}
+use Rattle.spl_base.specs.Input.{Input, ◌>>=◌}
+use Rattle.spl_base.specs.Form.{Form, Parsed, IsExact, ◌&◌, via, Cases, nothing, no_case, ◌or◌, by_tag, tagged, number_bytes}
+use Rattle.spl_base.specs.FormLaws.{exact_and, exact_via, exact_nothing, exact_no_case, exact_or, exact_tagged}
+use Rattle.spl_agree.specs.declared.reason.Reason.{Reason}
+use Rattle.spl_agree.specs.declared.event.GroupChange.{GroupChange}
+use Rattle.spl_agree.specs.declared.event.GroupChange.TheVariants.{Queue, Refuse, Begin, Seen, Promise, Abort, Commit}
+use Rattle.spl_circuit.specs.declared.definition.Definition.{Definition}
+use Rattle.spl_circuit.specs.declared.act.Act.{Act}
+use Rattle.spl_circuit.specs.Forms.{definition, act, exact_definition, exact_act}
+use Rattle.spl_command.specs.declared.batch.Batch.{Batch}
+use Rattle.spl_command.specs.Forms.{batch, exact_batch}
+use Rattle.spl_wire.specs.Bodies.{long, reason, exact_long, exact_reason}
+use Rattle.spl_wire.specs.declared.change.Change.{Change}
+use Rattle.spl_wire.specs.declared.change.Change.TheVariants.{Bind, Admin, Service, Abandon, Purge}
+
+-- ---- the changes of one group
+
+module _ (V : Type 0) where
+  abbrev pub Fields : Type 0
+  Fields = V ⊎ ((V × Reason) ⊎ (ℕ ⊎ (ℕ ⊎ ((ℕ × V) ⊎ (Unit {0} ⊎ ((ℕ × V) ⊎ ⊥))))))
+
+module _ {V : Type 0} where
+  abbrev pub fields_of : GroupChange V → Fields V
+  fields_of (Queue v) = inl v
+  fields_of (Refuse v r) = inr (inl (v, r))
+  fields_of (Begin n) = inr (inr (inl n))
+  fields_of (Seen n) = inr (inr (inr (inl n)))
+  fields_of (Promise n v) = inr (inr (inr (inr (inl (n, v)))))
+  fields_of Abort = inr (inr (inr (inr (inr (inl tt)))))
+  fields_of (Commit n v) = inr (inr (inr (inr (inr (inr (inl (n, v)))))))
+
+  -- Queue, Refuse, Begin, Seen, Promise, Abort and Commit
+  abbrev pub fields : Form V → Cases (Fields V)
+  fields value = value or (value & reason) or long or long or (long & value) or nothing or (long & value) or no_case
+
+  -- the tag from 2 on, the group and the fields
+  abbrev pub group_change : Form V → ℕ → GroupChange V → List ℕ
+  group_change value group c = number_bytes w8 (suc (suc ((fields value).index (fields_of c)))) ++ number_bytes w8 group ++ (fields value).spell (fields_of c)
+
+  abbrev pub fits_change : Form V → GroupChange V → Bool
+  fits_change value c = (fields value).fits (fields_of c)
+
+  abbrev pub bounded_change : Form V → GroupChange V → Bool
+  bounded_change value c = (fields value).bounded (fields_of c)
+
+-- ---- all changes
+
+-- of the admin group, or of the service group
+abbrev pub InGroup : Type 0 → Type 0 → Type 0
+InGroup A B = A ⊎ (B ⊎ ⊥)
+
+-- 1 is the admin group, 2 the service group
+abbrev pub in_group : {A B : Type 0} → Form A → Form B → Form (InGroup A B)
+in_group f g = tagged (f or g or no_case)
+
+exact_in_group : {A B : Type 0} (f : Form A) (g : Form B) → IsExact f → IsExact g → IsExact (in_group f g)
+exact_in_group f g p q = exact_tagged _ (exact_or _ _ p (exact_or _ _ q exact_no_case))
+
+abbrev pub of_group : {A B : Type 0} → (A → GroupChange Act) → (B → GroupChange Batch) → InGroup A B → Change
+of_group f g (inl a) = Admin (f a)
+of_group f g (inr (inl b)) = Service (g b)
+of_group f g (inr (inr x)) = absurd x
+
+abbrev pub Kind : Type 0
+Kind =
+    Definition
+    ⊎ (InGroup Act Batch
+    ⊎ (InGroup (Act × Reason) (Batch × Reason)
+    ⊎ (InGroup ℕ ℕ
+    ⊎ (InGroup ℕ ℕ
+    ⊎ (InGroup (ℕ × Act) (ℕ × Batch)
+    ⊎ (InGroup (Unit {0}) (Unit {0})
+    ⊎ (InGroup (ℕ × Act) (ℕ × Batch)
+    ⊎ (Unit {0} ⊎ (Unit {0} ⊎ ⊥)))))))))
+
+abbrev pub change_of : Kind → Change
+change_of (inl d) = Bind d
+change_of (inr (inl x)) = of_group (λ v. Queue v) (λ v. Queue v) x
+change_of (inr (inr (inl x))) = of_group (λ y. Refuse y.0 y.1) (λ y. Refuse y.0 y.1) x
+change_of (inr (inr (inr (inl x)))) = of_group (λ n. Begin n) (λ n. Begin n) x
+change_of (inr (inr (inr (inr (inl x))))) = of_group (λ n. Seen n) (λ n. Seen n) x
+change_of (inr (inr (inr (inr (inr (inl x)))))) = of_group (λ y. Promise y.0 y.1) (λ y. Promise y.0 y.1) x
+change_of (inr (inr (inr (inr (inr (inr (inl x))))))) = of_group (λ u. Abort) (λ u. Abort) x
+change_of (inr (inr (inr (inr (inr (inr (inr (inl x)))))))) = of_group (λ y. Commit y.0 y.1) (λ y. Commit y.0 y.1) x
+change_of (inr (inr (inr (inr (inr (inr (inr (inr (inl u))))))))) = Abandon
+change_of (inr (inr (inr (inr (inr (inr (inr (inr (inr (inl u)))))))))) = Purge
+change_of (inr (inr (inr (inr (inr (inr (inr (inr (inr (inr x)))))))))) = absurd x
+
+abbrev pub kind_of : Change → Kind
+kind_of (Bind d) = inl d
+kind_of (Admin (Queue v)) = inr (inl (inl v))
+kind_of (Admin (Refuse v r)) = inr (inr (inl (inl (v, r))))
+kind_of (Admin (Begin n)) = inr (inr (inr (inl (inl n))))
+kind_of (Admin (Seen n)) = inr (inr (inr (inr (inl (inl n)))))
+kind_of (Admin (Promise n v)) = inr (inr (inr (inr (inr (inl (inl (n, v)))))))
+kind_of (Admin Abort) = inr (inr (inr (inr (inr (inr (inl (inl tt)))))))
+kind_of (Admin (Commit n v)) = inr (inr (inr (inr (inr (inr (inr (inl (inl (n, v)))))))))
+kind_of (Service (Queue v)) = inr (inl (inr (inl v)))
+kind_of (Service (Refuse v r)) = inr (inr (inl (inr (inl (v, r)))))
+kind_of (Service (Begin n)) = inr (inr (inr (inl (inr (inl n)))))
+kind_of (Service (Seen n)) = inr (inr (inr (inr (inl (inr (inl n))))))
+kind_of (Service (Promise n v)) = inr (inr (inr (inr (inr (inl (inr (inl (n, v))))))))
+kind_of (Service Abort) = inr (inr (inr (inr (inr (inr (inl (inr (inl tt))))))))
+kind_of (Service (Commit n v)) = inr (inr (inr (inr (inr (inr (inr (inl (inr (inl (n, v))))))))))
+kind_of Abandon = inr (inr (inr (inr (inr (inr (inr (inr (inl tt))))))))
+kind_of Purge = inr (inr (inr (inr (inr (inr (inr (inr (inr (inl tt)))))))))
+
+-- 1 is Bind; 2 Queue, 3 Refuse, 4 Begin, 5 Seen, 6 Promise, 7 Abort and 8 Commit are followed by the group; 9 is Abandon, 10 Purge
+abbrev pub kinds : Cases Kind
+kinds =
+    definition
+    or in_group act batch
+    or in_group (act & reason) (batch & reason)
+    or in_group long long
+    or in_group long long
+    or in_group (long & act) (long & batch)
+    or in_group nothing nothing
+    or in_group (long & act) (long & batch)
+    or nothing
+    or nothing
+    or no_case
+
+abbrev pub change_form : Form Change
+change_form = via change_of kind_of (tagged kinds)
+
+-- what stands behind a tag of `kinds`
+abbrev pub behind_tag : ℕ → Input → Parsed Change
+behind_tag n s = by_tag kinds n s.place s >>= λ x. Ok (change_of x.0, x.1)
+
+-- ---- they are read back, and nothing else is read
+
+there : (c : Change) → change_of (kind_of c) ≡ c
+there (Bind d) = refl
+there (Admin (Queue v)) = refl
+there (Admin (Refuse v r)) = refl
+there (Admin (Begin n)) = refl
+there (Admin (Seen n)) = refl
+there (Admin (Promise n v)) = refl
+there (Admin Abort) = refl
+there (Admin (Commit n v)) = refl
+there (Service (Queue v)) = refl
+there (Service (Refuse v r)) = refl
+there (Service (Begin n)) = refl
+there (Service (Seen n)) = refl
+there (Service (Promise n v)) = refl
+there (Service Abort) = refl
+there (Service (Commit n v)) = refl
+there Abandon = refl
+there Purge = refl
+
+back : (x : Kind) → kind_of (change_of x) ≡ x
+back (inl d) = refl
+back (inr (inl (inl v))) = refl
+back (inr (inl (inr (inl v)))) = refl
+back (inr (inl (inr (inr x)))) = absurd x
+back (inr (inr (inl (inl y)))) = refl
+back (inr (inr (inl (inr (inl y))))) = refl
+back (inr (inr (inl (inr (inr x))))) = absurd x
+back (inr (inr (inr (inl (inl n))))) = refl
+back (inr (inr (inr (inl (inr (inl n)))))) = refl
+back (inr (inr (inr (inl (inr (inr x)))))) = absurd x
+back (inr (inr (inr (inr (inl (inl n)))))) = refl
+back (inr (inr (inr (inr (inl (inr (inl n))))))) = refl
+back (inr (inr (inr (inr (inl (inr (inr x))))))) = absurd x
+back (inr (inr (inr (inr (inr (inl (inl y))))))) = refl
+back (inr (inr (inr (inr (inr (inl (inr (inl y)))))))) = refl
+back (inr (inr (inr (inr (inr (inl (inr (inr x)))))))) = absurd x
+back (inr (inr (inr (inr (inr (inr (inl (inl u)))))))) = refl
+back (inr (inr (inr (inr (inr (inr (inl (inr (inl u))))))))) = refl
+back (inr (inr (inr (inr (inr (inr (inl (inr (inr x))))))))) = absurd x
+back (inr (inr (inr (inr (inr (inr (inr (inl (inl y))))))))) = refl
+back (inr (inr (inr (inr (inr (inr (inr (inl (inr (inl y)))))))))) = refl
+back (inr (inr (inr (inr (inr (inr (inr (inl (inr (inr x)))))))))) = absurd x
+back (inr (inr (inr (inr (inr (inr (inr (inr (inl u))))))))) = refl
+back (inr (inr (inr (inr (inr (inr (inr (inr (inr (inl u)))))))))) = refl
+back (inr (inr (inr (inr (inr (inr (inr (inr (inr (inr x)))))))))) = absurd x
+
+exact_rounded : {V : Type 0} (value : Form V) → IsExact value → IsExact (long & value)
+exact_rounded value p = exact_and _ _ exact_long p
+
+exact_refused : {V : Type 0} (value : Form V) → IsExact value → IsExact (value & reason)
+exact_refused value p = exact_and _ _ p exact_reason
+
+pub exact_change : IsExact change_form
+exact_change = exact_via _ _ _ there back (exact_tagged _ (
+    exact_or _ _ exact_definition
+    (exact_or _ _ (exact_in_group _ _ exact_act exact_batch)
+    (exact_or _ _ (exact_in_group _ _ (exact_refused _ exact_act) (exact_refused _ exact_batch))
+    (exact_or _ _ (exact_in_group _ _ exact_long exact_long)
+    (exact_or _ _ (exact_in_group _ _ exact_long exact_long)
+    (exact_or _ _ (exact_in_group _ _ (exact_rounded _ exact_act) (exact_rounded _ exact_batch))
+    (exact_or _ _ (exact_in_group _ _ exact_nothing exact_nothing)
+    (exact_or _ _ (exact_in_group _ _ (exact_rounded _ exact_act) (exact_rounded _ exact_batch))
+    (exact_or _ _ exact_nothing
+    (exact_or _ _ exact_nothing exact_no_case)))))))))))
