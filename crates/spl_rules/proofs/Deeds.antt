@@ -1,9 +1,9 @@
 -- When a deed fits a cell.
-use Rattle.std.proofs.Common.{◌≡◌, ◌⊎◌, ℕ, ◌≤◌, true, false, ◌&&◌, List, [], length, refl, sym, ◌∙◌, inl, inr}
+use Rattle.std.proofs.Common.{◌≡◌, ◌⊎◌, ℕ, ◌≤◌, Bool, true, false, ◌&&◌, List, [], length, refl, sym, ◌∙◌, inl, inr}
 use Rattle.std.specs.Prelude.{Option, Some, None, ◌==◌, if◌then◌else◌}
 use Rattle.std.specs.Str.{bytes_eq}
-use Rattle.spl_agree.specs.Member.{Member, new_member, others, has}
-use Rattle.spl_agree.specs.Rows.{strayed}
+use Rattle.spl_agree.specs.Member.{Group, Member, new_member, changed_by, others, has}
+use Rattle.spl_agree.specs.Rows.{row, strayed}
 use Rattle.spl_agree.specs.Fits.{IsDue, MayQueue, generation_of}
 use Rattle.spl_agree.specs.declared.reason.Reason.{Reason}
 use Rattle.spl_agree.specs.declared.reason.Admit.TheVariants as admit
@@ -20,34 +20,64 @@ use Rattle.spl_circuit.specs.Nodes.{Node, has_node, position}
 use Rattle.spl_circuit.specs.Rules.{broken}
 use Rattle.spl_circuit.specs.Acts.{act_rules, admits_act, admits_kind}
 use Rattle.spl_circuit.proofs.Valid.{few_members}
+use Rattle.spl_command.specs.declared.batch.Batch.{Batch}
 use Rattle.spl_wire.specs.declared.change.Change.TheVariants as durable
-use Rattle.spl_rules.specs.Cells.{Cell, Held, Deed, Refuses, Tells, Replies, Binds, Acts, Abandons, Purges, admin_group, is_open, runs}
+use Rattle.spl_rules.specs.Cells.{Cell, Held, Deed, Refuses, Tells, Replies, Binds, Acts, Serves, Turns, Abandons, Purges, admin_group, service_group, is_open, runs}
 use Rattle.spl_rules.specs.Plans.{admin_row}
-use Rattle.spl_rules.specs.Changes.{may_queue, fits_free}
+use Rattle.spl_rules.specs.Changes.{may_queue, may_serve, fits_free}
+use Rattle.spl_rules.specs.Valid.{carries, is_legal}
+use Rattle.spl_rules.proofs.Carried.{Brings}
 use Rattle.spl_rules.proofs.Positions.{node_is, member_below, node_at_position, position_apart}
 
--- what the event lets in may be queued, or its row changes nothing
-abbrev pub Queues : Node → Definition → ℕ → Member Act → GroupEvent Act → Type 0
-Queues here d turn a e = MayQueue (admin_group d) (may_queue here turn a.pending) e ⊎ ((admin_row here d a e).changes ≡ [])
+-- the event is due at the member; and what it lets in may be queued, or its row changes nothing
+pub record FitsRow {V : Type 0} (g : Group V) (may : V → Bool) (here : ℕ) (m : Member V) (e : GroupEvent V) : Type 0 where
+  pub due : IsDue g here m e
+  pub queues : MayQueue g may e ⊎ ((row g here m e).changes ≡ [])
 
--- the event is due at the member, and may queue what it queues
-pub record FitsEvent (here : Node) (d : Definition) (turn : ℕ) (a : Member Act) (e : GroupEvent Act) : Type 0 where
-  pub due : IsDue (admin_group d) (position d.members here) a e
-  pub queues : Queues here d turn a e
+-- at the two members of a cell
+abbrev pub FitsEvent : Node → Definition → ℕ → Member Act → GroupEvent Act → Type 0
+FitsEvent here d turn a e = FitsRow (admin_group d) (may_queue here turn a.pending) (position d.members here) a e
+
+abbrev pub FitsServed : Node → Definition → Member Batch → GroupEvent Batch → Type 0
+FitsServed here d b e = FitsRow (service_group d) may_serve (position d.members here) b e
 
 pub record ActsAt (here : Node) (k : Cell) (d : Definition) (a : Member Act) (e : GroupEvent Act) : Type 0 where
   pub mark : Mark
   pub turn : ℕ
-  pub held : k ≡ Held d mark turn a
+  pub batches : Member Batch
+  pub held : k ≡ Held d mark turn a batches
   pub unclosed : is_open mark ≡ true
   pub fit : FitsEvent here d turn a e
+
+pub record ServesAt (here : Node) (k : Cell) (d : Definition) (b : Member Batch) (e : GroupEvent Batch) : Type 0 where
+  pub mark : Mark
+  pub turn : ℕ
+  pub acts : Member Act
+  pub held : k ≡ Held d mark turn acts b
+  pub unclosed : is_open mark ≡ true
+  pub active : runs d acts ≡ true
+  pub fit : FitsServed here d b e
+  pub brings : Brings may_serve e
+
+-- a tick, or an expire: it leaves the history of acts, so that the circuit stays active
+pub record TurnsAt (here : Node) (k : Cell) (d : Definition) (a : Member Act) (b : Member Batch) (x : GroupEvent Act) (y : GroupEvent Batch) : Type 0 where
+  pub mark : Mark
+  pub turn : ℕ
+  pub held : k ≡ Held d mark turn a b
+  pub unclosed : is_open mark ≡ true
+  pub active : runs d a ≡ true
+  pub fit : FitsEvent here d turn a x
+  pub still : (changed_by (act_rules d) a (admin_row here d a x).changes).history ≡ a.history
+  pub serves : FitsServed here d b y
+  pub brings : Brings may_serve y
 
 pub record AbandonsAt (k : Cell) : Type 0 where
   pub definition : Definition
   pub mark : Mark
   pub turn : ℕ
   pub acts : Member Act
-  pub held : k ≡ Held definition mark turn acts
+  pub batches : Member Batch
+  pub held : k ≡ Held definition mark turn acts batches
   pub active : (is_open mark && runs definition acts) ≡ true
 
 pub record PurgesAt (k : Cell) : Type 0 where
@@ -55,7 +85,8 @@ pub record PurgesAt (k : Cell) : Type 0 where
   pub mark : Mark
   pub turn : ℕ
   pub acts : Member Act
-  pub held : k ≡ Held definition mark turn acts
+  pub batches : Member Batch
+  pub held : k ≡ Held definition mark turn acts batches
 
 pub record BindsAt (here c : Node) (k : Cell) (d : Definition) (e : GroupEvent Act) : Type 0 where
   pub free : fits_free here c k (durable.Bind d) ≡ true
@@ -65,22 +96,30 @@ pub record BindsAt (here c : Node) (k : Cell) (d : Definition) (e : GroupEvent A
 abbrev pub FitsDeed : Node → Node → Cell → Deed → Type 0
 FitsDeed here c k (Refuses r) = Unit {0}
 FitsDeed here c k (Tells a) = Unit {0}
-FitsDeed here c k (Replies n to m) = Unit {0}
+FitsDeed here c k (Replies n to m) = is_legal m ≡ true
 FitsDeed here c k (Binds say d back e) = BindsAt here c k d e
 FitsDeed here c k (Acts say d a back e) = ActsAt here k d a e
+FitsDeed here c k (Serves say d b back e) = ServesAt here k d b e
+FitsDeed here c k (Turns d a b x y) = TurnsAt here k d a b x y
 FitsDeed here c k Abandons = AbandonsAt k
 FitsDeed here c k Purges = PurgesAt k
 
-pub acts-at : (here : Node) (d : Definition) (m : Mark) (turn : ℕ) (a : Member Act) (e : GroupEvent Act) → is_open m ≡ true → FitsEvent here d turn a e → ActsAt here (Held d m turn a) d a e
-acts-at here d m turn a e unclosed fit = record { mark = m; turn = turn; held = refl; unclosed = unclosed; fit = fit }
+pub acts-at : (here : Node) (d : Definition) (m : Mark) (turn : ℕ) (a : Member Act) (b : Member Batch) (e : GroupEvent Act) → is_open m ≡ true → FitsEvent here d turn a e → ActsAt here (Held d m turn a b) d a e
+acts-at here d m turn a b e unclosed fit = record { mark = m; turn = turn; batches = b; held = refl; unclosed = unclosed; fit = fit }
 
-pub abandons-at : (d : Definition) (m : Mark) (turn : ℕ) (a : Member Act) → is_open m ≡ true → runs d a ≡ true → AbandonsAt (Held d m turn a)
-abandons-at d m turn a unclosed active = record { definition = d; mark = m; turn = turn; acts = a; held = refl; active = rw (unclosed, active) }
+pub serves-at : (here : Node) (d : Definition) (m : Mark) (turn : ℕ) (a : Member Act) (b : Member Batch) (e : GroupEvent Batch) → is_open m ≡ true → runs d a ≡ true → FitsServed here d b e → Brings may_serve e → ServesAt here (Held d m turn a b) d b e
+serves-at here d m turn a b e unclosed active fit brings = record { mark = m; turn = turn; acts = a; held = refl; unclosed = unclosed; active = active; fit = fit; brings = brings }
 
-pub purges-at : (d : Definition) (m : Mark) (turn : ℕ) (a : Member Act) → PurgesAt (Held d m turn a)
-purges-at d m turn a = record { definition = d; mark = m; turn = turn; acts = a; held = refl }
+pub abandons-at : (d : Definition) (m : Mark) (turn : ℕ) (a : Member Act) (b : Member Batch) → is_open m ≡ true → runs d a ≡ true → AbandonsAt (Held d m turn a b)
+abandons-at d m turn a b unclosed active = record { definition = d; mark = m; turn = turn; acts = a; batches = b; held = refl; active = rw (unclosed, active) }
+
+pub purges-at : (d : Definition) (m : Mark) (turn : ℕ) (a : Member Act) (b : Member Batch) → PurgesAt (Held d m turn a b)
+purges-at d m turn a b = record { definition = d; mark = m; turn = turn; acts = a; batches = b; held = refl }
 
 -- ---- what may be queued
+
+abbrev Queues : Node → Definition → ℕ → Member Act → GroupEvent Act → Type 0
+Queues here d turn a e = MayQueue (admin_group d) (may_queue here turn a.pending) e ⊎ ((admin_row here d a e).changes ≡ [])
 
 -- an act of another node
 pub may-other : (here : Node) (turn : ℕ) (pending : List Act) (v : Act) → bytes_eq v.node here ≡ false → may_queue here turn pending v ≡ true
@@ -131,3 +170,18 @@ fits-message here d turn a from x ruled member same apart = record {
   due = (same, position_apart d.members here from (few_members d ruled).1 member apart);
   queues = message-queues here d turn a from x (few_members d ruled).1 apart;
 }
+
+-- a message of the service group of the generation, from another node, with no batch that breaks a rule
+pub fits-served : (here : Node) (d : Definition) (b : Member Batch) (from : Node) (x : CommitMsg Batch) → broken d ≡ None → has_node d.members here ≡ true → generation_of x ≡ d.generation → bytes_eq from here ≡ false → carries may_serve x ≡ true → FitsServed here d b (group.From (position d.members from) x)
+fits-served here d b from x ruled member same apart legal = record {
+  due = (same, position_apart d.members here from (few_members d ruled).1 member apart);
+  queues = inl (may x legal);
+}
+  where
+    may : (y : CommitMsg Batch) → carries may_serve y ≡ true → MayQueue (service_group d) may_serve (group.From (position d.members from) y)
+    may (msg.VoteRequest gen r place v) h = tt
+    may (msg.Vote gen r aye) h = tt
+    may (msg.Decision gen r commit) h = tt
+    may (msg.DecisionRequest gen r) h = tt
+    may (msg.Forward gen v) h = λ take. h
+    may (msg.Refused gen v why) h = tt

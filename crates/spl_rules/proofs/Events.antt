@@ -1,11 +1,12 @@
 -- The deed of each event fits its cell.
-use Rattle.std.proofs.Common.{◌≡◌, ◌≢◌, ◌⊎◌, ℕ, ◌+◌, ◌≤◌, Bool, true, false, not, ◌&&◌, [], length, refl, sym, subst, inl, inr, arith}
-use Rattle.std.specs.Prelude.{Option, Some, None, ◌==◌, nat_le, is_none, is_some, if◌then◌else◌}
+use Rattle.std.proofs.Common.{◌≡◌, ◌≢◌, ◌⊎◌, ℕ, ◌+◌, ◌≤◌, Bool, true, false, not, ◌&&◌, List, [], length, refl, sym, subst, inl, inr, arith}
+use Rattle.std.specs.Prelude.{Option, Some, None, ◌==◌, nat_le, is_none, is_some, if◌then◌else◌, Result, Ok, Err}
 use Rattle.std.specs.List.{list_any}
 use Rattle.std.specs.Str.{bytes_eq}
 use Rattle.std.proofs.lemmas.Bool.Decides.{nat_tests}
-use Rattle.spl_agree.specs.Member.{Member, new_member, known}
-use Rattle.spl_agree.specs.Fits.{IsRoomy}
+use Rattle.spl_agree.specs.Member.{Member, new_member, values, known, found, found_refused, changed_by}
+use Rattle.spl_agree.specs.Fits.{IsRoomy, generation_of}
+use Rattle.spl_agree.specs.declared.reason.Reason.{Reason}
 use Rattle.spl_agree.specs.declared.message.CommitMsg.{CommitMsg}
 use Rattle.spl_agree.specs.declared.message.CommitMsg.TheVariants as msg
 use Rattle.spl_agree.specs.declared.event.GroupEvent.{GroupEvent}
@@ -23,15 +24,30 @@ use Rattle.spl_circuit.specs.Nodes.{Node, has_node, position}
 use Rattle.spl_circuit.specs.Rules.{broken, admin, is_member}
 use Rattle.spl_circuit.specs.Lifecycle.{is_proposed, is_active}
 use Rattle.spl_circuit.specs.Acts.{act_rules, is_node}
-use Rattle.spl_wire.specs.Forms.{admin_of}
+use Rattle.spl_circuit.specs.declared.lifecycle.RouteFault.TheVariants as fault
+use Rattle.spl_circuit.specs.Routing.{Way}
+use Rattle.spl_command.specs.declared.batch.Batch.{Batch}
+use Rattle.spl_command.specs.declared.receipt.Receipt.{Receipt}
+use Rattle.spl_command.specs.Rules.{broken_batch}
+use Rattle.spl_command.specs.Equality.{same_batch}
+use Rattle.spl_scabbard.specs.Checks.{batch_rules}
+use Rattle.spl_scabbard.specs.Readers.{place_of, receipts_of}
+use Rattle.spl_wire.specs.declared.message.Message.{Message}
+use Rattle.spl_wire.specs.declared.message.Message.TheVariants as message
+use Rattle.spl_wire.specs.declared.answer.Answer.TheVariants as answer
 use Rattle.spl_wire.specs.declared.change.Change.TheVariants as durable
 use Rattle.spl_wire.specs.declared.event.Event.{Event}
 use Rattle.spl_wire.specs.declared.event.Event.TheVariants as event
-use Rattle.spl_rules.specs.Cells.{Cell, Empty, Held, Purged, is_open, is_free, own_life, can_bind, proposal, proposes, proposes_at, next_act, is_act_pending, votes, removes, abandons, purges, is_waiting, turns, asked_first, forwarded_first, hears_first, hears, held_does, other_does, does}
-use Rattle.spl_rules.specs.Changes.{may_queue, fits_free}
-use Rattle.spl_rules.specs.Valid.{IsHeld, IsKept, IsFor}
+use Rattle.spl_rules.specs.Cells.{Cell, Empty, Held, Purged, Deed, Tells, admin_group, service_group, is_open, is_free, runs, own_life, can_bind, proposal, proposes, proposes_at, next_act, is_act_pending, votes, removes, abandons, purges, is_waiting, asked_first, forwarded_first, hears_first}
+use Rattle.spl_rules.specs.Batches.{submits_known, submits_ruled, submits, when_active, root_told, history_told, value_told, listed, has_the_id, status_refused, status_kept, status_told, receipt_kept, receipt_told, routed, way, serves_other, hears_routed}
+use Rattle.spl_rules.specs.Events.{turns, hears_admin, held_hears, other_hears, held_does, other_does, does}
+use Rattle.spl_rules.specs.Plans.{admin_row}
+use Rattle.spl_rules.specs.Changes.{may_queue, may_serve, fits_free}
+use Rattle.spl_rules.specs.Valid.{IsHeld, IsKept, IsFor, carries, is_legal}
 use Rattle.spl_rules.proofs.Positions.{node_is, node_same}
-use Rattle.spl_rules.proofs.Deeds.{FitsEvent, BindsAt, ActsAt, FitsDeed, may-other, acts-at, abandons-at, purges-at, fits-message}
+use Rattle.spl_rules.proofs.Carried.{Brings}
+use Rattle.spl_rules.proofs.Still.{still-tick, still-expire}
+use Rattle.spl_rules.proofs.Deeds.{FitsEvent, FitsServed, BindsAt, ActsAt, FitsDeed, may-other, acts-at, serves-at, abandons-at, purges-at, fits-message, fits-served}
 
 not_false : (b : Bool) → not b ≡ false → b ≡ true
 not_false true q = refl
@@ -69,8 +85,8 @@ fits-next here d turn a k roomy free = record {
 }
 
 -- what isn't open is active, and so isn't proposed
-open-proposed : (here c : Node) (d : Definition) (m : Mark) (a : Member Act) → IsHeld here c d m a → is_proposed (own_life d a).state ≡ true → is_open m ≡ true
-open-proposed here c d m a s p = go (bool_cases (is_open m))
+open-proposed : (here c : Node) (d : Definition) (m : Mark) (a : Member Act) (b : Member Batch) → IsHeld here c d m a b → is_proposed (own_life d a).state ≡ true → is_open m ≡ true
+open-proposed here c d m a b s p = go (bool_cases (is_open m))
   where
     apart : (l : Lifecycle) → is_proposed l ≡ true → is_active l ≡ true → ⊥
     apart lifecycle.None x y = cc
@@ -83,20 +99,20 @@ open-proposed here c d m a s p = go (bool_cases (is_open m))
     go (inl q) = q
     go (inr q) = absurd (apart (own_life d a).state p (s.closed q))
 
-acts-next : (here c : Node) (d : Definition) (m : Mark) (turn : ℕ) (a : Member Act) (k : ActKind) → IsHeld here c d m a → is_act_pending d here turn a ≡ false → not (is_proposed (own_life d a).state) ≡ false → ActsAt here (Held d m turn a) d a (group.Submit (next_act here turn k))
-acts-next here c d m turn a k s free proposed = acts-at here d m turn a (group.Submit (next_act here turn k)) (open-proposed here c d m a s (not_false _ proposed)) (fits-next here d turn a k s.roomy (can-act here d turn a free))
+acts-next : (here c : Node) (d : Definition) (m : Mark) (turn : ℕ) (a : Member Act) (b : Member Batch) (k : ActKind) → IsHeld here c d m a b → is_act_pending d here turn a ≡ false → not (is_proposed (own_life d a).state) ≡ false → ActsAt here (Held d m turn a b) d a (group.Submit (next_act here turn k))
+acts-next here c d m turn a b k s free proposed = acts-at here d m turn a b (group.Submit (next_act here turn k)) (open-proposed here c d m a b s (not_false _ proposed)) (fits-next here d turn a k s.acts.roomy (can-act here d turn a free))
 
-fits-votes : (here c : Node) (d : Definition) (m : Mark) (turn : ℕ) (a : Member Act) (k : ActKind) → IsHeld here c d m a → FitsDeed here c (Held d m turn a) (votes here d turn a k)
-fits-votes here c d m turn a k s =
-    if_holds (FitsDeed here c (Held d m turn a)) _ _ _ (λ q. tt) (λ free.
-    if_holds (FitsDeed here c (Held d m turn a)) _ _ _ (λ q. tt) (λ proposed.
-    if_holds (FitsDeed here c (Held d m turn a)) (has_node (own_life d a).accepted here) _ _ (λ q. tt) (λ q. acts-next here c d m turn a k s free proposed)))
+fits-votes : (here c : Node) (d : Definition) (m : Mark) (turn : ℕ) (a : Member Act) (b : Member Batch) (k : ActKind) → IsHeld here c d m a b → FitsDeed here c (Held d m turn a b) (votes here d turn a k)
+fits-votes here c d m turn a b k s =
+    if_holds (FitsDeed here c (Held d m turn a b)) _ _ _ (λ q. tt) (λ free.
+    if_holds (FitsDeed here c (Held d m turn a b)) _ _ _ (λ q. tt) (λ proposed.
+    if_holds (FitsDeed here c (Held d m turn a b)) (has_node (own_life d a).accepted here) _ _ (λ q. tt) (λ q. acts-next here c d m turn a b k s free proposed)))
 
-fits-removes : (here c : Node) (d : Definition) (m : Mark) (turn : ℕ) (a : Member Act) → IsHeld here c d m a → FitsDeed here c (Held d m turn a) (removes here d turn a)
-fits-removes here c d m turn a s =
-    if_holds (FitsDeed here c (Held d m turn a)) _ _ _ (λ q. tt) (λ free.
-    if_holds (FitsDeed here c (Held d m turn a)) _ _ _ (λ q. tt) (λ proposed.
-    if_holds (FitsDeed here c (Held d m turn a)) (not (is_node (own_life d a).requester here)) _ _ (λ q. tt) (λ q. acts-next here c d m turn a kind.Remove s free proposed)))
+fits-removes : (here c : Node) (d : Definition) (m : Mark) (turn : ℕ) (a : Member Act) (b : Member Batch) → IsHeld here c d m a b → FitsDeed here c (Held d m turn a b) (removes here d turn a)
+fits-removes here c d m turn a b s =
+    if_holds (FitsDeed here c (Held d m turn a b)) _ _ _ (λ q. tt) (λ free.
+    if_holds (FitsDeed here c (Held d m turn a b)) _ _ _ (λ q. tt) (λ proposed.
+    if_holds (FitsDeed here c (Held d m turn a b)) (not (is_node (own_life d a).requester here)) _ _ (λ q. tt) (λ q. acts-next here c d m turn a b kind.Remove s free proposed)))
 
 -- ---- proposals
 
@@ -108,7 +124,7 @@ binds-proposal here c k d free own ruled member = record { free = rw (free, own,
 
 fits-proposes_at : (here c : Node) (d : Definition) (k : Cell) → bytes_eq d.id c ≡ true → broken d ≡ None → is_member d here ≡ true → FitsDeed here c k (proposes_at here d k)
 fits-proposes_at here c d Empty own ruled member = binds-proposal here c Empty d refl own ruled member
-fits-proposes_at here c d (Held e m turn a) own ruled member = tt
+fits-proposes_at here c d (Held e m turn a b) own ruled member = tt
 fits-proposes_at here c d (Purged old) own ruled member = if_holds (FitsDeed here c (Purged old)) _ _ _ (λ q. binds-proposal here c (Purged old) d q own ruled member) (λ q. tt)
 
 fits-proposes : (here c : Node) (d : Definition) (k : Cell) (o : Option ℕ) → bytes_eq d.id c ≡ true → broken d ≡ o → FitsDeed here c k (proposes here d k o)
@@ -140,19 +156,19 @@ fits-asked : (here c : Node) (k : Cell) (from : Node) (gen r place : ℕ) (v : A
 fits-asked here c k from gen r place v (kind.Propose d) apart =
     if_holds (FitsDeed here c k) _ _ _
     (λ q. bound (bindable here c k gen d (and_left (can_bind here c k gen d) (bytes_eq (admin d) from) (and_right (place == 0) _ q))))
-    (λ q. tt)
+    (λ q. refl)
   where
     bound : IsBindable here c k gen d → BindsAt here c k d (group.From (position d.members from) (msg.VoteRequest gen r place v))
     bound b = record { free = b.free; fit = fits-message here d 0 new_member from (msg.VoteRequest gen r place v) b.ruled b.member b.same apart }
-fits-asked here c k from gen r place v kind.Accept apart = tt
-fits-asked here c k from gen r place v kind.Reject apart = tt
-fits-asked here c k from gen r place v kind.Remove apart = tt
+fits-asked here c k from gen r place v kind.Accept apart = refl
+fits-asked here c k from gen r place v kind.Reject apart = refl
+fits-asked here c k from gen r place v kind.Remove apart = refl
 
 fits-forwarded : (here c : Node) (k : Cell) (from : Node) (gen : ℕ) (v : Act) (w : ActKind) → bytes_eq from here ≡ false → FitsDeed here c k (forwarded_first here c k from gen v w)
 fits-forwarded here c k from gen v (kind.Propose d) apart =
     if_holds (FitsDeed here c k) _ _ _
     (λ q. bound (bindable here c k gen d (and_left (can_bind here c k gen d) _ q)) (sender (and_right (can_bind here c k gen d) _ q)))
-    (λ q. tt)
+    (λ q. refl)
   where
     sender : (bytes_eq (admin d) here && (bytes_eq v.node from && (is_member d from && not (bytes_eq from here)))) ≡ true → v.node ≡ from
     sender q = node_is v.node from (and_left (bytes_eq v.node from) _ (and_right (bytes_eq (admin d) here) _ q))
@@ -171,62 +187,157 @@ fits-hears_first here c k from (msg.DecisionRequest gen r) apart = tt
 fits-hears_first here c k from (msg.Forward gen v) apart = fits-forwarded here c k from gen v v.kind apart
 fits-hears_first here c k from (msg.Refused gen v why) apart = tt
 
-fits-hears : (here c : Node) (k : Cell) (from : Node) (x : CommitMsg Act) → IsKept here c k → bytes_eq from here ≡ false → FitsDeed here c k (hears here c k from x)
-fits-hears here c Empty from x s apart = fits-hears_first here c Empty from x apart
-fits-hears here c (Purged old) from x s apart = fits-hears_first here c (Purged old) from x apart
-fits-hears here c (Held d m turn a) from x s apart =
-    if_holds (FitsDeed here c (Held d m turn a)) _ _ _
-    (λ q. acts-at here d m turn a _ (and_left _ _ q) (fits-message here d turn a from x s.ruled s.member (eqb_is _ _ (and_right (is_open m) _ q)) apart))
-    (λ q. fits-hears_first here c (Held d m turn a) from x apart)
+-- ---- messages of acts at a bound cell
+
+fits-admin : (here c : Node) (d : Definition) (m : Mark) (turn : ℕ) (a : Member Act) (b : Member Batch) (from : Node) (x : CommitMsg Act) → IsHeld here c d m a b → bytes_eq from here ≡ false → FitsDeed here c (Held d m turn a b) (hears_admin here c d m turn a b from x)
+fits-admin here c d m turn a b from x s apart =
+    if_holds (FitsDeed here c (Held d m turn a b)) _ _ _
+    (λ q. acts-at here d m turn a b _ (and_left _ _ q) (fits-message here d turn a from x s.ruled s.member (eqb_is _ _ (and_right (is_open m) _ q)) apart))
+    (λ q. fits-hears_first here c (Held d m turn a b) from x apart)
+
+-- ---- batches
+
+-- a batch that breaks no rule and isn't known, where there is space
+fits-batch : (here : Node) (d : Definition) (b : Member Batch) (v : Batch) → IsRoomy b → length b.pending ≢ 64 → known batch_rules b v ≡ None → may_serve v ≡ true → FitsServed here d b (group.Submit v)
+fits-batch here d b v roomy space unknown may = record { due = (unknown, let few : length b.pending ≤ 64 = roomy.few in omega (arith, few, space)); queues = inl may }
+
+none_may : (v : Batch) → broken_batch v ≡ None → may_serve v ≡ true
+none_may v h = rw h
+
+fits-submits_known : (here c : Node) (d : Definition) (m : Mark) (turn : ℕ) (a : Member Act) (b : Member Batch) (v : Batch) (o : Option Batch) → IsHeld here c d m a b → is_open m ≡ true → runs d a ≡ true → broken_batch v ≡ None → known batch_rules b v ≡ o → FitsDeed here c (Held d m turn a b) (submits_known here d b v o)
+fits-submits_known here c d m turn a b v None s unclosed active ruled unknown =
+    if_holds (FitsDeed here c (Held d m turn a b)) (length b.pending == 64) _ _ (λ q. tt) (λ q.
+    serves-at here d m turn a b (group.Submit v) unclosed active (fits-batch here d b v s.batches.roomy (eqb_not (length b.pending) 64 q) unknown (none_may v ruled)) (none_may v ruled))
+fits-submits_known here c d m turn a b v (Some u) s unclosed active ruled unknown = if_holds (FitsDeed here c (Held d m turn a b)) (same_batch u v) _ _ (λ q. tt) (λ q. tt)
+
+fits-submits_ruled : (here c : Node) (d : Definition) (m : Mark) (turn : ℕ) (a : Member Act) (b : Member Batch) (v : Batch) (o : Option ℕ) → IsHeld here c d m a b → is_open m ≡ true → runs d a ≡ true → broken_batch v ≡ o → FitsDeed here c (Held d m turn a b) (submits_ruled here d b v o)
+fits-submits_ruled here c d m turn a b v (Some rule) s unclosed active ruled = tt
+fits-submits_ruled here c d m turn a b v None s unclosed active ruled = fits-submits_known here c d m turn a b v (known batch_rules b v) s unclosed active ruled refl
+
+fits-submits : (here c : Node) (d : Definition) (m : Mark) (turn : ℕ) (a : Member Act) (b : Member Batch) (v : Batch) → IsHeld here c d m a b → FitsDeed here c (Held d m turn a b) (submits here d m a b v)
+fits-submits here c d m turn a b v s =
+    if_holds (FitsDeed here c (Held d m turn a b)) (not (runs d a)) _ _ (λ q. tt) (λ active.
+    if_holds (FitsDeed here c (Held d m turn a b)) (not (is_open m)) _ _ (λ q. tt) (λ unclosed.
+    fits-submits_ruled here c d m turn a b v (broken_batch v) s (not_false _ unclosed) (not_false _ active) refl))
+
+-- what is told changes nothing
+fits-active : (here c : Node) (k : Cell) (d : Definition) (a : Member Act) (deed : Deed) → FitsDeed here c k deed → FitsDeed here c k (when_active d a deed)
+fits-active here c k d a deed h = if_holds (FitsDeed here c k) (runs d a) _ _ (λ q. h) (λ q. tt)
+
+fits-status : (here c : Node) (k : Cell) (b : Member Batch) (i : ℕ) (o : Option ℕ) → FitsDeed here c k (status_kept b i o)
+fits-status here c k b i (Some place) = tt
+fits-status here c k b i None = if_holds (FitsDeed here c k) (is_some (found (has_the_id i) b.pending)) _ _ (λ q. tt) (λ q. refused (found_refused (has_the_id i) b.refused))
+  where
+    refused : (o : Option (Batch × Reason)) → FitsDeed here c k (status_refused o)
+    refused None = tt
+    refused (Some u) = tt
+
+fits-receipt : (here c : Node) (k : Cell) (i : ℕ) (o : Option ℕ) (rs : Option (List Receipt)) → FitsDeed here c k (receipt_kept i o rs)
+fits-receipt here c k i None rs = tt
+fits-receipt here c k i (Some place) None = tt
+fits-receipt here c k i (Some place) (Some rs) = tt
+
+fits-routes : (here c : Node) (k : Cell) (w : Way) → FitsDeed here c k (routed w (Tells answer.Routed))
+fits-routes here c k (Ok x) = tt
+fits-routes here c k (Err f) = tt
+
+-- a routed message finds the circuit active and open
+way-runs : (here : Node) (d : Definition) (m : Mark) (a : Member Act) (from s t : Node) (x : Unit {0}) → way here d m a from s t ≡ Ok x → (is_open m && runs d a) ≡ true
+way-runs here d m a from s t x h = go (bool_cases (is_open m && runs d a))
+  where
+    go : ((is_open m && runs d a) ≡ true) ⊎ ((is_open m && runs d a) ≡ false) → (is_open m && runs d a) ≡ true
+    go (inl q) = q
+    go (inr q) = absurd (let z : Err fault.CircuitDoesNotExist ≡ Ok x = rw q at h in cc)
+
+fits-serves_other : (here c : Node) (k : Cell) (from s t : Node) (x : CommitMsg Batch) → FitsDeed here c k (serves_other c from s t x)
+fits-serves_other here c k from s t (msg.VoteRequest gen r place v) = refl
+fits-serves_other here c k from s t (msg.Vote gen r aye) = tt
+fits-serves_other here c k from s t (msg.Decision gen r commit) = tt
+fits-serves_other here c k from s t (msg.DecisionRequest gen r) = tt
+fits-serves_other here c k from s t (msg.Forward gen v) = tt
+fits-serves_other here c k from s t (msg.Refused gen v why) = tt
+
+fits-routed : (here c : Node) (d : Definition) (m : Mark) (turn : ℕ) (a : Member Act) (b : Member Batch) (from s t : Node) (x : CommitMsg Batch) (w : Way) → IsHeld here c d m a b → bytes_eq from here ≡ false → carries may_serve x ≡ true → way here d m a from s t ≡ w → FitsDeed here c (Held d m turn a b) (routed w (hears_routed c d b from s t x))
+fits-routed here c d m turn a b from s t x (Err f) held apart legal w = tt
+fits-routed here c d m turn a b from s t x (Ok u) held apart legal w =
+    let both : (is_open m && runs d a) ≡ true = way-runs here d m a from s t u w in
+    if_holds (FitsDeed here c (Held d m turn a b)) (generation_of x == d.generation) _ _
+    (λ q. serves-at here d m turn a b (group.From (position d.members from) x) (and_left (is_open m) (runs d a) both) (and_right (is_open m) (runs d a) both) (fits-served here d b from x held.ruled held.member (eqb_is _ _ q) apart legal) legal)
+    (λ q. fits-serves_other here c (Held d m turn a b) from s t x)
 
 -- ---- the other events
 
-fits-turns : (here c : Node) (d : Definition) (m : Mark) (turn : ℕ) (a : Member Act) (x : GroupEvent Act) → FitsEvent here d turn a x → FitsDeed here c (Held d m turn a) (turns here d m a x)
-fits-turns here c d m turn a x t = if_holds (FitsDeed here c (Held d m turn a)) _ _ _ (λ q. acts-at here d m turn a x q t) (λ q. tt)
+turning : (here c : Node) (d : Definition) (m : Mark) (turn : ℕ) (a : Member Act) (b : Member Batch) (x : GroupEvent Act) (y : GroupEvent Batch) → FitsEvent here d turn a x → (changed_by (act_rules d) a (admin_row here d a x).changes).history ≡ a.history → FitsServed here d b y → Brings may_serve y → FitsDeed here c (Held d m turn a b) (turns here d m a b x y)
+turning here c d m turn a b x y fit still serves brings =
+    if_holds (FitsDeed here c (Held d m turn a b)) (is_open m) _ _
+    (λ unclosed. if_holds (FitsDeed here c (Held d m turn a b)) (runs d a) _ _
+        (λ active. record { mark = m; turn = turn; held = refl; unclosed = unclosed; active = active; fit = fit; still = still; serves = serves; brings = brings })
+        (λ q. acts-at here d m turn a b x unclosed fit))
+    (λ q. tt)
 
-fits-abandons : (here c : Node) (d : Definition) (m : Mark) (turn : ℕ) (a : Member Act) → FitsDeed here c (Held d m turn a) (abandons d m a)
-fits-abandons here c d m turn a =
-    if_holds (FitsDeed here c (Held d m turn a)) _ _ _ (λ q. tt) (λ active.
-    if_holds (FitsDeed here c (Held d m turn a)) (is_open m) _ _ (λ q. abandons-at d m turn a q (not_false _ active)) (λ q. tt))
+fits-tick : (here c : Node) (d : Definition) (m : Mark) (turn : ℕ) (a : Member Act) (b : Member Batch) → FitsDeed here c (Held d m turn a b) (turns here d m a b group.Tick group.Tick)
+fits-tick here c d m turn a b = turning here c d m turn a b group.Tick group.Tick (record { due = tt; queues = inl tt }) (still-tick (admin_group d) (position d.members here) a) (record { due = tt; queues = inl tt }) tt
 
-fits-purges : (here c : Node) (d : Definition) (m : Mark) (turn : ℕ) (a : Member Act) → FitsDeed here c (Held d m turn a) (purges d m a)
-fits-purges here c d m turn a = if_holds (FitsDeed here c (Held d m turn a)) (is_open m && is_waiting (own_life d a).state a) _ _ (λ q. tt) (λ q. purges-at d m turn a)
+fits-expire : (here c : Node) (d : Definition) (m : Mark) (turn : ℕ) (a : Member Act) (b : Member Batch) → FitsDeed here c (Held d m turn a b) (turns here d m a b group.Expire group.Expire)
+fits-expire here c d m turn a b = turning here c d m turn a b group.Expire group.Expire (record { due = tt; queues = inl tt }) (still-expire (admin_group d) (position d.members here) a) (record { due = tt; queues = inl tt }) tt
 
-fits-held : (here c : Node) (d : Definition) (m : Mark) (turn : ℕ) (a : Member Act) (e : Event) → IsFor here c e → IsHeld here c d m a → FitsDeed here c (Held d m turn a) (held_does here c d m turn a e)
-fits-held here c d m turn a (event.Propose p) own s = fits-proposes here c p (Held d m turn a) (broken p) own refl
-fits-held here c d m turn a (event.Vote accept) own s = fits-votes here c d m turn a (if accept then kind.Accept else kind.Reject) s
-fits-held here c d m turn a event.Remove own s = fits-removes here c d m turn a s
-fits-held here c d m turn a event.Abandon own s = fits-abandons here c d m turn a
-fits-held here c d m turn a event.Purge own s = fits-purges here c d m turn a
-fits-held here c d m turn a event.Show own s = tt
-fits-held here c d m turn a event.Detail own s = tt
-fits-held here c d m turn a event.Root own s = tt
-fits-held here c d m turn a event.History own s = tt
-fits-held here c d m turn a (event.Status i) own s = tt
-fits-held here c d m turn a (event.Receipt i) own s = tt
-fits-held here c d m turn a (event.Route from x y) own s = tt
-fits-held here c d m turn a event.Tick own s = fits-turns here c d m turn a group.Tick (record { due = tt; queues = inl tt })
-fits-held here c d m turn a event.Expire own s = fits-turns here c d m turn a group.Expire (record { due = tt; queues = inl tt })
-fits-held here c d m turn a (event.Deliver from x) own s = fits-hears here c (Held d m turn a) from (admin_of x) s own.1
+fits-abandons : (here c : Node) (d : Definition) (m : Mark) (turn : ℕ) (a : Member Act) (b : Member Batch) → FitsDeed here c (Held d m turn a b) (abandons d m a)
+fits-abandons here c d m turn a b =
+    if_holds (FitsDeed here c (Held d m turn a b)) _ _ _ (λ q. tt) (λ active.
+    if_holds (FitsDeed here c (Held d m turn a b)) (is_open m) _ _ (λ q. abandons-at d m turn a b q (not_false _ active)) (λ q. tt))
 
-fits-other : (here c : Node) (k : Cell) (e : Event) → IsFor here c e → IsKept here c k → FitsDeed here c k (other_does here c k e)
-fits-other here c k (event.Propose p) own s = fits-proposes here c p k (broken p) own refl
-fits-other here c k (event.Vote accept) own s = tt
-fits-other here c k event.Remove own s = tt
-fits-other here c k event.Abandon own s = tt
-fits-other here c k event.Purge own s = tt
-fits-other here c k event.Show own s = tt
-fits-other here c k event.Detail own s = tt
-fits-other here c k event.Root own s = tt
-fits-other here c k event.History own s = tt
-fits-other here c k (event.Status i) own s = tt
-fits-other here c k (event.Receipt i) own s = tt
-fits-other here c k (event.Route from x y) own s = tt
-fits-other here c k event.Tick own s = tt
-fits-other here c k event.Expire own s = tt
-fits-other here c k (event.Deliver from x) own s = fits-hears here c k from (admin_of x) s own.1
+fits-purges : (here c : Node) (d : Definition) (m : Mark) (turn : ℕ) (a : Member Act) (b : Member Batch) → FitsDeed here c (Held d m turn a b) (purges d m a)
+fits-purges here c d m turn a b = if_holds (FitsDeed here c (Held d m turn a b)) (is_open m && is_waiting (own_life d a).state a) _ _ (λ q. tt) (λ q. purges-at d m turn a b)
+
+fits-held_hears : (here c : Node) (d : Definition) (m : Mark) (turn : ℕ) (a : Member Act) (b : Member Batch) (from : Node) (x : Message) → IsHeld here c d m a b → bytes_eq from here ≡ false → is_legal x ≡ true → FitsDeed here c (Held d m turn a b) (held_hears here c d m turn a b from x)
+fits-held_hears here c d m turn a b from (message.Admin i x) s apart legal = fits-admin here c d m turn a b from x s apart
+fits-held_hears here c d m turn a b from (message.Scabbard i s t x) held apart legal = fits-routed here c d m turn a b from s t x (way here d m a from s t) held apart legal refl
+
+fits-other_hears : (here c : Node) (k : Cell) (from : Node) (x : Message) → bytes_eq from here ≡ false → FitsDeed here c k (other_hears here c k from x)
+fits-other_hears here c k from (message.Admin i x) apart = fits-hears_first here c k from x apart
+fits-other_hears here c k from (message.Scabbard i s t x) apart = tt
+
+fits-held : (here c : Node) (d : Definition) (m : Mark) (turn : ℕ) (a : Member Act) (b : Member Batch) (e : Event) → IsFor here c e → IsHeld here c d m a b → FitsDeed here c (Held d m turn a b) (held_does here c d m turn a b e)
+fits-held here c d m turn a b (event.Propose p) own s = fits-proposes here c p (Held d m turn a b) (broken p) own refl
+fits-held here c d m turn a b (event.Vote accept) own s = fits-votes here c d m turn a b (if accept then kind.Accept else kind.Reject) s
+fits-held here c d m turn a b event.Remove own s = fits-removes here c d m turn a b s
+fits-held here c d m turn a b event.Abandon own s = fits-abandons here c d m turn a b
+fits-held here c d m turn a b event.Purge own s = fits-purges here c d m turn a b
+fits-held here c d m turn a b (event.Submit v) own s = fits-submits here c d m turn a b v s
+fits-held here c d m turn a b event.Show own s = tt
+fits-held here c d m turn a b event.Detail own s = tt
+fits-held here c d m turn a b event.Root own s = fits-active here c (Held d m turn a b) d a (Tells (root_told b)) tt
+fits-held here c d m turn a b event.History own s = fits-active here c (Held d m turn a b) d a (Tells (history_told b)) tt
+fits-held here c d m turn a b (event.Get address) own s = fits-active here c (Held d m turn a b) d a (Tells (value_told b address)) tt
+fits-held here c d m turn a b (event.List prefix) own s = fits-active here c (Held d m turn a b) d a (Tells (listed b prefix)) tt
+fits-held here c d m turn a b (event.Status i) own s = fits-active here c (Held d m turn a b) d a (status_told b i) (fits-status here c (Held d m turn a b) b i (place_of (values b.history) i))
+fits-held here c d m turn a b (event.Receipt i) own s = fits-active here c (Held d m turn a b) d a (receipt_told b i) (fits-receipt here c (Held d m turn a b) i (place_of (values b.history) i) (receipts_of (values b.history) i))
+fits-held here c d m turn a b (event.Route from x y) own s = fits-routes here c (Held d m turn a b) (way here d m a from x y)
+fits-held here c d m turn a b event.Tick own s = fits-tick here c d m turn a b
+fits-held here c d m turn a b event.Expire own s = fits-expire here c d m turn a b
+fits-held here c d m turn a b (event.Deliver from x) own s = fits-held_hears here c d m turn a b from x s own.1 own.2
+
+fits-other : (here c : Node) (k : Cell) (e : Event) → IsFor here c e → FitsDeed here c k (other_does here c k e)
+fits-other here c k (event.Propose p) own = fits-proposes here c p k (broken p) own refl
+fits-other here c k (event.Vote accept) own = tt
+fits-other here c k event.Remove own = tt
+fits-other here c k event.Abandon own = tt
+fits-other here c k event.Purge own = tt
+fits-other here c k (event.Submit v) own = tt
+fits-other here c k event.Show own = tt
+fits-other here c k event.Detail own = tt
+fits-other here c k event.Root own = tt
+fits-other here c k event.History own = tt
+fits-other here c k (event.Get address) own = tt
+fits-other here c k (event.List prefix) own = tt
+fits-other here c k (event.Status i) own = tt
+fits-other here c k (event.Receipt i) own = tt
+fits-other here c k (event.Route from x y) own = tt
+fits-other here c k event.Tick own = tt
+fits-other here c k event.Expire own = tt
+fits-other here c k (event.Deliver from x) own = fits-other_hears here c k from x own.1
 
 pub fits-does : (here c : Node) (k : Cell) (e : Event) → IsFor here c e → IsKept here c k → FitsDeed here c k (does here c k e)
-fits-does here c Empty e own s = fits-other here c Empty e own s
-fits-does here c (Purged old) e own s = fits-other here c (Purged old) e own s
-fits-does here c (Held d m turn a) e own s = fits-held here c d m turn a e own s
+fits-does here c Empty e own s = fits-other here c Empty e own
+fits-does here c (Purged old) e own s = fits-other here c (Purged old) e own
+fits-does here c (Held d m turn a b) e own s = fits-held here c d m turn a b e own s

@@ -2,6 +2,8 @@ pub mod Positions
 pub mod SameActs
 pub mod Members
 pub mod Cells
+pub mod Carried
+pub mod Still
 pub mod Deeds
 pub mod Events
 pub mod Plans

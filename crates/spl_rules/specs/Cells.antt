@@ -1,4 +1,4 @@
--- What a node keeps about one circuit, and what an event does there (docs/RULES.md, Cells).
+-- What a node keeps about one circuit, and what an event of acts does there (docs/RULES.md, Cells).
 use Rattle.std.specs.Prelude.{ℕ, ◌+◌, ◌-◌, ◌^◌, Bool, true, false, not, ◌&&◌, ◌||◌, ◌==◌, nat_lt, List, [], ◌∷◌, length, if◌then◌else◌, Option, Some, None, is_some, is_none}
 use Rattle.std.specs.List.{list_any, filter}
 use Rattle.std.specs.Str.{bytes_eq}
@@ -10,7 +10,6 @@ use Rattle.spl_agree.specs.declared.message.CommitMsg.TheVariants as msg
 use Rattle.spl_agree.specs.declared.event.GroupEvent.{GroupEvent}
 use Rattle.spl_agree.specs.declared.event.GroupEvent.TheVariants as group
 use Rattle.spl_agree.specs.Member.{Group, Member, values, known}
-use Rattle.spl_agree.specs.Fits.{generation_of}
 use Rattle.spl_circuit.specs.declared.definition.Definition.{Definition}
 use Rattle.spl_circuit.specs.declared.act.ActKind.{ActKind}
 use Rattle.spl_circuit.specs.declared.act.ActKind.TheVariants as kind
@@ -21,34 +20,37 @@ use Rattle.spl_circuit.specs.declared.lifecycle.Lifecycle.{Lifecycle}
 use Rattle.spl_circuit.specs.declared.lifecycle.Lifecycle.TheVariants as lifecycle
 use Rattle.spl_circuit.specs.Forms.{definition}
 use Rattle.spl_circuit.specs.Nodes.{Node, has_node, position}
-use Rattle.spl_circuit.specs.Rules.{broken, admin, is_member}
+use Rattle.spl_circuit.specs.Rules.{broken, admin, service, is_member}
 use Rattle.spl_circuit.specs.Lifecycle.{Life, life, is_proposed, is_active}
 use Rattle.spl_circuit.specs.Acts.{reason, is_node, act_rules}
+use Rattle.spl_command.specs.declared.batch.Batch.{Batch}
+use Rattle.spl_scabbard.specs.Checks.{batch_rules}
 use Rattle.spl_wire.specs.declared.message.Message.{Message}
 use Rattle.spl_wire.specs.declared.message.Message.TheVariants as message
-use Rattle.spl_wire.specs.Forms.{admin_of}
-use Rattle.spl_wire.specs.declared.event.Event.{Event}
-use Rattle.spl_wire.specs.declared.event.Event.TheVariants as event
 use Rattle.spl_wire.specs.declared.answer.Refusal.{Refusal}
 use Rattle.spl_wire.specs.declared.answer.Refusal.TheVariants as refusal
 use Rattle.spl_wire.specs.declared.answer.Answer.{Answer}
 use Rattle.spl_wire.specs.declared.answer.Answer.TheVariants as answer
 
 -- a cell is empty; or bound to a definition, with its mark, the turn of the node, and what the node keeps in the admin
--- group; or purged with the generation that it last had
+-- group and in the service group; or purged with the generation that it last had
 pub data Cell : Type 0 where
   Empty : Cell
-  Held : (definition : Definition) → (mark : Mark) → (turn : ℕ) → (acts : Member Act) → Cell
+  Held : (definition : Definition) → (mark : Mark) → (turn : ℕ) → (acts : Member Act) → (batches : Member Batch) → Cell
   Purged : (generation : ℕ) → Cell
 
 abbrev pub is_bound : Cell → Bool
 is_bound Empty = false
-is_bound (Held d m turn a) = true
+is_bound (Held d m turn a b) = true
 is_bound (Purged old) = false
 
 -- the admin group of a definition
 abbrev pub admin_group : Definition → Group Act
 admin_group d = record { rules = act_rules d; generation = d.generation; members = length d.members; coordinator = position d.members (admin d) }
+
+-- its service group
+abbrev pub service_group : Definition → Group Batch
+service_group d = record { rules = batch_rules; generation = d.generation; members = length d.members; coordinator = position d.members (service d) }
 
 abbrev pub is_open : Mark → Bool
 is_open mark.Open = true
@@ -58,7 +60,7 @@ is_open mark.Purged = false
 -- bound, and the node takes part
 abbrev pub is_open_cell : Cell → Bool
 is_open_cell Empty = false
-is_open_cell (Held d m turn a) = is_open m
+is_open_cell (Held d m turn a b) = is_open m
 is_open_cell (Purged old) = false
 
 -- the lifecycle of the acts in its own history
@@ -81,10 +83,14 @@ pub data Deed : Type 0 where
   Binds : (Note → Answer) → (d : Definition) → (back : Node) → GroupEvent Act → Deed
   -- the admin group does this
   Acts : (Note → Answer) → (d : Definition) → (acts : Member Act) → (back : Node) → GroupEvent Act → Deed
+  -- the service group does this
+  Serves : (Note → Answer) → (d : Definition) → (batches : Member Batch) → (back : Node) → GroupEvent Batch → Deed
+  -- each group does its part, the admin group first
+  Turns : (d : Definition) → (acts : Member Act) → (batches : Member Batch) → GroupEvent Act → GroupEvent Batch → Deed
   Abandons : Deed
   Purges : Deed
 
--- how a note is answered: what is queued, what the groups did (no service group runs yet), what a message did
+-- how a note is answered: what is queued, and what the admin group did where no service group runs
 abbrev pub submitted : Note → Answer
 submitted n = answer.Submitted false
 
@@ -96,7 +102,7 @@ alone n = answer.Notes n note.Off
 -- the cell may be bound to a definition of this generation
 abbrev pub is_free : Cell → ℕ → Bool
 is_free Empty generation = true
-is_free (Held d m turn a) generation = false
+is_free (Held d m turn a b) generation = false
 is_free (Purged old) generation = nat_lt old generation
 
 -- a message of this generation can bind the definition
@@ -115,7 +121,7 @@ stale_or_held bound d = if nat_lt bound d.generation then refusal.CircuitHeld el
 -- a definition that breaks no rule, at one of its members
 abbrev pub proposes_at : Node → Definition → Cell → Deed
 proposes_at here d Empty = Binds submitted d here (group.Submit (proposal here d))
-proposes_at here d (Held e m turn a) = Refuses (stale_or_held e.generation d)
+proposes_at here d (Held e m turn a b) = Refuses (stale_or_held e.generation d)
 proposes_at here d (Purged old) = if nat_lt old d.generation then Binds submitted d here (group.Submit (proposal here d)) else Refuses (refusal.StaleGeneration old)
 
 -- a proposal, by the first rule that its definition breaks
@@ -173,16 +179,11 @@ purges d m a = if is_open m && is_waiting (own_life d a).state a then Refuses re
 abbrev pub accepted_in_order : Definition → Member Act → List Node
 accepted_in_order d a = filter (λ m. has_node (own_life d a).accepted m) d.members
 
-abbrev pub shows : Definition → Mark → Member Act → Answer
-shows d m a = answer.Show d.generation (own_life d a).state m (accepted_in_order d a) (length a.history) (length a.pending) 0 0
+abbrev pub shows : Definition → Mark → Member Act → Member Batch → Answer
+shows d m a b = answer.Show d.generation (own_life d a).state m (accepted_in_order d a) (length a.history) (length a.pending) (length b.history) (length b.pending)
 
 abbrev pub details : Definition → Mark → Member Act → Answer
 details d m a = answer.Detail d (sha256 (definition.spell d)) (own_life d a).state m (accepted_in_order d a) (own_life d a).requester
-
--- ---- tick, expire
-
-abbrev pub turns : Node → Definition → Mark → Member Act → GroupEvent Act → Deed
-turns here d m a x = if is_open m then Acts alone d a here x else Refuses refusal.Closed
 
 -- ---- messages
 
@@ -216,7 +217,7 @@ forwarded_first here c k from gen v kind.Accept = ignores
 forwarded_first here c k from gen v kind.Reject = ignores
 forwarded_first here c k from gen v kind.Remove = ignores
 
--- a message there
+-- a message of the admin group there
 abbrev pub hears_first : Node → Node → Cell → Node → CommitMsg Act → Deed
 hears_first here c k from (msg.VoteRequest gen r place v) = asked_first here c k from gen r place v v.kind
 hears_first here c k from (msg.Vote gen r aye) = ignores
@@ -224,74 +225,3 @@ hears_first here c k from (msg.Decision gen r commit) = ignores
 hears_first here c k from (msg.DecisionRequest gen r) = ignores
 hears_first here c k from (msg.Forward gen v) = forwarded_first here c k from gen v v.kind
 hears_first here c k from (msg.Refused gen v why) = ignores
-
--- a message from a node
-abbrev pub hears : Node → Node → Cell → Node → CommitMsg Act → Deed
-hears here c Empty from x = hears_first here c Empty from x
-hears here c (Purged old) from x = hears_first here c (Purged old) from x
-hears here c (Held d m turn a) from x =
-    if is_open m && generation_of x == d.generation
-    then Acts answer.Delivered d a from (group.From (position d.members from) x)
-    else hears_first here c (Held d m turn a) from x
-
--- ---- events
-
--- the events that a node handles; the others are about batches, which no line submits yet
-abbrev pub is_handled : Event → Bool
-is_handled (event.Propose d) = true
-is_handled (event.Vote accept) = true
-is_handled event.Remove = true
-is_handled event.Abandon = true
-is_handled event.Purge = true
-is_handled event.Show = true
-is_handled event.Detail = true
-is_handled event.Root = false
-is_handled event.History = false
-is_handled (event.Status i) = false
-is_handled (event.Receipt i) = false
-is_handled (event.Route from s t) = false
-is_handled event.Tick = true
-is_handled event.Expire = true
-is_handled (event.Deliver from x) = true
-
--- at a bound cell
-abbrev pub held_does : Node → Node → Definition → Mark → ℕ → Member Act → Event → Deed
-held_does here c d m turn a (event.Propose e) = proposes here e (Held d m turn a) (broken e)
-held_does here c d m turn a (event.Vote accept) = votes here d turn a (if accept then kind.Accept else kind.Reject)
-held_does here c d m turn a event.Remove = removes here d turn a
-held_does here c d m turn a event.Abandon = abandons d m a
-held_does here c d m turn a event.Purge = purges d m a
-held_does here c d m turn a event.Show = Tells (shows d m a)
-held_does here c d m turn a event.Detail = Tells (details d m a)
-held_does here c d m turn a event.Root = Refuses refusal.NotActive
-held_does here c d m turn a event.History = Refuses refusal.NotActive
-held_does here c d m turn a (event.Status i) = Refuses refusal.NotActive
-held_does here c d m turn a (event.Receipt i) = Refuses refusal.NotActive
-held_does here c d m turn a (event.Route from s t) = Refuses refusal.NotActive
-held_does here c d m turn a event.Tick = turns here d m a group.Tick
-held_does here c d m turn a event.Expire = turns here d m a group.Expire
-held_does here c d m turn a (event.Deliver from x) = hears here c (Held d m turn a) from (admin_of x)
-
--- at any other cell
-abbrev pub other_does : Node → Node → Cell → Event → Deed
-other_does here c k (event.Propose e) = proposes here e k (broken e)
-other_does here c k (event.Vote accept) = Refuses refusal.NoCircuit
-other_does here c k event.Remove = Refuses refusal.NoCircuit
-other_does here c k event.Abandon = Refuses refusal.NoCircuit
-other_does here c k event.Purge = Refuses refusal.NoCircuit
-other_does here c k event.Show = Refuses refusal.NoCircuit
-other_does here c k event.Detail = Refuses refusal.NoCircuit
-other_does here c k event.Root = Refuses refusal.NoCircuit
-other_does here c k event.History = Refuses refusal.NoCircuit
-other_does here c k (event.Status i) = Refuses refusal.NoCircuit
-other_does here c k (event.Receipt i) = Refuses refusal.NoCircuit
-other_does here c k (event.Route from s t) = Refuses refusal.NoCircuit
-other_does here c k event.Tick = Refuses refusal.NoCircuit
-other_does here c k event.Expire = Refuses refusal.NoCircuit
-other_does here c k (event.Deliver from x) = hears here c k from (admin_of x)
-
--- what an event does at a cell of the circuit c at the node here
-abbrev pub does : Node → Node → Cell → Event → Deed
-does here c Empty e = other_does here c Empty e
-does here c (Purged old) e = other_does here c (Purged old) e
-does here c (Held d m turn a) e = held_does here c d m turn a e

@@ -14,10 +14,13 @@ use Rattle.spl_circuit.specs.declared.lifecycle.Mark.TheVariants as mark
 use Rattle.spl_circuit.specs.Nodes.{Node, position}
 use Rattle.spl_circuit.specs.Rules.{broken, is_member}
 use Rattle.spl_circuit.specs.Acts.{act_rules}
+use Rattle.spl_command.specs.declared.batch.Batch.{Batch}
+use Rattle.spl_command.specs.Rules.{broken_batch}
+use Rattle.spl_scabbard.specs.Checks.{batch_rules}
 use Rattle.spl_wire.specs.declared.change.Change.{Change}
 use Rattle.spl_wire.specs.declared.change.Change.TheVariants as durable
 use Rattle.spl_wire.specs.declared.plan.Plan.{Plan}
-use Rattle.spl_rules.specs.Cells.{Cell, Empty, Held, Purged, admin_group, is_open, is_free, runs}
+use Rattle.spl_rules.specs.Cells.{Cell, Empty, Held, Purged, admin_group, service_group, is_open, is_free, runs}
 
 -- ---- the effect of a change
 
@@ -31,22 +34,24 @@ turn_after here turn (change.Promise r v) = turn
 turn_after here turn change.Abort = turn
 turn_after here turn (change.Commit r v) = turn
 
-abbrev pub held_after : Node → Definition → Mark → ℕ → Member Act → Change → Cell
-held_after here d m turn a (durable.Bind e) = Held e mark.Open 0 new_member
-held_after here d m turn a (durable.Admin x) = Held d m (turn_after here turn x) (changed (act_rules d) a x)
-held_after here d m turn a durable.Abandon = Held d mark.Abandoned turn a
-held_after here d m turn a durable.Purge = Purged d.generation
+abbrev pub held_after : Node → Definition → Mark → ℕ → Member Act → Member Batch → Change → Cell
+held_after here d m turn a b (durable.Bind e) = Held e mark.Open 0 new_member new_member
+held_after here d m turn a b (durable.Admin x) = Held d m (turn_after here turn x) (changed (act_rules d) a x) b
+held_after here d m turn a b (durable.Service x) = Held d m turn a (changed batch_rules b x)
+held_after here d m turn a b durable.Abandon = Held d mark.Abandoned turn a b
+held_after here d m turn a b durable.Purge = Purged d.generation
 
 abbrev pub free_after : Cell → Change → Cell
-free_after k (durable.Bind d) = Held d mark.Open 0 new_member
+free_after k (durable.Bind d) = Held d mark.Open 0 new_member new_member
 free_after k (durable.Admin x) = k
+free_after k (durable.Service x) = k
 free_after k durable.Abandon = k
 free_after k durable.Purge = k
 
 abbrev pub made_one : Node → Cell → Change → Cell
 made_one here Empty x = free_after Empty x
 made_one here (Purged old) x = free_after (Purged old) x
-made_one here (Held d m turn a) x = held_after here d m turn a x
+made_one here (Held d m turn a b) x = held_after here d m turn a b x
 
 -- changes that are made
 abbrev pub made : Node → Cell → List Change → Cell
@@ -60,22 +65,28 @@ abbrev pub may_queue : Node → ℕ → List Act → Act → Bool
 may_queue here turn pending v =
     if bytes_eq v.node here then not (list_any (λ u. bytes_eq u.node here) pending) && nat_le turn v.turn else true
 
-abbrev pub fits_held : Node → Definition → Mark → ℕ → Member Act → Change → Bool
-fits_held here d m turn a (durable.Bind e) = false
-fits_held here d m turn a (durable.Admin x) = is_open m && fits_group (act_rules d) (may_queue here turn a.pending) a x
-fits_held here d m turn a durable.Abandon = is_open m && runs d a
-fits_held here d m turn a durable.Purge = true
+-- a batch that breaks a rule is never queued
+abbrev pub may_serve : Batch → Bool
+may_serve v = is_none (broken_batch v)
+
+abbrev pub fits_held : Node → Definition → Mark → ℕ → Member Act → Member Batch → Change → Bool
+fits_held here d m turn a b (durable.Bind e) = false
+fits_held here d m turn a b (durable.Admin x) = is_open m && fits_group (act_rules d) (may_queue here turn a.pending) a x
+fits_held here d m turn a b (durable.Service x) = is_open m && (runs d a && fits_group batch_rules may_serve b x)
+fits_held here d m turn a b durable.Abandon = is_open m && runs d a
+fits_held here d m turn a b durable.Purge = true
 
 abbrev pub fits_free : Node → Node → Cell → Change → Bool
 fits_free here c k (durable.Bind e) = is_free k e.generation && (bytes_eq e.id c && (is_none (broken e) && is_member e here))
 fits_free here c k (durable.Admin x) = false
+fits_free here c k (durable.Service x) = false
 fits_free here c k durable.Abandon = false
 fits_free here c k durable.Purge = false
 
 abbrev pub fits : Node → Node → Cell → Change → Bool
 fits here c Empty x = fits_free here c Empty x
 fits here c (Purged old) x = fits_free here c (Purged old) x
-fits here c (Held d m turn a) x = fits_held here d m turn a x
+fits here c (Held d m turn a b) x = fits_held here d m turn a b x
 
 -- a change that does not fit changes nothing
 abbrev pub applied_one : Node → Node → Cell → Change → Cell
@@ -88,17 +99,18 @@ applied here c k (x ∷ xs) = applied here c (applied_one here c k x) xs
 
 -- ---- moves
 
-abbrev pub moved_cell : Node → Cell → OpenMove → Cell
-moved_cell here Empty x = Empty
-moved_cell here (Purged old) x = Purged old
-moved_cell here (Held d m turn a) x = Held d m turn (moved (admin_group d) (position d.members here) a x)
+-- the open rounds of the admin group and of the service group
+abbrev pub moved_cell : Node → Cell → OpenMove → OpenMove → Cell
+moved_cell here Empty x y = Empty
+moved_cell here (Purged old) x y = Purged old
+moved_cell here (Held d m turn a b) x y = Held d m turn (moved (admin_group d) (position d.members here) a x) (moved (service_group d) (position d.members here) b y)
 
--- a stop forgets the open round
+-- a stop forgets the open rounds
 abbrev pub stopped_cell : Cell → Cell
 stopped_cell Empty = Empty
 stopped_cell (Purged old) = Purged old
-stopped_cell (Held d m turn a) = Held d m turn (restarted a)
+stopped_cell (Held d m turn a b) = Held d m turn (restarted a) (restarted b)
 
--- the cell behind a plan: its changes and its move are made
+-- the cell behind a plan: its changes and its moves are made
 abbrev pub after_plan : Node → Cell → Plan → Cell
-after_plan here k p = moved_cell here (made here k p.changes) p.admin
+after_plan here k p = moved_cell here (made here k p.changes) p.admin p.service

@@ -1,4 +1,6 @@
 pub mod Cells
+pub mod Batches
+pub mod Events
 pub mod Plans
 pub mod Changes
 pub mod Valid

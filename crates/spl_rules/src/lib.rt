@@ -1,16 +1,17 @@
 //! The rules of a cell, as definitions, and what follows from them.
 #![tactic(auto)]
 
-ghost use Rattle.std.specs.Prelude.{◌≡◌, [], None};
+ghost use Rattle.std.specs.Prelude.{◌≡◌, [], true};
 ghost use Rattle.spl_circuit.specs.Nodes.{Node};
 ghost use Rattle.spl_wire.specs.declared.event.Event.{Event};
 ghost use Rattle.spl_wire.specs.declared.answer.Refusal.{Refusal};
 ghost use Rattle.spl_wire.specs.declared.answer.Answer.{Answer as Told};
 ghost use Rattle.spl_wire.specs.declared.answer.Answer.TheVariants as answer;
-ghost use Rattle.spl_rules.specs.Cells.{Cell, Empty, Refuses, Tells, does};
+ghost use Rattle.spl_rules.specs.Cells.{Cell, Empty, Refuses, Tells};
+ghost use Rattle.spl_rules.specs.Events.{does};
 ghost use Rattle.spl_rules.specs.Plans.{plan_of};
 ghost use Rattle.spl_rules.specs.Changes.{made, applied, applied_one, moved_cell, stopped_cell, after_plan};
-ghost use Rattle.spl_rules.specs.Valid.{IsKept, IsSettledCell, IsValid, FitsMoveAt, IsFor};
+ghost use Rattle.spl_rules.specs.Valid.{IsKept, IsSettledCell, IsValid, FitsMoveAt, IsFor, are_legal};
 ghost use Rattle.spl_wire.specs.declared.change.Change.{Change};
 ghost use Rattle.spl_agree.specs.declared.event.OpenMove.{OpenMove};
 
@@ -22,18 +23,19 @@ pub fn refusals_change_nothing()
 {}
 
 /// What a cell keeps: it is valid at first; a change that is read keeps what a cell keeps, whether
-/// it fits or not, and a move that fits leaves the cell valid; a stop leaves it valid.
+/// it fits or not, and moves that fit leave the cell valid; a stop leaves it valid.
 pub fn cells_stay_valid()
     ensures empty { (here c : Node) → IsValid here c Empty }
     ensures change { (here c : Node) (k : Cell) (x : Change) → IsKept here c k → IsKept here c (applied_one here c k x) }
-    ensures moves { (here c : Node) (k : Cell) (x : OpenMove) → IsKept here c k → FitsMoveAt here k x → IsValid here c (moved_cell here k x) }
+    ensures moves { (here c : Node) (k : Cell) (x y : OpenMove) → IsKept here c k → FitsMoveAt here k x y → IsValid here c (moved_cell here k x y) }
     ensures stop { (here c : Node) (k : Cell) → IsKept here c k → IsValid here c (stopped_cell k) }
 {}
 
-/// At a valid cell each change of a plan fits behind those before it, and the move fits behind
-/// them; so the cell behind a plan is valid.
+/// At a valid cell each change of a plan fits behind those before it, and the moves fit behind
+/// them; so the cell behind a plan is valid. No message of a plan has a batch that breaks a rule.
 pub fn plans_fit_cells()
     ensures changes { (here c : Node) (k : Cell) (e : Event) → IsFor here c e → IsValid here c k → applied here c k (plan_of here c k e).changes ≡ made here k (plan_of here c k e).changes }
-    ensures moves { (here c : Node) (k : Cell) (e : Event) → IsFor here c e → IsValid here c k → FitsMoveAt here (made here k (plan_of here c k e).changes) (plan_of here c k e).admin }
+    ensures moves { (here c : Node) (k : Cell) (e : Event) → IsFor here c e → IsValid here c k → FitsMoveAt here (made here k (plan_of here c k e).changes) (plan_of here c k e).admin (plan_of here c k e).service }
     ensures valid { (here c : Node) (k : Cell) (e : Event) → IsFor here c e → IsValid here c k → IsValid here c (after_plan here k (plan_of here c k e)) }
+    ensures legal { (here c : Node) (k : Cell) (e : Event) → IsFor here c e → IsValid here c k → are_legal (plan_of here c k e).sends ≡ true }
 {}

@@ -1,0 +1,138 @@
+-- What an event of batches does at a bound cell (docs/RULES.md, Cells).
+use Rattle.std.specs.Prelude.{ℕ, Bool, true, false, not, ◌&&◌, ◌==◌, nat_eq, List, [], ◌∷◌, length, map, if◌then◌else◌, Option, Some, None, is_some, Result, Ok, Err}
+use Rattle.std.specs.List.{filter, starts_with}
+use Rattle.std.specs.Map.{lookup}
+use Rattle.std.specs.BTreeMap.{is_at}
+use Rattle.spl_agree.specs.declared.reason.Reason.{Reason}
+use Rattle.spl_agree.specs.declared.event.Note.TheVariants as note
+use Rattle.spl_agree.specs.declared.message.CommitMsg.{CommitMsg}
+use Rattle.spl_agree.specs.declared.message.CommitMsg.TheVariants as msg
+use Rattle.spl_agree.specs.declared.event.GroupEvent.{GroupEvent}
+use Rattle.spl_agree.specs.declared.event.GroupEvent.TheVariants as group
+use Rattle.spl_agree.specs.Member.{Member, values, known, found, found_refused}
+use Rattle.spl_agree.specs.Fits.{generation_of}
+use Rattle.spl_state.specs.declared.address.Address.{Address}
+use Rattle.spl_state.specs.Entries.{Entry, address_cmp}
+use Rattle.spl_state.specs.Root.{node_at}
+use Rattle.spl_command.specs.declared.batch.Batch.{Batch}
+use Rattle.spl_command.specs.declared.receipt.Receipt.{Receipt}
+use Rattle.spl_command.specs.Rules.{broken_batch}
+use Rattle.spl_command.specs.Equality.{same_batch}
+use Rattle.spl_command.specs.Lists.{state_of}
+use Rattle.spl_scabbard.specs.Checks.{batch_rules}
+use Rattle.spl_scabbard.specs.Readers.{ids_of, place_of, receipts_of}
+use Rattle.spl_circuit.specs.declared.definition.Definition.{Definition}
+use Rattle.spl_circuit.specs.declared.act.Act.{Act}
+use Rattle.spl_circuit.specs.declared.lifecycle.Mark.{Mark}
+use Rattle.spl_circuit.specs.Nodes.{Node, position}
+use Rattle.spl_circuit.specs.Routing.{Way, route}
+use Rattle.spl_wire.specs.declared.message.Message.TheVariants as message
+use Rattle.spl_wire.specs.declared.answer.Entry.{Entry as Told}
+use Rattle.spl_wire.specs.declared.answer.BatchStatus.TheVariants as status
+use Rattle.spl_wire.specs.declared.answer.Refusal.TheVariants as refusal
+use Rattle.spl_wire.specs.declared.answer.Answer.{Answer}
+use Rattle.spl_wire.specs.declared.answer.Answer.TheVariants as answer
+use Rattle.spl_rules.specs.Cells.{Deed, Refuses, Tells, Replies, Serves, submitted, ignores, is_open, runs}
+
+-- ---- submit
+
+abbrev pub submits_new : Node → Definition → Member Batch → Batch → Deed
+submits_new here d b v = if length b.pending == 64 then Refuses refusal.QueueFull else Serves submitted d b here (group.Submit v)
+
+-- by what is known of the id here
+abbrev pub submits_known : Node → Definition → Member Batch → Batch → Option Batch → Deed
+submits_known here d b v None = submits_new here d b v
+submits_known here d b v (Some u) = if same_batch u v then Tells (answer.Submitted true) else Refuses refusal.IdTaken
+
+-- by the first rule that the batch breaks
+abbrev pub submits_ruled : Node → Definition → Member Batch → Batch → Option ℕ → Deed
+submits_ruled here d b v (Some rule) = Refuses (refusal.BadBatch rule)
+submits_ruled here d b v None = submits_known here d b v (known batch_rules b v)
+
+abbrev pub submits : Node → Definition → Mark → Member Act → Member Batch → Batch → Deed
+submits here d m a b v =
+    if not (runs d a) then Refuses refusal.NotActive
+    else (if not (is_open m) then Refuses refusal.Closed
+    else submits_ruled here d b v (broken_batch v))
+
+-- ---- what is told of the batches that are committed here
+
+-- only of an active circuit
+abbrev pub when_active : Definition → Member Act → Deed → Deed
+when_active d a deed = if runs d a then deed else Refuses refusal.NotActive
+
+abbrev pub state_here : Member Batch → List Entry
+state_here b = state_of (values b.history)
+
+abbrev pub root_told : Member Batch → Answer
+root_told b = answer.Root (length b.history) (node_at 70 [] (state_here b))
+
+abbrev pub history_told : Member Batch → Answer
+history_told b = answer.History (ids_of (values b.history))
+
+abbrev pub value_told : Member Batch → Address → Answer
+value_told b address = answer.Value (lookup (is_at (address_cmp address)) (state_here b))
+
+abbrev pub entry_told : Entry → Told
+entry_told e = record { address = e.0; value = e.1 }
+
+abbrev pub has_prefix : List ℕ → Entry → Bool
+has_prefix prefix e = starts_with nat_eq e.0.0 prefix
+
+abbrev pub listed : Member Batch → List ℕ → Answer
+listed b prefix = answer.Listed (map entry_told (filter (has_prefix prefix) (state_here b)))
+
+-- ---- where a batch stands: history first, then pending, then refused
+
+abbrev pub status_refused : Option (Batch × Reason) → Deed
+status_refused None = Refuses refusal.UnknownId
+status_refused (Some u) = Tells (answer.Status (status.Refused u.1))
+
+abbrev pub has_the_id : ℕ → Batch → Bool
+has_the_id i v = i == v.id
+
+abbrev pub status_kept : Member Batch → ℕ → Option ℕ → Deed
+status_kept b i (Some place) = Tells (answer.Status (status.Committed place))
+status_kept b i None =
+    if is_some (found (has_the_id i) b.pending) then Tells (answer.Status status.Pending)
+    else status_refused (found_refused (has_the_id i) b.refused)
+
+abbrev pub status_told : Member Batch → ℕ → Deed
+status_told b i = status_kept b i (place_of (values b.history) i)
+
+abbrev pub receipt_kept : ℕ → Option ℕ → Option (List Receipt) → Deed
+receipt_kept i (Some place) (Some receipts) = Tells (answer.Receipt i place receipts)
+receipt_kept i (Some place) None = Refuses refusal.UnknownId
+receipt_kept i None receipts = Refuses refusal.UnknownId
+
+abbrev pub receipt_told : Member Batch → ℕ → Deed
+receipt_told b i = receipt_kept i (place_of (values b.history) i) (receipts_of (values b.history) i)
+
+-- ---- messages between services
+
+abbrev pub routed : Way → Deed → Deed
+routed (Ok x) deed = deed
+routed (Err f) deed = Refuses (refusal.NotRouted f)
+
+-- the way of a message at a bound cell
+abbrev pub way : Node → Definition → Mark → Member Act → Node → Node → Node → Way
+way here d m a from_node from to = route (Some d) (is_open m && runs d a) from_node from to here
+
+-- a message of another generation: a request is declined, and the answer swaps the services
+abbrev pub serves_other : Node → Node → Node → Node → CommitMsg Batch → Deed
+serves_other c from_node from to (msg.VoteRequest gen r place v) = Replies (note.Declined r) from_node (message.Scabbard c to from (msg.Vote gen r false))
+serves_other c from_node from to (msg.Vote gen r aye) = ignores
+serves_other c from_node from to (msg.Decision gen r commit) = ignores
+serves_other c from_node from to (msg.DecisionRequest gen r) = ignores
+serves_other c from_node from to (msg.Forward gen v) = ignores
+serves_other c from_node from to (msg.Refused gen v why) = ignores
+
+-- a message that is routed
+abbrev pub hears_routed : Node → Definition → Member Batch → Node → Node → Node → CommitMsg Batch → Deed
+hears_routed c d b from_node from to x =
+    if generation_of x == d.generation
+    then Serves answer.Delivered d b from_node (group.From (position d.members from_node) x)
+    else serves_other c from_node from to x
+
+abbrev pub hears_service : Node → Node → Definition → Mark → Member Act → Member Batch → Node → Node → Node → CommitMsg Batch → Deed
+hears_service here c d m a b from_node from to x = routed (way here d m a from_node from to) (hears_routed c d b from_node from to x)
