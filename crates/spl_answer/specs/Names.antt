@@ -4,6 +4,8 @@ use Rattle.spl_circuit.specs.declared.lifecycle.Lifecycle.{Lifecycle}
 use Rattle.spl_circuit.specs.declared.lifecycle.Lifecycle.TheVariants as lifecycle
 use Rattle.spl_circuit.specs.declared.lifecycle.Mark.{Mark}
 use Rattle.spl_circuit.specs.declared.lifecycle.Mark.TheVariants as mark
+use Rattle.spl_circuit.specs.declared.lifecycle.RouteFault.{RouteFault}
+use Rattle.spl_circuit.specs.declared.lifecycle.RouteFault.TheVariants as fault
 
 abbrev pub lifecycle_text : Lifecycle → List ℕ
 lifecycle_text lifecycle.None = codes "none"
@@ -16,3 +18,10 @@ abbrev pub mark_text : Mark → List ℕ
 mark_text mark.Open = codes "open"
 mark_text mark.Abandoned = codes "abandoned"
 mark_text mark.Purged = codes "purged"
+
+abbrev pub fault_text : RouteFault → List ℕ
+fault_text fault.CircuitDoesNotExist = codes "1"
+fault_text fault.SenderNotInRoster = codes "2"
+fault_text fault.RecipientNotInRoster = codes "3"
+fault_text fault.SenderNotOnNode = codes "4"
+fault_text fault.RecipientNotHere = codes "5"

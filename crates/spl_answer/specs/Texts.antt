@@ -7,18 +7,23 @@ use Rattle.spl_circuit.specs.declared.lifecycle.Lifecycle.{Lifecycle}
 use Rattle.spl_circuit.specs.declared.lifecycle.Mark.{Mark}
 use Rattle.spl_wire.specs.declared.answer.Refusal.{Refusal}
 use Rattle.spl_wire.specs.declared.answer.Refusal.TheVariants as refusal
+use Rattle.spl_wire.specs.declared.answer.BatchStatus.{BatchStatus}
+use Rattle.spl_wire.specs.declared.answer.BatchStatus.TheVariants as status
 use Rattle.spl_wire.specs.declared.answer.Answer.{Answer}
-use Rattle.spl_wire.specs.declared.answer.Answer.TheVariants.{Submitted, Left, Show, Detail, Notes, Delivered, Calm, Refused}
-use Rattle.spl_answer.specs.Names.{lifecycle_text, mark_text}
+use Rattle.spl_wire.specs.declared.answer.Answer.TheVariants.{Submitted, Left, Show, Detail, Root, History, Value, Listed, Status, Receipt, Routed, Notes, Delivered, Calm, Refused}
+use Rattle.spl_answer.specs.Names.{lifecycle_text, mark_text, fault_text}
 use Rattle.spl_answer.specs.Json.{others, detail}
+use Rattle.spl_answer.specs.Receipts.{receipts_json}
+use Rattle.spl_answer.specs.Batches.{root_text, history_text, value_text, entries_text}
 
 -- the nodes with `,` between them, or `-` where there are none
 abbrev pub nodes_text : List (List ℕ) → List ℕ
 nodes_text [] = codes "-"
 nodes_text (n ∷ ns) = n ++ others (λ m. m) ns
 
--- the number of a refusal, and the rule or the bound generation that it names
+-- the number of a refusal, and the rule, bound generation or fault that it names
 abbrev pub refusal_text : Refusal → List ℕ
+refusal_text refusal.Down = codes "1"
 refusal_text refusal.NoCircuit = codes "2"
 refusal_text (refusal.BadDefinition rule) = codes "3 " ++ decimal rule
 refusal_text refusal.NotMember = codes "4"
@@ -30,8 +35,13 @@ refusal_text refusal.AlreadyVoted = codes "9"
 refusal_text refusal.NotRequester = codes "10"
 refusal_text refusal.NotActive = codes "11"
 refusal_text refusal.Closed = codes "12"
+refusal_text (refusal.BadBatch rule) = codes "13 " ++ decimal rule
+refusal_text refusal.IdTaken = codes "14"
+refusal_text refusal.QueueFull = codes "15"
 refusal_text refusal.NotPurgeable = codes "16"
 refusal_text refusal.NoMessage = codes "17"
+refusal_text (refusal.NotRouted fault) = codes "18 " ++ fault_text fault
+refusal_text refusal.UnknownId = codes "19"
 
 -- code, and where in the value
 abbrev pub reason_text : Reason → List ℕ
@@ -56,6 +66,11 @@ note_text (note.Returned reason) = codes "returned " ++ reason_text reason
 note_text note.Queued = codes "queued"
 note_text note.Off = codes "-"
 
+abbrev pub status_text : BatchStatus → List ℕ
+status_text (status.Committed place) = codes "ok status committed " ++ decimal place
+status_text status.Pending = codes "ok status pending"
+status_text (status.Refused reason) = codes "ok status refused " ++ reason_text reason
+
 -- the number of what is committed and of what is pending
 abbrev pub counts_text : List ℕ → ℕ → ℕ → List ℕ
 counts_text name committed pending = name ++ decimal committed ++ codes " " ++ decimal pending
@@ -69,6 +84,13 @@ text (Left purged) = if purged then codes "ok purged" else codes "ok abandoned"
 text (Show generation lifecycle mark accepted acts acts_pending batches batches_pending) =
     codes "ok circuit " ++ standing_text generation lifecycle mark ++ codes " accepted " ++ nodes_text accepted ++ counts_text (codes " acts ") acts acts_pending ++ counts_text (codes " batches ") batches batches_pending
 text (Detail definition hash lifecycle mark accepted requester) = codes "ok detail " ++ detail definition hash lifecycle mark accepted requester
+text (Root count root) = root_text count root
+text (History ids) = history_text ids
+text (Value value) = value_text value
+text (Listed entries) = entries_text entries
+text (Status s) = status_text s
+text (Receipt batch place receipts) = codes "ok receipt " ++ receipts_json batch place receipts
+text Routed = codes "ok routed"
 text (Notes admin service) = codes "ok " ++ (note_text admin ++ (codes " / " ++ note_text service))
 text (Delivered n) = codes "ok " ++ note_text n
 text (Calm passes) = codes "ok calm " ++ decimal passes

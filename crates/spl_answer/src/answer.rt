@@ -3,10 +3,12 @@ ghost use Rattle.std.specs.Prelude.{◌≡◌, ◌++◌, OnOk, IfOk, decimal};
 ghost use Rattle.spl_answer.specs.Names.{lifecycle_text, mark_text};
 ghost use Rattle.spl_answer.specs.Texts.{text, refusal_text, counts_text, standing_text};
 
+use crate::batches::{append_entries, append_history, append_root, append_status, append_value};
 use crate::json::append_detail;
-use crate::names::{lifecycle_name, mark_name};
+use crate::names::{fault_name, lifecycle_name, mark_name};
 use crate::note::append_note;
-use crate::part::{append, append_nodes, append_number};
+use crate::part::{append, append_nodes, append_number, append_numbered};
+use crate::receipts::append_receipts;
 use spl_agree::Generation;
 use spl_base::Piece;
 use spl_circuit::{Lifecycle, Mark};
@@ -35,16 +37,11 @@ fn append_refusal(refusal: Refusal, out: &mut Vec<u8>) -> Result<(), AllocError>
     ensures { OnOk result (out.new.items ≡ out.old.items ++ refusal_text refusal) }
 {
     match refusal {
+        Refusal::Down => append(b"1", out),
         Refusal::NoCircuit => append(b"2", out),
-        Refusal::BadDefinition(rule) => {
-            append(b"3 ", out)?;
-            append_number(u64::from(rule), out)
-        }
+        Refusal::BadDefinition(rule) => append_numbered(b"3 ", u64::from(rule), out),
         Refusal::NotMember => append(b"4", out),
-        Refusal::StaleGeneration { bound } => {
-            append(b"5 ", out)?;
-            append_generation(bound, out)
-        }
+        Refusal::StaleGeneration { bound } => append_numbered(b"5 ", u64::from(bound.0), out),
         Refusal::CircuitHeld => append(b"6", out),
         Refusal::ActPending => append(b"7", out),
         Refusal::NoProposal => append(b"8", out),
@@ -52,8 +49,16 @@ fn append_refusal(refusal: Refusal, out: &mut Vec<u8>) -> Result<(), AllocError>
         Refusal::NotRequester => append(b"10", out),
         Refusal::NotActive => append(b"11", out),
         Refusal::Closed => append(b"12", out),
+        Refusal::BadBatch(rule) => append_numbered(b"13 ", u64::from(rule), out),
+        Refusal::IdTaken => append(b"14", out),
+        Refusal::QueueFull => append(b"15", out),
         Refusal::NotPurgeable => append(b"16", out),
         Refusal::NoMessage => append(b"17", out),
+        Refusal::NotRouted(fault) => {
+            append(b"18 ", out)?;
+            append(fault_name(fault), out)
+        }
+        Refusal::UnknownId => append(b"19", out),
     }
 }
 
@@ -135,6 +140,20 @@ pub fn append_text(answer: &Answer, out: &mut Vec<u8>) -> Result<(), AllocError>
                 out,
             )
         }
+        Answer::Root { count, root } => append_root(*count, root, out),
+        Answer::History(ids) => append_history(ids.as_slice(), out),
+        Answer::Value(value) => append_value(value, out),
+        Answer::Listed(entries) => append_entries(entries.as_slice(), out),
+        Answer::Status(status) => append_status(*status, out),
+        Answer::Receipt {
+            batch,
+            place,
+            receipts,
+        } => {
+            append(b"ok receipt ", out)?;
+            append_receipts(*batch, *place, receipts.as_slice(), out)
+        }
+        Answer::Routed => append(b"ok routed", out),
         Answer::Notes { admin, service } => {
             append(b"ok ", out)?;
             append_note(*admin, out)?;

@@ -1,4 +1,4 @@
-//! The JSON of a circuit at a node.
+//! JSON, and that of a circuit at a node.
 ghost use Rattle.std.specs.Prelude.{◌≡◌, ◌++◌, ◌∷◌, [], ◌<◌, List, ℕ, OnOk, decimal, codes};
 ghost use Rattle.std.specs.List.{flat_map};
 ghost use Rattle.spl_answer.specs.Json.{escaped, quoted, others, array, text_or_null, in_quotes, hex_digit, hex_text, field, fields_to_management, fields_from_mark, detail};
@@ -44,7 +44,8 @@ fn hex_digit(n: u8) -> u8
     if n < 10 { b'0' + n } else { 87 + n }
 }
 
-fn append_hex(bytes: &[u8], out: &mut Vec<u8>) -> Result<(), AllocError>
+/// Appends the bytes as lower-case digits.
+pub(crate) fn append_hex(bytes: &[u8], out: &mut Vec<u8>) -> Result<(), AllocError>
     ensures { OnOk result (out.new.items ≡ out.old.items ++ hex_text bytes.now) }
 {
     for b in bytes {
@@ -54,7 +55,7 @@ fn append_hex(bytes: &[u8], out: &mut Vec<u8>) -> Result<(), AllocError>
 }
 
 /// A value that has a JSON text.
-trait Json: Drop {
+pub(crate) trait Json: Drop {
     ghost json: { Self → List ℕ };
 
     fn append_json(&self, out: &mut Vec<u8>) -> Result<(), AllocError>
@@ -82,7 +83,7 @@ fn append_others<T: Json>(items: &[T], out: &mut Vec<u8>) -> Result<(), AllocErr
 }
 
 #[tactic(auto, unfolding(crate::specs::Json::array))]
-fn append_array<T: Json>(items: &[T], out: &mut Vec<u8>) -> Result<(), AllocError>
+pub(crate) fn append_array<T: Json>(items: &[T], out: &mut Vec<u8>) -> Result<(), AllocError>
     ensures { OnOk result (out.new.items ≡ out.old.items ++ array T.json items.now) }
 {
     let Some((first, more)) = items.split_first() else {
@@ -94,7 +95,7 @@ fn append_array<T: Json>(items: &[T], out: &mut Vec<u8>) -> Result<(), AllocErro
     append(b"]", out)
 }
 
-fn append_key(key: &[u8], out: &mut Vec<u8>) -> Result<(), AllocError>
+pub(crate) fn append_key(key: &[u8], out: &mut Vec<u8>) -> Result<(), AllocError>
     ensures { OnOk result (out.new.items ≡ out.old.items ++ (quoted key.now ++ (58 ∷ []))) }
 {
     append_quoted(key, out)?;
@@ -102,7 +103,11 @@ fn append_key(key: &[u8], out: &mut Vec<u8>) -> Result<(), AllocError>
 }
 
 #[tactic(auto, unfolding(crate::specs::Json::field))]
-fn append_text_field(key: &[u8], text: &[u8], out: &mut Vec<u8>) -> Result<(), AllocError>
+pub(crate) fn append_text_field(
+    key: &[u8],
+    text: &[u8],
+    out: &mut Vec<u8>,
+) -> Result<(), AllocError>
     ensures { OnOk result (out.new.items ≡ out.old.items ++ (44 ∷ field key.now (quoted text.now))) }
 {
     append(b",", out)?;
@@ -111,7 +116,7 @@ fn append_text_field(key: &[u8], text: &[u8], out: &mut Vec<u8>) -> Result<(), A
 }
 
 #[tactic(auto, unfolding(crate::specs::Json::field))]
-fn append_number_field(key: &[u8], n: u64, out: &mut Vec<u8>) -> Result<(), AllocError>
+pub(crate) fn append_number_field(key: &[u8], n: u64, out: &mut Vec<u8>) -> Result<(), AllocError>
     ensures { OnOk result (out.new.items ≡ out.old.items ++ (44 ∷ field key.now (decimal n))) }
 {
     append(b",", out)?;
@@ -120,7 +125,11 @@ fn append_number_field(key: &[u8], n: u64, out: &mut Vec<u8>) -> Result<(), Allo
 }
 
 #[tactic(auto, unfolding(crate::specs::Json::field))]
-fn append_array_field<T: Json>(key: &[u8], items: &[T], out: &mut Vec<u8>) -> Result<(), AllocError>
+pub(crate) fn append_array_field<T: Json>(
+    key: &[u8],
+    items: &[T],
+    out: &mut Vec<u8>,
+) -> Result<(), AllocError>
     ensures { OnOk result (out.new.items ≡ out.old.items ++ (44 ∷ field key.now (array T.json items.now))) }
 {
     append(b",", out)?;
@@ -158,7 +167,7 @@ impl Json for Service {
 }
 
 #[tactic(auto, unfolding(crate::specs::Json::in_quotes))]
-fn append_digits(bytes: &[u8], out: &mut Vec<u8>) -> Result<(), AllocError>
+pub(crate) fn append_digits(bytes: &[u8], out: &mut Vec<u8>) -> Result<(), AllocError>
     ensures { OnOk result (out.new.items ≡ out.old.items ++ in_quotes (hex_text bytes.now)) }
 {
     append(b"\"", out)?;
@@ -167,12 +176,16 @@ fn append_digits(bytes: &[u8], out: &mut Vec<u8>) -> Result<(), AllocError>
 }
 
 #[tactic(auto, unfolding(crate::specs::Json::field))]
-fn append_hash_field(hash: &[u8], out: &mut Vec<u8>) -> Result<(), AllocError>
-    ensures { OnOk result (out.new.items ≡ out.old.items ++ (44 ∷ field (codes "hash") (in_quotes (hex_text hash.now)))) }
+pub(crate) fn append_digits_field(
+    key: &[u8],
+    bytes: &[u8],
+    out: &mut Vec<u8>,
+) -> Result<(), AllocError>
+    ensures { OnOk result (out.new.items ≡ out.old.items ++ (44 ∷ field key.now (in_quotes (hex_text bytes.now)))) }
 {
     append(b",", out)?;
-    append_key(b"hash", out)?;
-    append_digits(hash, out)
+    append_key(key, out)?;
+    append_digits(bytes, out)
 }
 
 #[tactic(auto, unfolding(crate::specs::Json::field, crate::specs::Json::text_or_null))]
@@ -206,7 +219,7 @@ fn append_to_management(
     ensures { OnOk result (out.new.items ≡ out.old.items ++ others (λ f. f) (fields_to_management definition.now hash.now lifecycle)) }
 {
     append_number_field(b"generation", u64::from(definition.generation.0), out)?;
-    append_hash_field(hash, out)?;
+    append_digits_field(b"hash", hash, out)?;
     append_text_field(b"id", definition.id.bytes(), out)?;
     append_text_field(b"lifecycle", lifecycle_name(lifecycle), out)?;
     append_text_field(b"management", definition.management.bytes(), out)

@@ -2,10 +2,12 @@
 #![tactic(auto)]
 
 mod answer;
+mod batches;
 mod json;
 mod names;
 mod note;
 mod part;
+mod receipts;
 #[cfg(test)]
 mod tests;
 

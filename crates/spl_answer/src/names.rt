@@ -1,8 +1,8 @@
 //! Names in answers.
 ghost use Rattle.std.specs.Prelude.{◌≡◌};
-ghost use Rattle.spl_answer.specs.Names.{lifecycle_text, mark_text};
+ghost use Rattle.spl_answer.specs.Names.{lifecycle_text, mark_text, fault_text};
 
-use spl_circuit::{Lifecycle, Mark};
+use spl_circuit::{Lifecycle, Mark, RouteFault};
 
 pub(crate) fn lifecycle_name(lifecycle: Lifecycle) -> &'static [u8]
     ensures { result.now ≡ lifecycle_text lifecycle }
@@ -23,5 +23,17 @@ pub(crate) fn mark_name(mark: Mark) -> &'static [u8]
         Mark::Open => b"open",
         Mark::Abandoned => b"abandoned",
         Mark::Purged => b"purged",
+    }
+}
+
+pub(crate) fn fault_name(fault: RouteFault) -> &'static [u8]
+    ensures { result.now ≡ fault_text fault }
+{
+    match fault {
+        RouteFault::CircuitDoesNotExist => b"1",
+        RouteFault::SenderNotInRoster => b"2",
+        RouteFault::RecipientNotInRoster => b"3",
+        RouteFault::SenderNotOnNode => b"4",
+        RouteFault::RecipientNotHere => b"5",
     }
 }

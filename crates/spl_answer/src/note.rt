@@ -6,7 +6,11 @@ use crate::part::{append, append_number};
 use spl_agree::{Note, Reason, Round};
 use std::alloc::AllocError;
 
-fn append_reason(name: &[u8], reason: Reason, out: &mut Vec<u8>) -> Result<(), AllocError>
+pub(crate) fn append_reason(
+    name: &[u8],
+    reason: Reason,
+    out: &mut Vec<u8>,
+) -> Result<(), AllocError>
     ensures { OnOk result (out.new.items ≡ out.old.items ++ (name.now ++ reason_text reason)) }
 {
     append(name, out)?;

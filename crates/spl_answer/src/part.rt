@@ -25,6 +25,14 @@ pub(crate) fn append_number(n: u64, out: &mut Vec<u8>) -> Result<(), AllocError>
     append(&[b'0' + (n % 10) as u8], out)
 }
 
+/// Appends the text, and the number in decimal digits.
+pub(crate) fn append_numbered(text: &[u8], n: u64, out: &mut Vec<u8>) -> Result<(), AllocError>
+    ensures { OnOk result (out.new.items ≡ out.old.items ++ (text.now ++ decimal n)) }
+{
+    append(text, out)?;
+    append_number(n, out)
+}
+
 fn append_others(nodes: &[NodeId], out: &mut Vec<u8>) -> Result<(), AllocError>
     ensures { OnOk result (out.new.items ≡ out.old.items ++ others (λ n. n) nodes.now) }
 {

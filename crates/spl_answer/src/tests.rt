@@ -1,7 +1,9 @@
+mod batches;
+
 use super::*;
 use spl_agree::{Generation, Note, Reason, Round};
 use spl_base::{Boxed, CircuitId, Label, Listing, NodeId, ServiceId};
-use spl_circuit::{Definition, Lifecycle, Mark, Members, Service, Services};
+use spl_circuit::{Definition, Lifecycle, Mark, Members, RouteFault, Service, Services};
 use spl_wire::{Answer, Refusal};
 use std::alloc::Global;
 use std::test::Fail;
@@ -64,7 +66,8 @@ const NOTES: [(Note, &str); 18] = [
 ];
 
 /// Refusals and their texts.
-const REFUSALS: [(Refusal, &str); 13] = [
+const REFUSALS: [(Refusal, &str); 23] = [
+    (Refusal::Down, "refused 1"),
     (Refusal::NoCircuit, "refused 2"),
     (Refusal::BadDefinition(9), "refused 3 9"),
     (Refusal::NotMember, "refused 4"),
@@ -81,8 +84,32 @@ const REFUSALS: [(Refusal, &str); 13] = [
     (Refusal::NotRequester, "refused 10"),
     (Refusal::NotActive, "refused 11"),
     (Refusal::Closed, "refused 12"),
+    (Refusal::BadBatch(6), "refused 13 6"),
+    (Refusal::IdTaken, "refused 14"),
+    (Refusal::QueueFull, "refused 15"),
     (Refusal::NotPurgeable, "refused 16"),
     (Refusal::NoMessage, "refused 17"),
+    (
+        Refusal::NotRouted(RouteFault::CircuitDoesNotExist),
+        "refused 18 1",
+    ),
+    (
+        Refusal::NotRouted(RouteFault::SenderNotInRoster),
+        "refused 18 2",
+    ),
+    (
+        Refusal::NotRouted(RouteFault::RecipientNotInRoster),
+        "refused 18 3",
+    ),
+    (
+        Refusal::NotRouted(RouteFault::SenderNotOnNode),
+        "refused 18 4",
+    ),
+    (
+        Refusal::NotRouted(RouteFault::RecipientNotHere),
+        "refused 18 5",
+    ),
+    (Refusal::UnknownId, "refused 19"),
 ];
 
 #[test]
