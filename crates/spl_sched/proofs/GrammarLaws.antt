@@ -12,9 +12,11 @@ use Rattle.spl_base.specs.FormLaws.{both_true, and_true}
 use Rattle.spl_circuit.specs.declared.definition.Service.{Service}
 use Rattle.spl_circuit.specs.declared.definition.Definition.{Definition}
 use Rattle.spl_sched.specs.Words.{Word, Words, text, number, joined, end, ◌&◌, up_to, that, is_decimal}
-use Rattle.spl_sched.specs.Grammar.{is_name, is_type, service_text, words_of_terms, is_service, is_definition, is_passes, is_between_two, service, service_parts, service_of, parts_of_service, any, terms, terms_of, home, answer, batch, way, delivery, calm, node}
+use Rattle.spl_sched.specs.Grammar.{is_name, is_type, service_text, words_of_terms, is_service, is_definition, is_passes, is_between_two, service, service_parts, service_of, parts_of_service, any, terms, terms_of, home, answer, work, place, places, batch, way, delivery, calm, node}
 use Rattle.spl_sched.proofs.Splits.{lacks, lacks_from, lacks_append}
 use Rattle.spl_sched.proofs.Numbers.{decimal_is}
+use Rattle.spl_sched.proofs.CommandLaws.{exact_address, address_lacks, exact_dashed, dashed_lacks}
+use Rattle.spl_sched.proofs.TransactionLaws.{exact_transactions, transactions_lack}
 use Rattle.spl_sched.proofs.WordLaws.{IsExact, Lacks, EachLacks, exact_text, exact_number, exact_flag, exact_end, exact_and, exact_up_to, exact_joined, exact_meaning, exact_that, end_lacks, and_lacks, flag_lacks, up_to_lacks, joined_lacks, meaning_lacks, that_lacks, each_that_lacks, split_and, split_up_to}
 
 -- ---- which bytes the words lack
@@ -162,6 +164,15 @@ sound_terms = record { exact = exact_terms; lack = terms_lack }
 
 pub sound_answer : IsSound answer
 sound_answer = sound_and _ _ (exact_flag (codes "accept") (codes "reject") refl) (flag_lacks 32 (codes "accept") (codes "reject") refl refl) sound_end
+
+pub sound_work : IsSound work
+sound_work = sound_and _ _ (exact_number (2 ^ 64) (lit≤ tt)) (number_lacks 32 (2 ^ 64) refl (lit≤ tt)) (record { exact = exact_transactions; lack = transactions_lack })
+
+pub sound_place : IsSound place
+sound_place = sound_and _ _ exact_address (address_lacks 32 refl) sound_end
+
+pub sound_places : IsSound places
+sound_places = sound_and _ _ exact_dashed dashed_lacks sound_end
 
 pub sound_batch : IsSound batch
 sound_batch = sound_and _ _ (exact_number (2 ^ 64) (lit≤ tt)) (number_lacks 32 (2 ^ 64) refl (lit≤ tt)) sound_end

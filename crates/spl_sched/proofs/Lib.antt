@@ -2,6 +2,9 @@ mod Splits
 mod Numbers
 mod WordLaws
 mod HexLaws
+mod FrontLaws
+mod CommandLaws
+mod TransactionLaws
 mod GrammarLaws
 mod LineLaws
 mod Items

@@ -19,11 +19,12 @@ use Rattle.spl_sched.specs.declared.line.Step.TheVariants.{At, Deliver}
 use Rattle.spl_sched.specs.declared.line.Line.{Line}
 use Rattle.spl_sched.specs.declared.line.Line.TheVariants as line
 use Rattle.spl_sched.specs.Words.{Words, number, joined, end, Reads, that, kind, ◌&◌, hex, split}
-use Rattle.spl_sched.specs.Grammar.{step_words, words_of, spelling, is_definition, is_event, is_step, is_fill, is_passes, is_line, fill_words, fill_kinds, fill_parts, read_fill, fill, Home, home, Terms, terms, terms_of, definition_of, proposed, plain, answer, voted, batch, about, way, routed, delivery, delivered, step_kinds, read_step, step, calm, node, cut, failing, line_kinds, read_words, line_words, line_of}
+use Rattle.spl_sched.specs.Transactions.{is_address, is_prefix}
+use Rattle.spl_sched.specs.Grammar.{step_words, words_of, spelling, is_definition, is_event, is_step, is_fill, is_passes, is_line, fill_words, fill_kinds, fill_parts, read_fill, fill, Home, home, Terms, terms, terms_of, definition_of, proposed, plain, answer, voted, work, submitted, place, got, places, listed, batch, about, way, routed, delivery, delivered, step_kinds, read_step, step, calm, node, cut, failing, line_kinds, read_words, line_words, line_of}
 use Rattle.spl_sched.proofs.Splits.{lacks, lacks_from}
 use Rattle.spl_sched.proofs.WordLaws.{IsExact, Lacks, IsKind, AllKinds, is_kind, kinds_only, read_as, exact_number, exact_and, exact_joined, exact_end, joined_lacks, map_some, same_bytes, itself}
 use Rattle.spl_sched.proofs.HexLaws.{exact_hex, hex_lacks}
-use Rattle.spl_sched.proofs.GrammarLaws.{IsSound, number_lacks, terms_spelled, terms_fit, sound_and, sound_end, sound_home, sound_terms, sound_answer, sound_batch, sound_way, sound_delivery, sound_number, sound_calm, sound_one_node}
+use Rattle.spl_sched.proofs.GrammarLaws.{IsSound, number_lacks, terms_spelled, terms_fit, sound_and, sound_end, sound_home, sound_terms, sound_answer, sound_work, sound_place, sound_places, sound_batch, sound_way, sound_delivery, sound_number, sound_calm, sound_one_node}
 
 infixr 10 ◌▹◌
 abbrev ◌▹◌ : {A B : Type 0} → A → B → A × B
@@ -117,6 +118,12 @@ step_seen (At n id (event.Propose d)) h =
     seen (codes "propose") (home terms) proposed (sound_home terms sound_terms) refl (λ xs. refl) (λ xs. refl) (n, (id, terms_of d)) _ (proposal_fits n id d h) (proposal_is n id d h) (proposal_spelled n id d h)
 step_seen (At n id (event.Vote accept)) h =
     seen (codes "vote") (home answer) voted (sound_home answer sound_answer) refl (λ xs. refl) (λ xs. refl) (n, (id, (accept, tt))) _ (home_fits n id true true (λ k. k) h) refl refl
+step_seen (At n id (event.Submit b)) h =
+    seen (codes "submit") (home work) submitted (sound_home work sound_work) refl (λ xs. refl) (λ xs. refl) (n, (id, (b.id, b.transactions))) _ (home_fits n id _ _ (λ k. k) h) refl refl
+step_seen (At n id (event.Get a)) h =
+    seen (codes "get") (home place) got (sound_home place sound_place) refl (λ xs. refl) (λ xs. refl) (n, (id, (a, tt))) _ (home_fits n id _ _ (more (is_address a)) h) refl refl
+step_seen (At n id (event.List p)) h =
+    seen (codes "list") (home places) listed (sound_home places sound_places) refl (λ xs. refl) (λ xs. refl) (n, (id, (p, tt))) _ (home_fits n id _ _ (more (is_prefix p)) h) refl refl
 step_seen (At n id (event.Status b)) h =
     seen (codes "status") (home batch) (about event.Status) (sound_home batch sound_batch) refl (λ xs. refl) (λ xs. refl) (n, (id, (b, tt))) _ (home_fits n id _ _ (more (ltb b (2 ^ 64))) h) refl refl
 step_seen (At n id (event.Receipt b)) h =
@@ -152,6 +159,15 @@ proposals = is_kind step_words is_step (codes "propose") (home terms) proposed (
 votes : IsKind step_words is_step (kind (codes "vote") (home answer) voted)
 votes = is_kind step_words is_step (codes "vote") (home answer) voted (sound_home answer sound_answer).exact (λ x h. (refl, fits_home x.0 x.1.0 true true (λ k. k) h))
 
+submissions : IsKind step_words is_step (kind (codes "submit") (home work) submitted)
+submissions = is_kind step_words is_step (codes "submit") (home work) submitted (sound_home work sound_work).exact (λ x h. (refl, fits_home x.0 x.1.0 _ _ (λ k. k) h))
+
+gets : IsKind step_words is_step (kind (codes "get") (home place) got)
+gets = is_kind step_words is_step (codes "get") (home place) got (sound_home place sound_place).exact (λ x h. (refl, fits_home x.0 x.1.0 _ _ (less (is_address x.1.1.0)) h))
+
+lists : IsKind step_words is_step (kind (codes "list") (home places) listed)
+lists = is_kind step_words is_step (codes "list") (home places) listed (sound_home places sound_places).exact (λ x h. (refl, fits_home x.0 x.1.0 _ _ (less (is_prefix x.1.1.0)) h))
+
 routes : IsKind step_words is_step (kind (codes "route") (home way) routed)
 routes = is_kind step_words is_step (codes "route") (home way) routed (sound_home way sound_way).exact (λ x h.
     (refl, fits_home x.0 x.1.0 _ _ (fits_way (is_node_id x.1.1.0) (is_service_id x.1.1.1.0) (is_service_id x.1.1.1.1.0)) h))
@@ -167,10 +183,13 @@ all_steps =
     ▹ plain_kind (codes "remove") event.Remove (λ x. refl) (λ x. refl)
     ▹ plain_kind (codes "abandon") event.Abandon (λ x. refl) (λ x. refl)
     ▹ plain_kind (codes "purge") event.Purge (λ x. refl) (λ x. refl)
+    ▹ submissions
     ▹ plain_kind (codes "show") event.Show (λ x. refl) (λ x. refl)
     ▹ plain_kind (codes "detail") event.Detail (λ x. refl) (λ x. refl)
     ▹ plain_kind (codes "root") event.Root (λ x. refl) (λ x. refl)
     ▹ plain_kind (codes "history") event.History (λ x. refl) (λ x. refl)
+    ▹ gets
+    ▹ lists
     ▹ batch_kind (codes "status") event.Status (λ x. refl) (λ x k. k)
     ▹ batch_kind (codes "receipt") event.Receipt (λ x. refl) (λ x k. k)
     ▹ routes

@@ -22,12 +22,12 @@ pub some_is : {A : Type 0} (x y : A) → Some x ≡ Some y → x ≡ y
 some_is x y e = cc
 
 -- a test that passed
-guard_some : {A : Type 0} (b : Bool) (o : Option A) (x : A) → cond b o None ≡ Some x → IsTrue b × (o ≡ Some x)
+pub guard_some : {A : Type 0} (b : Bool) (o : Option A) (x : A) → cond b o None ≡ Some x → IsTrue b × (o ≡ Some x)
 guard_some true o x e = (refl, e)
 guard_some false o x e = absurd cc
 
 -- a step that gave a value
-bind_some : {A B : Type 0} (o : Option A) (f : A → Option B) (y : B) → (o >>= f) ≡ Some y → (x : A) × (o ≡ Some x) × (f x ≡ Some y)
+pub bind_some : {A B : Type 0} (o : Option A) (f : A → Option B) (y : B) → (o >>= f) ≡ Some y → (x : A) × (o ≡ Some x) × (f x ≡ Some y)
 bind_some None f y e = absurd cc
 bind_some (Some x) f y e = (x, refl, e)
 
@@ -230,9 +230,9 @@ module _ {A : Type 0} (spell : A → List (List ℕ)) (fits : A → Bool) where
   kinds_only [] other name xs a all q e = q e
   kinds_only (k ∷ ks) other name xs a all q e = kind_only k name xs (read_kind ks other name xs) a (bytes_eq name k.name) refl all.0 (kinds_only ks other name xs a all.1 q) e
 
--- the words of a value are read back
-pub read_as : {A B : Type 0} (ws : Words A) (to : A → B) (x : A) (b : B) → IsExact ws → IsTrue (ws.fits x) → to x ≡ b → option_map to (ws.read (ws.spell x)) ≡ Some b
-read_as {A} {B} ws to x b p h e = ap (option_map to) (p.again x h) ∙ ap (λ (z : B). Some z) e
+-- the spelling of a value is read back
+pub read_as : {S A B : Type 0} (ws : Spelling S A) (to : A → B) (x : A) (b : B) → IsExact ws → IsTrue (ws.fits x) → to x ≡ b → option_map to (ws.read (ws.spell x)) ≡ Some b
+read_as {S} {A} {B} ws to x b p h e = ap (option_map to) (p.again x h) ∙ ap (λ (z : B). Some z) e
 
 -- ---- which bytes a spelling lacks
 

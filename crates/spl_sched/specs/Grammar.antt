@@ -7,6 +7,9 @@ use Rattle.spl_base.specs.Ids.{is_node_id, is_circuit_id, is_service_id, is_labe
 use Rattle.spl_circuit.specs.declared.definition.Service.{Service}
 use Rattle.spl_circuit.specs.declared.definition.Definition.{Definition}
 use Rattle.spl_circuit.specs.Rules.{nodes_of as service_nodes}
+use Rattle.spl_command.specs.declared.batch.Transaction.{Transaction}
+use Rattle.spl_command.specs.declared.batch.Batch.{Batch}
+use Rattle.spl_state.specs.declared.address.Address.{Address}
 use Rattle.spl_edge.specs.declared.fill.Fill.{Fill}
 use Rattle.spl_edge.specs.declared.fill.Fill.TheVariants.{Old, New, Byte}
 use Rattle.spl_wire.specs.declared.event.Event.{Event}
@@ -16,6 +19,7 @@ use Rattle.spl_sched.specs.declared.line.Step.TheVariants.{At, Deliver}
 use Rattle.spl_sched.specs.declared.line.Line.{Line}
 use Rattle.spl_sched.specs.declared.line.Line.TheVariants as line
 use Rattle.spl_sched.specs.Words.{Word, Words, Kind, text, number, flag, hex, hex_byte, joined, end, ◌&◌, up_to, meaning, that, kind, read_kind}
+use Rattle.spl_sched.specs.Transactions.{is_address, is_prefix, is_transaction, address, dashed, words_of_transactions, transactions}
 
 -- 1 to 128 graphic bytes
 abbrev pub is_name : List ℕ → Bool
@@ -41,10 +45,13 @@ event_name (event.Vote accept) = codes "vote"
 event_name event.Remove = codes "remove"
 event_name event.Abandon = codes "abandon"
 event_name event.Purge = codes "purge"
+event_name (event.Submit batch) = codes "submit"
 event_name event.Show = codes "show"
 event_name event.Detail = codes "detail"
 event_name event.Root = codes "root"
 event_name event.History = codes "history"
+event_name (event.Get a) = codes "get"
+event_name (event.List prefix) = codes "list"
 event_name (event.Status batch) = codes "status"
 event_name (event.Receipt batch) = codes "receipt"
 event_name (event.Route from sender recipient) = codes "route"
@@ -59,6 +66,9 @@ accept_text accept = if accept then codes "accept" else codes "reject"
 abbrev pub event_words : Event → List (List ℕ)
 event_words (event.Propose d) = words_of_terms d
 event_words (event.Vote accept) = accept_text accept ∷ []
+event_words (event.Submit batch) = decimal batch.id ∷ words_of_transactions batch.transactions
+event_words (event.Get a) = address.spell a ∷ []
+event_words (event.List prefix) = dashed.spell prefix ∷ []
 event_words (event.Status batch) = decimal batch ∷ []
 event_words (event.Receipt batch) = decimal batch ∷ []
 event_words (event.Route from sender recipient) = from ∷ sender ∷ recipient ∷ []
@@ -101,9 +111,15 @@ is_definition d =
     && (nat_le 1 (length d.members) && nat_le (length d.members) 16 && list_all is_node_id d.members)
     && (nat_le 1 (length d.services) && nat_le (length d.services) 16 && list_all is_service d.services)
 
+abbrev pub is_batch : Batch → Bool
+is_batch b = nat_lt b.id (2 ^ 64) && list_all is_transaction b.transactions
+
 -- the definition that is proposed has the line's id, and the event is no delivery
 abbrev pub is_event : List ℕ → Event → Bool
 is_event id (event.Propose d) = bytes_eq d.id id && is_definition d
+is_event id (event.Submit batch) = is_batch batch
+is_event id (event.Get a) = is_address a
+is_event id (event.List prefix) = is_prefix prefix
 is_event id (event.Status batch) = nat_lt batch (2 ^ 64)
 is_event id (event.Receipt batch) = nat_lt batch (2 ^ 64)
 is_event id (event.Route from sender recipient) = is_node_id from && is_service_id sender && is_service_id recipient
@@ -226,6 +242,27 @@ answer = accept_or_reject & end
 abbrev pub voted : Home (Bool × Unit {0}) → Step
 voted x = At x.0 x.1.0 (event.Vote x.1.1.0)
 
+-- BATCH and transactions
+abbrev pub work : Words (ℕ × List Transaction)
+work = number (2 ^ 64) & transactions
+
+abbrev pub submitted : Home (ℕ × List Transaction) → Step
+submitted x = At x.0 x.1.0 (event.Submit (record { id = x.1.1.0; transactions = x.1.1.1 }))
+
+-- ADDRESS
+abbrev pub place : Words (Address × Unit {0})
+place = address & end
+
+abbrev pub got : Home (Address × Unit {0}) → Step
+got x = At x.0 x.1.0 (event.Get x.1.1.0)
+
+-- PREFIX
+abbrev pub places : Words (List ℕ × Unit {0})
+places = dashed & end
+
+abbrev pub listed : Home (List ℕ × Unit {0}) → Step
+listed x = At x.0 x.1.0 (event.List x.1.1.0)
+
 -- BATCH
 abbrev pub batch : Words (ℕ × Unit {0})
 batch = number (2 ^ 64) & end
@@ -260,10 +297,13 @@ step_kinds =
     ∷ kind (codes "remove") (home end) (plain event.Remove)
     ∷ kind (codes "abandon") (home end) (plain event.Abandon)
     ∷ kind (codes "purge") (home end) (plain event.Purge)
+    ∷ kind (codes "submit") (home work) submitted
     ∷ kind (codes "show") (home end) (plain event.Show)
     ∷ kind (codes "detail") (home end) (plain event.Detail)
     ∷ kind (codes "root") (home end) (plain event.Root)
     ∷ kind (codes "history") (home end) (plain event.History)
+    ∷ kind (codes "get") (home place) got
+    ∷ kind (codes "list") (home places) listed
     ∷ kind (codes "status") (home batch) (about event.Status)
     ∷ kind (codes "receipt") (home batch) (about event.Receipt)
     ∷ kind (codes "route") (home way) routed

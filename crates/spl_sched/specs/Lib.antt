@@ -1,3 +1,4 @@
 pub mod Words
+pub mod Transactions
 pub mod Grammar
 pub mod Taken

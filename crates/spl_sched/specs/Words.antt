@@ -1,5 +1,5 @@
 -- Words, and words in a row: how a value is spelled, which values have a spelling, and what is read (docs/RULES.md, Schedules).
-use Rattle.std.specs.Prelude.{ℕ, ◌+◌, ◌-◌, ◌*◌, ◌/◌, ◌%◌, Bool, true, false, not, ◌&&◌, ◌||◌, ◌==◌, nat_le, nat_lt, List, [], ◌∷◌, length, map, slice_index, Option, Some, None, Result, Ok, Err, ◌≡◌, if◌then◌else◌, decimal}
+use Rattle.std.specs.Prelude.{ℕ, ◌+◌, ◌-◌, ◌*◌, ◌/◌, ◌%◌, Bool, true, false, not, ◌&&◌, ◌||◌, ◌==◌, nat_le, nat_lt, List, [], ◌∷◌, length, map, take, drop, slice_index, Option, Some, None, Result, Ok, Err, ◌≡◌, if◌then◌else◌, decimal}
 use Rattle.std.specs.List.{list_all, flat_map, slice_split, join_with_byte}
 use Rattle.std.specs.Option.{option_map, option_and_then}
 use Rattle.std.specs.Str.{bytes_eq}
@@ -73,6 +73,15 @@ read_hex _ = None
 abbrev pub hex : Word ℕ
 hex = record { spell = hex_byte; read = read_hex; fits = λ b. nat_lt b 256 }
 
+-- bytes, each of them so, with nothing between
+abbrev pub read_hex_string : List ℕ → Option (List ℕ)
+read_hex_string [] = Some []
+read_hex_string (a ∷ []) = None
+read_hex_string (a ∷ b ∷ xs) = read_hex (a ∷ b ∷ []) >>= λ first. read_hex_string xs >>= λ others. Some (first ∷ others)
+
+abbrev pub hex_string : Word (List ℕ)
+hex_string = record { spell = λ bs. flat_map hex_byte bs; read = read_hex_string; fits = list_all (λ b. nat_lt b 256) }
+
 -- words with the byte c between them are one word
 abbrev pub joined : {A : Type 0} → ℕ → Words A → Word A
 joined c ws = record { spell = λ x. join_with_byte c (ws.spell x); read = λ bs. ws.read (split c bs); fits = ws.fits }
@@ -132,6 +141,27 @@ kind name ws to = record { name = name; read = λ xs. option_map to (ws.read xs)
 abbrev pub read_kind : {A : Type 0} → List (Kind A) → Option A → List ℕ → List (List ℕ) → Option A
 read_kind [] other name xs = other
 read_kind (k ∷ ks) other name xs = if bytes_eq name k.name then k.read xs else read_kind ks other name xs
+
+-- what stands behind these bytes, where a word begins with them
+abbrev pub behind : List ℕ → List ℕ → Option (List ℕ)
+behind front xs = if bytes_eq (take (length front) xs) front then Some (drop (length front) xs) else None
+
+-- a word behind these bytes, and what it means
+pub record Front (A : Type 0) : Type 0 where
+  pub bytes : List ℕ
+  pub read : List ℕ → Option A
+
+abbrev pub front : {A B : Type 0} → List ℕ → Word A → (A → B) → Front B
+front bytes w to = record { bytes = bytes; read = λ xs. option_map to (w.read xs) }
+
+abbrev pub read_behind : {A : Type 0} → Option (List ℕ) → (List ℕ → Option A) → Option A → Option A
+read_behind None read other = other
+read_behind (Some xs) read other = read xs
+
+-- what a word means, by the first of these bytes that it begins with
+abbrev pub read_front : {A : Type 0} → List (Front A) → Option A → List ℕ → Option A
+read_front [] other xs = other
+read_front (f ∷ fs) other xs = read_behind (behind f.bytes xs) f.read (read_front fs other xs)
 
 -- each word behind a space
 abbrev pub behind_spaces : List (List ℕ) → List ℕ

@@ -1,11 +1,13 @@
 //! Bytes in two digits.
-ghost use Rattle.std.specs.Prelude.{◌≡◌, ◌++◌, ◌<◌, OnOk};
-ghost use Rattle.spl_sched.specs.Words.{hex, hex_digit, hex_byte, hex_value, read_hex, read_first, Takes};
+ghost use Rattle.std.specs.Prelude.{◌≡◌, ◌++◌, ◌∷◌, [], ◌<◌, OnOk};
+ghost use Rattle.std.specs.List.{flat_map};
+ghost use Rattle.spl_sched.specs.Words.{hex, hex_digit, hex_byte, hex_value, read_hex, hex_string, read_first, Reads, Takes};
 
 use crate::fault::LineFault;
+use crate::word::Spelled;
 use crate::words::WordReader;
-use spl_base::Writer;
-use std::alloc::AllocError;
+use spl_base::{Piece, Writer};
+use std::alloc::{AllocError, Global};
 
 fn hex_value(digit: u8) -> Option<u8>
     ensures { result ≡ hex_value digit }
@@ -54,4 +56,51 @@ pub(crate) fn put_hex(b: u8, w: &mut Writer) -> Result<(), AllocError>
 {
     w.put_u8(hex_digit(b / 16))?;
     w.put_u8(hex_digit(b % 16))
+}
+
+fn read_pair(high: u8, low: u8) -> Result<u8, LineFault>
+    ensures { Reads result (read_hex (high ∷ low ∷ [])) }
+{
+    read_hex(&[high, low]).ok_or(LineFault::BadLine)
+}
+
+/// The bytes that digits spell, two for each.
+pub(crate) fn read_bytes(alloc: Global, digits: &[u8]) -> Result<Piece, LineFault>
+    ensures { Reads result (hex_string.read digits.now) }
+{
+    let mut bytes = Writer::new(alloc);
+    let mut rest = digits;
+    while let Some((high, others)) = rest.split_first() {
+        let Some((low, behind)) = others.split_first() else {
+            return Err(LineFault::BadLine);
+        };
+        let byte = read_pair(*high, *low)?;
+        bytes.put_u8(byte)?;
+        rest = behind;
+    }
+    Ok(bytes.into_piece())
+}
+
+/// Appends bytes, each in two digits.
+pub(crate) fn put_bytes(bytes: &[u8], w: &mut Writer) -> Result<(), AllocError>
+    ensures { OnOk result (w.new ≡ w.old ++ flat_map hex_byte bytes.now) }
+{
+    for b in bytes {
+        put_hex(*b, w)?;
+    }
+    Ok(())
+}
+
+impl Spelled for Piece {
+    ghost use Rattle.spl_sched.specs.Words.{hex_string};
+
+    ghost word = { hex_string };
+
+    fn read(alloc: Global, bytes: &[u8]) -> Result<Piece, LineFault> {
+        read_bytes(alloc, bytes)
+    }
+
+    fn put(&self, w: &mut Writer) -> Result<(), AllocError> {
+        put_bytes(self.bytes(), w)
+    }
 }

@@ -1,6 +1,8 @@
 //! The lines of a schedule.
 #![tactic(auto)]
 
+mod address;
+mod command;
 mod fault;
 mod fill;
 mod hex;
@@ -14,6 +16,7 @@ mod service;
 mod step;
 #[cfg(test)]
 mod tests;
+mod transaction;
 mod word;
 mod words;
 mod write;

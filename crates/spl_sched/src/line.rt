@@ -35,7 +35,14 @@ fn is_event_taken(event: &Event) -> bool
         Event::Propose(_)
             | Event::Vote { .. }
             | Event::Remove
+            | Event::Submit(_)
             | Event::Show
+            | Event::Root
+            | Event::History
+            | Event::Get(_)
+            | Event::List(_)
+            | Event::Status(_)
+            | Event::Route { .. }
             | Event::Tick
             | Event::Expire
     )

@@ -3,15 +3,18 @@ ghost use Rattle.std.specs.Prelude.{◌≡◌, None, nat_le, ◌^◌};
 ghost use Rattle.std.specs.Option.{option_map};
 ghost use Rattle.spl_wire.specs.declared.event.Event.TheVariants as event;
 ghost use Rattle.spl_sched.specs.Words.{Reads, Takes, read_first, read_kind, that, number, end};
-ghost use Rattle.spl_sched.specs.Grammar.{accept_or_reject, home, terms, proposed, answer, voted, plain, batch, about, way, routed, delivery, delivered, step_kinds};
+ghost use Rattle.spl_sched.specs.Grammar.{accept_or_reject, home, terms, proposed, answer, voted, plain, work, submitted, place, got, places, listed, batch, about, way, routed, delivery, delivered, step_kinds};
 
+use crate::address::take_dashed;
 use crate::fault::LineFault;
 use crate::line::Step;
+use crate::transaction::read_transactions;
 use crate::word::take;
 use crate::words::WordReader;
 use spl_agree::Generation;
 use spl_base::{Boxed, NodeId};
 use spl_circuit::Definition;
+use spl_command::Batch;
 use spl_wire::Event;
 use std::alloc::Global;
 
@@ -86,6 +89,49 @@ fn read_plain(alloc: Global, words: &mut WordReader, event: Event) -> Result<Ste
         node,
         circuit,
         event,
+    })
+}
+
+fn read_batch(alloc: Global, words: &mut WordReader) -> Result<Step, LineFault>
+    ensures { Reads result (option_map submitted ((home work).read words.old)) }
+{
+    let node = take(alloc, words)?;
+    let circuit = take(alloc, words)?;
+    let id = take(alloc, words)?;
+    let transactions = read_transactions(alloc, words)?;
+    let batch = Boxed::new(alloc, Batch { id, transactions })?;
+    Ok(Step::At {
+        node,
+        circuit,
+        event: Event::Submit(batch),
+    })
+}
+
+fn read_get(alloc: Global, words: &mut WordReader) -> Result<Step, LineFault>
+    ensures { Reads result (option_map got ((home place).read words.old)) }
+{
+    let node = take(alloc, words)?;
+    let circuit = take(alloc, words)?;
+    let address = take(alloc, words)?;
+    words.end()?;
+    Ok(Step::At {
+        node,
+        circuit,
+        event: Event::Get(address),
+    })
+}
+
+fn read_list(alloc: Global, words: &mut WordReader) -> Result<Step, LineFault>
+    ensures { Reads result (option_map listed ((home places).read words.old)) }
+{
+    let node = take(alloc, words)?;
+    let circuit = take(alloc, words)?;
+    let prefix = take_dashed(alloc, words)?;
+    words.end()?;
+    Ok(Step::At {
+        node,
+        circuit,
+        event: Event::List(prefix),
     })
 }
 
@@ -185,6 +231,8 @@ pub(crate) fn read_step(
         read_plain(alloc, words, Event::Abandon)
     } else if name == b"purge".as_slice() {
         read_plain(alloc, words, Event::Purge)
+    } else if name == b"submit".as_slice() {
+        read_batch(alloc, words)
     } else if name == b"show".as_slice() {
         read_plain(alloc, words, Event::Show)
     } else if name == b"detail".as_slice() {
@@ -193,6 +241,10 @@ pub(crate) fn read_step(
         read_plain(alloc, words, Event::Root)
     } else if name == b"history".as_slice() {
         read_plain(alloc, words, Event::History)
+    } else if name == b"get".as_slice() {
+        read_get(alloc, words)
+    } else if name == b"list".as_slice() {
+        read_list(alloc, words)
     } else if name == b"status".as_slice() {
         read_status(alloc, words)
     } else if name == b"receipt".as_slice() {

@@ -1,6 +1,7 @@
 use super::*;
 use spl_base::{CircuitId, Label, NodeId};
 use spl_circuit::Definition;
+use spl_command::{Batch, Command};
 use spl_edge::Fill;
 use spl_wire::Event;
 use std::alloc::Global;
@@ -37,6 +38,23 @@ const GOOD_STEPS: [&[u8]; 20] = [
     b"route alpha Ab3dE-00001 beta bbbb aaaa",
     b"deliver alpha beta Ab3dE-00001 1",
     b"deliver beta alpha Ab3dE-00001 4294967295",
+];
+
+/// Steps about batches and values that are read and written back.
+const GOOD_BATCHES: [&[u8]; 13] = [
+    b"submit alpha Ab3dE-00001 0",
+    b"submit alpha Ab3dE-00001 18446744073709551615 tx",
+    b"submit alpha Ab3dE-00001 7 tx tx in: out: data:",
+    b"submit alpha Ab3dE-00001 7 tx in:00 in:00112233445566778899aabbccddeeff00112233445566778899aabbccddeeff010203 out:ff out:00112233445566778899aabbccddeeff00112233445566778899aabbccddeeff010203 set:00112233445566778899aabbccddeeff00112233445566778899aabbccddeeff010203=00ff get:00112233445566778899aabbccddeeff00112233445566778899aabbccddeeff010203 del:00112233445566778899aabbccddeeff00112233445566778899aabbccddeeff010203 tx out:",
+    b"submit alpha Ab3dE-00001 7 tx set:00112233445566778899aabbccddeeff00112233445566778899aabbccddeeff010203= event:t=00 event:!~=",
+    b"submit alpha Ab3dE-00001 7 tx event:xxxxxxxxxxxxxxxxxxxxxxxxxxxxxxxxxxxxxxxxxxxxxxxxxxxxxxxxxxxxxxxx=0a invalid:! invalid:xxxxxxxxxxxxxxxxxxxxxxxxxxxxxxxxxxxxxxxxxxxxxxxxxxxxxxxxxxxxxxxx error:a:b error:xxxxxxxxxxxxxxxxxxxxxxxxxxxxxxxxxxxxxxxxxxxxxxxxxxxxxxxxxxxxxxxx",
+    b"cut 1 byte:00 submit alpha Ab3dE-00001 7 tx data:0123456789abcdef",
+    b"fail 1 submit alpha Ab3dE-00001 7 tx in:",
+    b"get alpha Ab3dE-00001 00112233445566778899aabbccddeeff00112233445566778899aabbccddeeff010203",
+    b"cut 0 old get alpha Ab3dE-00001 00112233445566778899aabbccddeeff00112233445566778899aabbccddeeff010203",
+    b"list alpha Ab3dE-00001 -",
+    b"list alpha Ab3dE-00001 00",
+    b"fail 255 list alpha Ab3dE-00001 00112233445566778899aabbccddeeff00112233445566778899aabbccddeeff010203",
 ];
 
 /// Other lines that are read and written back.
@@ -119,7 +137,7 @@ const BAD_WORDS: [&[u8]; 21] = [
 ];
 
 /// Bytes that spell no step, and nothing else.
-const BAD_STEPS: [&[u8]; 35] = [
+const BAD_STEPS: [&[u8]; 33] = [
     b"vote alpha Ab3dE-00001",
     b"vote alpha Ab3dE-00001 acept",
     b"vote alpha Ab3dE-00001 Accept",
@@ -153,8 +171,55 @@ const BAD_STEPS: [&[u8]; 35] = [
     b"deliver alpha beta Ab3dE-00001",
     b"deliver alpha Ab3dE-00001 1",
     b"deliver alpha beta Ab3dE-00001 1 1",
-    b"submit alpha Ab3dE-00001 1 tx",
-    b"list alpha Ab3dE-00001 -",
+];
+
+/// Bytes that spell no step about batches or values.
+const BAD_BATCHES: [&[u8]; 45] = [
+    b"submit alpha Ab3dE-00001",
+    b"submit alpha Ab3dE-00001 01 tx",
+    b"submit alpha Ab3dE-00001 18446744073709551616 tx",
+    b"submit alpha Ab3dE-00001 7 in:00",
+    b"submit alpha Ab3dE-00001 7 data:00 tx",
+    b"submit alpha Ab3dE-00001 7 TX",
+    b"submit alpha Ab3dE-00001 7 tx ",
+    b"submit alpha Ab3dE-00001 7 tx out: in:",
+    b"submit alpha Ab3dE-00001 7 tx data:00 in:",
+    b"submit alpha Ab3dE-00001 7 tx data:00 out:",
+    b"submit alpha Ab3dE-00001 7 tx in:0A",
+    b"submit alpha Ab3dE-00001 7 tx in:0",
+    b"submit alpha Ab3dE-00001 7 tx in:00112233445566778899aabbccddeeff00112233445566778899aabbccddeeff01020300",
+    b"submit alpha Ab3dE-00001 7 tx in",
+    b"submit alpha Ab3dE-00001 7 tx out:0g",
+    b"submit alpha Ab3dE-00001 7 tx set:00112233445566778899aabbccddeeff00112233445566778899aabbccddeeff010203",
+    b"submit alpha Ab3dE-00001 7 tx set:00112233445566778899aabbccddeeff00112233445566778899aabbccddeeff010203=0",
+    b"submit alpha Ab3dE-00001 7 tx set:00112233445566778899aabbccddeeff00112233445566778899aabbccddeeff0102=00",
+    b"submit alpha Ab3dE-00001 7 tx set:00112233445566778899aabbccddeeff00112233445566778899aabbccddeeff010203=00=",
+    b"submit alpha Ab3dE-00001 7 tx get:00112233445566778899aabbccddeeff00112233445566778899aabbccddeeff0102",
+    b"submit alpha Ab3dE-00001 7 tx del:00112233445566778899aabbccddeeff00112233445566778899aabbccddeeff01020300",
+    b"submit alpha Ab3dE-00001 7 tx event:=00",
+    b"submit alpha Ab3dE-00001 7 tx event:xxxxxxxxxxxxxxxxxxxxxxxxxxxxxxxxxxxxxxxxxxxxxxxxxxxxxxxxxxxxxxxxx=00",
+    b"submit alpha Ab3dE-00001 7 tx event:t",
+    b"submit alpha Ab3dE-00001 7 tx data:FF",
+    b"submit alpha Ab3dE-00001 7 tx data:000",
+    b"submit alpha Ab3dE-00001 7 tx invalid:",
+    b"submit alpha Ab3dE-00001 7 tx invalid:a=b",
+    b"submit alpha Ab3dE-00001 7 tx error:xxxxxxxxxxxxxxxxxxxxxxxxxxxxxxxxxxxxxxxxxxxxxxxxxxxxxxxxxxxxxxxxx",
+    b"submit alpha Ab3dE-00001 7 tx put:00",
+    b"cut 0 old submit alpha Ab3dE-00001 7 tx data:0",
+    b"fail 1 submit alpha Ab3dE-00001 7 data:00",
+    b"get alpha Ab3dE-00001",
+    b"get alpha Ab3dE-00001 00112233445566778899aabbccddeeff00112233445566778899aabbccddeeff0102",
+    b"get alpha Ab3dE-00001 00112233445566778899aabbccddeeff00112233445566778899aabbccddeeff01020300",
+    b"get alpha Ab3dE-00001 00112233445566778899aabbccddeeff00112233445566778899aabbccddeeff01020A",
+    b"get alpha Ab3dE-00001 00112233445566778899aabbccddeeff00112233445566778899aabbccddeeff010203 x",
+    b"list alpha Ab3dE-00001",
+    b"list alpha Ab3dE-00001 ",
+    b"list alpha Ab3dE-00001 --",
+    b"list alpha Ab3dE-00001 -00",
+    b"list alpha Ab3dE-00001 000",
+    b"list alpha Ab3dE-00001 0A",
+    b"list alpha Ab3dE-00001 00112233445566778899aabbccddeeff00112233445566778899aabbccddeeff01020300",
+    b"list alpha Ab3dE-00001 - -",
 ];
 
 /// Bytes that spell no other line.
@@ -210,6 +275,7 @@ fn good_lines(rt: HostRuntime) -> Result<(), Fail> {
     for texts in [
         GOOD_PROPOSALS.as_slice(),
         GOOD_STEPS.as_slice(),
+        GOOD_BATCHES.as_slice(),
         GOOD_LINES.as_slice(),
     ] {
         for text in texts {
@@ -227,6 +293,7 @@ fn bad_lines(rt: HostRuntime) {
         BAD_PROPOSALS.as_slice(),
         BAD_WORDS.as_slice(),
         BAD_STEPS.as_slice(),
+        BAD_BATCHES.as_slice(),
         BAD_LINES.as_slice(),
     ] {
         for text in texts {
@@ -258,7 +325,7 @@ fn nodes(alloc: Global, texts: &[&str]) -> Result<Vec<NodeId>, Fail> {
 
 /// A line, the circuit that it names, whether a run takes it, and which of alpha, beta and gamma it
 /// names.
-const SAID: [(&[u8], &[u8], bool, [bool; 3]); 16] = [
+const SAID: [(&[u8], &[u8], bool, [bool; 3]); 20] = [
     (
         b"show alpha Ab3dE-00001",
         b"Ab3dE-00001",
@@ -304,14 +371,38 @@ const SAID: [(&[u8], &[u8], bool, [bool; 3]); 16] = [
     (
         b"status alpha Ab3dE-00001 1",
         b"Ab3dE-00001",
-        false,
+        true,
         [true, false, false],
     ),
     (
         b"route alpha Ab3dE-00001 gamma cccc aaaa",
         b"Ab3dE-00001",
-        false,
+        true,
         [true, false, true],
+    ),
+    (
+        b"submit alpha Ab3dE-00001 7 tx data:00",
+        b"Ab3dE-00001",
+        true,
+        [true, false, false],
+    ),
+    (
+        b"list beta Ab3dE-00001 -",
+        b"Ab3dE-00001",
+        true,
+        [false, true, false],
+    ),
+    (
+        b"root alpha Ab3dE-00001",
+        b"Ab3dE-00001",
+        true,
+        [true, false, false],
+    ),
+    (
+        b"receipt alpha Ab3dE-00001 7",
+        b"Ab3dE-00001",
+        false,
+        [true, false, false],
     ),
     (
         b"deliver gamma beta Ab3dE-00001 1",
@@ -409,5 +500,44 @@ fn what_a_proposal_says(rt: HostRuntime) -> Result<(), Fail> {
         some.remove(missing);
         assert!(rt; !line.names_only(some.as_slice()), "without {missing}");
     }
+    Ok(())
+}
+
+fn submitted(line: &Line) -> Option<&Batch> {
+    match line {
+        Line::Step(
+            Step::At {
+                event: Event::Submit(batch),
+                ..
+            },
+        ) => Some(batch.get()),
+        _ => None,
+    }
+}
+
+#[test]
+fn what_a_batch_says(rt: HostRuntime) -> Result<(), Fail> {
+    let line = read_line(
+        rt.alloc(),
+        b"submit alpha Ab3dE-00001 258 tx in: in:0aff data:10 event:t=20 tx out:ff",
+    )?;
+    let batch = submitted(&line).ok_or("not a batch")?;
+    assert_eq!(rt; batch.id.0, 258);
+    let [first, second] = batch.transactions.as_slice() else {
+        return Err("not two transactions".into());
+    };
+    assert_eq!(rt; first.inputs.len(), 2);
+    let input = first.inputs.get(1).ok_or("no second input")?;
+    assert_eq!(rt; input.bytes(), b"\x0a\xff".as_slice());
+    assert_eq!(rt; first.outputs.len(), 0);
+    let [Command::Data(data), Command::Event(kind, told)] = first.commands.as_slice() else {
+        return Err("not these commands".into());
+    };
+    assert_eq!(rt; data.bytes(), b"\x10".as_slice());
+    assert_eq!(rt; kind.bytes(), b"t".as_slice());
+    assert_eq!(rt; told.bytes(), b"\x20".as_slice());
+    assert_eq!(rt; second.inputs.len(), 0);
+    assert_eq!(rt; second.outputs.len(), 1);
+    assert_eq!(rt; second.commands.len(), 0);
     Ok(())
 }

@@ -1,7 +1,7 @@
 //! Taking words from the front of bytes.
-ghost use Rattle.std.specs.Prelude.{◌≡◌, ◌∷◌, [], ◌==◌, MatchOption};
+ghost use Rattle.std.specs.Prelude.{◌≡◌, ◌∷◌, [], ◌==◌, MatchOption, Some, None};
 ghost use Rattle.std.specs.List.{position};
-ghost use Rattle.spl_sched.specs.Words.{split, read_end, Takes, Reads};
+ghost use Rattle.spl_sched.specs.Words.{split, behind, read_end, Takes, Reads};
 
 use crate::fault::LineFault;
 use std::marker::Model;
@@ -20,6 +20,13 @@ fn first_part(bytes: &[u8], by: u8) -> Option<(&[u8], &[u8])>
         Some(i) => Some((&bytes[..i], &bytes[i + 1..])),
         None => None,
     }
+}
+
+/// What stands behind these bytes, where a word begins with them.
+pub(crate) fn behind<'a>(front: &[u8], word: &'a [u8]) -> Option<&'a [u8]>
+    ensures { MatchOption result (behind front.now word.now ≡ None) (λ rest. behind front.now word.now ≡ Some rest.now) }
+{
+    word.strip_prefix(front)
 }
 
 /// Takes words from the front of bytes that have one byte between each two words.

@@ -1,13 +1,17 @@
 //! Writing a line.
-ghost use Rattle.std.specs.Prelude.{◌≡◌, ◌++◌, ◌∷◌, OnOk, IfOk, IsTrue, Some};
+ghost use Rattle.std.specs.Prelude.{◌≡◌, ◌++◌, ◌∷◌, OnOk, IfOk, IsTrue, Some, decimal};
 ghost use Rattle.std.specs.List.{join_with_byte};
 ghost use Rattle.spl_sched.specs.Words.{behind_spaces};
+ghost use Rattle.spl_sched.specs.Transactions.{words_of_transactions};
 ghost use Rattle.spl_sched.specs.Grammar.{accept_or_reject, words_of_terms, event_name, event_words, step_words, spelling, line_of, is_line};
 
+use crate::address::put_dashed;
 use crate::line::{Line, Step};
+use crate::transaction::put_transactions;
 use crate::word::put_next;
 use spl_base::{Piece, Writer};
 use spl_circuit::{Definition, Members};
+use spl_command::Batch;
 use spl_wire::Event;
 use std::alloc::{AllocError, Global};
 
@@ -39,6 +43,13 @@ fn put_answer(accept: bool, w: &mut Writer) -> Result<(), AllocError>
     }
 }
 
+fn put_batch(batch: &Batch, w: &mut Writer) -> Result<(), AllocError>
+    ensures { OnOk result (w.new ≡ w.old ++ behind_spaces (decimal batch.now.id ∷ words_of_transactions batch.now.transactions)) }
+{
+    put_next(&batch.id, w)?;
+    put_transactions(batch.transactions.as_slice(), w)
+}
+
 fn event_name(event: &Event) -> &'static [u8]
     ensures { result.now ≡ event_name event.now }
 {
@@ -48,10 +59,13 @@ fn event_name(event: &Event) -> &'static [u8]
         Event::Remove => b"remove",
         Event::Abandon => b"abandon",
         Event::Purge => b"purge",
+        Event::Submit(_) => b"submit",
         Event::Show => b"show",
         Event::Detail => b"detail",
         Event::Root => b"root",
         Event::History => b"history",
+        Event::Get(_) => b"get",
+        Event::List(_) => b"list",
         Event::Status(_) => b"status",
         Event::Receipt(_) => b"receipt",
         Event::Route { .. } => b"route",
@@ -69,6 +83,12 @@ fn put_event(event: &Event, w: &mut Writer) -> Result<(), AllocError>
         Event::Vote { accept } => {
             w.put_u8(b' ')?;
             put_answer(*accept, w)
+        }
+        Event::Submit(batch) => put_batch(batch.get(), w),
+        Event::Get(address) => put_next(address, w),
+        Event::List(prefix) => {
+            w.put_u8(b' ')?;
+            put_dashed(prefix, w)
         }
         Event::Status(batch) => put_next(batch, w),
         Event::Receipt(batch) => put_next(batch, w),
@@ -153,8 +173,7 @@ fn put_line(line: &Line, w: &mut Writer) -> Result<(), AllocError>
 }
 
 /// The spelling of the line (docs/RULES.md, Schedules). It is read back where the line is within
-/// its
-/// bounds. Fails only where memory runs out.
+/// its bounds. Fails only where memory runs out.
 pub fn write_line(alloc: Global, line: &Line) -> Result<Piece, AllocError>
     ensures spelled { IfOk result (λ p. p ≡ spelling line.now) }
     ensures read_back { IfOk result (λ p. IsTrue (is_line line.now) → line_of p ≡ Some line.now) }

@@ -1,0 +1,169 @@
+//! The transactions of a batch, as words.
+ghost use Rattle.std.specs.Prelude.{◌≡◌, ◌++◌, ◌∷◌, [], OnOk, map};
+ghost use Rattle.spl_sched.specs.Words.{Reads, behind_spaces};
+ghost use Rattle.spl_sched.specs.Transactions.{prefix, command_text, read_part, no_parts, with_part, with_word, read_open, read_transactions, words_of_transaction, words_of_transactions};
+
+use crate::address::read_prefix;
+use crate::fault::LineFault;
+use crate::hex::put_bytes;
+use crate::word::{Spelled, put_next};
+use crate::words::{WordReader, behind};
+use spl_base::{Listing, Writer};
+use spl_command::{Command, Prefixes, Transaction, Transactions};
+use spl_state::Prefix;
+use std::alloc::{AllocError, Global};
+
+/// What one word of a transaction says.
+#[derive(Debug, Drop)]
+pub(crate) enum Part {
+    /// The transaction reads under the prefix.
+    Input(Prefix),
+    /// The transaction writes under the prefix.
+    Output(Prefix),
+    Command(Command),
+}
+
+fn read_part(alloc: Global, word: &[u8]) -> Result<Part, LineFault>
+    ensures { Reads result (read_part word.now) }
+{
+    if let Some(digits) = behind(b"in:", word) {
+        Ok(Part::Input(read_prefix(alloc, digits)?))
+    } else if let Some(digits) = behind(b"out:", word) {
+        Ok(Part::Output(read_prefix(alloc, digits)?))
+    } else {
+        Ok(Part::Command(Command::read(alloc, word)?))
+    }
+}
+
+fn no_parts(alloc: Global) -> Transaction
+    ensures { result ≡ no_parts }
+{
+    Transaction {
+        inputs: Prefixes::new(alloc),
+        outputs: Prefixes::new(alloc),
+        commands: Listing::new(alloc),
+    }
+}
+
+/// The transaction with one part more. An input comes before each output, and both before each
+/// command.
+fn with_part(mut transaction: Transaction, part: Part) -> Result<Transaction, LineFault>
+    ensures { Reads result (with_part transaction part) }
+{
+    let has_outputs = transaction.outputs.len() != 0;
+    let has_commands = transaction.commands.len() != 0;
+    match part {
+        Part::Input(prefix) => {
+            if has_outputs || has_commands {
+                return Err(LineFault::BadLine);
+            }
+            transaction.inputs.push(prefix)?;
+        }
+        Part::Output(prefix) => {
+            if has_commands {
+                return Err(LineFault::BadLine);
+            }
+            transaction.outputs.push(prefix)?;
+        }
+        Part::Command(command) => transaction.commands.push(command)?,
+    }
+    Ok(transaction)
+}
+
+/// The transaction with the part that the word says.
+fn with_word(alloc: Global, transaction: Transaction, word: &[u8]) -> Result<Transaction, LineFault>
+    ensures { Reads result (with_word transaction word.now) }
+{
+    let part = read_part(alloc, word)?;
+    with_part(transaction, part)
+}
+
+/// The transactions whose words, behind the first `tx`, these are.
+fn read_behind(alloc: Global, words: &mut WordReader) -> Result<Transactions, LineFault>
+    ensures { Reads result (read_open no_parts words.old) }
+{
+    let mut done = Listing::new(alloc);
+    let mut open = no_parts(alloc);
+    while let Some(word) = words.next() {
+        if word == b"tx".as_slice() {
+            done.push(open)?;
+            open = no_parts(alloc);
+        } else {
+            open = with_word(alloc, open, word)?;
+        }
+    }
+    done.push(open)?;
+    Ok(done)
+}
+
+/// The transactions that all these words spell.
+pub(crate) fn read_transactions(
+    alloc: Global,
+    words: &mut WordReader,
+) -> Result<Transactions, LineFault>
+    ensures { Reads result (read_transactions words.old) }
+{
+    match words.next() {
+        Some(word) => {
+            if word == b"tx".as_slice() {
+                read_behind(alloc, words)
+            } else {
+                Err(LineFault::BadLine)
+            }
+        }
+        None => Ok(Listing::new(alloc)),
+    }
+}
+
+/// Appends a space, these bytes and the prefix.
+fn put_prefix(front: &[u8], value: &Prefix, w: &mut Writer) -> Result<(), AllocError>
+    ensures { OnOk result (w.new ≡ w.old ++ 32 ∷ (front.now ++ prefix.spell value.now)) }
+{
+    w.put_u8(b' ')?;
+    w.put_raw(front)?;
+    put_bytes(value.bytes(), w)
+}
+
+/// Appends each of the prefixes so.
+fn put_prefixes(front: &[u8], prefixes: &Prefixes, w: &mut Writer) -> Result<(), AllocError>
+    ensures { OnOk result (w.new ≡ w.old ++ behind_spaces (map (λ p. front.now ++ prefix.spell p) prefixes.now)) }
+{
+    for i in 0..prefixes.len() {
+        let Some(prefix) = prefixes.get(i) else {
+            break;
+        };
+        put_prefix(front, prefix, w)?;
+    }
+    Ok(())
+}
+
+fn put_commands(commands: &[Command], w: &mut Writer) -> Result<(), AllocError>
+    ensures { OnOk result (w.new ≡ w.old ++ behind_spaces (map command_text commands.now)) }
+{
+    for command in commands {
+        put_next(command, w)?;
+    }
+    Ok(())
+}
+
+fn put_transaction(transaction: &Transaction, w: &mut Writer) -> Result<(), AllocError>
+    ensures { OnOk result (w.new ≡ w.old ++ behind_spaces (words_of_transaction transaction.now)) }
+{
+    w.put_raw(b" tx")?;
+    put_prefixes(b"in:", &transaction.inputs, w)?;
+    put_prefixes(b"out:", &transaction.outputs, w)?;
+    put_commands(transaction.commands.as_slice(), w)
+}
+
+/// Appends the words of transactions, each behind a space.
+pub(crate) fn put_transactions(
+    transactions: &[Transaction],
+    w: &mut Writer,
+) -> Result<(), AllocError>
+    ensures { OnOk result (w.new ≡ w.old ++ behind_spaces (words_of_transactions transactions.now)) }
+{
+    for transaction in transactions {
+        put_transaction(transaction, w)?;
+    }
+    Ok(())
+}
