@@ -1,9 +1,9 @@
 -- What is read from the front was spelled there, and what was spelled there is read.
-use Rattle.std.proofs.Common.{◌≡◌, ℕ, ◌+◌, List, ◌++◌, length, drop, Result, Ok, Err, IsTrue, refl, sym, ap, subst, ◌∙◌, arith}
+use Rattle.std.proofs.Common.{◌≡◌, ℕ, List, ◌++◌, length, drop, Result, Ok, Err, IsTrue, sym, ap, subst, ◌∙◌, arith}
 use Rattle.std.specs.Prelude.{IfOk}
 use Rattle.std.proofs.lemmas.List.{drop_at}
 use Rattle.spl_base.specs.declared.fault.Malformed.{Malformed}
-use Rattle.spl_base.specs.Input.{Input, ◌>>=◌}
+use Rattle.spl_base.specs.Input.{Input}
 use Rattle.spl_base.specs.Form.{Form, IsBytes, IsExact}
 use Rattle.spl_base.specs.FormLaws.{bind_ok, ok_is}
 use Rattle.spl_base.specs.Front.{front_of, Answers}

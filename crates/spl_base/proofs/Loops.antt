@@ -1,12 +1,12 @@
 -- Reading and writing items one after the other, as loops do.
-use Rattle.std.proofs.Common.{◌≡◌, ℕ, suc, ◌-◌, ◌+◌, ◌≤◌, ◌<◌, List, [], ◌∷◌, ◌++◌, length, get_or, take, Result, Ok, Err, refl, sym, ap, ◌∙◌, append_assoc, arith}
+use Rattle.std.proofs.Common.{◌≡◌, ℕ, suc, ◌-◌, ◌+◌, ◌≤◌, ◌<◌, List, [], ◌∷◌, ◌++◌, length, get_or, take, Ok, Err, refl, sym, ap, ◌∙◌, append_assoc, arith}
 use Rattle.std.specs.List.{flat_map}
 use Rattle.std.proofs.lemmas.List.{append-nil, take_more}
 use Rattle.std.proofs.lemmas.List.Concat.{flat_map-append}
 use Rattle.spl_base.specs.declared.fault.Malformed.{Malformed}
 use Rattle.spl_base.specs.declared.fault.Malformed.TheVariants as malformed
 use Rattle.spl_base.specs.Input.{Input, ◌>>=◌}
-use Rattle.spl_base.specs.Form.{Form, Parsed, items_at, Fails}
+use Rattle.spl_base.specs.Form.{Parsed, items_at, Fails}
 
 module _ {A : Type 0} where
   -- what was read before, and what is still read

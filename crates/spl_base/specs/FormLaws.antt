@@ -1,7 +1,7 @@
 -- The laws of forms, one for each way to make a form.
-use Rattle.std.proofs.Common.{◌≡◌, ℕ, zero, suc, ◌+◌, ◌-◌, ◌%◌, ◌^◌, ◌<◌, ◌≤◌, Bool, true, false, cond, ltb, leb, ◌&&◌, IsTrue, List, [], ◌∷◌, ◌++◌, length, get_or, take, drop, Option, Some, None, Result, Ok, Err, refl, sym, ap, subst, ◌∙◌, append_assoc, arith, inl, inr, ◌⊎◌, lit<}
+use Rattle.std.proofs.Common.{◌≡◌, ℕ, zero, suc, ◌+◌, ◌%◌, ◌^◌, ◌<◌, ◌≤◌, Bool, true, false, cond, ltb, leb, ◌&&◌, IsTrue, List, [], ◌∷◌, ◌++◌, length, take, drop, Result, Ok, Err, refl, sym, ap, subst, ◌∙◌, append_assoc, arith, inl, inr, ◌⊎◌, lit<}
 use Rattle.std.specs.List.{flat_map, list_all}
-use Rattle.std.specs.Int.{Width, w8, w16, w32, w64, byte_len, from_be_bytes, to_be_bytes}
+use Rattle.std.specs.Int.{Width, w8, w16, w32, w64, byte_len, from_be_bytes}
 use Rattle.std.proofs.lemmas.Bool.{cases_lt, ltb-false, ltb-true, le-ltb, lt-ltb, leb-true, le-leb}
 use Rattle.std.proofs.lemmas.List.{take_at, drop_at, take-append-drop, length-append, length-take, get_or-drop, get_or-take, get_or_past}
 use Rattle.std.proofs.lemmas.List.Concat.{flat_map-cons}
@@ -9,7 +9,7 @@ use Rattle.std.proofs.lemmas.Nat.{be_bytes_2, be_bytes_4, be_bytes_8, from_be_by
 use Rattle.spl_base.specs.declared.fault.FieldFault.{FieldFault}
 use Rattle.spl_base.specs.declared.fault.FieldFault.TheVariants.{Short, TooLong}
 use Rattle.spl_base.specs.Input.{Input, ◌>>=◌, advanced, raw_at, number_at, sized_at}
-use Rattle.spl_base.specs.Form.{Form, Parsed, located, IsBytes, Taken, IsExact, IsExactCases, number, number_bytes, raw, sized, text, counted, string, prefix, flag, flag_of, ◌&◌, via, items_at, list_of, Cases, no_case, ◌or◌, or_parse, by_tag, tagged, nothing}
+use Rattle.spl_base.specs.Form.{Form, located, IsBytes, Taken, IsExact, IsExactCases, number, number_bytes, raw, sized, text, counted, string, prefix, flag, flag_of, ◌&◌, via, items_at, list_of, Cases, no_case, ◌or◌, by_tag, tagged, nothing}
 
 -- ---- tests
 

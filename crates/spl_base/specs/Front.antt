@@ -1,7 +1,7 @@
 -- A value at the front of bytes, and how many bytes it takes.
 use Rattle.std.specs.Prelude.{◌≡◌, ℕ, List, Result, Ok, Err}
 use Rattle.spl_base.specs.declared.fault.Malformed.{Malformed}
-use Rattle.spl_base.specs.Input.{Input, ◌>>=◌}
+use Rattle.spl_base.specs.Input.{◌>>=◌}
 use Rattle.spl_base.specs.Form.{Form, Fails}
 
 -- the value at the front and its length, or where the first unreadable field begins

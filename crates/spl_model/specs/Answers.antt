@@ -1,5 +1,5 @@
 -- The lines about one circuit, and the answers to a schedule (docs/RULES.md, Circuits as worlds).
-use Rattle.std.specs.Prelude.{ℕ, Bool, true, false, List, [], ◌∷◌, ◌++◌, Option, Some, None}
+use Rattle.std.specs.Prelude.{Bool, false, List, [], ◌∷◌, ◌++◌, Option, Some, None}
 use Rattle.std.specs.List.{filter}
 use Rattle.std.specs.Str.{bytes_eq}
 use Rattle.spl_circuit.specs.Nodes.{Node}
@@ -9,7 +9,7 @@ use Rattle.spl_wire.specs.declared.answer.Refusal.TheVariants as refusal
 use Rattle.spl_sched.specs.declared.line.Line.{Line}
 use Rattle.spl_sched.specs.declared.line.Line.TheVariants as line
 use Rattle.spl_sched.specs.Grammar.{circuit_of}
-use Rattle.spl_model.specs.Worlds.{World, first_world, step_plan, step_world}
+use Rattle.spl_model.specs.Worlds.{World, Occurrence, Steps, first_world, step_plan, step_world}
 use Rattle.spl_model.specs.Calm.{calm}
 
 -- the line names this circuit
@@ -50,6 +50,24 @@ lines_world w (l ∷ ls) = lines_world (line_world w l) ls
 -- the world of a circuit among some nodes, behind the lines of a schedule: its own lines alone count
 abbrev pub circuit_world : List Node → Node → List Line → World
 circuit_world ns c ls = lines_world (first_world ns) (own c ls)
+
+-- what happens in a line
+abbrev pub occurrences_in : World → Line → List Occurrence
+occurrences_in w (line.Step s) = Steps s ∷ []
+occurrences_in w (line.Calm c k) = (calm c w k).happened
+occurrences_in w (line.Stop n) = []
+occurrences_in w (line.Start n) = []
+occurrences_in w (line.Roll n) = []
+occurrences_in w (line.Cut calls fill s) = []
+occurrences_in w (line.Fail call s) = []
+
+abbrev pub occurrences_from : World → List Line → List Occurrence
+occurrences_from w [] = []
+occurrences_from w (l ∷ ls) = occurrences_in w l ++ occurrences_from (line_world w l) ls
+
+-- what happens in the world of a circuit in the lines of a schedule
+abbrev pub occurrences : List Node → Node → List Line → List Occurrence
+occurrences ns c ls = occurrences_from (first_world ns) (own c ls)
 
 abbrev pub answer_about : List Node → List Line → Line → Option Node → Answer
 answer_about ns before l None = answer.Refused refusal.NoCircuit

@@ -4,7 +4,6 @@ use Rattle.std.specs.Str.{bytes_eq}
 use Rattle.std.proofs.lemmas.List.Elements.{filter-append}
 use Rattle.spl_circuit.specs.Nodes.{Node}
 use Rattle.spl_sched.specs.declared.line.Line.{Line}
-use Rattle.spl_rules.specs.Cells.{Cell}
 use Rattle.spl_model.specs.Worlds.{World, first_world, put_at}
 use Rattle.spl_model.specs.Answers.{names, own, line_world, lines_world, circuit_world}
 
@@ -29,10 +28,10 @@ keeps-other ns before l c h =
     ap (lines_world (first_world ns)) (filter-append (names c) before (l ∷ []) ∙ ap (λ ls. own c before ++ ls) (none-one c l h))
     ∙ lines_world-append (first_world ns) (own c before) []
 
-pub put_at-here : (f : Node → Cell) (here n : Node) (k : Cell) → bytes_eq n here ≡ true → put_at f here k n ≡ k
+pub put_at-here : {A : Type 0} (f : Node → A) (here n : Node) (k : A) → bytes_eq n here ≡ true → put_at f here k n ≡ k
 unfolding put_at
 put_at-here f here n k h = rw h refl
 
-pub put_at-other : (f : Node → Cell) (here n : Node) (k : Cell) → bytes_eq n here ≡ false → put_at f here k n ≡ f n
+pub put_at-other : {A : Type 0} (f : Node → A) (here n : Node) (k : A) → bytes_eq n here ≡ false → put_at f here k n ≡ f n
 unfolding put_at
 put_at-other f here n k h = rw h refl

@@ -1,5 +1,5 @@
 -- A calm: passes of ticks and deliveries until nothing is left to do (docs/RULES.md, Calm).
-use Rattle.std.specs.Prelude.{ℕ, zero, suc, ◌+◌, ◌-◌, ◌&&◌, List, [], ◌∷◌, length, if◌then◌else◌}
+use Rattle.std.specs.Prelude.{ℕ, zero, suc, ◌+◌, ◌-◌, ◌&&◌, List, [], ◌∷◌, ◌++◌, length, if◌then◌else◌}
 use Rattle.std.specs.List.{filter}
 use Rattle.std.specs.Str.{bytes_eq}
 use Rattle.spl_circuit.specs.Nodes.{Node, sorted}
@@ -7,20 +7,20 @@ use Rattle.spl_wire.specs.declared.event.Event.TheVariants as event
 use Rattle.spl_sched.specs.declared.line.Step.{Step}
 use Rattle.spl_sched.specs.declared.line.Step.TheVariants as step
 use Rattle.spl_rules.specs.Cells.{is_open_cell}
-use Rattle.spl_model.specs.Worlds.{World, step_world, messages}
+use Rattle.spl_model.specs.Worlds.{World, Occurrence, Steps, step_world, messages}
 
--- the world so far, how many messages of each pair need no delivery any more, and how many events it took
+-- the world so far, how many messages of each pair need no delivery any more, and what happened
 pub record Calming : Type 0 where
   pub world : World
   pub taken : Node → Node → ℕ
-  pub events : ℕ
+  pub happened : List Occurrence
 
 abbrev pub calming_step : Calming → Step → Calming
-calming_step z s = record { world = step_world z.world s; taken = z.taken; events = z.events + 1 }
+calming_step z s = record { world = step_world z.world s; taken = z.taken; happened = z.happened ++ Steps s ∷ [] }
 
--- the nodes with a bound and open cell
+-- the nodes that are up and have a bound and open cell
 abbrev pub open_nodes : World → List Node → List Node
-open_nodes w ns = filter (λ n. is_open_cell (w.at n)) ns
+open_nodes w ns = filter (λ n. w.up n && is_open_cell (w.at n)) ns
 
 abbrev pub ticks : Node → Calming → List Node → Calming
 ticks c z [] = z
@@ -33,13 +33,13 @@ delivers c z from to number (suc k) = delivers c (calming_step z (step.Deliver f
 
 -- the first so many messages of a pair need no delivery any more
 abbrev pub takes : Calming → Node → Node → ℕ → Calming
-takes z from to n = record { world = z.world; taken = λ a b. if bytes_eq a from && bytes_eq b to then n else z.taken a b; events = z.events }
+takes z from to n = record { world = z.world; taken = λ a b. if bytes_eq a from && bytes_eq b to then n else z.taken a b; happened = z.happened }
 
--- what was sent on a pair in this calm and isn't delivered yet is delivered
+-- what was sent on a pair in this calm and isn't delivered yet is delivered, where the recipient is up
 abbrev pub pair_turn : Node → Calming → Node → Node → Calming
 pair_turn c z from to =
     let all : ℕ = length (messages z.world from to) in
-    takes (delivers c z from to (z.taken from to + 1) (all - z.taken from to)) from to all
+    if z.world.up to then takes (delivers c z from to (z.taken from to + 1) (all - z.taken from to)) from to all else z
 
 abbrev pub to_all : Node → Calming → Node → List Node → Calming
 to_all c z from [] = z
@@ -59,7 +59,7 @@ passes c ns (suc k) z = passes c ns k (pass c ns z)
 
 -- at first nothing of the calm was sent
 abbrev pub calming : World → Calming
-calming w = record { world = w; taken = λ a b. length (messages w a b); events = 0 }
+calming w = record { world = w; taken = λ a b. length (messages w a b); happened = [] }
 
 -- so many passes, the nodes in the order of their ids
 abbrev pub calm : Node → World → ℕ → Calming

@@ -1,5 +1,5 @@
 -- The world of one circuit (docs/RULES.md, Circuits as worlds).
-use Rattle.std.specs.Prelude.{ℕ, ◌-◌, Bool, ◌&&◌, List, [], ◌∷◌, ◌++◌, if◌then◌else◌, slice_get, Option, Some, None}
+use Rattle.std.specs.Prelude.{◌-◌, Bool, true, false, ◌&&◌, List, [], ◌∷◌, ◌++◌, if◌then◌else◌, slice_get, Option, Some, None}
 use Rattle.std.specs.Str.{bytes_eq}
 use Rattle.spl_circuit.specs.Nodes.{Node, has_node}
 use Rattle.spl_wire.specs.declared.message.Message.{Message}
@@ -13,7 +13,7 @@ use Rattle.spl_sched.specs.declared.line.Step.TheVariants as step
 use Rattle.spl_sched.specs.Grammar.{step_node}
 use Rattle.spl_rules.specs.Cells.{Cell, Empty}
 use Rattle.spl_rules.specs.Plans.{tells_only, plan_of}
-use Rattle.spl_rules.specs.Changes.{after_plan}
+use Rattle.spl_rules.specs.Changes.{made, after_plan, stopped_cell}
 
 -- a message that was sent
 pub record Sent : Type 0 where
@@ -21,19 +21,21 @@ pub record Sent : Type 0 where
   pub to : Node
   pub message : Message
 
--- the registered nodes, what each keeps about the circuit, and all messages about it that were ever sent, in their order
+-- the registered nodes, which of them are up, what each keeps about the circuit, and all messages about it that were ever
+-- sent, in their order
 pub record World : Type 0 where
   pub nodes : List Node
+  pub up : Node → Bool
   pub at : Node → Cell
   pub sent : List Sent
 
--- at first nothing is kept, and nothing was sent
+-- at first all nodes are up, nothing is kept, and nothing was sent
 abbrev pub first_world : List Node → World
-first_world ns = record { nodes = ns; at = λ n. Empty; sent = [] }
+first_world ns = record { nodes = ns; up = λ n. true; at = λ n. Empty; sent = [] }
 
--- another cell at one node
-unfoldable pub put_at : (Node → Cell) → Node → Cell → Node → Cell
-put_at f here k n = if bytes_eq n here then k else f n
+-- another thing at one node
+unfoldable pub put_at : {A : Type 0} → (Node → A) → Node → A → Node → A
+put_at f here x n = if bytes_eq n here then x else f n
 
 -- what was ever sent on a pair of nodes, in order
 abbrev pub on_pair : Node → Node → List Sent → List Message
@@ -54,14 +56,47 @@ abbrev pub delivery : Node → World → Node → Node → Option Message → Pl
 delivery c w from to None = tells_only (answer.Refused refusal.NoMessage)
 delivery c w from to (Some m) = plan_of to c (w.at to) (event.Deliver from m)
 
--- what a step gives in the world of its circuit; messages of a pair are numbered from 1
-abbrev pub step_plan : World → Step → Plan
-step_plan w (step.At n c e) = plan_of n c (w.at n) e
-step_plan w (step.Deliver from to c k) = delivery c w from to (slice_get (messages w from to) (k - 1))
+-- what a step gives at a node that is up; messages of a pair are numbered from 1
+abbrev pub plan_up : World → Step → Plan
+plan_up w (step.At n c e) = plan_of n c (w.at n) e
+plan_up w (step.Deliver from to c k) = delivery c w from to (slice_get (messages w from to) (k - 1))
 
--- the changes and the move of a plan are made at a node, and its messages are sent
+-- what a step gives in the world of its circuit
+abbrev pub step_plan : World → Step → Plan
+step_plan w s = if w.up (step_node s) then plan_up w s else tells_only (answer.Refused refusal.Down)
+
+-- the changes and the moves of a plan are made at a node, and its messages are sent
 abbrev pub carried_out : World → Node → Plan → World
-carried_out w n p = record { nodes = w.nodes; at = put_at w.at n (after_plan n (w.at n) p); sent = w.sent ++ posted w.nodes n p.sends }
+carried_out w n p = record { nodes = w.nodes; up = w.up; at = put_at w.at n (after_plan n (w.at n) p); sent = w.sent ++ posted w.nodes n p.sends }
 
 abbrev pub step_world : World → Step → World
 step_world w s = carried_out w (step_node s) (step_plan w s)
+
+-- a node stops: its open rounds are forgotten
+abbrev pub stopped : World → Node → World
+stopped w n = record { nodes = w.nodes; up = put_at w.up n false; at = put_at w.at n (stopped_cell (w.at n)); sent = w.sent }
+
+abbrev pub started : World → Node → World
+started w n = record { nodes = w.nodes; up = put_at w.up n true; at = w.at; sent = w.sent }
+
+-- a node stops in a step: its changes are made where their record is kept, and nothing is sent
+abbrev pub halted : World → Node → Bool → Plan → World
+halted w n kept p = record { nodes = w.nodes; up = put_at w.up n false; at = put_at w.at n (stopped_cell (if kept then made n (w.at n) p.changes else w.at n)); sent = w.sent }
+
+-- what may happen in the world of a circuit
+pub data Occurrence : Type 0 where
+  Steps : Step → Occurrence
+  Stops : Node → Occurrence
+  Starts : Node → Occurrence
+  -- the node of the step stops in it, and its record is kept or not
+  Halts : (kept : Bool) → Step → Occurrence
+
+abbrev pub happens : World → Occurrence → World
+happens w (Steps s) = step_world w s
+happens w (Stops n) = if w.up n then stopped w n else w
+happens w (Starts n) = if w.up n then w else started w n
+happens w (Halts kept s) = if w.up (step_node s) then halted w (step_node s) kept (step_plan w s) else w
+
+abbrev pub run : World → List Occurrence → World
+run w [] = w
+run w (e ∷ es) = run (happens w e) es

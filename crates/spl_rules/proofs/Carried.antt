@@ -3,7 +3,7 @@ use Rattle.std.proofs.Common.{◌≡◌, ℕ, Bool, true, false, ◌&&◌, List,
 use Rattle.std.specs.Prelude.{Option, Some, None, ◌==◌, nat_lt}
 use Rattle.std.specs.List.{list_all}
 use Rattle.spl_agree.specs.Member.{Group, Member, values, has_round, found, found_refused, others, has, but, none_left, is_spent, decision}
-use Rattle.spl_agree.specs.Rows.{to_each, abort_each, row, requested, fits_here, on_vote, counted_vote, commit_open, abort_open, decided, told, strayed, admitted, forwarded, forwarded_pending, forwarded_refused, taken_back, on_message, coordinator_tick, ask_again, try_first, judge_first, member_tick, forward_first, expire_open, on_submit, vote_no}
+use Rattle.spl_agree.specs.Rows.{to_each, abort_each, row, requested, fits_here, on_vote, counted_vote, commit_open, abort_open, decided, told, strayed, admitted, forwarded, forwarded_pending, forwarded_refused, taken_back, on_message, coordinator_tick, ask_again, try_first, judge_first, member_tick, forward_first, expire_open, vote_no}
 use Rattle.spl_agree.specs.declared.plan.GroupPlan.{GroupPlan}
 use Rattle.spl_agree.specs.declared.reason.Reason.{Reason}
 use Rattle.spl_agree.specs.declared.reason.Admit.{Admit}

@@ -1,6 +1,6 @@
 -- The deed of each event fits its cell.
 use Rattle.std.proofs.Common.{◌≡◌, ◌≢◌, ◌⊎◌, ℕ, ◌+◌, ◌≤◌, Bool, true, false, not, ◌&&◌, List, [], length, refl, sym, subst, inl, inr, arith}
-use Rattle.std.specs.Prelude.{Option, Some, None, ◌==◌, nat_le, is_none, is_some, if◌then◌else◌, Result, Ok, Err}
+use Rattle.std.specs.Prelude.{Option, Some, None, ◌==◌, nat_le, is_none, is_some, if◌then◌else◌, Ok, Err}
 use Rattle.std.specs.List.{list_any}
 use Rattle.std.specs.Str.{bytes_eq}
 use Rattle.std.proofs.lemmas.Bool.Decides.{nat_tests}
@@ -38,7 +38,7 @@ use Rattle.spl_wire.specs.declared.answer.Answer.TheVariants as answer
 use Rattle.spl_wire.specs.declared.change.Change.TheVariants as durable
 use Rattle.spl_wire.specs.declared.event.Event.{Event}
 use Rattle.spl_wire.specs.declared.event.Event.TheVariants as event
-use Rattle.spl_rules.specs.Cells.{Cell, Empty, Held, Purged, Deed, Tells, admin_group, service_group, is_open, is_free, runs, own_life, can_bind, proposal, proposes, proposes_at, next_act, is_act_pending, votes, removes, abandons, purges, is_waiting, asked_first, forwarded_first, hears_first}
+use Rattle.spl_rules.specs.Cells.{Cell, Empty, Held, Purged, Deed, Tells, admin_group, is_open, is_free, runs, own_life, can_bind, proposal, proposes, proposes_at, next_act, is_act_pending, votes, removes, abandons, purges, is_waiting, asked_first, forwarded_first, hears_first}
 use Rattle.spl_rules.specs.Batches.{submits_known, submits_ruled, submits, when_active, root_told, history_told, value_told, listed, has_the_id, status_refused, status_kept, status_told, receipt_kept, receipt_told, routed, way, serves_other, hears_routed}
 use Rattle.spl_rules.specs.Events.{turns, hears_admin, held_hears, other_hears, held_does, other_does, does}
 use Rattle.spl_rules.specs.Plans.{admin_row}
@@ -271,8 +271,8 @@ turning : (here c : Node) (d : Definition) (m : Mark) (turn : ℕ) (a : Member A
 turning here c d m turn a b x y fit still serves brings =
     if_holds (FitsDeed here c (Held d m turn a b)) (is_open m) _ _
     (λ unclosed. if_holds (FitsDeed here c (Held d m turn a b)) (runs d a) _ _
-        (λ active. record { mark = m; turn = turn; held = refl; unclosed = unclosed; active = active; fit = fit; still = still; serves = serves; brings = brings })
-        (λ q. acts-at here d m turn a b x unclosed fit))
+    (λ active. record { mark = m; turn = turn; held = refl; unclosed = unclosed; active = active; fit = fit; still = still; serves = serves; brings = brings })
+    (λ q. acts-at here d m turn a b x unclosed fit))
     (λ q. tt)
 
 fits-tick : (here c : Node) (d : Definition) (m : Mark) (turn : ℕ) (a : Member Act) (b : Member Batch) → FitsDeed here c (Held d m turn a b) (turns here d m a b group.Tick group.Tick)

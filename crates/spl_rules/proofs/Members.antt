@@ -1,6 +1,6 @@
 -- What a member of any group keeps at each change that fits.
 use Rattle.std.proofs.Common.{◌≡◌, ℕ, ◌-◌, ◌^◌, ◌<◌, Bool, true, ◌&&◌, List, [], ◌∷◌, ◌++◌, length, refl, subst, arith}
-use Rattle.std.specs.Prelude.{Some, None, ◌==◌, nat_lt, is_none}
+use Rattle.std.specs.Prelude.{None, ◌==◌, nat_lt, is_none}
 use Rattle.std.specs.List.{list_all}
 use Rattle.spl_agree.specs.Member.{Rules, Member, values, known, changed, without, new_member}
 use Rattle.spl_agree.specs.Fits.{fits}

@@ -1,8 +1,7 @@
 -- The plan of a deed that fits.
-use Rattle.std.proofs.Common.{◌≡◌, ◌⊎◌, ℕ, Bool, true, ◌&&◌, List, [], ◌∷◌, ◌++◌, refl, sym, ap, subst, ◌∙◌, inl, inr}
-use Rattle.std.specs.Prelude.{Some, None}
+use Rattle.std.proofs.Common.{◌≡◌, ◌⊎◌, ℕ, Bool, true, List, [], ◌∷◌, ◌++◌, refl, sym, ap, subst, ◌∙◌, inl, inr}
 use Rattle.std.specs.List.{list_all}
-use Rattle.spl_agree.specs.Member.{Rules, Group, Member, new_member, values, changed, changed_by}
+use Rattle.spl_agree.specs.Member.{Group, Member, new_member, values, changed, changed_by}
 use Rattle.spl_agree.specs.Rows.{row}
 use Rattle.spl_agree.specs.Fits.{IsSound, IsRoomy, IsSettled, AllFit, MayQueue, FitsMove, any_value}
 use Rattle.spl_agree.specs.declared.event.GroupChange.{GroupChange}
@@ -18,7 +17,6 @@ use Rattle.spl_circuit.specs.declared.act.Act.{Act}
 use Rattle.spl_circuit.specs.declared.lifecycle.Mark.{Mark}
 use Rattle.spl_circuit.specs.declared.lifecycle.Mark.TheVariants as mark
 use Rattle.spl_circuit.specs.Nodes.{Node, position}
-use Rattle.spl_agree.specs.declared.plan.GroupPlan.{GroupPlan}
 use Rattle.spl_agree.specs.declared.message.CommitMsg.{CommitMsg}
 use Rattle.spl_circuit.specs.Acts.{act_rules}
 use Rattle.spl_circuit.specs.Lifecycle.{life, is_active}
@@ -31,7 +29,7 @@ use Rattle.spl_wire.specs.declared.change.Change.TheVariants as durable
 use Rattle.spl_rules.specs.Cells.{Cell, Empty, Held, Purged, Deed, Refuses, Tells, Replies, Binds, Acts, Serves, Turns, Abandons, Purges, admin_group, service_group, is_open, runs}
 use Rattle.spl_rules.specs.Plans.{admin_changes, admin_sends, admin_row, service_changes, service_sends, service_row, planned}
 use Rattle.spl_rules.specs.Changes.{may_queue, may_serve, fits_free, made_one, made, applied_one, applied}
-use Rattle.spl_rules.specs.Valid.{IsKeptMember, IsValid, FitsMoveAt, carries, is_legal, are_legal}
+use Rattle.spl_rules.specs.Valid.{IsKeptMember, IsValid, FitsMoveAt, is_legal, are_legal}
 use Rattle.spl_rules.proofs.SameActs.{act_same}
 use Rattle.spl_rules.proofs.Members.{checked-new}
 use Rattle.spl_rules.proofs.Carried.{AllCarry, Brings, send_carries, carry-row}
@@ -137,9 +135,10 @@ turns-fit here c d m turn a b x y v unclosed active f still g =
     record {
       changes = applied-append here c (Held d m turn a b) (admin_changes xs) (service_changes ys)
           ∙ (ap (λ (k : Cell). applied here c k (service_changes ys)) (first.changes ∙ behind.1) ∙ (last ∙ (service-made here d m behind.0 (changed_by (act_rules d) a xs) ys b ∙ sym final)));
-      moves = subst (λ (k : Cell). FitsMoveAt here k (admin_row here d a x).opening (service_row here d b y).opening) (sym final)
-          (row-moves (admin_group d) (may_queue here turn a.pending) spot a x act_same (sound (admin_group d) spot a v.kept.acts v.settled.0) v.kept.acts.roomy f,
-          row-moves (service_group d) may_serve spot b y batch_same ready v.kept.batches.roomy g);
+      moves = subst (λ (k : Cell). FitsMoveAt here k (admin_row here d a x).opening (service_row here d b y).opening) (sym final) (
+        row-moves (admin_group d) (may_queue here turn a.pending) spot a x act_same (sound (admin_group d) spot a v.kept.acts v.settled.0) v.kept.acts.roomy f,
+        row-moves (service_group d) may_serve spot b y batch_same ready v.kept.batches.roomy g,
+      );
     }
 
 -- ---- one deed

@@ -1,5 +1,5 @@
 -- What a cell keeps whatever happens there (docs/RULES.md, Cells).
-use Rattle.std.specs.Prelude.{◌≡◌, ◌≢◌, ℕ, Bool, true, false, List, [], Option, Some, None}
+use Rattle.std.specs.Prelude.{◌≡◌, ℕ, Bool, true, false, List, [], Some, None}
 use Rattle.std.specs.List.{list_all}
 use Rattle.std.specs.Str.{bytes_eq}
 use Rattle.spl_agree.specs.declared.event.OpenMove.{OpenMove}

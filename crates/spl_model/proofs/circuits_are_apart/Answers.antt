@@ -1,6 +1,5 @@
 -- Lines of other circuits are filtered out.
-use Rattle.std.proofs.Common.{rules, ◌≡◌}
-use Rattle.spl_model.specs.Apart.{moves-own, keeps-other}
+use Rattle.spl_model.specs.Apart.{moves-own}
 use Rattle.spl_model.proofs.circuits_are_apart.Goals as goal
 
 -- src/lib.rt:11:1

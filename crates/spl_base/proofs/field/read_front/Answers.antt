@@ -1,4 +1,4 @@
-use Rattle.std.proofs.Common.{◌≡◌, Ok, refl, arith, drop, length}
+use Rattle.std.proofs.Common.{◌≡◌, Ok, refl, arith}
 use Rattle.spl_base.specs.Front.{front_of}
 use Rattle.spl_base.proofs.Fronts.{spelled_from}
 use Rattle.spl_base.proofs.field.read_front.Goals as goal

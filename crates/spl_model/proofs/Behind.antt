@@ -1,0 +1,35 @@
+-- The agreement of a circuit behind what happened, and in lines.
+use Rattle.std.proofs.Common.{◌≡◌, true, List}
+use Rattle.std.specs.List.{list_all}
+use Rattle.spl_circuit.specs.declared.definition.Definition.{Definition}
+use Rattle.spl_circuit.specs.Nodes.{Node}
+use Rattle.spl_sched.specs.declared.line.Line.{Line}
+use Rattle.spl_sched.specs.Grammar.{is_line}
+use Rattle.spl_model.specs.Worlds.{Occurrence, first_world}
+use Rattle.spl_model.specs.Answers.{own}
+use Rattle.spl_model.specs.Agreement.{world_behind, AllPlain, IsAgreed, Agree}
+use Rattle.spl_model.proofs.Runs.{begins-acts, begins-batches, stays-behind}
+use Rattle.spl_model.proofs.Differ.{ids-differ, share-nothing}
+use Rattle.spl_model.proofs.Keys.{keeps-run}
+use Rattle.spl_model.proofs.Lines.{lines-run, plain-moment, tells-own}
+use Rattle.spl_model.proofs.FewRuns.{few-behind}
+
+-- each part of the agreement
+pub agreed-behind : (ns : List Node) (es : List Occurrence) (d : Definition) → AllPlain es → IsAgreed ns es d
+agreed-behind ns es d h = record {
+  acts = begins-acts ns es d h;
+  batches = begins-batches ns es d h;
+  differ = ids-differ ns d es h;
+  told = λ c n m turn a b is. tells-own n c d m turn a b;
+  apart = λ e. share-nothing ns d e es h;
+  keeps = λ fs k n m turn a b is m2 turn2 a2 b2 is2. keeps-run (world_behind ns es) fs d n m m2 turn turn2 a a2 b b2 k is is2;
+  past = λ fs k. stays-behind ns es fs d h k;
+  few = few-behind ns es d h;
+}
+
+-- at each moment of each circuit's world
+pub lines-agree : (ns : List Node) (ls : List Line) → list_all is_line ls ≡ true → Agree ns ls
+lines-agree ns ls h = record {
+  happened = λ c. lines-run (first_world ns) (own c ls);
+  agreed = λ c d es fs e. agreed-behind ns es d (plain-moment ns c ls es fs h e);
+}
