@@ -88,6 +88,13 @@ impl<M: Agreed> Member<M> {
         }
     }
 
+    /// What is pending or was refused under a key.
+    pub fn waiting(&self, key: &M::Key) -> Known<'_, M::Value>
+        ensures { IsWaiting (found (λ v. M.Key.eq key.now (M.key_of v)) self.now.state.pending) (found_refused (λ v. M.Key.eq key.now (M.key_of v)) self.now.state.refused) result }
+    {
+        self.queue.status(key)
+    }
+
     /// The first pending value, if there is one.
     #[tactic(auto, using(crate::proofs::Keyed::view_facts))]
     pub(crate) fn first(&self) -> Option<&M::Value>
