@@ -12,15 +12,17 @@ use Rattle.spl_agree.specs.declared.reason.Admit.TheVariants as admit
 use Rattle.spl_circuit.specs.declared.act.ActKind.TheVariants as kind
 use Rattle.spl_circuit.specs.declared.lifecycle.Mark.{Mark}
 use Rattle.spl_circuit.specs.Nodes.{Node, position, node_or}
-use Rattle.spl_circuit.specs.Rules.{admin}
 use Rattle.spl_circuit.specs.Equality.{same_definition}
 use Rattle.spl_circuit.specs.Acts.{reason, admits_act, admits_kind, act_rules}
 use Rattle.spl_admin.specs.Kept.{LedgerView}
 use Rattle.spl_admin.specs.Same.{definition_is, definition_same}
 use Rattle.spl_commit.specs.Views.{MemberView, IsFixed}
+use Rattle.spl_command.specs.declared.batch.Batch.{Batch}
+use Rattle.spl_rules.specs.Cells.{admin_group, service_group}
 use Rattle.spl_rules.specs.Changes.{turn_after}
-use Rattle.spl_cell.specs.Views.{HeldView, seated}
-use Rattle.spl_cell.specs.Mays.{may_by}
+use Rattle.spl_cell.specs.Views.{HeldView, IsPlaced}
+use Rattle.spl_cell.specs.Mays.{may_be, queued}
+use Rattle.spl_cell.proofs.Seats.{seat_stays}
 
 three : (a b c : Bool) → (a && (b && c)) ≡ (c && (a && (b && true)))
 three true true true = refl
@@ -33,7 +35,7 @@ three false false true = refl
 three false false false = refl
 
 -- what a change queues may be pending, and it fits beside that
-pub fits_may : {V : Type 0} (rules : Rules V) (may : V → Bool) (m : Member V) (x : GroupChange V) → fits rules may m x ≡ (may_by may x && fits rules any_value m x)
+pub fits_may : {V : Type 0} (rules : Rules V) (may : V → Bool) (m : Member V) (x : GroupChange V) → fits rules may m x ≡ (may_be may (queued x) && fits rules any_value m x)
 fits_may rules may m (change.Queue v) = three (is_none (known rules m v)) (nat_lt (length m.pending) 64) (may v)
 fits_may rules may m (change.Refuse v why) = refl
 fits_may rules may m (change.Begin r) = refl
@@ -43,9 +45,12 @@ fits_may rules may m change.Abort = refl
 fits_may rules may m (change.Commit r v) = refl
 
 pub fits_any : {V : Type 0} (b : Bool) (rules : Rules V) (may : V → Bool) (m : Member V) (x : GroupChange V) → (b && fits rules may m x) ≡ true → fits rules any_value m x ≡ true
-fits_any b rules may m x h = and_right (may_by may x) (fits rules any_value m x) (sym (fits_may rules may m x) ∙ and_right b (fits rules may m x) h)
+fits_any b rules may m x h = and_right (may_be may (queued x)) (fits rules any_value m x) (sym (fits_may rules may m x) ∙ and_right b (fits rules may m x) h)
 
--- ---- the seat stays
+pub fits_running : {V : Type 0} (b c : Bool) (rules : Rules V) (may : V → Bool) (m : Member V) (x : GroupChange V) → (b && (c && fits rules may m x)) ≡ true → fits rules any_value m x ≡ true
+fits_running b c rules may m x h = fits_any c rules may m x (and_right b (c && fits rules may m x) h)
+
+-- ---- the seats stay
 
 -- the rules of two definitions are equal only where these are
 node_or_none : (ms : List Node) (p : ℕ) → length ms ≤ p → node_or ms [] p ≡ []
@@ -70,33 +75,28 @@ rules_tell d e h =
     let two : admits_act d p (stranger e) ≡ admit.Take = ap (λ (r : Rules Act). r.admits p (stranger e)) h ∙ one in
     sym (definition_is e d (same_from_admit (same_definition e d) (sym (admits_stranger d e p (omega arith)) ∙ two)))
 
-abbrev member_by : LedgerView → Member Act → ℕ → ℕ → ℕ → ℕ → MemberView LedgerView Act
-member_by content state g n k p = record { content = content; state = state; generation = g; members = n; coordinator = k; here = p }
-
-made_member : (content : LedgerView) (state : Member Act) (g g2 n n2 k k2 p p2 : ℕ) → g ≡ g2 → n ≡ n2 → k ≡ k2 → p ≡ p2 → member_by content state g n k p ≡ member_by content state g2 n2 k2 p2
-made_member content state g g2 n n2 k k2 p p2 a b c d = cc
-
--- a member that keeps its rules and its place keeps its seat
-pub seat_stays : (here : Node) (old new : MemberView LedgerView Act) → old ≡ seated here old → act_rules new.content.definition ≡ act_rules old.content.definition → IsFixed old new → new ≡ seated here new
-seat_stays here old new e h f =
-    let d : new.content.definition ≡ old.content.definition = rules_tell new.content.definition old.content.definition h in
-    made_member new.content new.state new.generation new.content.definition.generation new.members (length new.content.definition.members) new.coordinator (position new.content.definition.members (admin new.content.definition)) new.here (position new.content.definition.members here)
-    (f.generation ∙ (ap (λ (m : MemberView LedgerView Act). m.generation) e ∙ ap (λ (x : Definition). x.generation) (sym d)))
-    (f.members ∙ (ap (λ (m : MemberView LedgerView Act). m.members) e ∙ ap (λ (x : Definition). length x.members) (sym d)))
-    (f.coordinator ∙ (ap (λ (m : MemberView LedgerView Act). m.coordinator) e ∙ ap (λ (x : Definition). position x.members (admin x)) (sym d)))
-    (f.here ∙ (ap (λ (m : MemberView LedgerView Act). m.here) e ∙ ap (λ (x : Definition). position x.members here) (sym d)))
-
 pub definition_stays : (old new : MemberView LedgerView Act) → act_rules new.content.definition ≡ act_rules old.content.definition → new.content.definition ≡ old.content.definition
 definition_stays old new h = rules_tell new.content.definition old.content.definition h
 
-pub ruleset seat_facts = (seat_stays, definition_stays)
+-- a change of the admin group leaves both at their places
+pub acts_placed : (n : Node) (old new : MemberView LedgerView Act) (b : MemberView (List Batch) Batch) → IsPlaced n old.content.definition old b → act_rules new.content.definition ≡ act_rules old.content.definition → IsFixed old new → IsPlaced n new.content.definition new b
+acts_placed n old new b p h f =
+    let d : Definition = old.content.definition in
+    let k : IsPlaced n d new b = record { member = p.member; acts = seat_stays (admin_group d) (position d.members n) old new p.acts f; batches = p.batches } in
+    subst (λ (e : Definition). IsPlaced n e new b) (sym (definition_stays old new h)) k
 
-abbrev held_by : Node → Node → Definition → Mark → ℕ → Member Act → HeldView
-held_by here c d m turn a = record { here = here; circuit = c; definition = d; mark = m; turn = turn; acts = a }
+-- and one of the service group
+pub batches_placed : (n : Node) (d : Definition) (a : MemberView LedgerView Act) (old new : MemberView (List Batch) Batch) → IsPlaced n d a old → IsFixed old new → IsPlaced n d a new
+batches_placed n d a old new p f = record { member = p.member; acts = p.acts; batches = seat_stays (service_group d) (position d.members n) old new p.batches f }
 
-same_held : (here c : Node) (d e : Definition) (m : Mark) (t u : ℕ) (a b : Member Act) → d ≡ e → t ≡ u → a ≡ b → held_by here c d m t a ≡ held_by here c e m u b
-same_held here c d e m t u a b p q r = cc
+pub ruleset place_facts = (acts_placed, batches_placed, definition_stays)
 
--- a bound cell with one change more
-pub held_changed : (here c : Node) (d e : Definition) (m : Mark) (t u : ℕ) (a b : Member Act) (x y : GroupChange Act) (h : HeldView) → held_by here c d m t a ≡ h → e ≡ d → u ≡ turn_after h.here h.turn x → b ≡ changed (act_rules d) a y → y ≡ x → held_by here c e m u b ≡ record h { turn = turn_after h.here h.turn x; acts = changed (act_rules h.definition) h.acts x }
-held_changed here c d e m t u a b x y h v p q r s = subst (λ (k : HeldView). u ≡ turn_after k.here k.turn x → held_by here c e m u b ≡ record k { turn = turn_after k.here k.turn x; acts = changed (act_rules k.definition) k.acts x }) v (λ z. same_held here c e d m u (turn_after here t x) b (changed (act_rules d) a x) p z (r ∙ ap (changed (act_rules d) a) s)) q
+abbrev held_by : Node → Node → Definition → Mark → ℕ → Member Act → Member Batch → HeldView
+held_by here c d m turn a b = record { here = here; circuit = c; definition = d; mark = m; turn = turn; acts = a; batches = b }
+
+same_held : (here c : Node) (d e : Definition) (m : Mark) (t u : ℕ) (a k : Member Act) (b : Member Batch) → d ≡ e → t ≡ u → a ≡ k → held_by here c d m t a b ≡ held_by here c e m u k b
+same_held here c d e m t u a k b p q r = cc
+
+-- a bound cell with one change of an act more
+pub held_changed : (here c : Node) (d e : Definition) (m : Mark) (t u : ℕ) (a k : Member Act) (b : Member Batch) (x y : GroupChange Act) (h : HeldView) → held_by here c d m t a b ≡ h → e ≡ d → u ≡ turn_after h.here h.turn x → k ≡ changed (act_rules d) a y → y ≡ x → held_by here c e m u k b ≡ record h { turn = turn_after h.here h.turn x; acts = changed (act_rules h.definition) h.acts x }
+held_changed here c d e m t u a k b x y h v p q r s = subst (λ (z : HeldView). u ≡ turn_after z.here z.turn x → held_by here c e m u k b ≡ record z { turn = turn_after z.here z.turn x; acts = changed (act_rules z.definition) z.acts x }) v (λ w. same_held here c e d m u (turn_after here t x) k (changed (act_rules d) a x) b p w (r ∙ ap (changed (act_rules d) a) s)) q

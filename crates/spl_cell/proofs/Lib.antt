@@ -1,4 +1,5 @@
 pub mod Positions
+pub mod Rosters
 pub mod Steps
 pub mod Pendings
 pub mod Seats
@@ -6,3 +7,4 @@ pub mod Binds
 pub mod Changes
 pub mod States
 pub mod Lists
+pub mod Entries

@@ -3,15 +3,15 @@ use Rattle.std.proofs.Common.{◌≡◌, ℕ, suc, ◌+◌, ◌<◌, Bool, true,
 use Rattle.std.specs.Prelude.{None, Some, if◌then◌else◌}
 use Rattle.spl_agree.specs.declared.event.GroupChange.{GroupChange}
 use Rattle.spl_agree.specs.declared.event.GroupChange.TheVariants as change
-use Rattle.spl_agree.specs.Member.{Member, changed}
-use Rattle.spl_circuit.specs.declared.definition.Definition.{Definition}
-use Rattle.spl_circuit.specs.declared.act.Act.{Act}
-use Rattle.spl_circuit.specs.Nodes.{Node}
+use Rattle.spl_agree.specs.Member.{Rules, Group, Member, changed}
+use Rattle.spl_agree.specs.Fits.{IsSettled}
+use Rattle.spl_circuit.specs.Nodes.{Node, position}
 use Rattle.spl_circuit.specs.Acts.{act_rules}
+use Rattle.spl_scabbard.specs.Checks.{batch_rules}
 use Rattle.spl_wire.specs.declared.change.Change.{Change}
 use Rattle.spl_wire.specs.declared.change.Change.TheVariants as durable
-use Rattle.spl_rules.specs.Cells.{Cell, Empty, Held, Purged}
-use Rattle.spl_rules.specs.Changes.{fits, made_one, applied_one, applied}
+use Rattle.spl_rules.specs.Cells.{Cell, Empty, Held, Purged, admin_group, service_group}
+use Rattle.spl_rules.specs.Changes.{fits, free_after, made_one, applied_one, applied}
 use Rattle.spl_rules.specs.Valid.{IsKept, IsSettledCell}
 use Rattle.spl_cell.specs.States.{IsStill}
 
@@ -28,36 +28,44 @@ still_if : (b : Bool) (k l : Cell) → IsStill k → IsStill l → IsStill (if b
 still_if true k l h g = g
 still_if false k l h g = h
 
-opened_stays : (d : Definition) (a : Member Act) (x : GroupChange Act) → (changed (act_rules d) a x).opened ≡ a.opened
-opened_stays d a (change.Queue v) = refl
-opened_stays d a (change.Refuse v why) = refl
-opened_stays d a (change.Begin r) = refl
-opened_stays d a (change.Seen r) = refl
-opened_stays d a (change.Promise r v) = refl
-opened_stays d a change.Abort = refl
-opened_stays d a (change.Commit r v) = refl
+opened_stays : {V : Type 0} (rules : Rules V) (a : Member V) (x : GroupChange V) → (changed rules a x).opened ≡ a.opened
+opened_stays rules a (change.Queue v) = refl
+opened_stays rules a (change.Refuse v why) = refl
+opened_stays rules a (change.Begin r) = refl
+opened_stays rules a (change.Seen r) = refl
+opened_stays rules a (change.Promise r v) = refl
+opened_stays rules a change.Abort = refl
+opened_stays rules a (change.Commit r v) = refl
 
 -- a change opens no round
+still_free : (k : Cell) (x : Change) → IsStill k → IsStill (free_after k x)
+still_free k (durable.Bind d) h = (refl, refl)
+still_free k (durable.Admin x) h = h
+still_free k (durable.Service x) h = h
+still_free k durable.Abandon h = h
+still_free k durable.Purge h = h
+
 still_made : (here : Node) (k : Cell) (x : Change) → IsStill k → IsStill (made_one here k x)
-still_made here Empty (durable.Bind d) h = refl
-still_made here Empty (durable.Admin x) h = tt
-still_made here Empty durable.Abandon h = tt
-still_made here Empty durable.Purge h = tt
-still_made here (Purged old) (durable.Bind d) h = refl
-still_made here (Purged old) (durable.Admin x) h = tt
-still_made here (Purged old) durable.Abandon h = tt
-still_made here (Purged old) durable.Purge h = tt
-still_made here (Held d m turn a) (durable.Bind e) h = refl
-still_made here (Held d m turn a) (durable.Admin x) h = opened_stays d a x ∙ h
-still_made here (Held d m turn a) durable.Abandon h = h
-still_made here (Held d m turn a) durable.Purge h = tt
+still_made here Empty x h = still_free Empty x h
+still_made here (Purged old) x h = still_free (Purged old) x h
+still_made here (Held d m turn a b) (durable.Bind e) h = (refl, refl)
+still_made here (Held d m turn a b) (durable.Admin x) h = (opened_stays (act_rules d) a x ∙ h.0, h.1)
+still_made here (Held d m turn a b) (durable.Service x) h = (h.0, opened_stays batch_rules b x ∙ h.1)
+still_made here (Held d m turn a b) durable.Abandon h = h
+still_made here (Held d m turn a b) durable.Purge h = tt
 
 pub still_list : (here c : Node) (k : Cell) (xs : List Change) → IsStill k → IsStill (applied here c k xs)
 still_list here c k [] h = h
 still_list here c k (x ∷ xs) h = still_list here c (applied_one here c k x) xs (still_if (fits here c k x) k (made_one here k x) h (still_made here k x h))
 
 -- where no round is open, the cell is settled
+settled_closed : {V : Type 0} (g : Group V) (at : ℕ) (m : Member V) → m.opened ≡ None → IsSettled g at m
+settled_closed g at m h o e = absurd (let z : None ≡ Some o = sym h ∙ e in cc)
+
 pub settled_still : (here : Node) (k : Cell) → IsStill k → IsSettledCell here k
 settled_still here Empty h = tt
 settled_still here (Purged old) h = tt
-settled_still here (Held d m turn a) h = λ o e. absurd (let z : None ≡ Some o = sym h ∙ e in cc)
+settled_still here (Held d m turn a b) h = (
+  settled_closed (admin_group d) (position d.members here) a h.0,
+  settled_closed (service_group d) (position d.members here) b h.1,
+)

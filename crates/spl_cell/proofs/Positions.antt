@@ -83,8 +83,6 @@ two_members d e = (few_members d e).0
 pub eight_members : (d : Definition) → broken d ≡ None → length d.members ≤ 8
 eight_members d e = (few_members d e).1
 
-pub ruleset seat_facts = (member_placed, admin_placed, two_members, eight_members)
-
 -- another node has another position than a member
 before_same : (ms : List Node) (a b : Node) → has_node ms a ≡ true → has_node ms b ≡ true → before_node ms a ≡ before_node ms b → a ≡ b
 before_same [] a b h k e = absurd cc

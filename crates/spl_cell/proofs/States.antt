@@ -1,7 +1,6 @@
 -- What is bound at a valid cell.
-use Rattle.std.proofs.Common.{◌≡◌, true, sym, subst}
+use Rattle.std.proofs.Common.{sym, subst}
 use Rattle.spl_circuit.specs.Nodes.{Node}
-use Rattle.spl_circuit.specs.Rules.{is_member}
 use Rattle.spl_rules.specs.Valid.{IsValid, IsSettledCell}
 use Rattle.spl_cell.specs.declared.state.State.{State}
 use Rattle.spl_cell.specs.declared.state.State.TheVariants as state
@@ -13,17 +12,7 @@ IsSettledState state.Empty = Unit {0}
 IsSettledState (state.Held h) = IsSettledHeld h.value
 IsSettledState (state.Purged old) = Unit {0}
 
-abbrev pub IsMemberState : State → Type 0
-IsMemberState state.Empty = Unit {0}
-IsMemberState (state.Held h) = is_member h.value.definition h.value.here ≡ true
-IsMemberState (state.Purged old) = Unit {0}
-
 pub settled_state : (here c : Node) (s : State) → IsAt here c s → IsValid here c (cell_of s) → IsSettledState s
 settled_state here c state.Empty at v = tt
 settled_state here c (state.Held h) at v = subst (λ (n : Node). IsSettledCell n (cell_of (state.Held h))) (sym at.0) v.settled
 settled_state here c (state.Purged old) at v = tt
-
-pub member_state : (here c : Node) (s : State) → IsAt here c s → IsValid here c (cell_of s) → IsMemberState s
-member_state here c state.Empty at v = tt
-member_state here c (state.Held h) at v = subst (λ (n : Node). is_member h.value.definition n ≡ true) (sym at.0) v.kept.member
-member_state here c (state.Purged old) at v = tt

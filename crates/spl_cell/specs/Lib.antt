@@ -2,3 +2,5 @@ pub mod Views
 pub mod States
 pub mod Says
 pub mod Mays
+pub mod Asks
+pub mod Hears

@@ -8,12 +8,17 @@ abbrev pub some_is : {X : Type 0} → (X → Bool) → Option X → Bool
 some_is p None = false
 some_is p (Some x) = p x
 
--- what a change queues meets a test
-abbrev pub may_by : {V : Type 0} → (V → Bool) → GroupChange V → Bool
-may_by may (change.Queue v) = may v
-may_by may (change.Refuse v why) = true
-may_by may (change.Begin r) = true
-may_by may (change.Seen r) = true
-may_by may (change.Promise r v) = true
-may_by may change.Abort = true
-may_by may (change.Commit r v) = true
+-- it is not there, or meets a test
+abbrev pub may_be : {X : Type 0} → (X → Bool) → Option X → Bool
+may_be p None = true
+may_be p (Some x) = p x
+
+-- what a change queues
+abbrev pub queued : {V : Type 0} → GroupChange V → Option V
+queued (change.Queue v) = Some v
+queued (change.Refuse v why) = None
+queued (change.Begin r) = None
+queued (change.Seen r) = None
+queued (change.Promise r v) = None
+queued change.Abort = None
+queued (change.Commit r v) = None

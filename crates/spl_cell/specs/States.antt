@@ -7,7 +7,7 @@ use Rattle.spl_cell.specs.declared.state.State.TheVariants as state
 
 abbrev pub cell_of : State → Cell
 cell_of state.Empty = Empty
-cell_of (state.Held h) = Held h.value.definition h.value.mark h.value.turn h.value.acts
+cell_of (state.Held h) = Held h.value.definition h.value.mark h.value.turn h.value.acts h.value.batches
 cell_of (state.Purged old) = Purged old
 
 -- what is bound is bound to the circuit at the node
@@ -16,14 +16,14 @@ IsAt here c state.Empty = Unit {0}
 IsAt here c (state.Held h) = (h.value.here ≡ here) × (h.value.circuit ≡ c)
 IsAt here c (state.Purged old) = Unit {0}
 
--- no round is open
+-- no round is open in either group
 abbrev pub IsStill : Cell → Type 0
 IsStill Empty = Unit {0}
-IsStill (Held d m turn a) = a.opened ≡ None
+IsStill (Held d m turn a b) = (a.opened ≡ None) × (b.opened ≡ None)
 IsStill (Purged old) = Unit {0}
 
 -- nothing is kept
 abbrev pub is_empty_cell : Cell → Bool
 is_empty_cell Empty = true
-is_empty_cell (Held d m turn a) = false
+is_empty_cell (Held d m turn a b) = false
 is_empty_cell (Purged old) = false

@@ -42,7 +42,7 @@ impl Site {
         ensures { IfOk result (λ p. p ≡ admin_row self.now.here definition.now new_member event.now) }
     {
         let held = Held::new(alloc, *self, definition.copy(alloc)?);
-        held.row(alloc, event)
+        held.admin_row(alloc, event)
     }
 
     /// The cell is bound to a definition, and its admin group goes on by an event. A message came

@@ -1,9 +1,9 @@
 //! The cell of a circuit at a node.
 ghost use Rattle.std.specs.Prelude.{◌≡◌, true, IfOk, OnOk};
-ghost use Rattle.spl_rules.specs.Cells.{Empty, is_bound, is_handled, is_open_cell};
+ghost use Rattle.spl_rules.specs.Cells.{Empty, is_bound, is_open_cell};
 ghost use Rattle.spl_rules.specs.Plans.{plan_of};
 ghost use Rattle.spl_rules.specs.Changes.{made, applied, moved_cell, stopped_cell};
-ghost use Rattle.spl_rules.specs.Valid.{IsValid, IsFor, FitsMoveAt};
+ghost use Rattle.spl_rules.specs.Valid.{IsValid, IsFor, FitsMoveAt, are_legal};
 ghost use Rattle.spl_cell.specs.States.{IsStill, is_empty_cell};
 
 use crate::site::Site;
@@ -70,32 +70,34 @@ impl Cell {
         }
     }
 
-    /// What an event gives: an answer, durable changes, a move of the open round, and messages.
-    /// Nothing is changed. An error comes for want of memory alone.
+    /// What an event gives: an answer, durable changes, a move of the open round of each group, and
+    /// messages. Nothing is changed. An error comes for want of memory alone.
     pub fn plan(&self, alloc: Global, event: &Event) -> Result<Plan, AllocError>
-        requires handled { is_handled event.now ≡ true }
         requires own { IsFor self.now.here self.now.circuit event.now }
         ensures plan { IfOk result (λ p. p ≡ plan_of self.now.here self.now.circuit self.now.state event.now) }
         ensures valid { IsValid self.now.here self.now.circuit self.now.state }
 
-        // Its changes fit, each behind those before it, and its move fits behind them.
-        ensures fits { IfOk result (λ p. (applied self.now.here self.now.circuit self.now.state p.changes ≡ made self.now.here self.now.state p.changes) × FitsMoveAt self.now.here (made self.now.here self.now.state p.changes) p.admin) }
+        // Its changes fit, each behind those before it, and its moves fit behind them.
+        ensures fits { IfOk result (λ p. (applied self.now.here self.now.circuit self.now.state p.changes ≡ made self.now.here self.now.state p.changes) × FitsMoveAt self.now.here (made self.now.here self.now.state p.changes) p.admin p.service) }
+
+        // No batch in a message breaks a rule.
+        ensures legal { IfOk result (λ p. are_legal p.sends ≡ true) }
     {
         plans_fit_cells();
         self.site.plan(alloc, &self.state, event)
     }
 
-    /// Makes the changes of a plan, each where it fits, and then its move. An error comes for want
+    /// Makes the changes of a plan, each where it fits, and then its moves. An error comes for want
     /// of memory alone, and the cell is halted then.
     pub fn apply(&mut self, alloc: Global, plan: &Plan) -> Result<(), AllocError>
-        requires { FitsMoveAt self.old.here (applied self.old.here self.old.circuit self.old.state plan.now.changes) plan.now.admin }
+        requires { FitsMoveAt self.old.here (applied self.old.here self.old.circuit self.old.state plan.now.changes) plan.now.admin plan.now.service }
         ensures fixed { (self.new.here ≡ self.old.here) × (self.new.circuit ≡ self.old.circuit) }
-        ensures ok { OnOk result (self.new.state ≡ moved_cell self.old.here (applied self.old.here self.old.circuit self.old.state plan.now.changes) plan.now.admin) }
+        ensures ok { OnOk result (self.new.state ≡ moved_cell self.old.here (applied self.old.here self.old.circuit self.old.state plan.now.changes) plan.now.admin plan.now.service) }
     {
         cells_stay_valid();
         let state = mem::replace(&mut self.state, State::Empty);
         let state = self.site.applied(alloc, state, plan.changes.as_slice())?;
-        self.state = self.site.moved(state, plan.admin);
+        self.state = self.site.moved(state, plan.admin, plan.service);
         Ok(())
     }
 
@@ -112,7 +114,7 @@ impl Cell {
         Ok(())
     }
 
-    /// A stop forgets the open round, and nothing else.
+    /// A stop forgets the open rounds, and nothing else.
     pub fn restart(&mut self)
         ensures { self.new ≡ record self.old { state = stopped_cell self.old.state } }
     {

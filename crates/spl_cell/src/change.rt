@@ -3,32 +3,37 @@ ghost use Rattle.std.specs.Prelude.{◌≡◌, ◌&&◌, true, if◌then◌else�
 ghost use Rattle.spl_agree.specs.Member.{changed};
 ghost use Rattle.spl_agree.specs.Fits.{fits as fits_group, any_value};
 ghost use Rattle.spl_circuit.specs.Acts.{act_rules};
+ghost use Rattle.spl_scabbard.specs.Checks.{batch_rules};
 ghost use Rattle.spl_rules.specs.Cells.{is_open, runs};
-ghost use Rattle.spl_rules.specs.Changes.{turn_after, may_queue, fits_free, free_after, applied_one, applied};
+ghost use Rattle.spl_rules.specs.Changes.{turn_after, may_queue, may_serve, fits_free, free_after, applied_one, applied};
 ghost use Rattle.spl_cell.specs.States.{cell_of, IsAt};
-ghost use Rattle.spl_cell.specs.Mays.{may_by};
+ghost use Rattle.spl_cell.specs.Mays.{may_be, queued};
 
+use crate::durable::{copy_change, queued};
 use crate::held::Held;
 use crate::site::Site;
 use crate::state::State;
-use spl_agree::{Agreed, GroupChange};
+use spl_agree::GroupChange;
 use spl_base::{Boxed, Value};
 use spl_circuit::{Act, Definition, Mark};
+use spl_command::Batch;
 use spl_wire::Change;
 use std::alloc::{AllocError, Global};
 
-/// An equal change.
-fn copy_change(alloc: Global, change: &GroupChange<Act>) -> Result<GroupChange<Act>, AllocError>
-    ensures { IfOk result (λ x. x ≡ change.now) }
+/// Whether a batch may be pending: one that breaks a rule is never queued.
+fn may_serve(batch: &Batch) -> bool
+    ensures { result ≡ may_serve batch.now }
 {
-    match change {
-        GroupChange::Queue(act) => Ok(GroupChange::Queue(act.copy(alloc)?)),
-        GroupChange::Refuse(act, reason) => Ok(GroupChange::Refuse(act.copy(alloc)?, *reason)),
-        GroupChange::Begin(round) => Ok(GroupChange::Begin(*round)),
-        GroupChange::Seen(round) => Ok(GroupChange::Seen(*round)),
-        GroupChange::Promise(round, act) => Ok(GroupChange::Promise(*round, act.copy(alloc)?)),
-        GroupChange::Abort => Ok(GroupChange::Abort),
-        GroupChange::Commit(round, act) => Ok(GroupChange::Commit(*round, act.copy(alloc)?)),
+    batch.fault().is_none()
+}
+
+/// Whether what a change of the service group queues may be pending.
+fn may_batch(change: &GroupChange<Batch>) -> bool
+    ensures { result ≡ may_be may_serve (queued change.now) }
+{
+    match queued(change) {
+        Some(batch) => may_serve(batch),
+        None => true,
     }
 }
 
@@ -67,24 +72,19 @@ impl Held {
         self.turn <= act.turn
     }
 
-    /// Whether what a change queues may be pending.
+    /// Whether what a change of the admin group queues may be pending.
     fn may(&self, change: &GroupChange<Act>) -> bool
-        ensures { result ≡ may_by (may_queue self.now.here self.now.turn self.now.acts.pending) change.now }
+        ensures { result ≡ may_be (may_queue self.now.here self.now.turn self.now.acts.pending) (queued change.now) }
     {
-        match change {
-            GroupChange::Queue(act) => self.may_queue(act),
-            GroupChange::Refuse(_, _) => true,
-            GroupChange::Begin(_) => true,
-            GroupChange::Seen(_) => true,
-            GroupChange::Promise(_, _) => true,
-            GroupChange::Abort => true,
-            GroupChange::Commit(_, _) => true,
+        match queued(change) {
+            Some(act) => self.may_queue(act),
+            None => true,
         }
     }
 
     /// Whether a change of the admin group fits. An error comes for want of memory alone.
     #[tactic(auto, using(crate::proofs::Changes::fits_may))]
-    fn fits(&self, alloc: Global, change: &GroupChange<Act>) -> Result<bool, AllocError>
+    fn fits_admin(&self, alloc: Global, change: &GroupChange<Act>) -> Result<bool, AllocError>
         ensures { IfOk result (λ b. b ≡ (is_open self.now.mark && fits_group (act_rules self.now.definition) (may_queue self.now.here self.now.turn self.now.acts.pending) self.now.acts change.now)) }
     {
         if !self.is_open() {
@@ -98,8 +98,8 @@ impl Held {
 
     /// Makes a change of the admin group that fits. An error comes for want of memory alone, and
     /// the cell is halted then.
-    #[tactic(auto, using(crate::proofs::Changes::seat_facts))]
-    fn makes(&mut self, alloc: Global, change: &GroupChange<Act>) -> Result<(), AllocError>
+    #[tactic(auto, using(crate::proofs::Changes::place_facts))]
+    fn makes_admin(&mut self, alloc: Global, change: &GroupChange<Act>) -> Result<(), AllocError>
         requires { fits_group (act_rules self.old.definition) any_value self.old.acts change.now ≡ true }
         ensures ok { OnOk result (self.new ≡ record self.old { turn = turn_after self.old.here self.old.turn change.now; acts = changed (act_rules self.old.definition) self.old.acts change.now }) }
         ensures here { self.new.here ≡ self.old.here }
@@ -111,11 +111,45 @@ impl Held {
         self.turn = turn;
         Ok(())
     }
+
+    /// Whether a change of the service group fits. An error comes for want of memory alone.
+    #[tactic(auto, using(crate::proofs::Changes::fits_may))]
+    fn fits_service(&self, alloc: Global, change: &GroupChange<Batch>) -> Result<bool, AllocError>
+        ensures { IfOk result (λ b. b ≡ (is_open self.now.mark && (runs self.now.definition self.now.acts && fits_group batch_rules may_serve self.now.batches change.now))) }
+    {
+        if !self.is_open() {
+            return Ok(false);
+        }
+        if !self.runs() {
+            return Ok(false);
+        }
+        if !may_batch(change) {
+            return Ok(false);
+        }
+        self.batches.fits(alloc, change)
+    }
+
+    /// Makes a change of the service group that fits. An error comes for want of memory alone, and
+    /// the cell is halted then.
+    #[tactic(auto, using(crate::proofs::Changes::place_facts))]
+    fn makes_service(
+        &mut self,
+        alloc: Global,
+        change: &GroupChange<Batch>,
+    ) -> Result<(), AllocError>
+        requires { fits_group batch_rules any_value self.old.batches change.now ≡ true }
+        ensures ok { OnOk result (self.new ≡ record self.old { batches = changed batch_rules self.old.batches change.now }) }
+        ensures here { self.new.here ≡ self.old.here }
+        ensures circuit { self.new.circuit ≡ self.old.circuit }
+    {
+        let change = copy_change(alloc, change)?;
+        self.batches.apply(alloc, change)
+    }
 }
 
 impl Site {
     /// A bound cell with a change, if it fits.
-    #[tactic(auto, using(crate::proofs::Changes::fits_any))]
+    #[tactic(auto, using(crate::proofs::Changes::fits_any, crate::proofs::Changes::fits_running))]
     fn held_with(
         &self,
         alloc: Global,
@@ -130,8 +164,14 @@ impl Site {
         match change {
             Change::Bind(_) => Ok(State::Held(held)),
             Change::Admin(change) => {
-                if held.fits(alloc, change)? {
-                    held.makes(alloc, change)?;
+                if held.fits_admin(alloc, change)? {
+                    held.makes_admin(alloc, change)?;
+                }
+                Ok(State::Held(held))
+            }
+            Change::Service(change) => {
+                if held.fits_service(alloc, change)? {
+                    held.makes_service(alloc, change)?;
                 }
                 Ok(State::Held(held))
             }

@@ -4,46 +4,34 @@ ghost use Rattle.std.specs.Str.{bytes_eq};
 ghost use Rattle.spl_agree.specs.Fits.{generation_of};
 ghost use Rattle.spl_circuit.specs.Nodes.{position};
 ghost use Rattle.spl_circuit.specs.Rules.{admin, broken, is_member};
-ghost use Rattle.spl_rules.specs.Cells.{Acts, admin_group, can_bind, declines, returns_unbound, ignores, asked_first, forwarded_first, hears_first, hears};
+ghost use Rattle.spl_rules.specs.Cells.{Held as Bound, Acts, admin_group, can_bind, declines, returns_unbound, ignores, asked_first, forwarded_first, hears_first};
+ghost use Rattle.spl_rules.specs.Events.{hears_admin, other_hears};
 ghost use Rattle.spl_rules.specs.Plans.{planned};
 ghost use Rattle.spl_rules.specs.Valid.{IsValid};
-ghost use Rattle.spl_wire.specs.Forms.{admin_of};
 ghost use Rattle.spl_wire.specs.declared.answer.Answer.TheVariants as answer;
+ghost use Rattle.spl_cell.specs.Hears.{hears};
 ghost use Rattle.spl_cell.specs.States.{cell_of, IsAt};
 ghost use Rattle.spl_cell.specs.Views.{IsSettledHeld};
 
 use crate::held::Held;
 use crate::node::position;
-use crate::plans::{Say, tells_only};
+use crate::plans::{Say, refuses, tells_only};
 use crate::site::Site;
 use crate::state::State;
 use spl_agree::{CommitMsg, Generation, GroupEvent, Note, Place, Reason, Round};
 use spl_base::{NodeId, Value};
-use spl_circuit::{Act, ActKind, Definition};
-use spl_wire::{Answer, Message, Plan};
+use spl_circuit::{Act, ActKind, Definition, RouteFault};
+use spl_wire::{Answer, Message, Plan, Refusal};
 use std::alloc::{AllocError, Global};
 
 /// The coordinator can't bind the definition.
 const UNBOUND: Reason = Reason { code: 6, at: 0 };
 
-/// The message of the admin group.
-fn admin_of(message: &Message) -> &CommitMsg<Act>
-    ensures { result.now ≡ admin_of message.now }
-{
-    let Message::Admin { body, .. } = message;
-    body
-}
-
-/// An equal message of the admin group.
-fn admin_copy(alloc: Global, message: &Message) -> Result<CommitMsg<Act>, AllocError>
-    ensures { IfOk result (λ b. b ≡ admin_of message.now) }
-{
-    let Message::Admin { body, .. } = message.copy(alloc)?;
-    Ok(body)
-}
+/// There is no way between services of a circuit that isn't bound.
+pub(crate) const NO_WAY: Refusal = Refusal::NotRouted(RouteFault::CircuitDoesNotExist);
 
 /// The generation of a message.
-fn generation_of(body: &CommitMsg<Act>) -> Generation
+pub(crate) fn generation_of<V>(body: &CommitMsg<V>) -> Generation
     ensures { result ≡ generation_of body.now }
 {
     match body {
@@ -59,16 +47,17 @@ fn generation_of(body: &CommitMsg<Act>) -> Generation
 impl Held {
     /// A message of the cell's generation, from another node.
     #[tactic(auto, using(crate::proofs::Positions::sender_facts))]
-    fn hears(&self, alloc: Global, from: &NodeId, message: &Message) -> Result<Plan, AllocError>
+    fn hears(&self, alloc: Global, from: &NodeId, body: CommitMsg<Act>) -> Result<Plan, AllocError>
         requires settled { IsSettledHeld self.now }
-        requires member { is_member self.now.definition self.now.here ≡ true }
         requires other { bytes_eq from.now self.now.here ≡ false }
-        requires same { generation_of (admin_of message.now) ≡ self.now.definition.generation }
-        ensures { IfOk result (λ p. p ≡ planned self.now.here self.now.circuit (Acts answer.Delivered self.now.definition self.now.acts from.now (GroupEvent.From (position self.now.definition.members from.now) (admin_of message.now)))) }
+        requires same { generation_of body ≡ self.now.definition.generation }
+        ensures { IfOk result (λ p. p ≡ planned self.now.here self.now.circuit (Acts answer.Delivered self.now.definition self.now.acts from.now (GroupEvent.From (position self.now.definition.members from.now) body))) }
     {
         let sender = position(self.definition().members.as_slice(), from);
-        let message = admin_copy(alloc, message)?;
-        let event = GroupEvent::From { sender, message };
+        let event = GroupEvent::From {
+            sender,
+            message: body,
+        };
         self.acts(alloc, Say::Delivered, from, &event)
     }
 }
@@ -93,7 +82,7 @@ impl Site {
         state.is_free(generation)
     }
 
-    fn ignores(&self, alloc: Global) -> Plan
+    pub(crate) fn ignores(&self, alloc: Global) -> Plan
         ensures { result ≡ planned self.now.here self.now.circuit ignores }
     {
         tells_only(alloc, Answer::Delivered(Note::Ignored))
@@ -110,11 +99,13 @@ impl Site {
         ensures { IfOk result (λ p. p ≡ planned self.now.here self.now.circuit (declines self.now.circuit from.now generation round)) }
     {
         let yes = false;
-        let vote = CommitMsg::Vote {
+        let body = CommitMsg::Vote {
             generation,
             round,
             yes,
         };
+        let circuit = self.circuit;
+        let vote = Message::Admin { circuit, body };
         self.replies(alloc, Note::Declined(round), from, vote)
     }
 
@@ -128,11 +119,13 @@ impl Site {
     ) -> Result<Plan, AllocError>
         ensures { IfOk result (λ p. p ≡ planned self.now.here self.now.circuit (returns_unbound self.now.circuit from.now generation act.now)) }
     {
-        let refused = CommitMsg::Refused {
+        let body = CommitMsg::Refused {
             generation,
             value: act.copy(alloc)?,
             reason: UNBOUND,
         };
+        let circuit = self.circuit;
+        let refused = Message::Admin { circuit, body };
         self.replies(alloc, Note::Returned(UNBOUND), from, refused)
     }
 
@@ -254,6 +247,48 @@ impl Site {
         }
     }
 
+    /// A message comes from another node to a cell that isn't bound.
+    pub(crate) fn other_hears(
+        &self,
+        alloc: Global,
+        state: &State,
+        from: &NodeId,
+        message: &Message,
+    ) -> Result<Plan, AllocError>
+        requires other { bytes_eq from.now self.now.here ≡ false }
+        ensures { IfOk result (λ p. p ≡ planned self.now.here self.now.circuit (other_hears self.now.here self.now.circuit (cell_of state.now) from.now message.now)) }
+    {
+        match message {
+            Message::Admin { body, .. } => self.hears_first(alloc, state, from, body),
+            Message::Scabbard { .. } => Ok(refuses(alloc, NO_WAY)),
+        }
+    }
+
+    /// A message of the admin group comes from another node to a bound cell.
+    fn hears_admin(
+        &self,
+        alloc: Global,
+        state: &State,
+        held: &Held,
+        from: &NodeId,
+        body: CommitMsg<Act>,
+    ) -> Result<Plan, AllocError>
+        requires here { held.now.here ≡ self.now.here }
+        requires circuit { held.now.circuit ≡ self.now.circuit }
+        requires bound { cell_of state.now ≡ Bound held.now.definition held.now.mark held.now.turn held.now.acts held.now.batches }
+        requires settled { IsSettledHeld held.now }
+        requires other { bytes_eq from.now self.now.here ≡ false }
+        ensures { IfOk result (λ p. p ≡ planned self.now.here self.now.circuit (hears_admin self.now.here self.now.circuit held.now.definition held.now.mark held.now.turn held.now.acts held.now.batches from.now body)) }
+    {
+        if !held.is_open() {
+            return self.hears_first(alloc, state, from, &body);
+        }
+        if generation_of(&body) != held.definition().generation {
+            return self.hears_first(alloc, state, from, &body);
+        }
+        held.hears(alloc, from, body)
+    }
+
     /// A message comes from another node.
     pub(crate) fn hears(
         &self,
@@ -265,21 +300,19 @@ impl Site {
         requires at { IsAt self.now.here self.now.circuit state.now }
         requires valid { IsValid self.now.here self.now.circuit (cell_of state.now) }
         requires other { bytes_eq from.now self.now.here ≡ false }
-        ensures { IfOk result (λ p. p ≡ planned self.now.here self.now.circuit (hears self.now.here self.now.circuit (cell_of state.now) from.now (admin_of message.now))) }
+        ensures { IfOk result (λ p. p ≡ planned self.now.here self.now.circuit (hears self.now.here self.now.circuit (cell_of state.now) from.now message.now)) }
     {
-        let body = admin_of(message);
-        match state {
-            State::Empty => self.hears_first(alloc, state, from, body),
-            State::Purged(_) => self.hears_first(alloc, state, from, body),
-            State::Held(held) => {
-                if !held.is_open() {
-                    return self.hears_first(alloc, state, from, body);
-                }
-                if generation_of(body) != held.definition().generation {
-                    return self.hears_first(alloc, state, from, body);
-                }
-                held.hears(alloc, from, message)
-            }
+        let State::Held(held) = state else {
+            return self.other_hears(alloc, state, from, message);
+        };
+        match message.copy(alloc)? {
+            Message::Admin { body, .. } => self.hears_admin(alloc, state, held, from, body),
+            Message::Scabbard {
+                from: service,
+                to,
+                body,
+                ..
+            } => held.hears_service(alloc, from, &service, &to, body),
         }
     }
 }

@@ -4,8 +4,8 @@ ghost use Rattle.spl_agree.specs.Member.{values};
 ghost use Rattle.spl_agree.specs.Fits.{IsDue};
 ghost use Rattle.spl_circuit.specs.Nodes.{position, has_node};
 ghost use Rattle.spl_circuit.specs.Rules.{broken, is_member};
-ghost use Rattle.spl_rules.specs.Cells.{Acts, admin_group, own_life, runs, accepted_in_order};
-ghost use Rattle.spl_rules.specs.Plans.{admin_row, planned};
+ghost use Rattle.spl_rules.specs.Cells.{Acts, Serves, admin_group, service_group, own_life, runs, accepted_in_order};
+ghost use Rattle.spl_rules.specs.Plans.{admin_row, service_row, planned};
 ghost use Rattle.spl_cell.specs.Says.{said};
 ghost use Rattle.spl_cell.specs.Views.{IsSettledHeld, fresh};
 
@@ -16,35 +16,37 @@ use spl_admin::Ledger;
 use spl_agree::{Generation, GroupEvent, GroupPlan};
 use spl_base::NodeId;
 use spl_circuit::{Act, Definition, Lifecycle, Mark, Members};
+use spl_command::Batch;
 use spl_commit::Member;
+use spl_scabbard::Service;
 use spl_wire::{ChangeList, Plan};
 use std::alloc::{AllocError, Global};
 use std::marker::Model;
 
-/// What a bound cell keeps: its mark, the turn of the node, and the node's member in the admin
-/// group, whose content has the definition.
+/// What a bound cell keeps: its mark, the turn of the node, and the node's members in the admin
+/// group, whose content has the definition, and in the service group.
 #[derive(Drop)]
 pub(crate) struct Held {
     pub site: Site,
     pub mark: Mark,
     pub turn: u32,
     pub acts: Member<Ledger>,
+    pub batches: Member<Service>,
 }
 
 impl Model for Held {
-    ghost use Rattle.std.specs.Prelude.{◌≡◌};
-    ghost use Rattle.spl_cell.specs.Views.{HeldView, seated};
+    ghost use Rattle.spl_cell.specs.Views.{HeldView, IsPlaced};
 
     ghost Value = { HeldView };
 
-    ghost view = { λ s. record { here = s.site.here; circuit = s.site.circuit; definition = s.acts.content.definition; mark = s.mark; turn = s.turn; acts = s.acts.state } };
+    ghost view = { λ s. record { here = s.site.here; circuit = s.site.circuit; definition = s.acts.content.definition; mark = s.mark; turn = s.turn; acts = s.acts.state; batches = s.batches.state } };
 
-    ghost invariant = { λ s. s.acts ≡ seated s.site.here s.acts };
+    ghost invariant = { λ s. IsPlaced s.site.here s.acts.content.definition s.acts s.batches };
 }
 
 impl Held {
     /// A cell that is bound to a definition, open and fresh.
-    #[tactic(auto, using(crate::proofs::Positions::seat_facts))]
+    #[tactic(auto, using(crate::proofs::Rosters::seat_facts))]
     pub(crate) fn new(alloc: Global, site: Site, definition: Definition) -> Held
         requires valid { broken definition ≡ None }
         requires member { is_member definition site.here ≡ true }
@@ -53,14 +55,17 @@ impl Held {
         let generation = definition.generation;
         let members = definition.members.as_slice();
         let count = members.len() as u8;
-        let coordinator = position(members, &definition.admin_coordinator());
+        let admin = position(members, &definition.admin_coordinator());
+        let service = position(members, &definition.service_coordinator());
         let here = position(members, &site.here);
         let ledger = Ledger::new(alloc, definition);
+        let batches = Service::new(alloc);
         Held {
             site,
             mark: Mark::Open,
             turn: 0,
-            acts: Member::new(alloc, ledger, generation, count, coordinator, here),
+            acts: Member::new(alloc, ledger, generation, count, admin, here),
+            batches: Member::new(alloc, batches, generation, count, service, here),
         }
     }
 
@@ -72,12 +77,20 @@ impl Held {
         self.acts.content()
     }
 
-    /// The definition.
+    /// The definition, which breaks no rule, and of which the node is a member.
     pub(crate) fn definition(&self) -> &Definition
         ensures value { result.now ≡ self.now.definition }
         ensures valid { broken self.now.definition ≡ None }
+        ensures member { is_member self.now.definition self.now.here ≡ true }
     {
-        self.ledger().definition()
+        self.acts.content().definition()
+    }
+
+    /// The batches that are committed here.
+    pub(crate) fn service(&self) -> &Service
+        ensures { result.now ≡ values self.now.batches.history }
+    {
+        self.batches.content()
     }
 
     /// Where the acts that are committed here have brought the circuit.
@@ -123,8 +136,8 @@ impl Held {
     }
 
     /// What an event gives in the admin group.
-    #[tactic(auto, using(crate::proofs::Seats::settled_seat))]
-    pub(crate) fn row(
+    #[tactic(auto, using(crate::proofs::Seats::group_here))]
+    pub(crate) fn admin_row(
         &self,
         alloc: Global,
         event: &GroupEvent<Act>,
@@ -134,6 +147,20 @@ impl Held {
         ensures { IfOk result (λ p. p ≡ admin_row self.now.here self.now.definition self.now.acts event.now) }
     {
         self.acts.plan(alloc, event)
+    }
+
+    /// What an event gives in the service group.
+    #[tactic(auto, using(crate::proofs::Seats::group_here))]
+    pub(crate) fn service_row(
+        &self,
+        alloc: Global,
+        event: &GroupEvent<Batch>,
+    ) -> Result<GroupPlan<Batch>, AllocError>
+        requires settled { IsSettledHeld self.now }
+        requires due { IsDue (service_group self.now.definition) (position self.now.definition.members self.now.here) self.now.batches event.now }
+        ensures { IfOk result (λ p. p ≡ service_row self.now.here self.now.definition self.now.batches event.now) }
+    {
+        self.batches.plan(alloc, event)
     }
 
     /// The admin group goes on by an event. A message came from `back`.
@@ -148,9 +175,27 @@ impl Held {
         requires due { IsDue (admin_group self.now.definition) (position self.now.definition.members self.now.here) self.now.acts event.now }
         ensures { IfOk result (λ p. p ≡ planned self.now.here self.now.circuit (Acts (said say) self.now.definition self.now.acts back.now event.now)) }
     {
-        let plan = self.row(alloc, event)?;
+        let plan = self.admin_row(alloc, event)?;
         let first = ChangeList::new(alloc);
         self.site
             .admin_plan(alloc, say, first, self.definition(), back, plan)
+    }
+
+    /// The service group goes on by an event. A message came from `back`, which is a member.
+    pub(crate) fn serves(
+        &self,
+        alloc: Global,
+        say: Say,
+        back: &NodeId,
+        event: &GroupEvent<Batch>,
+    ) -> Result<Plan, AllocError>
+        requires settled { IsSettledHeld self.now }
+        requires answered { is_member self.now.definition back.now ≡ true }
+        requires due { IsDue (service_group self.now.definition) (position self.now.definition.members self.now.here) self.now.batches event.now }
+        ensures { IfOk result (λ p. p ≡ planned self.now.here self.now.circuit (Serves (said say) self.now.definition self.now.batches back.now event.now)) }
+    {
+        let plan = self.service_row(alloc, event)?;
+        self.site
+            .service_plan(alloc, say, self.definition(), back, plan)
     }
 }

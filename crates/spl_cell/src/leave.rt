@@ -11,9 +11,15 @@ use spl_circuit::Lifecycle;
 use spl_wire::{Answer, Change, ChangeList, Plan, Refusal, SendList};
 use std::alloc::{AllocError, Global};
 
-/// A change that is answered, and nothing is sent.
-fn leaves(alloc: Global, purged: bool, change: Change, admin: OpenMove) -> Result<Plan, AllocError>
-    ensures { IfOk result (λ p. p ≡ record { answer = answer.Left purged; changes = change ∷ []; admin = admin; sends = [] }) }
+/// A change that is answered, and nothing is sent. The open round of each group is moved.
+fn leaves(
+    alloc: Global,
+    purged: bool,
+    change: Change,
+    admin: OpenMove,
+    service: OpenMove,
+) -> Result<Plan, AllocError>
+    ensures { IfOk result (λ p. p ≡ record { answer = answer.Left purged; changes = change ∷ []; admin = admin; service = service; sends = [] }) }
 {
     let mut changes = ChangeList::new(alloc);
     changes.push(change)?;
@@ -21,6 +27,7 @@ fn leaves(alloc: Global, purged: bool, change: Change, admin: OpenMove) -> Resul
         answer: Answer::Left { purged },
         changes,
         admin,
+        service,
         sends: SendList::new(alloc),
     })
 }
@@ -36,7 +43,13 @@ impl Held {
         if !self.is_open() {
             return Ok(refuses(alloc, Refusal::Closed));
         }
-        leaves(alloc, false, Change::Abandon, OpenMove::Close)
+        leaves(
+            alloc,
+            false,
+            Change::Abandon,
+            OpenMove::Close,
+            OpenMove::Close,
+        )
     }
 
     /// What keeps an open cell from being purged.
@@ -59,6 +72,6 @@ impl Held {
         if self.is_open() && self.is_waiting() {
             return Ok(refuses(alloc, Refusal::NotPurgeable));
         }
-        leaves(alloc, true, Change::Purge, OpenMove::Keep)
+        leaves(alloc, true, Change::Purge, OpenMove::Keep, OpenMove::Keep)
     }
 }

@@ -1,9 +1,11 @@
 //! One circuit at one node.
 #![tactic(auto)]
 
+mod batches;
 mod bind;
 mod cell;
 mod change;
+mod durable;
 mod hear;
 mod held;
 mod leave;
@@ -12,9 +14,13 @@ mod node;
 mod plan;
 mod plans;
 mod propose;
+mod sends;
+mod serve;
 mod site;
 mod state;
+mod submit;
 mod tell;
+mod turn;
 mod vote;
 
 pub use cell::Cell;

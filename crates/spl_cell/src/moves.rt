@@ -1,9 +1,9 @@
-//! Moves of the open round, and stops.
+//! Moves of the open rounds, and stops.
 ghost use Rattle.std.specs.Prelude.{◌≡◌};
 ghost use Rattle.spl_agree.specs.Member.{moved, restarted};
 ghost use Rattle.spl_agree.specs.Fits.{FitsMove};
 ghost use Rattle.spl_circuit.specs.Nodes.{position};
-ghost use Rattle.spl_rules.specs.Cells.{admin_group};
+ghost use Rattle.spl_rules.specs.Cells.{admin_group, service_group};
 ghost use Rattle.spl_rules.specs.Changes.{moved_cell, stopped_cell};
 ghost use Rattle.spl_rules.specs.Valid.{FitsMoveAt};
 ghost use Rattle.spl_cell.specs.States.{cell_of, IsAt};
@@ -14,29 +14,39 @@ use crate::state::State;
 use spl_agree::OpenMove;
 
 impl Held {
-    /// Moves the open round by a move that fits.
+    /// Moves the open round of the admin group by a move that fits.
     #[tactic(auto, using(crate::proofs::Seats::move_facts))]
-    fn move_open(&mut self, x: OpenMove)
+    fn move_acts(&mut self, x: OpenMove)
         requires { FitsMove (admin_group self.old.definition) (position self.old.definition.members self.old.here) self.old.acts x }
         ensures { self.new ≡ record self.old { acts = moved (admin_group self.old.definition) (position self.old.definition.members self.old.here) self.old.acts x } }
     {
         self.acts.move_open(x);
     }
 
-    /// A stop forgets the open round.
+    /// Moves the open round of the service group by a move that fits.
+    #[tactic(auto, using(crate::proofs::Seats::move_facts))]
+    fn move_batches(&mut self, x: OpenMove)
+        requires { FitsMove (service_group self.old.definition) (position self.old.definition.members self.old.here) self.old.batches x }
+        ensures { self.new ≡ record self.old { batches = moved (service_group self.old.definition) (position self.old.definition.members self.old.here) self.old.batches x } }
+    {
+        self.batches.move_open(x);
+    }
+
+    /// A stop forgets the open rounds.
     fn restart(&mut self)
-        ensures { self.new ≡ record self.old { acts = restarted self.old.acts } }
+        ensures { self.new ≡ record self.old { acts = restarted self.old.acts; batches = restarted self.old.batches } }
     {
         self.acts.restart();
+        self.batches.restart();
     }
 }
 
 impl Site {
-    /// A cell whose open round is moved.
-    pub(crate) fn moved(&self, state: State, x: OpenMove) -> State
+    /// A cell whose open rounds are moved, that of the admin group by the first move.
+    pub(crate) fn moved(&self, state: State, x: OpenMove, y: OpenMove) -> State
         requires at { IsAt self.now.here self.now.circuit state }
-        requires fits { FitsMoveAt self.now.here (cell_of state) x }
-        ensures cell { cell_of result ≡ moved_cell self.now.here (cell_of state) x }
+        requires fits { FitsMoveAt self.now.here (cell_of state) x y }
+        ensures cell { cell_of result ≡ moved_cell self.now.here (cell_of state) x y }
         ensures at { IsAt self.now.here self.now.circuit result }
     {
         match state {
@@ -44,7 +54,8 @@ impl Site {
             State::Purged(old) => State::Purged(old),
             State::Held(held) => {
                 let mut held = held;
-                held.move_open(x);
+                held.move_acts(x);
+                held.move_batches(y);
                 State::Held(held)
             }
         }

@@ -1,26 +1,28 @@
 //! Plans of a cell.
-ghost use Rattle.std.specs.Prelude.{◌≡◌, ◌++◌, IfOk};
+ghost use Rattle.std.specs.Prelude.{◌≡◌, true, None, IfOk};
+ghost use Rattle.spl_circuit.specs.Rules.{broken, is_member};
 ghost use Rattle.spl_wire.specs.declared.answer.Answer.TheVariants as answer;
 ghost use Rattle.spl_rules.specs.Cells.{Replies};
-ghost use Rattle.spl_rules.specs.Plans.{tells_only, planned, admin_changes, admin_sends};
+ghost use Rattle.spl_rules.specs.Plans.{tells_only, planned, both_plans};
 ghost use Rattle.spl_cell.specs.Says.{said};
 
-use crate::node::node_or;
+use crate::durable::{with_acts, with_batches};
 use crate::site::Site;
-use spl_agree::{CommitMsg, GroupChanges, GroupPlan, GroupSends, Note, OpenMove};
+use spl_agree::{GroupPlan, Note, OpenMove};
 use spl_base::NodeId;
 use spl_circuit::{Act, Definition};
-use spl_wire::{Answer, Change, ChangeList, Message, Outgoing, Plan, Refusal, SendList};
+use spl_command::Batch;
+use spl_wire::{Answer, ChangeList, Message, Outgoing, Plan, Refusal, SendList};
 use std::alloc::{AllocError, Global};
 
-/// How a note of the admin group is answered.
+/// How a note of a group is answered.
 #[derive(Clone, Copy, Debug)]
 pub(crate) enum Say {
     /// As what was submitted.
     Submitted,
     /// As what a message did.
     Delivered,
-    /// As what the groups did.
+    /// As what the admin group did where no service group runs.
     Alone,
 }
 
@@ -48,6 +50,7 @@ pub(crate) fn tells_only(alloc: Global, answer: Answer) -> Plan
         answer,
         changes: ChangeList::new(alloc),
         admin: OpenMove::Keep,
+        service: OpenMove::Keep,
         sends: SendList::new(alloc),
     }
 }
@@ -59,18 +62,6 @@ pub(crate) fn refuses(alloc: Global, refusal: Refusal) -> Plan
     tells_only(alloc, Answer::Refused(refusal))
 }
 
-/// The changes, and behind them those of the admin group.
-#[tactic(auto, using(crate::proofs::Steps::changes_more))]
-fn with_changes(first: ChangeList, changes: GroupChanges<Act>) -> Result<ChangeList, AllocError>
-    ensures { IfOk result (λ cs. cs ≡ first ++ admin_changes changes) }
-{
-    let mut all = first;
-    for change in changes.into_vec() {
-        all.push(Change::Admin(change))?;
-    }
-    Ok(all)
-}
-
 impl Site {
     /// A message to one node, and nothing changes.
     pub(crate) fn replies(
@@ -78,41 +69,19 @@ impl Site {
         alloc: Global,
         note: Note,
         to: &NodeId,
-        body: CommitMsg<Act>,
+        message: Message,
     ) -> Result<Plan, AllocError>
-        ensures { IfOk result (λ p. p ≡ planned self.now.here self.now.circuit (Replies note to.now (Message.Admin self.now.circuit body))) }
+        ensures { IfOk result (λ p. p ≡ planned self.now.here self.now.circuit (Replies note to.now message)) }
     {
         let mut sends = SendList::new(alloc);
-        let circuit = self.circuit;
-        let message = Message::Admin { circuit, body };
         sends.push(Outgoing { to: *to, message })?;
         Ok(Plan {
             answer: Answer::Delivered(note),
             changes: ChangeList::new(alloc),
             admin: OpenMove::Keep,
+            service: OpenMove::Keep,
             sends,
         })
-    }
-
-    /// The messages of the admin group of a definition.
-    #[tactic(auto, using(crate::proofs::Steps::sends_more))]
-    fn admin_sends(
-        &self,
-        alloc: Global,
-        definition: &Definition,
-        back: &NodeId,
-        messages: GroupSends<Act>,
-    ) -> Result<SendList, AllocError>
-        ensures { IfOk result (λ ss. ss ≡ admin_sends self.now.circuit definition.now back.now messages) }
-    {
-        let mut sends = SendList::new(alloc);
-        for (position, body) in messages.into_vec() {
-            let to = node_or(definition.members.as_slice(), back, position);
-            let circuit = self.circuit;
-            let message = Message::Admin { circuit, body };
-            sends.push(Outgoing { to, message })?;
-        }
-        Ok(sends)
     }
 
     /// What the admin group of a definition gives, behind a first change. A message came from
@@ -134,11 +103,70 @@ impl Site {
             opening,
             sends,
         } = plan;
+        let none = SendList::new(alloc);
         Ok(Plan {
             answer: say.answer(note),
-            changes: with_changes(first, changes)?,
+            changes: with_acts(first, changes)?,
             admin: opening,
-            sends: self.admin_sends(alloc, definition, back, sends)?,
+            service: OpenMove::Keep,
+            sends: self.with_admin_sends(none, definition, back, sends)?,
+        })
+    }
+
+    /// What the service group of a definition gives. A message came from `back`.
+    pub(crate) fn service_plan(
+        &self,
+        alloc: Global,
+        say: Say,
+        definition: &Definition,
+        back: &NodeId,
+        plan: GroupPlan<Batch>,
+    ) -> Result<Plan, AllocError>
+        requires valid { broken definition.now ≡ None }
+        requires member { is_member definition.now self.now.here ≡ true }
+        requires answered { is_member definition.now back.now ≡ true }
+        ensures { IfOk result (λ p. p ≡ Rattle.spl_rules.specs.Plans.service_plan self.now.here self.now.circuit (said say) definition.now back.now plan) }
+    {
+        let GroupPlan {
+            note,
+            changes,
+            opening,
+            sends,
+        } = plan;
+        let none = SendList::new(alloc);
+        Ok(Plan {
+            answer: say.answer(note),
+            changes: with_batches(ChangeList::new(alloc), changes)?,
+            admin: OpenMove::Keep,
+            service: opening,
+            sends: self.with_service_sends(none, definition, back, sends)?,
+        })
+    }
+
+    /// What both groups of a definition give, the admin group first.
+    pub(crate) fn both_plans(
+        &self,
+        alloc: Global,
+        definition: &Definition,
+        acts: GroupPlan<Act>,
+        batches: GroupPlan<Batch>,
+    ) -> Result<Plan, AllocError>
+        requires valid { broken definition.now ≡ None }
+        requires member { is_member definition.now self.now.here ≡ true }
+        ensures { IfOk result (λ p. p ≡ both_plans self.now.here self.now.circuit definition.now acts batches) }
+    {
+        let changes = with_acts(ChangeList::new(alloc), acts.changes)?;
+        let none = SendList::new(alloc);
+        let sends = self.with_admin_sends(none, definition, &self.here, acts.sends)?;
+        Ok(Plan {
+            answer: Answer::Notes {
+                admin: acts.note,
+                service: batches.note,
+            },
+            changes: with_batches(changes, batches.changes)?,
+            admin: acts.opening,
+            service: batches.opening,
+            sends: self.with_service_sends(sends, definition, &self.here, batches.sends)?,
         })
     }
 }

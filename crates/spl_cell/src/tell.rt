@@ -5,9 +5,22 @@ ghost use Rattle.spl_rules.specs.Plans.{planned};
 
 use crate::held::Held;
 use crate::plans::tells_only;
+use spl_agree::Agreed;
 use spl_base::{Boxed, Value};
+use spl_commit::Member;
 use spl_wire::{Answer, Plan};
 use std::alloc::{AllocError, Global};
+
+/// How many values are pending at a member.
+#[tactic(auto, using(crate::proofs::Pendings::length_seconds))]
+fn pending_len<M: Agreed>(member: &Member<M>) -> u32
+    ensures value { result ≡ length member.now.state.pending }
+    ensures few { length member.now.state.pending ≤ 64 }
+{
+    let queue = member.queue();
+    queue.keys_differ();
+    queue.len()
+}
 
 impl Held {
     /// How many acts are committed here.
@@ -18,14 +31,26 @@ impl Held {
     }
 
     /// How many acts are pending here.
-    #[tactic(auto, using(crate::proofs::Pendings::length_seconds))]
     pub(crate) fn acts_pending(&self) -> u32
         ensures value { result ≡ length self.now.acts.pending }
         ensures few { length self.now.acts.pending ≤ 64 }
     {
-        let queue = self.acts.queue();
-        queue.keys_differ();
-        queue.len()
+        pending_len(&self.acts)
+    }
+
+    /// How many batches are committed here.
+    pub(crate) fn batches_committed(&self) -> u32
+        ensures { result ≡ length self.now.batches.history }
+    {
+        self.batches.history_len().0
+    }
+
+    /// How many batches are pending here.
+    pub(crate) fn batches_pending(&self) -> u32
+        ensures value { result ≡ length self.now.batches.pending }
+        ensures few { length self.now.batches.pending ≤ 64 }
+    {
+        pending_len(&self.batches)
     }
 
     /// Whether a value is promised.
@@ -37,7 +62,7 @@ impl Held {
 
     /// What the cell keeps, in numbers.
     pub(crate) fn shows(&self, alloc: Global) -> Result<Plan, AllocError>
-        ensures { IfOk result (λ p. p ≡ planned self.now.here self.now.circuit (Tells (shows self.now.definition self.now.mark self.now.acts))) }
+        ensures { IfOk result (λ p. p ≡ planned self.now.here self.now.circuit (Tells (shows self.now.definition self.now.mark self.now.acts self.now.batches))) }
     {
         let answer = Answer::Show {
             generation: self.definition().generation,
@@ -46,8 +71,8 @@ impl Held {
             accepted: self.accepted_in_order(alloc)?,
             acts: self.acts_committed(),
             acts_pending: self.acts_pending(),
-            batches: 0,
-            batches_pending: 0,
+            batches: self.batches_committed(),
+            batches_pending: self.batches_pending(),
         };
         Ok(tells_only(alloc, answer))
     }

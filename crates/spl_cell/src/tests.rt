@@ -1,23 +1,27 @@
 //! What events give at the cells of a circuit of alpha, beta and gamma, which alpha coordinates.
 ghost use Rattle.std.specs.Prelude.{◌≡◌, true};
-ghost use Rattle.spl_rules.specs.Cells.{is_handled};
-ghost use Rattle.spl_rules.specs.Valid.{IsFor};
+ghost use Rattle.spl_rules.specs.Changes.{may_serve};
+ghost use Rattle.spl_rules.specs.Valid.{IsFor, carries};
 
 use crate::Cell;
 use spl_agree::{CommitMsg, GroupChange, Reason};
-use spl_base::{Boxed, CircuitId, NodeId};
+use spl_base::{BatchId, Boxed, CircuitId, NodeId};
 use spl_circuit::{Act, Definition};
+use spl_command::Batch;
 use spl_rules::plans_fit_cells;
 use spl_wire::{Change, ChangeList, Event, Message, Plan};
 use std::alloc::Global;
 use std::test::Fail;
 use texts::plan_text;
-use values::{Deed, Kind, Said, act, circuit, definition, message, node};
+use values::{Deed, Kind, Said, act, circuit, definition, message, node, service};
+use works::{Kept, Letter, Work, address, batch, body, change, prefix};
 
+mod batches;
 mod texts;
 mod values;
+mod works;
 
-/// What happens at a cell; the last four are for what no event of these tests brings about.
+/// What happens at a cell; the last six are for what no event of these tests brings about.
 #[derive(Clone, Copy)]
 enum Do {
     Propose(u32),
@@ -31,20 +35,50 @@ enum Do {
     Tick,
     Expire,
     Hear(&'static str, u32, Said),
+    Submit(Work),
+    Root,
+    History,
+    Get(u8),
+    List(&'static [u8]),
+    Status(u64),
+    Receipt(u64),
+    /// From a node, by its service, to a service here.
+    Route(&'static str, &'static str, &'static str),
+    /// A message of a generation from a node, by its service, to a service here.
+    Post(&'static str, &'static str, &'static str, u32, Letter),
     /// A change that was read.
     Queue(Deed),
     Settle(Deed),
     /// So many accepts of a node from its first turn on are queued.
     Fill(&'static str, u32),
     Leave,
+    /// A change of the service group that was read.
+    Keep(Kept),
+    /// So many batches, by their ids from 0 on, are queued.
+    Crowd(u64),
 }
 
 use Do::{
-    Abandon, Detail, Expire, Fill, Hear, Leave, Propose, ProposeBad, Purge, Queue, Remove, Settle,
-    Show, Tick, Vote,
+    Abandon, Crowd, Detail, Expire, Fill, Get, Hear, History, Keep, Leave, List, Post, Propose,
+    ProposeBad, Purge, Queue, Receipt, Remove, Root, Route, Settle, Show, Status, Submit, Tick,
+    Vote,
 };
 use Kind::{Accept, Reject};
 use Said::{Ask, Decide, Forward, Query, Refuse};
+
+/// Whether no batch in a message breaks a rule.
+fn is_legal(body: &CommitMsg<Batch>) -> bool
+    ensures { result ≡ carries may_serve body.now }
+{
+    match body {
+        CommitMsg::VoteRequest { value, .. } => value.fault().is_none(),
+        CommitMsg::Vote { .. } => true,
+        CommitMsg::Decision { .. } => true,
+        CommitMsg::DecisionRequest { .. } => true,
+        CommitMsg::Forward { value, .. } => value.fault().is_none(),
+        CommitMsg::Refused { value, .. } => value.fault().is_none(),
+    }
+}
 
 /// A cell with the node and the circuit that it is of.
 #[derive(Drop)]
@@ -69,7 +103,6 @@ impl Seat {
 
     /// An event happens: its plan is made.
     fn on(&mut self, alloc: Global, event: &Event) -> Result<Plan, Fail>
-        requires handled { is_handled event.now ≡ true }
         requires own { IsFor self.old.cell.here self.old.cell.circuit event.now }
     {
         plans_fit_cells();
@@ -95,6 +128,41 @@ impl Seat {
         self.on(alloc, &Event::Deliver { from, message })
     }
 
+    fn route(&mut self, alloc: Global, ends: (&str, &str, &str)) -> Result<Plan, Fail> {
+        let from = node(ends.0)?;
+        let from_service = service(ends.1)?;
+        let to_service = service(ends.2)?;
+        let event = Event::Route {
+            from,
+            from_service,
+            to_service,
+        };
+        self.on(alloc, &event)
+    }
+
+    fn post(
+        &mut self,
+        alloc: Global,
+        ends: (&str, &str, &str),
+        body: CommitMsg<Batch>,
+    ) -> Result<Plan, Fail> {
+        let from = node(ends.0)?;
+        if from == self.here {
+            return Err(Fail::new("from itself"));
+        }
+        if !is_legal(&body) {
+            return Err(Fail::new("a batch that breaks a rule"));
+        }
+        let message = Message::Scabbard {
+            circuit: self.circuit,
+            from: service(ends.1)?,
+            to: service(ends.2)?,
+            body,
+        };
+        let message = Boxed::new(alloc, message)?;
+        self.on(alloc, &Event::Deliver { from, message })
+    }
+
     /// A change is read. The cell has stopped before.
     fn read(&mut self, alloc: Global, change: Change) -> Result<Plan, Fail> {
         let mut changes = ChangeList::new(alloc);
@@ -112,8 +180,36 @@ impl Seat {
         self.on(alloc, &Event::Show)
     }
 
+    fn crowd(&mut self, alloc: Global, count: u64) -> Result<Plan, Fail> {
+        for id in 0..count {
+            let batch = batch(alloc, (id, &[(1, Some(1))]))?;
+            self.read(alloc, Change::Service(GroupChange::Queue(batch)))?;
+        }
+        self.on(alloc, &Event::Show)
+    }
+
     fn happens(&mut self, alloc: Global, what: Do) -> Result<Plan, Fail> {
         match what {
+            Submit(work) => {
+                let batch = Boxed::new(alloc, batch(alloc, work)?)?;
+                self.on(alloc, &Event::Submit(batch))
+            }
+            Root => self.on(alloc, &Event::Root),
+            History => self.on(alloc, &Event::History),
+            Get(last) => self.on(alloc, &Event::Get(address(last))),
+            List(bytes) => self.on(alloc, &Event::List(prefix(bytes)?)),
+            Status(id) => self.on(alloc, &Event::Status(BatchId(id))),
+            Receipt(id) => self.on(alloc, &Event::Receipt(BatchId(id))),
+            Route(from, by, to) => self.route(alloc, (from, by, to)),
+            Post(from, by, to, generation, letter) => {
+                let body = body(alloc, generation, letter)?;
+                self.post(alloc, (from, by, to), body)
+            }
+            Keep(kept) => {
+                let change = change(alloc, kept)?;
+                self.read(alloc, Change::Service(change))
+            }
+            Crowd(count) => self.crowd(alloc, count),
             Propose(generation) => self.propose(alloc, definition(alloc, generation, 1)?),
             ProposeBad(generation) => self.propose(alloc, definition(alloc, generation, 2)?),
             Vote(accept) => self.on(alloc, &Event::Vote { accept }),
@@ -145,7 +241,21 @@ impl Seat {
 
 /// The text of what the last of these gives.
 fn given(alloc: Global, here: &str, before: &[Do], last: Do) -> Result<String, Fail> {
+    given_behind(alloc, here, &[], before, last)
+}
+
+/// The text of what the last of these gives, behind others.
+fn given_behind(
+    alloc: Global,
+    here: &str,
+    first: &[Do],
+    before: &[Do],
+    last: Do,
+) -> Result<String, Fail> {
     let mut seat = Seat::new(here)?;
+    for what in first {
+        seat.happens(alloc, *what)?;
+    }
     for what in before {
         seat.happens(alloc, *what)?;
     }
@@ -260,7 +370,7 @@ const PROPOSALS: [Row; 12] = [
         "beta",
         GAMMA,
         Show,
-        "show 1 Proposed Open 2 accepted 2 acts 0 pending",
+        "show 1 Proposed Open 2 accepted 2 acts 0 pending 0 batches 0 pending",
     ),
 ];
 
@@ -544,19 +654,19 @@ const UNFIT: [Row; 5] = [
         "beta",
         PROPOSED,
         Leave,
-        "show 1 Proposed Open 1 accepted 1 acts 0 pending",
+        "show 1 Proposed Open 1 accepted 1 acts 0 pending 0 batches 0 pending",
     ),
     (
         "beta",
         &[Propose(1)],
         Queue(("beta", 2, Accept)),
-        "show 1 None Open 0 accepted 0 acts 1 pending",
+        "show 1 None Open 0 accepted 0 acts 1 pending 0 batches 0 pending",
     ),
     (
         "beta",
         &[Propose(1)],
         Settle(("beta", 2, Accept)),
-        "show 1 None Open 0 accepted 0 acts 1 pending",
+        "show 1 None Open 0 accepted 0 acts 1 pending 0 batches 0 pending",
     ),
     (
         "beta",
@@ -567,7 +677,7 @@ const UNFIT: [Row; 5] = [
             Settle(LAST),
         ],
         Queue(("beta", 1, Accept)),
-        "show 1 Proposed Open 1 accepted 1 acts 0 pending",
+        "show 1 Proposed Open 1 accepted 1 acts 0 pending 0 batches 0 pending",
     ),
 ];
 
@@ -592,7 +702,7 @@ const READ: [(&str, &[Do], Do, Do, &str); 4] = [
         PROPOSED,
         Vote(true),
         Show,
-        "show 1 Proposed Open 1 accepted 1 acts 1 pending",
+        "show 1 Proposed Open 1 accepted 1 acts 1 pending 0 batches 0 pending",
     ),
     ("beta", ACTIVE, Abandon, Tick, "Closed"),
 ];

@@ -36,6 +36,10 @@ pub(crate) fn circuit() -> Result<CircuitId, Fail> {
     Ok(CircuitId::read(b"Ab3dE-00001").ok_or("a circuit")?)
 }
 
+pub(crate) fn service(text: &str) -> Result<ServiceId, Fail> {
+    Ok(ServiceId::read(text.as_bytes()).ok_or("a service")?)
+}
+
 fn nodes(alloc: Global) -> Result<Members, Fail> {
     let mut all = Members::new(alloc);
     for text in ["alpha", "beta", "gamma"] {
@@ -48,7 +52,7 @@ pub(crate) fn definition(alloc: Global, generation: u32, version: u8) -> Result<
     let mut services = Listing::new(alloc);
     for (id, at) in [("aaaa", "alpha"), ("bbbb", "beta"), ("cccc", "gamma")] {
         services.push(Service {
-            id: ServiceId::read(id.as_bytes()).ok_or("a service id")?,
+            id: service(id)?,
             kind: Label::read(b"scabbard").ok_or("a label")?,
             node: node(at)?,
         })?;

@@ -7,8 +7,8 @@ use Rattle.spl_rules.specs.Plans.{admin_row}
 use Rattle.spl_cell.specs.Views.{HeldView, fresh}
 use Rattle.spl_cell.proofs.site.Site.first_row.Goals as goal
 
-pub row-requires-clause-due : goal.row-requires-clause-due
-row-requires-clause-due c = subst (λ (h : HeldView). IsDue (admin_group h.definition) (position h.definition.members h.here) h.acts c.args.event.now) (sym (c.new-held.ensures ∙ ap (fresh c.args.self.now.here c.args.self.now.circuit) c.in_ok-copy.ensures)) c.requires.due
+pub admin_row-requires-clause-due : goal.admin_row-requires-clause-due
+admin_row-requires-clause-due c = subst (λ (h : HeldView). IsDue (admin_group h.definition) (position h.definition.members h.here) h.acts c.args.event.now) (sym (c.new-held.ensures ∙ ap (fresh c.args.self.now.here c.args.self.now.circuit) c.in_ok-copy.ensures)) c.requires.due
 
 pub returns : goal.returns
-returns c = subst (λ (h : HeldView). IfOk c.row.result (λ p. p ≡ admin_row h.here h.definition h.acts c.args.event.now)) (c.new-held.ensures ∙ ap (fresh c.args.self.now.here c.args.self.now.circuit) c.in_ok-copy.ensures) c.row.ensures
+returns c = subst (λ (h : HeldView). IfOk c.admin_row.result (λ p. p ≡ admin_row h.here h.definition h.acts c.args.event.now)) (c.new-held.ensures ∙ ap (fresh c.args.self.now.here c.args.self.now.circuit) c.in_ok-copy.ensures) c.admin_row.ensures

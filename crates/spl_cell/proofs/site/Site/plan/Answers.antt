@@ -14,3 +14,6 @@ turns-requires-clause-settled c = subst IsSettledHeld (sym c.deref-in-Tick.ensur
 
 pub turns-requires-in-Expire-clause-settled : goal.turns-requires-in-Expire-clause-settled
 turns-requires-in-Expire-clause-settled c = subst IsSettledHeld (sym c.deref-in-Expire.ensures) (subst IsSettledState c.in-Held.is (settled_state c.args.self.now.here c.args.self.now.circuit c.args.state.now c.requires.at c.requires.valid))
+
+pub submits-requires : goal.submits-requires
+submits-requires c = record { settled = subst IsSettledHeld (sym c.deref-in-Submit.ensures) (subst IsSettledState c.in-Held.is (settled_state c.args.self.now.here c.args.self.now.circuit c.args.state.now c.requires.at c.requires.valid)) }

@@ -1,9 +1,0 @@
-use Rattle.spl_cell.proofs.Changes.{held_changed, definition_stays}
-use Rattle.spl_cell.proofs.held.Held.makes.Goals as goal
-
-pub returns-clause-ok : goal.returns-clause-ok
-returns-clause-ok c =
-    let old = c.self.inside in
-    let new = c.apply.new.self in
-    held_changed old.site.here old.site.circuit old.acts.content.definition new.content.definition old.mark old.turn c.turn_after-turn.result old.acts.state new.state c.args.change.now c.in_ok-change.change c.args.self.now
-    c.self.view_is (definition_stays old.acts new c.in_ok-apply.ensures.ruled) c.turn_after-turn.ensures c.in_ok-apply.ensures.ok c.in_ok-change.ensures

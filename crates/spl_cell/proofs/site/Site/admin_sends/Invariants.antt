@@ -1,7 +1,0 @@
-use Rattle.std.proofs.Common.{◌≡◌}
-use Rattle.spl_rules.specs.Plans.{admin_sends}
-use Rattle.spl_cell.proofs.site.Site.admin_sends.Given as goal
-
--- those so far
-abbrev pub invariant-loop-position : goal.invariant-loop-position
-invariant-loop-position l = l.sends ≡ admin_sends l.self.circuit l.definition l.back l.yielded

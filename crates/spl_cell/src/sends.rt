@@ -1,0 +1,89 @@
+//! Messages of the groups of a circuit.
+ghost use Rattle.std.specs.Prelude.{◌≡◌, ◌++◌, true, None, IfOk};
+ghost use Rattle.spl_circuit.specs.Rules.{broken, is_member};
+ghost use Rattle.spl_rules.specs.Plans.{admin_sends, service_on, service_message, service_sends};
+
+use crate::node::node_or;
+use crate::site::Site;
+use spl_agree::{CommitMsg, GroupSends};
+use spl_base::{NodeId, ServiceId};
+use spl_circuit::{Act, Definition};
+use spl_command::Batch;
+use spl_wire::{Message, Outgoing, SendList};
+use std::alloc::AllocError;
+
+/// The service on a member.
+#[tactic(auto, using(crate::proofs::Rosters::member_served))]
+fn service_on(definition: &Definition, node: &NodeId) -> ServiceId
+    requires valid { broken definition.now ≡ None }
+    requires member { is_member definition.now node.now ≡ true }
+    ensures { result ≡ service_on definition.now node.now }
+{
+    definition.service_of(node).unwrap()
+}
+
+impl Site {
+    /// The messages, and behind them those of the admin group of a definition.
+    #[tactic(auto, using(crate::proofs::Steps::admin_more))]
+    pub(crate) fn with_admin_sends(
+        &self,
+        first: SendList,
+        definition: &Definition,
+        back: &NodeId,
+        messages: GroupSends<Act>,
+    ) -> Result<SendList, AllocError>
+        ensures { IfOk result (λ ss. ss ≡ first ++ admin_sends self.now.circuit definition.now back.now messages) }
+    {
+        let mut sends = first;
+        for (position, body) in messages.into_vec() {
+            let to = node_or(definition.members.as_slice(), back, position);
+            let circuit = self.circuit;
+            let message = Message::Admin { circuit, body };
+            sends.push(Outgoing { to, message })?;
+        }
+        Ok(sends)
+    }
+
+    /// A message from the service here to that on a member.
+    fn service_message(
+        &self,
+        definition: &Definition,
+        to: NodeId,
+        body: CommitMsg<Batch>,
+    ) -> Outgoing
+        requires valid { broken definition.now ≡ None }
+        requires member { is_member definition.now self.now.here ≡ true }
+        requires sent { is_member definition.now to ≡ true }
+        ensures { result ≡ service_message self.now.here self.now.circuit definition.now to body }
+    {
+        let message = Message::Scabbard {
+            circuit: self.circuit,
+            from: service_on(definition, &self.here),
+            to: service_on(definition, &to),
+            body,
+        };
+        Outgoing { to, message }
+    }
+
+    /// The messages, and behind them those of the service group of a definition.
+    #[tactic(auto, using(crate::proofs::Steps::service_more, crate::proofs::Rosters::node_or_member))]
+    pub(crate) fn with_service_sends(
+        &self,
+        first: SendList,
+        definition: &Definition,
+        back: &NodeId,
+        messages: GroupSends<Batch>,
+    ) -> Result<SendList, AllocError>
+        requires valid { broken definition.now ≡ None }
+        requires member { is_member definition.now self.now.here ≡ true }
+        requires answered { is_member definition.now back.now ≡ true }
+        ensures { IfOk result (λ ss. ss ≡ first ++ service_sends self.now.here self.now.circuit definition.now back.now messages) }
+    {
+        let mut sends = first;
+        for (position, body) in messages.into_vec() {
+            let to = node_or(definition.members.as_slice(), back, position);
+            sends.push(self.service_message(definition, to, body))?;
+        }
+        Ok(sends)
+    }
+}

@@ -1,0 +1,169 @@
+//! A message comes from a service on another node.
+ghost use Rattle.std.specs.Prelude.{◌≡◌, true, false, IsOk, IfOk};
+ghost use Rattle.std.specs.Str.{bytes_eq};
+ghost use Rattle.spl_agree.specs.Fits.{generation_of};
+ghost use Rattle.spl_circuit.specs.Nodes.{position};
+ghost use Rattle.spl_circuit.specs.Rules.{is_member};
+ghost use Rattle.spl_wire.specs.declared.answer.Answer.TheVariants as answer;
+ghost use Rattle.spl_rules.specs.Cells.{Replies, Serves, Tells};
+ghost use Rattle.spl_rules.specs.Batches.{way, routed, serves_other, hears_routed, hears_service};
+ghost use Rattle.spl_rules.specs.Plans.{planned};
+ghost use Rattle.spl_cell.specs.Views.{IsSettledHeld};
+
+use crate::hear::generation_of;
+use crate::held::Held;
+use crate::node::position;
+use crate::plans::{Say, refuses, tells_only};
+use crate::site::Site;
+use spl_agree::{CommitMsg, Generation, GroupEvent, Note, Round};
+use spl_base::{NodeId, ServiceId};
+use spl_command::Batch;
+use spl_router::{RouteFault, route};
+use spl_wire::{Answer, Message, Plan, Refusal};
+use std::alloc::{AllocError, Global};
+
+impl Site {
+    /// The vote is no, from one service to another.
+    fn declines_batch(
+        &self,
+        alloc: Global,
+        from_node: &NodeId,
+        from: ServiceId,
+        to: ServiceId,
+        generation: Generation,
+        round: Round,
+    ) -> Result<Plan, AllocError>
+        ensures { IfOk result (λ p. p ≡ planned self.now.here self.now.circuit (Replies (Note.Declined round) from_node.now (Message.Scabbard self.now.circuit from to (CommitMsg.Vote generation round false)))) }
+    {
+        let yes = false;
+        let body = CommitMsg::Vote {
+            generation,
+            round,
+            yes,
+        };
+        let circuit = self.circuit;
+        let vote = Message::Scabbard {
+            circuit,
+            from,
+            to,
+            body,
+        };
+        self.replies(alloc, Note::Declined(round), from_node, vote)
+    }
+
+    /// A message of another generation: a request is declined.
+    fn serves_other(
+        &self,
+        alloc: Global,
+        from_node: &NodeId,
+        from: &ServiceId,
+        to: &ServiceId,
+        body: &CommitMsg<Batch>,
+    ) -> Result<Plan, AllocError>
+        ensures { IfOk result (λ p. p ≡ planned self.now.here self.now.circuit (serves_other self.now.circuit from_node.now from.now to.now body.now)) }
+    {
+        match body {
+            CommitMsg::VoteRequest {
+                generation,
+                round,
+                ..
+            } => self.declines_batch(alloc, from_node, *to, *from, *generation, *round),
+            CommitMsg::Vote { .. } => Ok(self.ignores(alloc)),
+            CommitMsg::Decision { .. } => Ok(self.ignores(alloc)),
+            CommitMsg::DecisionRequest { .. } => Ok(self.ignores(alloc)),
+            CommitMsg::Forward { .. } => Ok(self.ignores(alloc)),
+            CommitMsg::Refused { .. } => Ok(self.ignores(alloc)),
+        }
+    }
+}
+
+impl Held {
+    /// Whether a message from a service on another node to a service here goes on, or why not. One
+    /// that does comes from a member.
+    #[tactic(auto, using(crate::proofs::Rosters::sender_is_member))]
+    fn way(&self, from_node: &NodeId, from: &ServiceId, to: &ServiceId) -> Result<(), RouteFault>
+        ensures value { result ≡ way self.now.here self.now.definition self.now.mark self.now.acts from_node.now from.now to.now }
+        ensures member { IsOk result → is_member self.now.definition from_node.now ≡ true }
+    {
+        let active = self.is_open() && self.runs();
+        let definition = Some(self.definition());
+        route(definition, active, from_node, from, to, &self.site.here)
+    }
+
+    /// Whether a message between these services would be delivered.
+    pub(crate) fn routes(
+        &self,
+        alloc: Global,
+        from_node: &NodeId,
+        from: &ServiceId,
+        to: &ServiceId,
+    ) -> Plan
+        ensures { result ≡ planned self.now.here self.now.circuit (routed (way self.now.here self.now.definition self.now.mark self.now.acts from_node.now from.now to.now) (Tells answer.Routed)) }
+    {
+        match self.way(from_node, from, to) {
+            Ok(()) => tells_only(alloc, Answer::Routed),
+            Err(fault) => refuses(alloc, Refusal::NotRouted(fault)),
+        }
+    }
+
+    /// A message of the cell's generation that is routed.
+    #[tactic(auto, using(crate::proofs::Positions::sender_facts))]
+    fn hears_batch(
+        &self,
+        alloc: Global,
+        from_node: &NodeId,
+        body: CommitMsg<Batch>,
+    ) -> Result<Plan, AllocError>
+        requires settled { IsSettledHeld self.now }
+        requires other { bytes_eq from_node.now self.now.here ≡ false }
+        requires member { is_member self.now.definition from_node.now ≡ true }
+        requires same { generation_of body ≡ self.now.definition.generation }
+        ensures { IfOk result (λ p. p ≡ planned self.now.here self.now.circuit (Serves answer.Delivered self.now.definition self.now.batches from_node.now (GroupEvent.From (position self.now.definition.members from_node.now) body))) }
+    {
+        let sender = position(self.definition().members.as_slice(), from_node);
+        let event = GroupEvent::From {
+            sender,
+            message: body,
+        };
+        self.serves(alloc, Say::Delivered, from_node, &event)
+    }
+
+    /// A message that is routed.
+    fn hears_routed(
+        &self,
+        alloc: Global,
+        from_node: &NodeId,
+        from: &ServiceId,
+        to: &ServiceId,
+        body: CommitMsg<Batch>,
+    ) -> Result<Plan, AllocError>
+        requires settled { IsSettledHeld self.now }
+        requires other { bytes_eq from_node.now self.now.here ≡ false }
+        requires member { is_member self.now.definition from_node.now ≡ true }
+        ensures { IfOk result (λ p. p ≡ planned self.now.here self.now.circuit (hears_routed self.now.circuit self.now.definition self.now.batches from_node.now from.now to.now body)) }
+    {
+        if generation_of(&body) != self.definition().generation {
+            return self.site.serves_other(alloc, from_node, from, to, &body);
+        }
+        self.hears_batch(alloc, from_node, body)
+    }
+
+    /// A message comes from a service on another node to a service here.
+    pub(crate) fn hears_service(
+        &self,
+        alloc: Global,
+        from_node: &NodeId,
+        from: &ServiceId,
+        to: &ServiceId,
+        body: CommitMsg<Batch>,
+    ) -> Result<Plan, AllocError>
+        requires settled { IsSettledHeld self.now }
+        requires other { bytes_eq from_node.now self.now.here ≡ false }
+        ensures { IfOk result (λ p. p ≡ planned self.now.here self.now.circuit (hears_service self.now.here self.now.circuit self.now.definition self.now.mark self.now.acts self.now.batches from_node.now from.now to.now body)) }
+    {
+        match self.way(from_node, from, to) {
+            Ok(()) => self.hears_routed(alloc, from_node, from, to, body),
+            Err(fault) => Ok(refuses(alloc, Refusal::NotRouted(fault))),
+        }
+    }
+}

@@ -1,0 +1,62 @@
+//! A node submits a batch.
+ghost use Rattle.std.specs.Prelude.{◌≡◌, None, IfOk};
+ghost use Rattle.spl_agree.specs.Member.{known};
+ghost use Rattle.spl_scabbard.specs.Checks.{batch_rules};
+ghost use Rattle.spl_rules.specs.Batches.{submits, submits_ruled, submits_known, submits_new};
+ghost use Rattle.spl_rules.specs.Plans.{planned};
+ghost use Rattle.spl_cell.specs.Views.{IsSettledHeld};
+
+use crate::held::Held;
+use crate::plans::{Say, refuses, tells_only};
+use spl_agree::{Agreed, GroupEvent};
+use spl_base::Value;
+use spl_command::Batch;
+use spl_scabbard::Service;
+use spl_wire::{Answer, Plan, Refusal};
+use std::alloc::{AllocError, Global};
+
+impl Held {
+    /// A batch whose id isn't known here.
+    fn submits_new(&self, alloc: Global, batch: &Batch) -> Result<Plan, AllocError>
+        requires settled { IsSettledHeld self.now }
+        requires fresh { known batch_rules self.now.batches batch.now ≡ None }
+        ensures { IfOk result (λ p. p ≡ planned self.now.here self.now.circuit (submits_new self.now.here self.now.definition self.now.batches batch.now)) }
+    {
+        if self.batches_pending() == 64 {
+            return Ok(refuses(alloc, Refusal::QueueFull));
+        }
+        let event = GroupEvent::Submit(batch.copy(alloc)?);
+        self.serves(alloc, Say::Submitted, &self.site.here, &event)
+    }
+
+    /// A batch that breaks no rule.
+    fn submits_known(&self, alloc: Global, batch: &Batch) -> Result<Plan, AllocError>
+        requires settled { IsSettledHeld self.now }
+        ensures { IfOk result (λ p. p ≡ planned self.now.here self.now.circuit (submits_known self.now.here self.now.definition self.now.batches batch.now (known batch_rules self.now.batches batch.now))) }
+    {
+        let Some(there) = self.batches.known(&batch.id) else {
+            return self.submits_new(alloc, batch);
+        };
+        if <Service as Agreed>::same(there, batch) {
+            return Ok(tells_only(alloc, Answer::Submitted { known: true }));
+        }
+        Ok(refuses(alloc, Refusal::IdTaken))
+    }
+
+    /// The node submits a batch: it is queued, or the first reason against it is told.
+    pub(crate) fn submits(&self, alloc: Global, batch: &Batch) -> Result<Plan, AllocError>
+        requires settled { IsSettledHeld self.now }
+        ensures { IfOk result (λ p. p ≡ planned self.now.here self.now.circuit (submits self.now.here self.now.definition self.now.mark self.now.acts self.now.batches batch.now)) }
+    {
+        if !self.runs() {
+            return Ok(refuses(alloc, Refusal::NotActive));
+        }
+        if !self.is_open() {
+            return Ok(refuses(alloc, Refusal::Closed));
+        }
+        if let Some(rule) = batch.fault() {
+            return Ok(refuses(alloc, Refusal::BadBatch(rule)));
+        }
+        self.submits_known(alloc, batch)
+    }
+}
