@@ -14,17 +14,18 @@ use Rattle.spl_rules.specs.Changes.{after_plan}
 use Rattle.spl_model.specs.Worlds.{World as CircuitWorld, Sent, messages, delivery, on_pair, put_at, carried_out, step_plan}
 use Rattle.spl_model.specs.Apart.{put_at-here, put_at-other}
 use Rattle.spl_world.specs.Kept.{NodeView}
-use Rattle.spl_world.specs.Views.{Holds, Moves}
+use Rattle.spl_world.specs.Views.{Holds, Moves, all_up}
+use Rattle.spl_world.proofs.Up.{step_up}
 use Rattle.spl_world.proofs.Sends.{bool_cases, bytes_are}
 
 number : (index : ℕ) → (index + 1) - 1 ≡ index
 number index = omega arith
 
-pub delivery_is : (m : CircuitWorld) (c a b : Node) (index : ℕ) (x : Message) → slice_get (messages m a b) index ≡ Some x → plan_of b c (m.at b) (event.Deliver a x) ≡ step_plan m (step.Deliver a b c (index + 1))
-delivery_is m c a b index x found = sym (ap (λ (k : ℕ). delivery c m a b (slice_get (messages m a b) k)) (number index) ∙ ap (delivery c m a b) found)
+pub delivery_is : (m : CircuitWorld) (c a b : Node) (index : ℕ) (x : Message) → slice_get (messages m a b) index ≡ Some x → m.up ≡ all_up → plan_of b c (m.at b) (event.Deliver a x) ≡ step_plan m (step.Deliver a b c (index + 1))
+delivery_is m c a b index x found up = sym (step_up m (step.Deliver a b c (index + 1)) up ∙ (ap (λ (k : ℕ). delivery c m a b (slice_get (messages m a b) k)) (number index) ∙ ap (delivery c m a b) found))
 
-pub no_delivery : (m : CircuitWorld) (c a b : Node) (index : ℕ) → slice_get (messages m a b) index ≡ None → step_plan m (step.Deliver a b c (index + 1)) ≡ tells_only (answer.Refused refusal.NoMessage)
-no_delivery m c a b index found = ap (λ (k : ℕ). delivery c m a b (slice_get (messages m a b) k)) (number index) ∙ ap (delivery c m a b) found
+pub no_delivery : (m : CircuitWorld) (c a b : Node) (index : ℕ) → slice_get (messages m a b) index ≡ None → m.up ≡ all_up → step_plan m (step.Deliver a b c (index + 1)) ≡ tells_only (answer.Refused refusal.NoMessage)
+no_delivery m c a b index found up = step_up m (step.Deliver a b c (index + 1)) up ∙ ap (λ (k : ℕ). delivery c m a b (slice_get (messages m a b) k)) (number index) ∙ ap (delivery c m a b) found
 
 -- the same by other words
 pub moves_as : (c : Node) (f g : CircuitWorld → CircuitWorld) (xs ys : List NodeView) → ((m : CircuitWorld) → Holds c m xs → f m ≡ g m) → Moves c f xs ys → Moves c g xs ys
@@ -38,7 +39,7 @@ moves_as c f g xs ys same mv = record {
 quiet : (here : Node) (k : Cell) (a : Answer) → after_plan here k (tells_only a) ≡ k
 quiet here Empty a = refl
 quiet here (Purged old) a = refl
-quiet here (Held d m turn acts) a = refl
+quiet here (Held d m turn acts batches) a = refl
 
 append_nothing : (xs : List Sent) → xs ++ [] ≡ xs
 append_nothing [] = refl
@@ -55,6 +56,7 @@ pub quiet_holds : (c n : Node) (m : CircuitWorld) (a : Answer) (xs : List NodeVi
 quiet_holds c n m a xs h = record {
   ordered = h.ordered;
   nodes = h.nodes;
+  up = h.up;
   each = λ i x there. let stood = h.each i x there in record {
     state = stood.state ∙ sym (quiet_at m n x.id a);
     sent = λ b known. stood.sent b known ∙ ap (on_pair x.id b) (sym (append_nothing m.sent));

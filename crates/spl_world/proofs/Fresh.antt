@@ -31,4 +31,4 @@ fresh_each c ns (y ∷ ys) h zero x e = let same : y ≡ x = cc in subst (λ (z 
 fresh_each c ns (y ∷ ys) h (suc i) x e = fresh_each c ns ys h.1 i x e
 
 pub fresh_holds : (c : Node) (xs : List NodeView) → ascends (ids_in xs) ≡ true → AreFresh xs → Holds c (first_world (ids_in xs)) xs
-fresh_holds c xs a h = record { ordered = a; nodes = refl; each = fresh_each c (ids_in xs) xs h }
+fresh_holds c xs a h = record { ordered = a; nodes = refl; up = refl; each = fresh_each c (ids_in xs) xs h }

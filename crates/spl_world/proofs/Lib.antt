@@ -14,3 +14,4 @@ mod Standing
 mod Steps
 mod Ticking
 mod Turns
+mod Up

@@ -93,6 +93,7 @@ module _ (xs : List NodeView) (i : ℕ) (x y : NodeView) (there : slice_get xs i
   own_holds c m n p h here done = record {
     ordered = ap ascends (same_ids xs i x y there same) ∙ h.ordered;
     nodes = h.nodes ∙ sym (same_ids xs i x y there same);
+    up = h.up;
     each = λ j z e. own_each c m n p h here done j z (set_cases xs i j y z e);
   }
 
@@ -100,6 +101,7 @@ module _ (xs : List NodeView) (i : ℕ) (x y : NodeView) (there : slice_get xs i
   others_hold d m h kept = record {
     ordered = ap ascends (same_ids xs i x y there same) ∙ h.ordered;
     nodes = h.nodes ∙ sym (same_ids xs i x y there same);
+    up = h.up;
     each = λ j z e. others_each d m h kept j z (set_cases xs i j y z e);
   }
 

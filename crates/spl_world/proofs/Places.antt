@@ -10,17 +10,17 @@ use Rattle.spl_wire.specs.declared.event.Event.{Event}
 use Rattle.spl_wire.specs.declared.plan.Plan.{Plan}
 use Rattle.spl_rules.specs.Cells.{Empty}
 use Rattle.spl_rules.specs.Plans.{plan_of}
-use Rattle.spl_world.specs.Kept.{PlaceView, NodeView, IsOwn, AreOwn, IsDone, AreAbout, sent_to, fresh_place, place_of, place_or_fresh}
+use Rattle.spl_world.specs.Kept.{PlaceView, NodeView, IsOwn, AreOwn, IsDone, AllBelong, sent_to, fresh_place, place_of, place_or_fresh}
 use Rattle.spl_world.proofs.Sends.{bool_cases, bytes_are}
 
 -- what is kept at a circuit
 abbrev pub place_at : Node → List (Node × PlaceView) → Option PlaceView
 place_at c ps = lookup (is_at (slice_cmp nat_cmp c)) ps
 
-pub about_of : (x : NodeView) (c b : Node) (p : PlaceView) → AreOwn x.id x.places → place_at c x.places ≡ Some p → AreAbout p.circuit (sent_to p.sent b) → AreAbout c (sent_to (place_of x c).sent b)
+pub about_of : (x : NodeView) (c b : Node) (p : PlaceView) → AreOwn x.id x.places → place_at c x.places ≡ Some p → AllBelong p.circuit (sent_to p.sent b) → AllBelong c (sent_to (place_of x c).sent b)
 about_of x c b p own found about =
-    subst (λ (o : Option PlaceView). AreAbout c (sent_to (place_or_fresh x.id c o).sent b)) (sym found)
-    (subst (λ (i : Node). AreAbout i (sent_to p.sent b)) (own c p found).1 about)
+    subst (λ (o : Option PlaceView). AllBelong c (sent_to (place_or_fresh x.id c o).sent b)) (sym found)
+    (subst (λ (i : Node). AllBelong i (sent_to p.sent b)) (own c p found).1 about)
 
 -- one place changed, and it is still that of its node and circuit
 pub own_step : (n c : Node) (p : PlaceView) (old new : List (Node × PlaceView)) → AreOwn n old → IsOwn n c p → place_at c new ≡ Some p → ((d : Node) → bytes_eq c d ≡ false → place_at d new ≡ place_at d old) → AreOwn n new

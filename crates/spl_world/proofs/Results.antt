@@ -13,6 +13,10 @@ pub both_ok : {A E : Type 0} {P Q R : A → Type 0} (r : Result A E) → ((a : A
 both_ok (Ok a) f p q = f a p q
 both_ok (Err e) f p q = p
 
+pub all_ok : {A E : Type 0} {P Q R S : A → Type 0} (r : Result A E) → ((a : A) → P a → Q a → R a → S a) → IfOk r P → IfOk r Q → IfOk r R → IfOk r S
+all_ok (Ok a) f p q r = f a p q r
+all_ok (Err e) f p q r = p
+
 pub at_err : {A E : Type 0} {P Q : Type 0} (r : Result A E) → (P → Q) → OnErr r P → OnErr r Q
 at_err (Ok a) f p = p
 at_err (Err e) f p = f p

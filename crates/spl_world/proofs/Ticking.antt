@@ -1,5 +1,5 @@
 -- The ticks of a pass, one node more.
-use Rattle.std.proofs.Common.{◌≡◌, ℕ, ◌+◌, ◌⊎◌, inl, inr, Bool, true, false, true≢false, ◌||◌, List, [], ◌∷◌, ◌++◌, take, Some, slice_get, refl, ap, sym, ◌∙◌}
+use Rattle.std.proofs.Common.{◌≡◌, ℕ, ◌+◌, ◌⊎◌, inl, inr, Bool, true, false, true≢false, ◌&&◌, ◌||◌, List, [], ◌∷◌, ◌++◌, take, Some, slice_get, refl, ap, sym, ◌∙◌}
 use Rattle.std.specs.List.{filter}
 use Rattle.std.proofs.lemmas.List.Elements.{filter-append}
 use Rattle.std.specs.Str.{bytes_eq}
@@ -11,7 +11,8 @@ use Rattle.spl_model.specs.Worlds.{World as CircuitWorld, step_world}
 use Rattle.spl_model.specs.Calm.{Calming, open_nodes, ticks}
 use Rattle.spl_world.specs.Kept.{NodeView}
 use Rattle.spl_world.specs.Calms.{tick_at}
-use Rattle.spl_world.specs.Views.{Moves, ids_in}
+use Rattle.spl_world.specs.Views.{Moves, ids_in, all_up}
+use Rattle.spl_world.proofs.Up.{node_up}
 use Rattle.spl_world.proofs.Calms.{ticks_more, ticks_at}
 use Rattle.spl_world.proofs.Composed.{moves_then}
 use Rattle.spl_world.proofs.Delivery.{moves_as}
@@ -35,37 +36,40 @@ without p (x ∷ xs) n h = go (bool_cases (bytes_eq x n)) (bool_cases (p x)) (wi
     go (inr q) (inl r) rest = rw (r, q) (rest (rw q at h))
     go (inr q) (inr r) rest = rw r (rest (rw q at h))
 
-module _ (c : Node) (z : Calming) (ids : List Node) (i : ℕ) (n : Node) (m : CircuitWorld) (at : slice_get ids i ≡ Some n) where
-  more : open_nodes m (take (i + 1) ids) ≡ open_nodes m (take i ids) ++ filter (λ k. is_open_cell (m.at k)) (n ∷ [])
-  more = ap (open_nodes m) (take_one ids i n at) ∙ filter-append (λ k. is_open_cell (m.at k)) (take i ids) (n ∷ [])
+module _ (c : Node) (z : Calming) (ids : List Node) (i : ℕ) (n : Node) (m : CircuitWorld) (at : slice_get ids i ≡ Some n) (up : m.up ≡ all_up) where
+  abbrev is_ticked : Node → Bool
+  is_ticked k = m.up k && is_open_cell (m.at k)
+
+  more : open_nodes m (take (i + 1) ids) ≡ open_nodes m (take i ids) ++ filter is_ticked (n ∷ [])
+  more = ap (open_nodes m) (take_one ids i n at) ∙ filter-append is_ticked (take i ids) (n ∷ [])
 
   untouched : has_node (take i ids) n ≡ false → (ticked c z (take i ids) m).at n ≡ m.at n
-  untouched h = ticks_at c (record z { world = m }) (open_nodes m (take i ids)) n (without (λ k. is_open_cell (m.at k)) (take i ids) n h)
+  untouched h = ticks_at c (record z { world = m }) (open_nodes m (take i ids)) n (without is_ticked (take i ids) n h)
 
   pub open_more : has_node (take i ids) n ≡ false → is_open_cell ((ticked c z (take i ids) m).at n) ≡ true → step_world (ticked c z (take i ids) m) (step.At n c event.Tick) ≡ ticked c z (take (i + 1) ids) m
   open_more h opened =
-      let here : is_open_cell (m.at n) ≡ true = ap is_open_cell (sym (untouched h)) ∙ opened in
-      let one : filter (λ k. is_open_cell (m.at k)) (n ∷ []) ≡ n ∷ [] = rw here refl in
+      let here : is_ticked n ≡ true = rw (node_up m n up) (ap is_open_cell (sym (untouched h)) ∙ opened) in
+      let one : filter is_ticked (n ∷ []) ≡ n ∷ [] = rw here refl in
       sym (ap (λ ns. (ticks c (record z { world = m }) ns).world) (more ∙ ap (λ ns. open_nodes m (take i ids) ++ ns) one) ∙ ap (λ (k : Calming). k.world) (ticks_more c (record z { world = m }) (open_nodes m (take i ids)) n))
 
   pub closed_more : has_node (take i ids) n ≡ false → is_open_cell ((ticked c z (take i ids) m).at n) ≡ false → ticked c z (take i ids) m ≡ ticked c z (take (i + 1) ids) m
   closed_more h closed =
-      let here : is_open_cell (m.at n) ≡ false = ap is_open_cell (sym (untouched h)) ∙ closed in
-      let none : filter (λ k. is_open_cell (m.at k)) (n ∷ []) ≡ [] = rw here refl in
+      let here : is_ticked n ≡ false = rw (node_up m n up) (ap is_open_cell (sym (untouched h)) ∙ closed) in
+      let none : filter is_ticked (n ∷ []) ≡ [] = rw here refl in
       sym (ap (λ ns. (ticks c (record z { world = m }) ns).world) (more ∙ ap (λ ns. open_nodes m (take i ids) ++ ns) none ∙ append_nothing (open_nodes m (take i ids))))
 
 -- one node more
-pub tick_more : (c : Node) (z : Calming) (ids : List Node) (i : ℕ) (n : Node) (m : CircuitWorld) → slice_get ids i ≡ Some n → has_node (take i ids) n ≡ false → tick_at c n (ticked c z (take i ids) m) ≡ ticked c z (take (i + 1) ids) m
-tick_more c z ids i n m at h = go (bool_cases (is_open_cell ((ticked c z (take i ids) m).at n)))
+pub tick_more : (c : Node) (z : Calming) (ids : List Node) (i : ℕ) (n : Node) (m : CircuitWorld) → slice_get ids i ≡ Some n → m.up ≡ all_up → has_node (take i ids) n ≡ false → tick_at c n (ticked c z (take i ids) m) ≡ ticked c z (take (i + 1) ids) m
+tick_more c z ids i n m at up h = go (bool_cases (is_open_cell ((ticked c z (take i ids) m).at n)))
   where
     go : (is_open_cell ((ticked c z (take i ids) m).at n) ≡ true) ⊎ (is_open_cell ((ticked c z (take i ids) m).at n) ≡ false) → tick_at c n (ticked c z (take i ids) m) ≡ ticked c z (take (i + 1) ids) m
-    go (inl q) = rw q (open_more c z ids i n m at h q)
-    go (inr q) = rw q (closed_more c z ids i n m at h q)
+    go (inl q) = rw q (open_more c z ids i n m at up h q)
+    go (inr q) = rw q (closed_more c z ids i n m at up h q)
 
 pub tick_moves : (c : Node) (z : Calming) (xs ys zs : List NodeView) (i : ℕ) (n : Node) → slice_get (ids_in xs) i ≡ Some n → Moves c (ticked c z (take i (ids_in xs))) xs ys → Moves c (tick_at c n) ys zs → Moves c (ticked c z (take (i + 1) (ids_in xs))) xs zs
 tick_moves c z xs ys zs i n at so_far tick =
     moves_as c (λ m. tick_at c n (ticked c z (take i (ids_in xs)) m)) (ticked c z (take (i + 1) (ids_in xs))) xs zs
-    (λ m h. tick_more c z (ids_in xs) i n m at (not_before (ids_in xs) i n h.ordered at))
+    (λ m h. tick_more c z (ids_in xs) i n m at h.up (not_before (ids_in xs) i n h.ordered at))
     (moves_then c (ticked c z (take i (ids_in xs))) (tick_at c n) xs ys zs so_far tick)
 
 pub opened_tick : (c n : Node) (m : CircuitWorld) → is_open_cell (m.at n) ≡ true → step_world m (step.At n c event.Tick) ≡ tick_at c n m

@@ -14,6 +14,8 @@ use Rattle.spl_world.specs.Calms.{AreRows, IsSquare, row_of, sent_count}
 use Rattle.spl_world.proofs.About.{same_itself}
 use Rattle.spl_world.proofs.Calms.{delivers_more, to_all_more, from_all_more}
 use Rattle.spl_world.proofs.Reading.{no_messages}
+use Rattle.spl_agree.proofs.Tests.{if_holds}
+use Rattle.spl_world.proofs.Up.{node_up}
 use Rattle.spl_world.proofs.Slots.{apart, take_one, set_cases, differ, differ_back, below_after, tail_ascends}
 
 -- the world behind so many deliveries, from this number on
@@ -37,13 +39,15 @@ nothing_less t = omega arith
 
 -- a node has no turn with itself
 pub same_turn : (c : Node) (z : Calming) (a b : Node) (m : CircuitWorld) → bytes_eq a b ≡ true → m ≡ (pair_turn c (record z { world = m }) a b).world
-same_turn c z a b m same = sym (
+same_turn c z a b m same = if_holds (λ (w : Calming). m ≡ w.world) (m.up b) _ _
+    (λ q. sym (
     ap (λ (k : ℕ). delivered c z a b (z.taken a b + 1) (k - z.taken a b) m) (ap length (no_messages m a b same))
-    ∙ ap (λ (k : ℕ). delivered c z a b (z.taken a b + 1) k m) (nothing_less (z.taken a b)))
+    ∙ ap (λ (k : ℕ). delivered c z a b (z.taken a b + 1) k m) (nothing_less (z.taken a b))))
+    (λ q. refl)
 
-pub turn_is : (c : Node) (z : Calming) (a b : Node) (m : CircuitWorld) (taken all : ℕ) → z.taken a b ≡ taken → all ≡ sent_count m a b → delivered c z a b (taken + 1) (all - taken) m ≡ (pair_turn c (record z { world = m }) a b).world
-turn_is c z a b m taken all e f =
-    ap (λ (t : ℕ). delivered c z a b (t + 1) (all - t) m) (sym e) ∙ ap (λ (k : ℕ). delivered c z a b (z.taken a b + 1) (k - z.taken a b) m) f
+pub turn_is : (c : Node) (z : Calming) (a b : Node) (m : CircuitWorld) (taken all : ℕ) → z.taken a b ≡ taken → all ≡ sent_count m a b → m.up b ≡ true → delivered c z a b (taken + 1) (all - taken) m ≡ (pair_turn c (record z { world = m }) a b).world
+turn_is c z a b m taken all e f up =
+    ap (λ (t : ℕ). delivered c z a b (t + 1) (all - t) m) (sym e) ∙ (ap (λ (k : ℕ). delivered c z a b (z.taken a b + 1) (k - z.taken a b) m) f ∙ rw up)
 
 -- ---- what is taken
 
@@ -58,18 +62,22 @@ ticks_taken c z (n ∷ ns) x y = ticks_taken c (calming_step z (step.At n c even
 both_same : (a b : Node) → (bytes_eq a a && bytes_eq b b) ≡ true
 both_same a b = rw (same_itself a, same_itself b) refl
 
-pub turn_taken : (c : Node) (z : Calming) (a b : Node) → (pair_turn c z a b).taken a b ≡ sent_count z.world a b
-turn_taken c z a b = rw (both_same a b) refl
+pub turn_taken : (c : Node) (z : Calming) (a b : Node) → z.world.up b ≡ true → (pair_turn c z a b).taken a b ≡ sent_count z.world a b
+turn_taken c z a b up = rw (up, both_same a b) refl
 
 second_off : (p q : Bool) → q ≡ false → (p && q) ≡ false
 second_off true q e = e
 second_off false q e = refl
 
 pub turn_keeps : (c : Node) (z : Calming) (a b y : Node) → bytes_eq y b ≡ false → (pair_turn c z a b).taken a y ≡ z.taken a y
-turn_keeps c z a b y off = rw (second_off (bytes_eq a a) (bytes_eq y b) off) (delivers_taken c z a b (z.taken a b + 1) (length (messages z.world a b) - z.taken a b) a y)
+turn_keeps c z a b y off = if_holds (λ (w : Calming). w.taken a y ≡ z.taken a y) (z.world.up b) _ _
+    (λ q. rw (second_off (bytes_eq a a) (bytes_eq y b) off) (delivers_taken c z a b (z.taken a b + 1) (length (messages z.world a b) - z.taken a b) a y))
+    (λ q. refl)
 
 turn_spares : (c : Node) (z : Calming) (a b x y : Node) → bytes_eq x a ≡ false → (pair_turn c z a b).taken x y ≡ z.taken x y
-turn_spares c z a b x y off = rw off (delivers_taken c z a b (z.taken a b + 1) (length (messages z.world a b) - z.taken a b) x y)
+turn_spares c z a b x y off = if_holds (λ (w : Calming). w.taken x y ≡ z.taken x y) (z.world.up b) _ _
+    (λ q. rw off (delivers_taken c z a b (z.taken a b + 1) (length (messages z.world a b) - z.taken a b) x y))
+    (λ q. refl)
 
 pub to_all_spares : (c : Node) (z : Calming) (a : Node) (ns : List Node) (x y : Node) → bytes_eq x a ≡ false → (to_all c z a ns).taken x y ≡ z.taken x y
 to_all_spares c z a [] x y off = refl
@@ -172,7 +180,7 @@ turn_own c z a ids i n ys zs row k up at so_far moves count =
     let y : Calming = to_all c z a (take i ids) in
     let e : to_all c z a (take (i + 1) ids) ≡ pair_turn c y a n = ap (to_all c z a) (take_one ids i n at) ∙ to_all_more c z a (take i ids) n in (
       subst (λ (w : Calming). Holds c w.world zs) (sym e) (moves.own y.world so_far.0),
-      ap (λ (r : List ℕ). slice_set r i k) so_far.1 ∙ row_set y.taken (pair_turn c y a n).taken a ids i n k up at (count ∙ sym (turn_taken c y a n)) (λ b off. turn_keeps c y a n b off)
+      ap (λ (r : List ℕ). slice_set r i k) so_far.1 ∙ row_set y.taken (pair_turn c y a n).taken a ids i n k up at (count ∙ sym (turn_taken c y a n (node_up y.world n so_far.0.up))) (λ b off. turn_keeps c y a n b off)
           ∙ ap (λ (w : Calming). row_of w.taken a ids) (sym e),
     )
 
@@ -190,4 +198,4 @@ rows_same f g ids rows h k i a r at e = k i a r at e ∙ row_same f g a ids (h a
 
 -- any state of a calm with these numbers
 abbrev pub some_calming : ℕ → Calming
-some_calming t = record { world = first_world []; taken = λ a b. t; events = 0 }
+some_calming t = record { world = first_world []; taken = λ a b. t; happened = [] }

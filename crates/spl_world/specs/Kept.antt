@@ -1,5 +1,5 @@
 -- What a node keeps about the circuits, as its callers see it (docs/RULES.md, Circuits as worlds).
-use Rattle.std.specs.Prelude.{◌≡◌, Bool, true, List, [], ◌∷◌, ◌++◌, if◌then◌else◌, Option, Some, None}
+use Rattle.std.specs.Prelude.{◌≡◌, Bool, true, ◌&&◌, List, [], ◌∷◌, ◌++◌, if◌then◌else◌, Option, Some, None}
 use Rattle.std.specs.List.{list_all}
 use Rattle.std.specs.Ordering.{nat_cmp}
 use Rattle.std.specs.Cmp.Lexicographic.{slice_cmp}
@@ -10,10 +10,10 @@ use Rattle.spl_circuit.specs.Nodes.{Node}
 use Rattle.spl_wire.specs.declared.message.Message.{Message}
 use Rattle.spl_wire.specs.declared.plan.Outgoing.{Outgoing}
 use Rattle.spl_wire.specs.declared.plan.Plan.{Plan}
-use Rattle.spl_wire.specs.Forms.{circuit_of}
+use Rattle.spl_wire.specs.Messages.{circuit_of}
 use Rattle.spl_rules.specs.Cells.{Cell, Empty}
 use Rattle.spl_rules.specs.Changes.{made, applied, after_plan}
-use Rattle.spl_rules.specs.Valid.{FitsMoveAt}
+use Rattle.spl_rules.specs.Valid.{FitsMoveAt, is_legal}
 
 -- what was ever sent, by recipient
 abbrev pub Lists : Type 0
@@ -56,26 +56,27 @@ abbrev pub sends_to : Node → List Outgoing → List Message
 sends_to b [] = []
 sends_to b (o ∷ os) = if bytes_eq o.to b then o.message ∷ sends_to b os else sends_to b os
 
-abbrev pub is_about : Node → Message → Bool
-is_about c m = bytes_eq (circuit_of m) c
+-- a message is about a circuit, and has no batch that breaks a rule
+abbrev pub belongs : Node → Message → Bool
+belongs c m = bytes_eq (circuit_of m) c && is_legal m
 
-abbrev pub AreAbout : Node → List Message → Type 0
-AreAbout c ms = list_all (is_about c) ms ≡ true
+abbrev pub AllBelong : Node → List Message → Type 0
+AllBelong c ms = list_all (belongs c) ms ≡ true
 
-abbrev pub sends_about : Node → Outgoing → Bool
-sends_about c o = is_about c o.message
+abbrev pub send_belongs : Node → Outgoing → Bool
+send_belongs c o = belongs c o.message
 
-abbrev pub SendsAreAbout : Node → List Outgoing → Type 0
-SendsAreAbout c os = list_all (sends_about c) os ≡ true
+abbrev pub SendsBelong : Node → List Outgoing → Type 0
+SendsBelong c os = list_all (send_belongs c) os ≡ true
 
--- a plan that can be carried out at a place: its changes fit, one behind the other, and its move behind them; what it
--- sends is about the circuit
+-- a plan that can be carried out at a place: its changes fit, one behind the other, and its moves behind them; what it
+-- sends belongs to the circuit
 pub record Suits (v : PlaceView) (p : Plan) : Type 0 where
   pub fits : applied v.here v.circuit v.state p.changes ≡ made v.here v.state p.changes
-  pub moves : FitsMoveAt v.here (made v.here v.state p.changes) p.admin
-  pub about : SendsAreAbout v.circuit p.sends
+  pub moves : FitsMoveAt v.here (made v.here v.state p.changes) p.admin p.service
+  pub about : SendsBelong v.circuit p.sends
 
--- a plan was carried out at a place of this node: its changes and its move are made, and its messages sent
+-- a plan was carried out at a place of this node: its changes and its moves are made, and its messages sent
 pub record IsDone (here : Node) (p : Plan) (old new : PlaceView) : Type 0 where
   pub state : new.state ≡ after_plan here old.state p
   pub sent : (b : Node) → sent_to new.sent b ≡ sent_to old.sent b ++ sends_to b p.sends

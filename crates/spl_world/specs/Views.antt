@@ -26,10 +26,15 @@ pub record IsAs (c : Node) (m : CircuitWorld) (x : NodeView) : Type 0 where
   pub state : (place_of x c).state ≡ m.at x.id
   pub sent : (b : Node) → has_node m.nodes b ≡ true → sent_to (place_of x c).sent b ≡ on_pair x.id b m.sent
 
+-- every node is up
+abbrev pub all_up : Node → Bool
+all_up n = true
+
 -- the nodes stand for a world of a circuit
 pub record Holds (c : Node) (m : CircuitWorld) (xs : List NodeView) : Type 0 where
   pub ordered : ascends (ids_in xs) ≡ true
   pub nodes : m.nodes ≡ ids_in xs
+  pub up : m.up ≡ all_up
   pub each : (i : ℕ) (x : NodeView) → slice_get xs i ≡ Some x → IsAs c m x
 
 -- behind these lines each node keeps, about each circuit, what the world of that circuit has there; and what it sent

@@ -7,10 +7,10 @@ ghost use Rattle.std.specs.BTreeMap.{is_at};
 ghost use Rattle.std.specs.Map.{lookup};
 ghost use Rattle.std.specs.Str.{bytes_eq};
 ghost use Rattle.spl_circuit.specs.Nodes.{Node as Id};
-ghost use Rattle.spl_rules.specs.Cells.{Empty, is_handled, is_open_cell};
+ghost use Rattle.spl_rules.specs.Cells.{Empty, is_open_cell};
 ghost use Rattle.spl_rules.specs.Plans.{plan_of};
 ghost use Rattle.spl_rules.specs.Valid.{IsFor};
-ghost use Rattle.spl_world.specs.Kept.{IsDone, IsOwn, fresh_place, place_or_fresh, AreAbout, place_of, sent_to};
+ghost use Rattle.spl_world.specs.Kept.{IsDone, IsOwn, fresh_place, place_or_fresh, AllBelong, place_of, sent_to};
 
 use crate::place::Place;
 use spl_base::{CircuitId, NodeId};
@@ -46,8 +46,7 @@ fn does_something(plan: &Plan) -> bool
 
 // An event at a place, and its answer.
 fn handle_at(place: &mut Place, alloc: Global, event: &Event) -> Result<Answer, AllocError>
-    requires handled { is_handled event.now ≡ true }
-    requires own { IsFor place.old.here place.old.circuit event.now }
+    requires { IsFor place.old.here place.old.circuit event.now }
     ensures fixed { (place.new.here ≡ place.old.here) × (place.new.circuit ≡ place.old.circuit) }
     ensures answer { IfOk result (λ a. a ≡ (plan_of place.old.here place.old.circuit place.old.state event.now).answer) }
     ensures done { OnOk result (IsDone place.old.here (plan_of place.old.here place.old.circuit place.old.state event.now) place.old place.new) }
@@ -64,8 +63,7 @@ fn handle_first(
     circuit: CircuitId,
     event: &Event,
 ) -> Result<(Answer, Option<Place>), AllocError>
-    requires handled { is_handled event.now ≡ true }
-    requires own { IsFor here circuit event.now }
+    requires { IsFor here circuit event.now }
     ensures answer { IfOk result (λ r. r.0 ≡ (plan_of here circuit Empty event.now).answer) }
     ensures own { IfOk result (λ r. IsOwn here circuit (place_or_fresh here circuit r.1)) }
     ensures done { IfOk result (λ r. IsDone here (plan_of here circuit Empty event.now) (fresh_place here circuit) (place_or_fresh here circuit r.1)) }
@@ -122,8 +120,7 @@ impl Node {
         circuit: CircuitId,
         event: &Event,
     ) -> Result<Answer, AllocError>
-        requires handled { is_handled event.now ≡ true }
-        requires own { IsFor self.old.id circuit event.now }
+        requires { IsFor self.old.id circuit event.now }
         ensures id { self.new.id ≡ self.old.id }
         ensures answer { IfOk result (λ a. a ≡ (plan_of self.old.id circuit (place_of self.old circuit).state event.now).answer) }
         ensures done { OnOk result (IsDone self.old.id (plan_of self.old.id circuit (place_of self.old circuit).state event.now) (place_of self.old circuit) (place_of self.new circuit)) }
@@ -166,7 +163,7 @@ impl Node {
     /// exactly where there are fewer.
     pub fn message(&self, circuit: &CircuitId, to: &NodeId, index: usize) -> Option<&Message>
         ensures value { option_copied result ≡ slice_get (sent_to (place_of self.now circuit.now).sent to.now) index }
-        ensures about { AreAbout circuit.now (sent_to (place_of self.now circuit.now).sent to.now) }
+        ensures about { AllBelong circuit.now (sent_to (place_of self.now circuit.now).sent to.now) }
     {
         match self.places.get(circuit) {
             Some(place) => place.message(to, index),

@@ -3,7 +3,7 @@ ghost use Rattle.std.specs.Prelude.{◌≡◌, ◌++◌, ◌∷◌, [], List, le
 ghost use Rattle.std.specs.Option.{option_copied};
 ghost use Rattle.std.specs.Str.{bytes_eq};
 ghost use Rattle.spl_circuit.specs.Nodes.{Node as Id};
-ghost use Rattle.spl_world.specs.Kept.{AreAbout, SendsAreAbout, sent_to, sends_to};
+ghost use Rattle.spl_world.specs.Kept.{AllBelong, SendsBelong, sent_to, sends_to};
 
 use spl_base::{Listing, NodeId};
 use spl_wire::{Message, Outgoing};
@@ -77,7 +77,7 @@ impl Outbox {
     /// Messages are sent, in their order.
     pub fn post_all(&mut self, alloc: Global, sends: &[Outgoing]) -> Result<(), AllocError>
         ensures sent { OnOk result ((b : Id) → sent_to self.new b ≡ sent_to self.old b ++ sends_to b sends.now) }
-        ensures about { (c : Id) → ((b : Id) → AreAbout c (sent_to self.old b)) → SendsAreAbout c sends.now → (b : Id) → AreAbout c (sent_to self.new b) }
+        ensures about { (c : Id) → ((b : Id) → AllBelong c (sent_to self.old b)) → SendsBelong c sends.now → (b : Id) → AllBelong c (sent_to self.new b) }
     {
         for send in sends {
             self.post(alloc, send.to, send.message.copy(alloc)?)?;

@@ -1,10 +1,10 @@
 //! One circuit at one node.
 ghost use Rattle.std.specs.Prelude.{◌≡◌, length, slice_get, true, IfOk, OnOk};
 ghost use Rattle.std.specs.Option.{option_copied};
-ghost use Rattle.spl_rules.specs.Cells.{is_handled, is_open_cell};
+ghost use Rattle.spl_rules.specs.Cells.{is_open_cell};
 ghost use Rattle.spl_rules.specs.Plans.{plan_of};
 ghost use Rattle.spl_rules.specs.Valid.{IsFor};
-ghost use Rattle.spl_world.specs.Kept.{Suits, IsDone, AreAbout, fresh_place, sent_to};
+ghost use Rattle.spl_world.specs.Kept.{Suits, IsDone, AllBelong, fresh_place, sent_to};
 
 use crate::outbox::Outbox;
 use spl_base::{CircuitId, NodeId};
@@ -13,8 +13,8 @@ use spl_wire::{Event, Message, Plan};
 use std::alloc::{AllocError, Global};
 use std::marker::Model;
 
-/// One circuit at one node: the cell, and what the node ever sent about the circuit. All of it is
-/// about the circuit.
+/// One circuit at one node: the cell, and what the node ever sent about the circuit. All of it
+/// belongs to the circuit.
 #[derive(Drop)]
 pub struct Place {
     cell: Cell,
@@ -23,13 +23,13 @@ pub struct Place {
 
 impl Model for Place {
     ghost use Rattle.spl_circuit.specs.Nodes.{Node as Id};
-    ghost use Rattle.spl_world.specs.Kept.{PlaceView, AreAbout, sent_to};
+    ghost use Rattle.spl_world.specs.Kept.{PlaceView, AllBelong, sent_to};
 
     ghost Value = { PlaceView };
 
     ghost view = { λ s. record { here = s.cell.here; circuit = s.cell.circuit; state = s.cell.state; sent = s.sent } };
 
-    ghost invariant = { λ s. (b : Id) → AreAbout s.cell.circuit (sent_to s.sent b) };
+    ghost invariant = { λ s. (b : Id) → AllBelong s.cell.circuit (sent_to s.sent b) };
 }
 
 impl Place {
@@ -45,15 +45,14 @@ impl Place {
 
     /// What an event gives.
     pub fn plan(&self, alloc: Global, event: &Event) -> Result<Plan, AllocError>
-        requires handled { is_handled event.now ≡ true }
-        requires own { IsFor self.now.here self.now.circuit event.now }
+        requires { IsFor self.now.here self.now.circuit event.now }
         ensures plan { IfOk result (λ p. p ≡ plan_of self.now.here self.now.circuit self.now.state event.now) }
         ensures suits { IfOk result (λ p. Suits self.now p) }
     {
         self.cell.plan(alloc, event)
     }
 
-    /// Makes the changes and the move of a plan, and sends its messages.
+    /// Makes the changes and the moves of a plan, and sends its messages.
     pub fn carry_out(&mut self, alloc: Global, plan: &Plan) -> Result<(), AllocError>
         requires { Suits self.old plan.now }
         ensures fixed { (self.new.here ≡ self.old.here) × (self.new.circuit ≡ self.old.circuit) }
@@ -81,7 +80,7 @@ impl Place {
     /// there are fewer.
     pub fn message(&self, to: &NodeId, index: usize) -> Option<&Message>
         ensures value { option_copied result ≡ slice_get (sent_to self.now.sent to.now) index }
-        ensures about { AreAbout self.now.circuit (sent_to self.now.sent to.now) }
+        ensures about { AllBelong self.now.circuit (sent_to self.now.sent to.now) }
     {
         self.sent.message(to, index)
     }

@@ -5,7 +5,7 @@ ghost use Rattle.std.specs.Str.{bytes_eq};
 ghost use Rattle.spl_circuit.specs.Nodes.{Node as Id, has_node};
 ghost use Rattle.spl_circuit.specs.Rules.{ascends};
 ghost use Rattle.spl_sched.specs.declared.line.Step.TheVariants as step;
-ghost use Rattle.spl_rules.specs.Cells.{is_handled, is_open_cell};
+ghost use Rattle.spl_rules.specs.Cells.{is_open_cell};
 ghost use Rattle.spl_rules.specs.Plans.{plan_of};
 ghost use Rattle.spl_rules.specs.Valid.{IsFor};
 ghost use Rattle.spl_model.specs.Worlds.{World as CircuitWorld, messages, carried_out, step_plan, step_world};
@@ -75,7 +75,6 @@ impl World {
         event: &Event,
     ) -> Result<Answer, AllocError>
         requires below { slot < length self.old.nodes.items }
-        requires handled { is_handled event.now ≡ true }
         requires own { (n : Id) → IsAt self.old.nodes.items slot n → IsFor n circuit event.now }
         ensures ids { ids_of self.new ≡ ids_of self.old }
         ensures answer { (m : CircuitWorld) (n : Id) → Holds circuit m self.old.nodes.items → IsAt self.old.nodes.items slot n → IfOk result (λ a. a ≡ (plan_of n circuit (m.at n) event.now).answer) }

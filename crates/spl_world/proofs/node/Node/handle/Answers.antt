@@ -10,10 +10,10 @@ use Rattle.spl_world.proofs.node.Node.handle.Goals as goal
 
 -- ---- at a place that is kept
 
-pub handle_at-requires-clause-own : goal.handle_at-requires-clause-own
-handle_at-requires-clause-own c =
+pub handle_at-requires : goal.handle_at-requires
+handle_at-requires c =
     let mine = c.self.invariant c.args.circuit c.in-Some.place.now (sym c.in-Some.ensures.value) in
-    subst (λ (i : Id). IsFor c.in-Some.place.now.here i c.args.event.now) (sym mine.1) (subst (λ (h : Id). IsFor h c.args.circuit c.args.event.now) (sym mine.0) (rw (← c.self.view_is) at c.requires.own))
+    subst (λ (i : Id). IsFor c.in-Some.place.now.here i c.args.event.now) (sym mine.1) (subst (λ (h : Id). IsFor h c.args.circuit c.args.event.now) (sym mine.0) (rw (← c.self.view_is) at c.requires))
 
 pub invariant_of-self : goal.invariant_of-self
 invariant_of-self c =

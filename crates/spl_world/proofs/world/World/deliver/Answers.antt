@@ -9,7 +9,11 @@ use Rattle.spl_wire.specs.declared.answer.Refusal.TheVariants as refusal
 use Rattle.spl_sched.specs.declared.line.Step.TheVariants as step
 use Rattle.spl_rules.specs.Plans.{plan_of, tells_only}
 use Rattle.spl_model.specs.Worlds.{World as CircuitWorld, messages, carried_out, step_plan, step_world}
-use Rattle.spl_world.specs.Kept.{is_about, place_of, sent_to}
+use Rattle.spl_rules.specs.Valid.{is_legal}
+use Rattle.spl_wire.specs.Messages.{circuit_of}
+use Rattle.spl_base.specs.FormLaws.{both_true}
+use Rattle.std.specs.Str.{bytes_eq}
+use Rattle.spl_world.specs.Kept.{belongs, place_of, sent_to}
 use Rattle.spl_world.specs.Views.{Holds, ids_in}
 use Rattle.spl_world.proofs.About.{about_at}
 use Rattle.spl_world.proofs.Delivery.{delivery_is, no_delivery, moves_as, quiet_holds}
@@ -39,7 +43,7 @@ one_sent c m a b h at to =
 
 abbrev none : (c : goal.In-None) (m : CircuitWorld) (a b : Node) → Holds c.args.circuit m c.args.self.now.nodes.items → slice_get (ids_in c.args.self.now.nodes.items) c.args.from ≡ Some a → slice_get (ids_in c.args.self.now.nodes.items) c.args.to ≡ Some b
     → step_plan m (step.Deliver a b c.args.circuit (c.args.index + 1)) ≡ tells_only (answer.Refused refusal.NoMessage)
-none c m a b h at to = no_delivery m c.args.circuit a b c.args.index (ap (λ (ms : List Message). slice_get ms c.args.index) (sym (none_sent c m a b h at to)) ∙ sym c.in-None.ensures.value)
+none c m a b h at to = no_delivery m c.args.circuit a b c.args.index (ap (λ (ms : List Message). slice_get ms c.args.index) (sym (none_sent c m a b h at to)) ∙ sym c.in-None.ensures.value) h.up
 
 abbrev one : (c : goal.Joined-event) (m : CircuitWorld) (a b : Node) → Holds c.args.circuit m c.args.self.now.nodes.items → slice_get (ids_in c.args.self.now.nodes.items) c.args.from ≡ Some a → slice_get (ids_in c.args.self.now.nodes.items) c.args.to ≡ Some b
     → plan_of b c.args.circuit (m.at b) (event.Deliver c.id-sender.result c.in_ok-message-in-Some.message) ≡ step_plan m (step.Deliver a b c.args.circuit (c.args.index + 1))
@@ -48,7 +52,7 @@ one c m a b h at to =
     let here = same_at xs c.args.from c.index.result.now a (slice_get_read xs (length xs) c.args.from c.index.result.now refl c.requires.from_below c.index.ensures) at in
     let found : slice_get (messages m a b) c.args.index ≡ Some c.in_ok-message-in-Some.message = ap (λ (ms : List Message). slice_get ms c.args.index) (sym (one_sent c m a b h at to)) ∙ sym c.in-Some.ensures.value ∙ ap Some (sym c.in_ok-message-in-Some.ensures) in
     ap (λ (i : Node). plan_of b c.args.circuit (m.at b) (event.Deliver i c.in_ok-message-in-Some.message)) (c.id-sender.ensures ∙ here)
-    ∙ delivery_is m c.args.circuit a b c.args.index c.in_ok-message-in-Some.message found
+    ∙ delivery_is m c.args.circuit a b c.args.index c.in_ok-message-in-Some.message found h.up
 
 pub returns-in-None-clause-answer : goal.returns-in-None-clause-answer
 returns-in-None-clause-answer c = λ m a b h at to. sym (ap (λ (p : Plan). p.answer) (none c m a b h at to))
@@ -62,11 +66,11 @@ returns-in-None-clause-moves c = λ a b at to. record {
 pub handle-requires-clause-own : goal.handle-requires-clause-own
 handle-requires-clause-own c = λ n to.
     let xs = c.args.self.now.nodes.items in
-    let here = slice_get_read xs (length xs) c.args.from c.index.result.now refl c.requires.from_below c.index.ensures in (
-      subst (λ (x : Message). is_about c.args.circuit x ≡ true) (sym c.in_ok-message-in-Some.ensures)
-          (about_at c.args.circuit (sent_to (place_of c.index-3.result.now c.args.circuit).sent c.id-recipient.result) c.args.index c.in-Some.message.now c.message.ensures.about (sym c.in-Some.ensures.value)),
-      rw (c.id-sender.ensures) (c.requires.apart c.index.result.now.id n (id_at xs c.args.from c.index.result.now here) to),
-    )
+    let here = slice_get_read xs (length xs) c.args.from c.index.result.now refl c.requires.from_below c.index.ensures in
+    let sent = about_at c.args.circuit (sent_to (place_of c.index-3.result.now c.args.circuit).sent c.id-recipient.result) c.args.index c.in-Some.message.now c.message.ensures.about (sym c.in-Some.ensures.value) in
+    let x = c.in_ok-message-in-Some.message in
+    let both = both_true (bytes_eq (circuit_of x) c.args.circuit) (is_legal x) (subst (λ (y : Message). belongs c.args.circuit y ≡ true) (sym c.in_ok-message-in-Some.ensures) sent) in
+    (both.0, rw (c.id-sender.ensures) (c.requires.apart c.index.result.now.id n (id_at xs c.args.from c.index.result.now here) to), both.1)
 
 pub returns-clause-answer : goal.returns-clause-answer
 returns-clause-answer c = λ m a b h at to. when_ok c.handle.result (λ r e. e ∙ ap (λ (p : Plan). p.answer) (one c m a b h at to)) (c.handle.ensures.answer m b h to)

@@ -5,6 +5,7 @@ use Rattle.spl_world.proofs.Moving.{event_moves, same_plan}
 use Rattle.spl_world.proofs.Results.{when_ok, ok_both}
 use Rattle.spl_world.proofs.Slots.{same_ids, id_at}
 use Rattle.spl_world.proofs.world.World.handle.Goals as goal
+use Rattle.spl_world.proofs.world.World.handle.Goals.{After-index_mut}
 
 abbrev there : (c : goal.After-index_mut) → slice_get c.args.self.now.nodes.items c.args.slot ≡ Some c.index_mut.result.now
 there c = slice_get_read c.args.self.now.nodes.items (length c.args.self.now.nodes.items) c.args.slot c.index_mut.result.now refl c.requires.below c.index_mut.ensures.value
@@ -12,8 +13,8 @@ there c = slice_get_read c.args.self.now.nodes.items (length c.args.self.now.nod
 abbrev found : (c : goal.After-self-1) → slice_get c.args.self.now.nodes.items c.args.slot ≡ Some c.index_mut.result.now
 found c = slice_get_read c.args.self.now.nodes.items (length c.args.self.now.nodes.items) c.args.slot c.index_mut.result.now refl c.requires.below c.index_mut.ensures.value
 
-pub handle-requires-clause-own : goal.handle-requires-clause-own
-handle-requires-clause-own c = c.requires.own c.index_mut.result.now.id (id_at c.args.self.now.nodes.items c.args.slot c.index_mut.result.now (there c))
+pub handle-requires : goal.handle-requires
+handle-requires c = c.requires.own c.index_mut.result.now.id (id_at c.args.self.now.nodes.items c.args.slot c.index_mut.result.now (there c))
 
 pub returns-clause-ids : goal.returns-clause-ids
 returns-clause-ids c = same_ids c.args.self.now.nodes.items c.args.slot c.index_mut.result.now c.handle.new.self (found c) c.handle.ensures.id

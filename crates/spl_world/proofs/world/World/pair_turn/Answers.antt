@@ -4,6 +4,7 @@ use Rattle.spl_world.proofs.Composed.{moves_nothing}
 use Rattle.spl_world.proofs.Delivery.{moves_as}
 use Rattle.spl_world.proofs.Reading.{no_messages}
 use Rattle.spl_world.proofs.Turns.{delivered, same_turn, turn_is}
+use Rattle.spl_world.proofs.Up.{node_up}
 use Rattle.spl_world.proofs.world.World.pair_turn.Goals as goal
 
 pub returns-then-is_same-clause-count : goal.returns-then-is_same-clause-count
@@ -25,4 +26,4 @@ pub returns-clause-moves : goal.returns-clause-moves
 returns-clause-moves c = λ z a b at to e.
     let xs = c.args.self.now.nodes.items in
     moves_as c.args.circuit (delivered c.args.circuit z a b (c.args.taken + 1) (c.count-all.result - c.args.taken)) (λ m. (pair_turn c.args.circuit (record z { world = m }) a b).world) xs c.deliver_from.new.self.nodes.items
-    (λ m h. turn_is c.args.circuit z a b m c.args.taken c.count-all.result e (c.count-all.ensures m a b h at to)) (c.in_ok-deliver_from.ensures.moves z a b at to)
+    (λ m h. turn_is c.args.circuit z a b m c.args.taken c.count-all.result e (c.count-all.ensures m a b h at to) (node_up m b h.up)) (c.in_ok-deliver_from.ensures.moves z a b at to)

@@ -1,10 +1,15 @@
-use Rattle.std.proofs.Common.{◌≡◌, ℕ, ◌∙◌, sym, subst, Some, false, IfOk, OnOk}
+use Rattle.std.proofs.Common.{◌≡◌, ℕ, ◌∙◌, ap, sym, subst, Some, false, IfOk, OnOk}
 use Rattle.std.specs.Str.{bytes_eq}
 use Rattle.spl_circuit.specs.Nodes.{Node}
 use Rattle.spl_wire.specs.declared.answer.Answer.{Answer}
+use Rattle.spl_wire.specs.declared.plan.Plan.{Plan}
+use Rattle.spl_rules.specs.Plans.{plan_of}
 use Rattle.spl_sched.specs.declared.line.Step.TheVariants as step
-use Rattle.spl_model.specs.Worlds.{step_plan, step_world}
+use Rattle.spl_model.specs.Worlds.{carried_out, step_plan, step_world}
 use Rattle.spl_world.specs.Views.{Moves, ids_of}
+use Rattle.spl_world.proofs.Delivery.{moves_as}
+use Rattle.spl_world.proofs.Results.{at_ok, when_ok}
+use Rattle.spl_world.proofs.Up.{step_up, world_up}
 use Rattle.spl_world.proofs.Steps.{step_for, pair_apart, number_back, second_known}
 use Rattle.spl_world.proofs.world.World.run.Goals as goal
 
@@ -23,10 +28,17 @@ deliver-requires-clause-apart c = λ a b at to.
     subst (λ (y : Node). bytes_eq a y ≡ false) to_is (subst (λ (x : Node). bytes_eq x c.in-Deliver.to ≡ false) from_is (pair_apart c.in-Deliver.from c.in-Deliver.to c.in-Deliver.circuit c.in-Deliver.number (rw (c.in-Deliver.is) at c.requires.fits)))
 
 pub returns-in-At-clause-answer : goal.returns-in-At-clause-answer
-returns-in-At-clause-answer c = λ m h. rw (c.in-At.is) (c.handle.ensures.answer m c.in-At.node (rw (c.in-At.is) at h) c.slot-slot.ensures.at)
+returns-in-At-clause-answer c = λ m h.
+    let same = step_up m (step.At c.in-At.node c.in-At.circuit c.in-At.event) h.up in
+    rw (c.in-At.is) (when_ok c.handle.result (λ a e. e ∙ sym (ap (λ (p : Plan). p.answer) same)) (c.handle.ensures.answer m c.in-At.node (rw (c.in-At.is) at h) c.slot-slot.ensures.at))
 
 pub returns-in-At-clause-moves : goal.returns-in-At-clause-moves
-returns-in-At-clause-moves c = rw (c.in-At.is) (c.handle.ensures.moves c.in-At.node c.slot-slot.ensures.at)
+returns-in-At-clause-moves c =
+    let circuit = c.in-At.circuit in
+    let s = step.At c.in-At.node circuit c.in-At.event in
+    rw (c.in-At.is) (at_ok c.handle.result
+    (λ moves. moves_as circuit (λ m. carried_out m c.in-At.node (plan_of c.in-At.node circuit (m.at c.in-At.node) c.in-At.event)) (λ m. step_world m s) c.args.self.now.nodes.items c.handle.new.self.nodes.items (λ m h. sym (world_up m s h.up)) moves)
+    (c.handle.ensures.moves c.in-At.node c.slot-slot.ensures.at))
 
 pub returns-in-Deliver-clause-answer : goal.returns-in-Deliver-clause-answer
 returns-in-Deliver-clause-answer c = λ m h.
