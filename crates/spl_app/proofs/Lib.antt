@@ -1,3 +1,4 @@
+mod Agreed
 mod Behinds
 mod Dues
 mod Feeds

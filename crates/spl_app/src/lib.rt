@@ -2,6 +2,7 @@
 //! their answers.
 #![tactic(auto)]
 
+mod agree;
 mod lines;
 mod output;
 mod run;
@@ -13,6 +14,8 @@ pub use top::splinter;
 
 #[cfg(test)]
 mod act_tests;
+#[cfg(test)]
+mod batch_tests;
 #[cfg(test)]
 mod plain;
 #[cfg(test)]

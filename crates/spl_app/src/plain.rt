@@ -2,11 +2,14 @@
 //! what happened
 //! there and one of the messages that were sent, and a pass over them for each question.
 ghost use Rattle.std.specs.Prelude.{◌≡◌, true, IfOk};
-ghost use Rattle.spl_rules.specs.Cells.{is_handled};
-ghost use Rattle.spl_rules.specs.Valid.{IsFor};
+ghost use Rattle.spl_wire.specs.Messages.{circuit_of};
+ghost use Rattle.spl_rules.specs.Changes.{may_serve};
+ghost use Rattle.spl_rules.specs.Valid.{IsFor, is_legal};
 
+use spl_agree::CommitMsg;
 use spl_base::{Boxed, CircuitId, NodeId};
 use spl_cell::Cell;
+use spl_command::Batch;
 use spl_sched::{Line, Step};
 use spl_wire::{Answer, Event, Message, Refusal};
 use std::alloc::{AllocError, Global};
@@ -45,26 +48,49 @@ struct Taken {
 
 // Whether a run has this event at a cell of the circuit.
 fn is_for(here: NodeId, circuit: CircuitId, event: &Event) -> bool
-    ensures handled { result ≡ true → is_handled event.now ≡ true }
-    ensures own { result ≡ true → IsFor here circuit event.now }
+    ensures { result ≡ true → IsFor here circuit event.now }
 {
     match event {
         Event::Propose(definition) => definition.get().id == circuit,
-        Event::Vote { .. } => true,
-        Event::Remove => true,
-        Event::Show => true,
-        Event::Tick => true,
-        Event::Expire => true,
         Event::Deliver { from, message } => is_message_for(here, circuit, from, message.get()),
-        _ => false,
+        _ => true,
     }
 }
 
 fn is_message_for(here: NodeId, circuit: CircuitId, from: &NodeId, message: &Message) -> bool
     ensures { result ≡ true → IsFor here circuit (Event.Deliver from.now message.now) }
 {
-    let Message::Admin { circuit: about, .. } = message;
-    *about == circuit && *from != here
+    about(message) == circuit && *from != here && is_legal(message)
+}
+
+fn about(message: &Message) -> CircuitId
+    ensures { result ≡ circuit_of message.now }
+{
+    match message {
+        Message::Admin { circuit, .. } => *circuit,
+        Message::Scabbard { circuit, .. } => *circuit,
+    }
+}
+
+fn keeps_rules(batch: &Batch) -> bool
+    ensures { result ≡ may_serve batch.now }
+{
+    batch.fault().is_none()
+}
+
+// No batch in it breaks a rule.
+fn is_legal(message: &Message) -> bool
+    ensures { result ≡ is_legal message.now }
+{
+    match message {
+        Message::Admin { .. } => true,
+        Message::Scabbard { body, .. } => match body {
+            CommitMsg::VoteRequest { value, .. } => keeps_rules(value),
+            CommitMsg::Forward { value, .. } => keeps_rules(value),
+            CommitMsg::Refused { value, .. } => keeps_rules(value),
+            _ => true,
+        },
+    }
 }
 
 // The cell of a node behind what happened there, from the start.

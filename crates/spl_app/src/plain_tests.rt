@@ -165,36 +165,6 @@ const SCHEDULES: [&str; 10] = [
      deliver alpha beta 5b8gk-GFN6B 7\n\
      # a comment\n\
      tick gamma IfDR3-0yhqm\n",
-    "propose alpha Ab3dE-00001 2 1 grid {}:,= alpha,beta,gamma 0000:scabbard:alpha,aaaa:scabbard:gamma,cccc:scabbard:beta\n\
-     calm Ab3dE-00001 8\n\
-     vote beta Ab3dE-00001 accept\n\
-     vote gamma Ab3dE-00001 accept\n\
-     calm Ab3dE-00001 8\n\
-     deliver beta alpha Ab3dE-00001 2\n\
-     tick alpha Ab3dE-00001\n\
-     deliver beta alpha Ab3dE-00001 2\n\
-     vote gamma Ab3dE-00001 accept\n\
-     show alpha Ab3dE-00001\n\
-     deliver alpha beta Ab3dE-00001 1\n\
-     vote gamma Ab3dE-00001 accept\n\
-     deliver alpha gamma Ab3dE-00001 9\n\
-     show alpha Ab3dE-00001\n\
-     deliver gamma alpha Ab3dE-00001 2\n\
-     vote beta Ab3dE-00001 accept\n\
-     propose alpha Ab3dE-00001 2 1 grid {}:,= alpha,beta,gamma 0000:scabbard-:alpha,aaaa:scabbard:gamma,cccc:scabbard:beta\n\
-     show beta Ab3dE-00001\n\
-     vote alpha Ab3dE-00001 accept\n\
-     tick beta Ab3dE-00001\n\
-     tick alpha Ab3dE-00001\n\
-     show beta Ab3dE-00001\n\
-     calm Ab3dE-00001 1\n\
-     show alpha Ab3dE-00001\n\
-     deliver beta alpha Ab3dE-00001 7\n\
-     tick beta Ab3dE-00001\n\
-     deliver alpha beta Ab3dE-00001 9\n\
-     show beta Ab3dE-00001\n\
-     tick beta Ab3dE-00001\n\
-     show beta Ab3dE-00001\n",
     "propose gamma Ab3dE-00002 1 1 gr:id it's alpha,beta,gamma Zz9a:scabbard:alpha,cccc:scabbard:beta,hhdX:scabbard:gamma\n\
      calm Ab3dE-00002 4\n\
      vote alpha Ab3dE-00002 accept\n\
@@ -225,36 +195,6 @@ const SCHEDULES: [&str; 10] = [
      tick alpha Ab3dE-00002\n\
      vote gamma Ab3dE-00002 accept\n\
      tick alpha Ab3dE-00002\n",
-    "deliver alpha gamma Ab3dE-00003 4294967295\n\
-     tick beta Ab3dE-00005\n\
-     propose alpha Ab3dE-00005 1 1 grid one alpha,gamma 0000:scabbard:alpha,0001:scabbard:gamma\n\
-     propose beta Ab3dE-00005 1 1 grid two beta,gamma 0000:scabbard:beta,0001:scabbard:gamma\n\
-     tick alpha Ab3dE-00005\n\
-     tick beta Ab3dE-00005\n\
-     deliver alpha gamma Ab3dE-00005 1\n\
-     deliver beta gamma Ab3dE-00005 1\n\
-     deliver gamma beta Ab3dE-00005 1\n\
-     deliver beta gamma Ab3dE-00005 2\n\
-     deliver beta gamma Ab3dE-00005 3\n\
-     deliver alpha gamma Ab3dE-00005 1\n\
-     tick gamma Ab3dE-00005\n\
-     tick gamma Ab3dE-00005\n\
-     tick gamma Ab3dE-00005\n\
-     vote beta Ab3dE-00005 accept\n\
-     deliver alpha gamma Ab3dE-00005 1\n\
-     propose beta Ab3dE-00003 2 1 grid <&> alpha,beta bbbb:scabbard:beta,cccc:scabbard:alpha\n\
-     calm Ab3dE-00003 4\n\
-     vote alpha Ab3dE-00003 accept\n\
-     calm Ab3dE-00003 4\n\
-     calm Ab3dE-00003 8\n\
-     tick alpha Ab3dE-00005\n\
-     tick alpha Ab3dE-00005\n\
-     vote alpha Ab3dE-00005 accept\n\
-     tick beta Ab3dE-00003\n\
-     tick gamma Ab3dE-00005\n\
-     deliver beta alpha Ab3dE-00003 1\n\
-     tick gamma Ab3dE-00005\n\
-     deliver gamma alpha Ab3dE-00005 1\n",
     "propose gamma Ab3dE-00004 1 1 gr:id yyyyyyyyyyyyyyyyyyyyyyyyyyyyyyyyyyyyyyyyyyyyyyyyyyyyyyyyyyyyyyyy alpha,beta,gamma 0000:scabbard:alpha,Zz9a:scabbard:gamma,aaaa:scabbard:beta\n\
      calm Ab3dE-00004 2\n\
      vote alpha Ab3dE-00004 accept\n\
@@ -285,36 +225,6 @@ const SCHEDULES: [&str; 10] = [
      deliver beta alpha kYZZI-cRYrM 2\n\
      deliver beta alpha Ab3dE-00004 7\n\
      deliver alpha beta kYZZI-cRYrM 2\n",
-    "propose beta Ab3dE-00001 1 1 mmmmmmmmmmmmmmmmmmmmmmmmmmmmmmmm it's alpha,beta,gamma aaaa:scabbard:alpha,bbbb:scabbard:beta,cccc:scabbard:gamma\n\
-     calm Ab3dE-00001 4\n\
-     vote alpha Ab3dE-00001 accept\n\
-     calm Ab3dE-00001 4\n\
-     vote gamma Ab3dE-00001 accept\n\
-     calm Ab3dE-00001 8\n\
-     vote alpha iplM2-z6tgu accept\n\
-     deliver alpha beta Ab3dE-00001 2\n\
-     deliver alpha gamma Ab3dE-00001 1\n\
-     deliver beta alpha Ab3dE-00001 1\n\
-     deliver gamma alpha Ab3dE-00001 6\n\
-     show gamma Ab3dE-00001\n\
-     deliver beta alpha Ab3dE-00001 9\n\
-     deliver beta alpha Ab3dE-00001 3\n\
-     vote beta Ab3dE-00001 accept\n\
-     tick alpha Ab3dE-00001\n\
-     vote alpha Ab3dE-00004 accept\n\
-     deliver gamma alpha Ab3dE-00001 2\n\
-     vote beta Ab3dE-00004 accept\n\
-     tick beta Ab3dE-00001\n\
-     show gamma Ab3dE-00001\n\
-     propose beta Ab3dE-00004 1 1 mmmmmmmmmmmmmmmmmmmmmmmmmmmmmmmm <&> alpha,beta,gamma Zz9a:scabbard:gamma,cccc:scabbard:alpha,mv5u:scabbard:beta\n\
-     deliver beta alpha Ab3dE-00004 1\n\
-     deliver gamma alpha Ab3dE-00001 9\n\
-     tick beta Ab3dE-00004\n\
-     deliver alpha beta Ab3dE-00001 4\n\
-     deliver beta alpha Ab3dE-00001 9\n\
-     calm iplM2-z6tgu 1\n\
-     deliver gamma alpha Ab3dE-00001 4\n\
-     deliver alpha gamma Ab3dE-00001 4\n",
     "propose alpha Ab3dE-00004 2 1 gr:id x alpha,beta,gamma Zz9a:scabbard:gamma,aaaa:scabbard:alpha,euJr:scabbard:beta\n\
      calm Ab3dE-00004 4\n\
      vote beta Ab3dE-00004 accept\n\
@@ -375,6 +285,144 @@ const SCHEDULES: [&str; 10] = [
      deliver alpha gamma 3yR00-94rSQ 11\n\
      deliver gamma alpha 3yR00-94rSQ 8\n\
      deliver gamma alpha 3yR00-94rSQ 9\n",
+    "propose alpha Ab3dE-00001 1 1 grid trade alpha,beta aaaa:scabbard:beta,bbbb:scabbard:alpha\n\
+     calm Ab3dE-00001 3\n\
+     vote beta Ab3dE-00001 accept\n\
+     calm Ab3dE-00001 4\n\
+     calm Ab3dE-00001 3\n\
+     get alpha Ab3dE-00001 0000000000000000000000000000000000000000000000000000000000000000000000\n\
+     calm Ab3dE-00001 3\n\
+     tick beta Ab3dE-00001\n\
+     expire alpha Ab3dE-00001\n\
+     submit alpha Ab3dE-00001 5 tx in: get:0000000000000000000000000000000000000000000000000000000000000000000000 data:07\n\
+     history beta Ab3dE-00001\n\
+     submit beta Ab3dE-00001 3 tx out: set:0000000000000000000000000000000000000000000000000000000000000000000000=ff\n\
+     status beta Ab3dE-00001 6\n\
+     deliver beta alpha Ab3dE-00001 12\n\
+     root beta Ab3dE-00001\n\
+     history alpha Ab3dE-00001\n\
+     history alpha Ab3dE-00001\n\
+     calm Ab3dE-00001 1\n\
+     submit beta Ab3dE-00001 3 tx event:made=01\n\
+     expire beta Ab3dE-00001\n\
+     status gamma Ab3dE-00001 1\n\
+     deliver beta alpha Ab3dE-00001 12\n\
+     submit beta Ab3dE-00001 1 tx invalid:no\n\
+     submit beta Ab3dE-00001 1 tx data:00\n\
+     tick beta Ab3dE-00001\n\
+     list beta Ab3dE-00001 01\n\
+     tick beta Ab3dE-00001\n\
+     calm Ab3dE-00001 3\n\
+     show alpha Ab3dE-00001\n\
+     submit beta Ab3dE-00001 4 tx out: set:0000000000000000000000000000000000000000000000000000000000000000000000=2a2b tx out:01 set:0000000000000000000000000000000000000000000000000000000000000000000001=01\n\
+     status beta Ab3dE-00001 4\n\
+     calm Ab3dE-00001 2\n\
+     submit beta Ab3dE-00001 3 tx data:00\n\
+     submit beta Ab3dE-00001 1 tx out: set:0000000000000000000000000000000000000000000000000000000000000000000001=01 tx in: get:0000000000000000000000000000000000000000000000000000000000000000000000 data:07\n\
+     list beta Ab3dE-00001 01\n\
+     calm Ab3dE-00001 3\n\
+     submit alpha Ab3dE-00001 3 tx out:00 del:0000000000000000000000000000000000000000000000000000000000000000000002 tx out:01 set:0000000000000000000000000000000000000000000000000000000000000000000001=01\n\
+     deliver alpha beta Ab3dE-00001 9\n\
+     root alpha Ab3dE-00001\n\
+     list alpha Ab3dE-00001 -\n\
+     root beta Ab3dE-00001\n\
+     list beta Ab3dE-00001 -\n",
+    "propose alpha Ab3dE-00001 1 1 grid trade alpha,beta,gamma aaaa:scabbard:gamma,bbbb:scabbard:beta,cccc:scabbard:alpha\n\
+     calm Ab3dE-00001 3\n\
+     vote beta Ab3dE-00001 accept\n\
+     calm Ab3dE-00001 4\n\
+     vote gamma Ab3dE-00001 accept\n\
+     calm Ab3dE-00001 4\n\
+     submit beta Ab3dE-00001 2 tx out: set:0000000000000000000000000000000000000000000000000000000000000000000001=ff tx out: set:0000000000000000000000000000000000000000000000000000000000000000000001=\n\
+     status beta Ab3dE-00001 4\n\
+     submit alpha Ab3dE-00001 2 tx out: set:0000000000000000000000000000000000000000000000000000000000000000000002=ff tx out: set:0000000000000000000000000000000000000000000000000000000000000000000001=01\n\
+     submit beta Ab3dE-00001 3 tx event:made=01\n\
+     history alpha Ab3dE-00001\n\
+     tick alpha Ab3dE-00001\n\
+     tick alpha Ab3dE-00001\n\
+     submit alpha Ab3dE-00001 5 tx out:00 del:0000000000000000000000000000000000000000000000000000000000000000000001\n\
+     deliver alpha beta Ab3dE-00001 12\n\
+     calm Ab3dE-00001 2\n\
+     status gamma Ab3dE-00001 1\n\
+     status gamma Ab3dE-00001 1\n\
+     get gamma Ab3dE-00001 0000000000000000000000000000000000000000000000000000000000000000000000\n\
+     submit gamma Ab3dE-00001 1 tx event:made=01 tx out: set:0000000000000000000000000000000000000000000000000000000000000000000002=\n\
+     deliver gamma alpha Ab3dE-00001 9\n\
+     calm Ab3dE-00001 2\n\
+     status gamma Ab3dE-00001 1\n\
+     submit beta Ab3dE-00001 4 tx out:00 del:0000000000000000000000000000000000000000000000000000000000000000000000\n\
+     calm Ab3dE-00001 3\n\
+     submit alpha Ab3dE-00001 4 tx event:made=01 tx data:00\n\
+     tick alpha Ab3dE-00001\n\
+     deliver gamma beta Ab3dE-00001 12\n\
+     submit beta Ab3dE-00001 3 tx out: set:0000000000000000000000000000000000000000000000000000000000000000000000=2a2b\n\
+     submit gamma Ab3dE-00001 1 tx out: set:0000000000000000000000000000000000000000000000000000000000000000000001=01\n\
+     show alpha Ab3dE-00001\n\
+     deliver beta gamma Ab3dE-00001 6\n\
+     history beta Ab3dE-00001\n\
+     submit gamma Ab3dE-00001 5 tx out: set:0000000000000000000000000000000000000000000000000000000000000000000002=2a2b\n\
+     calm Ab3dE-00001 3\n\
+     route gamma Ab3dE-00001 alpha aaaa aaaa\n\
+     deliver beta gamma Ab3dE-00001 5\n\
+     calm Ab3dE-00001 3\n\
+     deliver alpha gamma Ab3dE-00001 12\n\
+     list gamma Ab3dE-00001 -\n\
+     root alpha Ab3dE-00001\n\
+     list alpha Ab3dE-00001 -\n\
+     root beta Ab3dE-00001\n\
+     list beta Ab3dE-00001 -\n\
+     root gamma Ab3dE-00001\n\
+     list gamma Ab3dE-00001 -\n",
+    "propose alpha Ab3dE-00001 1 1 grid trade alpha,beta aaaa:scabbard:beta,bbbb:scabbard:alpha\n\
+     calm Ab3dE-00001 3\n\
+     vote beta Ab3dE-00001 accept\n\
+     calm Ab3dE-00001 4\n\
+     propose alpha Ab3dE-00002 1 1 grid trade alpha,beta aaaa:scabbard:beta,bbbb:scabbard:alpha\n\
+     calm Ab3dE-00002 3\n\
+     vote beta Ab3dE-00002 accept\n\
+     calm Ab3dE-00002 4\n\
+     submit beta Ab3dE-00001 1 tx data:00 tx out:00 del:0000000000000000000000000000000000000000000000000000000000000000000001\n\
+     deliver alpha beta Ab3dE-00001 15\n\
+     deliver alpha beta Ab3dE-00001 8\n\
+     deliver alpha beta Ab3dE-00002 15\n\
+     submit beta Ab3dE-00002 4 tx error:why\n\
+     tick alpha Ab3dE-00002\n\
+     tick alpha Ab3dE-00001\n\
+     tick beta Ab3dE-00002\n\
+     tick beta Ab3dE-00001\n\
+     status beta Ab3dE-00001 6\n\
+     calm Ab3dE-00002 1\n\
+     route alpha Ab3dE-00002 alpha cccc aaaa\n\
+     calm Ab3dE-00002 1\n\
+     submit beta Ab3dE-00001 3 tx out:00 del:0000000000000000000000000000000000000000000000000000000000000000000001\n\
+     show alpha Ab3dE-00001\n\
+     submit alpha Ab3dE-00001 2 tx out: set:0000000000000000000000000000000000000000000000000000000000000000000000=ff\n\
+     history beta Ab3dE-00001\n\
+     deliver beta alpha Ab3dE-00001 14\n\
+     route alpha Ab3dE-00002 beta aaaa aaaa\n\
+     calm Ab3dE-00001 1\n\
+     history beta Ab3dE-00001\n\
+     calm Ab3dE-00002 2\n\
+     deliver beta alpha Ab3dE-00001 6\n\
+     deliver alpha beta Ab3dE-00001 13\n\
+     status alpha Ab3dE-00001 5\n\
+     route beta Ab3dE-00001 alpha aaaa aaaa\n\
+     status alpha Ab3dE-00002 6\n\
+     calm Ab3dE-00002 1\n\
+     submit alpha Ab3dE-00002 3 tx out: set:0000000000000000000000000000000000000000000000000000000000000000000001=01\n\
+     history beta Ab3dE-00002\n\
+     calm Ab3dE-00001 3\n\
+     deliver alpha beta Ab3dE-00002 6\n\
+     history alpha Ab3dE-00002\n\
+     submit alpha Ab3dE-00002 5 tx data:00 tx invalid:no\n\
+     root alpha Ab3dE-00001\n\
+     list alpha Ab3dE-00001 -\n\
+     root beta Ab3dE-00001\n\
+     list beta Ab3dE-00001 -\n\
+     root alpha Ab3dE-00002\n\
+     list alpha Ab3dE-00002 -\n\
+     root beta Ab3dE-00002\n\
+     list beta Ab3dE-00002 -\n",
 ];
 
 #[test]

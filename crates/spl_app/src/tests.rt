@@ -34,7 +34,7 @@ fn words(alloc: Global, texts: &[&str]) -> Result<Vec<String>, AllocError> {
 }
 
 // How a run of this schedule ends, and what it writes.
-fn ran(
+pub(crate) fn ran(
     alloc: Global,
     schedule: Vec<u8>,
     reads: &[u64],

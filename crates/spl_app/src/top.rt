@@ -5,10 +5,13 @@ ghost use Rattle.std.specs.Io.{appended_bytes};
 ghost use Rattle.std.specs.Io.KnownBytes.{Appends, Consumes, IsAtEnd};
 ghost use Rattle.spl_edge.specs.Causes.{Rose, AppendsPart};
 ghost use Rattle.spl_app.specs.Lines.{lines_of};
-ghost use Rattle.spl_app.specs.Run.{IsLine, IsFirstBad, answers};
+ghost use Rattle.spl_model.specs.Agreement.{Agree};
+ghost use Rattle.spl_app.specs.Run.{IsLine, IsFirstBad, registered, answers};
+ghost use Rattle.spl_app.specs.Behind.{ran};
 ghost use Rattle.spl_app.specs.Schedule.{IsReplay, IsSchedule, IsUnfinished, run_of, limit};
 
 use crate::Status;
+use crate::agree::runs_agree;
 use crate::lines::is_whole;
 use crate::run::{RunFault, run_lines};
 use spl_edge::{ReadEnd, Sink, Source, read_all};
@@ -79,6 +82,10 @@ pub fn splinter<S: Source, W: Sink>(
         (limit < length given) × AllByRecursion IsLine (run_of given)
         × Appends (W.written out.old) (W.written out.new) (answers (run_of given)) }
 
+    // With every status the members of each circuit agree, at each moment of the lines given:
+    // they hold fronts of one list of acts and of one list of batches, and tell those.
+    ensures agreed { Agree registered (ran (run_of (appended_bytes (S.taken schedule.old) (S.taken schedule.new)))) }
+
     // With every status a front of the answers is written, and what was taken is what the source
     // had.
     ensures part { AppendsPart (W.written out.old) (W.written out.new)
@@ -91,6 +98,7 @@ pub fn splinter<S: Source, W: Sink>(
         → IsSchedule (appended_bytes (S.taken schedule.old) (S.taken schedule.new))
         → (result ≡ Status.Ok) ⊎ (result ≡ Status.NoMemory) }
 {
+    runs_agree();
     if !is_replay(words) {
         return Status::Usage;
     }

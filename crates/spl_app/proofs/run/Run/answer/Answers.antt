@@ -1,4 +1,4 @@
-use Rattle.std.proofs.Common.{ℕ, List, rules, ◌++◌, subst, sym}
+use Rattle.std.proofs.Common.{ℕ, List, ◌++◌, subst, sym}
 use Rattle.spl_answer.specs.Texts.{text}
 use Rattle.spl_model.specs.Answers.{answer_to}
 use Rattle.spl_app.specs.Due.{IsDuePart}

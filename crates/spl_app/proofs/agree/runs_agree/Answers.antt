@@ -1,0 +1,7 @@
+use Rattle.spl_app.specs.Run.{registered}
+use Rattle.spl_app.specs.Behind.{ran}
+use Rattle.spl_app.proofs.Agreed.{ran_fits}
+use Rattle.spl_app.proofs.agree.runs_agree.Goals as goal
+
+pub returns : goal.returns
+returns c = λ lines. c.circuits_agree.ensures.lines registered (ran lines) (ran_fits c.lines_have_one_spelling.ensures lines)
