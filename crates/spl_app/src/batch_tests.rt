@@ -6,7 +6,7 @@ use std::process::Abort;
 use std::test::Fail;
 
 // A line, and its answer.
-type Row<'a> = (&'a str, &'a str);
+type Row = (&'static str, &'static str);
 
 // A circuit of alpha and beta that is active.
 const ACTIVE: [Row; 4] = [
@@ -19,27 +19,46 @@ const ACTIVE: [Row; 4] = [
     ("calm Ab3dE-00001 8", "ok calm 8"),
 ];
 
-// The lines run behind one another and are answered so.
-fn check(rt: &impl Abort, alloc: Global, rows: &[Row]) -> Result<(), Fail> {
-    let mut schedule = Vec::new(alloc);
-    let mut wanted = Vec::new(alloc);
-    for (i, (line, answer)) in rows.iter().enumerate() {
-        schedule.extend_from_slice(line.as_bytes())?;
-        schedule.push(b'\n')?;
-        let text = format!(in alloc; "{} {}\n", i.saturating_add(1), answer)?;
-        wanted.extend_from_slice(text.as_bytes())?;
-    }
-    let (status, written) = ran(alloc, schedule, &[], &[])?;
-    assert_eq!(rt; status, Status::Ok);
-    assert_eq!(rt; written.as_slice(), wanted.as_slice());
-    Ok(())
+// A schedule, and what has to be written of it.
+#[derive(Drop)]
+struct Script {
+    schedule: Vec<u8>,
+    wanted: Vec<u8>,
+    count: u32,
 }
 
-fn check_active(rt: &impl Abort, alloc: Global, rows: &[Row]) -> Result<(), Fail> {
-    let mut all = Vec::new(alloc);
-    all.extend_from_slice(&ACTIVE)?;
-    all.extend_from_slice(rows)?;
-    check(rt, alloc, &all)
+impl Script {
+    fn new(alloc: Global) -> Script {
+        Script {
+            schedule: Vec::new(alloc),
+            wanted: Vec::new(alloc),
+            count: 0,
+        }
+    }
+
+    fn row(&mut self, alloc: Global, line: &str, answer: &str) -> Result<(), Fail> {
+        self.count = self.count.saturating_add(1);
+        self.schedule.extend_from_slice(line.as_bytes())?;
+        self.schedule.push(b'\n')?;
+        let text = format!(in alloc; "{} {}\n", self.count, answer)?;
+        self.wanted.extend_from_slice(text.as_bytes())?;
+        Ok(())
+    }
+
+    fn rows(&mut self, alloc: Global, rows: &[Row]) -> Result<(), Fail> {
+        for (line, answer) in rows {
+            self.row(alloc, line, answer)?;
+        }
+        Ok(())
+    }
+
+    // The lines run behind one another and are answered so.
+    fn check(self, rt: &impl Abort, alloc: Global) -> Result<(), Fail> {
+        let (status, written) = ran(alloc, self.schedule, &[], &[])?;
+        assert_eq!(rt; status, Status::Ok);
+        assert_eq!(rt; written.as_slice(), self.wanted.as_slice());
+        Ok(())
+    }
 }
 
 // A batch whose second transaction is invalid: nothing of it is written, and the cause is told.
@@ -168,54 +187,54 @@ fn batches_in_an_active_circuit(rt: HostRuntime) -> Result<(), Fail> {
         ROUTES.as_slice(),
         DELETED.as_slice(),
     ] {
-        check_active(&rt, rt.alloc(), rows)?;
+        let mut script = Script::new(rt.alloc());
+        script.rows(rt.alloc(), &ACTIVE)?;
+        script.rows(rt.alloc(), rows)?;
+        script.check(&rt, rt.alloc())?;
     }
     Ok(())
 }
 
 // Where the circuit isn't active, each line about its batches is refused.
+const INACTIVE: [Row; 10] = [
+    ("submit alpha Ab3dE-00001 1 tx data:00", "refused 2"),
+    (
+        "propose alpha Ab3dE-00001 1 1 grid trade alpha,beta aaaa:scabbard:alpha,bbbb:scabbard:beta",
+        "ok queued",
+    ),
+    ("calm Ab3dE-00001 8", "ok calm 8"),
+    ("submit beta Ab3dE-00001 1 tx data:00", "refused 11"),
+    ("root beta Ab3dE-00001", "refused 11"),
+    (
+        "get beta Ab3dE-00001 0000000000000000000000000000000000000000000000000000000000000000000001",
+        "refused 11",
+    ),
+    ("list beta Ab3dE-00001 -", "refused 11"),
+    ("history beta Ab3dE-00001", "refused 11"),
+    ("status beta Ab3dE-00001 1", "refused 11"),
+    ("route beta Ab3dE-00001 alpha aaaa bbbb", "refused 18 1"),
+];
+
 #[test]
 fn before_a_circuit_is_active(rt: HostRuntime) -> Result<(), Fail> {
-    check(
-        &rt,
-        rt.alloc(),
-        &[
-            ("submit alpha Ab3dE-00001 1 tx data:00", "refused 2"),
-            (
-                "propose alpha Ab3dE-00001 1 1 grid trade alpha,beta aaaa:scabbard:alpha,bbbb:scabbard:beta",
-                "ok queued",
-            ),
-            ("calm Ab3dE-00001 8", "ok calm 8"),
-            ("submit beta Ab3dE-00001 1 tx data:00", "refused 11"),
-            ("root beta Ab3dE-00001", "refused 11"),
-            (
-                "get beta Ab3dE-00001 0000000000000000000000000000000000000000000000000000000000000000000001",
-                "refused 11",
-            ),
-            ("list beta Ab3dE-00001 -", "refused 11"),
-            ("history beta Ab3dE-00001", "refused 11"),
-            ("status beta Ab3dE-00001 1", "refused 11"),
-            ("route beta Ab3dE-00001 alpha aaaa bbbb", "refused 18 1"),
-        ],
-    )
+    let mut script = Script::new(rt.alloc());
+    script.rows(rt.alloc(), &INACTIVE)?;
+    script.check(&rt, rt.alloc())
 }
 
 // So many batches as may wait; then a further one is refused, and one that is known isn't.
 #[test]
 fn a_full_queue(rt: HostRuntime) -> Result<(), Fail> {
     let alloc = rt.alloc();
-    let mut lines = Vec::new(alloc);
+    let mut script = Script::new(alloc);
+    script.rows(alloc, &ACTIVE)?;
     for id in 1..66u64 {
-        lines.push(format!(in alloc; "submit alpha Ab3dE-00001 {} tx data:00", id)?)?;
+        let line = format!(in alloc; "submit alpha Ab3dE-00001 {} tx data:00", id)?;
+        let answer = if id < 65 { "ok queued" } else { "refused 15" };
+        script.row(alloc, line.as_str(), answer)?;
     }
-    let mut rows = Vec::new(alloc);
-    rows.extend_from_slice(&ACTIVE)?;
-    for (i, line) in lines.iter().enumerate() {
-        let answer = if i < 64 { "ok queued" } else { "refused 15" };
-        rows.push((line.as_str(), answer))?;
-    }
-    rows.push(("submit alpha Ab3dE-00001 1 tx data:00", "ok known"))?;
-    rows.push(("submit alpha Ab3dE-00001 1 tx data:01", "refused 14"))?;
-    rows.push(("submit alpha Ab3dE-00001 66", "refused 13 1"))?;
-    check(&rt, alloc, &rows)
+    script.row(alloc, "submit alpha Ab3dE-00001 1 tx data:00", "ok known")?;
+    script.row(alloc, "submit alpha Ab3dE-00001 1 tx data:01", "refused 14")?;
+    script.row(alloc, "submit alpha Ab3dE-00001 66", "refused 13 1")?;
+    script.check(&rt, alloc)
 }
