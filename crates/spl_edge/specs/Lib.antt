@@ -1,2 +1,7 @@
 pub mod Causes
 pub mod Memory
+pub mod Image
+pub mod Calls
+pub mod Picks
+pub mod Fabrics
+pub mod ImageLaws

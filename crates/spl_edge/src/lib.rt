@@ -1,12 +1,18 @@
 //! The traits of the outside, by which a run reads and writes, and objects in memory that meet them.
 #![tactic(auto)]
 
+mod bench;
+mod disk;
+mod fabric;
 mod fault;
 mod fill;
 mod memory;
 mod sink;
 mod source;
 
+pub use bench::{Bench, Pair, Shelf};
+pub use disk::{Armed, Arming, Disk, StopDisk};
+pub use fabric::Fabric;
 pub use fault::DeviceError;
 pub use fill::Fill;
 pub use memory::{MemSink, MemSource};

@@ -1,0 +1,4 @@
+mod Held
+mod Kept
+mod Told
+mod Streams

@@ -1,0 +1,4 @@
+pub mod Replay
+pub mod MemDisks
+pub mod Lanes
+pub mod Fabrics
