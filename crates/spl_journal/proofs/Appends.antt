@@ -1,0 +1,151 @@
+-- What an append leaves, as records.
+use Rattle.std.proofs.Common.{◌≡◌, ◌≢◌, inl, inr, ⊎_elim, ℕ, ◌+◌, ◌-◌, ◌<◌, ◌≤◌, max, List, [], ◌∷◌, ◌++◌, length, get_or, take, drop, Bool, Option, None, Some, IfSome, IsSome, Ok, refl, sym, ◌∙◌, ap, subst, arith, append_assoc, length-append, length-take, length-drop}
+use Rattle.std.specs.Option.{option_map}
+use Rattle.std.proofs.lemmas.List.{take_at, drop_at, get_or_at, get_or-take, get_or-drop, take-take}
+use Rattle.std.proofs.lemmas.Bool.{cases_eq}
+use Rattle.spl_edge.specs.Image.{Image, patched}
+use Rattle.spl_journal.specs.Gate.{IsReady, LeavesSince, IsUpToGate, IsBehindGate, behind, opened}
+use Rattle.spl_journal.specs.Records.{size_bytes, block, sized, records, records_of, IsGood, IsFront, Holds, Standing, IsBeforeOrAfter, SameHead}
+use Rattle.spl_journal.proofs.Sizes.{length-size_bytes, same_epoch}
+use Rattle.spl_journal.proofs.Pieces.{lift1, lift2}
+use Rattle.spl_journal.proofs.Readings.{holds_own}
+use Rattle.spl_journal.proofs.Images.{Safe, front_of_patched, only_settled}
+use Rattle.spl_journal.proofs.Gates.{started}
+use Rattle.spl_journal.proofs.Walks.{length-block, closed, front_more, front_same}
+
+pub behind_is : (gate : ℕ) (piece bytes : List ℕ) (byte : ℕ) → gate < length bytes → behind gate piece bytes byte ≡ take gate bytes ++ byte ∷ (piece ++ drop (gate + 1 + length piece) bytes)
+behind_is gate piece bytes byte within =
+    let staged = patched bytes (gate + 1) piece in
+    let start : take (gate + 1) bytes ++ piece ++ drop (gate + 1 + length piece) bytes ≡ take (gate + 1) bytes ++ (piece ++ drop (gate + 1 + length piece) bytes) = append_assoc (take (gate + 1) bytes) piece (drop (gate + 1 + length piece) bytes) in
+    let rest : drop (gate + 1) staged ≡ piece ++ drop (gate + 1 + length piece) bytes = ap (drop (gate + 1)) start ∙ drop_at (take (gate + 1) bytes) (piece ++ drop (gate + 1 + length piece) bytes) (gate + 1) (omega (arith, length-take (gate + 1) bytes, within)) in
+    let front : take gate staged ≡ take gate bytes = sym (take-take gate (gate + 1) staged (omega arith)) ∙ ap (take gate) (front_of_patched bytes piece (gate + 1) (omega (arith, within))) ∙ take-take gate (gate + 1) bytes (omega arith) in
+    ap (λ (l : List ℕ). l ++ (byte ∷ []) ++ drop (gate + 1) staged) front ∙ ap (λ (l : List ℕ). take gate bytes ++ (byte ∷ []) ++ l) rest ∙ append_assoc (take gate bytes) (byte ∷ []) (piece ++ drop (gate + 1 + length piece) bytes)
+
+module _ (gate : ℕ) (piece bytes : List ℕ) (byte : ℕ) (within : gate < length bytes) (c : List ℕ) (is : c ≡ behind gate piece bytes byte) where
+  whole : c ≡ take gate bytes ++ byte ∷ (piece ++ drop (gate + 1 + length piece) bytes)
+  whole = is ∙ behind_is gate piece bytes byte within
+
+  size : length (take gate bytes) ≡ gate
+  size = omega (arith, length-take gate bytes, within)
+
+  pub front_kept : take gate c ≡ take gate bytes
+  front_kept = ap (take gate) whole ∙ take_at (take gate bytes) (byte ∷ (piece ++ drop (gate + 1 + length piece) bytes)) gate size
+
+  pub gate_is : get_or c gate 0 ≡ byte
+  gate_is = ap (λ (l : List ℕ). get_or l gate 0) whole ∙ get_or_at (take gate bytes) byte (piece ++ drop (gate + 1 + length piece) bytes) 0 gate size
+
+  pub rest_is : drop gate c ≡ byte ∷ (piece ++ drop (gate + 1 + length piece) bytes)
+  rest_is = ap (drop gate) whole ∙ drop_at (take gate bytes) (byte ∷ (piece ++ drop (gate + 1 + length piece) bytes)) gate size
+
+  pub long : length c ≡ gate + 1 + (length piece + (length bytes - (gate + 1 + length piece)))
+  long = omega (arith, ap length whole, length-append (take gate bytes) (byte ∷ (piece ++ drop (gate + 1 + length piece) bytes)), size, length-append piece (drop (gate + 1 + length piece) bytes), length-drop (gate + 1 + length piece) bytes)
+
+pub length-sized : (r : List ℕ) → length (sized r) ≡ 5 + length r
+length-sized r = omega (arith, length-append (size_bytes (length r) ++ r) (0 ∷ []), length-append (size_bytes (length r)) r, length-size_bytes (length r))
+
+-- the gate is open: one record more, and a closed gate behind it
+module _ (fits : List ℕ → Bool) (gate : ℕ) (rs : List (List ℕ)) (bytes r c : List ℕ) (front : IsFront fits gate rs bytes) (good : IsGood fits r) (is : c ≡ behind gate (sized r) bytes 1) where
+  rest : drop gate c ≡ block r ++ 0 ∷ drop (gate + 1 + length (sized r)) bytes
+  rest = rest_is gate (sized r) bytes 1 front.room c is ∙ ap (λ (l : List ℕ). 1 ∷ l) (append_assoc (size_bytes (length r) ++ r) (0 ∷ []) (drop (gate + 1 + length (sized r)) bytes))
+
+  room : gate + 5 + length r < length c
+  room = omega (arith, long gate (sized r) bytes 1 front.room c is, length-sized r)
+
+  pub front_after : IsFront fits (gate + 5 + length r) (rs ++ r ∷ []) c
+  front_after = front_more fits gate rs c r (front_same fits gate rs bytes c front (front_kept gate (sized r) bytes 1 front.room c is) (omega (arith, room))) good
+      (ap (take (5 + length r)) rest ∙ take_at (block r) (0 ∷ drop (gate + 1 + length (sized r)) bytes) (5 + length r) (length-block r)) room
+
+  pub shut_after : get_or c (gate + 5 + length r) 0 ≢ 1
+  shut_after one =
+      let place : gate + 5 + length r ≡ gate + (5 + length r) = omega arith in
+      let nought : get_or c (gate + 5 + length r) 0 ≡ 0 =
+      ap (λ (n : ℕ). get_or c n 0) place ∙ sym (get_or-drop gate c (5 + length r) 0) ∙ ap (λ (l : List ℕ). get_or l (5 + length r) 0) rest
+      ∙ get_or_at (block r) 0 (drop (gate + 1 + length (sized r)) bytes) 0 (5 + length r) (length-block r) in
+      omega (arith, one, nought)
+
+-- each outcome of an append
+pub before_or_after : (fits : List ℕ → Bool) (gate : ℕ) (rs : List (List ℕ)) (bytes r c : List ℕ) → IsFront fits gate rs bytes → get_or bytes gate 0 ≢ 1 → IsGood fits r → IsBehindGate gate (sized r) bytes c → IsBeforeOrAfter fits rs r c
+before_or_after fits gate rs bytes r c front shut good = ⊎_elim
+    (λ (up : IsUpToGate gate bytes c).
+    let less : take gate c ≡ take gate bytes = sym (take-take gate (gate + 1) c (omega arith)) ∙ ap (take gate) up.same ∙ take-take gate (gate + 1) bytes (omega arith) in
+    let same : get_or c gate 0 ≡ get_or bytes gate 0 = sym (get_or-take (gate + 1) c gate 0 (omega arith)) ∙ ap (λ (l : List ℕ). get_or l gate 0) up.same ∙ get_or-take (gate + 1) bytes gate 0 (omega arith) in
+    inl (closed fits gate rs c (front_same fits gate rs bytes c front less up.within) (λ one. shut (sym same ∙ one))))
+    (λ (byte, is). ⊎_elim
+    (λ (one : byte ≡ 1).
+    let now : c ≡ behind gate (sized r) bytes 1 = is ∙ ap (behind gate (sized r) bytes) one in
+    inr (closed fits (gate + 5 + length r) (rs ++ r ∷ []) c (front_after fits gate rs bytes r c front good now) (shut_after fits gate rs bytes r c front good now)))
+    (λ other. inl (closed fits gate rs c (front_same fits gate rs bytes c front (front_kept gate (sized r) bytes byte front.room c is) (omega (arith, long gate (sized r) bytes byte front.room c is)))
+    (λ one. other (sym (gate_is gate (sized r) bytes byte front.room c is) ∙ one))))
+    (cases_eq byte 1))
+
+pub leaves_map : (at : ℕ → Option Image) (first last : ℕ) (P Q : List ℕ → Type 0) → ((c : List ℕ) → P c → Q c) → LeavesSince at first last P → LeavesSince at first last Q
+leaves_map at first last P Q f left k low high = lift1 (at k) (Safe P) (Safe Q) (left k low high) (λ i safe c may. f c (safe c may))
+
+-- the head stays
+pub head_stays : (gate : ℕ) (piece bytes c : List ℕ) → 17 ≤ gate → gate < length bytes → IsBehindGate gate piece bytes c → SameHead bytes c
+head_stays gate piece bytes c low within = ⊎_elim
+    (λ (up : IsUpToGate gate bytes c). record { same = less (gate + 1) (omega (arith, low)) up.same; room = omega (arith, low, up.within) })
+    (λ (byte, is). record { same = less gate low (front_kept gate piece bytes byte within c is); room = omega (arith, low, within, long gate piece bytes byte within c is) })
+  where
+    less : (n : ℕ) → 17 ≤ n → take n c ≡ take n bytes → take 17 c ≡ take 17 bytes
+    less n le same = sym (take-take 17 n c le) ∙ ap (take 17) same ∙ take-take 17 n bytes le
+
+module _ (fits : List ℕ → Bool) (gate extent epoch : ℕ) (r : List ℕ) where
+  pub ready : (told : Option Image) → IfSome told (Standing fits gate extent epoch) → IfSome told (IsReady gate)
+  ready told stands = lift1 told (Standing fits gate extent epoch) (IsReady gate) stands (λ i s. record { settled = s.holds.settled; within = s.holds.front.room })
+
+  low : (i : Image) → Standing fits gate extent epoch i → 17 ≤ gate
+  low i s = omega (arith, s.holds.front.place)
+
+  -- what is left has the records of before, or one more
+  pub append_leaves : (told : Option Image) (at : ℕ → Option Image) (first last : ℕ) → IfSome told (Standing fits gate extent epoch) → IsGood fits r
+      → IfSome told (λ i. LeavesSince at first last (IsBehindGate gate (sized r) i.bytes)) → IfSome told (λ i. LeavesSince at first last (IsBeforeOrAfter fits (records_of fits i.bytes) r))
+  append_leaves told at first last stands good left = lift2 told (Standing fits gate extent epoch) (λ i. LeavesSince at first last (IsBehindGate gate (sized r) i.bytes)) (λ i. LeavesSince at first last (IsBeforeOrAfter fits (records_of fits i.bytes) r)) stands left
+      (λ i s l. leaves_map at first last (IsBehindGate gate (sized r) i.bytes) (IsBeforeOrAfter fits (records_of fits i.bytes) r) (λ c b. before_or_after fits gate (records_of fits i.bytes) i.bytes r c s.holds.front s.holds.shut good b) l)
+
+  pub head_leaves : (told : Option Image) (at : ℕ → Option Image) (first last : ℕ) → IfSome told (Standing fits gate extent epoch)
+      → IfSome told (λ i. LeavesSince at first last (IsBehindGate gate (sized r) i.bytes)) → IfSome told (λ i. LeavesSince at first last (SameHead i.bytes))
+  head_leaves told at first last stands left = lift2 told (Standing fits gate extent epoch) (λ i. LeavesSince at first last (IsBehindGate gate (sized r) i.bytes)) (λ i. LeavesSince at first last (SameHead i.bytes)) stands left
+      (λ i s l. leaves_map at first last (IsBehindGate gate (sized r) i.bytes) (SameHead i.bytes) (λ c b. head_stays gate (sized r) i.bytes c (low i s) s.holds.front.room b) l)
+
+  -- before the first call
+  begun : (i : Image) (at : ℕ → Option Image) (first : ℕ) → Standing fits gate extent epoch i → at first ≡ Some i → LeavesSince at first first (IsBehindGate gate (sized r) i.bytes)
+  begun i at first s here = started at first (IsBehindGate gate (sized r) i.bytes) (subst (λ (o : Option Image). IfSome o (Safe (IsBehindGate gate (sized r) i.bytes))) (sym here)
+      (λ c left. let same = only_settled i c s.holds.settled left in inl (record { same = ap (take (gate + 1)) same; within = omega (arith, ap length same, s.holds.front.room) })))
+
+  pub append_begun : (told : Option Image) (at : ℕ → Option Image) (first : ℕ) → IfSome told (Standing fits gate extent epoch) → at first ≡ told → IfSome told (λ i. LeavesSince at first first (IsBehindGate gate (sized r) i.bytes))
+  append_begun None at first stands here = tt
+  append_begun (Some i) at first stands here = begun i at first stands here
+
+  module _ (i : Image) (s : Standing fits gate extent epoch i) (good : IsGood fits r) where
+    holds_after : Holds fits (gate + 5 + length r) (records_of fits i.bytes ++ r ∷ []) (opened gate (sized r) 4 i)
+    holds_after = record {
+      front = front_after fits gate (records_of fits i.bytes) i.bytes r (behind gate (sized r) i.bytes 1) s.holds.front good refl;
+      shut = shut_after fits gate (records_of fits i.bytes) i.bytes r (behind gate (sized r) i.bytes 1) s.holds.front good refl;
+      settled = record { same = refl; none = refl; least = refl; greatest = refl };
+    }
+
+    records_after : records fits (opened gate (sized r) 4 i).bytes ≡ Ok (records_of fits i.bytes ++ r ∷ [])
+    records_after = closed fits (gate + 5 + length r) (records_of fits i.bytes ++ r ∷ []) (opened gate (sized r) 4 i).bytes holds_after.front holds_after.shut
+
+    standing_after : (end size : ℕ) → end ≡ gate + 5 + length r → size ≡ max extent (end + 1) → Standing fits end size epoch (opened gate (sized r) 4 i)
+    standing_after end size place grown =
+        let kept : take 17 (behind gate (sized r) i.bytes 1) ≡ take 17 i.bytes = (head_stays gate (sized r) i.bytes (behind gate (sized r) i.bytes 1) (low i s) s.holds.front.room (inr (1, refl))).same in
+        record {
+          holds = subst (λ (n : ℕ). Holds fits n (records_of fits (opened gate (sized r) 4 i).bytes) (opened gate (sized r) 4 i)) (sym place) (holds_own fits (gate + 5 + length r) (records_of fits i.bytes ++ r ∷ []) (opened gate (sized r) 4 i) holds_after);
+          extent_is = omega (arith, long gate (sized r) i.bytes 1 s.holds.front.room (behind gate (sized r) i.bytes 1) refl, length-sized r, s.extent_is, s.holds.front.room, place, grown);
+          epoch_is = same_epoch i.bytes (behind gate (sized r) i.bytes 1) kept ∙ s.epoch_is;
+        }
+
+  pub stands_after : (told new : Option Image) (end size : ℕ) → IfSome told (Standing fits gate extent epoch) → IsGood fits r → new ≡ option_map (opened gate (sized r) 4) told → end ≡ gate + 5 + length r → size ≡ max extent (end + 1) → IfSome new (Standing fits end size epoch)
+  stands_after None new end size stands good is place grown = subst (λ (o : Option Image). IfSome o (Standing fits end size epoch)) (sym is) tt
+  stands_after (Some i) new end size stands good is place grown = subst (λ (o : Option Image). IfSome o (Standing fits end size epoch)) (sym is) (standing_after i stands good end size place grown)
+
+  pub records_told : (told new : Option Image) → IfSome told (Standing fits gate extent epoch) → IsGood fits r → new ≡ option_map (opened gate (sized r) 4) told → IfSome told (λ i. IfSome new (λ j. records fits j.bytes ≡ Ok (records_of fits i.bytes ++ r ∷ [])))
+  records_told None new stands good is = tt
+  records_told (Some i) new stands good is = subst (λ (o : Option Image). IfSome o (λ j. records fits j.bytes ≡ Ok (records_of fits i.bytes ++ r ∷ []))) (sym is) (records_after i stands good)
+
+-- what told goes on telling
+pub still_told : (told new : Option Image) (f : Image → Image) → new ≡ option_map f told → IfSome told (λ i. IsSome new)
+still_told None new f is = tt
+still_told (Some i) new f is = subst (λ (o : Option Image). IsSome o) (sym is) refl

@@ -1,0 +1,79 @@
+-- Which bytes have an open head, and what a disk that stands tells.
+use Rattle.std.proofs.Common.{◌≡◌, ◌⊎◌, inl, inr, ⊎_elim, ℕ, ◌+◌, ◌<◌, ◌≤◌, List, [], length, get_or, take, Bool, true, false, nat_le, nat_eq, ◌==◌, ◌&&◌, if◌then◌else◌, is_none, IsTrue, Option, None, Some, IfSome, Ok, sym, ◌∙◌, ap, subst, arith}
+use Rattle.std.specs.List.{starts_with}
+use Rattle.std.specs.Cmp.Lexicographic.{pointwise}
+use Rattle.std.specs.Option.{option_map}
+use Rattle.std.proofs.lemmas.List.{take-take, get_or-take}
+use Rattle.std.proofs.lemmas.Bool.{cases_lt}
+use Rattle.std.proofs.lemmas.Bool.Decides.{nat_tests}
+use Rattle.spl_edge.specs.Image.{Image}
+use Rattle.spl_edge.specs.Calls.{SamePast, fails_at}
+use Rattle.spl_edge.specs.declared.disk.Armed.{Armed}
+use Rattle.spl_journal.specs.Clear.{IsShortOrSame}
+use Rattle.spl_journal.specs.Gate.{LeavesSince, ByCalls}
+use Rattle.spl_journal.specs.Records.{magic, is_headed, head_fault, is_open, epoch_in, records, records_of, Standing, SameHead}
+use Rattle.spl_journal.proofs.Images.{Safe}
+use Rattle.spl_journal.proofs.Sizes.{same_epoch}
+use Rattle.spl_journal.proofs.Walks.{closed, front_same}
+use Rattle.spl_journal.proofs.Pieces.{front_first}
+
+-- a disk that keeps its open head
+pub same_open : (bytes c : List ℕ) → head_fault bytes ≡ None → SameHead bytes c → is_open c ≡ true
+same_open bytes c head kept = ap (λ (h : Option ℕ). is_none h) (front_same (λ r. true) 17 [] bytes c (front_first (λ r. true) bytes head) kept.same kept.room).head
+
+pub kept_epoch : (bytes c : List ℕ) → SameHead bytes c → epoch_in c ≡ epoch_in bytes
+kept_epoch bytes c kept = same_epoch bytes c kept.same
+
+le_false : (a b : ℕ) → b < a → nat_le a b ≡ false
+le_false a b lt = grind (arith, nat_tests)
+
+le_true : (a b : ℕ) → a ≤ b → nat_le a b ≡ true
+le_true a b le = grind (arith, nat_tests)
+
+-- fewer than 18 bytes are no open head
+pub short_shut : (c : List ℕ) → length c < 18 → is_open c ≡ false
+short_shut c short = ap (λ (b : Bool). is_none {T = ℕ} (if (b && starts_with nat_eq c magic) then (if get_or c 16 0 == 1 then None else Some 16) else Some 0)) (le_false 18 (length c) short)
+
+-- the same first 17 bytes, of 18 or more, are the same head
+long_same : (bytes c : List ℕ) → take 17 c ≡ take 17 bytes → 18 ≤ length c → 18 ≤ length bytes → is_open c ≡ is_open bytes
+long_same bytes c same long room =
+    ap (λ (b : Bool). is_none {T = ℕ} (if (b && starts_with nat_eq c magic) then (if get_or c 16 0 == 1 then None else Some 16) else Some 0)) (le_true 18 (length c) long ∙ sym (le_true 18 (length bytes) room))
+    ∙ ap (λ (l : List ℕ). is_none {T = ℕ} (if (nat_le 18 (length bytes) && pointwise nat_eq magic l) then (if get_or c 16 0 == 1 then None else Some 16) else Some 0)) (front 8 (omega arith))
+    ∙ ap (λ (n : ℕ). is_none {T = ℕ} (if is_headed bytes then (if n == 1 then None else Some 16) else Some 0)) gate
+  where
+    front : (n : ℕ) → n ≤ 17 → take n c ≡ take n bytes
+    front n le = sym (take-take n 17 c le) ∙ ap (take n) same ∙ take-take n 17 bytes le
+
+    gate : get_or c 16 0 ≡ get_or bytes 16 0
+    gate = sym (get_or-take 17 c 16 0 (omega arith)) ∙ ap (λ (l : List ℕ). get_or l 16 0) same ∙ get_or-take 17 bytes 16 0 (omega arith)
+
+-- a disk that is being cleared isn't open, or as open as it was
+pub shut_or_same : (bytes c : List ℕ) → IsShortOrSame bytes c → (is_open c ≡ false) ⊎ ((is_open c ≡ is_open bytes) × (epoch_in c ≡ epoch_in bytes))
+shut_or_same bytes c = ⊎_elim
+    (λ (short : length c < 18). inl (short_shut c short))
+    (λ (same, room). ⊎_elim
+    (λ (short : length c < 18). inl (short_shut c short))
+    (λ (long : 18 ≤ length c). inr (long_same bytes c same long (omega (arith, long, room)), same_epoch bytes c same))
+    (cases_lt (length c) 18))
+
+module _ (fits : List ℕ → Bool) (end extent epoch : ℕ) (i : Image) (s : Standing fits end extent epoch i) where
+  pub standing_open : is_open i.bytes ≡ true
+  standing_open = ap (λ (h : Option ℕ). is_none h) s.holds.front.head
+
+  pub standing_records : records fits i.bytes ≡ Ok (records_of fits i.bytes)
+  standing_records = closed fits end (records_of fits i.bytes) i.bytes s.holds.front s.holds.shut
+
+-- what may be left at these moments and at those
+pub leaves_join : (at later : ℕ → Option Image) (first m last : ℕ) (P : List ℕ → Type 0) → LeavesSince at first m P → SamePast at m later → LeavesSince later m last P → LeavesSince later first last P
+leaves_join at later first m last P before past behind k low high = ⊎_elim
+    (λ (lt : k < m). subst (λ (o : Option Image). IfSome o (Safe P)) (sym (past k (omega (arith, lt)))) (before k low (omega (arith, lt))))
+    (λ (le : m ≤ k). behind k le high)
+    (cases_lt k m)
+
+-- a call that made all its calls of a disk
+module _ (most : ℕ) (at : ℕ → Option Image) (first now : ℕ) (f : ℕ → Image → Image) (told : Option Image) (armed : Armed) (ok failed : Type 0) (calls : ByCalls most at first now f told armed ok failed) (is_ok : ok) where
+  pub all_passed : (n : ℕ) → n < most → IsTrue (fails_at armed (first + n)) → ⊥
+  all_passed n lt due = let all = calls.whole is_ok in calls.passed n (omega (arith, lt, all)) due
+
+  pub told_then : now ≡ first + most → at now ≡ option_map (f most) told
+  told_then is = let all = calls.whole is_ok in ap at is ∙ ap (λ (n : ℕ). at (first + n)) (sym all) ∙ calls.stands ∙ ap (λ (n : ℕ). option_map (f n) told) all

@@ -1,0 +1,145 @@
+-- What a stop in an append leaves.
+use Rattle.std.proofs.Common.{◌≡◌, inl, inr, ⊎_elim, ℕ, zero, suc, ◌+◌, ◌<◌, ◌≤◌, List, [], ◌∷◌, ◌++◌, length, get_or, take, Bool, true, false, ◌==◌, Ok, refl, sym, ◌∙◌, ap, subst, arith, length-take}
+use Rattle.std.proofs.lemmas.List.{ext_get_or, get_or-take, take-take}
+use Rattle.std.proofs.lemmas.Bool.{cases_lt, cases_eq}
+use Rattle.std.proofs.lemmas.Bool.Decides.{nat_tests}
+use Rattle.spl_edge.specs.declared.fill.Fill.{Fill}
+use Rattle.spl_edge.specs.declared.fill.Fill.TheVariants.{Old, New, Byte}
+use Rattle.spl_edge.specs.Image.{Image, patched}
+use Rattle.spl_edge.specs.Picks.{painted, filled, picked_bytes}
+use Rattle.spl_edge.specs.ImageLaws.{length-patched, length-painted, painted_outside, patched_below, patched_above, patched_within}
+use Rattle.spl_journal.specs.Gate.{behind, opened, IsBehindGate}
+use Rattle.spl_journal.specs.Records.{sized, records, records_of, IsGood, Standing, SameHead}
+use Rattle.spl_journal.specs.Stops.{is_kept, kept_records}
+use Rattle.spl_journal.proofs.Images.{front_of_patched}
+use Rattle.spl_journal.proofs.Walks.{closed, front_same}
+use Rattle.spl_journal.proofs.Appends.{front_kept, gate_is, long, front_after, shut_after, head_stays}
+
+-- one byte over another
+patched_again : (old : List ℕ) (at x y : ℕ) → at < length old → take (length (patched old at (x ∷ []))) (patched (patched old at (x ∷ [])) at (y ∷ [])) ≡ patched old at (y ∷ [])
+patched_again old at x y within = ext_get_or 0 (take (length once) twice) (patched old at (y ∷ [])) (omega (arith, length-take (length once) twice, size, size_twice, size_y)) same
+  where
+    once : List ℕ
+    once = patched old at (x ∷ [])
+
+    twice : List ℕ
+    twice = patched once at (y ∷ [])
+
+    size : length once ≡ length old
+    size = omega (arith, length-patched old (x ∷ []) at (omega (arith, within)), within)
+
+    size_twice : length twice ≡ length old
+    size_twice = omega (arith, length-patched once (y ∷ []) at (omega (arith, within, size)), within, size)
+
+    size_y : length (patched old at (y ∷ [])) ≡ length old
+    size_y = omega (arith, length-patched old (y ∷ []) at (omega (arith, within)), within)
+
+    same : (k : ℕ) → k < length (take (length once) twice) → get_or (take (length once) twice) k 0 ≡ get_or (patched old at (y ∷ [])) k 0
+    same k lt =
+        let less : k < length once = omega (arith, length-take (length once) twice, lt) in
+        get_or-take (length once) twice k 0 less
+        ∙ ⊎_elim
+        (λ (b : k < at). patched_below once (y ∷ []) at k (omega (arith, within, size)) b ∙ patched_below old (x ∷ []) at k (omega (arith, within)) b ∙ sym (patched_below old (y ∷ []) at k (omega (arith, within)) b))
+        (λ (a : at ≤ k). ⊎_elim
+        (λ (b : k < at + 1). patched_within once (y ∷ []) at k (omega (arith, within, size)) a b ∙ sym (patched_within old (y ∷ []) at k (omega (arith, within)) a b))
+        (λ (b : at + 1 ≤ k). patched_above once (y ∷ []) at k (omega (arith, within, size)) b ∙ patched_above old (x ∷ []) at k (omega (arith, within)) b ∙ sym (patched_above old (y ∷ []) at k (omega (arith, within)) b))
+        (cases_lt k (at + 1)))
+        (cases_lt k at)
+
+-- a range behind the gate that is painted
+painted_front : (b at n m : ℕ) (bytes : List ℕ) → m ≤ at → take m (painted b (at, n) bytes) ≡ take m bytes
+painted_front b at n m bytes le = ext_get_or 0 (take m (painted b (at, n) bytes)) (take m bytes) (omega (arith, length-take m (painted b (at, n) bytes), length-take m bytes, length-painted b at n bytes))
+    (λ k lt. get_or-take m (painted b (at, n) bytes) k 0 (omega (arith, length-take m (painted b (at, n) bytes), lt))
+    ∙ painted_outside b at n k bytes (omega (arith, length-take m (painted b (at, n) bytes), length-painted b at n bytes, lt)) (inl (omega (arith, length-take m (painted b (at, n) bytes), lt, le)))
+    ∙ sym (get_or-take m bytes k 0 (omega (arith, length-take m (painted b (at, n) bytes), lt))))
+
+one_is : (b : ℕ) → b ≡ 1 → (b == 1) ≡ true
+one_is b is = grind (arith, nat_tests)
+
+one_is_not : (b : ℕ) → (b ≡ 1 → ⊥) → (b == 1) ≡ false
+one_is_not b other = grind (arith, nat_tests)
+
+module _ (fits : List ℕ → Bool) (gate extent epoch : ℕ) (i : Image) (r : List ℕ) (s : Standing fits gate extent epoch i) (good : IsGood fits r) where
+  -- all as it was up to the gate
+  up : (c : List ℕ) → take (gate + 1) c ≡ take (gate + 1) i.bytes → gate < length c → records fits c ≡ Ok (records_of fits i.bytes)
+  up c same within =
+      let less : take gate c ≡ take gate i.bytes = sym (take-take gate (gate + 1) c (omega arith)) ∙ ap (take gate) same ∙ take-take gate (gate + 1) i.bytes (omega arith) in
+      let at_gate : get_or c gate 0 ≡ get_or i.bytes gate 0 = sym (get_or-take (gate + 1) c gate 0 (omega arith)) ∙ ap (λ (l : List ℕ). get_or l gate 0) same ∙ get_or-take (gate + 1) i.bytes gate 0 (omega arith) in
+      closed fits gate (records_of fits i.bytes) c (front_same fits gate (records_of fits i.bytes) i.bytes c s.holds.front less within) (λ one. s.holds.shut (sym at_gate ∙ one))
+
+  staged_front : take (gate + 1) (patched i.bytes (gate + 1) (sized r)) ≡ take (gate + 1) i.bytes
+  staged_front = front_of_patched i.bytes (sized r) (gate + 1) (omega (arith, s.holds.front.room))
+
+  staged_long : gate < length (patched i.bytes (gate + 1) (sized r))
+  staged_long = omega (arith, length-patched i.bytes (sized r) (gate + 1) (omega (arith, s.holds.front.room)), s.holds.front.room)
+
+  up_staged : records fits (patched i.bytes (gate + 1) (sized r)) ≡ Ok (records_of fits i.bytes)
+  up_staged = up (patched i.bytes (gate + 1) (sized r)) staged_front staged_long
+
+  -- by the byte in the gate
+  by_gate : (byte : ℕ) → records fits (behind gate (sized r) i.bytes byte) ≡ Ok (kept_records (byte == 1) (records_of fits i.bytes) r)
+  by_gate byte = ⊎_elim
+      (λ (one : byte ≡ 1).
+      let now : behind gate (sized r) i.bytes byte ≡ behind gate (sized r) i.bytes 1 = ap (behind gate (sized r) i.bytes) one in
+      ap (records fits) now
+      ∙ closed fits (gate + 5 + length r) (records_of fits i.bytes ++ r ∷ []) (behind gate (sized r) i.bytes 1) (front_after fits gate (records_of fits i.bytes) i.bytes r (behind gate (sized r) i.bytes 1) s.holds.front good refl) (shut_after fits gate (records_of fits i.bytes) i.bytes r (behind gate (sized r) i.bytes 1) s.holds.front good refl)
+      ∙ ap (λ (b : Bool). Ok (kept_records b (records_of fits i.bytes) r)) (sym (one_is byte one)))
+      (λ other.
+      closed fits gate (records_of fits i.bytes) (behind gate (sized r) i.bytes byte) (front_same fits gate (records_of fits i.bytes) i.bytes (behind gate (sized r) i.bytes byte) s.holds.front (front_kept gate (sized r) i.bytes byte s.holds.front.room (behind gate (sized r) i.bytes byte) refl) (omega (arith, long gate (sized r) i.bytes byte s.holds.front.room (behind gate (sized r) i.bytes byte) refl)))
+      (λ one. other (sym (gate_is gate (sized r) i.bytes byte s.holds.front.room (behind gate (sized r) i.bytes byte) refl) ∙ one))
+      ∙ ap (λ (b : Bool). Ok (kept_records b (records_of fits i.bytes) r)) (sym (one_is_not byte other)))
+      (cases_eq byte 1)
+
+  at_rest : records fits i.bytes ≡ Ok (records_of fits i.bytes)
+  at_rest = closed fits gate (records_of fits i.bytes) i.bytes s.holds.front s.holds.shut
+
+  pub stopped : (calls : ℕ) (fill : Fill) → records fits (picked_bytes fill (opened gate (sized r) calls i)) ≡ Ok (kept_records (is_kept calls fill) (records_of fits i.bytes) r)
+  stopped zero Old = ap (records fits) s.holds.settled.same ∙ at_rest
+  stopped zero New = at_rest
+  stopped zero (Byte b) = ap (λ (ranges : List (ℕ × ℕ)). records fits (filled b ranges i.bytes)) s.holds.settled.none ∙ at_rest
+  stopped (suc zero) Old = ap (records fits) s.holds.settled.same ∙ at_rest
+  stopped (suc zero) New = up_staged
+  stopped (suc zero) (Byte b) = ap (λ (ranges : List (ℕ × ℕ)). records fits (filled b (ranges ++ (gate + 1, length (sized r)) ∷ []) (patched i.bytes (gate + 1) (sized r)))) s.holds.settled.none
+      ∙ up (painted b (gate + 1, length (sized r)) (patched i.bytes (gate + 1) (sized r))) (painted_front b (gate + 1) (length (sized r)) (gate + 1) (patched i.bytes (gate + 1) (sized r)) (omega arith) ∙ staged_front)
+      (omega (arith, length-painted b (gate + 1) (length (sized r)) (patched i.bytes (gate + 1) (sized r)), staged_long))
+  stopped (suc (suc zero)) Old = up_staged
+  stopped (suc (suc zero)) New = up_staged
+  stopped (suc (suc zero)) (Byte b) = up_staged
+  stopped (suc (suc (suc zero))) Old = up_staged
+  stopped (suc (suc (suc zero))) New = by_gate 1
+  stopped (suc (suc (suc zero))) (Byte b) = ap (records fits) (patched_again (patched i.bytes (gate + 1) (sized r)) gate 1 b staged_long) ∙ by_gate b
+  stopped (suc (suc (suc (suc n)))) Old = by_gate 1
+  stopped (suc (suc (suc (suc n)))) New = by_gate 1
+  stopped (suc (suc (suc (suc n)))) (Byte b) = by_gate 1
+
+  left_up : (c : List ℕ) → take (gate + 1) c ≡ take (gate + 1) i.bytes → gate < length c → IsBehindGate gate (sized r) i.bytes c
+  left_up c same within = inl (record { same = same; within = within })
+
+  left_staged : IsBehindGate gate (sized r) i.bytes (patched i.bytes (gate + 1) (sized r))
+  left_staged = left_up (patched i.bytes (gate + 1) (sized r)) staged_front staged_long
+
+  left_same : (c : List ℕ) → c ≡ i.bytes → IsBehindGate gate (sized r) i.bytes c
+  left_same c same = left_up c (ap (take (gate + 1)) same) (omega (arith, ap length same, s.holds.front.room))
+
+  -- and all that is picked is the front, or the whole piece behind the gate
+  left : (calls : ℕ) (fill : Fill) → IsBehindGate gate (sized r) i.bytes (picked_bytes fill (opened gate (sized r) calls i))
+  left zero Old = left_same i.synced s.holds.settled.same
+  left zero New = left_same i.bytes refl
+  left zero (Byte b) = left_same (filled b i.touched i.bytes) (ap (λ (ranges : List (ℕ × ℕ)). filled b ranges i.bytes) s.holds.settled.none)
+  left (suc zero) Old = left_same i.synced s.holds.settled.same
+  left (suc zero) New = left_staged
+  left (suc zero) (Byte b) = subst (λ (ranges : List (ℕ × ℕ)). IsBehindGate gate (sized r) i.bytes (filled b (ranges ++ (gate + 1, length (sized r)) ∷ []) (patched i.bytes (gate + 1) (sized r)))) (sym s.holds.settled.none)
+      (left_up (painted b (gate + 1, length (sized r)) (patched i.bytes (gate + 1) (sized r))) (painted_front b (gate + 1) (length (sized r)) (gate + 1) (patched i.bytes (gate + 1) (sized r)) (omega arith) ∙ staged_front)
+      (omega (arith, length-painted b (gate + 1) (length (sized r)) (patched i.bytes (gate + 1) (sized r)), staged_long)))
+  left (suc (suc zero)) Old = left_staged
+  left (suc (suc zero)) New = left_staged
+  left (suc (suc zero)) (Byte b) = left_staged
+  left (suc (suc (suc zero))) Old = left_staged
+  left (suc (suc (suc zero))) New = inr (1, refl)
+  left (suc (suc (suc zero))) (Byte b) = inr (b, patched_again (patched i.bytes (gate + 1) (sized r)) gate 1 b staged_long)
+  left (suc (suc (suc (suc n)))) Old = inr (1, refl)
+  left (suc (suc (suc (suc n)))) New = inr (1, refl)
+  left (suc (suc (suc (suc n)))) (Byte b) = inr (1, refl)
+
+  pub stopped_head : (calls : ℕ) (fill : Fill) → SameHead i.bytes (picked_bytes fill (opened gate (sized r) calls i))
+  stopped_head calls fill = head_stays gate (sized r) i.bytes (picked_bytes fill (opened gate (sized r) calls i)) (omega (arith, s.holds.front.place)) s.holds.front.room (left calls fill)

@@ -1,0 +1,46 @@
+-- Bytes behind a closed gate, which is then opened.
+use Rattle.std.specs.Prelude.{◌≡◌, ◌⊎◌, ◌≤◌, ◌<◌, ◌+◌, ℕ, zero, suc, List, [], ◌∷◌, length, take, Option, IfSome, IsTrue}
+use Rattle.std.specs.Option.{option_map}
+use Rattle.spl_edge.specs.Image.{Image, IsSettled, MayLeave, patched, after_write, after_sync}
+use Rattle.spl_edge.specs.Calls.{fails_at, IsArmed}
+use Rattle.spl_edge.specs.declared.disk.Armed.{Armed}
+
+-- nothing is pending, and the disk has this place
+pub record IsReady (gate : ℕ) (i : Image) : Type 0 where
+  pub settled : IsSettled i
+  pub within : gate < length i.bytes
+
+-- a crash at any of the moments from the first to the last leaves what has P
+abbrev pub LeavesSince : (ℕ → Option Image) → ℕ → ℕ → (List ℕ → Type 0) → Type 0
+LeavesSince at first last P = (k : ℕ) → first ≤ k → k ≤ last → IfSome (at k) (λ i. (c : List ℕ) → MayLeave i c → P c)
+
+-- the piece stands behind the gate, which has this byte
+abbrev pub behind : ℕ → List ℕ → List ℕ → ℕ → List ℕ
+behind gate piece bytes byte = patched (patched bytes (gate + 1) piece) gate (byte ∷ [])
+
+-- a crash left all as it was up to the gate, or the whole piece behind it
+pub record IsUpToGate (gate : ℕ) (bytes c : List ℕ) : Type 0 where
+  pub same : take (gate + 1) c ≡ take (gate + 1) bytes
+  pub within : gate < length c
+
+abbrev pub IsBehindGate : ℕ → List ℕ → List ℕ → List ℕ → Type 0
+IsBehindGate gate piece bytes c = IsUpToGate gate bytes c ⊎ ((byte : ℕ) × (c ≡ behind gate piece bytes byte))
+
+-- what so many calls that succeed make of it
+abbrev pub opened : ℕ → List ℕ → ℕ → Image → Image
+opened gate piece zero i = i
+opened gate piece (suc zero) i = after_write (gate + 1) piece i
+opened gate piece (suc (suc zero)) i = after_sync (after_write (gate + 1) piece i)
+opened gate piece (suc (suc (suc zero))) i = after_write gate (1 ∷ []) (after_sync (after_write (gate + 1) piece i))
+opened gate piece (suc (suc (suc (suc n)))) i = after_sync (after_write gate (1 ∷ []) (after_sync (after_write (gate + 1) piece i)))
+
+-- of so many calls at most, some succeeded from the first moment on, each leaving what f has for it, and at most one failed behind them, which is the one that the arming names where it is armed
+pub record ByCalls (most : ℕ) (at : ℕ → Option Image) (first now : ℕ) (f : ℕ → Image → Image) (told : Option Image) (armed : Armed) (ok failed : Type 0) : Type 0 where
+  pub calls : ℕ
+  pub at_most : calls ≤ most
+  pub stands : at (first + calls) ≡ option_map (f calls) told
+  pub last : now ≤ first + calls + 1
+  pub passed : (j : ℕ) → j < calls → IsTrue (fails_at armed (first + j)) → ⊥
+  pub still : IsTrue (fails_at armed (first + calls)) → at now ≡ at (first + calls)
+  pub named : failed → IsArmed armed → IsTrue (fails_at armed (first + calls))
+  pub whole : ok → calls ≡ most

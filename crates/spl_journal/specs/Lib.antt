@@ -1,0 +1,8 @@
+pub mod Gate
+pub mod Records
+pub mod Journals
+pub mod Faults
+pub mod Reads
+pub mod Make
+pub mod Clear
+pub mod Stops

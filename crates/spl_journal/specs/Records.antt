@@ -1,0 +1,150 @@
+-- The bytes of a journal, and the records in them (docs/RULES.md, Journals).
+use Rattle.std.specs.Prelude.{◌≡◌, ◌≢◌, ◌⊎◌, ◌≤◌, ◌<◌, ◌+◌, ℕ, zero, suc, List, [], ◌∷◌, ◌++◌, length, take, drop, get_or, Bool, true, false, nat_le, nat_eq, ◌==◌, ◌&&◌, if◌then◌else◌, Option, None, Some, is_none, Result, Ok, Err}
+use Rattle.std.specs.Result.{result_unwrap_or}
+use Rattle.std.specs.Int.{w32, w64, to_be_bytes, from_be_bytes}
+use Rattle.std.specs.List.{starts_with}
+use Rattle.spl_edge.specs.Image.{Image, IsSettled}
+
+-- `SPLJRN01`
+abbrev pub magic : List ℕ
+magic = 83 ∷ 80 ∷ 76 ∷ 74 ∷ 82 ∷ 78 ∷ 48 ∷ 49 ∷ []
+
+-- a length in four bytes
+unfoldable pub size_bytes : ℕ → List ℕ
+size_bytes n = to_be_bytes w32 n
+
+unfoldable pub size_from : List ℕ → ℕ
+size_from bytes = from_be_bytes w32 bytes
+
+-- an epoch in eight bytes
+unfoldable pub epoch_bytes : ℕ → List ℕ
+epoch_bytes n = to_be_bytes w64 n
+
+unfoldable pub epoch_from : List ℕ → ℕ
+epoch_from bytes = from_be_bytes w64 bytes
+
+abbrev pub epoch_in : List ℕ → ℕ
+epoch_in image = epoch_from (take 8 (drop 8 image))
+
+-- the head of a journal, with its gate closed
+abbrev pub closed_front : ℕ → List ℕ
+closed_front epoch = magic ++ epoch_bytes epoch ++ 0 ∷ []
+
+-- and the first gate behind it, closed too
+abbrev pub closed_head : ℕ → List ℕ
+closed_head epoch = magic ++ epoch_bytes epoch ++ 0 ∷ 0 ∷ []
+
+-- an open gate, the length and the record
+abbrev pub block : List ℕ → List ℕ
+block r = 1 ∷ (size_bytes (length r) ++ r)
+
+abbrev pub blocks : List (List ℕ) → List ℕ
+blocks [] = []
+blocks (r ∷ rs) = block r ++ blocks rs
+
+-- these records behind open gates, and a closed gate
+abbrev pub filling : List (List ℕ) → List ℕ
+filling rs = blocks rs ++ 0 ∷ []
+
+-- what stands behind the gate of a record, with the next gate closed
+abbrev pub sized : List ℕ → List ℕ
+sized r = size_bytes (length r) ++ r ++ 0 ∷ []
+
+-- from an open gate on: the length, the record, and whether both and the next gate stand there
+abbrev pub size_at : List ℕ → ℕ
+size_at bytes = size_from (take 4 (drop 1 bytes))
+
+abbrev pub record_at : List ℕ → List ℕ
+record_at bytes = take (size_at bytes) (drop 5 bytes)
+
+abbrev pub is_block : (List ℕ → Bool) → List ℕ → Bool
+is_block fits bytes = nat_le 1 (size_at bytes) && (nat_le (size_at bytes) 16384 && (nat_le (size_at bytes + 6) (length bytes) && fits (record_at bytes)))
+
+abbrev pub onto : List ℕ → Result (List (List ℕ)) ℕ → Result (List (List ℕ)) ℕ
+onto r (Ok rs) = Ok (r ∷ rs)
+onto r (Err at) = Err at
+
+-- the records from a gate on, or the place of the gate behind which there is none; the first number bounds the steps
+abbrev pub walk : (List ℕ → Bool) → ℕ → ℕ → List ℕ → Result (List (List ℕ)) ℕ
+walk fits zero at bytes = Err at
+walk fits (suc n) at bytes = if get_or bytes 0 0 == 1
+    then (if is_block fits bytes then onto (record_at bytes) (walk fits n (at + 5 + size_at bytes) (drop (5 + size_at bytes) bytes)) else Err at)
+    else Ok []
+
+abbrev pub is_headed : List ℕ → Bool
+is_headed image = nat_le 18 (length image) && starts_with nat_eq image magic
+
+-- where the head is wrong
+abbrev pub head_fault : List ℕ → Option ℕ
+head_fault image = if is_headed image then (if get_or image 16 0 == 1 then None else Some 16) else Some 0
+
+abbrev pub walk_behind : Option ℕ → Result (List (List ℕ)) ℕ → Result (List (List ℕ)) ℕ
+walk_behind None found = found
+walk_behind (Some at) found = Err at
+
+-- the records of a disk's bytes, or the place where they are no journal
+abbrev pub records : (List ℕ → Bool) → List ℕ → Result (List (List ℕ)) ℕ
+records fits image = walk_behind (head_fault image) (walk fits (length image) 17 (drop 17 image))
+
+-- the records, or none where the bytes are no journal
+abbrev pub records_of : (List ℕ → Bool) → List ℕ → List (List ℕ)
+records_of fits image = result_unwrap_or (records fits image) []
+
+-- the records in front of the gate at this place: those of the bytes with that gate closed and nothing behind it
+abbrev pub records_before : (List ℕ → Bool) → ℕ → List ℕ → List (List ℕ)
+records_before fits at image = records_of fits (take at image ++ 0 ∷ [])
+
+-- the head is whole and its gate open
+abbrev pub is_open : List ℕ → Bool
+is_open image = is_none (head_fault image)
+
+-- a record of the journal's form
+pub record IsGood (fits : List ℕ → Bool) (r : List ℕ) : Type 0 where
+  pub some : 1 ≤ length r
+  pub most : length r ≤ 16384
+  pub fits_form : fits r ≡ true
+
+abbrev pub AreGood : (List ℕ → Bool) → List (List ℕ) → Type 0
+AreGood fits [] = Unit {0}
+AreGood fits (r ∷ rs) = IsGood fits r × AreGood fits rs
+
+-- these records stand in front of the gate at this place
+pub record IsFront (fits : List ℕ → Bool) (at : ℕ) (rs : List (List ℕ)) (bytes : List ℕ) : Type 0 where
+  pub head : head_fault bytes ≡ None
+  pub good : AreGood fits rs
+  pub front : take at bytes ≡ take 17 bytes ++ blocks rs
+  pub place : at ≡ 17 + length (blocks rs)
+  pub room : at < length bytes
+
+-- the disk holds these records, the gate behind them is closed, and nothing is pending
+pub record Holds (fits : List ℕ → Bool) (at : ℕ) (rs : List (List ℕ)) (i : Image) : Type 0 where
+  pub front : IsFront fits at rs i.bytes
+  pub shut : get_or i.bytes at 0 ≢ 1
+  pub settled : IsSettled i
+
+-- the records from before, with one more or without it
+abbrev pub IsBeforeOrAfter : (List ℕ → Bool) → List (List ℕ) → List ℕ → List ℕ → Type 0
+IsBeforeOrAfter fits rs r c = (records fits c ≡ Ok rs) ⊎ (records fits c ≡ Ok (rs ++ r ∷ []))
+
+-- the head isn't open, or it is and has this epoch, and these are the records
+abbrev pub IsClosedOrFilled : (List ℕ → Bool) → ℕ → List (List ℕ) → List ℕ → Type 0
+IsClosedOrFilled fits epoch rs c = (is_open c ≡ false) ⊎ ((is_open c ≡ true) × (epoch_in c ≡ epoch) × (records fits c ≡ Ok rs))
+
+-- the head is the one of these bytes
+pub record SameHead (bytes c : List ℕ) : Type 0 where
+  pub same : take 17 c ≡ take 17 bytes
+  pub room : 17 < length c
+
+-- the disk holds a journal: its records end in front of the closed gate at this place, it has so many bytes and this epoch
+pub record Standing (fits : List ℕ → Bool) (end extent epoch : ℕ) (i : Image) : Type 0 where
+  pub holds : Holds fits end (records_of fits i.bytes) i
+  pub extent_is : length i.bytes ≡ extent
+  pub epoch_is : epoch_in i.bytes ≡ epoch
+
+-- the disk is read up to the gate at this place, which is closed where the reading has ended
+pub record Walking (fits : List ℕ → Bool) (at extent epoch : ℕ) (ended : Bool) (i : Image) : Type 0 where
+  pub front : IsFront fits at (records_before fits at i.bytes) i.bytes
+  pub shut : ended ≡ true → get_or i.bytes at 0 ≢ 1
+  pub extent_is : length i.bytes ≡ extent
+  pub epoch_is : epoch_in i.bytes ≡ epoch
+  pub settled : IsSettled i

@@ -1,0 +1,124 @@
+//! A journal on a disk.
+ghost use Rattle.std.specs.Prelude.{◌≡◌, ◌≤◌, ◌<◌, ◌+◌, ◌^◌, ◌++◌, ◌∷◌, [], ℕ, true, false, Ok, length, OnOk, OnErr, IfSome, IsSome, IsOk, IsErrOf};
+ghost use Rattle.spl_edge.specs.Causes.{Rose};
+ghost use Rattle.spl_journal.specs.Gate.{LeavesSince, ByCalls, opened};
+ghost use Rattle.spl_journal.specs.Records.{records, records_of, sized, IsGood, IsBeforeOrAfter, SameHead};
+
+use crate::bytes::sized;
+use crate::gate::open_gate;
+use crate::{Form, JournalFault, fault_of};
+use spl_edge::Disk;
+use std::alloc::Global;
+use std::marker::PhantomData;
+
+/// The place where the records of a disk end, and how many bytes they have. It keeps no record.
+#[derive(Drop)]
+pub struct Journal<R> {
+    /// The closed gate behind the records.
+    pub(crate) end: u64,
+    pub(crate) base: u64,
+    pub(crate) epoch: u64,
+    /// How many bytes the disk has.
+    pub(crate) extent: u64,
+    pub(crate) halted: bool,
+    pub(crate) of: PhantomData<R>,
+    ghost small: { end < 2 ^ 63 },
+    ghost low: { base < 2 ^ 63 },
+    ghost short: { extent < 2 ^ 63 },
+}
+
+impl<R: Form> Journal<R> {
+    ghost use Rattle.spl_journal.specs.Journals.{end_of, len_of, base_of, epoch_of, extent_of, is_halted, has_room, Stands};
+
+    /// How many bytes the journal has: the offset behind the closed gate.
+    pub fn len(&self) -> u64
+        ensures { result ≡ len_of self.now }
+    {
+        self.end + 1
+    }
+
+    /// The length from which its growth is counted: 18, or that at its checkpoint.
+    pub fn base(&self) -> u64
+        ensures { result ≡ base_of self.now }
+    {
+        self.base
+    }
+
+    /// Its epoch.
+    pub fn epoch(&self) -> u64
+        ensures { result ≡ epoch_of self.now }
+    {
+        self.epoch
+    }
+
+    /// How many bytes its disk has.
+    pub fn extent(&self) -> u64
+        ensures { result ≡ extent_of self.now }
+    {
+        self.extent
+    }
+
+    /// Whether a call of it failed, so that the disk has to be read again.
+    pub fn halted(&self) -> bool
+        ensures { result ≡ is_halted self.now }
+    {
+        self.halted
+    }
+
+    /// Whether it has at most twice its base and 65,536 bytes.
+    pub fn room(&self) -> bool
+        ensures { result ≡ has_room self.now }
+    {
+        (self.end + 1).saturating_sub(self.base) <= self.base + 65_536
+    }
+
+    /// Adds a record by four calls of the disk, once all memory is taken. After an error it is halted.
+    pub fn append<D: Disk>(
+        &mut self,
+        alloc: Global,
+        disk: &mut D,
+        bytes: &[u8],
+    ) -> Result<(), JournalFault>
+        requires running { is_halted self.old ≡ false }
+        requires good { IsGood R.is_record bytes.now }
+        requires stands { IfSome (D.image_at disk.old (D.moment disk.old)) (Stands R.is_record self.old) }
+
+        ensures stands { OnOk result (IfSome (D.image_at disk.new (D.moment disk.new)) (Stands R.is_record self.new)) }
+        ensures records { OnOk result (IfSome (D.image_at disk.old (D.moment disk.old)) (λ i.
+            IfSome (D.image_at disk.new (D.moment disk.new)) (λ j. records R.is_record j.bytes ≡ Ok (records_of R.is_record i.bytes ++ bytes.now ∷ [])))) }
+        ensures tells { OnOk result (IfSome (D.image_at disk.old (D.moment disk.old)) (λ i. IsSome (D.image_at disk.new (D.moment disk.new)))) }
+        ensures four { OnOk result (D.moment disk.new ≡ D.moment disk.old + 4) }
+
+        // A stop at any moment of the call leaves the records from before it, or those and the new one.
+        ensures any_moment { IfSome (D.image_at disk.old (D.moment disk.old)) (λ i.
+            LeavesSince (D.image_at disk.new) (D.moment disk.old) (D.moment disk.new) (IsBeforeOrAfter R.is_record (records_of R.is_record i.bytes) bytes.now)) }
+        ensures head { IfSome (D.image_at disk.old (D.moment disk.old)) (λ i.
+            LeavesSince (D.image_at disk.new) (D.moment disk.old) (D.moment disk.new) (SameHead i.bytes)) }
+        ensures by_calls { ByCalls 4 (D.image_at disk.new) (D.moment disk.old) (D.moment disk.new) (opened (end_of self.old) (sized bytes.now))
+            (D.image_at disk.old (D.moment disk.old)) (D.armed disk.old) (IsOk result) (IsErrOf result JournalFault.Disk) }
+        ensures past { (t : ℕ) → t ≤ D.moment disk.old → D.image_at disk.new t ≡ D.image_at disk.old t }
+        ensures later { D.moment disk.old ≤ D.moment disk.new }
+        ensures failed { IsErrOf result JournalFault.Disk → Rose (D.faults disk.old) (D.faults disk.new) }
+        ensures not { (at : ℕ) → IsErrOf result (JournalFault.NotAJournal at) → ⊥ }
+        ensures no_less { D.faults disk.old ≤ D.faults disk.new }
+        ensures halted { OnErr result (is_halted self.new ≡ true) }
+        ensures running { OnOk result (is_halted self.new ≡ false) }
+        ensures len { OnOk result (len_of self.new ≡ len_of self.old + 5 + length bytes.now) }
+        ensures same { (base_of self.new ≡ base_of self.old) × (epoch_of self.new ≡ epoch_of self.old) }
+        ensures armed { D.armed disk.new ≡ D.armed disk.old }
+        ensures picks { D.picks disk.new ≡ D.picks disk.old }
+    {
+        let gate = self.end;
+        self.halted = true;
+        let Ok(piece) = sized(alloc, bytes) else {
+            return Err(JournalFault::NoMemory);
+        };
+        if let Err(fault) = open_gate(disk, gate, &piece) {
+            return Err(fault_of(fault));
+        }
+        self.end = gate + 5 + bytes.len() as u64;
+        self.extent = self.extent.max(self.end + 1);
+        self.halted = false;
+        Ok(())
+    }
+}

@@ -1,0 +1,23 @@
+//! Records on a disk, each behind a gate that is opened once the record is synced.
+#![tactic(auto)]
+
+mod bytes;
+mod clearing;
+mod filling;
+mod form;
+mod gate;
+mod journal;
+mod laws;
+mod make;
+mod read;
+mod records;
+mod walk;
+
+pub use clearing::{Cleared, clear};
+pub use filling::fill;
+pub use form::{Form, JournalFault, fault_of};
+pub use journal::Journal;
+pub use laws::appends_are_kept_or_lost;
+pub use make::format;
+pub use records::Records;
+pub use walk::Walk;

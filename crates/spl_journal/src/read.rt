@@ -1,0 +1,97 @@
+//! A journal that is read from a disk, in pieces.
+ghost use Rattle.std.specs.Prelude.{◌≡◌, ◌≤◌, ◌<◌, ◌+◌, ◌^◌, ℕ, None, Some, Err, length, drop, get_or, false, OnOk, IfOk, IfSome, IsErrOf};
+ghost use Rattle.spl_edge.specs.Causes.{Rose};
+ghost use Rattle.spl_journal.specs.Records.{epoch_in, head_fault, is_block, IsGood};
+ghost use Rattle.spl_journal.specs.Reads.{Stays, IsNext, EndsAt};
+
+use crate::bytes::{epoch_from, head_fault, size_from};
+use crate::{Form, JournalFault, fault_of};
+use spl_edge::Disk;
+use std::alloc::{AllocError, Global};
+
+/// The most bytes that a record has.
+const MOST: usize = 16_384;
+
+fn zeros(alloc: Global, len: usize) -> Result<Vec<u8>, AllocError>
+    ensures { IfOk result (λ zeros. length zeros.items ≡ len) }
+{
+    vec![in alloc; 0; len]
+}
+
+/// The epoch of the journal whose head stands on a disk.
+pub(crate) fn read_head<D: Disk>(disk: &mut D) -> Result<u64, JournalFault>
+    ensures epoch { IfOk result (λ epoch. IfSome (D.image_at disk.old (D.moment disk.old)) (λ i. epoch ≡ epoch_in i.bytes)) }
+    ensures ok { OnOk result (IfSome (D.image_at disk.old (D.moment disk.old)) (λ i. head_fault i.bytes ≡ None)) }
+    ensures not { (at : ℕ) → IsErrOf result (JournalFault.NotAJournal at) → IfSome (D.image_at disk.old (D.moment disk.old)) (λ i. head_fault i.bytes ≡ Some at) }
+    ensures stays { Stays (D.image_at disk.old) (D.moment disk.old) (D.image_at disk.new) (D.moment disk.new) }
+    ensures failed { IsErrOf result JournalFault.Disk → Rose (D.faults disk.old) (D.faults disk.new) }
+    ensures no_less { D.faults disk.old ≤ D.faults disk.new }
+    ensures armed { D.armed disk.new ≡ D.armed disk.old }
+    ensures picks { D.picks disk.new ≡ D.picks disk.old }
+{
+    let mut head = [0; 18];
+    let got = match disk.read(0, &mut head) {
+        Ok(got) => got,
+        Err(fault) => return Err(fault_of(fault)),
+    };
+    if let Some(at) = head_fault(&head[..got]) {
+        return Err(JournalFault::NotAJournal { at });
+    }
+    let mut epoch = [0; 8];
+    epoch.copy_from_slice(&head[8..16]);
+    Ok(epoch_from(epoch))
+}
+
+/// The record behind the gate at this place, or None where the gate is closed.
+pub(crate) fn read_next<R: Form, D: Disk>(
+    alloc: Global,
+    disk: &mut D,
+    at: u64,
+) -> Result<Option<Vec<u8>>, JournalFault>
+    requires small { at + 5 < 2 ^ 64 }
+    ensures next { IfOk result (λ found. IfSome found (λ r. IsGood R.is_record r.items
+        × IfSome (D.image_at disk.old (D.moment disk.old)) (λ i. at < length i.bytes → IsNext R.is_record at r.items i.bytes))) }
+    ensures end { IfOk result (λ found. found ≡ None → IfSome (D.image_at disk.old (D.moment disk.old)) (EndsAt at)) }
+    ensures not { (k : ℕ) → IsErrOf result (JournalFault.NotAJournal k) → (k ≡ at)
+        × IfSome (D.image_at disk.old (D.moment disk.old)) (λ i. at < length i.bytes → (get_or i.bytes at 0 ≡ 1) × (is_block R.is_record (drop at i.bytes) ≡ false)) }
+    ensures stays { Stays (D.image_at disk.old) (D.moment disk.old) (D.image_at disk.new) (D.moment disk.new) }
+    ensures failed { IsErrOf result JournalFault.Disk → Rose (D.faults disk.old) (D.faults disk.new) }
+    ensures no_less { D.faults disk.old ≤ D.faults disk.new }
+    ensures armed { D.armed disk.new ≡ D.armed disk.old }
+    ensures picks { D.picks disk.new ≡ D.picks disk.old }
+{
+    let mut start = [0; 5];
+    let got = match disk.read(at, &mut start) {
+        Ok(got) => got,
+        Err(fault) => return Err(fault_of(fault)),
+    };
+    if got < 1 || start[0] != 1 {
+        return Ok(None);
+    }
+    if got < 5 {
+        return Err(JournalFault::NotAJournal { at });
+    }
+    let mut size = [0; 4];
+    size.copy_from_slice(&start[1..]);
+    let size = size_from(size) as usize;
+    if size < 1 || size > MOST {
+        return Err(JournalFault::NotAJournal { at });
+    }
+    let mut record = match zeros(alloc, size + 1) {
+        Ok(record) => record,
+        Err(_) => return Err(JournalFault::NoMemory),
+    };
+    let got = match disk.read(at + 5, &mut record) {
+        Ok(got) => got,
+        Err(fault) => return Err(fault_of(fault)),
+    };
+    if got < size + 1 {
+        return Err(JournalFault::NotAJournal { at });
+    }
+    record.truncate(size);
+    match R::fits(alloc, &record) {
+        Ok(true) => Ok(Some(record)),
+        Ok(false) => Err(JournalFault::NotAJournal { at }),
+        Err(_) => Err(JournalFault::NoMemory),
+    }
+}

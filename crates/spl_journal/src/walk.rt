@@ -1,0 +1,143 @@
+//! A journal that is read, one record after another.
+ghost use Rattle.std.specs.Prelude.{◌≡◌, ◌≤◌, ◌<◌, ◌+◌, ◌-◌, ◌^◌, ◌++◌, ◌∷◌, [], ℕ, true, false, Ok, Err, Some, length, IfOk, IfSome, IfNone, IsErrOf};
+ghost use Rattle.spl_edge.specs.Causes.{Rose};
+ghost use Rattle.spl_edge.specs.Image.{Image, IsSettled};
+ghost use Rattle.spl_journal.specs.Reads.{Stays};
+ghost use Rattle.spl_journal.specs.Records.{records, head_fault, IsGood};
+
+use crate::read::{read_head, read_next};
+use crate::{Form, Journal, JournalFault, fault_of};
+use spl_base::Piece;
+use spl_edge::Disk;
+use std::alloc::Global;
+use std::marker::PhantomData;
+
+/// How far the journal of a disk was read. It keeps no record.
+#[derive(Drop)]
+pub struct Walk<R> {
+    /// The gate behind the records that it has given.
+    at: u64,
+    /// How many bytes the disk has.
+    extent: u64,
+    epoch: u64,
+    ended: bool,
+    of: PhantomData<R>,
+    ghost within: { at < extent },
+    ghost small: { extent < 2 ^ 63 },
+}
+
+impl<R: Form> Journal<R> {
+    ghost use Rattle.spl_journal.specs.Journals.{Walks, given_by};
+
+    /// Begins to read the journal of a disk. It isn't one where fewer than 18 bytes or another head stand there, or its gate is closed.
+    pub fn walk<D: Disk>(disk: &mut D) -> Result<Walk<R>, JournalFault>
+        requires settled { IfSome (D.image_at disk.old (D.moment disk.old)) IsSettled }
+        ensures walks { IfOk result (λ w. IfSome (D.image_at disk.old (D.moment disk.old)) (Walks R.is_record w)) }
+        ensures start { IfOk result (λ w. IfSome (D.image_at disk.old (D.moment disk.old)) (λ i. given_by R.is_record w i.bytes ≡ [])) }
+        ensures not { (at : ℕ) → IsErrOf result (JournalFault.NotAJournal at) → IfSome (D.image_at disk.old (D.moment disk.old)) (λ i. head_fault i.bytes ≡ Some at) }
+        ensures stays { Stays (D.image_at disk.old) (D.moment disk.old) (D.image_at disk.new) (D.moment disk.new) }
+        ensures failed { IsErrOf result JournalFault.Disk → Rose (D.faults disk.old) (D.faults disk.new) }
+        ensures no_less { D.faults disk.old ≤ D.faults disk.new }
+        ensures armed { D.armed disk.new ≡ D.armed disk.old }
+        ensures picks { D.picks disk.new ≡ D.picks disk.old }
+    {
+        let epoch = match read_head(disk) {
+            Ok(epoch) => epoch,
+            Err(fault) => return Err(fault),
+        };
+        let extent = match disk.len() {
+            Ok(len) => len,
+            Err(fault) => return Err(fault_of(fault)),
+        };
+        if extent < 18 {
+            return Err(JournalFault::NotAJournal { at: 0 });
+        }
+        Ok(Walk {
+            at: 17,
+            extent,
+            epoch,
+            ended: false,
+            of: PhantomData,
+        })
+    }
+}
+
+impl<R: Form> Walk<R> {
+    ghost use Rattle.spl_journal.specs.Journals.{Walks, Stands, given_by, has_ended, left_of, epoch_walked, extent_walked, base_of, epoch_of, extent_of, is_halted};
+
+    /// The epoch of the journal that it reads.
+    pub fn epoch(&self) -> u64
+        ensures { result ≡ epoch_walked self.now }
+    {
+        self.epoch
+    }
+
+    /// How many bytes the disk has.
+    pub fn extent(&self) -> u64
+        ensures { result ≡ extent_walked self.now }
+    {
+        self.extent
+    }
+
+    /// The next record, or None behind the last one. After an error the walk is as it was.
+    pub fn next<D: Disk>(
+        &mut self,
+        alloc: Global,
+        disk: &mut D,
+    ) -> Result<Option<Piece>, JournalFault>
+        requires walks { IfSome (D.image_at disk.old (D.moment disk.old)) (Walks R.is_record self.old) }
+        ensures walks { IfSome (D.image_at disk.old (D.moment disk.old)) (Walks R.is_record self.new) }
+        ensures good { IfOk result (λ found. IfSome found (λ r. IsGood R.is_record r)) }
+        ensures next { IfOk result (λ found. IfSome found (λ r. IfSome (D.image_at disk.old (D.moment disk.old)) (λ i.
+            given_by R.is_record self.new i.bytes ≡ given_by R.is_record self.old i.bytes ++ r ∷ []))) }
+        ensures shorter { IfOk result (λ found. IfSome found (λ r. left_of self.new < left_of self.old)) }
+        ensures none { IfOk result (λ found. IfNone found (IfSome (D.image_at disk.old (D.moment disk.old)) (λ i.
+            records R.is_record i.bytes ≡ Ok (given_by R.is_record self.old i.bytes)))) }
+        ensures ended { IfOk result (λ found. IfNone found (has_ended self.new ≡ true)) }
+        ensures not { (at : ℕ) → IsErrOf result (JournalFault.NotAJournal at) → IfSome (D.image_at disk.old (D.moment disk.old)) (λ i. records R.is_record i.bytes ≡ Err at) }
+        ensures same { (epoch_walked self.new ≡ epoch_walked self.old) × (extent_walked self.new ≡ extent_walked self.old) }
+        ensures stays { Stays (D.image_at disk.old) (D.moment disk.old) (D.image_at disk.new) (D.moment disk.new) }
+        ensures failed { IsErrOf result JournalFault.Disk → Rose (D.faults disk.old) (D.faults disk.new) }
+        ensures no_less { D.faults disk.old ≤ D.faults disk.new }
+        ensures armed { D.armed disk.new ≡ D.armed disk.old }
+        ensures picks { D.picks disk.new ≡ D.picks disk.old }
+    {
+        let at = self.at;
+        let found = match read_next::<R, D>(alloc, disk, at) {
+            Ok(found) => found,
+            Err(fault) => return Err(fault),
+        };
+        let Some(record) = found else {
+            self.ended = true;
+            return Ok(None);
+        };
+        let behind = at + 5 + record.len() as u64;
+        if self.extent <= behind {
+            return Err(JournalFault::NotAJournal { at });
+        }
+        let Ok(piece) = Piece::from(alloc, &record) else {
+            return Err(JournalFault::NoMemory);
+        };
+        self.at = behind;
+        self.ended = false;
+        Ok(Some(piece))
+    }
+
+    /// The journal that was read, once `next` has answered None.
+    pub fn finish(self) -> Journal<R>
+        requires { has_ended self ≡ true }
+        ensures stands { (i : Image) → Walks R.is_record self i → Stands R.is_record result i }
+        ensures same { (epoch_of result ≡ epoch_walked self) × (extent_of result ≡ extent_walked self) }
+        ensures base { base_of result ≡ 18 }
+        ensures running { is_halted result ≡ false }
+    {
+        Journal {
+            end: self.at,
+            base: 18,
+            epoch: self.epoch,
+            extent: self.extent,
+            halted: false,
+            of: PhantomData,
+        }
+    }
+}
