@@ -1,0 +1,120 @@
+-- What a checkpoint on one of two disks leaves of both.
+use Rattle.std.proofs.Common.{◌≡◌, inl, inr, ℕ, ◌+◌, ◌-◌, ◌<◌, ◌≤◌, List, Bool, IsTrue, true, false, Option, None, Some, IfSome, Ok, refl, sym, ◌∙◌, ap, subst, arith, ⊎_elim}
+use Rattle.std.specs.Option.{option_map}
+use Rattle.std.proofs.lemmas.Bool.{cases_lt}
+use Rattle.spl_edge.specs.Image.{Image, MayLeave, settled_at}
+use Rattle.spl_edge.specs.Calls.{SamePast, fails_at}
+use Rattle.spl_edge.specs.declared.disk.Armed.{Armed}
+use Rattle.spl_journal.specs.Clear.{IsShortOrSame, IsCleared}
+use Rattle.spl_journal.specs.Gate.{LeavesSince}
+use Rattle.spl_journal.specs.Records.{closed_front, records, Standing, IsClosedOrFilled}
+use Rattle.spl_journal.proofs.Heads.{standing_open, standing_records, leaves_join}
+use Rattle.spl_snapshot.specs.Anew.{IsSameOrAnew}
+use Rattle.spl_snapshot.specs.Counting.{second_counts, pair_records_of, HaveRecords, HaveEither, IfBoth, PairLeaves}
+use Rattle.spl_snapshot.proofs.Counts.{second_above, first_above, of_first, of_second, anew_first, anew_second}
+use Rattle.spl_snapshot.proofs.Leaves.{pair_leaves, leaves_map, leaves_rest}
+
+-- ---- on one disk
+
+pub is_cleared : (epoch : ℕ) (told new : Option Image) → new ≡ option_map (λ i. settled_at (closed_front epoch)) told → IfSome new (IsCleared epoch)
+is_cleared epoch None new is = subst (λ (o : Option Image). IfSome o (IsCleared epoch)) (sym is) tt
+is_cleared epoch (Some i) new is = subst (λ (o : Option Image). IfSome o (IsCleared epoch)) (sym is) refl
+
+module _ (fits : List ℕ → Bool) (epoch : ℕ) (rs : List (List ℕ)) where
+  pub clear_leaves : (told : Option Image) (at : ℕ → Option Image) (first last : ℕ) → IfSome told (λ i. LeavesSince at first last (IsShortOrSame i.bytes)) → IfSome told (λ i. LeavesSince at first last (IsSameOrAnew fits epoch rs i.bytes))
+  clear_leaves None at first last left = tt
+  clear_leaves (Some i) at first last left = leaves_map at first last (IsShortOrSame i.bytes) (IsSameOrAnew fits epoch rs i.bytes) (λ c short. inl short) left
+
+  pub fill_leaves : (told : Option Image) (at later : ℕ → Option Image) (first m last : ℕ) → IfSome told (λ i. LeavesSince at first m (IsShortOrSame i.bytes)) → at m ≡ option_map (λ i. settled_at (closed_front epoch)) told
+      → SamePast at m later → IfSome (at m) (λ i. LeavesSince later m last (IsClosedOrFilled fits epoch rs)) → IfSome told (λ i. LeavesSince later first last (IsSameOrAnew fits epoch rs i.bytes))
+  fill_leaves None at later first m last left is past filled = tt
+  fill_leaves (Some i) at later first m last left is past filled =
+      let behind : LeavesSince later m last (IsClosedOrFilled fits epoch rs) = subst (λ (o : Option Image). IfSome o (λ j. LeavesSince later m last (IsClosedOrFilled fits epoch rs))) is filled in
+      leaves_join at later first m last (IsSameOrAnew fits epoch rs i.bytes)
+      (leaves_map at first m (IsShortOrSame i.bytes) (IsSameOrAnew fits epoch rs i.bytes) (λ c short. inl short) left) past
+      (leaves_map later m last (IsClosedOrFilled fits epoch rs) (IsSameOrAnew fits epoch rs i.bytes) (λ c full. inr full) behind)
+
+-- none of eight calls was named by the arming
+pub eight_passed : (armed then : Armed) (first m : ℕ) → m ≡ first + 4 → then ≡ armed → ((n : ℕ) → n < 4 → IsTrue (fails_at armed (first + n)) → ⊥) → ((n : ℕ) → n < 4 → IsTrue (fails_at then (m + n)) → ⊥)
+    → (n : ℕ) → n < 8 → IsTrue (fails_at armed (first + n)) → ⊥
+eight_passed armed then first m place same before behind n lt due = ⊎_elim
+    (λ (low : n < 4). before n low due)
+    (λ (high : 4 ≤ n). behind (n - 4) (omega (arith, lt, high))
+    (subst IsTrue (ap (λ (a : Armed). fails_at a (first + n)) (sym same) ∙ ap (fails_at then) (omega (arith, place, high))) due))
+    (cases_lt n 4)
+
+-- ---- on both
+
+module _ (fits : List ℕ → Bool) (rs : List (List ℕ)) (end extent epoch other : ℕ) where
+  -- the first disk counts, and the second is written anew
+  pub second_anew : (o p : Option Image) (at other_at : ℕ → Option Image) (m n last : ℕ) → IfSome o (Standing fits end extent epoch) → IfBoth o p (λ i j. second_counts i.bytes j.bytes ≡ false) → at m ≡ o
+      → IfSome p (λ j. LeavesSince other_at n last (IsSameOrAnew fits (epoch + 1) rs j.bytes))
+      → IfBoth o p (λ i j. PairLeaves at m m other_at n last (HaveEither fits (pair_records_of fits i.bytes j.bytes) rs))
+  second_anew None p at other_at m n last stands counts here left = tt
+  second_anew (Some i) None at other_at m n last stands counts here left = tt
+  second_anew (Some i) (Some j) at other_at m n last stands counts here left =
+      pair_leaves at other_at m m n last (λ c. c ≡ i.bytes) (IsSameOrAnew fits (epoch + 1) rs j.bytes) (HaveEither fits (pair_records_of fits i.bytes j.bytes) rs)
+      (λ c d same anew. subst (λ (l : List ℕ). HaveEither fits (pair_records_of fits i.bytes j.bytes) rs l d) (sym same)
+      (anew_second fits i.bytes j.bytes d rs epoch counts (standing_open fits end extent epoch i stands) stands.epoch_is (standing_records fits end extent epoch i stands) anew))
+      (leaves_rest at m i here stands.holds.settled) left
+
+  -- the second disk counts, and the first is written anew
+  pub first_anew : (o p : Option Image) (other_at at : ℕ → Option Image) (n last m : ℕ) → IfSome p (Standing fits end extent epoch) → IfBoth o p (λ i j. second_counts i.bytes j.bytes ≡ true) → at m ≡ p
+      → IfSome o (λ i. LeavesSince other_at n last (IsSameOrAnew fits (epoch + 1) rs i.bytes))
+      → IfBoth o p (λ i j. PairLeaves other_at n last at m m (HaveEither fits (pair_records_of fits i.bytes j.bytes) rs))
+  first_anew None p other_at at n last m stands counts here left = tt
+  first_anew (Some i) None other_at at n last m stands counts here left = tt
+  first_anew (Some i) (Some j) other_at at n last m stands counts here left =
+      pair_leaves other_at at n last m m (IsSameOrAnew fits (epoch + 1) rs i.bytes) (λ d. d ≡ j.bytes) (HaveEither fits (pair_records_of fits i.bytes j.bytes) rs)
+      (λ c d anew same. subst (λ (l : List ℕ). HaveEither fits (pair_records_of fits i.bytes j.bytes) rs c l) (sym same)
+      (anew_first fits i.bytes j.bytes c rs epoch counts (standing_open fits end extent epoch j stands) stands.epoch_is (standing_records fits end extent epoch j stands) anew))
+      left (leaves_rest at m j here stands.holds.settled)
+
+  module _ (new_end new_extent : ℕ) where
+    above_second : (i k : Image) → Standing fits end extent epoch i → Standing fits new_end new_extent (epoch + 1) k → second_counts i.bytes k.bytes ≡ true
+    above_second i k old new = second_above i.bytes k.bytes (standing_open fits end extent epoch i old) (standing_open fits new_end new_extent (epoch + 1) k new) (omega (arith, old.epoch_is, new.epoch_is))
+
+    above_first : (k j : Image) → Standing fits end extent epoch j → Standing fits new_end new_extent (epoch + 1) k → second_counts k.bytes j.bytes ≡ false
+    above_first k j old new = first_above k.bytes j.bytes (standing_open fits new_end new_extent (epoch + 1) k new) (standing_open fits end extent epoch j old) (omega (arith, old.epoch_is, new.epoch_is))
+
+    -- the disk written anew counts
+    pub counts_second : (o n : Option Image) → IfSome o (Standing fits end extent epoch) → IfSome n (Standing fits new_end new_extent (epoch + 1)) → IfBoth o n (λ i k. second_counts i.bytes k.bytes ≡ true)
+    counts_second None n old new = tt
+    counts_second (Some i) None old new = tt
+    counts_second (Some i) (Some k) old new = above_second i k old new
+
+    pub counts_first : (n p : Option Image) → IfSome p (Standing fits end extent epoch) → IfSome n (Standing fits new_end new_extent (epoch + 1)) → IfBoth n p (λ k j. second_counts k.bytes j.bytes ≡ false)
+    counts_first None p old new = tt
+    counts_first (Some k) None old new = tt
+    counts_first (Some k) (Some j) old new = above_first k j old new
+
+    -- and has the records
+    pub second_records : (at other_at : ℕ → Option Image) (m last : ℕ) → IfSome (at m) (Standing fits end extent epoch) → IfSome (other_at last) (Standing fits new_end new_extent (epoch + 1)) → IfSome (other_at last) (λ k. records fits k.bytes ≡ Ok rs)
+        → PairLeaves at m m other_at last last (HaveRecords fits rs)
+    second_records at other_at m last old new all = by (at m) (other_at last) refl refl old new all
+      where
+        by : (x y : Option Image) → at m ≡ x → other_at last ≡ y → IfSome x (Standing fits end extent epoch) → IfSome y (Standing fits new_end new_extent (epoch + 1)) → IfSome y (λ k. records fits k.bytes ≡ Ok rs) → PairLeaves at m m other_at last last (HaveRecords fits rs)
+        by None y is_x is_y o n a = λ k l low high low2 high2. let same : k ≡ m = omega arith in subst (λ (z : Option Image). IfBoth z (other_at l) (λ u v. (c d : List ℕ) → MayLeave u c → MayLeave v d → HaveRecords fits rs c d)) (sym (ap at same ∙ is_x)) tt
+        by (Some i) None is_x is_y o n a = λ k l low high low2 high2. let same : l ≡ last = omega arith in none (at k) (other_at l) (ap other_at same ∙ is_y)
+          where
+            none : (x y : Option Image) → y ≡ None → IfBoth x y (λ u v. (c d : List ℕ) → MayLeave u c → MayLeave v d → HaveRecords fits rs c d)
+            none None y is_none = tt
+            none (Some u) y is_none = subst (λ (z : Option Image). IfSome z (λ v. (c d : List ℕ) → MayLeave u c → MayLeave v d → HaveRecords fits rs c d)) (sym is_none) tt
+        by (Some i) (Some k) is_x is_y o n a = pair_leaves at other_at m m last last (λ c. c ≡ i.bytes) (λ d. d ≡ k.bytes) (HaveRecords fits rs)
+            (λ c d here_c here_d. subst (λ (l : List ℕ). HaveRecords fits rs l d) (sym here_c) (subst (λ (l : List ℕ). HaveRecords fits rs i.bytes l) (sym here_d) (of_second fits i.bytes k.bytes (above_second i k o n) ∙ a)))
+            (leaves_rest at m i is_x o.holds.settled) (leaves_rest other_at last k is_y n.holds.settled)
+
+    pub first_records : (other_at at : ℕ → Option Image) (last m : ℕ) → IfSome (at m) (Standing fits end extent epoch) → IfSome (other_at last) (Standing fits new_end new_extent (epoch + 1)) → IfSome (other_at last) (λ k. records fits k.bytes ≡ Ok rs)
+        → PairLeaves other_at last last at m m (HaveRecords fits rs)
+    first_records other_at at last m old new all = by (other_at last) (at m) refl refl new old all
+      where
+        by : (x y : Option Image) → other_at last ≡ x → at m ≡ y → IfSome x (Standing fits new_end new_extent (epoch + 1)) → IfSome y (Standing fits end extent epoch) → IfSome x (λ k. records fits k.bytes ≡ Ok rs) → PairLeaves other_at last last at m m (HaveRecords fits rs)
+        by None y is_x is_y n o a = λ k l low high low2 high2. let same : k ≡ last = omega arith in subst (λ (z : Option Image). IfBoth z (at l) (λ u v. (c d : List ℕ) → MayLeave u c → MayLeave v d → HaveRecords fits rs c d)) (sym (ap other_at same ∙ is_x)) tt
+        by (Some k) None is_x is_y n o a = λ x y low high low2 high2. let same : y ≡ m = omega arith in none (other_at x) (at y) (ap at same ∙ is_y)
+          where
+            none : (x y : Option Image) → y ≡ None → IfBoth x y (λ u v. (c d : List ℕ) → MayLeave u c → MayLeave v d → HaveRecords fits rs c d)
+            none None y is_none = tt
+            none (Some u) y is_none = subst (λ (z : Option Image). IfSome z (λ v. (c d : List ℕ) → MayLeave u c → MayLeave v d → HaveRecords fits rs c d)) (sym is_none) tt
+        by (Some k) (Some j) is_x is_y n o a = pair_leaves other_at at last last m m (λ c. c ≡ k.bytes) (λ d. d ≡ j.bytes) (HaveRecords fits rs)
+            (λ c d here_c here_d. subst (λ (l : List ℕ). HaveRecords fits rs l d) (sym here_c) (subst (λ (l : List ℕ). HaveRecords fits rs k.bytes l) (sym here_d) (of_first fits k.bytes j.bytes (above_first k j o n) ∙ a)))
+            (leaves_rest other_at last k is_x n.holds.settled) (leaves_rest at m j is_y o.holds.settled)

@@ -1,0 +1,158 @@
+-- An append, and then a checkpoint where there is no room.
+use Rattle.std.proofs.Common.{◌≡◌, inl, inr, ⊎_elim, ℕ, ◌≤◌, List, [], ◌∷◌, ◌++◌, get_or, Bool, true, false, Option, None, Some, IfSome, IsSome, Result, refl, sym, ap, subst, arith}
+use Rattle.std.specs.Result.{result_unwrap_or}
+use Rattle.spl_edge.specs.Calls.{SamePast}
+use Rattle.spl_edge.specs.Image.{Image, MayLeave, IsSettled}
+use Rattle.spl_journal.specs.Clear.{IsAtRest}
+use Rattle.spl_journal.specs.Journals.{Stands}
+use Rattle.spl_snapshot.specs.declared.pairing.Pairing.{Pairing}
+use Rattle.spl_snapshot.specs.Pairs.{PairStands}
+use Rattle.spl_snapshot.specs.Counting.{chosen, pair_records_of, HaveRecords, HaveEither, HaveOneOf, IfBoth, PairLeaves, PairLeavesInTurn}
+use Rattle.spl_snapshot.proofs.Findings.{if_map}
+use Rattle.spl_snapshot.proofs.Turns.{first_then, second_then}
+
+-- what has P has Q
+both_map : (P Q : List ℕ → List ℕ → Type 0) → ((c d : List ℕ) → P c d → Q c d) → (o p : Option Image)
+    → IfBoth o p (λ i j. (c d : List ℕ) → MayLeave i c → MayLeave j d → P c d) → IfBoth o p (λ i j. (c d : List ℕ) → MayLeave i c → MayLeave j d → Q c d)
+both_map P Q f None p h = tt
+both_map P Q f (Some i) None h = tt
+both_map P Q f (Some i) (Some j) h = λ c d x y. f c d (h c d x y)
+
+pub pair_map : (at other : ℕ → Option Image) (from to start end : ℕ) (P Q : List ℕ → List ℕ → Type 0) → ((c d : List ℕ) → P c d → Q c d) → PairLeaves at from to other start end P → PairLeaves at from to other start end Q
+pair_map at other from to start end P Q f h k l a b c d = both_map P Q f (at k) (other l) (h k l a b c d)
+
+-- in any turn
+pub in_any_turn : (second : Bool) (at other : ℕ → Option Image) (from to start end : ℕ) (P : List ℕ → List ℕ → Type 0) → PairLeaves at from to other start end P → PairLeavesInTurn second at from to other start end P
+in_any_turn second at other from to start end P h k l a b c d turn = h k l a b c d
+
+-- two disks, before, between and behind two calls of them
+module _ {D : Type 0} (image_at : D → ℕ → Option Image) (moment : D → ℕ) (a b a1 b1 a2 b2 : D) (P : List ℕ → List ℕ → Type 0)
+    (first_past : SamePast (image_at a1) (moment a1) (image_at a2)) (first_later : moment a1 ≤ moment a2) (second_past : SamePast (image_at b1) (moment b1) (image_at b2)) (second_later : moment b1 ≤ moment b2) where
+  pub joined : (second : Bool) → chosen second b1 a1 ≡ chosen second b a → chosen second a2 b2 ≡ chosen second a1 b1
+      → PairLeaves (image_at a1) (moment a) (moment a1) (image_at b1) (moment b) (moment b1) P
+      → PairLeaves (image_at a2) (moment a1) (moment a2) (image_at b2) (moment b1) (moment b2) P
+      → PairLeavesInTurn second (image_at a2) (moment a) (moment a2) (image_at b2) (moment b) (moment b2) P
+  joined false other counting before behind =
+      subst (λ (x : D). PairLeavesInTurn false (image_at x) (moment a) (moment x) (image_at b2) (moment b) (moment b2) P) (sym counting)
+      (first_then (image_at a1) (image_at b) (image_at b2) (moment a) (moment a1) (moment b) (moment b2) P
+      (subst (λ (y : D). moment y ≤ moment b2) other second_later) (subst (λ (y : D). SamePast (image_at y) (moment y) (image_at b2)) other second_past)
+      (subst (λ (y : D). PairLeaves (image_at a1) (moment a) (moment a1) (image_at y) (moment b) (moment y) P) other before)
+      (subst (λ (y : D). PairLeaves (image_at a1) (moment a1) (moment a1) (image_at b2) (moment y) (moment b2) P) other (subst (λ (x : D). PairLeaves (image_at x) (moment a1) (moment x) (image_at b2) (moment b1) (moment b2) P) counting behind)))
+  joined true other counting before behind =
+      subst (λ (y : D). PairLeavesInTurn true (image_at a2) (moment a) (moment a2) (image_at y) (moment b) (moment y) P) (sym counting)
+      (second_then (image_at b1) (image_at a) (image_at a2) (moment b) (moment b1) (moment a) (moment a2) P
+      (subst (λ (x : D). moment x ≤ moment a2) other first_later) (subst (λ (x : D). SamePast (image_at x) (moment x) (image_at a2)) other first_past)
+      (subst (λ (x : D). PairLeaves (image_at x) (moment a) (moment x) (image_at b1) (moment b) (moment b1) P) other before)
+      (subst (λ (x : D). PairLeaves (image_at a2) (moment x) (moment a2) (image_at b1) (moment b1) (moment b1) P) other (subst (λ (y : D). PairLeaves (image_at a2) (moment a1) (moment a2) (image_at y) (moment b1) (moment y) P) counting behind)))
+
+-- one of two is one of three
+pub either_one : (fits : List ℕ → Bool) (before after packed : List (List ℕ)) (c d : List ℕ) → HaveEither fits before after c d → HaveOneOf fits before after packed c d
+either_one fits before after packed c d = ⊎_elim (λ x. inl x) (λ y. inr (inl y))
+
+later_one : (fits : List ℕ → Bool) (before after packed : List (List ℕ)) (c d : List ℕ) → HaveEither fits after packed c d → HaveOneOf fits before after packed c d
+later_one fits before after packed c d = ⊎_elim (λ x. inr (inl x)) (λ y. inr (inr y))
+
+leaves_itself : (i : Image) → IsSettled i → MayLeave i i.bytes
+leaves_itself i s = record { no_shorter = omega (arith, s.least); no_longer = omega (arith, s.greatest); same = λ k a b out. ap (λ (l : List ℕ). get_or l k 0) (sym s.same) }
+
+-- the records between an append and a checkpoint
+module _ (fits : List ℕ → Bool) (rs : List (List ℕ)) (at other : ℕ → Option Image) (m n : ℕ) (i j : Image) (here : at m ≡ Some i) (there : other n ≡ Some j) (rest : IsSettled i) (other_rest : IsSettled j) where
+  pub between : PairLeaves at m m other n n (HaveRecords fits rs) → pair_records_of fits i.bytes j.bytes ≡ rs
+  between left = ap (λ (r : Result (List (List ℕ)) ℕ). result_unwrap_or r []) now
+    where
+      now : HaveRecords fits rs i.bytes j.bytes
+      now = subst (λ (y : Option Image). IfSome y (λ v. (c d : List ℕ) → MayLeave i c → MayLeave v d → HaveRecords fits rs c d)) there
+          (subst (λ (x : Option Image). IfBoth x (other n) (λ u v. (c d : List ℕ) → MayLeave u c → MayLeave v d → HaveRecords fits rs c d)) here (left m n (omega arith) (omega arith) (omega arith) (omega arith)))
+          i.bytes j.bytes (leaves_itself i rest) (leaves_itself j other_rest)
+
+both_told : (o p : Option Image) (C : Type 0) → IsSome o → IsSome p → ((i j : Image) → o ≡ Some i → p ≡ Some j → C) → C
+both_told None p C a b f = cc
+both_told (Some i) None C a b f = cc
+both_told (Some i) (Some j) C a b f = f i j refl refl
+
+-- the checkpoint as it is seen from before the append
+module _ (fits : List ℕ → Bool) (rs packed : List (List ℕ)) (r : List ℕ) (at1 at2 other1 other2 : ℕ → Option Image) (m m1 n n1 : ℕ)
+    (rest : IfSome (at1 m) IsSettled) (other_rest : IfSome (other1 n) IsSettled) (told : IsSome (at1 m)) (other_told : IsSome (other1 n)) (mid : PairLeaves at1 m m other1 n n (HaveRecords fits (rs ++ r ∷ []))) where
+  settled_of : (o : Option Image) (i : Image) → o ≡ Some i → IfSome o IsSettled → IsSettled i
+  settled_of o i is s = subst (λ (x : Option Image). IfSome x IsSettled) is s
+
+  pub checkpoint_any : IfBoth (at1 m) (other1 n) (λ i j. PairLeaves at2 m m1 other2 n n1 (HaveEither fits (pair_records_of fits i.bytes j.bytes) packed)) → PairLeaves at2 m m1 other2 n n1 (HaveOneOf fits rs (rs ++ r ∷ []) packed)
+  checkpoint_any left = both_told (at1 m) (other1 n) (PairLeaves at2 m m1 other2 n n1 (HaveOneOf fits rs (rs ++ r ∷ []) packed)) told other_told
+      (λ i j here there.
+      let all = between fits (rs ++ r ∷ []) at1 other1 m n i j here there (settled_of (at1 m) i here rest) (settled_of (other1 n) j there other_rest) mid in
+      let now = subst (λ (y : Option Image). IfSome y (λ v. PairLeaves at2 m m1 other2 n n1 (HaveEither fits (pair_records_of fits i.bytes v.bytes) packed))) there
+      (subst (λ (x : Option Image). IfBoth x (other1 n) (λ u v. PairLeaves at2 m m1 other2 n n1 (HaveEither fits (pair_records_of fits u.bytes v.bytes) packed))) here left) in
+      pair_map at2 other2 m m1 n n1 (HaveEither fits (pair_records_of fits i.bytes j.bytes) packed) (HaveOneOf fits rs (rs ++ r ∷ []) packed)
+      (λ c d h. later_one fits rs (rs ++ r ∷ []) packed c d (subst (λ (l : List (List ℕ)). HaveEither fits l packed c d) all h)) now)
+
+  pub checkpoint_after : IfBoth (at1 m) (other1 n) (λ i j. PairLeaves at2 m1 m1 other2 n1 n1 (HaveRecords fits packed)) → PairLeaves at2 m1 m1 other2 n1 n1 (HaveEither fits (rs ++ r ∷ []) packed)
+  checkpoint_after left = both_told (at1 m) (other1 n) (PairLeaves at2 m1 m1 other2 n1 n1 (HaveEither fits (rs ++ r ∷ []) packed)) told other_told
+      (λ i j here there.
+      let now = subst (λ (y : Option Image). IfSome y (λ v. PairLeaves at2 m1 m1 other2 n1 n1 (HaveRecords fits packed))) there
+      (subst (λ (x : Option Image). IfBoth x (other1 n) (λ u v. PairLeaves at2 m1 m1 other2 n1 n1 (HaveRecords fits packed))) here left) in
+      pair_map at2 other2 m1 m1 n1 n1 (HaveRecords fits packed) (HaveEither fits (rs ++ r ∷ []) packed) (λ c d h. inr h) now)
+
+both_if : (o p : Option Image) (P Q : Image → Image → Type 0) → IfBoth o p P → ((i j : Image) → P i j → Q i j) → IfBoth o p Q
+both_if None p P Q h f = tt
+both_if (Some i) None P Q h f = tt
+both_if (Some i) (Some j) P Q h f = f i j h
+
+-- an append alone
+module _ (fits : List ℕ → Bool) (packed : List (List ℕ)) (r : List ℕ) (o p : Option Image) (at other : ℕ → Option Image) (from to start end : ℕ) where
+  pub kept_any : (second : Bool) → IfBoth o p (λ i j. PairLeaves at from to other start end (HaveEither fits (pair_records_of fits i.bytes j.bytes) (pair_records_of fits i.bytes j.bytes ++ r ∷ [])))
+      → IfBoth o p (λ i j. PairLeavesInTurn second at from to other start end (HaveOneOf fits (pair_records_of fits i.bytes j.bytes) (pair_records_of fits i.bytes j.bytes ++ r ∷ []) packed))
+  kept_any second left = both_if o p (λ i j. PairLeaves at from to other start end (HaveEither fits (pair_records_of fits i.bytes j.bytes) (pair_records_of fits i.bytes j.bytes ++ r ∷ [])))
+      (λ i j. PairLeavesInTurn second at from to other start end (HaveOneOf fits (pair_records_of fits i.bytes j.bytes) (pair_records_of fits i.bytes j.bytes ++ r ∷ []) packed)) left
+      (λ i j h. in_any_turn second at other from to start end (HaveOneOf fits (pair_records_of fits i.bytes j.bytes) (pair_records_of fits i.bytes j.bytes ++ r ∷ []) packed)
+      (pair_map at other from to start end (HaveEither fits (pair_records_of fits i.bytes j.bytes) (pair_records_of fits i.bytes j.bytes ++ r ∷ [])) (HaveOneOf fits (pair_records_of fits i.bytes j.bytes) (pair_records_of fits i.bytes j.bytes ++ r ∷ []) packed)
+      (either_one fits (pair_records_of fits i.bytes j.bytes) (pair_records_of fits i.bytes j.bytes ++ r ∷ []) packed) h))
+
+  pub kept_after : IfBoth o p (λ i j. PairLeaves at from to other start end (HaveRecords fits (pair_records_of fits i.bytes j.bytes ++ r ∷ [])))
+      → IfBoth o p (λ i j. PairLeaves at from to other start end (HaveEither fits (pair_records_of fits i.bytes j.bytes ++ r ∷ []) packed))
+  kept_after left = both_if o p (λ i j. PairLeaves at from to other start end (HaveRecords fits (pair_records_of fits i.bytes j.bytes ++ r ∷ [])))
+      (λ i j. PairLeaves at from to other start end (HaveEither fits (pair_records_of fits i.bytes j.bytes ++ r ∷ []) packed)) left
+      (λ i j h. pair_map at other from to start end (HaveRecords fits (pair_records_of fits i.bytes j.bytes ++ r ∷ [])) (HaveEither fits (pair_records_of fits i.bytes j.bytes ++ r ∷ []) packed) (λ c d x. inl x) h)
+
+-- the two disks of a pairing are at rest
+settled_both : (second : Bool) (o p : Option Image) → IfSome (chosen second o p) IsSettled → IfSome (chosen second p o) IsSettled → IfSome o IsSettled × IfSome p IsSettled
+settled_both false o p a b = (a, b)
+settled_both true o p a b = (b, a)
+
+pub stands_settled : {R : Type 0} (fits : List ℕ → Bool) (q : Pairing R) (o p : Option Image) → PairStands fits q o p → IfSome o IsSettled × IfSome p IsSettled
+stands_settled fits q o p stands = settled_both q.second o p
+    (if_map (chosen q.second o p) (Stands fits q.journal) IsSettled stands.counting (λ i s. s.holds.settled))
+    (if_map (chosen q.second p o) (IsAtRest q.other) IsSettled stands.other (λ i s. s.settled))
+
+-- an append and a checkpoint
+module _ {D : Type 0} (image_at : D → ℕ → Option Image) (moment : D → ℕ) (a b a1 b1 a2 b2 : D) (fits : List ℕ → Bool) (packed : List (List ℕ)) (r : List ℕ) (o p : Option Image)
+    (first_past : SamePast (image_at a1) (moment a1) (image_at a2)) (first_later : moment a1 ≤ moment a2) (second_past : SamePast (image_at b1) (moment b1) (image_at b2)) (second_later : moment b1 ≤ moment b2)
+    (rest : IfSome (image_at a1 (moment a1)) IsSettled × IfSome (image_at b1 (moment b1)) IsSettled)
+    (tells : IfBoth o p (λ i j. IsSome (image_at a1 (moment a1)) × IsSome (image_at b1 (moment b1))))
+    (after : IfBoth o p (λ i j. PairLeaves (image_at a1) (moment a1) (moment a1) (image_at b1) (moment b1) (moment b1) (HaveRecords fits (pair_records_of fits i.bytes j.bytes ++ r ∷ [])))) where
+  pub both_any : (second : Bool) → chosen second b1 a1 ≡ chosen second b a → chosen second a2 b2 ≡ chosen second a1 b1
+      → IfBoth o p (λ i j. PairLeaves (image_at a1) (moment a) (moment a1) (image_at b1) (moment b) (moment b1) (HaveEither fits (pair_records_of fits i.bytes j.bytes) (pair_records_of fits i.bytes j.bytes ++ r ∷ [])))
+      → IfBoth (image_at a1 (moment a1)) (image_at b1 (moment b1)) (λ i j. PairLeaves (image_at a2) (moment a1) (moment a2) (image_at b2) (moment b1) (moment b2) (HaveEither fits (pair_records_of fits i.bytes j.bytes) packed))
+      → IfBoth o p (λ i j. PairLeavesInTurn second (image_at a2) (moment a) (moment a2) (image_at b2) (moment b) (moment b2) (HaveOneOf fits (pair_records_of fits i.bytes j.bytes) (pair_records_of fits i.bytes j.bytes ++ r ∷ []) packed))
+  both_any second other counting before behind = both_two o p before tells after
+    where
+      both_two : (x y : Option Image) → IfBoth x y (λ i j. PairLeaves (image_at a1) (moment a) (moment a1) (image_at b1) (moment b) (moment b1) (HaveEither fits (pair_records_of fits i.bytes j.bytes) (pair_records_of fits i.bytes j.bytes ++ r ∷ [])))
+          → IfBoth x y (λ i j. IsSome (image_at a1 (moment a1)) × IsSome (image_at b1 (moment b1)))
+          → IfBoth x y (λ i j. PairLeaves (image_at a1) (moment a1) (moment a1) (image_at b1) (moment b1) (moment b1) (HaveRecords fits (pair_records_of fits i.bytes j.bytes ++ r ∷ [])))
+          → IfBoth x y (λ i j. PairLeavesInTurn second (image_at a2) (moment a) (moment a2) (image_at b2) (moment b) (moment b2) (HaveOneOf fits (pair_records_of fits i.bytes j.bytes) (pair_records_of fits i.bytes j.bytes ++ r ∷ []) packed))
+      both_two None y h t l = tt
+      both_two (Some i) None h t l = tt
+      both_two (Some i) (Some j) h t l = joined image_at moment a b a1 b1 a2 b2 (HaveOneOf fits (pair_records_of fits i.bytes j.bytes) (pair_records_of fits i.bytes j.bytes ++ r ∷ []) packed) first_past first_later second_past second_later second other counting
+          (pair_map (image_at a1) (image_at b1) (moment a) (moment a1) (moment b) (moment b1) (HaveEither fits (pair_records_of fits i.bytes j.bytes) (pair_records_of fits i.bytes j.bytes ++ r ∷ [])) (HaveOneOf fits (pair_records_of fits i.bytes j.bytes) (pair_records_of fits i.bytes j.bytes ++ r ∷ []) packed)
+          (either_one fits (pair_records_of fits i.bytes j.bytes) (pair_records_of fits i.bytes j.bytes ++ r ∷ []) packed) h)
+          (checkpoint_any fits (pair_records_of fits i.bytes j.bytes) packed r (image_at a1) (image_at a2) (image_at b1) (image_at b2) (moment a1) (moment a2) (moment b1) (moment b2) rest.0 rest.1 t.0 t.1 l behind)
+
+  pub both_after : IfBoth (image_at a1 (moment a1)) (image_at b1 (moment b1)) (λ i j. PairLeaves (image_at a2) (moment a2) (moment a2) (image_at b2) (moment b2) (moment b2) (HaveRecords fits packed))
+      → IfBoth o p (λ i j. PairLeaves (image_at a2) (moment a2) (moment a2) (image_at b2) (moment b2) (moment b2) (HaveEither fits (pair_records_of fits i.bytes j.bytes ++ r ∷ []) packed))
+  both_after behind = both_two o p tells after
+    where
+      both_two : (x y : Option Image) → IfBoth x y (λ i j. IsSome (image_at a1 (moment a1)) × IsSome (image_at b1 (moment b1)))
+          → IfBoth x y (λ i j. PairLeaves (image_at a1) (moment a1) (moment a1) (image_at b1) (moment b1) (moment b1) (HaveRecords fits (pair_records_of fits i.bytes j.bytes ++ r ∷ [])))
+          → IfBoth x y (λ i j. PairLeaves (image_at a2) (moment a2) (moment a2) (image_at b2) (moment b2) (moment b2) (HaveEither fits (pair_records_of fits i.bytes j.bytes ++ r ∷ []) packed))
+      both_two None y t l = tt
+      both_two (Some i) None t l = tt
+      both_two (Some i) (Some j) t l = checkpoint_after fits (pair_records_of fits i.bytes j.bytes) packed r (image_at a1) (image_at a2) (image_at b1) (image_at b2) (moment a1) (moment a2) (moment b1) (moment b2) rest.0 rest.1 t.0 t.1 l behind

@@ -1,0 +1,7 @@
+mod Leaves
+mod Counts
+mod Appending
+mod Checkpoints
+mod Findings
+mod Turns
+mod Keeps

@@ -1,0 +1,70 @@
+-- Which of two disks counts, and what a stop may leave of both (docs/RULES.md, Journals).
+use Rattle.std.specs.Prelude.{◌≡◌, ◌⊎◌, ◌≤◌, ℕ, List, Bool, true, false, not, ◌&&◌, ◌||◌, nat_lt, if◌then◌else◌, Option, IfSome, Result, Ok}
+use Rattle.spl_edge.specs.Image.{Image, MayLeave}
+use Rattle.spl_edge.specs.Calls.{SamePast}
+use Rattle.spl_edge.specs.Picks.{Picked}
+use Rattle.spl_edge.specs.declared.disk.Armed.{Armed}
+use Rattle.spl_journal.specs.Records.{is_open, epoch_in, records, records_of}
+
+-- the second is open, and the first isn't or has a lower epoch
+abbrev pub is_above : Bool → ℕ → Bool → ℕ → Bool
+is_above first_open first_epoch second_open second_epoch = second_open && (not first_open || nat_lt first_epoch second_epoch)
+
+-- whether the second of two disks counts
+abbrev pub second_counts : List ℕ → List ℕ → Bool
+second_counts first second = is_above (is_open first) (epoch_in first) (is_open second) (epoch_in second)
+
+-- the second of two where this is true, and the first otherwise
+abbrev pub chosen : {T : Type 0} → Bool → T → T → T
+chosen second a b = if second then b else a
+
+-- the bytes of the disk that counts
+abbrev pub counting_bytes : List ℕ → List ℕ → List ℕ
+counting_bytes first second = chosen (second_counts first second) first second
+
+-- the records of two disks, or the place where they are no journal
+abbrev pub pair_records : (List ℕ → Bool) → List ℕ → List ℕ → Result (List (List ℕ)) ℕ
+pair_records fits first second = records fits (counting_bytes first second)
+
+-- and none where they are no journal
+abbrev pub pair_records_of : (List ℕ → Bool) → List ℕ → List ℕ → List (List ℕ)
+pair_records_of fits first second = records_of fits (counting_bytes first second)
+
+-- where both disks tell
+abbrev pub IfBoth : Option Image → Option Image → (Image → Image → Type 0) → Type 0
+IfBoth first second P = IfSome first (λ i. IfSome second (λ j. P i j))
+
+-- a stop that leaves any image of the first disk at one of these moments, and any of the second at one of those, leaves what has P
+abbrev pub PairLeaves : (ℕ → Option Image) → ℕ → ℕ → (ℕ → Option Image) → ℕ → ℕ → (List ℕ → List ℕ → Type 0) → Type 0
+PairLeaves first_at first_from first_to second_at second_from second_to P = (k l : ℕ) → first_from ≤ k → k ≤ first_to → second_from ≤ l → l ≤ second_to
+    → IfBoth (first_at k) (second_at l) (λ i j. (c d : List ℕ) → MayLeave i c → MayLeave j d → P c d)
+
+-- the disk that counts goes on first, and then the other: the second first where this is true
+abbrev pub IsInTurn : Bool → (k first_from first_to l second_from second_to : ℕ) → Type 0
+IsInTurn false k first_from first_to l second_from second_to = (l ≡ second_from) ⊎ (k ≡ first_to)
+IsInTurn true k first_from first_to l second_from second_to = (k ≡ first_from) ⊎ (l ≡ second_to)
+
+-- the same where one disk is called after the other, as in an append and then a checkpoint
+abbrev pub PairLeavesInTurn : Bool → (ℕ → Option Image) → ℕ → ℕ → (ℕ → Option Image) → ℕ → ℕ → (List ℕ → List ℕ → Type 0) → Type 0
+PairLeavesInTurn second first_at first_from first_to second_at second_from second_to P = (k l : ℕ) → first_from ≤ k → k ≤ first_to → second_from ≤ l → l ≤ second_to
+    → IsInTurn second k first_from first_to l second_from second_to → IfBoth (first_at k) (second_at l) (λ i j. (c d : List ℕ) → MayLeave i c → MayLeave j d → P c d)
+
+-- they are these records
+abbrev pub HaveRecords : (List ℕ → Bool) → List (List ℕ) → List ℕ → List ℕ → Type 0
+HaveRecords fits rs first second = pair_records fits first second ≡ Ok rs
+
+-- they are these records or those
+abbrev pub HaveEither : (List ℕ → Bool) → List (List ℕ) → List (List ℕ) → List ℕ → List ℕ → Type 0
+HaveEither fits before after first second = HaveRecords fits before first second ⊎ HaveRecords fits after first second
+
+-- or others again
+abbrev pub HaveOneOf : (List ℕ → Bool) → List (List ℕ) → List (List ℕ) → List (List ℕ) → List ℕ → List ℕ → Type 0
+HaveOneOf fits before after packed first second = HaveRecords fits before first second ⊎ (HaveRecords fits after first second ⊎ HaveRecords fits packed first second)
+
+-- a disk went on: earlier moments are as they were, no count fell, and it is armed and has picked as before
+pub record Onward (at new_at : ℕ → Option Image) (before now : ℕ) (faults risen : ℕ) (was_armed is_armed : Armed) (had_picked has_picked : List Picked) : Type 0 where
+  pub past : SamePast at before new_at
+  pub later : before ≤ now
+  pub no_less : faults ≤ risen
+  pub armed : is_armed ≡ was_armed
+  pub picks : has_picked ≡ had_picked

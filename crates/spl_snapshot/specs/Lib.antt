@@ -1,0 +1,4 @@
+pub mod Counting
+pub mod Pairs
+pub mod Choices
+pub mod Anew

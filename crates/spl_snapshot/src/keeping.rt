@@ -1,0 +1,84 @@
+//! A record that is kept, with a checkpoint where there is no room for more.
+ghost use Rattle.std.specs.Prelude.{◌≡◌, ◌⊎◌, ◌<◌, ◌+◌, ◌-◌, ◌*◌, ◌^◌, ◌++◌, ◌∷◌, [], List, ℕ, true, false, not, ⊤, length, IsTrue, OnOk, OnErr, IfOk, IsOk, IsErrOf};
+ghost use Rattle.spl_edge.specs.Calls.{fails_at};
+ghost use Rattle.spl_edge.specs.Causes.{Rose};
+ghost use Rattle.spl_journal.specs.Gate.{ByCalls, opened};
+ghost use Rattle.spl_journal.specs.Journals.{end_of, len_of, base_of, epoch_of, has_room};
+ghost use Rattle.spl_journal.specs.Records.{blocks, sized, IsGood, AreGood};
+ghost use Rattle.spl_snapshot.specs.Counting.{chosen, pair_records_of, HaveEither, HaveOneOf, IfBoth, PairLeaves, PairLeavesInTurn, Onward};
+ghost use Rattle.spl_snapshot.specs.Pairs.{PairStands, is_second, journal_in, is_halted};
+
+use crate::Pairing;
+use spl_edge::{Disk, Pair};
+use spl_journal::{Form, JournalFault, Records};
+use std::alloc::{AllocError, Global};
+
+/// What packs into records.
+pub trait Packed {
+    ghost packed: { Self → List (List ℕ) };
+
+    /// Its records. An error comes for want of memory alone.
+    fn pack(&self, alloc: Global) -> Result<Records, AllocError>
+        ensures { IfOk result (λ records. records ≡ packed self.now) };
+}
+
+impl<R: Form> Pairing<R> {
+    /// Adds a record, and where that leaves no room writes anew what packs into the records of now. After an error it is halted.
+    pub fn keep<P: Packed, D: Disk>(
+        &mut self,
+        alloc: Global,
+        disks: &mut Pair<D>,
+        bytes: &[u8],
+        state: &P,
+    ) -> Result<(), JournalFault>
+        requires running { is_halted self.old ≡ false }
+        requires good { IsGood R.is_record bytes.now }
+        requires packed { AreGood R.is_record (P.packed state.now) }
+        requires stands { PairStands R.is_record self.old (D.image_at disks.old.first (D.moment disks.old.first)) (D.image_at disks.old.second (D.moment disks.old.second)) }
+        ensures stands { OnOk result (PairStands R.is_record self.new (D.image_at disks.new.first (D.moment disks.new.first)) (D.image_at disks.new.second (D.moment disks.new.second))) }
+
+        // A stop at any moment leaves the records from before it, those and the new one, or the packed ones; after Ok one of the last two.
+        ensures any_moment { IfBoth (D.image_at disks.old.first (D.moment disks.old.first)) (D.image_at disks.old.second (D.moment disks.old.second)) (λ i j.
+            PairLeavesInTurn (is_second self.old) (D.image_at disks.new.first) (D.moment disks.old.first) (D.moment disks.new.first) (D.image_at disks.new.second) (D.moment disks.old.second) (D.moment disks.new.second)
+            (HaveOneOf R.is_record (pair_records_of R.is_record i.bytes j.bytes) (pair_records_of R.is_record i.bytes j.bytes ++ bytes.now ∷ []) (P.packed state.now))) }
+        ensures after { OnOk result (IfBoth (D.image_at disks.old.first (D.moment disks.old.first)) (D.image_at disks.old.second (D.moment disks.old.second)) (λ i j.
+            PairLeaves (D.image_at disks.new.first) (D.moment disks.new.first) (D.moment disks.new.first) (D.image_at disks.new.second) (D.moment disks.new.second) (D.moment disks.new.second)
+            (HaveEither R.is_record (pair_records_of R.is_record i.bytes j.bytes ++ bytes.now ∷ []) (P.packed state.now)))) }
+        ensures room { OnOk result (epoch_of (journal_in self.new) < 2 ^ 64 - 1 → has_room (journal_in self.new) ≡ true) }
+        ensures base { OnOk result ((base_of (journal_in self.new) ≡ base_of (journal_in self.old)) ⊎ (base_of (journal_in self.new) ≡ 18 + length (blocks (P.packed state.now)))) }
+
+        // The append comes first: it ended the call, or each of its four calls succeeded.
+        ensures by_calls { ByCalls 4 (D.image_at (chosen (is_second self.old) disks.new.first disks.new.second)) (D.moment (chosen (is_second self.old) disks.old.first disks.old.second)) (D.moment (chosen (is_second self.old) disks.new.first disks.new.second))
+            (opened (end_of (journal_in self.old)) (sized bytes.now)) (D.image_at (chosen (is_second self.old) disks.old.first disks.old.second) (D.moment (chosen (is_second self.old) disks.old.first disks.old.second))) (D.armed (chosen (is_second self.old) disks.old.first disks.old.second)) (IsOk result) (IsErrOf result JournalFault.Disk)
+            ⊎ ByCalls 4 (D.image_at (chosen (is_second self.old) disks.new.first disks.new.second)) (D.moment (chosen (is_second self.old) disks.old.first disks.old.second)) (D.moment (chosen (is_second self.old) disks.new.first disks.new.second))
+            (opened (end_of (journal_in self.old)) (sized bytes.now)) (D.image_at (chosen (is_second self.old) disks.old.first disks.old.second) (D.moment (chosen (is_second self.old) disks.old.first disks.old.second))) (D.armed (chosen (is_second self.old) disks.old.first disks.old.second)) ⊤ ⊥ }
+
+        // Where it leaves no room the other disk counts behind Ok, and none of its eight calls was one that it is armed for.
+        ensures turned { OnOk result (2 * base_of (journal_in self.old) + 65536 < len_of (journal_in self.old) + 5 + length bytes.now → epoch_of (journal_in self.old) < 2 ^ 64 - 1
+            → is_second self.new ≡ not (is_second self.old)) }
+        ensures passed { OnOk result ((is_second self.new ≡ is_second self.old) ⊎ ((n : ℕ) → n < 8 → IsTrue (fails_at (D.armed (chosen (is_second self.old) disks.old.second disks.old.first)) (D.moment (chosen (is_second self.old) disks.old.second disks.old.first) + n)) → ⊥)) }
+        ensures halted { OnErr result (is_halted self.new ≡ true) }
+        ensures running { OnOk result (is_halted self.new ≡ false) }
+        ensures not { (at : ℕ) → IsErrOf result (JournalFault.NotAJournal at) → ⊥ }
+        ensures failed { IsErrOf result JournalFault.Disk → Rose (D.faults disks.old.first) (D.faults disks.new.first) ⊎ Rose (D.faults disks.old.second) (D.faults disks.new.second) }
+        ensures on_first { Onward (D.image_at disks.old.first) (D.image_at disks.new.first) (D.moment disks.old.first) (D.moment disks.new.first) (D.faults disks.old.first) (D.faults disks.new.first)
+            (D.armed disks.old.first) (D.armed disks.new.first) (D.picks disks.old.first) (D.picks disks.new.first) }
+        ensures on_second { Onward (D.image_at disks.old.second) (D.image_at disks.new.second) (D.moment disks.old.second) (D.moment disks.new.second) (D.faults disks.old.second) (D.faults disks.new.second)
+            (D.armed disks.old.second) (D.armed disks.new.second) (D.picks disks.old.second) (D.picks disks.new.second) }
+    {
+        if let Err(fault) = self.append(alloc, disks, bytes) {
+            return Err(fault);
+        }
+        if self.room() || self.epoch() == u64::MAX {
+            return Ok(());
+        }
+        let Ok(contents) = state.pack(alloc) else {
+            self.halted = true;
+            return Err(JournalFault::NoMemory);
+        };
+        if let Err(fault) = self.checkpoint(alloc, disks, &contents) {
+            return Err(fault);
+        }
+        Ok(())
+    }
+}

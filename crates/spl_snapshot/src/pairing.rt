@@ -1,0 +1,221 @@
+//! The journals of two disks, of which one counts.
+ghost use Rattle.std.specs.Prelude.{◌≡◌, ◌≤◌, ◌<◌, ◌+◌, ◌-◌, ◌^◌, ◌++◌, ◌∷◌, [], ℕ, true, false, not, length, IsTrue, OnOk, OnErr, IfOk, IfSome, IsSome, IsOk, IsErrOf};
+ghost use Rattle.spl_edge.specs.Calls.{fails_at};
+ghost use Rattle.spl_edge.specs.Causes.{Rose};
+ghost use Rattle.spl_journal.specs.Gate.{ByCalls, opened};
+ghost use Rattle.spl_journal.specs.Journals.{end_of, len_of, base_of, epoch_of, has_room};
+ghost use Rattle.spl_journal.specs.Make.{IsBlank};
+ghost use Rattle.spl_journal.specs.Records.{blocks, sized, IsGood, AreGood};
+ghost use Rattle.spl_snapshot.specs.Counting.{chosen, pair_records_of, HaveRecords, HaveEither, IfBoth, PairLeaves, Onward};
+ghost use Rattle.spl_snapshot.specs.Pairs.{PairStands, is_second, journal_in, is_halted};
+
+use crate::anew::write_anew;
+use spl_edge::{Disk, Pair};
+use spl_journal::{Form, Journal, JournalFault, Records, format};
+use std::alloc::Global;
+
+/// The journal on the disk that counts, and the length of the other. It keeps no record.
+#[derive(Drop)]
+pub struct Pairing<R> {
+    pub(crate) journal: Journal<R>,
+    /// Whether the second disk counts.
+    pub(crate) second: bool,
+    /// How many bytes the other disk has.
+    pub(crate) other: u64,
+    pub(crate) halted: bool,
+}
+
+/// Makes a journal of epoch 1 on the first of two blank disks, by four calls.
+pub fn format_pair<R: Form, D: Disk>(
+    alloc: Global,
+    disks: &mut Pair<D>,
+) -> Result<Pairing<R>, JournalFault>
+    requires first { IfSome (D.image_at disks.old.first (D.moment disks.old.first)) IsBlank }
+    requires second { IfSome (D.image_at disks.old.second (D.moment disks.old.second)) IsBlank }
+    ensures stands { IfOk result (λ p. PairStands R.is_record p (D.image_at disks.new.first (D.moment disks.new.first)) (D.image_at disks.new.second (D.moment disks.new.second))) }
+    ensures empty { OnOk result (IfBoth (D.image_at disks.new.first (D.moment disks.new.first)) (D.image_at disks.new.second (D.moment disks.new.second)) (λ i j. HaveRecords R.is_record [] i.bytes j.bytes)) }
+    ensures fresh { IfOk result (λ p. (is_second p ≡ false) × (is_halted p ≡ false) × (epoch_of (journal_in p) ≡ 1) × (len_of (journal_in p) ≡ 18) × (base_of (journal_in p) ≡ 18)) }
+    ensures not { (at : ℕ) → IsErrOf result (JournalFault.NotAJournal at) → ⊥ }
+    ensures failed { IsErrOf result JournalFault.Disk → Rose (D.faults disks.old.first) (D.faults disks.new.first) }
+    ensures on_first { Onward (D.image_at disks.old.first) (D.image_at disks.new.first) (D.moment disks.old.first) (D.moment disks.new.first) (D.faults disks.old.first) (D.faults disks.new.first)
+        (D.armed disks.old.first) (D.armed disks.new.first) (D.picks disks.old.first) (D.picks disks.new.first) }
+    ensures second { disks.new.second ≡ disks.old.second }
+{
+    let journal = match format::<R, D>(alloc, &mut disks.first, 1) {
+        Ok(journal) => journal,
+        Err(fault) => return Err(fault),
+    };
+    Ok(Pairing {
+        journal,
+        second: false,
+        other: 0,
+        halted: false,
+    })
+}
+
+impl<R: Form> Pairing<R> {
+    /// 0 where the journal on the first disk counts, and 1 where that on the second does.
+    pub fn counting(&self) -> u8
+        ensures { result ≡ chosen (is_second self.now) 0 1 }
+    {
+        if self.second { 1 } else { 0 }
+    }
+
+    /// The epoch of the journal that counts.
+    pub fn epoch(&self) -> u64
+        ensures { result ≡ epoch_of (journal_in self.now) }
+    {
+        self.journal.epoch()
+    }
+
+    /// How many bytes it has.
+    pub fn len(&self) -> u64
+        ensures { result ≡ len_of (journal_in self.now) }
+    {
+        self.journal.len()
+    }
+
+    /// The length from which its growth is counted.
+    pub fn base(&self) -> u64
+        ensures { result ≡ base_of (journal_in self.now) }
+    {
+        self.journal.base()
+    }
+
+    /// Whether it has at most twice its base and 65,536 bytes.
+    pub fn room(&self) -> bool
+        ensures { result ≡ has_room (journal_in self.now) }
+    {
+        self.journal.room()
+    }
+
+    /// Whether a call failed, so that the disks have to be read again.
+    pub fn halted(&self) -> bool
+        ensures { result ≡ is_halted self.now }
+    {
+        self.halted
+    }
+
+    /// Adds a record to the journal that counts, by four calls of its disk. After an error it is halted.
+    pub fn append<D: Disk>(
+        &mut self,
+        alloc: Global,
+        disks: &mut Pair<D>,
+        bytes: &[u8],
+    ) -> Result<(), JournalFault>
+        requires running { is_halted self.old ≡ false }
+        requires good { IsGood R.is_record bytes.now }
+        requires stands { PairStands R.is_record self.old (D.image_at disks.old.first (D.moment disks.old.first)) (D.image_at disks.old.second (D.moment disks.old.second)) }
+        ensures stands { OnOk result (PairStands R.is_record self.new (D.image_at disks.new.first (D.moment disks.new.first)) (D.image_at disks.new.second (D.moment disks.new.second))) }
+
+        // A stop at any moment of the call leaves the records from before it, or those and the new one; after Ok those and the new one.
+        ensures any_moment { IfBoth (D.image_at disks.old.first (D.moment disks.old.first)) (D.image_at disks.old.second (D.moment disks.old.second)) (λ i j.
+            PairLeaves (D.image_at disks.new.first) (D.moment disks.old.first) (D.moment disks.new.first) (D.image_at disks.new.second) (D.moment disks.old.second) (D.moment disks.new.second)
+            (HaveEither R.is_record (pair_records_of R.is_record i.bytes j.bytes) (pair_records_of R.is_record i.bytes j.bytes ++ bytes.now ∷ []))) }
+        ensures after { OnOk result (IfBoth (D.image_at disks.old.first (D.moment disks.old.first)) (D.image_at disks.old.second (D.moment disks.old.second)) (λ i j.
+            PairLeaves (D.image_at disks.new.first) (D.moment disks.new.first) (D.moment disks.new.first) (D.image_at disks.new.second) (D.moment disks.new.second) (D.moment disks.new.second)
+            (HaveRecords R.is_record (pair_records_of R.is_record i.bytes j.bytes ++ bytes.now ∷ [])))) }
+        ensures tells { OnOk result (IfBoth (D.image_at disks.old.first (D.moment disks.old.first)) (D.image_at disks.old.second (D.moment disks.old.second)) (λ i j. IsSome (D.image_at disks.new.first (D.moment disks.new.first)) × IsSome (D.image_at disks.new.second (D.moment disks.new.second)))) }
+        ensures by_calls { ByCalls 4 (D.image_at (chosen (is_second self.old) disks.new.first disks.new.second))
+            (D.moment (chosen (is_second self.old) disks.old.first disks.old.second)) (D.moment (chosen (is_second self.old) disks.new.first disks.new.second))
+            (opened (end_of (journal_in self.old)) (sized bytes.now))
+            (D.image_at (chosen (is_second self.old) disks.old.first disks.old.second) (D.moment (chosen (is_second self.old) disks.old.first disks.old.second)))
+            (D.armed (chosen (is_second self.old) disks.old.first disks.old.second)) (IsOk result) (IsErrOf result JournalFault.Disk) }
+        ensures other { chosen (is_second self.old) disks.new.second disks.new.first ≡ chosen (is_second self.old) disks.old.second disks.old.first }
+        ensures four { OnOk result (D.moment (chosen (is_second self.old) disks.new.first disks.new.second) ≡ D.moment (chosen (is_second self.old) disks.old.first disks.old.second) + 4) }
+        ensures halted { OnErr result (is_halted self.new ≡ true) }
+        ensures running { OnOk result (is_halted self.new ≡ false) }
+        ensures len { OnOk result (len_of (journal_in self.new) ≡ len_of (journal_in self.old) + 5 + length bytes.now) }
+        ensures same { (is_second self.new ≡ is_second self.old) × (base_of (journal_in self.new) ≡ base_of (journal_in self.old)) × (epoch_of (journal_in self.new) ≡ epoch_of (journal_in self.old)) }
+        ensures not { (at : ℕ) → IsErrOf result (JournalFault.NotAJournal at) → ⊥ }
+        ensures failed { IsErrOf result JournalFault.Disk → Rose (D.faults (chosen (is_second self.old) disks.old.first disks.old.second)) (D.faults (chosen (is_second self.old) disks.new.first disks.new.second)) }
+        ensures on_first { Onward (D.image_at disks.old.first) (D.image_at disks.new.first) (D.moment disks.old.first) (D.moment disks.new.first) (D.faults disks.old.first) (D.faults disks.new.first)
+            (D.armed disks.old.first) (D.armed disks.new.first) (D.picks disks.old.first) (D.picks disks.new.first) }
+        ensures on_second { Onward (D.image_at disks.old.second) (D.image_at disks.new.second) (D.moment disks.old.second) (D.moment disks.new.second) (D.faults disks.old.second) (D.faults disks.new.second)
+            (D.armed disks.old.second) (D.armed disks.new.second) (D.picks disks.old.second) (D.picks disks.new.second) }
+    {
+        self.halted = true;
+        if self.second {
+            if let Err(fault) = self.journal.append(alloc, &mut disks.second, bytes) {
+                return Err(fault);
+            }
+            self.halted = false;
+            return Ok(());
+        }
+        if let Err(fault) = self.journal.append(alloc, &mut disks.first, bytes) {
+            return Err(fault);
+        }
+        self.halted = false;
+        Ok(())
+    }
+
+    /// Counts another journal from now on, on the other disk.
+    fn take_over(&mut self, journal: Journal<R>)
+        ensures journal { journal_in self.new ≡ journal }
+        ensures turned { is_second self.new ≡ not (is_second self.old) }
+        ensures other { self.new.other ≡ (journal_in self.old).extent }
+        ensures running { is_halted self.new ≡ false }
+    {
+        self.other = self.journal.extent();
+        self.journal = journal;
+        self.second = !self.second;
+        self.halted = false;
+    }
+
+    /// Writes these records anew on the other disk, which counts from then on, by eight calls. After an error it is halted.
+    pub fn checkpoint<D: Disk>(
+        &mut self,
+        alloc: Global,
+        disks: &mut Pair<D>,
+        contents: &Records,
+    ) -> Result<(), JournalFault>
+        requires running { is_halted self.old ≡ false }
+        requires epoch { epoch_of (journal_in self.old) < 2 ^ 64 - 1 }
+        requires good { AreGood R.is_record contents.now }
+        requires stands { PairStands R.is_record self.old (D.image_at disks.old.first (D.moment disks.old.first)) (D.image_at disks.old.second (D.moment disks.old.second)) }
+        ensures stands { OnOk result (PairStands R.is_record self.new (D.image_at disks.new.first (D.moment disks.new.first)) (D.image_at disks.new.second (D.moment disks.new.second))) }
+
+        // A stop at any moment of the call leaves the records from before it or those handed in; after Ok those handed in.
+        ensures any_moment { IfBoth (D.image_at disks.old.first (D.moment disks.old.first)) (D.image_at disks.old.second (D.moment disks.old.second)) (λ i j.
+            PairLeaves (D.image_at disks.new.first) (D.moment disks.old.first) (D.moment disks.new.first) (D.image_at disks.new.second) (D.moment disks.old.second) (D.moment disks.new.second)
+            (HaveEither R.is_record (pair_records_of R.is_record i.bytes j.bytes) contents.now)) }
+        ensures after { OnOk result (IfBoth (D.image_at disks.old.first (D.moment disks.old.first)) (D.image_at disks.old.second (D.moment disks.old.second)) (λ i j.
+            PairLeaves (D.image_at disks.new.first) (D.moment disks.new.first) (D.moment disks.new.first) (D.image_at disks.new.second) (D.moment disks.new.second) (D.moment disks.new.second)
+            (HaveRecords R.is_record contents.now))) }
+        ensures counting { chosen (is_second self.old) disks.new.first disks.new.second ≡ chosen (is_second self.old) disks.old.first disks.old.second }
+        ensures eight { OnOk result (D.moment (chosen (is_second self.old) disks.new.second disks.new.first) ≡ D.moment (chosen (is_second self.old) disks.old.second disks.old.first) + 8) }
+
+        // It answers Ok only where the other disk was armed for none of its eight calls.
+        ensures passed { OnOk result ((n : ℕ) → n < 8 → IsTrue (fails_at (D.armed (chosen (is_second self.old) disks.old.second disks.old.first))
+            (D.moment (chosen (is_second self.old) disks.old.second disks.old.first) + n)) → ⊥) }
+        ensures halted { OnErr result (is_halted self.new ≡ true) }
+        ensures running { OnOk result (is_halted self.new ≡ false) }
+        ensures turned { OnOk result (is_second self.new ≡ not (is_second self.old)) }
+        ensures epoch { OnOk result (epoch_of (journal_in self.new) ≡ epoch_of (journal_in self.old) + 1) }
+        ensures base { OnOk result ((base_of (journal_in self.new) ≡ 18 + length (blocks contents.now)) × (len_of (journal_in self.new) ≡ base_of (journal_in self.new))) }
+        ensures same { OnErr result ((journal_in self.new ≡ journal_in self.old) × (is_second self.new ≡ is_second self.old)) }
+        ensures not { (at : ℕ) → IsErrOf result (JournalFault.NotAJournal at) → ⊥ }
+        ensures failed { IsErrOf result JournalFault.Disk → Rose (D.faults (chosen (not (is_second self.old)) disks.old.first disks.old.second)) (D.faults (chosen (not (is_second self.old)) disks.new.first disks.new.second)) }
+        ensures on_first { Onward (D.image_at disks.old.first) (D.image_at disks.new.first) (D.moment disks.old.first) (D.moment disks.new.first) (D.faults disks.old.first) (D.faults disks.new.first)
+            (D.armed disks.old.first) (D.armed disks.new.first) (D.picks disks.old.first) (D.picks disks.new.first) }
+        ensures on_second { Onward (D.image_at disks.old.second) (D.image_at disks.new.second) (D.moment disks.old.second) (D.moment disks.new.second) (D.faults disks.old.second) (D.faults disks.new.second)
+            (D.armed disks.old.second) (D.armed disks.new.second) (D.picks disks.old.second) (D.picks disks.new.second) }
+    {
+        self.halted = true;
+        let epoch = self.journal.epoch() + 1;
+        if self.second {
+            let journal = match write_anew(alloc, &mut disks.first, self.other, epoch, contents) {
+                Ok(journal) => journal,
+                Err(fault) => return Err(fault),
+            };
+            self.take_over(journal);
+            return Ok(());
+        }
+        let journal = match write_anew(alloc, &mut disks.second, self.other, epoch, contents) {
+            Ok(journal) => journal,
+            Err(fault) => return Err(fault),
+        };
+        self.take_over(journal);
+        Ok(())
+    }
+}

@@ -1,0 +1,103 @@
+//! The journal that counts of two disks, read one record after another.
+ghost use Rattle.std.specs.Prelude.{◌≡◌, ◌⊎◌, ◌≤◌, ◌<◌, ◌++◌, ◌∷◌, [], ℕ, true, false, Ok, Err, Option, IfOk, IfSome, IfNone, IsErrOf};
+ghost use Rattle.spl_edge.specs.Causes.{Rose};
+ghost use Rattle.spl_edge.specs.Image.{Image, IsSettled};
+ghost use Rattle.spl_journal.specs.Journals.{base_of, epoch_of, has_ended, left_of, epoch_walked};
+ghost use Rattle.spl_journal.specs.Reads.{Stays};
+ghost use Rattle.spl_journal.specs.Records.{IsGood};
+ghost use Rattle.spl_snapshot.specs.Counting.{IfBoth, pair_records, HaveRecords, Onward};
+ghost use Rattle.spl_snapshot.specs.Pairs.{PairWalks, PairStands, pair_given, walk_in, walks_second, journal_in, is_second, is_halted};
+
+use crate::Pairing;
+use crate::choice::{choose, look};
+use spl_base::Piece;
+use spl_edge::{Disk, Pair};
+use spl_journal::{Form, JournalFault, Walk};
+use std::alloc::Global;
+
+/// How far the journal that counts was read, and the length of the other disk. It keeps no record.
+#[derive(Drop)]
+pub struct PairWalk<R> {
+    pub(crate) walk: Walk<R>,
+    /// Whether the second disk counts.
+    pub(crate) second: bool,
+    /// How many bytes the other disk has.
+    pub(crate) other: u64,
+}
+
+/// Begins to read the journal that counts. Where neither disk is open, it isn't a journal at the place where the first isn't.
+pub fn walk_pair<R: Form, D: Disk>(disks: &mut Pair<D>) -> Result<PairWalk<R>, JournalFault>
+    requires first { IfSome (D.image_at disks.old.first (D.moment disks.old.first)) IsSettled }
+    requires second { IfSome (D.image_at disks.old.second (D.moment disks.old.second)) IsSettled }
+    ensures walks { IfOk result (λ w. PairWalks R.is_record w (D.image_at disks.old.first (D.moment disks.old.first)) (D.image_at disks.old.second (D.moment disks.old.second))) }
+    ensures start { IfOk result (λ w. IfBoth (D.image_at disks.old.first (D.moment disks.old.first)) (D.image_at disks.old.second (D.moment disks.old.second)) (λ i j. pair_given R.is_record w i.bytes j.bytes ≡ [])) }
+    ensures not { (at : ℕ) → IsErrOf result (JournalFault.NotAJournal at) → IfBoth (D.image_at disks.old.first (D.moment disks.old.first)) (D.image_at disks.old.second (D.moment disks.old.second)) (λ i j. pair_records R.is_record i.bytes j.bytes ≡ Err at) }
+    ensures stays_first { Stays (D.image_at disks.old.first) (D.moment disks.old.first) (D.image_at disks.new.first) (D.moment disks.new.first) }
+    ensures stays_second { Stays (D.image_at disks.old.second) (D.moment disks.old.second) (D.image_at disks.new.second) (D.moment disks.new.second) }
+    ensures failed { IsErrOf result JournalFault.Disk → (Rose (D.faults disks.old.first) (D.faults disks.new.first) ⊎ Rose (D.faults disks.old.second) (D.faults disks.new.second)) }
+    ensures on_first { Onward (D.image_at disks.old.first) (D.image_at disks.new.first) (D.moment disks.old.first) (D.moment disks.new.first) (D.faults disks.old.first) (D.faults disks.new.first)
+        (D.armed disks.old.first) (D.armed disks.new.first) (D.picks disks.old.first) (D.picks disks.new.first) }
+    ensures on_second { Onward (D.image_at disks.old.second) (D.image_at disks.new.second) (D.moment disks.old.second) (D.moment disks.new.second) (D.faults disks.old.second) (D.faults disks.new.second)
+        (D.armed disks.old.second) (D.armed disks.new.second) (D.picks disks.old.second) (D.picks disks.new.second) }
+{
+    let first = match look::<R, D>(&mut disks.first) {
+        Ok(found) => found,
+        Err(fault) => return Err(fault),
+    };
+    let second = match look::<R, D>(&mut disks.second) {
+        Ok(found) => found,
+        Err(fault) => return Err(fault),
+    };
+    match choose(first, second) {
+        Ok(walk) => Ok(walk),
+        Err(fault) => Err(fault),
+    }
+}
+
+impl<R: Form> PairWalk<R> {
+    /// The next record, or None behind the last one. After an error the walk is as it was.
+    pub fn next<D: Disk>(
+        &mut self,
+        alloc: Global,
+        disks: &mut Pair<D>,
+    ) -> Result<Option<Piece>, JournalFault>
+        requires walks { PairWalks R.is_record self.old (D.image_at disks.old.first (D.moment disks.old.first)) (D.image_at disks.old.second (D.moment disks.old.second)) }
+        ensures walks { PairWalks R.is_record self.new (D.image_at disks.old.first (D.moment disks.old.first)) (D.image_at disks.old.second (D.moment disks.old.second)) }
+        ensures good { IfOk result (λ found. IfSome found (λ r. IsGood R.is_record r)) }
+        ensures next { IfOk result (λ found. IfSome found (λ r. IfBoth (D.image_at disks.old.first (D.moment disks.old.first)) (D.image_at disks.old.second (D.moment disks.old.second)) (λ i j.
+            pair_given R.is_record self.new i.bytes j.bytes ≡ pair_given R.is_record self.old i.bytes j.bytes ++ r ∷ []))) }
+        ensures shorter { IfOk result (λ found. IfSome found (λ r. left_of (walk_in self.new) < left_of (walk_in self.old))) }
+        ensures none { IfOk result (λ found. IfNone found (IfBoth (D.image_at disks.old.first (D.moment disks.old.first)) (D.image_at disks.old.second (D.moment disks.old.second)) (λ i j.
+            HaveRecords R.is_record (pair_given R.is_record self.old i.bytes j.bytes) i.bytes j.bytes))) }
+        ensures ended { IfOk result (λ found. IfNone found (has_ended (walk_in self.new) ≡ true)) }
+        ensures not { (at : ℕ) → IsErrOf result (JournalFault.NotAJournal at) → IfBoth (D.image_at disks.old.first (D.moment disks.old.first)) (D.image_at disks.old.second (D.moment disks.old.second)) (λ i j. pair_records R.is_record i.bytes j.bytes ≡ Err at) }
+        ensures stays_first { Stays (D.image_at disks.old.first) (D.moment disks.old.first) (D.image_at disks.new.first) (D.moment disks.new.first) }
+        ensures stays_second { Stays (D.image_at disks.old.second) (D.moment disks.old.second) (D.image_at disks.new.second) (D.moment disks.new.second) }
+        ensures failed { IsErrOf result JournalFault.Disk → (Rose (D.faults disks.old.first) (D.faults disks.new.first) ⊎ Rose (D.faults disks.old.second) (D.faults disks.new.second)) }
+        ensures on_first { Onward (D.image_at disks.old.first) (D.image_at disks.new.first) (D.moment disks.old.first) (D.moment disks.new.first) (D.faults disks.old.first) (D.faults disks.new.first)
+            (D.armed disks.old.first) (D.armed disks.new.first) (D.picks disks.old.first) (D.picks disks.new.first) }
+        ensures on_second { Onward (D.image_at disks.old.second) (D.image_at disks.new.second) (D.moment disks.old.second) (D.moment disks.new.second) (D.faults disks.old.second) (D.faults disks.new.second)
+            (D.armed disks.old.second) (D.armed disks.new.second) (D.picks disks.old.second) (D.picks disks.new.second) }
+    {
+        if self.second {
+            return self.walk.next(alloc, &mut disks.second);
+        }
+        self.walk.next(alloc, &mut disks.first)
+    }
+
+    /// The pairing that was read, once `next` has answered None.
+    pub fn finish(self) -> Pairing<R>
+        requires { has_ended (walk_in self) ≡ true }
+        ensures stands { (first second : Option Image) → PairWalks R.is_record self first second → PairStands R.is_record result first second }
+        ensures same { (is_second result ≡ walks_second self) × (epoch_of (journal_in result) ≡ epoch_walked (walk_in self)) }
+        ensures base { base_of (journal_in result) ≡ 18 }
+        ensures running { is_halted result ≡ false }
+    {
+        Pairing {
+            journal: self.walk.finish(),
+            second: self.second,
+            other: self.other,
+            halted: false,
+        }
+    }
+}
