@@ -1,0 +1,3 @@
+pub mod Greetings
+pub mod Heard
+pub mod Sides

@@ -1,0 +1,4 @@
+pub mod Streams
+pub mod Wires
+pub mod Messages
+pub mod Meetings

@@ -1,0 +1,7 @@
+use Rattle.spl_frame.specs.Frames.{frame}
+use Rattle.spl_wire.specs.Forms.{message_form}
+use Rattle.spl_pump.proofs.Wires.{grows_puts}
+use Rattle.spl_pump.proofs.pump.send.Goals as goal
+
+pub returns-in-Ok-clause-put : goal.returns-in-Ok-clause-put
+returns-in-Ok-clause-put g c = grows_puts c.args.from c.args.to (frame (message_form.spell c.args.message.now)) (g.F.Fabric.put_on c.args.fabric.now) (g.F.Fabric.put_on c.carry_message.new.fabric) c.in-Ok.ensures.put

@@ -1,0 +1,48 @@
+-- Bytes that were put on a fabric, and taken.
+use Rattle.std.specs.Prelude.{◌≡◌, ◌≢◌, ◌<◌, ◌≤◌, ◌+◌, ℕ, List, [], ◌++◌, length, Option, IfSome, Result, IsErrOf, ⊤}
+use Rattle.std.specs.Io.KnownBytes.{append_known}
+use Rattle.spl_edge.specs.Causes.{Rose}
+use Rattle.spl_edge.specs.Fabrics.{AreTaken, IsOtherPair}
+use Rattle.spl_edge.specs.declared.fault.DeviceError.{DeviceError}
+use Rattle.spl_edge.specs.declared.fault.DeviceError.TheVariants as device
+use Rattle.spl_pump.specs.declared.fault.PumpFault.{PumpFault}
+use Rattle.spl_pump.specs.declared.fault.PumpFault.TheVariants.{Link, Lied, NoMemory}
+
+-- what a fault of the fabric is
+abbrev pub fault_of : DeviceError → PumpFault
+fault_of device.Failed = Link
+fault_of device.NoMemory = NoMemory
+
+-- the bytes put, or taken, from each node to each
+abbrev pub Streams : Type 0
+Streams = ℕ → ℕ → Option (List ℕ)
+
+-- on one pair of nodes these bytes came behind the others
+pub record Grows (from to : ℕ) (bytes : List ℕ) (old new : Streams) : Type 0 where
+  pub here : new from to ≡ append_known (old from to) bytes
+  pub others : (a b : ℕ) → a < 256 → b < 256 → IsOtherPair a b from to → new a b ≡ old a b
+
+-- so many bytes were put and not taken, where both are told
+abbrev pub AreDue : ℕ → Option (List ℕ) → Option (List ℕ) → Type 0
+AreDue n put taken = IfSome put (λ p. IfSome taken (λ t. length t + n ≡ length p))
+
+-- a count has not fallen, and `Link` is told only where it rose
+pub record HasCause {T : Type 0} (before now : ℕ) (result : Result T PumpFault) : Type 0 where
+  pub later : before ≤ now
+  pub failed : IsErrOf result Link → Rose before now
+
+-- a front of these bytes came on a pair
+abbrev pub GrowsPart : ℕ → ℕ → List ℕ → Streams → Streams → Type 0
+GrowsPart from to all old new = (done : List ℕ) × (more : List ℕ) × (all ≡ done ++ more) × Grows from to done old new
+
+-- the fabric failed, or memory ran out
+abbrev pub IsFault : PumpFault → Type 0
+IsFault Link = ⊤
+IsFault NoMemory = ⊤
+IsFault (Lied sent got) = ⊥
+
+-- a lie: all of a frame was put on a pair, and as many other bytes were taken there
+abbrev pub IsLie : ℕ → ℕ → List ℕ → Streams → Streams → Streams → Streams → PumpFault → Type 0
+IsLie from to frame put put' taken taken' Link = ⊤
+IsLie from to frame put put' taken taken' NoMemory = ⊤
+IsLie from to frame put put' taken taken' (Lied sent got) = (sent ≡ frame) × (sent ≢ got) × (length got ≡ length sent) × AreTaken (put' from to) (taken' from to) × Grows from to sent put put' × Grows from to got taken taken'

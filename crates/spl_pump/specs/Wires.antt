@@ -1,0 +1,99 @@
+-- What is put on a fabric where messages are carried over it (docs/RULES.md, Links).
+use Rattle.std.specs.Prelude.{◌≡◌, ◌≢◌, ◌<◌, ℕ, min, max, ◌==◌, Bool, true, ◌&&◌, ◌||◌, nat_lt, not, List, [], ◌∷◌, ◌++◌, length, Option, Some, IfSome, if◌then◌else◌, ⊤}
+use Rattle.std.specs.List.{list_any, flat_map, filter}
+use Rattle.std.specs.Option.{option_map_or}
+use Rattle.std.specs.Io.KnownBytes.{append_known}
+use Rattle.spl_edge.specs.Fabrics.{AreTaken}
+use Rattle.spl_frame.specs.Frames.{frame}
+use Rattle.spl_wire.specs.Forms.{message_form}
+use Rattle.spl_wire.specs.declared.message.Message.{Message}
+use Rattle.spl_registry.specs.Nodes.{Entry, node_at}
+use Rattle.spl_link.specs.Greetings.{greeting}
+use Rattle.spl_pump.specs.Moves.{Streams}
+use Rattle.spl_pump.specs.declared.fault.PumpFault.{PumpFault}
+use Rattle.spl_pump.specs.declared.fault.PumpFault.TheVariants.{Link, Lied, NoMemory}
+
+-- a message from one node to another
+pub record Carried : Type 0 where
+  pub from : ℕ
+  pub to : ℕ
+  pub message : Message
+
+-- it went from a to b
+abbrev pub is_on : ℕ → ℕ → Carried → Bool
+is_on a b c = a == c.from && b == c.to
+
+-- it went between a and b
+abbrev pub is_between : ℕ → ℕ → Carried → Bool
+is_between a b c = is_on a b c || is_on b a c
+
+-- the frame by which a names itself to b; the lower position opens
+abbrev pub hand : List Entry → ℕ → ℕ → List ℕ
+hand es a b = option_map_or (λ name. frame (greeting (nat_lt a b) name)) (node_at es a) []
+
+-- the frame of a message
+abbrev pub message_frame : Carried → List ℕ
+message_frame c = frame (message_form.spell c.message)
+
+-- these bytes on one pair of nodes, and none on the others
+abbrev pub on_pair : ℕ → ℕ → List ℕ → ℕ → ℕ → List ℕ
+on_pair from to bytes a b = if a == from && b == to then bytes else []
+
+-- the frames by which two nodes name themselves to each other
+abbrev pub hands : List Entry → ℕ → ℕ → ℕ → ℕ → List ℕ
+hands es low high a b = on_pair low high (hand es low high) a b ++ on_pair high low (hand es high low) a b
+
+-- and nothing where they have met
+abbrev pub hands_if : List Entry → Bool → ℕ → ℕ → ℕ → ℕ → List ℕ
+hands_if es met low high a b = if met then [] else hands es low high a b
+
+-- what a message puts on the pair from a to b where its nodes have, or haven't, named themselves yet
+abbrev pub puts_of : List Entry → Bool → Carried → ℕ → ℕ → List ℕ
+puts_of es met c a b = hands_if es met (min c.from c.to) (max c.from c.to) a b ++ on_pair c.from c.to (message_frame c) a b
+
+-- what a list of messages puts on the pair from a to b: a frame by which a names itself, where one went between the two, and the frames of the messages that went from a to b, in order
+abbrev pub wire_of : List Entry → List Carried → ℕ → ℕ → List ℕ
+wire_of es sent a b = (if list_any (is_between a b) sent then hand es a b else []) ++ flat_map message_frame (filter (is_on a b) sent)
+
+-- as many bytes were taken from each node to each as were put
+abbrev pub AllTaken : Streams → Streams → Type 0
+AllTaken put taken = (a b : ℕ) → a < 256 → b < 256 → AreTaken (put a b) (taken a b)
+
+-- on each pair of nodes these bytes came behind the others
+abbrev pub Puts : (ℕ → ℕ → List ℕ) → Streams → Streams → Type 0
+Puts bytes old new = (a b : ℕ) → a < 256 → b < 256 → new a b ≡ append_known (old a b) (bytes a b)
+
+-- on each pair a front of these
+abbrev pub PutsPart : (ℕ → ℕ → List ℕ) → Streams → Streams → Type 0
+PutsPart bytes old new = (a b : ℕ) → a < 256 → b < 256 → (done : List ℕ) × (more : List ℕ) × (bytes a b ≡ done ++ more) × (new a b ≡ append_known (old a b) done)
+
+-- these bytes are the last ones
+abbrev pub Ends : List ℕ → Option (List ℕ) → Type 0
+Ends bytes known = IfSome known (λ k. (before : List ℕ) × (k ≡ before ++ bytes))
+
+-- a lie: other bytes, and as many, were the last ones taken on some pair than were put there
+abbrev pub LiesOf : PumpFault → Streams → Streams → Type 0
+LiesOf Link put taken = ⊤
+LiesOf NoMemory put taken = ⊤
+LiesOf (Lied sent got) put taken = (sent ≢ got) × (length got ≡ length sent) × ((a : ℕ) × (b : ℕ) × AreTaken (put a b) (taken a b) × Ends sent (put a b) × Ends got (taken a b))
+
+-- which pairs have met, the lower position first, and whether a fault was answered
+pub record Pumped : Type 0 where
+  pub entries : List Entry
+  pub met : List (ℕ × ℕ)
+  pub failed : Bool
+
+-- whether two nodes have met
+abbrev pub have_met : List (ℕ × ℕ) → ℕ → ℕ → Bool
+have_met met low high = list_any (λ p. p.0 == low && p.1 == high) met
+
+abbrev pub met_after : List (ℕ × ℕ) → ℕ → ℕ → List (ℕ × ℕ)
+met_after met low high = if have_met met low high then met else met ++ (low, high) ∷ []
+
+-- what the next message puts
+abbrev pub carried_bytes : Pumped → Carried → ℕ → ℕ → List ℕ
+carried_bytes p c = puts_of p.entries (have_met p.met (min c.from c.to) (max c.from c.to)) c
+
+-- the pairs that have met are those between which a message went
+abbrev pub HasCarried : List (ℕ × ℕ) → List Carried → Type 0
+HasCarried met sent = (low high : ℕ) → low < high → have_met met low high ≡ list_any (is_between low high) sent

@@ -1,0 +1,75 @@
+//! One frame from one node to another.
+ghost use Rattle.std.specs.Prelude.{◌≡◌, ◌≢◌, ◌≤◌, ◌<◌, ℕ, List, Some, length, IfOk, IfErr, OnOk};
+ghost use Rattle.spl_edge.specs.Fabrics.{AreTaken};
+ghost use Rattle.spl_frame.specs.Frames.{frame, IsBody};
+ghost use Rattle.spl_pump.specs.Moves.{Grows, GrowsPart, HasCause, IsLie};
+
+use crate::fault::PumpFault;
+use crate::transfer::transfer;
+use spl_base::{Piece, Value};
+use spl_edge::Fabric;
+use spl_frame::{frames_are_read_back, frames_in, write_frame};
+use std::alloc::{AllocError, Global};
+
+/// The body of a frame.
+fn unframe(alloc: Global, bytes: Piece) -> Result<Option<Piece>, AllocError>
+    ensures { IfOk result (λ o. (body : List ℕ) → IsBody body → bytes ≡ frame body → o ≡ Some body) }
+{
+    frames_are_read_back();
+    let (frames, _) = frames_in(alloc, &[bytes])?;
+    match frames.get(0) {
+        Some(body) => Ok(Some(Piece::from(alloc, body.bytes())?)),
+        None => Ok(None),
+    }
+}
+
+/// Puts a frame, and takes as many bytes, which are the same.
+fn echo<F: Fabric>(
+    alloc: Global,
+    fabric: &mut F,
+    from: u8,
+    to: u8,
+    sent: Piece,
+) -> Result<Piece, PumpFault>
+    requires taken { AreTaken (F.put_on fabric.old from to) (F.taken_on fabric.old from to) }
+    ensures same { IfOk result (λ got. got ≡ sent) }
+    ensures put { OnOk result (Grows from to sent (F.put_on fabric.old) (F.put_on fabric.new)) }
+    ensures taken { OnOk result (Grows from to sent (F.taken_on fabric.old) (F.taken_on fabric.new)) }
+    ensures all { OnOk result (AreTaken (F.put_on fabric.new from to) (F.taken_on fabric.new from to)) }
+    ensures part { GrowsPart from to sent (F.put_on fabric.old) (F.put_on fabric.new) }
+    ensures cause { HasCause (F.faults fabric.old) (F.faults fabric.new) result }
+    ensures lied { IfErr result (λ e. IsLie from to sent (F.put_on fabric.old) (F.put_on fabric.new) (F.taken_on fabric.old) (F.taken_on fabric.new) e) }
+{
+    let got = transfer(alloc, fabric, from, to, sent.bytes())?;
+    let got = Piece::from(alloc, got.as_slice())?;
+    if !got.same(&sent) {
+        return Err(PumpFault::Lied { sent, got });
+    }
+    Ok(got)
+}
+
+/// Carries a body as a frame. What comes out is read from the bytes taken.
+pub(crate) fn exchange<F: Fabric>(
+    alloc: Global,
+    fabric: &mut F,
+    from: u8,
+    to: u8,
+    body: &[u8],
+) -> Result<Piece, PumpFault>
+    requires short { IsBody body.now }
+    requires taken { AreTaken (F.put_on fabric.old from to) (F.taken_on fabric.old from to) }
+    ensures same { IfOk result (λ got. got ≡ body.now) }
+    ensures put { OnOk result (Grows from to (frame body.now) (F.put_on fabric.old) (F.put_on fabric.new)) }
+    ensures taken { OnOk result (Grows from to (frame body.now) (F.taken_on fabric.old) (F.taken_on fabric.new)) }
+    ensures all { OnOk result (AreTaken (F.put_on fabric.new from to) (F.taken_on fabric.new from to)) }
+    ensures part { GrowsPart from to (frame body.now) (F.put_on fabric.old) (F.put_on fabric.new) }
+    ensures cause { HasCause (F.faults fabric.old) (F.faults fabric.new) result }
+    ensures lied { IfErr result (λ e. IsLie from to (frame body.now) (F.put_on fabric.old) (F.put_on fabric.new) (F.taken_on fabric.old) (F.taken_on fabric.new) e) }
+{
+    let sent = write_frame(alloc, body)?;
+    let got = echo(alloc, fabric, from, to, sent)?;
+    match unframe(alloc, got)? {
+        Some(body) => Ok(body),
+        None => unreachable!(),
+    }
+}

@@ -1,0 +1,286 @@
+//! Messages as frames over a fabric.
+ghost use Rattle.std.specs.Prelude.{min, max, ◌≡◌, ◌≢◌, ◌<◌, ◌≤◌, ℕ, List, [], Some, false, true, not, IsTrue, IfOk, IfErr, OnOk, OnErr, length};
+ghost use Rattle.spl_base.specs.Ids.{is_node_id};
+ghost use Rattle.spl_edge.specs.Fabrics.{AreTaken};
+ghost use Rattle.spl_frame.specs.Frames.{frame, IsBody};
+ghost use Rattle.spl_wire.specs.Forms.{message_form};
+ghost use Rattle.spl_wire.specs.declared.message.Message.{Message as MessageValue};
+ghost use Rattle.spl_registry.specs.Nodes.{node_at};
+ghost use Rattle.spl_link.specs.Greetings.{greeting};
+ghost use Rattle.spl_pump.specs.Moves.{Grows, GrowsPart, HasCause, IsLie};
+ghost use Rattle.spl_pump.specs.Wires.{hand, hands, hands_if, on_pair, have_met, met_after, carried_bytes, Puts, PutsPart, AllTaken, LiesOf};
+
+use crate::carry::Carry;
+use crate::exchange::exchange;
+use crate::fault::PumpFault;
+use spl_base::{Malformed, NodeId, Piece};
+use spl_edge::Fabric;
+use spl_link::{Opening, a_peer_is_heard};
+use spl_registry::Registry;
+use spl_wire::Message;
+use std::alloc::{AllocError, Global};
+use std::marker::Model;
+
+/// The message in a body.
+fn message_in(alloc: Global, body: &Piece) -> Result<Option<Message>, AllocError>
+    ensures { IfOk result (λ o. (m : MessageValue) → IsTrue (message_form.fits m) → body.now ≡ message_form.spell m → o ≡ Some m) }
+{
+    match Message::read(alloc, body.bytes()) {
+        Ok((message, _)) => Ok(Some(message)),
+        Err(Malformed::NoMemory) => Err(AllocError),
+        Err(Malformed::At { .. }) => Ok(None),
+    }
+}
+
+/// Carries a message as one frame, and reads it from the bytes taken.
+fn carry_message<F: Fabric>(
+    alloc: Global,
+    fabric: &mut F,
+    from: u8,
+    to: u8,
+    message: &Message,
+) -> Result<Message, PumpFault>
+    requires bounded { IsTrue (message_form.bounded message.now) }
+    requires short { length (message_form.spell message.now) ≤ 16384 }
+    requires taken { AreTaken (F.put_on fabric.old from to) (F.taken_on fabric.old from to) }
+    ensures same { IfOk result (λ m. m ≡ message.now) }
+    ensures put { OnOk result (Grows from to (frame (message_form.spell message.now)) (F.put_on fabric.old) (F.put_on fabric.new)) }
+    ensures taken { OnOk result (Grows from to (frame (message_form.spell message.now)) (F.taken_on fabric.old) (F.taken_on fabric.new)) }
+    ensures all { OnOk result (AreTaken (F.put_on fabric.new from to) (F.taken_on fabric.new from to)) }
+    ensures part { GrowsPart from to (frame (message_form.spell message.now)) (F.put_on fabric.old) (F.put_on fabric.new) }
+    ensures cause { HasCause (F.faults fabric.old) (F.faults fabric.new) result }
+    ensures lied { IfErr result (λ e. IsLie from to (frame (message_form.spell message.now)) (F.put_on fabric.old) (F.put_on fabric.new) (F.taken_on fabric.old) (F.taken_on fabric.new) e) }
+{
+    let sent = message.write(alloc)?;
+    let got = exchange(alloc, fabric, from, to, sent.bytes())?;
+    match message_in(alloc, &got)? {
+        Some(message) => Ok(message),
+        None => unreachable!(),
+    }
+}
+
+/// One node names itself to another.
+fn greet<F: Fabric>(
+    alloc: Global,
+    fabric: &mut F,
+    registry: &Registry,
+    from: u8,
+    to: u8,
+) -> Result<(), PumpFault>
+    requires apart { from ≢ to }
+    requires from { from < length registry.now }
+    requires to { to < length registry.now }
+    requires taken { AreTaken (F.put_on fabric.old from to) (F.taken_on fabric.old from to) }
+    ensures put { OnOk result (Grows from to (hand registry.now from to) (F.put_on fabric.old) (F.put_on fabric.new)) }
+    ensures taken { OnOk result (Grows from to (hand registry.now from to) (F.taken_on fabric.old) (F.taken_on fabric.new)) }
+    ensures all { OnOk result (AreTaken (F.put_on fabric.new from to) (F.taken_on fabric.new from to)) }
+    ensures part { GrowsPart from to (hand registry.now from to) (F.put_on fabric.old) (F.put_on fabric.new) }
+    ensures cause { HasCause (F.faults fabric.old) (F.faults fabric.new) result }
+    ensures lied { IfErr result (λ e. IsLie from to (hand registry.now from to) (F.put_on fabric.old) (F.put_on fabric.new) (F.taken_on fabric.old) (F.taken_on fabric.new) e) }
+{
+    a_peer_is_heard();
+    let here = registry.node(from);
+    let peer = registry.node(to);
+    let opens = from < to;
+    let hello = Opening::new(here, peer, opens).hello(alloc)?;
+    let body = exchange(alloc, fabric, from, to, hello.bytes())?;
+    match Opening::new(peer, here, !opens).on_frame(registry, body.bytes()) {
+        Ok(_) => Ok(()),
+        Err(_) => unreachable!(),
+    }
+}
+
+/// One node names itself to another, as all pairs see it.
+#[tactic(auto, using(crate::proofs::Wires::grows_puts, crate::proofs::Wires::part_puts, crate::proofs::Wires::all_taken, crate::proofs::Wires::lies_of))]
+fn present<F: Fabric>(
+    alloc: Global,
+    fabric: &mut F,
+    registry: &Registry,
+    from: u8,
+    to: u8,
+) -> Result<(), PumpFault>
+    requires apart { from ≢ to }
+    requires from { from < length registry.now }
+    requires to { to < length registry.now }
+    requires taken { AllTaken (F.put_on fabric.old) (F.taken_on fabric.old) }
+    ensures put { OnOk result (Puts (on_pair from to (hand registry.now from to)) (F.put_on fabric.old) (F.put_on fabric.new)) }
+    ensures part { PutsPart (on_pair from to (hand registry.now from to)) (F.put_on fabric.old) (F.put_on fabric.new) }
+    ensures taken { OnOk result (AllTaken (F.put_on fabric.new) (F.taken_on fabric.new)) }
+    ensures cause { HasCause (F.faults fabric.old) (F.faults fabric.new) result }
+    ensures lied { IfErr result (λ e. LiesOf e (F.put_on fabric.new) (F.taken_on fabric.new)) }
+{
+    match greet(alloc, fabric, registry, from, to) {
+        Ok(()) => Ok(()),
+        Err(fault) => Err(fault),
+    }
+}
+
+/// Sends a message, as all pairs see it.
+#[tactic(auto, using(crate::proofs::Wires::grows_puts, crate::proofs::Wires::part_puts, crate::proofs::Wires::all_taken, crate::proofs::Wires::lies_of))]
+fn send<F: Fabric>(
+    alloc: Global,
+    fabric: &mut F,
+    from: u8,
+    to: u8,
+    message: &Message,
+) -> Result<Message, PumpFault>
+    requires bounded { IsTrue (message_form.bounded message.now) }
+    requires short { length (message_form.spell message.now) ≤ 16384 }
+    requires taken { AllTaken (F.put_on fabric.old) (F.taken_on fabric.old) }
+    ensures same { IfOk result (λ m. m ≡ message.now) }
+    ensures put { OnOk result (Puts (on_pair from to (frame (message_form.spell message.now))) (F.put_on fabric.old) (F.put_on fabric.new)) }
+    ensures part { PutsPart (on_pair from to (frame (message_form.spell message.now))) (F.put_on fabric.old) (F.put_on fabric.new) }
+    ensures taken { OnOk result (AllTaken (F.put_on fabric.new) (F.taken_on fabric.new)) }
+    ensures cause { HasCause (F.faults fabric.old) (F.faults fabric.new) result }
+    ensures lied { IfErr result (λ e. LiesOf e (F.put_on fabric.new) (F.taken_on fabric.new)) }
+{
+    match carry_message(alloc, fabric, from, to, message) {
+        Ok(copy) => Ok(copy),
+        Err(fault) => Err(fault),
+    }
+}
+
+/// Two nodes name themselves to each other; the lower position goes first.
+fn introduce<F: Fabric>(
+    alloc: Global,
+    fabric: &mut F,
+    registry: &Registry,
+    low: u8,
+    high: u8,
+) -> Result<(), PumpFault>
+    requires order { low < high }
+    requires high { high < length registry.now }
+    requires taken { AllTaken (F.put_on fabric.old) (F.taken_on fabric.old) }
+    ensures put { OnOk result (Puts (hands registry.now low high) (F.put_on fabric.old) (F.put_on fabric.new)) }
+    ensures part { PutsPart (hands registry.now low high) (F.put_on fabric.old) (F.put_on fabric.new) }
+    ensures taken { OnOk result (AllTaken (F.put_on fabric.new) (F.taken_on fabric.new)) }
+    ensures cause { HasCause (F.faults fabric.old) (F.faults fabric.new) result }
+    ensures lied { IfErr result (λ e. LiesOf e (F.put_on fabric.new) (F.taken_on fabric.new)) }
+{
+    present(alloc, fabric, registry, low, high)?;
+    present(alloc, fabric, registry, high, low)?;
+    Ok(())
+}
+
+/// Whether two nodes have met.
+fn have_met(met: &[(u8, u8)], low: u8, high: u8) -> bool
+    ensures { result ≡ have_met met.now low high }
+{
+    met.iter().any(|pair| pair.0 == low && pair.1 == high)
+}
+
+/// Carries messages as frames over a fabric. Before the first message between two nodes these name themselves to each
+/// other.
+#[derive(Debug, Drop)]
+pub struct Pump {
+    registry: Registry,
+    met: Vec<(u8, u8)>,
+    failed: bool,
+}
+
+impl Model for Pump {
+    ghost use Rattle.spl_pump.specs.Wires.{Pumped};
+
+    ghost Value = { Pumped };
+
+    ghost view = { λ p. record { entries = p.registry; met = p.met.items; failed = p.failed } };
+}
+
+impl Pump {
+    /// A pump between the nodes of a registry, of which none have met.
+    pub fn new(alloc: Global, registry: &Registry) -> Result<Pump, AllocError>
+        ensures { IfOk result (λ p. p ≡ record { entries = registry.now; met = []; failed = false }) }
+    {
+        Ok(Pump {
+            registry: registry.copy(alloc)?,
+            met: Vec::new(alloc),
+            failed: false,
+        })
+    }
+
+    /// Makes two nodes meet, unless they have met.
+    fn meet<F: Fabric>(
+        &mut self,
+        alloc: Global,
+        fabric: &mut F,
+        low: u8,
+        high: u8,
+    ) -> Result<(), PumpFault>
+        requires order { low < high }
+        requires high { high < length self.old.entries }
+        requires taken { AllTaken (F.put_on fabric.old) (F.taken_on fabric.old) }
+        ensures entries { self.new.entries ≡ self.old.entries }
+        ensures failed { self.new.failed ≡ self.old.failed }
+        ensures met { OnOk result (self.new.met ≡ met_after self.old.met low high) }
+        ensures put { OnOk result (Puts (hands_if self.old.entries (have_met self.old.met low high) low high) (F.put_on fabric.old) (F.put_on fabric.new)) }
+        ensures part { PutsPart (hands_if self.old.entries (have_met self.old.met low high) low high) (F.put_on fabric.old) (F.put_on fabric.new) }
+        ensures taken { OnOk result (AllTaken (F.put_on fabric.new) (F.taken_on fabric.new)) }
+        ensures cause { HasCause (F.faults fabric.old) (F.faults fabric.new) result }
+        ensures lied { IfErr result (λ e. LiesOf e (F.put_on fabric.new) (F.taken_on fabric.new)) }
+    {
+        if have_met(self.met.as_slice(), low, high) {
+            return Ok(());
+        }
+        introduce(alloc, fabric, &self.registry, low, high)?;
+        self.met.push((low, high))?;
+        Ok(())
+    }
+
+    /// Carries a message between nodes that meet before, unless they have met.
+    fn carry_over<F: Fabric>(
+        &mut self,
+        alloc: Global,
+        fabric: &mut F,
+        from: u8,
+        to: u8,
+        message: &Message,
+    ) -> Result<Message, PumpFault>
+        requires apart { from ≢ to }
+        requires from { from < length self.old.entries }
+        requires to { to < length self.old.entries }
+        requires bounded { IsTrue (message_form.bounded message.now) }
+        requires short { length (message_form.spell message.now) ≤ 16384 }
+        requires taken { AllTaken (F.put_on fabric.old) (F.taken_on fabric.old) }
+        ensures same { IfOk result (λ m. m ≡ message.now) }
+        ensures entries { self.new.entries ≡ self.old.entries }
+        ensures failed { self.new.failed ≡ self.old.failed }
+        ensures met { OnOk result (self.new.met ≡ met_after self.old.met (min from to) (max from to)) }
+        ensures put { OnOk result (Puts (carried_bytes self.old (record { from = from; to = to; message = message.now })) (F.put_on fabric.old) (F.put_on fabric.new)) }
+        ensures part { PutsPart (carried_bytes self.old (record { from = from; to = to; message = message.now })) (F.put_on fabric.old) (F.put_on fabric.new) }
+        ensures taken { OnOk result (AllTaken (F.put_on fabric.new) (F.taken_on fabric.new)) }
+        ensures cause { HasCause (F.faults fabric.old) (F.faults fabric.new) result }
+        ensures lied { IfErr result (λ e. LiesOf e (F.put_on fabric.new) (F.taken_on fabric.new)) }
+    {
+        self.meet(alloc, fabric, from.min(to), from.max(to))?;
+        let copy = send(alloc, fabric, from, to, message)?;
+        Ok(copy)
+    }
+}
+
+impl Carry for Pump {
+    ghost use Rattle.std.specs.Prelude.{length};
+    ghost use Rattle.spl_pump.specs.Wires.{carried_bytes};
+
+    ghost slots = { λ p. length p.entries };
+
+    ghost failed = { λ p. p.failed };
+
+    ghost bytes = { carried_bytes };
+
+    fn carry<F: Fabric>(
+        &mut self,
+        alloc: Global,
+        fabric: &mut F,
+        from: u8,
+        to: u8,
+        message: &Message,
+    ) -> Result<Message, PumpFault> {
+        match self.carry_over(alloc, fabric, from, to, message) {
+            Ok(copy) => Ok(copy),
+            Err(fault) => {
+                self.failed = true;
+                Err(fault)
+            }
+        }
+    }
+}

@@ -1,0 +1,48 @@
+//! Messages that are carried without bytes.
+ghost use Rattle.std.specs.Prelude.{◌≡◌, [], false};
+
+use crate::carry::Carry;
+use crate::fault::PumpFault;
+use spl_edge::Fabric;
+use spl_wire::Message;
+use std::alloc::Global;
+
+/// Gives each message without a call on the fabric.
+#[derive(Clone, Copy, Debug, Drop)]
+pub struct Straight {
+    failed: bool,
+}
+
+impl Straight {
+    pub fn new() -> Straight
+        ensures { result.failed ≡ false }
+    {
+        Straight { failed: false }
+    }
+}
+
+impl Carry for Straight {
+    ghost slots = { λ _. 16 };
+
+    ghost failed = { λ s. s.failed };
+
+    ghost bytes = { λ _ _ _ _. [] };
+
+    #[tactic(auto, using(crate::proofs::Wires::puts_nothing, crate::proofs::Wires::puts_nothing_part))]
+    fn carry<F: Fabric>(
+        &mut self,
+        alloc: Global,
+        _fabric: &mut F,
+        _from: u8,
+        _to: u8,
+        message: &Message,
+    ) -> Result<Message, PumpFault> {
+        match message.copy(alloc) {
+            Ok(copy) => Ok(copy),
+            Err(_) => {
+                self.failed = true;
+                Err(PumpFault::NoMemory)
+            }
+        }
+    }
+}

@@ -1,0 +1,100 @@
+//! Bytes from one node to another, a piece at a time.
+ghost use Rattle.std.specs.Prelude.{◌≡◌, ◌≤◌, ◌<◌, ℕ, min, length, take, IfOk, IfErr, OnOk, OnErr};
+ghost use Rattle.spl_edge.specs.Fabrics.{AreTaken};
+ghost use Rattle.spl_pump.specs.Moves.{Grows, GrowsPart, AreDue, HasCause, IsFault};
+
+use crate::fault::PumpFault;
+use bytes::Bytes;
+use spl_edge::Fabric;
+use std::alloc::{AllocError, Global};
+
+/// Takes so many bytes.
+fn take_all<F: Fabric>(
+    alloc: Global,
+    fabric: &mut F,
+    from: u8,
+    to: u8,
+    count: usize,
+) -> Result<Vec<u8>, PumpFault>
+    requires most { count ≤ 4096 }
+    requires due { AreDue count (F.put_on fabric.old from to) (F.taken_on fabric.old from to) }
+    ensures all { OnOk result (AreTaken (F.put_on fabric.new from to) (F.taken_on fabric.new from to)) }
+    ensures count { IfOk result (λ got. length got.items ≡ count) }
+    ensures taken { IfOk result (λ got. Grows from to got.items (F.taken_on fabric.old) (F.taken_on fabric.new)) }
+    ensures put { (a b : ℕ) → F.put_on fabric.new a b ≡ F.put_on fabric.old a b }
+    ensures cause { HasCause (F.faults fabric.old) (F.faults fabric.new) result }
+    ensures honest { IfErr result (λ e. IsFault e) }
+{
+    let mut got = Vec::new(alloc);
+    let mut buf = [0; 4096];
+    while got.len() < count {
+        let left = count - got.len();
+        let n = fabric.take(from, to, &mut buf[..left])?;
+        if n == 0 {
+            return Err(PumpFault::Link);
+        }
+        got.extend_from_slice(&buf[..n])?;
+    }
+    Ok(got)
+}
+
+/// The next piece of what is to be put.
+fn piece_of(rest: &Bytes) -> Result<Bytes, AllocError>
+    ensures { IfOk result (λ piece. piece ≡ take (min (length rest.now) 4096) rest.now) }
+{
+    rest.slice(..rest.len().min(4096))
+}
+
+/// Puts a front of a piece, and takes as many bytes.
+fn hand_some<F: Fabric>(
+    alloc: Global,
+    fabric: &mut F,
+    from: u8,
+    to: u8,
+    piece: &[u8],
+) -> Result<Vec<u8>, PumpFault>
+    requires some { 0 < length piece.now }
+    requires most { length piece.now ≤ 4096 }
+    requires taken { AreTaken (F.put_on fabric.old from to) (F.taken_on fabric.old from to) }
+    ensures count { IfOk result (λ got. (0 < length got.items) × (length got.items ≤ length piece.now)) }
+    ensures put { IfOk result (λ got. Grows from to (take (length got.items) piece.now) (F.put_on fabric.old) (F.put_on fabric.new)) }
+    ensures taken { IfOk result (λ got. Grows from to got.items (F.taken_on fabric.old) (F.taken_on fabric.new)) }
+    ensures all { OnOk result (AreTaken (F.put_on fabric.new from to) (F.taken_on fabric.new from to)) }
+    ensures part { GrowsPart from to piece.now (F.put_on fabric.old) (F.put_on fabric.new) }
+    ensures cause { HasCause (F.faults fabric.old) (F.faults fabric.new) result }
+    ensures honest { IfErr result (λ e. IsFault e) }
+{
+    let count = fabric.put(from, to, piece)?;
+    if count == 0 {
+        return Err(PumpFault::Link);
+    }
+    take_all(alloc, fabric, from, to, count)
+}
+
+/// Puts all bytes, and takes as many. Each piece is taken before the next is put.
+pub(crate) fn transfer<F: Fabric>(
+    alloc: Global,
+    fabric: &mut F,
+    from: u8,
+    to: u8,
+    bytes: &[u8],
+) -> Result<Vec<u8>, PumpFault>
+    requires taken { AreTaken (F.put_on fabric.old from to) (F.taken_on fabric.old from to) }
+    ensures count { IfOk result (λ got. length got.items ≡ length bytes.now) }
+    ensures put { OnOk result (Grows from to bytes.now (F.put_on fabric.old) (F.put_on fabric.new)) }
+    ensures taken { IfOk result (λ got. Grows from to got.items (F.taken_on fabric.old) (F.taken_on fabric.new)) }
+    ensures all { OnOk result (AreTaken (F.put_on fabric.new from to) (F.taken_on fabric.new from to)) }
+    ensures part { GrowsPart from to bytes.now (F.put_on fabric.old) (F.put_on fabric.new) }
+    ensures cause { HasCause (F.faults fabric.old) (F.faults fabric.new) result }
+    ensures honest { IfErr result (λ e. IsFault e) }
+{
+    let mut got = Vec::new(alloc);
+    let mut rest = Bytes::copy_from_slice(alloc, bytes)?;
+    'pieces: while got.len() < bytes.len() {
+        let piece = piece_of(&rest)?;
+        let taken = hand_some(alloc, fabric, from, to, piece.as_slice())?;
+        let _ = rest.split_to(taken.len())?;
+        got.extend_from_slice(taken.as_slice())?;
+    }
+    Ok(got)
+}
