@@ -10,7 +10,7 @@ use Rattle.spl_agree.specs.declared.event.GroupChange.{GroupChange}
 use Rattle.spl_agree.specs.declared.event.GroupChange.TheVariants as change
 use Rattle.spl_agree.specs.declared.event.OpenMove.{OpenMove}
 use Rattle.spl_agree.specs.declared.event.OpenMove.TheVariants as move
-use Rattle.spl_agree.specs.Member.{Rules, Group, Member, values, found, known, changed, moved, has, but, none_left}
+use Rattle.spl_agree.specs.Member.{Rules, Group, Member, values, found, found_refused, known, changed, moved, has, but, none_left}
 
 -- the open round is at the coordinator, is the last one begun, has a place, and is about the first pending
 -- value, whose check is good
@@ -47,6 +47,14 @@ IsDue g here m (event.From sender x) = (generation_of x ≡ g.generation) × (se
 abbrev pub is_pending : {V : Type 0} → Rules V → V → List V → Bool
 is_pending rules v us = list_any (λ u. rules.same u v) us
 
+-- nothing is committed, pending or promised
+abbrev pub has_nothing : {V : Type 0} → Member V → Bool
+has_nothing m = length m.history == 0 && (length m.pending == 0 && is_none m.promise)
+
+-- the member is as it was made
+abbrev pub is_new : {V : Type 0} → Member V → Bool
+is_new m = has_nothing m && (length m.refused == 0 && (m.seen == 0 && m.next == 1))
+
 -- where a change fits. `may` tells which values the content lets into the pending ones
 abbrev pub fits : {V : Type 0} → Rules V → (V → Bool) → Member V → GroupChange V → Bool
 fits rules may m (change.Queue v) = is_none (known rules m v) && (nat_lt (length m.pending) 64 && may v)
@@ -56,6 +64,8 @@ fits rules may m (change.Seen r) = nat_lt m.seen r && is_none m.promise
 fits rules may m (change.Promise r v) = nat_lt m.seen r && (is_none m.promise && (nat_lt (length m.history) (2 ^ 32 - 1) && is_none (rules.check (values m.history) v)))
 fits rules may m change.Abort = is_some m.promise
 fits rules may m (change.Commit r v) = nat_lt (length m.history) (2 ^ 32 - 1) && is_none (rules.check (values m.history) v)
+fits rules may m (change.Restore next seen) = is_new m && (nat_lt 0 next && nat_lt next (2 ^ 64))
+fits rules may m (change.Kept v reason) = has_nothing m && is_none (found_refused (rules.same_key v) m.refused)
 
 -- any value may be pending
 abbrev pub any_value : {V : Type 0} → V → Bool

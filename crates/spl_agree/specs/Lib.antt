@@ -3,3 +3,4 @@ pub mod Rows
 pub mod Fits
 pub mod World
 pub mod Agreement
+pub mod Pack

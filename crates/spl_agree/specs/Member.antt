@@ -88,6 +88,8 @@ changed rules m (change.Seen r) = record m { seen = r }
 changed rules m (change.Promise r v) = record m { promise = Some (r, v); seen = r }
 changed rules m change.Abort = record m { promise = None }
 changed rules m (change.Commit r v) = record m { history = m.history ++ (r, v) ∷ []; promise = None; pending = without (rules.same_key v) m.pending }
+changed rules m (change.Restore next seen) = record m { next = next; seen = seen }
+changed rules m (change.Kept v reason) = record m { refused = m.refused ++ (v, reason) ∷ [] }
 
 abbrev pub changed_by : {V : Type 0} → Rules V → Member V → List (GroupChange V) → Member V
 changed_by rules m [] = m

@@ -32,6 +32,10 @@ pub enum GroupChange<V> {
     Abort,
     /// The value joins the history, the promise is kept, and the pending value of its key goes.
     Commit(Round, V),
+    /// A new member has these rounds. No row gives it.
+    Restore { next: Round, seen: Round },
+    /// The value joins the refused ones of a member that has no more. No row gives it.
+    Kept(V, Reason),
 }
 
 /// A move of the open round, which no stop survives.

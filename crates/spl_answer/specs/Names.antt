@@ -6,6 +6,8 @@ use Rattle.spl_circuit.specs.declared.lifecycle.Mark.{Mark}
 use Rattle.spl_circuit.specs.declared.lifecycle.Mark.TheVariants as mark
 use Rattle.spl_circuit.specs.declared.lifecycle.RouteFault.{RouteFault}
 use Rattle.spl_circuit.specs.declared.lifecycle.RouteFault.TheVariants as fault
+use Rattle.spl_wire.specs.declared.answer.Bit.{Bit}
+use Rattle.spl_wire.specs.declared.answer.Bit.TheVariants as bit
 
 abbrev pub lifecycle_text : Lifecycle → List ℕ
 lifecycle_text lifecycle.None = codes "none"
@@ -25,3 +27,8 @@ fault_text fault.SenderNotInRoster = codes "2"
 fault_text fault.RecipientNotInRoster = codes "3"
 fault_text fault.SenderNotOnNode = codes "4"
 fault_text fault.RecipientNotHere = codes "5"
+
+abbrev pub bit_text : Bit → List ℕ
+bit_text bit.Kept = codes "kept"
+bit_text bit.Lost = codes "lost"
+bit_text bit.Nothing = codes "none"

@@ -10,10 +10,11 @@ use Rattle.spl_wire.specs.declared.answer.Refusal.TheVariants as refusal
 use Rattle.spl_wire.specs.declared.answer.BatchStatus.{BatchStatus}
 use Rattle.spl_wire.specs.declared.answer.BatchStatus.TheVariants as status
 use Rattle.spl_wire.specs.declared.answer.Answer.{Answer}
-use Rattle.spl_wire.specs.declared.answer.Answer.TheVariants.{Submitted, Left, Show, Detail, Root, History, Value, Listed, Status, Receipt, Routed, Notes, Delivered, Calm, Refused}
-use Rattle.spl_answer.specs.Names.{lifecycle_text, mark_text, fault_text}
+use Rattle.spl_wire.specs.declared.answer.Answer.TheVariants.{Submitted, Left, Show, Detail, Root, History, Value, Listed, Status, Receipt, Routed, Notes, Delivered, Calm, Power, Roll, Cut, Fault, Refused}
+use Rattle.spl_answer.specs.Names.{lifecycle_text, mark_text, fault_text, bit_text}
 use Rattle.spl_answer.specs.Json.{others, detail}
 use Rattle.spl_answer.specs.Receipts.{receipts_json}
+use Rattle.spl_answer.specs.Nodes.{power_text, roll_text}
 use Rattle.spl_answer.specs.Batches.{root_text, history_text, value_text, entries_text}
 
 -- the nodes with `,` between them, or `-` where there are none
@@ -94,4 +95,8 @@ text Routed = codes "ok routed"
 text (Notes admin service) = codes "ok " ++ (note_text admin ++ (codes " / " ++ note_text service))
 text (Delivered n) = codes "ok " ++ note_text n
 text (Calm passes) = codes "ok calm " ++ decimal passes
+text (Power up) = power_text up
+text (Roll ids) = roll_text ids
+text (Cut bit) = codes "cut " ++ bit_text bit
+text (Fault bit) = codes "fault " ++ bit_text bit
 text (Refused refusal) = codes "refused " ++ refusal_text refusal

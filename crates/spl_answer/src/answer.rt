@@ -5,7 +5,8 @@ ghost use Rattle.spl_answer.specs.Texts.{text, refusal_text, counts_text, standi
 
 use crate::batches::{append_entries, append_history, append_root, append_status, append_value};
 use crate::json::append_detail;
-use crate::names::{fault_name, lifecycle_name, mark_name};
+use crate::names::{bit_name, fault_name, lifecycle_name, mark_name};
+use crate::nodes::{append_power, append_roll};
 use crate::note::append_note;
 use crate::part::{append, append_nodes, append_number, append_numbered};
 use crate::receipts::append_receipts;
@@ -167,6 +168,16 @@ pub fn append_text(answer: &Answer, out: &mut Vec<u8>) -> Result<(), AllocError>
         Answer::Calm { passes } => {
             append(b"ok calm ", out)?;
             append_number(u64::from(*passes), out)
+        }
+        Answer::Power { up } => append_power(*up, out),
+        Answer::Roll(circuits) => append_roll(circuits.as_slice(), out),
+        Answer::Cut(bit) => {
+            append(b"cut ", out)?;
+            append(bit_name(*bit), out)
+        }
+        Answer::Fault(bit) => {
+            append(b"fault ", out)?;
+            append(bit_name(*bit), out)
         }
         Answer::Refused(refusal) => {
             append(b"refused ", out)?;

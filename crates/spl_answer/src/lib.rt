@@ -5,6 +5,7 @@ mod answer;
 mod batches;
 mod json;
 mod names;
+mod nodes;
 mod note;
 mod part;
 mod receipts;

@@ -1,8 +1,9 @@
 //! Names in answers.
 ghost use Rattle.std.specs.Prelude.{◌≡◌};
-ghost use Rattle.spl_answer.specs.Names.{lifecycle_text, mark_text, fault_text};
+ghost use Rattle.spl_answer.specs.Names.{lifecycle_text, mark_text, fault_text, bit_text};
 
 use spl_circuit::{Lifecycle, Mark, RouteFault};
+use spl_wire::Bit;
 
 pub(crate) fn lifecycle_name(lifecycle: Lifecycle) -> &'static [u8]
     ensures { result.now ≡ lifecycle_text lifecycle }
@@ -35,5 +36,15 @@ pub(crate) fn fault_name(fault: RouteFault) -> &'static [u8]
         RouteFault::RecipientNotInRoster => b"3",
         RouteFault::SenderNotOnNode => b"4",
         RouteFault::RecipientNotHere => b"5",
+    }
+}
+
+pub(crate) fn bit_name(bit: Bit) -> &'static [u8]
+    ensures { result.now ≡ bit_text bit }
+{
+    match bit {
+        Bit::Kept => b"kept",
+        Bit::Lost => b"lost",
+        Bit::Nothing => b"none",
     }
 }

@@ -4,7 +4,7 @@ use super::*;
 use spl_agree::{Generation, Note, Reason, Round};
 use spl_base::{Boxed, CircuitId, Label, Listing, NodeId, ServiceId};
 use spl_circuit::{Definition, Lifecycle, Mark, Members, RouteFault, Service, Services};
-use spl_wire::{Answer, Refusal};
+use spl_wire::{Answer, Bit, Refusal};
 use std::alloc::Global;
 use std::test::Fail;
 
@@ -147,6 +147,11 @@ fn short_texts(rt: HostRuntime) -> Result<(), Fail> {
         ),
         (Answer::Delivered(Note::Queued), "ok queued"),
         (Answer::Calm { passes: 64 }, "ok calm 64"),
+        (Answer::Power { up: true }, "ok up"),
+        (Answer::Power { up: false }, "ok down"),
+        (Answer::Cut(Bit::Kept), "cut kept"),
+        (Answer::Cut(Bit::Lost), "cut lost"),
+        (Answer::Fault(Bit::Nothing), "fault none"),
     ] {
         let found = text(rt.alloc(), &answer)?;
         assert_eq!(rt; found.bytes(), want.as_bytes());
@@ -289,5 +294,20 @@ fn shown_texts(rt: HostRuntime) -> Result<(), Fail> {
         let found = text(alloc, &answer)?;
         assert_eq!(rt; found.bytes(), want.as_bytes());
     }
+    Ok(())
+}
+
+#[test]
+fn texts_of_rolls(rt: HostRuntime) -> Result<(), Fail> {
+    let mut ids = Listing::new(rt.alloc());
+    ids.push(CircuitId::read(b"Ab3dE-00001").ok_or("an id")?)?;
+    ids.push(CircuitId::read(b"Bb3dE-00001").ok_or("an id")?)?;
+    let found = text(rt.alloc(), &Answer::Roll(ids))?;
+    assert_eq!(rt;
+        found.bytes(),
+        "ok roll 2 Ab3dE-00001 Bb3dE-00001".as_bytes()
+    );
+    let found = text(rt.alloc(), &Answer::Roll(Listing::new(rt.alloc())))?;
+    assert_eq!(rt; found.bytes(), "ok roll 0".as_bytes());
     Ok(())
 }

@@ -43,12 +43,14 @@ fits_may rules may m (change.Seen r) = refl
 fits_may rules may m (change.Promise r v) = refl
 fits_may rules may m change.Abort = refl
 fits_may rules may m (change.Commit r v) = refl
+fits_may rules may m (change.Restore next seen) = refl
+fits_may rules may m (change.Kept v why) = refl
 
 pub fits_any : {V : Type 0} (b : Bool) (rules : Rules V) (may : V → Bool) (m : Member V) (x : GroupChange V) → (b && fits rules may m x) ≡ true → fits rules any_value m x ≡ true
 fits_any b rules may m x h = and_right (may_be may (queued x)) (fits rules any_value m x) (sym (fits_may rules may m x) ∙ and_right b (fits rules may m x) h)
 
-pub fits_running : {V : Type 0} (b c : Bool) (rules : Rules V) (may : V → Bool) (m : Member V) (x : GroupChange V) → (b && (c && fits rules may m x)) ≡ true → fits rules any_value m x ≡ true
-fits_running b c rules may m x h = fits_any c rules may m x (and_right b (c && fits rules may m x) h)
+pub fits_running : {V : Type 0} (b c k : Bool) (rules : Rules V) (may : V → Bool) (m : Member V) (x : GroupChange V) → (b && (c && (k && fits rules may m x))) ≡ true → fits rules any_value m x ≡ true
+fits_running b c k rules may m x h = fits_any k rules may m x (and_right c (k && fits rules may m x) (and_right b (c && (k && fits rules may m x)) h))
 
 -- ---- the seats stay
 

@@ -8,3 +8,4 @@ pub mod Changes
 pub mod States
 pub mod Lists
 pub mod Entries
+pub mod Packs

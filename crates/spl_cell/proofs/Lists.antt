@@ -36,6 +36,8 @@ opened_stays rules a (change.Seen r) = refl
 opened_stays rules a (change.Promise r v) = refl
 opened_stays rules a change.Abort = refl
 opened_stays rules a (change.Commit r v) = refl
+opened_stays rules a (change.Restore next seen) = refl
+opened_stays rules a (change.Kept v why) = refl
 
 -- a change opens no round
 still_free : (k : Cell) (x : Change) → IsStill k → IsStill (free_after k x)
@@ -44,6 +46,8 @@ still_free k (durable.Admin x) h = h
 still_free k (durable.Service x) h = h
 still_free k durable.Abandon h = h
 still_free k durable.Purge h = h
+still_free k (durable.Turn t) h = h
+still_free k (durable.Gone old) h = tt
 
 still_made : (here : Node) (k : Cell) (x : Change) → IsStill k → IsStill (made_one here k x)
 still_made here Empty x h = still_free Empty x h
@@ -53,6 +57,8 @@ still_made here (Held d m turn a b) (durable.Admin x) h = (opened_stays (act_rul
 still_made here (Held d m turn a b) (durable.Service x) h = (h.0, opened_stays batch_rules b x ∙ h.1)
 still_made here (Held d m turn a b) durable.Abandon h = h
 still_made here (Held d m turn a b) durable.Purge h = tt
+still_made here (Held d m turn a b) (durable.Turn t) h = h
+still_made here (Held d m turn a b) (durable.Gone old) h = tt
 
 pub still_list : (here c : Node) (k : Cell) (xs : List Change) → IsStill k → IsStill (applied here c k xs)
 still_list here c k [] h = h

@@ -22,3 +22,5 @@ queued (change.Seen r) = None
 queued (change.Promise r v) = None
 queued change.Abort = None
 queued (change.Commit r v) = None
+queued (change.Restore next seen) = None
+queued (change.Kept v why) = None

@@ -1,5 +1,5 @@
 -- The cell of the rules that a state in memory stands for.
-use Rattle.std.specs.Prelude.{◌≡◌, Bool, true, false, None}
+use Rattle.std.specs.Prelude.{◌≡◌, None}
 use Rattle.spl_circuit.specs.Nodes.{Node}
 use Rattle.spl_rules.specs.Cells.{Cell, Empty, Held, Purged}
 use Rattle.spl_cell.specs.declared.state.State.{State}
@@ -21,9 +21,3 @@ abbrev pub IsStill : Cell → Type 0
 IsStill Empty = Unit {0}
 IsStill (Held d m turn a b) = (a.opened ≡ None) × (b.opened ≡ None)
 IsStill (Purged old) = Unit {0}
-
--- nothing is kept
-abbrev pub is_empty_cell : Cell → Bool
-is_empty_cell Empty = true
-is_empty_cell (Held d m turn a b) = false
-is_empty_cell (Purged old) = false

@@ -1,16 +1,20 @@
 //! The cell of a circuit at a node.
-ghost use Rattle.std.specs.Prelude.{◌≡◌, true, IfOk, OnOk};
-ghost use Rattle.spl_rules.specs.Cells.{Empty, is_bound, is_open_cell};
+ghost use Rattle.std.specs.Prelude.{◌≡◌, true, IsTrue, IfOk, OnOk};
+ghost use Rattle.std.specs.List.{list_all};
+ghost use Rattle.spl_wire.specs.Changes.{change_form};
+ghost use Rattle.spl_wire.specs.Grouping.{grouped, records_of};
+ghost use Rattle.spl_rules.specs.Pack.{packed};
+ghost use Rattle.spl_rules.specs.Cells.{Empty, is_bound, is_empty_cell, is_open_cell};
 ghost use Rattle.spl_rules.specs.Plans.{plan_of};
 ghost use Rattle.spl_rules.specs.Changes.{made, applied, moved_cell, stopped_cell};
 ghost use Rattle.spl_rules.specs.Valid.{IsValid, IsFor, FitsMoveAt, are_legal};
-ghost use Rattle.spl_cell.specs.States.{IsStill, is_empty_cell};
+ghost use Rattle.spl_cell.specs.States.{IsStill};
 
 use crate::site::Site;
 use crate::state::State;
 use spl_base::{CircuitId, NodeId};
 use spl_rules::{cells_stay_valid, plans_fit_cells};
-use spl_wire::{ChangeList, Event, Plan};
+use spl_wire::{ChangeList, Event, PackedRecords, Plan, packed_records};
 use std::alloc::{AllocError, Global};
 use std::marker::Model;
 use std::mem;
@@ -112,6 +116,17 @@ impl Cell {
         let state = mem::replace(&mut self.state, State::Empty);
         self.state = self.site.applied(alloc, state, changes.as_slice())?;
         Ok(())
+    }
+
+    /// The records of the changes that make the cell of an empty one, in order. An empty cell has
+    /// none, and open rounds aren't packed. An error comes for want of memory alone.
+    pub fn pack(&self, alloc: Global) -> Result<PackedRecords, AllocError>
+        requires bounded { IsTrue (list_all change_form.bounded (packed self.now.state)) }
+        ensures records { IfOk result (λ rs. rs ≡ records_of self.now.circuit (grouped self.now.circuit (packed self.now.state))) }
+        ensures fits { OnOk result (IsTrue (list_all change_form.fits (packed self.now.state))) }
+    {
+        let changes = self.state.packed(alloc)?;
+        packed_records(alloc, self.site.circuit, changes)
     }
 
     /// A stop forgets the open rounds, and nothing else.

@@ -5,7 +5,7 @@ ghost use Rattle.spl_agree.specs.Fits.{fits as fits_group, any_value};
 ghost use Rattle.spl_circuit.specs.Acts.{act_rules};
 ghost use Rattle.spl_scabbard.specs.Checks.{batch_rules};
 ghost use Rattle.spl_rules.specs.Cells.{is_open, runs};
-ghost use Rattle.spl_rules.specs.Changes.{turn_after, may_queue, may_serve, fits_free, free_after, applied_one, applied};
+ghost use Rattle.spl_rules.specs.Changes.{turn_after, may_queue, may_serve, may_keep, fits_free, free_after, applied_one, applied};
 ghost use Rattle.spl_cell.specs.States.{cell_of, IsAt};
 ghost use Rattle.spl_cell.specs.Mays.{may_be, queued};
 
@@ -13,7 +13,7 @@ use crate::durable::{copy_change, queued};
 use crate::held::Held;
 use crate::site::Site;
 use crate::state::State;
-use spl_agree::GroupChange;
+use spl_agree::{Generation, GroupChange};
 use spl_base::{Boxed, Value};
 use spl_circuit::{Act, Definition, Mark};
 use spl_command::Batch;
@@ -37,6 +37,23 @@ fn may_batch(change: &GroupChange<Batch>) -> bool
     }
 }
 
+/// Whether a batch may be kept as refused, if the change keeps one: one that breaks a rule is not.
+fn may_keep(change: &GroupChange<Batch>) -> bool
+    ensures { result ≡ may_keep change.now }
+{
+    match change {
+        GroupChange::Queue(_) => true,
+        GroupChange::Refuse(_, _) => true,
+        GroupChange::Begin(_) => true,
+        GroupChange::Seen(_) => true,
+        GroupChange::Promise(_, _) => true,
+        GroupChange::Abort => true,
+        GroupChange::Commit(_, _) => true,
+        GroupChange::Restore { .. } => true,
+        GroupChange::Kept(batch, _) => may_serve(batch),
+    }
+}
+
 impl Held {
     /// The turn of the node behind a change: an own act that is queued sets it.
     fn turn_after(&self, change: &GroupChange<Act>) -> u32
@@ -56,6 +73,8 @@ impl Held {
             GroupChange::Promise(_, _) => self.turn,
             GroupChange::Abort => self.turn,
             GroupChange::Commit(_, _) => self.turn,
+            GroupChange::Restore { .. } => self.turn,
+            GroupChange::Kept(_, _) => self.turn,
         }
     }
 
@@ -115,12 +134,15 @@ impl Held {
     /// Whether a change of the service group fits. An error comes for want of memory alone.
     #[tactic(auto, using(crate::proofs::Changes::fits_may))]
     fn fits_service(&self, alloc: Global, change: &GroupChange<Batch>) -> Result<bool, AllocError>
-        ensures { IfOk result (λ b. b ≡ (is_open self.now.mark && (runs self.now.definition self.now.acts && fits_group batch_rules may_serve self.now.batches change.now))) }
+        ensures { IfOk result (λ b. b ≡ (is_open self.now.mark && (runs self.now.definition self.now.acts && (may_keep change.now && fits_group batch_rules may_serve self.now.batches change.now)))) }
     {
         if !self.is_open() {
             return Ok(false);
         }
         if !self.runs() {
+            return Ok(false);
+        }
+        if !may_keep(change) {
             return Ok(false);
         }
         if !may_batch(change) {
@@ -182,6 +204,13 @@ impl Site {
                 Ok(State::Held(held))
             }
             Change::Purge => Ok(State::Purged(held.definition().generation)),
+            Change::Turn(turn) => {
+                if held.acts.is_new() {
+                    held.turn = *turn;
+                }
+                Ok(State::Held(held))
+            }
+            Change::Gone(_) => Ok(State::Held(held)),
         }
     }
 
@@ -201,22 +230,59 @@ impl Site {
         definition.is_member(&self.here)
     }
 
-    /// An unbound cell with a change, if it fits.
+    /// An unbound cell that is bound to a definition, if that fits.
     #[tactic(auto, using(crate::proofs::Binds::free_facts))]
-    fn free_with(&self, alloc: Global, state: State, change: &Change) -> Result<State, AllocError>
+    fn bound_with(
+        &self,
+        alloc: Global,
+        state: State,
+        definition: &Definition,
+    ) -> Result<State, AllocError>
         requires at { IsAt self.now.here self.now.circuit state }
-        ensures cell { IfOk result (λ s. cell_of s ≡ (if fits_free self.now.here self.now.circuit (cell_of state) change.now then free_after (cell_of state) change.now else cell_of state)) }
+        ensures cell { IfOk result (λ s. cell_of s ≡ (if fits_free self.now.here self.now.circuit (cell_of state) (Change.Bind definition.now) then free_after (cell_of state) (Change.Bind definition.now) else cell_of state)) }
         ensures at { IfOk result (λ s. IsAt self.now.here self.now.circuit s) }
     {
-        let Change::Bind(definition) = change else {
-            return Ok(state);
-        };
-        let definition = definition.get();
         if !self.fits_free(&state, definition) {
             return Ok(state);
         }
         let held = Held::new(alloc, *self, definition.copy(alloc)?);
         Ok(State::Held(Box::new(alloc, held)?))
+    }
+
+    /// An unbound cell that was purged with a generation, if that fits.
+    fn gone(&self, state: State, old: Generation) -> State
+        requires at { IsAt self.now.here self.now.circuit state }
+        ensures cell { cell_of result ≡ (if fits_free self.now.here self.now.circuit (cell_of state) (Change.Gone old) then free_after (cell_of state) (Change.Gone old) else cell_of state) }
+        ensures at { IsAt self.now.here self.now.circuit result }
+    {
+        match state {
+            State::Empty => {
+                if 0 < old.0 {
+                    State::Purged(old)
+                } else {
+                    State::Empty
+                }
+            }
+            State::Held(held) => State::Held(held),
+            State::Purged(older) => State::Purged(older),
+        }
+    }
+
+    /// An unbound cell with a change, if it fits.
+    fn free_with(&self, alloc: Global, state: State, change: &Change) -> Result<State, AllocError>
+        requires at { IsAt self.now.here self.now.circuit state }
+        ensures cell { IfOk result (λ s. cell_of s ≡ (if fits_free self.now.here self.now.circuit (cell_of state) change.now then free_after (cell_of state) change.now else cell_of state)) }
+        ensures at { IfOk result (λ s. IsAt self.now.here self.now.circuit s) }
+    {
+        match change {
+            Change::Bind(definition) => self.bound_with(alloc, state, definition.get()),
+            Change::Admin(_) => Ok(state),
+            Change::Service(_) => Ok(state),
+            Change::Abandon => Ok(state),
+            Change::Purge => Ok(state),
+            Change::Turn(_) => Ok(state),
+            Change::Gone(old) => Ok(self.gone(state, *old)),
+        }
     }
 
     /// A cell with a change, if it fits.

@@ -30,6 +30,11 @@ pub(crate) fn copy_change<V: Value>(
         }
         GroupChange::Abort => Ok(GroupChange::Abort),
         GroupChange::Commit(round, value) => Ok(GroupChange::Commit(*round, value.copy(alloc)?)),
+        GroupChange::Restore { next, seen } => Ok(GroupChange::Restore {
+            next: *next,
+            seen: *seen,
+        }),
+        GroupChange::Kept(value, reason) => Ok(GroupChange::Kept(value.copy(alloc)?, *reason)),
     }
 }
 
@@ -45,6 +50,8 @@ pub(crate) fn queued<V>(change: &GroupChange<V>) -> Option<&V>
         GroupChange::Promise(_, _) => None,
         GroupChange::Abort => None,
         GroupChange::Commit(_, _) => None,
+        GroupChange::Restore { .. } => None,
+        GroupChange::Kept(_, _) => None,
     }
 }
 

@@ -11,6 +11,7 @@ mod held;
 mod leave;
 mod moves;
 mod node;
+mod pack;
 mod plan;
 mod plans;
 mod propose;

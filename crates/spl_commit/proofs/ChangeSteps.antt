@@ -1,16 +1,17 @@
 -- Durable changes, by entries.
-use Rattle.std.proofs.Common.{◌≡◌, ◌⊎◌, ◌↔◌, ℕ, zero, suc, ◌+◌, ◌-◌, ◌^◌, ◌<◌, ◌≤◌, Bool, true, false, ◌&&◌, ◌||◌, List, [], ◌∷◌, ◌++◌, length, get_or, refl, sym, ap, subst, ◌∙◌, inl, inr, arith}
-use Rattle.std.specs.Prelude.{Option, Some, None, is_none, nat_lt}
+use Rattle.std.proofs.Common.{◌≡◌, ◌⊎◌, ◌↔◌, ℕ, suc, ◌+◌, ◌-◌, ◌^◌, ◌<◌, Bool, true, false, ◌&&◌, ◌||◌, List, [], ◌∷◌, ◌++◌, length, refl, sym, ap, subst, ◌∙◌, inl, inr, arith}
+use Rattle.std.specs.Prelude.{Option, Some, None, is_none, nat_lt, ◌==◌}
 use Rattle.std.specs.List.{Contains, IsDistinct, list_any}
-use Rattle.std.specs.Map.{lookup, remove_entry, keys_of}
+use Rattle.std.specs.Map.{lookup, keys_of}
 use Rattle.std.specs.Cmp.{IsEquivalence}
 use Rattle.std.proofs.lemmas.Map.Views.{lookup-from_Contains}
-use Rattle.spl_agree.specs.Member.{Rules, Member, values, found, found_refused, value_of, or_else, known_by, without}
+use Rattle.spl_agree.specs.Member.{Member, values, found, found_refused, value_of, or_else, known_by}
 use Rattle.spl_agree.specs.declared.reason.Reason.{Reason}
-use Rattle.spl_agree.proofs.Tests.{bool_cases, or_cases, and_left, and_right, ltb_is}
+use Rattle.spl_agree.proofs.Tests.{bool_cases, or_cases, and_left, and_right, ltb_is, eqb_is}
+use Rattle.spl_agree.specs.Fits.{has_nothing}
 use Rattle.spl_queue.specs.Lists.{Lists, refusal}
 use Rattle.spl_commit.specs.Views.{seconds, AreKeyed}
-use Rattle.spl_commit.proofs.Keyed.{lookup-found, lookup-refused, remove-without, seconds-more}
+use Rattle.spl_commit.proofs.Keyed.{lookup-found}
 
 -- what isn't known is neither pending nor refused
 pub unknown : {V : Type 0} (p : V → Bool) (m : Member V) → is_none (known_by p m) ≡ true → (found p m.pending ≡ None) × (found_refused p m.refused ≡ None)
@@ -109,3 +110,18 @@ none-pending {K} {V} eq key same q v es laws is h keyed distinct f = go (bool_ca
 -- equality that is identity
 pub identity_by : {V : Type 0} (same same_of : V → V → Bool) → ((a b : V) → same a b ≡ same_of a b) → ((a b : V) → (same_of a b ≡ true) ↔ (a ≡ b)) → (a b : V) → (same a b ≡ true) ↔ (a ≡ b)
 identity_by same same_of h is a b = (λ e. (is a b).0 (sym (h a b) ∙ e), λ e. h a b ∙ (is a b).1 e)
+
+-- where nothing is pending
+pub nothing_pending : {V : Type 0} (m : Member V) → has_nothing m ≡ true → m.pending ≡ []
+nothing_pending {V} m h = go m.pending (and_left (length m.pending == 0) (is_none m.promise) (and_right (length m.history == 0) _ h))
+  where
+    go : (us : List V) → (length us == 0) ≡ true → us ≡ []
+    go [] k = refl
+    go (u ∷ us) k = absurd (let z : length (u ∷ us) ≡ 0 = eqb_is (length (u ∷ us)) 0 k in omega arith)
+
+pub none_found : {V : Type 0} (p : V → Bool) (m : Member V) → has_nothing m ≡ true → found p m.pending ≡ None
+none_found {V} p m h = subst (λ (us : List V). found p us ≡ None) (sym (nothing_pending m h)) refl
+
+pub no_entries : {K X : Type 0} (es : List (K × X)) → seconds es ≡ [] → es ≡ []
+no_entries [] h = refl
+no_entries (e ∷ es) h = cc

@@ -1,11 +1,10 @@
 -- Entries by keys, and their values.
-use Rattle.std.proofs.Common.{◌≡◌, ◌⊎◌, ℕ, zero, suc, Bool, true, false, cond, List, [], ◌∷◌, ◌++◌, length, refl, sym, ap, subst, ◌∙◌, inl, inr}
-use Rattle.std.specs.Prelude.{Option, Some, None, slice_get, option_copied}
+use Rattle.std.proofs.Common.{◌≡◌, ℕ, zero, suc, Bool, true, false, cond, List, [], ◌∷◌, ◌++◌, length, refl, sym, ap, ◌∙◌}
+use Rattle.std.specs.Prelude.{Option, Some, None, slice_get}
 use Rattle.std.specs.Option.{option_map}
 use Rattle.std.specs.Map.{lookup, remove_entry}
-use Rattle.spl_agree.specs.Member.{Member, values, found, found_refused, value_of, or_else, without}
+use Rattle.spl_agree.specs.Member.{found, found_refused, value_of, or_else, without}
 use Rattle.spl_agree.specs.declared.reason.Reason.{Reason}
-use Rattle.spl_agree.proofs.Tests.{bool_cases}
 use Rattle.spl_queue.specs.Lists.{Lists}
 use Rattle.spl_queue.specs.Status.{IsStatus}
 use Rattle.spl_queue.specs.declared.queue.Known.{Known}

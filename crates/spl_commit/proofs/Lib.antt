@@ -3,3 +3,4 @@ pub mod Positions
 pub mod Keyed
 pub mod RowSteps
 pub mod ChangeSteps
+pub mod Packs

@@ -1,6 +1,6 @@
 -- One position more is one message more.
-use Rattle.std.proofs.Common.{◌≡◌, ◌≢◌, ◌⊎◌, ℕ, zero, suc, ◌+◌, ◌<◌, ◌≤◌, Bool, true, false, not, cond, eqb, List, [], ◌∷◌, ◌++◌, refl, sym, ap, ◌∙◌, inl, inr, add-one, append-nil, append_assoc, arith}
-use Rattle.std.specs.Prelude.{◌==◌, nat_lt, if◌then◌else◌}
+use Rattle.std.proofs.Common.{◌≡◌, ◌⊎◌, ℕ, zero, suc, ◌+◌, ◌<◌, ◌≤◌, Bool, true, false, not, cond, eqb, List, [], ◌∷◌, ◌++◌, refl, sym, ap, ◌∙◌, inl, inr, add-one, append-nil, append_assoc, arith}
+use Rattle.std.specs.Prelude.{◌==◌, if◌then◌else◌}
 use Rattle.std.specs.List.{filter}
 use Rattle.std.specs.Int.{bit_at}
 use Rattle.spl_agree.specs.Member.{below_but, has, but, none_left}
@@ -8,7 +8,7 @@ use Rattle.spl_agree.specs.Rows.{to_each, abort_each}
 use Rattle.spl_agree.specs.declared.reason.Reason.{Reason}
 use Rattle.spl_agree.specs.declared.message.CommitMsg.{CommitMsg}
 use Rattle.spl_agree.specs.declared.message.CommitMsg.TheVariants as msg
-use Rattle.spl_agree.proofs.Tests.{bool_cases, eqb_is, eqb_not, eqb_other, eqb_same, has-below_but, has-below_but-other, and_left, and_right, not_true}
+use Rattle.spl_agree.proofs.Tests.{bool_cases, eqb_is, eqb_not, eqb_other, has-below_but, has-below_but-other, and_left, and_right, not_true}
 use Rattle.spl_agree.specs.Fits.{misses_more}
 use Rattle.std.specs.Prelude.{Some}
 use Rattle.spl_coord.specs.Positions.{positions}

@@ -1,5 +1,5 @@
 -- Rows from their parts.
-use Rattle.std.proofs.Common.{◌≡◌, ◌⊎◌, ℕ, Bool, true, false, ◌&&◌, List, [], ◌∷◌, length, refl, sym, ap, subst, ◌∙◌, inl, inr}
+use Rattle.std.proofs.Common.{◌≡◌, ℕ, Bool, true, false, List, [], refl, sym, ap, subst, ◌∙◌}
 use Rattle.spl_agree.specs.Member.{Group, Member, others, has, but, none_left}
 use Rattle.spl_agree.specs.Rows.{nothing, commit_open, abort_open, counted_vote}
 use Rattle.spl_agree.specs.Agreement.{Ballot}
@@ -7,8 +7,7 @@ use Rattle.spl_agree.specs.declared.message.CommitMsg.{CommitMsg}
 use Rattle.spl_agree.specs.declared.event.GroupChange.{GroupChange}
 use Rattle.spl_agree.specs.declared.event.OpenMove.TheVariants as move
 use Rattle.spl_agree.specs.declared.event.Note.TheVariants as note
-use Rattle.spl_agree.specs.declared.plan.GroupPlan.{GroupPlan}
-use Rattle.spl_agree.proofs.Tests.{bool_cases, eqb_same}
+use Rattle.spl_agree.proofs.Tests.{eqb_same}
 use Rattle.spl_coord.specs.Votes.{voted_on}
 use Rattle.spl_coord.specs.declared.voting.Voted.{Voted}
 use Rattle.spl_coord.specs.declared.voting.Voted.TheVariants as voted
@@ -34,3 +33,8 @@ vote-gives {V} g here m sender r missing aye b o e w h = subst (VoteGives g here
     go : (a : Bool) → VoteGives g here m sender r missing a (voted_on (ballot_on r missing) r sender a)
     go true = yes_count (has sender missing) (none_left (but sender missing)) refl refl
     go false = rw (eqb_same r, h)
+
+-- a vote of none of the others is passed over
+pub none-voted : {V : Type 0} (g : Group V) (here : ℕ) (m : Member V) (sender r : ℕ) (missing : List ℕ) (aye : Bool) → has sender (others g here) ≡ false → nothing note.Ignored ≡ counted_vote g here m sender r missing aye
+none-voted g here m sender r missing true h = rw h
+none-voted g here m sender r missing false h = rw h

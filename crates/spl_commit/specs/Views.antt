@@ -1,5 +1,5 @@
 -- A member as its callers see it.
-use Rattle.std.specs.Prelude.{◌≡◌, ℕ, ◌^◌, ◌<◌, ◌≤◌, Bool, false, List, [], ◌∷◌, length, Option, Some, None}
+use Rattle.std.specs.Prelude.{◌≡◌, ℕ, ◌^◌, ◌<◌, ◌≤◌, false, List, [], ◌∷◌, length, Option, Some, None}
 use Rattle.spl_agree.specs.Member.{Rules, Group, Member, values, none_left}
 use Rattle.spl_agree.specs.declared.reason.Reason.{Reason}
 use Rattle.spl_coord.specs.Positions.{positions}

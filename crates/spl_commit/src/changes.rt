@@ -40,7 +40,25 @@ impl<M: Agreed> Member<M> {
                 Ok(())
             }
             GroupChange::Commit(round, value) => self.commit(alloc, round, value),
+            GroupChange::Restore { next, seen } => {
+                self.next = next;
+                self.seen = seen;
+                Ok(())
+            }
+            GroupChange::Kept(value, reason) => self.keep(value, reason),
         }
+    }
+
+    /// A value joins the refused ones of a member that has no more.
+    fn keep(&mut self, value: M::Value, reason: Reason) -> Result<(), AllocError>
+        requires { fits (M.rules self.old.content) any_value self.old.state (GroupChange.Kept value reason) ≡ true }
+        ensures ok { OnOk result (self.new.state ≡ changed (M.rules self.old.content) self.old.state (GroupChange.Kept value reason)) }
+        ensures content { self.new.content ≡ self.old.content }
+        ensures fixed { IsFixed self.old self.new }
+    {
+        let key = M::key(&value);
+        self.queue.keep(key, value, reason)?;
+        Ok(())
     }
 
     /// The next round is one more.

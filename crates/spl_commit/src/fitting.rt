@@ -1,7 +1,7 @@
 //! Whether a durable change fits a member.
-ghost use Rattle.std.specs.Prelude.{◌≡◌, ◌-◌, ◌^◌, ◌&&◌, nat_lt, length, IfOk, is_none};
-ghost use Rattle.spl_agree.specs.Member.{known, values};
-ghost use Rattle.spl_agree.specs.Fits.{fits, any_value, is_pending};
+ghost use Rattle.std.specs.Prelude.{◌≡◌, ◌-◌, ◌^◌, ◌&&◌, nat_lt, true, length, IfOk, is_none};
+ghost use Rattle.spl_agree.specs.Member.{known, values, found_refused};
+ghost use Rattle.spl_agree.specs.Fits.{has_nothing, is_new, fits, any_value, is_pending};
 
 use crate::Member;
 use spl_agree::{Agreed, GroupChange, Round};
@@ -26,6 +26,40 @@ impl<M: Agreed> Member<M> {
             }
             GroupChange::Abort => Ok(self.promise.is_some()),
             GroupChange::Commit(_, value) => self.may_follow(alloc, value),
+            GroupChange::Restore { next, seen: _ } => Ok(self.is_new() && 0 < next.0),
+            GroupChange::Kept(value, _) => Ok(self.has_nothing() && self.is_unrefused(value)),
+        }
+    }
+
+    /// Whether nothing is committed, pending or promised.
+    #[tactic(auto, using(crate::proofs::Keyed::view_facts))]
+    fn has_nothing(&self) -> bool
+        ensures { result ≡ has_nothing self.now.state }
+    {
+        self.history.len() == 0 && self.queue.len() == 0 && self.promise.is_none()
+    }
+
+    /// Whether the member is as it was made.
+    #[tactic(auto, using(crate::proofs::Keyed::view_facts))]
+    pub fn is_new(&self) -> bool
+        ensures { result ≡ is_new self.now.state }
+    {
+        self.has_nothing()
+            && self.queue.refused_len() == 0
+            && self.seen.0 == 0
+            && self.next.0 == 1
+    }
+
+    /// Whether no refused value has the key of this one, where nothing is pending.
+    #[tactic(auto, using(crate::proofs::ChangeSteps::none_found))]
+    fn is_unrefused(&self, value: &M::Value) -> bool
+        requires { has_nothing self.now.state ≡ true }
+        ensures { result ≡ is_none (found_refused ((M.rules self.now.content).same_key value.now) self.now.state.refused) }
+    {
+        match self.in_queue(value) {
+            Known::No => true,
+            Known::Pending(_) => false,
+            Known::Refused(_, _) => false,
         }
     }
 

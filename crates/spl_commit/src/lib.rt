@@ -8,6 +8,7 @@ mod history;
 mod member;
 #[cfg(test)]
 mod numbers;
+mod packing;
 mod plan;
 mod plans;
 mod readers;

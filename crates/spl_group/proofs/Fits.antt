@@ -13,10 +13,9 @@ use Rattle.spl_agree.specs.declared.message.CommitMsg.TheVariants as msg
 use Rattle.spl_agree.specs.declared.event.GroupEvent.{GroupEvent}
 use Rattle.spl_agree.specs.declared.event.GroupEvent.TheVariants as event
 use Rattle.spl_agree.specs.declared.event.GroupChange.TheVariants as change
-use Rattle.spl_agree.proofs.Tests.{if_holds, eqb_is, eqb_not, eqb_same, and_left, and_right, bool_cases, ltb_not, lt_is, or_left, or_right}
+use Rattle.spl_agree.proofs.Tests.{if_holds, eqb_is, eqb_not, eqb_same, and_left, and_right, bool_cases, ltb_not, lt_is, or_left}
 use Rattle.std.proofs.lemmas.Bool.Decides.{nat_tests}
 use Rattle.spl_agree.specs.Fits.{AllGood, KeysDiffer, RefusesKnown, IsJudged, IsSound, IsRoomy, IsDue, MayQueue, AllFit, CanMove, misses_more, any_value, fits, is_pending}
-use Rattle.spl_group.proofs.Sound.{shut-elsewhere, has_space}
 
 abbrev pub Good : {V : Type 0} → Group V → (V → Bool) → ℕ → Member V → GroupPlan V → Type 0
 Good g may here m p = AllFit g.rules may m p.changes × IsRoomy (after g here m p) × CanMove (changed_by g.rules m p.changes) p.opening

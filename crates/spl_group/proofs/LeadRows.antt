@@ -2,7 +2,7 @@
 use Rattle.std.proofs.Common.{◌≡◌, ◌≢◌, ℕ, suc, ◌<◌, ◌⊎◌, Bool, true, false, not, ◌&&◌, eqb, List, [], ◌∷◌, ◌++◌, length, refl, sym, ap, subst, ◌∙◌, inl, inr, arith}
 use Rattle.std.specs.Prelude.{Option, Some, None, ◌==◌, nat_lt}
 use Rattle.spl_agree.specs.Member.{Group, Member, values, has_round, others, has, but, decision, none_left, found, found_refused, is_spent, is_open}
-use Rattle.spl_agree.specs.Rows.{nothing, sends_one, changes_one, row, on_vote, on_message, counted_vote, abort_open, commit_open, told, admitted, forwarded, forwarded_pending, forwarded_refused, forwarded_new, coordinator_tick, ask_again, try_first, judge_first, begin_at, refuse_first, expire_open, on_submit, vote_no, other_value}
+use Rattle.spl_agree.specs.Rows.{nothing, sends_one, changes_one, row, on_vote, on_message, counted_vote, abort_open, commit_open, told, admitted, forwarded, forwarded_pending, forwarded_refused, forwarded_new, coordinator_tick, ask_again, try_first, judge_first, begin_at, refuse_first, expire_open, vote_no, other_value}
 use Rattle.spl_agree.specs.declared.plan.GroupPlan.{GroupPlan}
 use Rattle.spl_agree.specs.World.{after}
 use Rattle.spl_agree.specs.Agreement.{Ballot, ballot_of, Lead, lead, Seat, IsLed, Follows, Told, Said}

@@ -2,7 +2,7 @@
 use Rattle.std.proofs.Common.{◌≡◌, ◌≢◌, ℕ, ◌<◌, ◌≤◌, Bool, true, false, ◌&&◌, List, [], ◌∷◌, ◌++◌, refl, sym, subst, arith}
 use Rattle.std.specs.Prelude.{Option, Some, None, ◌==◌, nat_lt}
 use Rattle.spl_agree.specs.Member.{Group, Member, has_round, others, has, found}
-use Rattle.spl_agree.specs.Rows.{nothing, sends_one, changes_one, row, requested, fits_here, on_vote, decided, strayed, taken_back, member_tick, forward_first, on_message, on_submit}
+use Rattle.spl_agree.specs.Rows.{nothing, sends_one, changes_one, row, requested, fits_here, on_vote, decided, strayed, taken_back, member_tick, forward_first, on_message}
 use Rattle.spl_agree.specs.declared.plan.GroupPlan.{GroupPlan}
 use Rattle.spl_agree.specs.World.{after}
 use Rattle.spl_agree.specs.Agreement.{Lead, seat, IsLed, Follows, Told, Said}

@@ -1,5 +1,5 @@
--- A row has at most one change.
-use Rattle.std.proofs.Common.{◌≡◌, ◌⊎◌, ℕ, Bool, true, false, ◌&&◌, List, [], ◌∷◌, ◌++◌, length, refl, sym, ap, ◌∙◌, inl, inr}
+-- A row has at most one change, and none that only a packed form has.
+use Rattle.std.proofs.Common.{◌≡◌, ◌⊎◌, ℕ, Bool, true, false, ◌&&◌, List, [], ◌∷◌, ◌++◌, length, refl, inl, inr}
 use Rattle.std.specs.Prelude.{Option, Some, None, ◌==◌, nat_lt}
 use Rattle.spl_agree.specs.Member.{Group, Member, values, has_round, found, found_refused, others, has, but, none_left, is_spent, decision}
 use Rattle.spl_agree.specs.Rows.{row, requested, fits_here, on_vote, counted_vote, commit_open, abort_open, decided, told, strayed, admitted, forwarded, forwarded_pending, forwarded_refused, taken_back, on_message, coordinator_tick, ask_again, try_first, judge_first, member_tick, forward_first, expire_open}
@@ -9,17 +9,31 @@ use Rattle.spl_agree.specs.declared.reason.Admit.{Admit}
 use Rattle.spl_agree.specs.declared.reason.Admit.TheVariants as admit
 use Rattle.spl_agree.specs.declared.message.CommitMsg.{CommitMsg}
 use Rattle.spl_agree.specs.declared.message.CommitMsg.TheVariants as msg
+use Rattle.spl_agree.specs.declared.event.GroupChange.{GroupChange}
+use Rattle.spl_agree.specs.declared.event.GroupChange.TheVariants as change
 use Rattle.spl_agree.specs.declared.event.GroupEvent.{GroupEvent}
 use Rattle.spl_agree.specs.declared.event.GroupEvent.TheVariants as event
 use Rattle.spl_agree.proofs.Tests.{if_holds}
 
-abbrev pub IsSingle : {A : Type 0} → List A → Type 0
+-- a change that a row may give
+abbrev pub IsPlanned : {V : Type 0} → GroupChange V → Type 0
+IsPlanned (change.Queue v) = Unit {0}
+IsPlanned (change.Refuse v why) = Unit {0}
+IsPlanned (change.Begin r) = Unit {0}
+IsPlanned (change.Seen r) = Unit {0}
+IsPlanned (change.Promise r v) = Unit {0}
+IsPlanned change.Abort = Unit {0}
+IsPlanned (change.Commit r v) = Unit {0}
+IsPlanned (change.Restore next seen) = ⊥
+IsPlanned (change.Kept v why) = ⊥
+
+abbrev pub IsSingle : {V : Type 0} → List (GroupChange V) → Type 0
 IsSingle [] = Unit {0}
-IsSingle (x ∷ []) = Unit {0}
+IsSingle (x ∷ []) = IsPlanned x
 IsSingle (x ∷ y ∷ zs) = ⊥
 
 -- a front of it is nothing, or the whole
-pub single-front : {A : Type 0} (made rest cs : List A) → made ++ rest ≡ cs → IsSingle cs → (made ≡ []) ⊎ (made ≡ cs)
+pub single-front : {V : Type 0} (made rest cs : List (GroupChange V)) → made ++ rest ≡ cs → IsSingle cs → (made ≡ []) ⊎ (made ≡ cs)
 single-front [] rest cs e s = inl refl
 single-front (x ∷ xs) rest [] e s = absurd (let q : x ∷ (xs ++ rest) ≡ [] = e in cc)
 single-front (x ∷ []) rest (c ∷ []) e s = inr (let q : x ∷ rest ≡ c ∷ [] = e in cc)

@@ -71,6 +71,13 @@ impl<K: Copy + Eq + Hash, V: Drop> Queue<K, V> {
         self.pending.len() as u32
     }
 
+    /// How many values are refused.
+    pub fn refused_len(&self) -> usize
+        ensures { result ≡ length self.now.refused }
+    {
+        self.refused.len()
+    }
+
     /// No two keys of a list are equal, no key is in both, and at most 64 values are pending.
     pub fn keys_differ(&self)
         ensures pending { IsDistinct K.eq (keys_of self.now.pending) }
@@ -139,6 +146,20 @@ impl<K: Copy + Eq + Hash, V: Drop> Queue<K, V> {
         match self.pending.insert(key, value) {
             Ok(_) => Ok(Offered::Queued),
             Err(_) => Err(OfferFault::NoMemory),
+        }
+    }
+
+    /// A value whose key is not refused joins the refused ones, where nothing is pending. After want of memory nothing is changed.
+    pub fn keep(&mut self, key: K, value: V, reason: Reason) -> Result<(), AllocError>
+        requires nothing_pending { self.old.pending ≡ [] }
+        requires not_refused { at K.eq self.old.refused key ≡ None }
+        ensures kept { OnOk result (self.new.refused ≡ self.old.refused ++ (key, (value, reason)) ∷ []) }
+        ensures pending { self.new.pending ≡ self.old.pending }
+        ensures unchanged { OnErr result (self.new ≡ self.old) }
+    {
+        match self.refused.insert(key, (value, reason)) {
+            Ok(_) => Ok(()),
+            Err(_) => Err(AllocError),
         }
     }
 

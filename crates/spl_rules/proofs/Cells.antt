@@ -1,10 +1,10 @@
 -- What a cell keeps at each change and each move.
 use Rattle.std.proofs.Common.{◌≡◌, ℕ, true, ◌&&◌, List, [], ◌∷◌, Option, refl, sym, subst}
 use Rattle.std.specs.List.{list_all}
-use Rattle.std.specs.Prelude.{None, is_none}
+use Rattle.std.specs.Prelude.{None, nat_lt, is_none}
 use Rattle.std.specs.Str.{bytes_eq}
 use Rattle.spl_agree.specs.Member.{Rules, Group, Member, new_member, values, changed, moved}
-use Rattle.spl_agree.specs.Fits.{fits as fits_group}
+use Rattle.spl_agree.specs.Fits.{is_new, fits as fits_group}
 use Rattle.spl_agree.specs.declared.event.GroupChange.{GroupChange}
 use Rattle.spl_agree.specs.declared.event.OpenMove.{OpenMove}
 use Rattle.spl_agree.specs.declared.event.OpenMove.TheVariants as move
@@ -24,7 +24,7 @@ use Rattle.spl_scabbard.specs.Checks.{batch_rules}
 use Rattle.spl_wire.specs.declared.change.Change.{Change}
 use Rattle.spl_wire.specs.declared.change.Change.TheVariants as durable
 use Rattle.spl_rules.specs.Cells.{Cell, Empty, Held, Purged, admin_group, service_group, is_open, is_free, runs}
-use Rattle.spl_rules.specs.Changes.{may_queue, may_serve, fits_free, applied_one, applied, moved_cell, stopped_cell}
+use Rattle.spl_rules.specs.Changes.{may_queue, may_serve, may_keep, fits_free, applied_one, applied, moved_cell, stopped_cell}
 use Rattle.spl_rules.specs.Valid.{IsKeptMember, IsHeld, IsKept, IsValid, FitsMoveAt}
 use Rattle.spl_rules.proofs.Members.{checked-new, checked-changed, pending-changed}
 
@@ -51,9 +51,9 @@ kept-admin here c d m turn a b x h s =
     let fit : fits_group (act_rules d) (may_queue here turn a.pending) a x ≡ true = and_right (is_open m) _ h in
     record { ruled = s.ruled; own = s.own; member = s.member; acts = checked-changed (act_rules d) (may_queue here turn a.pending) a x fit s.acts; batches = s.batches; legal = s.legal; closed = λ e. cc }
 
-kept-service : (here c : Node) (d : Definition) (m : Mark) (a : Member Act) (b : Member Batch) (x : GroupChange Batch) → (is_open m && (runs d a && fits_group batch_rules may_serve b x)) ≡ true → IsHeld here c d m a b → IsHeld here c d m a (changed batch_rules b x)
+kept-service : (here c : Node) (d : Definition) (m : Mark) (a : Member Act) (b : Member Batch) (x : GroupChange Batch) → (is_open m && (runs d a && (may_keep x && fits_group batch_rules may_serve b x))) ≡ true → IsHeld here c d m a b → IsHeld here c d m a (changed batch_rules b x)
 kept-service here c d m a b x h s =
-    let fit : fits_group batch_rules may_serve b x ≡ true = and_right (runs d a) _ (and_right (is_open m) _ h) in
+    let fit : fits_group batch_rules may_serve b x ≡ true = and_right (may_keep x) _ (and_right (runs d a) _ (and_right (is_open m) _ h)) in
     record { ruled = s.ruled; own = s.own; member = s.member; acts = s.acts; batches = checked-changed batch_rules may_serve b x fit s.batches; legal = pending-changed batch_rules may_serve b x fit s.legal; closed = s.closed }
 
 kept-abandon : (here c : Node) (d : Definition) (m : Mark) (a : Member Act) (b : Member Batch) → (is_open m && runs d a) ≡ true → IsHeld here c d m a b → IsHeld here c d mark.Abandoned a b
@@ -65,6 +65,8 @@ kept-held here c d m turn a b (durable.Admin x) s = if_holds (IsKept here c) _ _
 kept-held here c d m turn a b (durable.Service x) s = if_holds (IsKept here c) _ _ _ (λ h. kept-service here c d m a b x h s) (λ h. s)
 kept-held here c d m turn a b durable.Abandon s = if_holds (IsKept here c) _ _ _ (λ h. kept-abandon here c d m a b h s) (λ h. s)
 kept-held here c d m turn a b durable.Purge s = tt
+kept-held here c d m turn a b (durable.Turn t) s = if_holds (IsKept here c) (is_new a) (Held d m t a b) (Held d m turn a b) (λ h. s) (λ h. s)
+kept-held here c d m turn a b (durable.Gone old) s = s
 
 pub kept-one : (here c : Node) (k : Cell) (x : Change) → IsKept here c k → IsKept here c (applied_one here c k x)
 kept-one here c Empty (durable.Bind d) s = if_holds (IsKept here c) _ _ _ (λ h. kept-bound here c Empty d h) (λ h. tt)
@@ -72,11 +74,15 @@ kept-one here c Empty (durable.Admin x) s = tt
 kept-one here c Empty (durable.Service x) s = tt
 kept-one here c Empty durable.Abandon s = tt
 kept-one here c Empty durable.Purge s = tt
+kept-one here c Empty (durable.Turn t) s = tt
+kept-one here c Empty (durable.Gone old) s = if_holds (IsKept here c) (nat_lt 0 old) (Purged old) Empty (λ h. tt) (λ h. tt)
 kept-one here c (Purged old) (durable.Bind d) s = if_holds (IsKept here c) _ _ _ (λ h. kept-bound here c (Purged old) d h) (λ h. tt)
 kept-one here c (Purged old) (durable.Admin x) s = tt
 kept-one here c (Purged old) (durable.Service x) s = tt
 kept-one here c (Purged old) durable.Abandon s = tt
 kept-one here c (Purged old) durable.Purge s = tt
+kept-one here c (Purged old) (durable.Turn t) s = tt
+kept-one here c (Purged old) (durable.Gone new) s = tt
 kept-one here c (Held d m turn a b) x s = kept-held here c d m turn a b x s
 
 pub kept-applied : (here c : Node) (k : Cell) (xs : List Change) → IsKept here c k → IsKept here c (applied here c k xs)

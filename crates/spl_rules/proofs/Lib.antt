@@ -7,3 +7,11 @@ pub mod Still
 pub mod Deeds
 pub mod Events
 pub mod Plans
+pub mod Keys
+pub mod Built
+pub mod Rebuilt
+pub mod Owns
+pub mod Final
+pub mod Packed
+pub mod Written
+pub mod Bounded

@@ -3,7 +3,7 @@ use Rattle.std.proofs.Common.{◌≡◌, ℕ, ◌-◌, ◌^◌, ◌<◌, Bool, t
 use Rattle.std.specs.Prelude.{None, ◌==◌, nat_lt, is_none}
 use Rattle.std.specs.List.{list_all}
 use Rattle.spl_agree.specs.Member.{Rules, Member, values, known, changed, without, new_member}
-use Rattle.spl_agree.specs.Fits.{fits}
+use Rattle.spl_agree.specs.Fits.{is_new, fits}
 use Rattle.spl_rules.specs.Valid.{IsKeptMember}
 use Rattle.spl_agree.specs.declared.event.GroupChange.{GroupChange}
 use Rattle.spl_agree.specs.declared.event.GroupChange.TheVariants as change
@@ -46,6 +46,11 @@ checked-commit rules may m r v h s =
       roomy = roomy-commit rules m r v m.opened room s.roomy;
     }
 
+checked-restore : {V : Type 0} (rules : Rules V) (may : V → Bool) (m : Member V) (next seen : ℕ) → fits rules may m (change.Restore next seen) ≡ true → IsKeptMember rules m → IsKeptMember rules (changed rules m (change.Restore next seen))
+checked-restore rules may m next seen h s =
+    let l : next < 2 ^ 64 = ltb_is next (2 ^ 64) (and_right (nat_lt 0 next) (nat_lt next (2 ^ 64)) (and_right (is_new m) _ h)) in
+    record { good = s.good; promised = s.promised; roomy = record { few = s.roomy.few; rounds = omega arith; room = s.roomy.room; while_promised = s.roomy.while_promised } }
+
 pub checked-changed : {V : Type 0} (rules : Rules V) (may : V → Bool) (m : Member V) (x : GroupChange V) → fits rules may m x ≡ true → IsKeptMember rules m → IsKeptMember rules (changed rules m x)
 checked-changed rules may m (change.Queue v) h s = checked-queue rules may m v h s
 checked-changed rules may m (change.Refuse v reason) h s = record { good = s.good; promised = s.promised; roomy = roomy-refuse rules m v _ m.opened s.roomy }
@@ -54,6 +59,8 @@ checked-changed rules may m (change.Seen r) h s = record { good = s.good; promis
 checked-changed rules may m (change.Promise r v) h s = checked-promise rules may m r v h s
 checked-changed rules may m change.Abort h s = record { good = s.good; promised = λ e p. cc; roomy = record { few = s.roomy.few; rounds = s.roomy.rounds; room = s.roomy.room; while_promised = λ e p. cc } }
 checked-changed rules may m (change.Commit r v) h s = checked-commit rules may m r v h s
+checked-changed rules may m (change.Restore next seen) h s = checked-restore rules may m next seen h s
+checked-changed rules may m (change.Kept v why) h s = record { good = s.good; promised = s.promised; roomy = record { few = s.roomy.few; rounds = s.roomy.rounds; room = s.roomy.room; while_promised = s.roomy.while_promised } }
 
 -- ---- what may be pending
 
@@ -74,3 +81,5 @@ pending-changed rules may m (change.Seen r) h l = l
 pending-changed rules may m (change.Promise r v) h l = l
 pending-changed rules may m change.Abort h l = l
 pending-changed rules may m (change.Commit r v) h l = without-all may (rules.same_key v) m.pending l
+pending-changed rules may m (change.Restore next seen) h l = l
+pending-changed rules may m (change.Kept v why) h l = l

@@ -5,13 +5,14 @@ use Rattle.spl_agree.specs.Member.{Group, Member, new_member, values, changed, c
 use Rattle.spl_agree.specs.Rows.{row}
 use Rattle.spl_agree.specs.Fits.{IsSound, IsRoomy, IsSettled, AllFit, MayQueue, FitsMove, any_value}
 use Rattle.spl_agree.specs.declared.event.GroupChange.{GroupChange}
+use Rattle.spl_agree.specs.declared.event.GroupChange.TheVariants as change
 use Rattle.spl_agree.specs.declared.event.GroupEvent.{GroupEvent}
 use Rattle.spl_agree.specs.declared.event.OpenMove.{OpenMove}
 use Rattle.spl_agree.specs.declared.event.OpenMove.TheVariants as move
 use Rattle.spl_agree.proofs.Tests.{and_left, and_right}
 use Rattle.spl_group.proofs.Fits.{good-row, may-any}
 use Rattle.spl_group.proofs.Sound.{sound-row}
-use Rattle.spl_group.proofs.Singles.{IsSingle, single-row}
+use Rattle.spl_group.proofs.Singles.{IsPlanned, IsSingle, single-row}
 use Rattle.spl_circuit.specs.declared.definition.Definition.{Definition}
 use Rattle.spl_circuit.specs.declared.act.Act.{Act}
 use Rattle.spl_circuit.specs.declared.lifecycle.Mark.{Mark}
@@ -28,7 +29,7 @@ use Rattle.spl_wire.specs.declared.change.Change.{Change}
 use Rattle.spl_wire.specs.declared.change.Change.TheVariants as durable
 use Rattle.spl_rules.specs.Cells.{Cell, Empty, Held, Purged, Deed, Refuses, Tells, Replies, Binds, Acts, Serves, Turns, Abandons, Purges, admin_group, service_group, is_open, runs}
 use Rattle.spl_rules.specs.Plans.{admin_changes, admin_sends, admin_row, service_changes, service_sends, service_row, planned}
-use Rattle.spl_rules.specs.Changes.{may_queue, may_serve, fits_free, made_one, made, applied_one, applied}
+use Rattle.spl_rules.specs.Changes.{may_queue, may_serve, may_keep, fits_free, made_one, made, applied_one, applied}
 use Rattle.spl_rules.specs.Valid.{IsKeptMember, IsValid, FitsMoveAt, is_legal, are_legal}
 use Rattle.spl_rules.proofs.SameActs.{act_same}
 use Rattle.spl_rules.proofs.Members.{checked-new}
@@ -79,7 +80,7 @@ made-append : (here : Node) (k : Cell) (xs ys : List Change) → made here k (xs
 made-append here k [] ys = refl
 made-append here k (x ∷ xs) ys = made-append here (made_one here k x) xs ys
 
-applied-append : (here c : Node) (k : Cell) (xs ys : List Change) → applied here c k (xs ++ ys) ≡ applied here c (applied here c k xs) ys
+pub applied-append : (here c : Node) (k : Cell) (xs ys : List Change) → applied here c k (xs ++ ys) ≡ applied here c (applied here c k xs) ys
 applied-append here c k [] ys = refl
 applied-append here c k (x ∷ xs) ys = applied-append here c (applied_one here c k x) xs ys
 
@@ -88,11 +89,22 @@ admin-applied here c d m turn a b [] single unclosed fit = refl
 admin-applied here c d m turn a b (x ∷ []) single unclosed fit = rw (unclosed, fit.0)
 admin-applied here c d m turn a b (x ∷ y ∷ zs) single unclosed fit = absurd single
 
-service-applied : (here c : Node) (d : Definition) (m : Mark) (turn : ℕ) (a : Member Act) (xs : List (GroupChange Batch)) (b : Member Batch) → is_open m ≡ true → runs d a ≡ true → AllFit batch_rules may_serve b xs → applied here c (Held d m turn a b) (service_changes xs) ≡ made here (Held d m turn a b) (service_changes xs)
-service-applied here c d m turn a [] b unclosed active fit = refl
-service-applied here c d m turn a (x ∷ xs) b unclosed active fit =
-    let one : applied_one here c (Held d m turn a b) (durable.Service x) ≡ Held d m turn a (changed batch_rules b x) = rw (unclosed, active, fit.0) in
-    ap (λ (k : Cell). applied here c k (service_changes xs)) one ∙ service-applied here c d m turn a xs (changed batch_rules b x) unclosed active fit.1
+-- no row keeps a refused batch
+keep-planned : (x : GroupChange Batch) → IsPlanned x → may_keep x ≡ true
+keep-planned (change.Queue v) p = refl
+keep-planned (change.Refuse v why) p = refl
+keep-planned (change.Begin r) p = refl
+keep-planned (change.Seen r) p = refl
+keep-planned (change.Promise r v) p = refl
+keep-planned change.Abort p = refl
+keep-planned (change.Commit r v) p = refl
+keep-planned (change.Restore next seen) p = refl
+keep-planned (change.Kept v why) p = absurd p
+
+service-applied : (here c : Node) (d : Definition) (m : Mark) (turn : ℕ) (a : Member Act) (xs : List (GroupChange Batch)) (b : Member Batch) → IsSingle xs → is_open m ≡ true → runs d a ≡ true → AllFit batch_rules may_serve b xs → applied here c (Held d m turn a b) (service_changes xs) ≡ made here (Held d m turn a b) (service_changes xs)
+service-applied here c d m turn a [] b single unclosed active fit = refl
+service-applied here c d m turn a (x ∷ []) b single unclosed active fit = rw (unclosed, active, keep-planned x single, fit.0)
+service-applied here c d m turn a (x ∷ y ∷ zs) b single unclosed active fit = absurd single
 
 -- ---- rows at a cell
 
@@ -113,7 +125,7 @@ module _ (here c : Node) (d : Definition) (m : Mark) (turn : ℕ) (a : Member Ac
 
   serves-fit : IsKeptMember batch_rules b → IsSettled (admin_group d) spot a → IsSettled (service_group d) spot b → is_open m ≡ true → runs d a ≡ true → (e : GroupEvent Batch) → FitsServed here d b e → PlanFits here c cell (service_changes (service_row here d b e).changes) move.Keep (service_row here d b e).opening
   serves-fit k s t unclosed active e f = record {
-    changes = service-applied here c d m turn a (service_row here d b e).changes b unclosed active (row-fits (service_group d) may_serve spot b e batch_same (sound (service_group d) spot b k t) k.roomy f);
+    changes = service-applied here c d m turn a (service_row here d b e).changes b (single-row (service_group d) spot b e) unclosed active (row-fits (service_group d) may_serve spot b e batch_same (sound (service_group d) spot b k t) k.roomy f);
     moves = subst (λ (z : Cell). FitsMoveAt here z move.Keep (service_row here d b e).opening) (sym (service-made here d m turn a (service_row here d b e).changes b))
         (kept-settled (admin_group d) spot a s, row-moves (service_group d) may_serve spot b e batch_same (sound (service_group d) spot b k t) k.roomy f);
   }
@@ -129,7 +141,7 @@ turns-fit here c d m turn a b x y v unclosed active f still g =
     let runs_still : runs d (changed_by (act_rules d) a xs) ≡ true = subst (λ (h : List (ℕ × Act)). is_active (life d (values h)).state ≡ true) (sym still) active in
     let ready : IsSound (service_group d) spot b = sound (service_group d) spot b v.kept.batches v.settled.1 in
     let all : AllFit batch_rules may_serve b ys = row-fits (service_group d) may_serve spot b y batch_same ready v.kept.batches.roomy g in
-    let last : applied here c (Held d m behind.0 (changed_by (act_rules d) a xs) b) (service_changes ys) ≡ made here (Held d m behind.0 (changed_by (act_rules d) a xs) b) (service_changes ys) = service-applied here c d m behind.0 (changed_by (act_rules d) a xs) ys b unclosed runs_still all in
+    let last : applied here c (Held d m behind.0 (changed_by (act_rules d) a xs) b) (service_changes ys) ≡ made here (Held d m behind.0 (changed_by (act_rules d) a xs) b) (service_changes ys) = service-applied here c d m behind.0 (changed_by (act_rules d) a xs) ys b (single-row (service_group d) spot b y) unclosed runs_still all in
     let final : made here (Held d m turn a b) (admin_changes xs ++ service_changes ys) ≡ Held d m behind.0 (changed_by (act_rules d) a xs) (changed_by batch_rules b ys)
     = made-append here (Held d m turn a b) (admin_changes xs) (service_changes ys) ∙ (ap (λ (k : Cell). made here k (service_changes ys)) behind.1 ∙ service-made here d m behind.0 (changed_by (act_rules d) a xs) ys b) in
     record {

@@ -44,6 +44,12 @@ is_bound Empty = false
 is_bound (Held d m turn a b) = true
 is_bound (Purged old) = false
 
+-- nothing is kept
+abbrev pub is_empty_cell : Cell → Bool
+is_empty_cell Empty = true
+is_empty_cell (Held d m turn a b) = false
+is_empty_cell (Purged old) = false
+
 -- the admin group of a definition
 abbrev pub admin_group : Definition → Group Act
 admin_group d = record { rules = act_rules d; generation = d.generation; members = length d.members; coordinator = position d.members (admin d) }

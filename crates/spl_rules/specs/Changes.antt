@@ -1,12 +1,12 @@
 -- Durable changes of a cell (docs/RULES.md, Cells).
-use Rattle.std.specs.Prelude.{ℕ, Bool, true, false, not, ◌&&◌, nat_le, List, [], ◌∷◌, if◌then◌else◌, is_none}
+use Rattle.std.specs.Prelude.{ℕ, Bool, true, false, not, ◌&&◌, nat_lt, nat_le, List, [], ◌∷◌, if◌then◌else◌, is_none}
 use Rattle.std.specs.List.{list_any}
 use Rattle.std.specs.Str.{bytes_eq}
 use Rattle.spl_agree.specs.declared.event.GroupChange.{GroupChange}
 use Rattle.spl_agree.specs.declared.event.GroupChange.TheVariants as change
 use Rattle.spl_agree.specs.declared.event.OpenMove.{OpenMove}
 use Rattle.spl_agree.specs.Member.{Member, new_member, changed, moved, restarted}
-use Rattle.spl_agree.specs.Fits.{fits as fits_group}
+use Rattle.spl_agree.specs.Fits.{is_new, fits as fits_group}
 use Rattle.spl_circuit.specs.declared.definition.Definition.{Definition}
 use Rattle.spl_circuit.specs.declared.act.Act.{Act}
 use Rattle.spl_circuit.specs.declared.lifecycle.Mark.{Mark}
@@ -20,7 +20,7 @@ use Rattle.spl_scabbard.specs.Checks.{batch_rules}
 use Rattle.spl_wire.specs.declared.change.Change.{Change}
 use Rattle.spl_wire.specs.declared.change.Change.TheVariants as durable
 use Rattle.spl_wire.specs.declared.plan.Plan.{Plan}
-use Rattle.spl_rules.specs.Cells.{Cell, Empty, Held, Purged, admin_group, service_group, is_open, is_free, runs}
+use Rattle.spl_rules.specs.Cells.{Cell, Empty, Held, Purged, is_empty_cell, admin_group, service_group, is_open, is_free, runs}
 
 -- ---- the effect of a change
 
@@ -33,6 +33,8 @@ turn_after here turn (change.Seen r) = turn
 turn_after here turn (change.Promise r v) = turn
 turn_after here turn change.Abort = turn
 turn_after here turn (change.Commit r v) = turn
+turn_after here turn (change.Restore next seen) = turn
+turn_after here turn (change.Kept v why) = turn
 
 abbrev pub held_after : Node → Definition → Mark → ℕ → Member Act → Member Batch → Change → Cell
 held_after here d m turn a b (durable.Bind e) = Held e mark.Open 0 new_member new_member
@@ -40,6 +42,8 @@ held_after here d m turn a b (durable.Admin x) = Held d m (turn_after here turn 
 held_after here d m turn a b (durable.Service x) = Held d m turn a (changed batch_rules b x)
 held_after here d m turn a b durable.Abandon = Held d mark.Abandoned turn a b
 held_after here d m turn a b durable.Purge = Purged d.generation
+held_after here d m turn a b (durable.Turn t) = Held d m t a b
+held_after here d m turn a b (durable.Gone old) = Purged old
 
 abbrev pub free_after : Cell → Change → Cell
 free_after k (durable.Bind d) = Held d mark.Open 0 new_member new_member
@@ -47,6 +51,8 @@ free_after k (durable.Admin x) = k
 free_after k (durable.Service x) = k
 free_after k durable.Abandon = k
 free_after k durable.Purge = k
+free_after k (durable.Turn t) = k
+free_after k (durable.Gone old) = Purged old
 
 abbrev pub made_one : Node → Cell → Change → Cell
 made_one here Empty x = free_after Empty x
@@ -69,12 +75,26 @@ may_queue here turn pending v =
 abbrev pub may_serve : Batch → Bool
 may_serve v = is_none (broken_batch v)
 
+-- nor kept among the refused ones
+abbrev pub may_keep : GroupChange Batch → Bool
+may_keep (change.Queue v) = true
+may_keep (change.Refuse v why) = true
+may_keep (change.Begin r) = true
+may_keep (change.Seen r) = true
+may_keep (change.Promise r v) = true
+may_keep change.Abort = true
+may_keep (change.Commit r v) = true
+may_keep (change.Restore next seen) = true
+may_keep (change.Kept v why) = may_serve v
+
 abbrev pub fits_held : Node → Definition → Mark → ℕ → Member Act → Member Batch → Change → Bool
 fits_held here d m turn a b (durable.Bind e) = false
 fits_held here d m turn a b (durable.Admin x) = is_open m && fits_group (act_rules d) (may_queue here turn a.pending) a x
-fits_held here d m turn a b (durable.Service x) = is_open m && (runs d a && fits_group batch_rules may_serve b x)
+fits_held here d m turn a b (durable.Service x) = is_open m && (runs d a && (may_keep x && fits_group batch_rules may_serve b x))
 fits_held here d m turn a b durable.Abandon = is_open m && runs d a
 fits_held here d m turn a b durable.Purge = true
+fits_held here d m turn a b (durable.Turn t) = is_new a
+fits_held here d m turn a b (durable.Gone old) = false
 
 abbrev pub fits_free : Node → Node → Cell → Change → Bool
 fits_free here c k (durable.Bind e) = is_free k e.generation && (bytes_eq e.id c && (is_none (broken e) && is_member e here))
@@ -82,6 +102,8 @@ fits_free here c k (durable.Admin x) = false
 fits_free here c k (durable.Service x) = false
 fits_free here c k durable.Abandon = false
 fits_free here c k durable.Purge = false
+fits_free here c k (durable.Turn t) = false
+fits_free here c k (durable.Gone old) = is_empty_cell k && nat_lt 0 old
 
 abbrev pub fits : Node → Node → Cell → Change → Bool
 fits here c Empty x = fits_free here c Empty x

@@ -4,3 +4,4 @@ pub mod Events
 pub mod Plans
 pub mod Changes
 pub mod Valid
+pub mod Pack

@@ -1,0 +1,5 @@
+pub mod Groups
+pub mod Short
+pub mod Small
+pub mod Sizes
+pub mod Packs

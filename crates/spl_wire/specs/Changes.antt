@@ -1,5 +1,5 @@
 -- The byte forms of durable changes (docs/RULES.md, Byte forms).
-use Rattle.std.specs.Prelude.{◌≡◌, ℕ, ◌⊎◌, List, ◌++◌, suc, Bool, Ok, refl}
+use Rattle.std.specs.Prelude.{◌≡◌, ℕ, ◌⊎◌, List, ◌++◌, Bool, Ok, refl}
 use Rattle.std.proofs.Common.{inl, inr}
 use Rattle.std.specs.Int.{w8}
 use Rattle.spl_base.specs.Input.{Input, ◌>>=◌}
@@ -7,21 +7,21 @@ use Rattle.spl_base.specs.Form.{Form, Parsed, IsExact, ◌&◌, via, Cases, noth
 use Rattle.spl_base.specs.FormLaws.{exact_and, exact_via, exact_nothing, exact_no_case, exact_or, exact_tagged}
 use Rattle.spl_agree.specs.declared.reason.Reason.{Reason}
 use Rattle.spl_agree.specs.declared.event.GroupChange.{GroupChange}
-use Rattle.spl_agree.specs.declared.event.GroupChange.TheVariants.{Queue, Refuse, Begin, Seen, Promise, Abort, Commit}
+use Rattle.spl_agree.specs.declared.event.GroupChange.TheVariants.{Queue, Refuse, Begin, Seen, Promise, Abort, Commit, Restore, Kept}
 use Rattle.spl_circuit.specs.declared.definition.Definition.{Definition}
 use Rattle.spl_circuit.specs.declared.act.Act.{Act}
-use Rattle.spl_circuit.specs.Forms.{definition, act, exact_definition, exact_act}
+use Rattle.spl_circuit.specs.Forms.{word, definition, act, exact_word, exact_definition, exact_act}
 use Rattle.spl_command.specs.declared.batch.Batch.{Batch}
 use Rattle.spl_command.specs.Forms.{batch, exact_batch}
 use Rattle.spl_wire.specs.Bodies.{long, reason, exact_long, exact_reason}
 use Rattle.spl_wire.specs.declared.change.Change.{Change}
-use Rattle.spl_wire.specs.declared.change.Change.TheVariants.{Bind, Admin, Service, Abandon, Purge}
+use Rattle.spl_wire.specs.declared.change.Change.TheVariants.{Bind, Admin, Service, Abandon, Purge, Turn, Gone}
 
 -- ---- the changes of one group
 
 module _ (V : Type 0) where
   abbrev pub Fields : Type 0
-  Fields = V ⊎ ((V × Reason) ⊎ (ℕ ⊎ (ℕ ⊎ ((ℕ × V) ⊎ (Unit {0} ⊎ ((ℕ × V) ⊎ ⊥))))))
+  Fields = V ⊎ ((V × Reason) ⊎ (ℕ ⊎ (ℕ ⊎ ((ℕ × V) ⊎ (Unit {0} ⊎ ((ℕ × V) ⊎ ((ℕ × ℕ) ⊎ ((V × Reason) ⊎ ⊥))))))))
 
 module _ {V : Type 0} where
   abbrev pub fields_of : GroupChange V → Fields V
@@ -32,14 +32,27 @@ module _ {V : Type 0} where
   fields_of (Promise n v) = inr (inr (inr (inr (inl (n, v)))))
   fields_of Abort = inr (inr (inr (inr (inr (inl tt)))))
   fields_of (Commit n v) = inr (inr (inr (inr (inr (inr (inl (n, v)))))))
+  fields_of (Restore n s) = inr (inr (inr (inr (inr (inr (inr (inl (n, s))))))))
+  fields_of (Kept v r) = inr (inr (inr (inr (inr (inr (inr (inr (inl (v, r)))))))))
 
-  -- Queue, Refuse, Begin, Seen, Promise, Abort and Commit
+  -- Queue, Refuse, Begin, Seen, Promise, Abort, Commit, Restore and Kept
   abbrev pub fields : Form V → Cases (Fields V)
-  fields value = value or (value & reason) or long or long or (long & value) or nothing or (long & value) or no_case
+  fields value = value or (value & reason) or long or long or (long & value) or nothing or (long & value) or (long & long) or (value & reason) or no_case
 
-  -- the tag from 2 on, the group and the fields
+  abbrev pub tag_of : GroupChange V → ℕ
+  tag_of (Queue v) = 2
+  tag_of (Refuse v r) = 3
+  tag_of (Begin n) = 4
+  tag_of (Seen n) = 5
+  tag_of (Promise n v) = 6
+  tag_of Abort = 7
+  tag_of (Commit n v) = 8
+  tag_of (Restore n s) = 11
+  tag_of (Kept v r) = 12
+
+  -- the tag, the group and the fields
   abbrev pub group_change : Form V → ℕ → GroupChange V → List ℕ
-  group_change value group c = number_bytes w8 (suc (suc ((fields value).index (fields_of c)))) ++ number_bytes w8 group ++ (fields value).spell (fields_of c)
+  group_change value group c = number_bytes w8 (tag_of c) ++ number_bytes w8 group ++ (fields value).spell (fields_of c)
 
   abbrev pub fits_change : Form V → GroupChange V → Bool
   fits_change value c = (fields value).fits (fields_of c)
@@ -75,7 +88,11 @@ Kind =
     ⊎ (InGroup (ℕ × Act) (ℕ × Batch)
     ⊎ (InGroup (Unit {0}) (Unit {0})
     ⊎ (InGroup (ℕ × Act) (ℕ × Batch)
-    ⊎ (Unit {0} ⊎ (Unit {0} ⊎ ⊥)))))))))
+    ⊎ (Unit {0}
+    ⊎ (Unit {0}
+    ⊎ (InGroup (ℕ × ℕ) (ℕ × ℕ)
+    ⊎ (InGroup (Act × Reason) (Batch × Reason)
+    ⊎ (ℕ ⊎ (ℕ ⊎ ⊥)))))))))))))
 
 abbrev pub change_of : Kind → Change
 change_of (inl d) = Bind d
@@ -88,7 +105,11 @@ change_of (inr (inr (inr (inr (inr (inr (inl x))))))) = of_group (λ u. Abort) (
 change_of (inr (inr (inr (inr (inr (inr (inr (inl x)))))))) = of_group (λ y. Commit y.0 y.1) (λ y. Commit y.0 y.1) x
 change_of (inr (inr (inr (inr (inr (inr (inr (inr (inl u))))))))) = Abandon
 change_of (inr (inr (inr (inr (inr (inr (inr (inr (inr (inl u)))))))))) = Purge
-change_of (inr (inr (inr (inr (inr (inr (inr (inr (inr (inr x)))))))))) = absurd x
+change_of (inr (inr (inr (inr (inr (inr (inr (inr (inr (inr (inl x))))))))))) = of_group (λ y. Restore y.0 y.1) (λ y. Restore y.0 y.1) x
+change_of (inr (inr (inr (inr (inr (inr (inr (inr (inr (inr (inr (inl x)))))))))))) = of_group (λ y. Kept y.0 y.1) (λ y. Kept y.0 y.1) x
+change_of (inr (inr (inr (inr (inr (inr (inr (inr (inr (inr (inr (inr (inl n))))))))))))) = Turn n
+change_of (inr (inr (inr (inr (inr (inr (inr (inr (inr (inr (inr (inr (inr (inl n)))))))))))))) = Gone n
+change_of (inr (inr (inr (inr (inr (inr (inr (inr (inr (inr (inr (inr (inr (inr x)))))))))))))) = absurd x
 
 abbrev pub kind_of : Change → Kind
 kind_of (Bind d) = inl d
@@ -99,6 +120,8 @@ kind_of (Admin (Seen n)) = inr (inr (inr (inr (inl (inl n)))))
 kind_of (Admin (Promise n v)) = inr (inr (inr (inr (inr (inl (inl (n, v)))))))
 kind_of (Admin Abort) = inr (inr (inr (inr (inr (inr (inl (inl tt)))))))
 kind_of (Admin (Commit n v)) = inr (inr (inr (inr (inr (inr (inr (inl (inl (n, v)))))))))
+kind_of (Admin (Restore n s)) = inr (inr (inr (inr (inr (inr (inr (inr (inr (inr (inl (inl (n, s))))))))))))
+kind_of (Admin (Kept v r)) = inr (inr (inr (inr (inr (inr (inr (inr (inr (inr (inr (inl (inl (v, r)))))))))))))
 kind_of (Service (Queue v)) = inr (inl (inr (inl v)))
 kind_of (Service (Refuse v r)) = inr (inr (inl (inr (inl (v, r)))))
 kind_of (Service (Begin n)) = inr (inr (inr (inl (inr (inl n)))))
@@ -106,10 +129,15 @@ kind_of (Service (Seen n)) = inr (inr (inr (inr (inl (inr (inl n))))))
 kind_of (Service (Promise n v)) = inr (inr (inr (inr (inr (inl (inr (inl (n, v))))))))
 kind_of (Service Abort) = inr (inr (inr (inr (inr (inr (inl (inr (inl tt))))))))
 kind_of (Service (Commit n v)) = inr (inr (inr (inr (inr (inr (inr (inl (inr (inl (n, v))))))))))
+kind_of (Service (Restore n s)) = inr (inr (inr (inr (inr (inr (inr (inr (inr (inr (inl (inr (inl (n, s)))))))))))))
+kind_of (Service (Kept v r)) = inr (inr (inr (inr (inr (inr (inr (inr (inr (inr (inr (inl (inr (inl (v, r))))))))))))))
 kind_of Abandon = inr (inr (inr (inr (inr (inr (inr (inr (inl tt))))))))
 kind_of Purge = inr (inr (inr (inr (inr (inr (inr (inr (inr (inl tt)))))))))
+kind_of (Turn n) = inr (inr (inr (inr (inr (inr (inr (inr (inr (inr (inr (inr (inl n))))))))))))
+kind_of (Gone n) = inr (inr (inr (inr (inr (inr (inr (inr (inr (inr (inr (inr (inr (inl n)))))))))))))
 
--- 1 is Bind; 2 Queue, 3 Refuse, 4 Begin, 5 Seen, 6 Promise, 7 Abort and 8 Commit are followed by the group; 9 is Abandon, 10 Purge
+-- 1 is Bind; 2 Queue, 3 Refuse, 4 Begin, 5 Seen, 6 Promise, 7 Abort, 8 Commit, 11 Restore and 12 Kept are followed by the
+-- group; 9 is Abandon, 10 Purge, 13 Turn, 14 Gone
 abbrev pub kinds : Cases Kind
 kinds =
     definition
@@ -122,6 +150,10 @@ kinds =
     or in_group (long & act) (long & batch)
     or nothing
     or nothing
+    or in_group (long & long) (long & long)
+    or in_group (act & reason) (batch & reason)
+    or word
+    or word
     or no_case
 
 abbrev pub change_form : Form Change
@@ -149,8 +181,14 @@ there (Service (Seen n)) = refl
 there (Service (Promise n v)) = refl
 there (Service Abort) = refl
 there (Service (Commit n v)) = refl
+there (Admin (Restore n s)) = refl
+there (Admin (Kept v r)) = refl
+there (Service (Restore n s)) = refl
+there (Service (Kept v r)) = refl
 there Abandon = refl
 there Purge = refl
+there (Turn n) = refl
+there (Gone n) = refl
 
 back : (x : Kind) → kind_of (change_of x) ≡ x
 back (inl d) = refl
@@ -177,13 +215,24 @@ back (inr (inr (inr (inr (inr (inr (inr (inl (inr (inl y)))))))))) = refl
 back (inr (inr (inr (inr (inr (inr (inr (inl (inr (inr x)))))))))) = absurd x
 back (inr (inr (inr (inr (inr (inr (inr (inr (inl u))))))))) = refl
 back (inr (inr (inr (inr (inr (inr (inr (inr (inr (inl u)))))))))) = refl
-back (inr (inr (inr (inr (inr (inr (inr (inr (inr (inr x)))))))))) = absurd x
+back (inr (inr (inr (inr (inr (inr (inr (inr (inr (inr (inl (inl y)))))))))))) = refl
+back (inr (inr (inr (inr (inr (inr (inr (inr (inr (inr (inl (inr (inl y))))))))))))) = refl
+back (inr (inr (inr (inr (inr (inr (inr (inr (inr (inr (inl (inr (inr x))))))))))))) = absurd x
+back (inr (inr (inr (inr (inr (inr (inr (inr (inr (inr (inr (inl (inl y))))))))))))) = refl
+back (inr (inr (inr (inr (inr (inr (inr (inr (inr (inr (inr (inl (inr (inl y)))))))))))))) = refl
+back (inr (inr (inr (inr (inr (inr (inr (inr (inr (inr (inr (inl (inr (inr x)))))))))))))) = absurd x
+back (inr (inr (inr (inr (inr (inr (inr (inr (inr (inr (inr (inr (inl n))))))))))))) = refl
+back (inr (inr (inr (inr (inr (inr (inr (inr (inr (inr (inr (inr (inr (inl n)))))))))))))) = refl
+back (inr (inr (inr (inr (inr (inr (inr (inr (inr (inr (inr (inr (inr (inr x)))))))))))))) = absurd x
 
 exact_rounded : {V : Type 0} (value : Form V) → IsExact value → IsExact (long & value)
 exact_rounded value p = exact_and _ _ exact_long p
 
 exact_refused : {V : Type 0} (value : Form V) → IsExact value → IsExact (value & reason)
 exact_refused value p = exact_and _ _ p exact_reason
+
+exact_rounds : IsExact (long & long)
+exact_rounds = exact_and _ _ exact_long exact_long
 
 pub exact_change : IsExact change_form
 exact_change = exact_via _ _ _ there back (exact_tagged _ (
@@ -196,4 +245,8 @@ exact_change = exact_via _ _ _ there back (exact_tagged _ (
     (exact_or _ _ (exact_in_group _ _ exact_nothing exact_nothing)
     (exact_or _ _ (exact_in_group _ _ (exact_rounded _ exact_act) (exact_rounded _ exact_batch))
     (exact_or _ _ exact_nothing
-    (exact_or _ _ exact_nothing exact_no_case)))))))))))
+    (exact_or _ _ exact_nothing
+    (exact_or _ _ (exact_in_group _ _ exact_rounds exact_rounds)
+    (exact_or _ _ (exact_in_group _ _ (exact_refused _ exact_act) (exact_refused _ exact_batch))
+    (exact_or _ _ exact_word
+    (exact_or _ _ exact_word exact_no_case)))))))))))))))

@@ -2,3 +2,5 @@ pub mod Bodies
 pub mod Messages
 pub mod Changes
 pub mod Forms
+pub mod Grouping
+pub mod Packing

@@ -1,7 +1,7 @@
 //! What a node answers to an event.
 
 use spl_agree::{Generation, Note, Place, Reason};
-use spl_base::{BatchId, BatchIds, Boxed, Listing, NodeId, Piece};
+use spl_base::{BatchId, BatchIds, Boxed, CircuitId, Listing, NodeId, Piece};
 use spl_circuit::{Definition, Lifecycle, Mark, Members, RouteFault};
 use spl_command::Receipts;
 use spl_state::Address;
@@ -70,7 +70,18 @@ pub struct Entry {
 /// Entries of a state, in the order of their addresses.
 pub type Entries = Listing<Entry>;
 
-/// The answer to an event (docs/RULES.md, Answers).
+/// What became of the record of an event in which its node stopped.
+#[derive(Clone, Copy, Debug, PartialEq, Eq)]
+pub enum Bit {
+    /// The disks have it.
+    Kept,
+    /// They don't.
+    Lost,
+    /// The event changed nothing, so it had none.
+    Nothing,
+}
+
+/// The answer to a line (docs/RULES.md, Answers).
 #[derive(Debug, Drop)]
 pub enum Answer {
     /// The value is pending, or it was known here already, with equal content.
@@ -134,6 +145,16 @@ pub enum Answer {
     Calm {
         passes: u8,
     },
+    /// The node is up, or down.
+    Power {
+        up: bool,
+    },
+    /// The circuits that are bound at a node, in the order of their ids.
+    Roll(Listing<CircuitId>),
+    /// The node stopped in the event, behind some calls on its disks.
+    Cut(Bit),
+    /// A call on its disks failed in the event, and the node stopped.
+    Fault(Bit),
     /// Nothing happened.
     Refused(Refusal),
 }

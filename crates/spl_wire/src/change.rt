@@ -4,7 +4,7 @@ ghost use Rattle.spl_base.specs.Form.{Reads, ◌&◌};
 ghost use Rattle.spl_wire.specs.Bodies as form;
 
 use crate::body::{put_reason, take_reason};
-use spl_agree::{GroupChange, Reason, Round};
+use spl_agree::{Generation, GroupChange, Reason, Round};
 use spl_base::{Boxed, Field, Malformed, Reader, Writer};
 use spl_circuit::{Act, Definition};
 use spl_command::Batch;
@@ -23,6 +23,10 @@ pub enum Change {
     Abandon,
     /// The cell forgets all but the generation.
     Purge,
+    /// The node's turn is this one. No plan gives it.
+    Turn(u32),
+    /// The cell is purged with this generation. No plan gives it.
+    Gone(Generation),
 }
 
 fn take_refused<V: Field>(alloc: Global, r: &mut Reader) -> Result<(V, Reason), Malformed>
@@ -93,6 +97,18 @@ impl Change {
                 group.put(w)?;
                 round.0.put(w)?;
                 value.put(w)
+            }
+            GroupChange::Restore { next, seen } => {
+                11u8.put(w)?;
+                group.put(w)?;
+                next.0.put(w)?;
+                seen.0.put(w)
+            }
+            GroupChange::Kept(value, reason) => {
+                12u8.put(w)?;
+                group.put(w)?;
+                value.put(w)?;
+                put_reason(*reason, w)
             }
         }
     }
@@ -191,6 +207,42 @@ impl Change {
             _ => Err(Malformed::At { at }),
         }
     }
+
+    fn take_restore(alloc: Global, r: &mut Reader) -> Result<Change, Malformed>
+        ensures { Reads (λ x. x) result r.new (behind_tag 11 r.old) }
+    {
+        let at = r.place();
+        match u8::take(alloc, r)? {
+            1 => {
+                let next = Round(u64::take(alloc, r)?);
+                let seen = Round(u64::take(alloc, r)?);
+                Ok(Change::Admin(GroupChange::Restore { next, seen }))
+            }
+            2 => {
+                let next = Round(u64::take(alloc, r)?);
+                let seen = Round(u64::take(alloc, r)?);
+                Ok(Change::Service(GroupChange::Restore { next, seen }))
+            }
+            _ => Err(Malformed::At { at }),
+        }
+    }
+
+    fn take_kept(alloc: Global, r: &mut Reader) -> Result<Change, Malformed>
+        ensures { Reads (λ x. x) result r.new (behind_tag 12 r.old) }
+    {
+        let at = r.place();
+        match u8::take(alloc, r)? {
+            1 => {
+                let (value, reason) = take_refused(alloc, r)?;
+                Ok(Change::Admin(GroupChange::Kept(value, reason)))
+            }
+            2 => {
+                let (value, reason) = take_refused(alloc, r)?;
+                Ok(Change::Service(GroupChange::Kept(value, reason)))
+            }
+            _ => Err(Malformed::At { at }),
+        }
+    }
 }
 
 impl Field for Change {
@@ -208,6 +260,14 @@ impl Field for Change {
             Change::Service(change) => Change::put_group(2, change, w),
             Change::Abandon => 9u8.put(w),
             Change::Purge => 10u8.put(w),
+            Change::Turn(turn) => {
+                13u8.put(w)?;
+                turn.put(w)
+            }
+            Change::Gone(generation) => {
+                14u8.put(w)?;
+                generation.0.put(w)
+            }
         }
     }
 
@@ -224,6 +284,10 @@ impl Field for Change {
             8 => Change::take_commit(alloc, r),
             9 => Ok(Change::Abandon),
             10 => Ok(Change::Purge),
+            11 => Change::take_restore(alloc, r),
+            12 => Change::take_kept(alloc, r),
+            13 => Ok(Change::Turn(u32::take(alloc, r)?)),
+            14 => Ok(Change::Gone(Generation(u32::take(alloc, r)?))),
             _ => Err(Malformed::At { at }),
         }
     }

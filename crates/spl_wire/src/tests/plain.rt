@@ -227,8 +227,9 @@ fn group_change(bytes: &[u8], at: usize, tag: u64) -> Result<usize, usize> {
     }
     match tag {
         2 => value(bytes, from, group),
-        3 => reason(bytes, value(bytes, from, group)?),
+        3 | 12 => reason(bytes, value(bytes, from, group)?),
         4 | 5 => round(bytes, from),
+        11 => round(bytes, round(bytes, from)?),
         6 | 8 => value(bytes, round(bytes, from)?, group),
         _ => Ok(from),
     }
@@ -238,8 +239,9 @@ fn change(bytes: &[u8], at: usize) -> Result<usize, usize> {
     let (tag, from) = number(bytes, at, 1)?;
     match tag {
         1 => definition(bytes, from),
-        2..=8 => group_change(bytes, from, tag),
+        2..=8 | 11 | 12 => group_change(bytes, from, tag),
         9 | 10 => Ok(from),
+        13 | 14 => Ok(number(bytes, from, 4)?.1),
         _ => Err(at),
     }
 }

@@ -1,4 +1,4 @@
-use Rattle.std.proofs.Common.{◌≡◌, ℕ, ◌<◌, ◌-◌, ◌^◌, [], ◌∷◌, ◌++◌, ◌+◌, length, append-nil, sym, ap, ◌∙◌, subst, arith}
+use Rattle.std.proofs.Common.{◌≡◌, ◌<◌, ◌-◌, ◌^◌, [], ◌∷◌, ◌++◌, ◌+◌, length, append-nil, sym, ap, ◌∙◌, subst, arith}
 use Rattle.spl_agree.specs.Member.{values}
 use Rattle.spl_commit.specs.Views.{AreKeyed}
 use Rattle.spl_commit.proofs.Keyed.{remove-without, keyed-remove}

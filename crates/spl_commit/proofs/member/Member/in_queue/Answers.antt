@@ -1,4 +1,4 @@
-use Rattle.std.proofs.Common.{◌≡◌, sym, ap, ◌∙◌}
+use Rattle.std.proofs.Common.{sym, ap, ◌∙◌}
 use Rattle.spl_commit.proofs.Keyed.{waits-by_status}
 use Rattle.spl_commit.proofs.member.Member.in_queue.Goals as goal
 

@@ -1,4 +1,4 @@
-use Rattle.std.proofs.Common.{◌≡◌, ◌↔◌, true, sym, ap, ◌∙◌}
+use Rattle.std.proofs.Common.{sym, ap, ◌∙◌}
 use Rattle.spl_agree.specs.Member.{found}
 use Rattle.spl_agree.specs.Fits.{is_pending}
 use Rattle.spl_commit.proofs.ChangeSteps.{same-pending, none-pending, identity_by}

@@ -1,5 +1,5 @@
-use Rattle.std.proofs.Common.{◌≡◌, Bool, refl, sym, ap, ◌∙◌}
-use Rattle.spl_agree.specs.Member.{found, found_refused, values}
+use Rattle.std.proofs.Common.{refl, sym, ap, ◌∙◌}
+use Rattle.spl_agree.specs.Member.{found, values}
 use Rattle.spl_commit.proofs.Keyed.{waits-by_status, known-waiting, told_of}
 use Rattle.spl_commit.proofs.member.Member.known.Goals as goal
 

@@ -1,8 +1,6 @@
-use Rattle.std.proofs.Common.{◌≡◌, true, [], ◌∷◌, ◌++◌, sym, ap, ◌∙◌, subst}
+use Rattle.std.proofs.Common.{◌≡◌, true, ◌++◌, sym, ap, ◌∙◌, subst}
 use Rattle.std.specs.List.{list_any}
-use Rattle.std.specs.Prelude.{Some}
-use Rattle.std.specs.Map.{lookup}
-use Rattle.spl_commit.specs.Views.{AreKeyed, seconds}
+use Rattle.spl_commit.specs.Views.{AreKeyed}
 use Rattle.spl_commit.proofs.Keyed.{remove-without, keyed-remove, keyed-more, seconds-more}
 use Rattle.spl_commit.proofs.ChangeSteps.{lookup-pending, refusal-one}
 use Rattle.spl_commit.proofs.member.Member.refuse.Goals as goal

@@ -1,0 +1,115 @@
+-- No batch of a packed form breaks a rule, and its records are within the bounds.
+use Rattle.std.proofs.Common.{◌≡◌, ◌⊎◌, ℕ, true, false, ◌&&◌, IsTrue, List, [], ◌∷◌, ◌++◌, refl, inl, inr}
+use Rattle.std.specs.Prelude.{Option, Some, None, nat_le, is_none}
+use Rattle.std.specs.List.{list_all}
+use Rattle.spl_base.specs.FormLaws.{both_true, and_true}
+use Rattle.spl_agree.specs.declared.reason.Reason.{Reason}
+use Rattle.spl_agree.specs.declared.event.GroupChange.{GroupChange}
+use Rattle.spl_agree.specs.Member.{values}
+use Rattle.spl_agree.specs.Fits.{AllGood}
+use Rattle.spl_agree.specs.Pack.{kept_each, committed_each, queued_each, promised_one, packed_member}
+use Rattle.spl_agree.proofs.Tests.{bool_cases, and_left, and_right}
+use Rattle.spl_circuit.specs.declared.act.Act.{Act}
+use Rattle.spl_circuit.specs.declared.lifecycle.Mark.{Mark}
+use Rattle.spl_circuit.specs.declared.lifecycle.Mark.TheVariants as mark
+use Rattle.spl_circuit.specs.Nodes.{Node}
+use Rattle.spl_circuit.specs.Forms.{circuit_id}
+use Rattle.spl_command.specs.declared.batch.Batch.{Batch}
+use Rattle.spl_command.specs.Rules.{broken_batch}
+use Rattle.spl_scabbard.specs.Checks.{misfit_valid, misfit_batch, unless_broken, batch_rules}
+use Rattle.spl_wire.specs.Changes.{change_form}
+use Rattle.spl_wire.specs.declared.change.Change.{Change}
+use Rattle.spl_wire.specs.Grouping.{value_in, breaks_no_rule, is_lawful, is_small, is_sized, grouped}
+use Rattle.spl_wire.proofs.Groups.{sized-grouped}
+use Rattle.spl_wire.proofs.Small.{small-change}
+use Rattle.spl_rules.specs.Cells.{Cell, Empty, Held, Purged, runs}
+use Rattle.spl_rules.specs.Plans.{admin_changes, service_changes}
+use Rattle.spl_rules.specs.Changes.{may_serve, applied}
+use Rattle.spl_rules.specs.Pack.{packed_batches, packed_mark, packed}
+use Rattle.spl_rules.proofs.Keys.{Each}
+use Rattle.spl_rules.proofs.Packed.{Made, made-applied}
+use Rattle.spl_rules.proofs.Written.{written-applied, written-packed}
+
+-- ---- batches with a good check
+
+unless-none : (o : Option ℕ) (next : Option Reason) → unless_broken o next ≡ None → is_none o ≡ true
+unless-none None next h = refl
+unless-none (Some rule) next h = cc
+
+lawful-checked : (before : List Batch) (v : Batch) → misfit_batch before v ≡ None → may_serve v ≡ true
+lawful-checked before v h = unless-none (broken_batch v) (misfit_valid before v) h
+
+abbrev Lawful : GroupChange Batch → Type 0
+Lawful x = breaks_no_rule (value_in x) ≡ true
+
+lawful-append : (xs ys : List (GroupChange Batch)) → Each Lawful xs → Each Lawful ys → Each Lawful (xs ++ ys)
+lawful-append [] ys h k = k
+lawful-append (x ∷ xs) ys h k = (h.0, lawful-append xs ys h.1 k)
+
+lawful-kept : (us : List (Batch × Reason)) → Each (λ u. may_serve u.0 ≡ true) us → Each Lawful (kept_each us)
+lawful-kept [] h = tt
+lawful-kept (u ∷ us) h = (h.0, lawful-kept us h.1)
+
+lawful-committed : (before : List Batch) (es : List (ℕ × Batch)) → AllGood batch_rules before (values es) → Each Lawful (committed_each es)
+lawful-committed before [] h = tt
+lawful-committed before (e ∷ es) h = (lawful-checked before e.1 h.0, lawful-committed (before ++ e.1 ∷ []) es h.1)
+
+lawful-queued : (vs : List Batch) → list_all may_serve vs ≡ true → Each Lawful (queued_each vs)
+lawful-queued [] h = tt
+lawful-queued (v ∷ vs) h = (and_left (may_serve v) (list_all may_serve vs) h, lawful-queued vs (and_right (may_serve v) (list_all may_serve vs) h))
+
+lawful-promised : (before : List Batch) (o : Option (ℕ × Batch)) → ((e : ℕ × Batch) → o ≡ Some e → misfit_batch before e.1 ≡ None) → Each Lawful (promised_one o)
+lawful-promised before None h = tt
+lawful-promised before (Some e) h = (lawful-checked before e.1 (h e refl), tt)
+
+-- ---- a packed form
+
+abbrev AllLawful : List Change → Type 0
+AllLawful xs = list_all is_lawful xs ≡ true
+
+all-append : (xs ys : List Change) → AllLawful xs → AllLawful ys → AllLawful (xs ++ ys)
+all-append [] ys h k = k
+all-append (x ∷ xs) ys h k = rw (and_left (is_lawful x) (list_all is_lawful xs) h, all-append xs ys (and_right (is_lawful x) (list_all is_lawful xs) h) k)
+
+all-admin : (xs : List (GroupChange Act)) → AllLawful (admin_changes xs)
+all-admin [] = refl
+all-admin (x ∷ xs) = all-admin xs
+
+all-service : (xs : List (GroupChange Batch)) → Each Lawful xs → AllLawful (service_changes xs)
+all-service [] h = refl
+all-service (x ∷ xs) h = rw (h.0, all-service xs h.1)
+
+all-mark : (m : Mark) → AllLawful (packed_mark m)
+all-mark mark.Open = refl
+all-mark mark.Abandoned = refl
+all-mark mark.Purged = refl
+
+lawful-packed : (here c : Node) (k : Cell) → Made here c k → AllLawful (packed k)
+lawful-packed here c Empty s = refl
+lawful-packed here c (Purged old) s = refl
+lawful-packed here c (Held d m turn a b) s = all-append (admin_changes (packed_member a)) _ (all-admin (packed_member a)) (all-append (packed_batches d a b) (packed_mark m) (go (bool_cases (runs d a))) (all-mark m))
+  where
+    batches : Each Lawful (packed_member b)
+    batches = (
+      refl,
+      lawful-append (kept_each b.refused) _ (lawful-kept b.refused s.refused_lawful)
+      (lawful-append (committed_each b.history) _ (lawful-committed [] b.history s.batches.good)
+      (lawful-append (queued_each b.pending) _ (lawful-queued b.pending s.pending_lawful) (lawful-promised (values b.history) b.promise (λ e p. (s.batches.promised e p).good)))),
+    )
+
+    go : (runs d a ≡ true) ⊎ (runs d a ≡ false) → AllLawful (packed_batches d a b)
+    go (inl q) = rw q (all-service (packed_member b) batches)
+    go (inr q) = rw q
+
+small-all : (c : List ℕ) (xs : List Change) → IsTrue (circuit_id.fits c) → IsTrue (list_all change_form.fits xs) → AllLawful xs → list_all (is_small c) xs ≡ true
+small-all c [] h w l = refl
+small-all c (x ∷ xs) h w l =
+    let b = both_true (change_form.fits x) (list_all change_form.fits xs) w in
+    let one : IsTrue (circuit_id.fits c && (nat_le 1 64 && (change_form.fits x && true))) = and_true (circuit_id.fits c) _ h (and_true (change_form.fits x) true b.0 refl) in
+    rw (small-change c x one (and_left (is_lawful x) (list_all is_lawful xs) l), small-all c xs h b.1 (and_right (is_lawful x) (list_all is_lawful xs) l))
+
+pub packed-written : (here c : Node) (xs : List Change) → IsTrue (list_all change_form.fits xs) → IsTrue (list_all change_form.fits (packed (applied here c Empty xs)))
+packed-written here c xs w = written-packed (applied here c Empty xs) (written-applied here c Empty xs w tt)
+
+pub packed-sized : (here c : Node) (xs : List Change) → IsTrue (circuit_id.fits c) → IsTrue (list_all change_form.fits xs) → list_all (is_sized c) (grouped c (packed (applied here c Empty xs))) ≡ true
+packed-sized here c xs h w = sized-grouped c (packed (applied here c Empty xs)) (small-all c (packed (applied here c Empty xs)) h (packed-written here c xs w) (lawful-packed here c (applied here c Empty xs) (made-applied here c Empty xs tt)))

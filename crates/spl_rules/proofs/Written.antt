@@ -1,0 +1,247 @@
+-- What is read from bytes leaves a cell whose packed form has bytes.
+use Rattle.std.proofs.Common.{◌≡◌, ◌⊎◌, ℕ, ◌+◌, ◌-◌, ◌^◌, ◌<◌, Bool, true, false, ◌&&◌, IsTrue, List, [], ◌∷◌, ◌++◌, refl, subst, inl, inr, arith}
+use Rattle.std.specs.Prelude.{Option, Some, None, nat_lt, ◌==◌}
+use Rattle.std.specs.List.{list_all}
+use Rattle.std.specs.Str.{bytes_eq}
+use Rattle.spl_base.specs.Form.{Form, ◌&◌}
+use Rattle.spl_base.specs.FormLaws.{both_true, and_true}
+use Rattle.spl_agree.specs.declared.reason.Reason.{Reason}
+use Rattle.spl_agree.specs.declared.event.GroupChange.{GroupChange}
+use Rattle.spl_agree.specs.declared.event.GroupChange.TheVariants as change
+use Rattle.spl_agree.specs.Member.{Rules, Member, new_member, changed}
+use Rattle.spl_agree.specs.Fits.{is_new, fits as fits_group}
+use Rattle.spl_agree.specs.Pack.{kept_each, committed_each, queued_each, promised_one, seen_without, packed_member}
+use Rattle.spl_agree.proofs.Tests.{if_holds, bool_cases, and_right, ltb_is, lt_is}
+use Rattle.spl_circuit.specs.declared.definition.Definition.{Definition}
+use Rattle.spl_circuit.specs.declared.act.Act.{Act}
+use Rattle.spl_circuit.specs.declared.lifecycle.Mark.{Mark}
+use Rattle.spl_circuit.specs.declared.lifecycle.Mark.TheVariants as mark
+use Rattle.spl_circuit.specs.Nodes.{Node}
+use Rattle.spl_circuit.specs.Forms.{node_id, circuit_id, word, definition, act}
+use Rattle.spl_circuit.specs.Acts.{act_rules}
+use Rattle.spl_command.specs.declared.batch.Batch.{Batch}
+use Rattle.spl_command.specs.Forms.{batch}
+use Rattle.spl_scabbard.specs.Checks.{batch_rules}
+use Rattle.spl_wire.specs.Bodies.{long, reason}
+use Rattle.spl_wire.specs.Changes.{fits_change, change_form}
+use Rattle.spl_wire.specs.declared.change.Change.{Change}
+use Rattle.spl_wire.specs.declared.change.Change.TheVariants as durable
+use Rattle.spl_rules.specs.Cells.{Cell, Empty, Held, Purged, is_open, runs}
+use Rattle.spl_rules.specs.Plans.{admin_changes, service_changes}
+use Rattle.spl_rules.specs.Changes.{turn_after, may_queue, may_serve, may_keep, applied_one, applied}
+use Rattle.spl_rules.specs.Pack.{packed_batches, packed_mark, packed}
+use Rattle.spl_rules.proofs.Keys.{Each, each-more, each-without}
+
+-- ---- a member
+
+module _ {V : Type 0} (f : Form V) where
+  pub record IsWrittenMember (m : Member V) : Type 0 where
+    pub next : IsTrue (long.fits m.next)
+    pub seen : IsTrue (long.fits m.seen)
+    pub history : Each (λ e. IsTrue ((long & f).fits e)) m.history
+    pub pending : Each (λ v. IsTrue (f.fits v)) m.pending
+    pub refused : Each (λ u. IsTrue ((f & reason).fits u)) m.refused
+    pub promise : (e : ℕ × V) → m.promise ≡ Some e → IsTrue ((long & f).fits e)
+
+  pub written-new : IsWrittenMember new_member
+  written-new = record { next = refl; seen = refl; history = tt; pending = tt; refused = tt; promise = λ e p. cc }
+
+  module _ (rules : Rules V) (may : V → Bool) (m : Member V) where
+    written-begin : (r : ℕ) → fits_group rules may m (change.Begin r) ≡ true → IsTrue (long.fits (r + 1))
+    written-begin r h = let l : r < 2 ^ 64 - 1 = ltb_is r (2 ^ 64 - 1) (and_right (r == m.next) (nat_lt r (2 ^ 64 - 1)) h) in lt_is (r + 1) (2 ^ 64) (omega arith)
+
+    pub written-changed : (x : GroupChange V) → fits_group rules may m x ≡ true → IsTrue (fits_change f x) → IsWrittenMember m → IsWrittenMember (changed rules m x)
+    written-changed (change.Queue v) h w s = record { next = s.next; seen = s.seen; history = s.history; pending = each-more (λ u. IsTrue (f.fits u)) m.pending v s.pending w; refused = s.refused; promise = s.promise }
+    written-changed (change.Refuse v why) h w s = record { next = s.next; seen = s.seen; history = s.history; pending = each-without (λ u. IsTrue (f.fits u)) (rules.same_key v) m.pending s.pending; refused = each-more (λ u. IsTrue ((f & reason).fits u)) m.refused (v, why) s.refused w; promise = s.promise }
+    written-changed (change.Begin r) h w s = record { next = written-begin r h; seen = s.seen; history = s.history; pending = s.pending; refused = s.refused; promise = s.promise }
+    written-changed (change.Seen r) h w s = record { next = s.next; seen = w; history = s.history; pending = s.pending; refused = s.refused; promise = s.promise }
+    written-changed (change.Promise r v) h w s = record {
+      next = s.next;
+      seen = (both_true (long.fits r) (f.fits v) w).0;
+      history = s.history;
+      pending = s.pending;
+      refused = s.refused;
+      promise = λ e p. let one : (r, v) ≡ e = cc in subst (λ (z : ℕ × V). IsTrue ((long & f).fits z)) one w;
+    }
+    written-changed change.Abort h w s = record { next = s.next; seen = s.seen; history = s.history; pending = s.pending; refused = s.refused; promise = λ e p. cc }
+    written-changed (change.Commit r v) h w s = record { next = s.next; seen = s.seen; history = each-more (λ e. IsTrue ((long & f).fits e)) m.history (r, v) s.history w; pending = each-without (λ u. IsTrue (f.fits u)) (rules.same_key v) m.pending s.pending; refused = s.refused; promise = λ e p. cc }
+    written-changed (change.Restore next seen) h w s = record { next = (both_true (long.fits next) (long.fits seen) w).0; seen = (both_true (long.fits next) (long.fits seen) w).1; history = s.history; pending = s.pending; refused = s.refused; promise = s.promise }
+    written-changed (change.Kept v why) h w s = record { next = s.next; seen = s.seen; history = s.history; pending = s.pending; refused = each-more (λ u. IsTrue ((f & reason).fits u)) m.refused (v, why) s.refused w; promise = s.promise }
+
+  abbrev Writes : List (GroupChange V) → Type 0
+  Writes xs = Each (λ x. IsTrue (fits_change f x)) xs
+
+  writes-append : (xs ys : List (GroupChange V)) → Writes xs → Writes ys → Writes (xs ++ ys)
+  writes-append [] ys h k = k
+  writes-append (x ∷ xs) ys h k = (h.0, writes-append xs ys h.1 k)
+
+  writes-kept : (us : List (V × Reason)) → Each (λ u. IsTrue ((f & reason).fits u)) us → Writes (kept_each us)
+  writes-kept [] h = tt
+  writes-kept (u ∷ us) h = (h.0, writes-kept us h.1)
+
+  writes-committed : (es : List (ℕ × V)) → Each (λ e. IsTrue ((long & f).fits e)) es → Writes (committed_each es)
+  writes-committed [] h = tt
+  writes-committed (e ∷ es) h = (h.0, writes-committed es h.1)
+
+  writes-queued : (vs : List V) → Each (λ v. IsTrue (f.fits v)) vs → Writes (queued_each vs)
+  writes-queued [] h = tt
+  writes-queued (v ∷ vs) h = (h.0, writes-queued vs h.1)
+
+  writes-promised : (o : Option (ℕ × V)) → ((e : ℕ × V) → o ≡ Some e → IsTrue ((long & f).fits e)) → Writes (promised_one o)
+  writes-promised None h = tt
+  writes-promised (Some e) h = (h e refl, tt)
+
+  writes-seen : (o : Option (ℕ × V)) (seen : ℕ) → IsTrue (long.fits seen) → IsTrue (long.fits (seen_without o seen))
+  writes-seen None seen h = h
+  writes-seen (Some e) seen h = refl
+
+  pub writes-packed : (m : Member V) → IsWrittenMember m → Writes (packed_member m)
+  writes-packed m s = (
+    and_true (long.fits m.next) (long.fits (seen_without m.promise m.seen)) s.next (writes-seen m.promise m.seen s.seen),
+    writes-append (kept_each m.refused) _ (writes-kept m.refused s.refused)
+    (writes-append (committed_each m.history) _ (writes-committed m.history s.history)
+    (writes-append (queued_each m.pending) _ (writes-queued m.pending s.pending) (writes-promised m.promise s.promise))),
+  )
+
+-- ---- a cell
+
+pub record IsWrittenHeld (d : Definition) (turn : ℕ) (a : Member Act) (b : Member Batch) : Type 0 where
+  pub defined : IsTrue (definition.fits d)
+  pub turned : IsTrue (word.fits turn)
+  pub acts : IsWrittenMember act a
+  pub batches : IsWrittenMember batch b
+
+abbrev pub IsWritten : Cell → Type 0
+IsWritten Empty = Unit {0}
+IsWritten (Held d m turn a b) = IsWrittenHeld d turn a b
+IsWritten (Purged old) = IsTrue (word.fits old)
+
+-- a change of a group has a byte form where its fields have
+fits-admin : (x : GroupChange Act) → IsTrue (change_form.fits (durable.Admin x)) → IsTrue (fits_change act x)
+fits-admin (change.Queue v) h = h
+fits-admin (change.Refuse v why) h = h
+fits-admin (change.Begin n) h = h
+fits-admin (change.Seen n) h = h
+fits-admin (change.Promise n v) h = h
+fits-admin change.Abort h = h
+fits-admin (change.Commit n v) h = h
+fits-admin (change.Restore n s) h = h
+fits-admin (change.Kept v why) h = h
+
+admin-fits : (x : GroupChange Act) → IsTrue (fits_change act x) → IsTrue (change_form.fits (durable.Admin x))
+admin-fits (change.Queue v) h = h
+admin-fits (change.Refuse v why) h = h
+admin-fits (change.Begin n) h = h
+admin-fits (change.Seen n) h = h
+admin-fits (change.Promise n v) h = h
+admin-fits change.Abort h = h
+admin-fits (change.Commit n v) h = h
+admin-fits (change.Restore n s) h = h
+admin-fits (change.Kept v why) h = h
+
+fits-service : (x : GroupChange Batch) → IsTrue (change_form.fits (durable.Service x)) → IsTrue (fits_change batch x)
+fits-service (change.Queue v) h = h
+fits-service (change.Refuse v why) h = h
+fits-service (change.Begin n) h = h
+fits-service (change.Seen n) h = h
+fits-service (change.Promise n v) h = h
+fits-service change.Abort h = h
+fits-service (change.Commit n v) h = h
+fits-service (change.Restore n s) h = h
+fits-service (change.Kept v why) h = h
+
+service-fits : (x : GroupChange Batch) → IsTrue (fits_change batch x) → IsTrue (change_form.fits (durable.Service x))
+service-fits (change.Queue v) h = h
+service-fits (change.Refuse v why) h = h
+service-fits (change.Begin n) h = h
+service-fits (change.Seen n) h = h
+service-fits (change.Promise n v) h = h
+service-fits change.Abort h = h
+service-fits (change.Commit n v) h = h
+service-fits (change.Restore n s) h = h
+service-fits (change.Kept v why) h = h
+
+act-turn : (v : Act) → IsTrue (act.fits v) → IsTrue (word.fits v.turn)
+act-turn v h = (both_true (word.fits v.turn) _ (both_true (node_id.fits v.node) _ h).1).0
+
+generation-fits : (d : Definition) → IsTrue (definition.fits d) → IsTrue (word.fits d.generation)
+generation-fits d h = (both_true (word.fits d.generation) _ (both_true (circuit_id.fits d.id) _ h).1).0
+
+-- the turn behind it
+written-turn : (here : Node) (turn : ℕ) (x : GroupChange Act) → IsTrue (fits_change act x) → IsTrue (word.fits turn) → IsTrue (word.fits (turn_after here turn x))
+written-turn here turn (change.Queue v) w h = if_holds (λ (n : ℕ). IsTrue (word.fits n)) (bytes_eq v.node here) v.turn turn (λ q. act-turn v w) (λ q. h)
+written-turn here turn (change.Refuse v why) w h = h
+written-turn here turn (change.Begin r) w h = h
+written-turn here turn (change.Seen r) w h = h
+written-turn here turn (change.Promise r v) w h = h
+written-turn here turn change.Abort w h = h
+written-turn here turn (change.Commit r v) w h = h
+written-turn here turn (change.Restore next seen) w h = h
+written-turn here turn (change.Kept v why) w h = h
+
+written-held : (here c : Node) (d : Definition) (m : Mark) (turn : ℕ) (a : Member Act) (b : Member Batch) (x : Change) → IsTrue (change_form.fits x) → IsWrittenHeld d turn a b → IsWritten (applied_one here c (Held d m turn a b) x)
+written-held here c d m turn a b (durable.Bind e) w s = s
+written-held here c d m turn a b (durable.Admin x) w s = if_holds IsWritten _ (Held d m (turn_after here turn x) (changed (act_rules d) a x) b) (Held d m turn a b) (λ h. record { defined = s.defined; turned = written-turn here turn x (fits-admin x w) s.turned; acts = written-changed act (act_rules d) (may_queue here turn a.pending) a x (and_right (is_open m) _ h) (fits-admin x w) s.acts; batches = s.batches }) (λ h. s)
+written-held here c d m turn a b (durable.Service x) w s = if_holds IsWritten _ (Held d m turn a (changed batch_rules b x)) (Held d m turn a b) (λ h. record { defined = s.defined; turned = s.turned; acts = s.acts; batches = written-changed batch batch_rules may_serve b x (and_right (may_keep x) _ (and_right (runs d a) _ (and_right (is_open m) _ h))) (fits-service x w) s.batches }) (λ h. s)
+written-held here c d m turn a b durable.Abandon w s = if_holds IsWritten (is_open m && runs d a) (Held d mark.Abandoned turn a b) (Held d m turn a b) (λ h. s) (λ h. s)
+written-held here c d m turn a b durable.Purge w s = generation-fits d s.defined
+written-held here c d m turn a b (durable.Turn t) w s = if_holds IsWritten (is_new a) (Held d m t a b) (Held d m turn a b) (λ h. record { defined = s.defined; turned = w; acts = s.acts; batches = s.batches }) (λ h. s)
+written-held here c d m turn a b (durable.Gone old) w s = s
+
+bound-written : (d : Definition) → IsTrue (definition.fits d) → IsWrittenHeld d 0 new_member new_member
+bound-written d h = record { defined = h; turned = refl; acts = written-new act; batches = written-new batch }
+
+written-one : (here c : Node) (k : Cell) (x : Change) → IsTrue (change_form.fits x) → IsWritten k → IsWritten (applied_one here c k x)
+written-one here c Empty (durable.Bind d) w s = if_holds IsWritten _ (Held d mark.Open 0 new_member new_member) Empty (λ h. bound-written d w) (λ h. tt)
+written-one here c Empty (durable.Admin x) w s = tt
+written-one here c Empty (durable.Service x) w s = tt
+written-one here c Empty durable.Abandon w s = tt
+written-one here c Empty durable.Purge w s = tt
+written-one here c Empty (durable.Turn t) w s = tt
+written-one here c Empty (durable.Gone old) w s = if_holds IsWritten (nat_lt 0 old) (Purged old) Empty (λ h. w) (λ h. tt)
+written-one here c (Purged old) (durable.Bind d) w s = if_holds IsWritten _ (Held d mark.Open 0 new_member new_member) (Purged old) (λ h. bound-written d w) (λ h. s)
+written-one here c (Purged old) (durable.Admin x) w s = s
+written-one here c (Purged old) (durable.Service x) w s = s
+written-one here c (Purged old) durable.Abandon w s = s
+written-one here c (Purged old) durable.Purge w s = s
+written-one here c (Purged old) (durable.Turn t) w s = s
+written-one here c (Purged old) (durable.Gone new) w s = s
+written-one here c (Held d m turn a b) x w s = written-held here c d m turn a b x w s
+
+pub written-applied : (here c : Node) (k : Cell) (xs : List Change) → IsTrue (list_all change_form.fits xs) → IsWritten k → IsWritten (applied here c k xs)
+written-applied here c k [] w s = s
+written-applied here c k (x ∷ xs) w s = let h = both_true (change_form.fits x) (list_all change_form.fits xs) w in written-applied here c (applied_one here c k x) xs h.1 (written-one here c k x h.0 s)
+
+-- ---- its packed form
+
+abbrev AllWritten : List Change → Type 0
+AllWritten xs = IsTrue (list_all change_form.fits xs)
+
+all-append : (xs ys : List Change) → AllWritten xs → AllWritten ys → AllWritten (xs ++ ys)
+all-append [] ys h k = k
+all-append (x ∷ xs) ys h k = let b = both_true (change_form.fits x) (list_all change_form.fits xs) h in and_true (change_form.fits x) (list_all change_form.fits (xs ++ ys)) b.0 (all-append xs ys b.1 k)
+
+all-admin : (xs : List (GroupChange Act)) → Each (λ x. IsTrue (fits_change act x)) xs → AllWritten (admin_changes xs)
+all-admin [] h = refl
+all-admin (x ∷ xs) h = and_true (change_form.fits (durable.Admin x)) (list_all change_form.fits (admin_changes xs)) (admin-fits x h.0) (all-admin xs h.1)
+
+all-service : (xs : List (GroupChange Batch)) → Each (λ x. IsTrue (fits_change batch x)) xs → AllWritten (service_changes xs)
+all-service [] h = refl
+all-service (x ∷ xs) h = and_true (change_form.fits (durable.Service x)) (list_all change_form.fits (service_changes xs)) (service-fits x h.0) (all-service xs h.1)
+
+all-mark : (m : Mark) → AllWritten (packed_mark m)
+all-mark mark.Open = refl
+all-mark mark.Abandoned = refl
+all-mark mark.Purged = refl
+
+pub written-packed : (k : Cell) → IsWritten k → AllWritten (packed k)
+written-packed Empty s = refl
+written-packed (Purged old) s = and_true (word.fits old) true s refl
+written-packed (Held d m turn a b) s =
+    and_true (definition.fits d) _ s.defined (and_true (word.fits turn) _ s.turned
+    (all-append (admin_changes (packed_member a)) _ (all-admin (packed_member a) (writes-packed act a s.acts))
+    (all-append (packed_batches d a b) (packed_mark m) (go (bool_cases (runs d a))) (all-mark m))))
+  where
+    go : (runs d a ≡ true) ⊎ (runs d a ≡ false) → AllWritten (packed_batches d a b)
+    go (inl q) = rw q (all-service (packed_member b) (writes-packed batch b s.batches))
+    go (inr q) = rw q

@@ -1,0 +1,51 @@
+-- Changes in groups are the same changes, and each group is within the bounds.
+use Rattle.std.proofs.Common.{◌≡◌, ◌⊎◌, ℕ, ◌+◌, ◌<◌, ◌≤◌, true, false, List, [], ◌∷◌, ◌++◌, append_assoc, length, length-append, refl, ap, ◌∙◌, inl, inr, arith}
+use Rattle.std.specs.Prelude.{nat_lt, nat_le}
+use Rattle.std.specs.List.{list_all}
+use Rattle.std.proofs.lemmas.Bool.Decides.{nat_tests}
+use Rattle.spl_agree.proofs.Tests.{bool_cases, and_left, and_right, ltb_is}
+use Rattle.spl_wire.specs.declared.change.Change.{Change}
+use Rattle.spl_wire.specs.Grouping.{most_bytes, record_size, has_place, grouped_behind, grouped, together, is_sized, is_small}
+
+module _ (c : List ℕ) where
+  together-behind : (group xs : List Change) → together (grouped_behind c group xs) ≡ group ++ xs
+  together-behind group [] = refl
+  together-behind group (x ∷ xs) = go (bool_cases (has_place c group x)) (together-behind (group ++ x ∷ []) xs) (together-behind (x ∷ []) xs)
+    where
+      go : (has_place c group x ≡ true) ⊎ (has_place c group x ≡ false) → together (grouped_behind c (group ++ x ∷ []) xs) ≡ (group ++ x ∷ []) ++ xs → together (grouped_behind c (x ∷ []) xs) ≡ (x ∷ []) ++ xs → together (grouped_behind c group (x ∷ xs)) ≡ group ++ (x ∷ xs)
+      go (inl q) h k = rw q (h ∙ append_assoc group (x ∷ []) xs)
+      go (inr q) h k = rw q (ap (λ (ys : List Change). group ++ ys) k)
+
+  pub together-grouped : (xs : List Change) → together (grouped c xs) ≡ xs
+  together-grouped [] = refl
+  together-grouped (x ∷ xs) = together-behind (x ∷ []) xs
+
+  le_is : (a b : ℕ) → a ≤ b → nat_le a b ≡ true
+  le_is a b h = grind (arith, nat_tests)
+
+  sized : (xs : List Change) → 1 ≤ length xs → length xs ≤ 64 → nat_le (record_size c xs) most_bytes ≡ true → is_sized c xs ≡ true
+  sized xs some few small = rw (le_is 1 (length xs) some, le_is (length xs) 64 few, small)
+
+  sized-one : (x : Change) → is_small c x ≡ true → is_sized c (x ∷ []) ≡ true
+  sized-one x h = sized (x ∷ []) (omega arith) (omega arith) h
+
+  sized-more : (group : List Change) (x : Change) → has_place c group x ≡ true → is_sized c (group ++ x ∷ []) ≡ true
+  sized-more group x h =
+      let l : length group < 64 = ltb_is (length group) 64 (and_left (nat_lt (length group) 64) _ h) in
+      let one : length (group ++ x ∷ []) ≡ length group + 1 = length-append group (x ∷ []) in
+      sized (group ++ x ∷ []) (omega arith) (omega arith) (and_right (nat_lt (length group) 64) _ h)
+
+  sized-behind : (group xs : List Change) → is_sized c group ≡ true → list_all (is_small c) xs ≡ true → list_all (is_sized c) (grouped_behind c group xs) ≡ true
+  sized-behind group [] h k = rw h
+  sized-behind group (x ∷ xs) h k =
+      let rest : list_all (is_small c) xs ≡ true = and_right (is_small c x) (list_all (is_small c) xs) k in
+      let one : is_sized c (x ∷ []) ≡ true = sized-one x (and_left (is_small c x) (list_all (is_small c) xs) k) in
+      go (bool_cases (has_place c group x)) (λ q. sized-behind (group ++ x ∷ []) xs (sized-more group x q) rest) (sized-behind (x ∷ []) xs one rest)
+    where
+      go : (has_place c group x ≡ true) ⊎ (has_place c group x ≡ false) → (has_place c group x ≡ true → list_all (is_sized c) (grouped_behind c (group ++ x ∷ []) xs) ≡ true) → list_all (is_sized c) (grouped_behind c (x ∷ []) xs) ≡ true → list_all (is_sized c) (grouped_behind c group (x ∷ xs)) ≡ true
+      go (inl q) f g = rw q (f q)
+      go (inr q) f g = rw (q, h) g
+
+  pub sized-grouped : (xs : List Change) → list_all (is_small c) xs ≡ true → list_all (is_sized c) (grouped c xs) ≡ true
+  sized-grouped [] k = refl
+  sized-grouped (x ∷ xs) k = sized-behind (x ∷ []) xs (sized-one x (and_left (is_small c x) (list_all (is_small c) xs) k)) (and_right (is_small c x) (list_all (is_small c) xs) k)

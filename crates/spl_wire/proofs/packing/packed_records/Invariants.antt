@@ -1,0 +1,9 @@
+use Rattle.std.proofs.Common.{IsTrue}
+use Rattle.std.specs.List.{list_all}
+use Rattle.spl_wire.specs.Changes.{change_form}
+use Rattle.spl_wire.proofs.Packs.{IsPacked}
+use Rattle.spl_wire.proofs.packing.packed_records.Given as goal
+
+-- those so far are packed, and have byte forms
+abbrev pub invariant-loop-change : goal.invariant-loop-change
+invariant-loop-change l = IsPacked l.fn.circuit l.yielded l.packing × IsTrue (list_all change_form.fits l.yielded)
