@@ -1,6 +1,8 @@
 -- A run, one line further.
 use Rattle.std.proofs.Common.{◌≡◌, ℕ, ◌+◌, List, [], ◌∷◌, ◌++◌, Option, Some, None, Result, Ok, Err, OnOk, length, sym, subst}
 use Rattle.spl_sched.specs.declared.line.Line.{Line}
+use Rattle.spl_model.specs.Projection.{Ran}
+use Rattle.spl_model.specs.Outcomes.{by_rule}
 use Rattle.spl_model.specs.Answers.{answer_to}
 use Rattle.spl_answer.specs.Texts.{text}
 use Rattle.spl_world.specs.Views.{ids_of, Stands}
@@ -25,18 +27,18 @@ module _ (lines : List (List ℕ)) (run : Run) (a b : Option (List ℕ)) (behind
     pub behind_silent : said line ≡ None → IsBehind (lines ++ line ∷ []) run a b
     behind_silent is = record {
       nodes = behind.nodes;
-      stands = subst (λ (ls : List Line). Stands ls run.world) (sym (ran_silent lines line is)) behind.stands;
+      stands = subst (λ (ls : List Ran). Stands ls run.world) (sym (ran_silent lines line is)) behind.stands;
       due = subst (IsDue a b run.output) (sym (answers_silent lines line is)) behind.due;
     }
 
     module _ (number : ℕ) (l : Line) (counted : number ≡ length lines + 1) (is : said line ≡ Some l) (c : Option (List ℕ)) (later : Run) where
-      pub behind_said : ids_of later.world ≡ registered → Stands (ran lines ++ l ∷ []) later.world
-          → IsDue b c later.output (run.output ++ printed number (text (answer_to registered (ran lines) l))) → IsBehind (lines ++ line ∷ []) later a c
+      pub behind_said : ids_of later.world ≡ registered → Stands (ran lines ++ by_rule l ∷ []) later.world
+          → IsDue b c later.output (run.output ++ printed number (text (answer_to registered (ran lines) (by_rule l)))) → IsBehind (lines ++ line ∷ []) later a c
       behind_said nodes stands due = record {
         nodes = nodes;
-        stands = subst (λ (ls : List Line). Stands ls later.world) (sym (ran_said lines line l is)) stands;
+        stands = subst (λ (ls : List Ran). Stands ls later.world) (sym (ran_said lines line l is)) stands;
         due = subst (IsDue a c later.output) (sym (answers_said lines line number l counted is)) (due_due a b c _ _ _ _ behind.due due);
       }
 
-      pub part_said : IsDuePart b c later.output (run.output ++ printed number (text (answer_to registered (ran lines) l))) → IsDuePart a c later.output (answers (lines ++ line ∷ []))
+      pub part_said : IsDuePart b c later.output (run.output ++ printed number (text (answer_to registered (ran lines) (by_rule l)))) → IsDuePart a c later.output (answers (lines ++ line ∷ []))
       part_said part = subst (IsDuePart a c later.output) (sym (answers_said lines line number l counted is)) (due_then a b c _ _ _ _ behind.due part)

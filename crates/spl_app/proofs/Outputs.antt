@@ -2,13 +2,12 @@
 use Rattle.std.proofs.Common.{◌≡◌, ℕ, suc, ◌+◌, List, [], ◌∷◌, ◌++◌, Option, Some, None, length, map, refl, sym, ◌∙◌, ap, arith, append_assoc, append-nil}
 use Rattle.std.proofs.lemmas.List.{map-append}
 use Rattle.spl_sched.specs.declared.line.Line.{Line}
+use Rattle.spl_model.specs.Projection.{Ran}
+use Rattle.spl_model.specs.Outcomes.{by_rule}
 use Rattle.spl_model.specs.Answers.{answer_to}
 use Rattle.spl_answer.specs.Texts.{text}
 use Rattle.spl_app.specs.Run.{registered, said, with_number, numbered, printed, outputs, answers}
 use Rattle.spl_app.specs.Behind.{ran}
-
-said_of : List (ℕ × Line) → List Line
-said_of ls = map (λ x. x.1) ls
 
 with-append : (n : ℕ) (o : Option Line) (xs ys : List (ℕ × Line)) → with_number n o (xs ++ ys) ≡ with_number n o xs ++ ys
 with-append n None xs ys = refl
@@ -21,20 +20,20 @@ numbered-append n (x ∷ xs) ys =
     ap (with_number n (said x)) (numbered-append (n + 1) xs ys ∙ ap (λ (k : ℕ). numbered (n + 1) xs ++ numbered k ys) same)
     ∙ with-append n (said x) (numbered (n + 1) xs) (numbered (n + suc (length xs)) ys)
 
-outputs-append : (before : List Line) (xs ys : List (ℕ × Line)) → outputs before (xs ++ ys) ≡ outputs before xs ++ outputs (before ++ map (λ (x : ℕ × Line). x.1) xs) ys
-outputs-append before [] ys = ap (λ (b : List Line). outputs b ys) (sym (append-nil before))
+outputs-append : (before : List Ran) (xs ys : List (ℕ × Line)) → outputs before (xs ++ ys) ≡ outputs before xs ++ outputs (before ++ map (λ (x : ℕ × Line). by_rule x.1) xs) ys
+outputs-append before [] ys = ap (λ (b : List Ran). outputs b ys) (sym (append-nil before))
 outputs-append before (x ∷ xs) ys =
-    let first = printed x.0 (text (answer_to registered before x.1)) in
-    ap (λ (l : List ℕ). first ++ l) (outputs-append (before ++ x.1 ∷ []) xs ys
-    ∙ ap (λ (b : List Line). outputs (before ++ x.1 ∷ []) xs ++ outputs b ys) (append_assoc before (x.1 ∷ []) (map (λ (y : ℕ × Line). y.1) xs)))
-    ∙ sym (append_assoc first (outputs (before ++ x.1 ∷ []) xs) (outputs (before ++ x.1 ∷ map (λ (y : ℕ × Line). y.1) xs) ys))
+    let first = printed x.0 (text (answer_to registered before (by_rule x.1))) in
+    ap (λ (l : List ℕ). first ++ l) (outputs-append (before ++ by_rule x.1 ∷ []) xs ys
+    ∙ ap (λ (b : List Ran). outputs (before ++ by_rule x.1 ∷ []) xs ++ outputs b ys) (append_assoc before (by_rule x.1 ∷ []) (map (λ (y : ℕ × Line). by_rule y.1) xs)))
+    ∙ sym (append_assoc first (outputs (before ++ by_rule x.1 ∷ []) xs) (outputs (before ++ by_rule x.1 ∷ map (λ (y : ℕ × Line). by_rule y.1) xs) ys))
 
 -- the answers to the first lines come first
 pub answers-append : (xs ys : List (List ℕ)) → answers (xs ++ ys) ≡ answers xs ++ outputs (ran xs) (numbered (1 + length xs) ys)
 answers-append xs ys = ap (outputs []) (numbered-append 1 xs ys) ∙ outputs-append [] (numbered 1 xs) (numbered (1 + length xs) ys)
 
-ran-append : (xs ys : List (List ℕ)) → ran (xs ++ ys) ≡ ran xs ++ map (λ (x : ℕ × Line). x.1) (numbered (1 + length xs) ys)
-ran-append xs ys = ap (map (λ (x : ℕ × Line). x.1)) (numbered-append 1 xs ys) ∙ map-append (λ (x : ℕ × Line). x.1) (numbered 1 xs) (numbered (1 + length xs) ys)
+ran-append : (xs ys : List (List ℕ)) → ran (xs ++ ys) ≡ ran xs ++ map (λ (x : ℕ × Line). by_rule x.1) (numbered (1 + length xs) ys)
+ran-append xs ys = ap (map (λ (x : ℕ × Line). by_rule x.1)) (numbered-append 1 xs ys) ∙ map-append (λ (x : ℕ × Line). by_rule x.1) (numbered 1 xs) (numbered (1 + length xs) ys)
 
 module _ (lines : List (List ℕ)) (line : List ℕ) where
   alone : (o : Option Line) → said line ≡ o → numbered (1 + length lines) (line ∷ []) ≡ with_number (1 + length lines) o []
@@ -45,14 +44,14 @@ module _ (lines : List (List ℕ)) (line : List ℕ) where
   answers_silent is = answers-append lines (line ∷ []) ∙ ap (λ (l : List (ℕ × Line)). answers lines ++ outputs (ran lines) l) (alone None is) ∙ append-nil (answers lines)
 
   pub ran_silent : said line ≡ None → ran (lines ++ line ∷ []) ≡ ran lines
-  ran_silent is = ran-append lines (line ∷ []) ∙ ap (λ (l : List (ℕ × Line)). ran lines ++ map (λ (x : ℕ × Line). x.1) l) (alone None is) ∙ append-nil (ran lines)
+  ran_silent is = ran-append lines (line ∷ []) ∙ ap (λ (l : List (ℕ × Line)). ran lines ++ map (λ (x : ℕ × Line). by_rule x.1) l) (alone None is) ∙ append-nil (ran lines)
 
   -- a line that is run
-  pub answers_said : (number : ℕ) (l : Line) → number ≡ length lines + 1 → said line ≡ Some l → answers (lines ++ line ∷ []) ≡ answers lines ++ printed number (text (answer_to registered (ran lines) l))
+  pub answers_said : (number : ℕ) (l : Line) → number ≡ length lines + 1 → said line ≡ Some l → answers (lines ++ line ∷ []) ≡ answers lines ++ printed number (text (answer_to registered (ran lines) (by_rule l)))
   answers_said number l counted is =
       let same : 1 + length lines ≡ number = omega arith in
       answers-append lines (line ∷ []) ∙ ap (λ (ls : List (ℕ × Line)). answers lines ++ outputs (ran lines) ls) (alone (Some l) is)
-      ∙ ap (λ (t : List ℕ). answers lines ++ t) (append-nil (printed (1 + length lines) (text (answer_to registered (ran lines) l))) ∙ ap (λ (n : ℕ). printed n (text (answer_to registered (ran lines) l))) same)
+      ∙ ap (λ (t : List ℕ). answers lines ++ t) (append-nil (printed (1 + length lines) (text (answer_to registered (ran lines) (by_rule l)))) ∙ ap (λ (n : ℕ). printed n (text (answer_to registered (ran lines) (by_rule l)))) same)
 
-  pub ran_said : (l : Line) → said line ≡ Some l → ran (lines ++ line ∷ []) ≡ ran lines ++ l ∷ []
-  ran_said l is = ran-append lines (line ∷ []) ∙ ap (λ (ls : List (ℕ × Line)). ran lines ++ map (λ (x : ℕ × Line). x.1) ls) (alone (Some l) is)
+  pub ran_said : (l : Line) → said line ≡ Some l → ran (lines ++ line ∷ []) ≡ ran lines ++ by_rule l ∷ []
+  ran_said l is = ran-append lines (line ∷ []) ∙ ap (λ (ls : List (ℕ × Line)). ran lines ++ map (λ (x : ℕ × Line). by_rule x.1) ls) (alone (Some l) is)

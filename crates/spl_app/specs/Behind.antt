@@ -1,14 +1,15 @@
 -- Where a run stands.
 use Rattle.std.specs.Prelude.{◌≡◌, ℕ, List, Option, map}
-use Rattle.spl_sched.specs.declared.line.Line.{Line}
+use Rattle.spl_model.specs.Projection.{Ran}
+use Rattle.spl_model.specs.Outcomes.{by_rule}
 use Rattle.spl_world.specs.Views.{ids_of, Stands}
 use Rattle.spl_app.specs.declared.run.Run.{Run}
 use Rattle.spl_app.specs.Due.{IsDue}
 use Rattle.spl_app.specs.Run.{registered, numbered, answers}
 
 -- the lines that ran
-abbrev pub ran : List (List ℕ) → List Line
-ran lines = map (λ x. x.1) (numbered 1 lines)
+abbrev pub ran : List (List ℕ) → List Ran
+ran lines = map (λ x. by_rule x.1) (numbered 1 lines)
 
 -- these lines ran, and their answers were written or wait
 pub record IsBehind (lines : List (List ℕ)) (run : Run) (old new : Option (List ℕ)) : Type 0 where

@@ -5,6 +5,8 @@ use Rattle.spl_circuit.specs.Nodes.{Node, has_node}
 use Rattle.spl_sched.specs.declared.line.Line.{Line}
 use Rattle.spl_sched.specs.Grammar.{line_of, nodes_of, is_line}
 use Rattle.spl_sched.specs.Taken.{is_taken}
+use Rattle.spl_model.specs.Projection.{Ran}
+use Rattle.spl_model.specs.Outcomes.{by_rule}
 use Rattle.spl_model.specs.Answers.{answer_to}
 use Rattle.spl_answer.specs.Texts.{text}
 use Rattle.spl_app.specs.Lines.{is_silent}
@@ -45,9 +47,9 @@ abbrev pub printed : ℕ → List ℕ → List ℕ
 printed n answer = decimal n ++ 32 ∷ answer ++ 10 ∷ []
 
 -- the answers to lines that run behind others, with the numbers of the lines
-abbrev pub outputs : List Line → List (ℕ × Line) → List ℕ
+abbrev pub outputs : List Ran → List (ℕ × Line) → List ℕ
 outputs before [] = []
-outputs before (x ∷ xs) = printed x.0 (text (answer_to registered before x.1)) ++ outputs (before ++ x.1 ∷ []) xs
+outputs before (x ∷ xs) = printed x.0 (text (answer_to registered before (by_rule x.1))) ++ outputs (before ++ by_rule x.1 ∷ []) xs
 
 -- what a run of these lines writes
 abbrev pub answers : List (List ℕ) → List ℕ

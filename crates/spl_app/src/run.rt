@@ -8,8 +8,9 @@ ghost use Rattle.spl_app.specs.Lines.{lines_of};
 ghost use Rattle.spl_app.specs.Due.{IsDue, IsDuePart};
 ghost use Rattle.spl_app.specs.Run.{IsLine, IsRunnable, IsFirstBad, registered, said, printed, answers};
 ghost use Rattle.spl_answer.specs.Texts.{text as text_of};
+ghost use Rattle.spl_model.specs.Projection.{Ran};
+ghost use Rattle.spl_model.specs.Outcomes.{by_rule};
 ghost use Rattle.spl_model.specs.Answers.{answer_to};
-ghost use Rattle.spl_sched.specs.declared.line.Line.{Line as Said};
 ghost use Rattle.spl_world.specs.Views.{ids_of, Stands};
 
 use crate::lines::{first_line, is_silent};
@@ -92,8 +93,8 @@ impl Run {
         requires nodes { ids_of self.old.world ≡ registered }
         requires known { IsRunnable said.now }
         ensures nodes { ids_of self.new.world ≡ registered }
-        ensures stands { (before : List Said) → Stands before self.old.world → OnOk result (Stands (before ++ said.now ∷ []) self.new.world) }
-        ensures text { (before : List Said) → Stands before self.old.world → OnOk result (self.new.text.items ≡ text_of (answer_to registered before said.now)) }
+        ensures stands { (before : List Ran) → Stands before self.old.world → OnOk result (Stands (before ++ by_rule said.now ∷ []) self.new.world) }
+        ensures text { (before : List Ran) → Stands before self.old.world → OnOk result (self.new.text.items ≡ text_of (answer_to registered before (by_rule said.now))) }
         ensures output { self.new.output ≡ self.old.output }
     {
         let answer = self.world.step(alloc, said)?;
@@ -112,11 +113,11 @@ impl Run {
         requires nodes { ids_of self.old.world ≡ registered }
         requires known { IsRunnable said.now }
         ensures nodes { ids_of self.new.world ≡ registered }
-        ensures stands { (before : List Said) → Stands before self.old.world → OnOk result (Stands (before ++ said.now ∷ []) self.new.world) }
-        ensures due { (before : List Said) → Stands before self.old.world → OnOk result (IsDue (W.written out.old) (W.written out.new) self.new.output
-            (self.old.output ++ printed number (text_of (answer_to registered before said.now)))) }
-        ensures part { (before : List Said) → Stands before self.old.world → IsDuePart (W.written out.old) (W.written out.new) self.new.output
-            (self.old.output ++ printed number (text_of (answer_to registered before said.now))) }
+        ensures stands { (before : List Ran) → Stands before self.old.world → OnOk result (Stands (before ++ by_rule said.now ∷ []) self.new.world) }
+        ensures due { (before : List Ran) → Stands before self.old.world → OnOk result (IsDue (W.written out.old) (W.written out.new) self.new.output
+            (self.old.output ++ printed number (text_of (answer_to registered before (by_rule said.now))))) }
+        ensures part { (before : List Ran) → Stands before self.old.world → IsDuePart (W.written out.old) (W.written out.new) self.new.output
+            (self.old.output ++ printed number (text_of (answer_to registered before (by_rule said.now)))) }
         ensures good { (n : ℕ) → IsErrOf result (RunFault.BadLine n) → ⊥ }
         ensures write { IsErrOf result RunFault.Write → Rose (W.faults out.old) (W.faults out.new) }
         ensures later { W.faults out.old ≤ W.faults out.new }

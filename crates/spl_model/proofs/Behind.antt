@@ -1,12 +1,9 @@
 -- The agreement of a circuit behind what happened, and in lines.
 use Rattle.std.proofs.Common.{◌≡◌, true, List}
-use Rattle.std.specs.List.{list_all}
 use Rattle.spl_circuit.specs.declared.definition.Definition.{Definition}
 use Rattle.spl_circuit.specs.Nodes.{Node}
-use Rattle.spl_sched.specs.declared.line.Line.{Line}
-use Rattle.spl_sched.specs.Grammar.{is_line}
 use Rattle.spl_model.specs.Worlds.{Occurrence, first_world}
-use Rattle.spl_model.specs.Answers.{own}
+use Rattle.spl_model.specs.Projection.{Ran, own, lines_fit}
 use Rattle.spl_model.specs.Agreement.{world_behind, AllPlain, IsAgreed, Agree}
 use Rattle.spl_model.proofs.Runs.{begins-acts, begins-batches, stays-behind}
 use Rattle.spl_model.proofs.Differ.{ids-differ, share-nothing}
@@ -28,8 +25,8 @@ agreed-behind ns es d h = record {
 }
 
 -- at each moment of each circuit's world
-pub lines-agree : (ns : List Node) (ls : List Line) → list_all is_line ls ≡ true → Agree ns ls
-lines-agree ns ls h = record {
-  happened = λ c. lines-run (first_world ns) (own c ls);
-  agreed = λ c d es fs e. agreed-behind ns es d (plain-moment ns c ls es fs h e);
+pub lines-agree : (ns : List Node) (rs : List Ran) → lines_fit rs ≡ true → Agree ns rs
+lines-agree ns rs h = record {
+  happened = λ c. lines-run (first_world ns) (own c rs);
+  agreed = λ c d es fs e. agreed-behind ns es d (plain-moment ns c rs es fs h e);
 }

@@ -122,6 +122,8 @@ shifted w (change.Begin r) = w
 shifted w (change.Seen r) = w
 shifted w (change.Promise r v) = w
 shifted w change.Abort = w
+shifted w (change.Restore next seen) = w
+shifted w (change.Kept v why) = record { done = w.done; pending = w.pending; refused = w.refused ++ (v, why) ∷ [] }
 
 abbrev pub shifted_by : View → List (GroupChange Act) → View
 shifted_by w [] = w
@@ -135,6 +137,8 @@ view-changed d a (change.Begin r) = refl
 view-changed d a (change.Seen r) = refl
 view-changed d a (change.Promise r v) = refl
 view-changed d a change.Abort = refl
+view-changed d a (change.Restore next seen) = refl
+view-changed d a (change.Kept v why) = refl
 
 pub view-by : (d : Definition) (a : Member Act) (xs : List (GroupChange Act)) → view (changed_by (act_rules d) a xs) ≡ shifted_by (view a) xs
 view-by d a [] = refl
@@ -149,6 +153,8 @@ Meets past said n e w (change.Begin r) = Unit {0}
 Meets past said n e w (change.Seen r) = Unit {0}
 Meets past said n e w (change.Promise r v) = Unit {0}
 Meets past said n e w change.Abort = Unit {0}
+Meets past said n e w (change.Restore next seen) = Unit {0}
+Meets past said n e w (change.Kept v why) = ⊥
 
 -- at most one change, which meets what it asks
 abbrev pub MeetsOne : Past → (Letter Act → Type 0) → Node → Definition → View → List (GroupChange Act) → Type 0
@@ -235,6 +241,8 @@ tidy-shifted past said n e w (change.Begin r) m t = t
 tidy-shifted past said n e w (change.Seen r) m t = t
 tidy-shifted past said n e w (change.Promise r v) m t = t
 tidy-shifted past said n e w change.Abort m t = t
+tidy-shifted past said n e w (change.Restore next seen) m t = t
+tidy-shifted past said n e w (change.Kept v why) m t = absurd m
 
 pub tidy-by : (past : Past) (said : Letter Act → Type 0) (n : Node) (e : Definition) (w : View) (xs : List (GroupChange Act)) → MeetsOne past said n e w xs → IsTidy past said n e w → IsTidy past said n e (shifted_by w xs)
 tidy-by past said n e w [] m t = t
@@ -283,6 +291,8 @@ grows-shifted past said n e w (change.Begin r) m t = grows-same said n e w
 grows-shifted past said n e w (change.Seen r) m t = grows-same said n e w
 grows-shifted past said n e w (change.Promise r v) m t = grows-same said n e w
 grows-shifted past said n e w change.Abort m t = grows-same said n e w
+grows-shifted past said n e w (change.Restore next seen) m t = grows-same said n e w
+grows-shifted past said n e w (change.Kept v why) m t = absurd m
 
 pub grows-by : (past : Past) (said : Letter Act → Type 0) (n : Node) (e : Definition) (w : View) (xs : List (GroupChange Act)) → MeetsOne past said n e w xs → IsTidy past said n e w → Grows said n e w (shifted_by w xs)
 grows-by past said n e w [] m t = grows-same said n e w

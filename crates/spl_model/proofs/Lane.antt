@@ -225,6 +225,8 @@ history-changed rules m (change.Begin r) = sym (append-nil _)
 history-changed rules m (change.Seen r) = sym (append-nil _)
 history-changed rules m (change.Promise r v) = sym (append-nil _)
 history-changed rules m change.Abort = sym (append-nil _)
+history-changed rules m (change.Restore next seen) = sym (append-nil _)
+history-changed rules m (change.Kept v why) = sym (append-nil _)
 
 -- changes add what they commit
 pub history-by : {V : Type 0} (rules : Rules V) (m : Member V) (xs : List (GroupChange V)) → values (changed_by rules m xs).history ≡ values m.history ++ all_committed xs

@@ -1,12 +1,13 @@
 -- What happens in lines, and what a bound cell tells.
-use Rattle.std.proofs.Common.{◌≡◌, ℕ, zero, suc, ◌+◌, ◌-◌, ◌⊎◌, true, false, ◌&&◌, List, [], ◌∷◌, ◌++◌, length, refl, sym, ap, subst, ◌∙◌, inl, inr}
-use Rattle.std.specs.List.{list_all}
+use Rattle.std.proofs.Common.{◌≡◌, ℕ, zero, suc, ◌+◌, ◌-◌, ◌^◌, Bool, true, not, ◌&&◌, List, [], ◌∷◌, ◌++◌, length, refl, sym, ap, subst, ◌∙◌}
+use Rattle.std.specs.Prelude.{nat_le, nat_lt}
+use Rattle.std.specs.Str.{bytes_eq}
 use Rattle.spl_agree.specs.Member.{Member}
-use Rattle.spl_agree.proofs.Tests.{if_holds, bool_cases, and_left, and_right}
+use Rattle.spl_agree.proofs.Tests.{if_holds, and_left, and_right}
 use Rattle.spl_circuit.specs.declared.definition.Definition.{Definition}
 use Rattle.spl_circuit.specs.declared.act.Act.{Act}
 use Rattle.spl_circuit.specs.declared.lifecycle.Mark.{Mark}
-use Rattle.spl_circuit.specs.Nodes.{Node, sorted}
+use Rattle.spl_circuit.specs.Nodes.{Node, has_node, sorted}
 use Rattle.spl_command.specs.declared.batch.Batch.{Batch}
 use Rattle.spl_wire.specs.declared.event.Event.{Event}
 use Rattle.spl_wire.specs.declared.event.Event.TheVariants as event
@@ -14,11 +15,12 @@ use Rattle.spl_sched.specs.declared.line.Step.{Step}
 use Rattle.spl_sched.specs.declared.line.Step.TheVariants as step
 use Rattle.spl_sched.specs.declared.line.Line.{Line}
 use Rattle.spl_sched.specs.declared.line.Line.TheVariants as line
-use Rattle.spl_sched.specs.Grammar.{is_event, is_step, is_line}
+use Rattle.spl_sched.specs.Grammar.{is_event, is_step, is_line, is_fill, step_node}
 use Rattle.spl_base.specs.Ids.{is_node_id, is_circuit_id}
 use Rattle.spl_model.specs.Worlds.{World, first_world, Occurrence, Steps, step_world, happens, run, messages}
+use Rattle.spl_model.specs.Projection.{Ran, names, line_fits, lines_fit, concerned, at_one_of, beside, own_line, own_among, own}
 use Rattle.spl_model.specs.Calm.{Calming, calming_step, calming, open_nodes, ticks, delivers, takes, pair_turn, to_all, from_all, pass, passes, calm}
-use Rattle.spl_model.specs.Answers.{own, names, line_world, lines_world, occurrences_in, occurrences_from, occurrences}
+use Rattle.spl_model.specs.Answers.{line_world, lines_world, occurrences_in, occurrences_from, occurrences}
 use Rattle.spl_model.specs.Agreement.{AllPlain, IsPlainEvent, IsPlainStep, TellsOwn}
 
 -- runs one after the other
@@ -85,22 +87,22 @@ run-calm c w k = run-passes c w (sorted w.nodes) k (calming w) (record { same = 
 -- ---- what happens in lines
 
 -- a line is a run of what happens in it
-pub line-run : (w : World) (l : Line) → line_world w l ≡ run w (occurrences_in w l)
-line-run w (line.Step s) = refl
-line-run w (line.Calm c k) = (run-calm c w k).same
-line-run w (line.Stop n) = refl
-line-run w (line.Start n) = refl
-line-run w (line.Roll n) = refl
-line-run w (line.Cut calls fill s) = refl
-line-run w (line.Fail call s) = refl
+pub line-run : (w : World) (l : Line) (kept : Bool) → line_world w l kept ≡ run w (occurrences_in w l kept)
+line-run w (line.Step s) kept = refl
+line-run w (line.Calm c k) kept = (run-calm c w k).same
+line-run w (line.Stop n) kept = refl
+line-run w (line.Start n) kept = refl
+line-run w (line.Roll n) kept = refl
+line-run w (line.Cut calls fill s) kept = refl
+line-run w (line.Fail call s) kept = refl
 
 -- the world behind lines is the one behind what happens in them
-pub lines-run : (w : World) (ls : List Line) → lines_world w ls ≡ run w (occurrences_from w ls)
+pub lines-run : (w : World) (rs : List Ran) → lines_world w rs ≡ run w (occurrences_from w rs)
 lines-run w [] = refl
-lines-run w (l ∷ ls) =
-    lines-run (line_world w l) ls
-    ∙ (ap (λ (x : World). run x (occurrences_from (line_world w l) ls)) (line-run w l)
-    ∙ sym (run-append w (occurrences_in w l) (occurrences_from (line_world w l) ls)))
+lines-run w (r ∷ rs) =
+    lines-run (line_world w r.line r.kept) rs
+    ∙ (ap (λ (x : World). run x (occurrences_from (line_world w r.line r.kept) rs)) (line-run w r.line r.kept)
+    ∙ sym (run-append w (occurrences_in w r.line r.kept) (occurrences_from (line_world w r.line r.kept) rs)))
 
 -- ---- a line within its bounds has no delivery of its own making
 
@@ -131,28 +133,54 @@ plain-step (step.At n c e) h = plain-event c e (and_right (is_node_id n && is_ci
 plain-step (step.Deliver from to c k) h = tt
 
 -- a line
-pub plain-line : (w : World) (l : Line) → is_line l ≡ true → AllPlain (occurrences_in w l)
-plain-line w (line.Step s) h = (plain-step s h, tt)
-plain-line w (line.Calm c k) h = (run-calm c w k).plain
-plain-line w (line.Stop n) h = tt
-plain-line w (line.Start n) h = tt
-plain-line w (line.Roll n) h = tt
-plain-line w (line.Cut calls fill s) h = tt
-plain-line w (line.Fail call s) h = tt
+pub plain-line : (w : World) (l : Line) (kept : Bool) → is_line l ≡ true → AllPlain (occurrences_in w l kept)
+plain-line w (line.Step s) kept h = (plain-step s h, tt)
+plain-line w (line.Calm c k) kept h = (run-calm c w k).plain
+plain-line w (line.Stop n) kept h = (tt, tt)
+plain-line w (line.Start n) kept h = (tt, tt)
+plain-line w (line.Roll n) kept h = tt
+plain-line w (line.Cut calls f s) kept h = (plain-step s (and_right (nat_lt calls (2 ^ 8) && is_fill f) (is_step s) h), tt)
+plain-line w (line.Fail call s) kept h = (plain-step s (and_right (nat_le 1 call && nat_lt call (2 ^ 8)) (is_step s) h), tt)
 
 -- lines
-pub plain-lines : (w : World) (ls : List Line) → list_all is_line ls ≡ true → AllPlain (occurrences_from w ls)
+pub plain-lines : (w : World) (rs : List Ran) → lines_fit rs ≡ true → AllPlain (occurrences_from w rs)
 plain-lines w [] h = tt
-plain-lines w (l ∷ ls) h = plain-append (occurrences_in w l) (occurrences_from (line_world w l) ls) (plain-line w l (and_left (is_line l) (list_all is_line ls) h)) (plain-lines (line_world w l) ls (and_right (is_line l) (list_all is_line ls) h))
+plain-lines w (r ∷ rs) h = plain-append (occurrences_in w r.line r.kept) (occurrences_from (line_world w r.line r.kept) rs) (plain-line w r.line r.kept (and_left (line_fits r) (lines_fit rs) h)) (plain-lines (line_world w r.line r.kept) rs (and_right (line_fits r) (lines_fit rs) h))
 
--- what holds of all lines holds of a circuit's own
-pub all-own : (c : Node) (ls : List Line) → list_all is_line ls ≡ true → list_all is_line (own c ls) ≡ true
-all-own c [] h = refl
-all-own c (l ∷ ls) h = go (bool_cases (names c l)) (all-own c ls (and_right (is_line l) (list_all is_line ls) h))
+-- lines within their bounds, one list after the other
+pub fit-append : (xs ys : List Ran) → lines_fit xs ≡ true → lines_fit ys ≡ true → lines_fit (xs ++ ys) ≡ true
+fit-append [] ys h k = k
+fit-append (x ∷ xs) ys h k = rw (and_left (line_fits x) (lines_fit xs) h) (fit-append xs ys (and_right (line_fits x) (lines_fit xs) h) k)
+
+-- a stop or a start of one of these nodes
+pub fit-one : (ns : List Node) (n : Node) (l : Line) → is_line l ≡ true → lines_fit (at_one_of ns n l) ≡ true
+fit-one ns n l h = if_holds (λ rs. lines_fit rs ≡ true) (has_node ns n) _ _ (λ q. rw h) (λ q. refl)
+
+-- the node of a step has an id
+pub node-fits : (s : Step) → is_step s ≡ true → is_node_id (step_node s) ≡ true
+node-fits (step.At n c e) h = and_left (is_node_id n) (is_circuit_id c) (and_left (is_node_id n && is_circuit_id c) (is_event c e) h)
+node-fits (step.Deliver from to c k) h = and_right (is_node_id from) (is_node_id to) (and_left (is_node_id from && is_node_id to) (is_circuit_id c) (and_left _ (nat_le 1 k && nat_lt k (2 ^ 32)) (and_left _ (not (bytes_eq from to)) h)))
+
+-- what is left of a line
+pub fit-beside : (ns : List Node) (l : Line) → is_line l ≡ true → lines_fit (beside ns l) ≡ true
+fit-beside ns (line.Step s) h = refl
+fit-beside ns (line.Calm c k) h = refl
+fit-beside ns (line.Stop n) h = fit-one ns n (line.Stop n) h
+fit-beside ns (line.Start n) h = fit-one ns n (line.Start n) h
+fit-beside ns (line.Roll n) h = refl
+fit-beside ns (line.Cut calls f s) h = fit-one ns (step_node s) (line.Stop (step_node s)) (node-fits s (and_right (nat_lt calls (2 ^ 8) && is_fill f) (is_step s) h))
+fit-beside ns (line.Fail call s) h = fit-one ns (step_node s) (line.Stop (step_node s)) (node-fits s (and_right (nat_le 1 call && nat_lt call (2 ^ 8)) (is_step s) h))
+
+-- a circuit's own lines are within their bounds
+pub fit-own : (c : Node) (ns : List Node) (rs : List Ran) → lines_fit rs ≡ true → lines_fit (own_among c ns rs) ≡ true
+fit-own c ns [] h = refl
+fit-own c ns (r ∷ rs) h = fit-append (own_line c ns r) (own_among c ns rs) here (fit-own c ns rs (and_right (line_fits r) (lines_fit rs) h))
   where
-    go : (names c l ≡ true) ⊎ (names c l ≡ false) → list_all is_line (own c ls) ≡ true → list_all is_line (own c (l ∷ ls)) ≡ true
-    go (inl q) k = rw (q, and_left (is_line l) (list_all is_line ls) h) k
-    go (inr q) k = rw q k
+    first : is_line r.line ≡ true
+    first = and_left (line_fits r) (lines_fit rs) h
+
+    here : lines_fit (own_line c ns r) ≡ true
+    here = if_holds (λ xs. lines_fit xs ≡ true) (names c r.line) _ _ (λ q. rw first) (λ q. fit-beside ns r.line first)
 
 -- what is plain begins plainly
 pub plain-front : (xs ys : List Occurrence) → AllPlain (xs ++ ys) → AllPlain xs
@@ -160,8 +188,8 @@ plain-front [] ys h = tt
 plain-front (x ∷ xs) ys h = (h.0, plain-front xs ys h.1)
 
 -- at each moment of a circuit's world
-pub plain-moment : (ns : List Node) (c : Node) (ls : List Line) (es fs : List Occurrence) → list_all is_line ls ≡ true → es ++ fs ≡ occurrences ns c ls → AllPlain es
-plain-moment ns c ls es fs h e = plain-front es fs (subst AllPlain (sym e) (plain-lines (first_world ns) (own c ls) (all-own c ls h)))
+pub plain-moment : (ns : List Node) (c : Node) (rs : List Ran) (es fs : List Occurrence) → lines_fit rs ≡ true → es ++ fs ≡ occurrences ns c rs → AllPlain es
+plain-moment ns c rs es fs h e = plain-front es fs (subst AllPlain (sym e) (plain-lines (first_world ns) (own c rs) (fit-own c (concerned c rs) rs h)))
 
 -- what a bound cell tells hangs on its own histories
 pub tells-own : (n c : Node) (d : Definition) (m : Mark) (turn : ℕ) (a : Member Act) (b : Member Batch) → TellsOwn n c d m turn a b

@@ -48,6 +48,8 @@ prefix-changed rules h m (change.Begin r) p = p
 prefix-changed rules h m (change.Seen r) p = p
 prefix-changed rules h m (change.Promise r v) p = p
 prefix-changed rules h m change.Abort p = p
+prefix-changed rules h m (change.Restore next seen) p = p
+prefix-changed rules h m (change.Kept v why) p = p
 
 -- a move leaves a history
 pub prefix-moved : {V : Type 0} (g : Group V) (i : ℕ) (h : List (ℕ × V)) (m : Member V) (o : OpenMove) → IsPrefixOf h m.history → IsPrefixOf h (moved g i m o).history
@@ -76,17 +78,31 @@ Since d P Q Empty = ⊥
 Since d P Q (Purged old) = d.generation ≤ old
 Since d P Q (Held e m t a b) = ((e ≡ d) × P a × Q b) ⊎ (d.generation < e.generation)
 
+-- a change that binds, or purges by a generation of its own, does it later
+abbrev pub IsHigher : Definition → Change → Type 0
+IsHigher d (durable.Bind e) = d.generation < e.generation
+IsHigher d (durable.Admin x) = Unit {0}
+IsHigher d (durable.Service x) = Unit {0}
+IsHigher d durable.Abandon = Unit {0}
+IsHigher d durable.Purge = Unit {0}
+IsHigher d (durable.Turn t) = Unit {0}
+IsHigher d (durable.Gone old) = d.generation ≤ old
+
 -- one change
-pub since-one : (d : Definition) (P : Member Act → Type 0) (Q : Member Batch → Type 0) (kept : Lasts P Q) (n : Node) (k : Cell) (x : Change) → ((e : Definition) → x ≡ durable.Bind e → d.generation < e.generation) → Since d P Q k → Since d P Q (made_one n k x)
-since-one d P Q kept n k (durable.Bind e) h s = subst (λ (z : Cell). Since d P Q z) (sym (made-bind n k e)) (inr (h e refl))
+pub since-one : (d : Definition) (P : Member Act → Type 0) (Q : Member Batch → Type 0) (kept : Lasts P Q) (n : Node) (k : Cell) (x : Change) → IsHigher d x → Since d P Q k → Since d P Q (made_one n k x)
+since-one d P Q kept n k (durable.Bind e) h s = subst (λ (z : Cell). Since d P Q z) (sym (made-bind n k e)) (inr h)
 since-one d P Q kept n Empty (durable.Admin x) h s = s
 since-one d P Q kept n Empty (durable.Service x) h s = s
 since-one d P Q kept n Empty durable.Abandon h s = s
 since-one d P Q kept n Empty durable.Purge h s = s
+since-one d P Q kept n Empty (durable.Turn u) h s = s
+since-one d P Q kept n Empty (durable.Gone new) h s = h
 since-one d P Q kept n (Purged old) (durable.Admin x) h s = s
 since-one d P Q kept n (Purged old) (durable.Service x) h s = s
 since-one d P Q kept n (Purged old) durable.Abandon h s = s
 since-one d P Q kept n (Purged old) durable.Purge h s = s
+since-one d P Q kept n (Purged old) (durable.Turn u) h s = s
+since-one d P Q kept n (Purged old) (durable.Gone new) h s = h
 since-one d P Q kept n (Held e m t a b) (durable.Admin x) h (inl s) = inl (s.0, kept.acts e a x s.1, s.2)
 since-one d P Q kept n (Held e m t a b) (durable.Admin x) h (inr s) = inr s
 since-one d P Q kept n (Held e m t a b) (durable.Service x) h (inl s) = inl (s.0, s.1, kept.batches b x s.2)
@@ -95,11 +111,13 @@ since-one d P Q kept n (Held e m t a b) durable.Abandon h (inl s) = inl s
 since-one d P Q kept n (Held e m t a b) durable.Abandon h (inr s) = inr s
 since-one d P Q kept n (Held e m t a b) durable.Purge h (inl s) = let x : e.generation ≡ d.generation = ap (λ (z : Definition). z.generation) s.0 in omega arith
 since-one d P Q kept n (Held e m t a b) durable.Purge h (inr s) = omega (arith, s)
+since-one d P Q kept n (Held e m t a b) (durable.Turn u) h s = s
+since-one d P Q kept n (Held e m t a b) (durable.Gone new) h s = h
 
 -- what is bound is higher
 abbrev pub BindsHigher : Definition → List Change → Type 0
 BindsHigher d [] = Unit {0}
-BindsHigher d (x ∷ xs) = ((e : Definition) → x ≡ durable.Bind e → d.generation < e.generation) × BindsHigher d xs
+BindsHigher d (x ∷ xs) = IsHigher d x × BindsHigher d xs
 
 -- changes
 pub since-made : (d : Definition) (P : Member Act → Type 0) (Q : Member Batch → Type 0) (kept : Lasts P Q) (n : Node) (k : Cell) (xs : List Change) → BindsHigher d xs → Since d P Q k → Since d P Q (made n k xs)
@@ -123,12 +141,12 @@ since-stopped d P Q kept (Held e m t a b) (inr s) = inr s
 -- changes of acts bind nothing
 pub no_binds-admin : (d : Definition) (xs : List (GroupChange Act)) (ys : List Change) → BindsHigher d ys → BindsHigher d (admin_changes xs ++ ys)
 no_binds-admin d [] ys h = h
-no_binds-admin d (x ∷ xs) ys h = ((λ e q. cc), no_binds-admin d xs ys h)
+no_binds-admin d (x ∷ xs) ys h = (tt, no_binds-admin d xs ys h)
 
 -- changes of batches bind nothing
 pub no_binds-service : (d : Definition) (xs : List (GroupChange Batch)) → BindsHigher d (service_changes xs)
 no_binds-service d [] = tt
-no_binds-service d (x ∷ xs) = ((λ e q. cc), no_binds-service d xs)
+no_binds-service d (x ∷ xs) = (tt, no_binds-service d xs)
 
 -- a cell that was bound is free for later generations only
 pub free-since : (d : Definition) (P : Member Act → Type 0) (Q : Member Batch → Type 0) (kept : Lasts P Q) (k : Cell) (g : ℕ) → IsFree k g → Since d P Q k → d.generation < g
@@ -136,21 +154,17 @@ free-since d P Q kept Empty g f s = absurd s
 free-since d P Q kept (Purged old) g f s = omega arith
 free-since d P Q kept (Held e m t a b) g f s = absurd f
 
--- equal bindings are of one definition
-pub bind_is : (x y : Definition) → durable.Bind x ≡ durable.Bind y → x ≡ y
-bind_is x y h = cc
-
 -- a fair deed binds only later generations
 pub higher-deed : (d : Definition) (P : Member Act → Type 0) (Q : Member Batch → Type 0) (kept : Lasts P Q) (c n : Node) (sent : List Sent) (k : Cell) (deed : Deed) → Fair n sent k deed → Since d P Q k → BindsHigher d (planned n c deed).changes
 higher-deed d P Q kept c n sent k (Refuses r) f s = tt
 higher-deed d P Q kept c n sent k (Tells a) f s = tt
 higher-deed d P Q kept c n sent k (Replies note to m) f s = tt
-higher-deed d P Q kept c n sent k (Binds say g back e) f s = ((λ x q. subst (λ (z : Definition). d.generation < z.generation) (bind_is g x q) (free-since d P Q kept k g.generation f.2 s)), subst (λ (xs : List Change). BindsHigher d xs) (append-nil _) (no_binds-admin d (admin_row n g new_member e).changes [] tt))
+higher-deed d P Q kept c n sent k (Binds say g back e) f s = (free-since d P Q kept k g.generation f.2 s, subst (λ (xs : List Change). BindsHigher d xs) (append-nil _) (no_binds-admin d (admin_row n g new_member e).changes [] tt))
 higher-deed d P Q kept c n sent k (Acts say g a back e) f s = subst (λ (xs : List Change). BindsHigher d xs) (append-nil _) (no_binds-admin d (admin_row n g a e).changes [] tt)
 higher-deed d P Q kept c n sent k (Serves say g b back e) f s = no_binds-service d (service_row n g b e).changes
 higher-deed d P Q kept c n sent k (Turns g a b x y) f s = no_binds-admin d (admin_row n g a x).changes (service_changes (service_row n g b y).changes) (no_binds-service d (service_row n g b y).changes)
-higher-deed d P Q kept c n sent k Abandons f s = ((λ e q. cc), tt)
-higher-deed d P Q kept c n sent k Purges f s = ((λ e q. cc), tt)
+higher-deed d P Q kept c n sent k Abandons f s = (tt, tt)
+higher-deed d P Q kept c n sent k Purges f s = (tt, tt)
 
 -- one cell over an event
 pub since-put : (P : Cell → Type 0) (at : Node → Cell) (n k : Node) (new : Cell) → (P (at n) → P new) → P (at k) → P (put_at at n new k)

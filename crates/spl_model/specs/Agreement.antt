@@ -21,7 +21,6 @@ use Rattle.spl_wire.specs.declared.answer.Answer.TheVariants as answer
 use Rattle.spl_wire.specs.declared.plan.Plan.{Plan}
 use Rattle.spl_sched.specs.declared.line.Step.{Step}
 use Rattle.spl_sched.specs.declared.line.Step.TheVariants as step
-use Rattle.spl_sched.specs.declared.line.Line.{Line}
 use Rattle.spl_rules.specs.Cells.{Cell, Empty, Held, Purged, Tells, runs, shows, next_act}
 use Rattle.spl_rules.specs.Batches.{root_told, history_told, value_told, listed, receipt_told}
 use Rattle.spl_rules.specs.Events.{does}
@@ -29,6 +28,7 @@ use Rattle.spl_rules.specs.Plans.{plan_of}
 use Rattle.spl_rules.specs.Changes.{after_plan}
 use Rattle.spl_model.specs.Worlds.{World, Occurrence, Steps, Stops, Starts, Halts, run, first_world}
 use Rattle.spl_model.specs.Lists.{act_list, batch_list}
+use Rattle.spl_model.specs.Projection.{Ran}
 use Rattle.spl_model.specs.Answers.{circuit_world, occurrences}
 
 -- the world behind what happened
@@ -172,6 +172,6 @@ pub record IsAgreed (ns : List Node) (es : List Occurrence) (d : Definition) : T
   pub few : AtEach (world_behind ns es) d (λ n m turn a b. n ≡ admin d → AreFew a.pending)
 
 -- the agreement of all circuits in a run of lines: at each moment of the world of each id, of each definition
-pub record Agree (ns : List Node) (ls : List Line) : Type 0 where
-  pub happened : (c : Node) → circuit_world ns c ls ≡ world_behind ns (occurrences ns c ls)
-  pub agreed : (c : Node) (d : Definition) (es fs : List Occurrence) → es ++ fs ≡ occurrences ns c ls → IsAgreed ns es d
+pub record Agree (ns : List Node) (rs : List Ran) : Type 0 where
+  pub happened : (c : Node) → circuit_world ns c rs ≡ world_behind ns (occurrences ns c rs)
+  pub agreed : (c : Node) (d : Definition) (es fs : List Occurrence) → es ++ fs ≡ occurrences ns c rs → IsAgreed ns es d

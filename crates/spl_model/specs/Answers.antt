@@ -1,83 +1,149 @@
--- The lines about one circuit, and the answers to a schedule (docs/RULES.md, Circuits as worlds).
-use Rattle.std.specs.Prelude.{Bool, false, List, [], ◌∷◌, ◌++◌, Option, Some, None}
+-- The answers to the lines of a schedule (docs/RULES.md, Circuits as worlds).
+use Rattle.std.specs.Prelude.{Bool, true, false, List, [], ◌∷◌, ◌++◌, if◌then◌else◌, Option, Some, None}
 use Rattle.std.specs.List.{filter}
 use Rattle.std.specs.Str.{bytes_eq}
-use Rattle.spl_circuit.specs.Nodes.{Node}
+use Rattle.spl_circuit.specs.Nodes.{Node, has_node, sorted}
 use Rattle.spl_wire.specs.declared.answer.Answer.{Answer}
 use Rattle.spl_wire.specs.declared.answer.Answer.TheVariants as answer
 use Rattle.spl_wire.specs.declared.answer.Refusal.TheVariants as refusal
+use Rattle.spl_wire.specs.declared.answer.Bit.{Bit}
+use Rattle.spl_wire.specs.declared.answer.Bit.TheVariants as bit
+use Rattle.spl_wire.specs.declared.change.Change.{Change}
+use Rattle.spl_sched.specs.declared.line.Step.{Step}
 use Rattle.spl_sched.specs.declared.line.Line.{Line}
 use Rattle.spl_sched.specs.declared.line.Line.TheVariants as line
-use Rattle.spl_sched.specs.Grammar.{circuit_of}
-use Rattle.spl_model.specs.Worlds.{World, Occurrence, Steps, first_world, step_plan, step_world}
+use Rattle.spl_sched.specs.Grammar.{circuit_of, step_node}
+use Rattle.spl_rules.specs.Cells.{is_bound}
+use Rattle.spl_model.specs.Worlds.{World, Occurrence, Steps, Stops, Starts, Halts, first_world, step_plan, step_world, happens}
 use Rattle.spl_model.specs.Calm.{calm}
+use Rattle.spl_model.specs.Projection.{Ran, names, own}
 
--- the line names this circuit
-abbrev pub names_circuit : Node → Option Node → Bool
-names_circuit c None = false
-names_circuit c (Some i) = bytes_eq i c
+-- ---- a line in a world
 
-abbrev pub names : Node → Line → Bool
-names c l = names_circuit c (circuit_of l)
+-- what became of the record of these changes
+abbrev pub bit_of : Bool → List Change → Bit
+bit_of kept [] = bit.Nothing
+bit_of kept (x ∷ xs) = if kept then bit.Kept else bit.Lost
 
--- a circuit's own lines
-abbrev pub own : Node → List Line → List Line
-own c ls = filter (names c) ls
+-- a node stops in a step
+abbrev pub halt_answer : (Bit → Answer) → World → Step → Bool → Answer
+halt_answer say w s kept = if w.up (step_node s) then say (bit_of kept (step_plan w s).changes) else answer.Refused refusal.Down
 
--- a line in the world of its circuit. The lines that stop, start and list nodes are not run yet
-abbrev pub line_answer : World → Line → Answer
-line_answer w (line.Step s) = (step_plan w s).answer
-line_answer w (line.Calm c k) = answer.Calm k
-line_answer w (line.Stop n) = answer.Refused refusal.NoCircuit
-line_answer w (line.Start n) = answer.Refused refusal.NoCircuit
-line_answer w (line.Roll n) = answer.Refused refusal.NoCircuit
-line_answer w (line.Cut calls fill s) = answer.Refused refusal.NoCircuit
-line_answer w (line.Fail call s) = answer.Refused refusal.NoCircuit
+-- the answer to a line in a world. What roll asks for no one world tells
+abbrev pub line_answer : World → Line → Bool → Answer
+line_answer w (line.Step s) kept = (step_plan w s).answer
+line_answer w (line.Calm c k) kept = answer.Calm k
+line_answer w (line.Stop n) kept = answer.Power false
+line_answer w (line.Start n) kept = answer.Power true
+line_answer w (line.Roll n) kept = answer.Refused refusal.NoCircuit
+line_answer w (line.Cut calls fill s) kept = halt_answer answer.Cut w s kept
+line_answer w (line.Fail call s) kept = halt_answer answer.Fault w s kept
 
-abbrev pub line_world : World → Line → World
-line_world w (line.Step s) = step_world w s
-line_world w (line.Calm c k) = (calm c w k).world
-line_world w (line.Stop n) = w
-line_world w (line.Start n) = w
-line_world w (line.Roll n) = w
-line_world w (line.Cut calls fill s) = w
-line_world w (line.Fail call s) = w
+-- the world behind it
+abbrev pub line_world : World → Line → Bool → World
+line_world w (line.Step s) kept = step_world w s
+line_world w (line.Calm c k) kept = (calm c w k).world
+line_world w (line.Stop n) kept = happens w (Stops n)
+line_world w (line.Start n) kept = happens w (Starts n)
+line_world w (line.Roll n) kept = w
+line_world w (line.Cut calls fill s) kept = happens w (Halts kept s)
+line_world w (line.Fail call s) kept = happens w (Halts kept s)
 
-abbrev pub lines_world : World → List Line → World
+-- what happens in it
+abbrev pub occurrences_in : World → Line → Bool → List Occurrence
+occurrences_in w (line.Step s) kept = Steps s ∷ []
+occurrences_in w (line.Calm c k) kept = (calm c w k).happened
+occurrences_in w (line.Stop n) kept = Stops n ∷ []
+occurrences_in w (line.Start n) kept = Starts n ∷ []
+occurrences_in w (line.Roll n) kept = []
+occurrences_in w (line.Cut calls fill s) kept = Halts kept s ∷ []
+occurrences_in w (line.Fail call s) kept = Halts kept s ∷ []
+
+-- ---- lines
+
+abbrev pub lines_world : World → List Ran → World
 lines_world w [] = w
-lines_world w (l ∷ ls) = lines_world (line_world w l) ls
+lines_world w (r ∷ rs) = lines_world (line_world w r.line r.kept) rs
+
+abbrev pub occurrences_from : World → List Ran → List Occurrence
+occurrences_from w [] = []
+occurrences_from w (r ∷ rs) = occurrences_in w r.line r.kept ++ occurrences_from (line_world w r.line r.kept) rs
+
+-- the answer to the last of some lines
+abbrev pub last_answer : World → List Ran → Answer
+last_answer w [] = answer.Refused refusal.NoCircuit
+last_answer w (r ∷ []) = line_answer w r.line r.kept
+last_answer w (r ∷ s ∷ rs) = last_answer (line_world w r.line r.kept) (s ∷ rs)
 
 -- the world of a circuit among some nodes, behind the lines of a schedule: its own lines alone count
-abbrev pub circuit_world : List Node → Node → List Line → World
-circuit_world ns c ls = lines_world (first_world ns) (own c ls)
+abbrev pub circuit_world : List Node → Node → List Ran → World
+circuit_world ns c rs = lines_world (first_world ns) (own c rs)
 
--- what happens in a line
-abbrev pub occurrences_in : World → Line → List Occurrence
-occurrences_in w (line.Step s) = Steps s ∷ []
-occurrences_in w (line.Calm c k) = (calm c w k).happened
-occurrences_in w (line.Stop n) = []
-occurrences_in w (line.Start n) = []
-occurrences_in w (line.Roll n) = []
-occurrences_in w (line.Cut calls fill s) = []
-occurrences_in w (line.Fail call s) = []
+-- what happens in it
+abbrev pub occurrences : List Node → Node → List Ran → List Occurrence
+occurrences ns c rs = occurrences_from (first_world ns) (own c rs)
 
-abbrev pub occurrences_from : World → List Line → List Occurrence
-occurrences_from w [] = []
-occurrences_from w (l ∷ ls) = occurrences_in w l ++ occurrences_from (line_world w l) ls
+-- ---- nodes
 
--- what happens in the world of a circuit in the lines of a schedule
-abbrev pub occurrences : List Node → Node → List Line → List Occurrence
-occurrences ns c ls = occurrences_from (first_world ns) (own c ls)
+abbrev pub up_after : Node → Bool → Line → Bool
+up_after n up (line.Step s) = up
+up_after n up (line.Calm c k) = up
+up_after n up (line.Stop m) = if bytes_eq n m then false else up
+up_after n up (line.Start m) = if bytes_eq n m then true else up
+up_after n up (line.Roll m) = up
+up_after n up (line.Cut calls fill s) = if bytes_eq n (step_node s) then false else up
+up_after n up (line.Fail call s) = if bytes_eq n (step_node s) then false else up
 
-abbrev pub answer_about : List Node → List Line → Line → Option Node → Answer
-answer_about ns before l None = answer.Refused refusal.NoCircuit
-answer_about ns before l (Some c) = line_answer (circuit_world ns c before) l
+abbrev pub up_from : Node → Bool → List Ran → Bool
+up_from n up [] = up
+up_from n up (r ∷ rs) = up_from n (up_after n up r.line) rs
+
+-- the node is up behind these lines
+abbrev pub is_up : Node → List Ran → Bool
+is_up n rs = up_from n true rs
+
+abbrev pub and_circuit : Option Node → List Node → List Node
+and_circuit None cs = cs
+and_circuit (Some c) cs = if has_node cs c then cs else c ∷ cs
+
+-- the circuits that lines name, each once
+abbrev pub circuits_in : List Ran → List Node
+circuits_in [] = []
+circuits_in (r ∷ rs) = and_circuit (circuit_of r.line) (circuits_in rs)
+
+-- the circuits that are bound at a node, in the order of their ids
+abbrev pub bound_at : List Node → List Ran → Node → List Node
+bound_at ns rs n = filter (λ c. is_bound ((circuit_world ns c rs).at n)) (sorted (circuits_in rs))
+
+abbrev pub roll_answer : List Node → List Ran → Node → Answer
+roll_answer ns rs n = if is_up n rs then answer.Roll (bound_at ns rs n) else answer.Refused refusal.Down
+
+-- ---- answers
+
+-- the answer to a line that names no circuit
+abbrev pub node_answer : List Node → List Ran → Line → Answer
+node_answer ns rs (line.Stop n) = answer.Power false
+node_answer ns rs (line.Start n) = answer.Power true
+node_answer ns rs (line.Roll n) = roll_answer ns rs n
+node_answer ns rs _ = answer.Refused refusal.NoCircuit
+
+-- the answer to the last of these lines: where it names a circuit, the last answer to the circuit's own lines
+abbrev pub answer_about : List Node → List Ran → Line → Option Node → Answer
+answer_about ns rs l None = node_answer ns rs l
+answer_about ns rs l (Some c) = last_answer (first_world ns) (own c rs)
 
 -- the answer to a line behind the lines that ran before it
-abbrev pub answer_to : List Node → List Line → Line → Answer
-answer_to ns before l = answer_about ns before l (circuit_of l)
+abbrev pub answer_to : List Node → List Ran → Ran → Answer
+answer_to ns before r = answer_about ns (before ++ r ∷ []) r.line (circuit_of r.line)
 
 -- the answers to lines that run behind others
-abbrev pub answers : List Node → List Line → List Line → List Answer
+abbrev pub answers : List Node → List Ran → List Ran → List Answer
 answers ns before [] = []
-answers ns before (l ∷ ls) = answer_to ns before l ∷ answers ns (before ++ l ∷ []) ls
+answers ns before (r ∷ rs) = answer_to ns before r ∷ answers ns (before ++ r ∷ []) rs
+
+-- those to the lines that name a circuit
+abbrev pub answers_about : List Node → Node → List Ran → List Ran → List Answer
+answers_about ns c before [] = []
+answers_about ns c before (r ∷ rs) =
+    if names c r.line then answer_to ns before r ∷ answers_about ns c (before ++ r ∷ []) rs
+    else answers_about ns c (before ++ r ∷ []) rs

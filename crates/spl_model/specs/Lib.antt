@@ -1,6 +1,8 @@
 pub mod Worlds
+pub mod Puts
 pub mod Calm
+pub mod Projection
+pub mod Outcomes
 pub mod Answers
-pub mod Apart
 pub mod Lists
 pub mod Agreement

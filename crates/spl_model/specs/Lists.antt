@@ -38,6 +38,8 @@ committed (change.Begin r) = []
 committed (change.Seen r) = []
 committed (change.Promise r v) = []
 committed change.Abort = []
+committed (change.Restore next seen) = []
+committed (change.Kept v why) = []
 
 abbrev pub act_of : Change → List Act
 act_of (durable.Bind d) = []
@@ -45,6 +47,8 @@ act_of (durable.Admin x) = committed x
 act_of (durable.Service x) = []
 act_of durable.Abandon = []
 act_of durable.Purge = []
+act_of (durable.Turn t) = []
+act_of (durable.Gone old) = []
 
 abbrev pub batch_of : Change → List Batch
 batch_of (durable.Bind d) = []
@@ -52,6 +56,8 @@ batch_of (durable.Admin x) = []
 batch_of (durable.Service x) = committed x
 batch_of durable.Abandon = []
 batch_of durable.Purge = []
+batch_of (durable.Turn t) = []
+batch_of (durable.Gone old) = []
 
 abbrev pub acts_in : List Change → List Act
 acts_in [] = []

@@ -10,7 +10,7 @@ use Rattle.spl_sched.specs.declared.line.Step.TheVariants as step
 use Rattle.spl_rules.specs.Changes.{after_plan}
 use Rattle.spl_model.specs.Worlds.{step_plan}
 use Rattle.spl_model.specs.Calm.{Calming, calming_step, ticks, delivers, pair_turn, to_all, from_all, pass, passes}
-use Rattle.spl_model.specs.Apart.{put_at-other}
+use Rattle.spl_model.specs.Puts.{put_at-other}
 use Rattle.spl_world.proofs.Sends.{bool_cases, bytes_are}
 
 -- ---- one more of each

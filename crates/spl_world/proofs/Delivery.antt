@@ -7,24 +7,26 @@ use Rattle.spl_wire.specs.declared.event.Event.TheVariants as event
 use Rattle.spl_wire.specs.declared.answer.Answer.{Answer}
 use Rattle.spl_wire.specs.declared.answer.Answer.TheVariants as answer
 use Rattle.spl_wire.specs.declared.answer.Refusal.TheVariants as refusal
+use Rattle.spl_sched.specs.declared.line.Step.{Step}
 use Rattle.spl_sched.specs.declared.line.Step.TheVariants as step
+use Rattle.spl_sched.specs.Grammar.{step_node}
 use Rattle.spl_rules.specs.Cells.{Cell, Empty, Held, Purged}
 use Rattle.spl_rules.specs.Plans.{plan_of, tells_only}
 use Rattle.spl_rules.specs.Changes.{after_plan}
-use Rattle.spl_model.specs.Worlds.{World as CircuitWorld, Sent, messages, delivery, on_pair, put_at, carried_out, step_plan}
-use Rattle.spl_model.specs.Apart.{put_at-here, put_at-other}
+use Rattle.spl_model.specs.Worlds.{World as CircuitWorld, Sent, messages, delivery, on_pair, put_at, carried_out, step_plan, step_world}
+use Rattle.spl_model.specs.Puts.{put_at-here, put_at-other}
 use Rattle.spl_world.specs.Kept.{NodeView}
-use Rattle.spl_world.specs.Views.{Holds, Moves, all_up}
-use Rattle.spl_world.proofs.Up.{step_up}
+use Rattle.spl_world.specs.Views.{Holds, Moves}
+use Rattle.spl_world.proofs.Up.{step_up, world_down}
 use Rattle.spl_world.proofs.Sends.{bool_cases, bytes_are}
 
 number : (index : ℕ) → (index + 1) - 1 ≡ index
 number index = omega arith
 
-pub delivery_is : (m : CircuitWorld) (c a b : Node) (index : ℕ) (x : Message) → slice_get (messages m a b) index ≡ Some x → m.up ≡ all_up → plan_of b c (m.at b) (event.Deliver a x) ≡ step_plan m (step.Deliver a b c (index + 1))
+pub delivery_is : (m : CircuitWorld) (c a b : Node) (index : ℕ) (x : Message) → slice_get (messages m a b) index ≡ Some x → m.up b ≡ true → plan_of b c (m.at b) (event.Deliver a x) ≡ step_plan m (step.Deliver a b c (index + 1))
 delivery_is m c a b index x found up = sym (step_up m (step.Deliver a b c (index + 1)) up ∙ (ap (λ (k : ℕ). delivery c m a b (slice_get (messages m a b) k)) (number index) ∙ ap (delivery c m a b) found))
 
-pub no_delivery : (m : CircuitWorld) (c a b : Node) (index : ℕ) → slice_get (messages m a b) index ≡ None → m.up ≡ all_up → step_plan m (step.Deliver a b c (index + 1)) ≡ tells_only (answer.Refused refusal.NoMessage)
+pub no_delivery : (m : CircuitWorld) (c a b : Node) (index : ℕ) → slice_get (messages m a b) index ≡ None → m.up b ≡ true → step_plan m (step.Deliver a b c (index + 1)) ≡ tells_only (answer.Refused refusal.NoMessage)
 no_delivery m c a b index found up = step_up m (step.Deliver a b c (index + 1)) up ∙ ap (λ (k : ℕ). delivery c m a b (slice_get (messages m a b) k)) (number index) ∙ ap (delivery c m a b) found
 
 -- the same by other words
@@ -56,9 +58,16 @@ pub quiet_holds : (c n : Node) (m : CircuitWorld) (a : Answer) (xs : List NodeVi
 quiet_holds c n m a xs h = record {
   ordered = h.ordered;
   nodes = h.nodes;
-  up = h.up;
   each = λ i x there. let stood = h.each i x there in record {
+    up = stood.up;
     state = stood.state ∙ sym (quiet_at m n x.id a);
     sent = λ b known. stood.sent b known ∙ ap (on_pair x.id b) (sym (append_nothing m.sent));
   };
+}
+
+-- so a step at a node that is down
+pub down_moves : (c : Node) (s : Step) (xs : List NodeView) → ((m : CircuitWorld) → Holds c m xs → m.up (step_node s) ≡ false) → Moves c (λ m. step_world m s) xs xs
+down_moves c s xs down = record {
+  own = λ m h. subst (λ (w : CircuitWorld). Holds c w xs) (sym (world_down m s (down m h))) (quiet_holds c (step_node s) m (answer.Refused refusal.Down) xs h);
+  others = λ d m off h. h;
 }

@@ -15,3 +15,4 @@ mod Steps
 mod Ticking
 mod Turns
 mod Up
+pub mod Powering

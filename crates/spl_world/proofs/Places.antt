@@ -41,13 +41,13 @@ known_plan x c p e own found =
 
 -- what was done at the place of a circuit is done at the node
 pub done_at : (x : NodeView) (c : Node) (u v : Option PlaceView) (s : Plan) (new : List (Node × PlaceView)) → place_at c x.places ≡ u → place_at c new ≡ v → IsDone x.id s (place_or_fresh x.id c u) (place_or_fresh x.id c v)
-    → IsDone x.id s (place_of x c) (place_of (record { id = x.id; places = new }) c)
+    → IsDone x.id s (place_of x c) (place_of (record { id = x.id; up = x.up; places = new }) c)
 done_at x c u v s new found kept done =
     subst (λ (o : Option PlaceView). IsDone x.id s (place_of x c) (place_or_fresh x.id c o)) (sym kept)
     (subst (λ (o : Option PlaceView). IsDone x.id s (place_or_fresh x.id c o) (place_or_fresh x.id c v)) (sym found) done)
 
 pub known_done : (x : NodeView) (c : Node) (p q : PlaceView) (new : List (Node × PlaceView)) (e : Event) → IsOwn x.id c p → place_at c x.places ≡ Some p → place_at c new ≡ Some q → IsDone p.here (plan_of p.here p.circuit p.state e) p q
-    → IsDone x.id (plan_of x.id c (place_of x c).state e) (place_of x c) (place_of (record { id = x.id; places = new }) c)
+    → IsDone x.id (plan_of x.id c (place_of x c).state e) (place_of x c) (place_of (record { id = x.id; up = x.up; places = new }) c)
 known_done x c p q new e own found kept done =
     done_at x c (Some p) (Some q) (plan_of x.id c (place_of x c).state e) new found kept
     (subst (λ (s : Plan). IsDone x.id s p q) (known_plan x c p e own found) (subst (λ (h : Node). IsDone h (plan_of p.here p.circuit p.state e) p q) own.0 done))
@@ -57,5 +57,5 @@ pub first_plan : (x : NodeView) (c : Node) (e : Event) → place_at c x.places �
 first_plan x c e none = ap (λ (o : Option PlaceView). plan_of x.id c (place_or_fresh x.id c o).state e) (sym none)
 
 pub first_done : (x : NodeView) (c : Node) (v : Option PlaceView) (new : List (Node × PlaceView)) (e : Event) → place_at c x.places ≡ None → place_at c new ≡ v → IsDone x.id (plan_of x.id c Empty e) (fresh_place x.id c) (place_or_fresh x.id c v)
-    → IsDone x.id (plan_of x.id c (place_of x c).state e) (place_of x c) (place_of (record { id = x.id; places = new }) c)
+    → IsDone x.id (plan_of x.id c (place_of x c).state e) (place_of x c) (place_of (record { id = x.id; up = x.up; places = new }) c)
 first_done x c v new e none kept done = done_at x c None v (plan_of x.id c (place_of x c).state e) new none kept (subst (λ (s : Plan). IsDone x.id s (fresh_place x.id c) (place_or_fresh x.id c v)) (first_plan x c e none) done)

@@ -3,29 +3,37 @@ use Rattle.std.proofs.Common.{◌≡◌, ◌⊎◌, inl, inr, true, false, List,
 use Rattle.std.specs.Str.{bytes_eq}
 use Rattle.spl_circuit.specs.Nodes.{Node}
 use Rattle.spl_sched.specs.declared.line.Line.{Line}
-use Rattle.spl_sched.specs.Grammar.{circuit_of}
+use Rattle.spl_sched.specs.Grammar.{circuit_of, is_line}
 use Rattle.spl_model.specs.Worlds.{World as CircuitWorld}
-use Rattle.spl_model.specs.Answers.{names, names_circuit, line_world, circuit_world}
-use Rattle.spl_model.specs.Apart.{moves-own, keeps-other}
+use Rattle.spl_model.specs.Projection.{Ran, lines_fit, names, names_circuit}
+use Rattle.spl_model.specs.Outcomes.{by_rule, keeps_record}
+use Rattle.spl_model.specs.Answers.{line_world}
+use Rattle.spl_model.proofs.Lines.{fit-append}
+use Rattle.spl_projection.specs.Whole.{world_beside, whole_world}
+use Rattle.spl_projection.specs.Apart.{moves-own, moves-beside}
 use Rattle.spl_world.specs.Views.{Holds, Moves, Stands, ids_of}
 use Rattle.spl_world.specs.declared.world.World.{World}
 use Rattle.spl_world.proofs.Sends.{bool_cases, bytes_are}
 
+-- lines within their bounds, and one more
+pub fits_after : (before : List Ran) (l : Line) → lines_fit before ≡ true → is_line l ≡ true → lines_fit (before ++ by_rule l ∷ []) ≡ true
+fits_after before l h k = fit-append before (by_rule l ∷ []) h (rw k)
+
 -- a line of a circuit moved its world, and no other
-pub stands_after : (before : List Line) (l : Line) (c : Node) (old new : World) → circuit_of l ≡ Some c → ids_of new ≡ ids_of old → Stands before old → Moves c (λ m. line_world m l) old.nodes.items new.nodes.items → Stands (before ++ l ∷ []) new
-stands_after before l c old new about ids stands moves d = subst (λ (ns : List Node). Holds d (circuit_world ns d (before ++ l ∷ [])) new.nodes.items) (sym ids) (go (bool_cases (bytes_eq c d)))
+pub stands_after : (before : List Ran) (l : Line) (c : Node) (old new : World) → circuit_of l ≡ Some c → is_line l ≡ true → ((w : CircuitWorld) → world_beside w l ≡ w) → ids_of new ≡ ids_of old → Stands before old → Moves c (λ m. line_world m l (keeps_record l)) old.nodes.items new.nodes.items → Stands (before ++ by_rule l ∷ []) new
+stands_after before l c old new about fits still ids stands moves = record {
+  fit = fits_after before l stands.fit fits;
+  each = λ d. subst (λ (ns : List Node). Holds d (whole_world ns d (before ++ by_rule l ∷ [])) new.nodes.items) (sym ids) (go d (bool_cases (bytes_eq c d)));
+}
   where
     ns : List Node
     ns = ids_of old
 
-    own : bytes_eq c d ≡ true → Holds d (circuit_world ns d (before ++ l ∷ [])) new.nodes.items
-    own q =
+    go : (d : Node) → (bytes_eq c d ≡ true) ⊎ (bytes_eq c d ≡ false) → Holds d (whole_world ns d (before ++ by_rule l ∷ [])) new.nodes.items
+    go d (inl q) =
         let hit : names d l ≡ true = ap (names_circuit d) about ∙ q in
-        subst (λ (m : CircuitWorld). Holds d m new.nodes.items) (sym (moves-own ns before l d hit))
-        (subst (λ (e : Node). Holds e (line_world (circuit_world ns e before) l) new.nodes.items) (bytes_are c d q) (moves.own (circuit_world ns c before) (stands c)))
-
-    go : (bytes_eq c d ≡ true) ⊎ (bytes_eq c d ≡ false) → Holds d (circuit_world ns d (before ++ l ∷ [])) new.nodes.items
-    go (inl q) = own q
-    go (inr q) =
+        subst (λ (m : CircuitWorld). Holds d m new.nodes.items) (sym (moves-own ns before (by_rule l) d hit))
+        (subst (λ (e : Node). Holds e (line_world (whole_world ns e before) l (keeps_record l)) new.nodes.items) (bytes_are c d q) (moves.own (whole_world ns c before) (stands.each c)))
+    go d (inr q) =
         let miss : names d l ≡ false = ap (names_circuit d) about ∙ q in
-        subst (λ (m : CircuitWorld). Holds d m new.nodes.items) (sym (keeps-other ns before l d miss)) (moves.others d (circuit_world ns d before) q (stands d))
+        subst (λ (m : CircuitWorld). Holds d m new.nodes.items) (sym (moves-beside ns before (by_rule l) d miss ∙ still (whole_world ns d before))) (moves.others d (whole_world ns d before) q (stands.each d))

@@ -15,7 +15,6 @@ use Rattle.spl_world.proofs.About.{same_itself}
 use Rattle.spl_world.proofs.Calms.{delivers_more, to_all_more, from_all_more}
 use Rattle.spl_world.proofs.Reading.{no_messages}
 use Rattle.spl_agree.proofs.Tests.{if_holds}
-use Rattle.spl_world.proofs.Up.{node_up}
 use Rattle.spl_world.proofs.Slots.{apart, take_one, set_cases, differ, differ_back, below_after, tail_ascends}
 
 -- the world behind so many deliveries, from this number on
@@ -64,6 +63,9 @@ both_same a b = rw (same_itself a, same_itself b) refl
 
 pub turn_taken : (c : Node) (z : Calming) (a b : Node) → z.world.up b ≡ true → (pair_turn c z a b).taken a b ≡ sent_count z.world a b
 turn_taken c z a b up = rw (up, both_same a b) refl
+
+pub turn_none : (c : Node) (z : Calming) (a b : Node) → z.world.up b ≡ false → pair_turn c z a b ≡ z
+turn_none c z a b up = rw up
 
 second_off : (p q : Bool) → q ≡ false → (p && q) ≡ false
 second_off true q e = e
@@ -174,13 +176,13 @@ rows_set c z ids rows i a r up at h new j b q to e = go (set_cases rows i j r q 
 
 pub turn_own : (c : Node) (z : Calming) (a : Node) (ids : List Node) (i : ℕ) (n : Node) (ys zs : List NodeView) (row : List ℕ) (k : ℕ) → ascends ids ≡ true → slice_get ids i ≡ Some n
     → Holds c (to_all c z a (take i ids)).world ys × (row ≡ row_of (to_all c z a (take i ids)).taken a ids)
-    → Moves c (λ m. (pair_turn c (record (to_all c z a (take i ids)) { world = m }) a n).world) ys zs → k ≡ sent_count (to_all c z a (take i ids)).world a n
+    → Moves c (λ m. (pair_turn c (record (to_all c z a (take i ids)) { world = m }) a n).world) ys zs → k ≡ (pair_turn c (to_all c z a (take i ids)) a n).taken a n
     → Holds c (to_all c z a (take (i + 1) ids)).world zs × (slice_set row i k ≡ row_of (to_all c z a (take (i + 1) ids)).taken a ids)
 turn_own c z a ids i n ys zs row k up at so_far moves count =
     let y : Calming = to_all c z a (take i ids) in
     let e : to_all c z a (take (i + 1) ids) ≡ pair_turn c y a n = ap (to_all c z a) (take_one ids i n at) ∙ to_all_more c z a (take i ids) n in (
       subst (λ (w : Calming). Holds c w.world zs) (sym e) (moves.own y.world so_far.0),
-      ap (λ (r : List ℕ). slice_set r i k) so_far.1 ∙ row_set y.taken (pair_turn c y a n).taken a ids i n k up at (count ∙ sym (turn_taken c y a n (node_up y.world n so_far.0.up))) (λ b off. turn_keeps c y a n b off)
+      ap (λ (r : List ℕ). slice_set r i k) so_far.1 ∙ row_set y.taken (pair_turn c y a n).taken a ids i n k up at count (λ b off. turn_keeps c y a n b off)
           ∙ ap (λ (w : Calming). row_of w.taken a ids) (sym e),
     )
 

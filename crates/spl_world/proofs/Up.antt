@@ -1,5 +1,5 @@
--- Where every node is up.
-use Rattle.std.proofs.Common.{◌≡◌, Bool, true, if◌then◌else◌, ap}
+-- Where a node is up.
+use Rattle.std.proofs.Common.{◌≡◌, ℕ, zero, suc, Bool, true, false, List, [], ◌∷◌, Some, slice_get, slice_set, if◌then◌else◌, refl, ap, sym, ◌∙◌}
 use Rattle.spl_circuit.specs.Nodes.{Node}
 use Rattle.spl_wire.specs.declared.answer.Answer.TheVariants as answer
 use Rattle.spl_wire.specs.declared.answer.Refusal.TheVariants as refusal
@@ -7,13 +7,46 @@ use Rattle.spl_sched.specs.declared.line.Step.{Step}
 use Rattle.spl_sched.specs.Grammar.{step_node}
 use Rattle.spl_rules.specs.Plans.{tells_only}
 use Rattle.spl_model.specs.Worlds.{World as CircuitWorld, plan_up, step_plan, step_world, carried_out}
-use Rattle.spl_world.specs.Views.{all_up}
+use Rattle.spl_world.specs.Kept.{NodeView}
+use Rattle.spl_world.specs.Views.{Holds, IsUp, ids_in, ups_in}
+use Rattle.spl_world.proofs.Slots.{same_at}
 
-pub node_up : (m : CircuitWorld) (n : Node) → m.up ≡ all_up → m.up n ≡ true
-node_up m n h = ap (λ (u : Node → Bool). u n) h
+pub step_up : (m : CircuitWorld) (s : Step) → m.up (step_node s) ≡ true → step_plan m s ≡ plan_up m s
+step_up m s h = ap (λ (b : Bool). if b then plan_up m s else tells_only (answer.Refused refusal.Down)) h
 
-pub step_up : (m : CircuitWorld) (s : Step) → m.up ≡ all_up → step_plan m s ≡ plan_up m s
-step_up m s h = ap (λ (u : Node → Bool). if u (step_node s) then plan_up m s else tells_only (answer.Refused refusal.Down)) h
-
-pub world_up : (m : CircuitWorld) (s : Step) → m.up ≡ all_up → step_world m s ≡ carried_out m (step_node s) (plan_up m s)
+pub world_up : (m : CircuitWorld) (s : Step) → m.up (step_node s) ≡ true → step_world m s ≡ carried_out m (step_node s) (plan_up m s)
 world_up m s h = ap (carried_out m (step_node s)) (step_up m s h)
+
+pub step_down : (m : CircuitWorld) (s : Step) → m.up (step_node s) ≡ false → step_plan m s ≡ tells_only (answer.Refused refusal.Down)
+step_down m s h = ap (λ (b : Bool). if b then plan_up m s else tells_only (answer.Refused refusal.Down)) h
+
+pub world_down : (m : CircuitWorld) (s : Step) → m.up (step_node s) ≡ false → step_world m s ≡ carried_out m (step_node s) (tells_only (answer.Refused refusal.Down))
+world_down m s h = ap (carried_out m (step_node s)) (step_down m s h)
+
+-- the node of this index
+pub up_at : (xs : List NodeView) (i : ℕ) (x : NodeView) → slice_get xs i ≡ Some x → slice_get (ups_in xs) i ≡ Some x.up
+up_at [] i x h = absurd cc
+up_at (y ∷ xs) zero x h = let same : y ≡ x = cc in ap (λ (z : NodeView). Some z.up) same
+up_at (y ∷ xs) (suc i) x h = up_at xs i x h
+
+found : (xs : List NodeView) (i : ℕ) → IsUp xs i → (x : NodeView) × (slice_get xs i ≡ Some x)
+found [] i h = absurd cc
+found (y ∷ xs) zero h = (y, refl)
+found (y ∷ xs) (suc i) h = found xs i h
+
+-- it is up in each world that the nodes stand for
+pub up_as : (c : Node) (m : CircuitWorld) (xs : List NodeView) (i : ℕ) (x : NodeView) (n : Node) → Holds c m xs → slice_get xs i ≡ Some x → slice_get (ids_in xs) i ≡ Some n → x.up ≡ m.up n
+up_as c m xs i x n h there at = (h.each i x there).up ∙ ap m.up (same_at xs i x n there at)
+
+pub node_up : (c : Node) (m : CircuitWorld) (xs : List NodeView) (i : ℕ) (n : Node) → Holds c m xs → slice_get (ids_in xs) i ≡ Some n → IsUp xs i → m.up n ≡ true
+node_up c m xs i n h at up =
+    let x = found xs i up in
+    let is : Some x.0.up ≡ Some true = sym (up_at xs i x.0 x.1) ∙ up in
+    let so : x.0.up ≡ true = cc in
+    sym (up_as c m xs i x.0 n h x.1 at) ∙ so
+
+-- a write that leaves it so
+pub same_ups : (xs : List NodeView) (i : ℕ) (x y : NodeView) → slice_get xs i ≡ Some x → y.up ≡ x.up → ups_in (slice_set xs i y) ≡ ups_in xs
+same_ups [] i x y e s = refl
+same_ups (z ∷ xs) zero x y e s = let same : z ≡ x = cc in let ups : y.up ≡ z.up = cc in ap (λ u. u ∷ ups_in xs) ups
+same_ups (z ∷ xs) (suc i) x y e s = ap (λ us. z.up ∷ us) (same_ups xs i x y e s)

@@ -1,5 +1,5 @@
 -- What the nodes do in a calm, and how many messages of each pair need no delivery any more (docs/RULES.md, Calm).
-use Rattle.std.specs.Prelude.{◌≡◌, ℕ, List, [], ◌∷◌, length, Some, slice_get, if◌then◌else◌}
+use Rattle.std.specs.Prelude.{◌≡◌, ℕ, ◌&&◌, List, [], ◌∷◌, length, Some, slice_get, if◌then◌else◌}
 use Rattle.std.specs.Global.{Vec}
 use Rattle.spl_circuit.specs.Nodes.{Node}
 use Rattle.spl_wire.specs.declared.event.Event.TheVariants as event
@@ -7,9 +7,9 @@ use Rattle.spl_sched.specs.declared.line.Step.TheVariants as step
 use Rattle.spl_rules.specs.Cells.{is_open_cell}
 use Rattle.spl_model.specs.Worlds.{World as CircuitWorld, messages, step_world}
 
--- a tick, where the circuit is bound and open at the node
+-- a tick, where the node is up and the circuit bound and open there
 abbrev pub tick_at : Node → Node → CircuitWorld → CircuitWorld
-tick_at c n m = if is_open_cell (m.at n) then step_world m (step.At n c event.Tick) else m
+tick_at c n m = if m.up n && is_open_cell (m.at n) then step_world m (step.At n c event.Tick) else m
 
 -- what a count has for one sender, by recipient
 abbrev pub row_of : (Node → Node → ℕ) → Node → List Node → List ℕ

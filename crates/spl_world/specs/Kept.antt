@@ -26,9 +26,10 @@ pub record PlaceView : Type 0 where
   pub state : Cell
   pub sent : Lists
 
--- a node, with its places by circuit
+-- a node: whether it is up, and its places by circuit
 pub record NodeView : Type 0 where
   pub id : Node
+  pub up : Bool
   pub places : List (Node × PlaceView)
 
 abbrev pub list_or_none : Option (List Message) → List Message

@@ -3,9 +3,9 @@ use Rattle.std.specs.Prelude.{◌≡◌, ℕ, Bool, true, false, List, [], ◌�
 use Rattle.std.specs.Str.{bytes_eq}
 use Rattle.spl_circuit.specs.Nodes.{Node, has_node}
 use Rattle.spl_circuit.specs.Rules.{ascends}
-use Rattle.spl_sched.specs.declared.line.Line.{Line}
 use Rattle.spl_model.specs.Worlds.{World as CircuitWorld, on_pair}
-use Rattle.spl_model.specs.Answers.{circuit_world}
+use Rattle.spl_model.specs.Projection.{Ran, lines_fit}
+use Rattle.spl_projection.specs.Whole.{whole_world}
 use Rattle.spl_world.specs.Kept.{NodeView, place_of, sent_to}
 use Rattle.spl_world.specs.declared.world.World.{World}
 
@@ -21,26 +21,24 @@ has_id n x = bytes_eq x.id n
 abbrev pub ids_of : World → List Node
 ids_of w = ids_in w.nodes.items
 
--- what a node keeps about a circuit, and what it sent to a registered node, is what a world of the circuit has there
+-- a node is up where it is so in a world of the circuit; what it keeps about the circuit, and what it sent to a registered
+-- node, is what that world has there
 pub record IsAs (c : Node) (m : CircuitWorld) (x : NodeView) : Type 0 where
+  pub up : x.up ≡ m.up x.id
   pub state : (place_of x c).state ≡ m.at x.id
   pub sent : (b : Node) → has_node m.nodes b ≡ true → sent_to (place_of x c).sent b ≡ on_pair x.id b m.sent
-
--- every node is up
-abbrev pub all_up : Node → Bool
-all_up n = true
 
 -- the nodes stand for a world of a circuit
 pub record Holds (c : Node) (m : CircuitWorld) (xs : List NodeView) : Type 0 where
   pub ordered : ascends (ids_in xs) ≡ true
   pub nodes : m.nodes ≡ ids_in xs
-  pub up : m.up ≡ all_up
   pub each : (i : ℕ) (x : NodeView) → slice_get xs i ≡ Some x → IsAs c m x
 
--- behind these lines each node keeps, about each circuit, what the world of that circuit has there; and what it sent
--- to each other is what was sent in that world
-abbrev pub Stands : List Line → World → Type 0
-Stands before w = (c : Node) → Holds c (circuit_world (ids_of w) c before) w.nodes.items
+-- behind these lines each node keeps, about each circuit, what the world of that circuit behind all of them has there; and
+-- what it sent to each other is what was sent in that world
+pub record Stands (before : List Ran) (w : World) : Type 0 where
+  pub fit : lines_fit before ≡ true
+  pub each : (c : Node) → Holds c (whole_world (ids_of w) c before) w.nodes.items
 
 -- the worlds of the other circuits stay
 abbrev pub Spares : Node → List NodeView → List NodeView → Type 0
@@ -50,6 +48,18 @@ Spares c old new = (d : Node) (m : CircuitWorld) → bytes_eq c d ≡ false → 
 pub record Moves (c : Node) (f : CircuitWorld → CircuitWorld) (old new : List NodeView) : Type 0 where
   pub own : (m : CircuitWorld) → Holds c m old → Holds c (f m) new
   pub others : Spares c old new
+
+-- which nodes are up, in order
+abbrev pub ups_in : List NodeView → List Bool
+ups_in [] = []
+ups_in (x ∷ xs) = x.up ∷ ups_in xs
+
+abbrev pub ups_of : World → List Bool
+ups_of w = ups_in w.nodes.items
+
+-- the node of this index is up
+abbrev pub IsUp : List NodeView → ℕ → Type 0
+IsUp xs i = slice_get (ups_in xs) i ≡ Some true
 
 -- the node of this index has this id
 abbrev pub IsAt : List NodeView → ℕ → Node → Type 0

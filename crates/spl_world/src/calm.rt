@@ -5,7 +5,7 @@ ghost use Rattle.spl_circuit.specs.Nodes.{Node as Id};
 ghost use Rattle.spl_model.specs.Worlds.{World as CircuitWorld};
 ghost use Rattle.spl_model.specs.Calm.{Calming, ticks, open_nodes, delivers, pair_turn, to_all, from_all, pass, calm};
 ghost use Rattle.spl_world.specs.Calms.{tick_at, AreRows, IsSquare, row_of, sent_count};
-ghost use Rattle.spl_world.specs.Views.{Holds, IsAt, Moves, Spares, ids_of};
+ghost use Rattle.spl_world.specs.Views.{Holds, IsAt, IsUp, Moves, Spares, ids_of};
 
 use crate::world::World;
 use spl_base::CircuitId;
@@ -38,7 +38,7 @@ impl World {
         Ok(rows)
     }
 
-    // A tick at a node, where the circuit is bound and open there.
+    // A tick at a node, where it is up and the circuit bound and open there.
     fn tick(&mut self, alloc: Global, circuit: CircuitId, slot: usize) -> Result<(), AllocError>
         requires below { slot < length self.old.nodes.items }
         ensures ids { ids_of self.new ≡ ids_of self.old }
@@ -51,7 +51,7 @@ impl World {
         Ok(())
     }
 
-    // A tick at each node where the circuit is bound and open.
+    // A tick at each node that is up and where the circuit is bound and open.
     fn tick_all(&mut self, alloc: Global, circuit: CircuitId) -> Result<(), AllocError>
         ensures ids { ids_of self.new ≡ ids_of self.old }
         ensures moves { (z : Calming) → OnOk result (Moves circuit (λ m. (ticks circuit (record z { world = m }) (open_nodes m (ids_of self.old))).world) self.old.nodes.items self.new.nodes.items) }
@@ -75,6 +75,7 @@ impl World {
         requires from_below { from < length self.old.nodes.items }
         requires to_below { to < length self.old.nodes.items }
         requires apart { (a b : Id) → IsAt self.old.nodes.items from a → IsAt self.old.nodes.items to b → bytes_eq a b ≡ false }
+        requires up { IsUp self.old.nodes.items to }
         ensures ids { ids_of self.new ≡ ids_of self.old }
         ensures moves { (z : Calming) (a b : Id) → IsAt self.old.nodes.items from a → IsAt self.old.nodes.items to b → OnOk result (Moves circuit (λ m. (delivers circuit (record z { world = m }) a b (taken + 1) (all - taken)).world) self.old.nodes.items self.new.nodes.items) }
     {
@@ -84,8 +85,8 @@ impl World {
         Ok(())
     }
 
-    // The turn of a pair: what was sent on it and isn't taken yet is delivered. Answers how many
-    // are taken now.
+    // The turn of a pair: what was sent on it and isn't taken yet is delivered, where the recipient
+    // is up. Answers how many are taken now.
     fn pair_turn(
         &mut self,
         alloc: Global,
@@ -97,9 +98,12 @@ impl World {
         requires from_below { from < length self.old.nodes.items }
         requires to_below { to < length self.old.nodes.items }
         ensures ids { ids_of self.new ≡ ids_of self.old }
-        ensures count { (m : CircuitWorld) (a b : Id) → Holds circuit m self.old.nodes.items → IsAt self.old.nodes.items from a → IsAt self.old.nodes.items to b → IfOk result (λ k. k ≡ sent_count m a b) }
+        ensures count { (z : Calming) (a b : Id) → Holds circuit z.world self.old.nodes.items → IsAt self.old.nodes.items from a → IsAt self.old.nodes.items to b → z.taken a b ≡ taken → IfOk result (λ k. k ≡ (pair_turn circuit z a b).taken a b) }
         ensures moves { (z : Calming) (a b : Id) → IsAt self.old.nodes.items from a → IsAt self.old.nodes.items to b → z.taken a b ≡ taken → OnOk result (Moves circuit (λ m. (pair_turn circuit (record z { world = m }) a b).world) self.old.nodes.items self.new.nodes.items) }
     {
+        if !self.is_up(to) {
+            return Ok(taken);
+        }
         if self.is_same(from, to) {
             return Ok(0);
         }

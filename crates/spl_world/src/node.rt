@@ -19,10 +19,11 @@ use std::alloc::{AllocError, Global};
 use std::collections::BTreeMap;
 use std::marker::Model;
 
-/// A node, and its places by their circuits: those where something happened.
+/// A node: whether it is up, and its places by their circuits, those where something happened.
 #[derive(Drop)]
 pub struct Node {
     id: NodeId,
+    up: bool,
     places: BTreeMap<CircuitId, Place>,
 }
 
@@ -31,7 +32,7 @@ impl Model for Node {
 
     ghost Value = { NodeView };
 
-    ghost view = { λ s. record { id = s.id; places = s.places.entries } };
+    ghost view = { λ s. record { id = s.id; up = s.up; places = s.places.entries } };
 
     ghost invariant = { λ s. AreOwn s.id s.places.entries };
 }
@@ -94,13 +95,15 @@ fn keep(
 }
 
 impl Node {
-    /// A node with this id, where nothing happened.
+    /// A node with this id, which is up and where nothing happened.
     pub fn new(alloc: Global, id: NodeId) -> Node
         ensures id { result.id ≡ id }
+        ensures up { result.up ≡ true }
         ensures places { result.places ≡ [] }
     {
         Node {
             id,
+            up: true,
             places: BTreeMap::new(alloc),
         }
     }
@@ -110,6 +113,13 @@ impl Node {
         ensures { result ≡ self.now.id }
     {
         self.id
+    }
+
+    /// Whether it is up.
+    pub fn is_up(&self) -> bool
+        ensures { result ≡ self.now.up }
+    {
+        self.up
     }
 
     /// An event at the cell of a circuit, and its answer: the plan of the event is carried out. The
@@ -122,6 +132,7 @@ impl Node {
     ) -> Result<Answer, AllocError>
         requires { IsFor self.old.id circuit event.now }
         ensures id { self.new.id ≡ self.old.id }
+        ensures up { self.new.up ≡ self.old.up }
         ensures answer { IfOk result (λ a. a ≡ (plan_of self.old.id circuit (place_of self.old circuit).state event.now).answer) }
         ensures done { OnOk result (IsDone self.old.id (plan_of self.old.id circuit (place_of self.old circuit).state event.now) (place_of self.old circuit) (place_of self.new circuit)) }
         ensures others { OnOk result ((c : Id) → bytes_eq circuit c ≡ false → place_of self.new c ≡ place_of self.old c) }

@@ -2,12 +2,12 @@
 ghost use Rattle.std.specs.Prelude.{◌≡◌, ◌++◌, ◌∷◌, [], List, true, IsTrue, IfOk, OnOk};
 ghost use Rattle.std.specs.List.{list_all};
 ghost use Rattle.spl_circuit.specs.Nodes.{has_node};
-ghost use Rattle.spl_sched.specs.declared.line.Line.{Line as Told};
-ghost use Rattle.spl_sched.specs.declared.line.Line.TheVariants as line;
+ghost use Rattle.spl_model.specs.Projection.{Ran};
+ghost use Rattle.spl_model.specs.Outcomes.{by_rule};
 ghost use Rattle.spl_sched.specs.Grammar.{nodes_of, step_nodes, step_circuit, is_line, is_step};
 ghost use Rattle.spl_sched.specs.Taken.{is_taken, is_step_taken};
 ghost use Rattle.spl_model.specs.Worlds.{World as CircuitWorld, step_plan, step_world};
-ghost use Rattle.spl_model.specs.Answers.{answer_to, line_world};
+ghost use Rattle.spl_model.specs.Answers.{answer_to};
 ghost use Rattle.spl_world.specs.Views.{Holds, Moves, Stands, ids_of};
 
 use crate::world::World;
@@ -32,6 +32,9 @@ impl World {
                 event,
             } => {
                 let slot = self.slot(node);
+                if !self.is_up(slot) {
+                    return Ok(Answer::Refused(Refusal::Down));
+                }
                 self.handle(alloc, slot, *circuit, event)
             }
             Step::Deliver {
@@ -42,6 +45,9 @@ impl World {
             } => {
                 let sender = self.slot(from);
                 let recipient = self.slot(to);
+                if !self.is_up(recipient) {
+                    return Ok(Answer::Refused(Refusal::Down));
+                }
                 let index = (*number - 1) as usize;
                 self.deliver(alloc, sender, recipient, *circuit, index)
             }
@@ -55,8 +61,8 @@ impl World {
         requires fits { IsTrue (is_line line.now) }
         requires taken { is_taken line.now ≡ true }
         ensures ids { ids_of self.new ≡ ids_of self.old }
-        ensures answer { (before : List Told) → Stands before self.old → IfOk result (λ a. a ≡ answer_to (ids_of self.old) before line.now) }
-        ensures stands { (before : List Told) → Stands before self.old → OnOk result (Stands (before ++ line.now ∷ []) self.new) }
+        ensures answer { (before : List Ran) → Stands before self.old → IfOk result (λ a. a ≡ answer_to (ids_of self.old) before (by_rule line.now)) }
+        ensures stands { (before : List Ran) → Stands before self.old → OnOk result (Stands (before ++ by_rule line.now ∷ []) self.new) }
     {
         match line {
             Line::Step(step) => self.run(alloc, step),

@@ -1,5 +1,5 @@
 //! All nodes of a run, and what happens at one of them.
-ghost use Rattle.std.specs.Prelude.{◌≡◌, ◌+◌, ◌<◌, [], length, true, false, IsTrue, IfOk, OnOk};
+ghost use Rattle.std.specs.Prelude.{◌≡◌, ◌+◌, ◌<◌, ◌&&◌, [], length, true, false, IsTrue, IfOk, OnOk};
 ghost use Rattle.std.specs.List.{position_from};
 ghost use Rattle.std.specs.Str.{bytes_eq};
 ghost use Rattle.spl_circuit.specs.Nodes.{Node as Id, has_node};
@@ -9,7 +9,7 @@ ghost use Rattle.spl_rules.specs.Cells.{is_open_cell};
 ghost use Rattle.spl_rules.specs.Plans.{plan_of};
 ghost use Rattle.spl_rules.specs.Valid.{IsFor};
 ghost use Rattle.spl_model.specs.Worlds.{World as CircuitWorld, messages, carried_out, step_plan, step_world};
-ghost use Rattle.spl_world.specs.Views.{Holds, IsAt, Moves, Stands, has_id, ids_of};
+ghost use Rattle.spl_world.specs.Views.{Holds, IsAt, IsUp, Moves, Stands, has_id, ids_of, ups_of};
 
 use crate::node::Node;
 use spl_base::{Boxed, CircuitId, NodeId};
@@ -77,17 +77,30 @@ impl World {
         requires below { slot < length self.old.nodes.items }
         requires own { (n : Id) → IsAt self.old.nodes.items slot n → IsFor n circuit event.now }
         ensures ids { ids_of self.new ≡ ids_of self.old }
+        ensures ups { ups_of self.new ≡ ups_of self.old }
         ensures answer { (m : CircuitWorld) (n : Id) → Holds circuit m self.old.nodes.items → IsAt self.old.nodes.items slot n → IfOk result (λ a. a ≡ (plan_of n circuit (m.at n) event.now).answer) }
         ensures moves { (n : Id) → IsAt self.old.nodes.items slot n → OnOk result (Moves circuit (λ m. carried_out m n (plan_of n circuit (m.at n) event.now)) self.old.nodes.items self.new.nodes.items) }
     {
         self.nodes[slot].handle(alloc, circuit, event)
     }
 
-    // Whether the cell of a circuit at the node of this index is bound and open.
+    // Whether the node of this index is up.
+    pub(crate) fn is_up(&self, slot: usize) -> bool
+        requires below { slot < length self.now.nodes.items }
+        ensures world { (c : Id) (m : CircuitWorld) (n : Id) → Holds c m self.now.nodes.items → IsAt self.now.nodes.items slot n → result ≡ m.up n }
+        ensures up { result ≡ true → IsUp self.now.nodes.items slot }
+    {
+        self.nodes[slot].is_up()
+    }
+
+    // Whether the node of this index is up, and the cell of a circuit bound and open there.
     pub(crate) fn is_open(&self, slot: usize, circuit: &CircuitId) -> bool
         requires below { slot < length self.now.nodes.items }
-        ensures { (m : CircuitWorld) (n : Id) → Holds circuit.now m self.now.nodes.items → IsAt self.now.nodes.items slot n → result ≡ is_open_cell (m.at n) }
+        ensures { (m : CircuitWorld) (n : Id) → Holds circuit.now m self.now.nodes.items → IsAt self.now.nodes.items slot n → result ≡ (m.up n && is_open_cell (m.at n)) }
     {
+        if !self.is_up(slot) {
+            return false;
+        }
         self.nodes[slot].is_open(circuit)
     }
 
@@ -114,7 +127,7 @@ impl World {
     }
 
     // The message of this index, from 0, of those about a circuit that one node sent to another
-    // comes there; and the answer.
+    // comes there, where that one is up; and the answer.
     pub(crate) fn deliver(
         &mut self,
         alloc: Global,
@@ -126,7 +139,9 @@ impl World {
         requires from_below { from < length self.old.nodes.items }
         requires to_below { to < length self.old.nodes.items }
         requires apart { (a b : Id) → IsAt self.old.nodes.items from a → IsAt self.old.nodes.items to b → bytes_eq a b ≡ false }
+        requires up { IsUp self.old.nodes.items to }
         ensures ids { ids_of self.new ≡ ids_of self.old }
+        ensures ups { ups_of self.new ≡ ups_of self.old }
         ensures answer { (m : CircuitWorld) (a b : Id) → Holds circuit m self.old.nodes.items → IsAt self.old.nodes.items from a → IsAt self.old.nodes.items to b → IfOk result (λ r. r ≡ (step_plan m (step.Deliver a b circuit (index + 1))).answer) }
         ensures moves { (a b : Id) → IsAt self.old.nodes.items from a → IsAt self.old.nodes.items to b → OnOk result (Moves circuit (λ m. step_world m (step.Deliver a b circuit (index + 1))) self.old.nodes.items self.new.nodes.items) }
     {

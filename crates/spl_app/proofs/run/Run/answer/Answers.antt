@@ -1,5 +1,6 @@
 use Rattle.std.proofs.Common.{ℕ, List, ◌++◌, subst, sym}
 use Rattle.spl_answer.specs.Texts.{text}
+use Rattle.spl_model.specs.Outcomes.{by_rule}
 use Rattle.spl_model.specs.Answers.{answer_to}
 use Rattle.spl_app.specs.Due.{IsDuePart}
 use Rattle.spl_app.specs.Run.{registered, printed}
@@ -9,6 +10,6 @@ use Rattle.spl_app.proofs.run.Run.answer.Goals as goal
 pub returns-in-Err-clause-part : goal.returns-in-Err-clause-part
 returns-in-Err-clause-part g c = λ before stands.
     let written = g.W.Sink.written c.args.out.now in
-    let last = printed c.args.number (text (answer_to registered before c.args.said.now)) in
+    let last = printed c.args.number (text (answer_to registered before (by_rule c.args.said.now))) in
     subst (λ (waiting : List ℕ). IsDuePart written written waiting (c.args.self.now.output ++ last)) (sym c.ask.ensures.output)
     (due_part written written c.args.self.now.output c.args.self.now.output last (due_waits written c.args.self.now.output))

@@ -26,13 +26,13 @@ invariant_of-self c =
 pub returns-in-Some-clause-answer : goal.returns-in-Some-clause-answer
 returns-in-Some-clause-answer c =
     let mine = c.self.invariant c.args.circuit c.in-Some.place.now (sym c.in-Some.ensures.value) in
-    when_ok c.handle_at.result (λ a e. rw (← c.self.view_is) (e ∙ ap (λ (p : Plan). p.answer) (known_plan (record { id = c.self.inside.id; places = c.self.inside.places.entries }) c.args.circuit c.in-Some.place.now c.args.event.now mine (sym c.in-Some.ensures.value)))) c.handle_at.ensures.answer
+    when_ok c.handle_at.result (λ a e. rw (← c.self.view_is) (e ∙ ap (λ (p : Plan). p.answer) (known_plan (record { id = c.self.inside.id; up = c.self.inside.up; places = c.self.inside.places.entries }) c.args.circuit c.in-Some.place.now c.args.event.now mine (sym c.in-Some.ensures.value)))) c.handle_at.ensures.answer
 
 pub returns-in-Some-clause-done : goal.returns-in-Some-clause-done
 returns-in-Some-clause-done c =
     let mine = c.self.invariant c.args.circuit c.in-Some.place.now (sym c.in-Some.ensures.value) in
     let w = c.handle_at.new.place in
-    at_ok c.handle_at.result (λ d. rw (← c.self.view_is) (known_done (record { id = c.self.inside.id; places = c.self.inside.places.entries }) c.args.circuit c.in-Some.place.now w (c.get_mut.follows.lender w).entries c.args.event.now mine (sym c.in-Some.ensures.value) ((c.get_mut.follows.holds w).3 (search rules)).1 d)) c.handle_at.ensures.done
+    at_ok c.handle_at.result (λ d. rw (← c.self.view_is) (known_done (record { id = c.self.inside.id; up = c.self.inside.up; places = c.self.inside.places.entries }) c.args.circuit c.in-Some.place.now w (c.get_mut.follows.lender w).entries c.args.event.now mine (sym c.in-Some.ensures.value) ((c.get_mut.follows.holds w).3 (search rules)).1 d)) c.handle_at.ensures.done
 
 pub returns-in-Some-clause-others : goal.returns-in-Some-clause-others
 returns-in-Some-clause-others c = at_ok c.handle_at.result (λ _ d h.
@@ -55,13 +55,13 @@ invariant_of-self-in-Some-place c =
     own_step c.self.inside.id c.args.circuit c.in-Some-place.place c.self.inside.places.entries c.keep.new.places.entries c.self.invariant (rw (c.in-Some-place.is) at c.in_ok-answer.ensures.own) c.in_ok-keep-in-Some-place.ensures.here (rw (c.get_mut.follows.holds-at-none) at c.in_ok-keep-in-Some-place.ensures.others)
 
 pub returns-in_ok-keep-in-Some-place-clause-answer : goal.returns-in_ok-keep-in-Some-place-clause-answer
-returns-in_ok-keep-in-Some-place-clause-answer c = rw (← c.self.view_is) (c.in_ok-answer.ensures.answer ∙ ap (λ (p : Plan). p.answer) (first_plan (record { id = c.self.inside.id; places = c.self.inside.places.entries }) c.args.circuit c.args.event.now (sym c.in_default.ensures.value)))
+returns-in_ok-keep-in-Some-place-clause-answer c = rw (← c.self.view_is) (c.in_ok-answer.ensures.answer ∙ ap (λ (p : Plan). p.answer) (first_plan (record { id = c.self.inside.id; up = c.self.inside.up; places = c.self.inside.places.entries }) c.args.circuit c.args.event.now (sym c.in_default.ensures.value)))
 
 pub returns-in-None-clause-answer : goal.returns-in-None-clause-answer
-returns-in-None-clause-answer c = rw (← c.self.view_is) (c.in_ok-answer.ensures.answer ∙ ap (λ (p : Plan). p.answer) (first_plan (record { id = c.self.inside.id; places = c.self.inside.places.entries }) c.args.circuit c.args.event.now (sym c.in_default.ensures.value)))
+returns-in-None-clause-answer c = rw (← c.self.view_is) (c.in_ok-answer.ensures.answer ∙ ap (λ (p : Plan). p.answer) (first_plan (record { id = c.self.inside.id; up = c.self.inside.up; places = c.self.inside.places.entries }) c.args.circuit c.args.event.now (sym c.in_default.ensures.value)))
 
 pub returns-in_ok-keep-in-Some-place-clause-done : goal.returns-in_ok-keep-in-Some-place-clause-done
-returns-in_ok-keep-in-Some-place-clause-done c = rw (← c.self.view_is) (first_done (record { id = c.self.inside.id; places = c.self.inside.places.entries }) c.args.circuit (Some c.in-Some-place.place) c.keep.new.places.entries c.args.event.now (sym c.in_default.ensures.value) c.in_ok-keep-in-Some-place.ensures.here (rw (c.in-Some-place.is) at c.in_ok-answer.ensures.done))
+returns-in_ok-keep-in-Some-place-clause-done c = rw (← c.self.view_is) (first_done (record { id = c.self.inside.id; up = c.self.inside.up; places = c.self.inside.places.entries }) c.args.circuit (Some c.in-Some-place.place) c.keep.new.places.entries c.args.event.now (sym c.in_default.ensures.value) c.in_ok-keep-in-Some-place.ensures.here (rw (c.in-Some-place.is) at c.in_ok-answer.ensures.done))
 
 pub returns-in-None-clause-done : goal.returns-in-None-clause-done
-returns-in-None-clause-done c = rw (← c.self.view_is) (first_done (record { id = c.self.inside.id; places = c.self.inside.places.entries }) c.args.circuit None c.get_mut.follows.lender-at-none.entries c.args.event.now (sym c.in_default.ensures.value) (rw (c.get_mut.follows.holds-at-none) (sym c.in_default.ensures.value)) (rw (c.in-None.is) at c.in_ok-answer.ensures.done))
+returns-in-None-clause-done c = rw (← c.self.view_is) (first_done (record { id = c.self.inside.id; up = c.self.inside.up; places = c.self.inside.places.entries }) c.args.circuit None c.get_mut.follows.lender-at-none.entries c.args.event.now (sym c.in_default.ensures.value) (rw (c.get_mut.follows.holds-at-none) (sym c.in_default.ensures.value)) (rw (c.in-None.is) at c.in_ok-answer.ensures.done))

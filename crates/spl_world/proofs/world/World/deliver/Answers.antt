@@ -20,6 +20,7 @@ use Rattle.spl_world.proofs.Delivery.{delivery_is, no_delivery, moves_as, quiet_
 use Rattle.spl_world.proofs.Reading.{messages_as}
 use Rattle.spl_world.proofs.Results.{when_ok, at_ok}
 use Rattle.spl_world.proofs.Slots.{id_at, same_at}
+use Rattle.spl_world.proofs.Up.{node_up}
 use Rattle.spl_world.proofs.world.World.deliver.Goals as goal
 
 -- what was sent, by the world of the circuit
@@ -43,7 +44,7 @@ one_sent c m a b h at to =
 
 abbrev none : (c : goal.In-None) (m : CircuitWorld) (a b : Node) → Holds c.args.circuit m c.args.self.now.nodes.items → slice_get (ids_in c.args.self.now.nodes.items) c.args.from ≡ Some a → slice_get (ids_in c.args.self.now.nodes.items) c.args.to ≡ Some b
     → step_plan m (step.Deliver a b c.args.circuit (c.args.index + 1)) ≡ tells_only (answer.Refused refusal.NoMessage)
-none c m a b h at to = no_delivery m c.args.circuit a b c.args.index (ap (λ (ms : List Message). slice_get ms c.args.index) (sym (none_sent c m a b h at to)) ∙ sym c.in-None.ensures.value) h.up
+none c m a b h at to = no_delivery m c.args.circuit a b c.args.index (ap (λ (ms : List Message). slice_get ms c.args.index) (sym (none_sent c m a b h at to)) ∙ sym c.in-None.ensures.value) (node_up c.args.circuit m c.args.self.now.nodes.items c.args.to b h to c.requires.up)
 
 abbrev one : (c : goal.Joined-event) (m : CircuitWorld) (a b : Node) → Holds c.args.circuit m c.args.self.now.nodes.items → slice_get (ids_in c.args.self.now.nodes.items) c.args.from ≡ Some a → slice_get (ids_in c.args.self.now.nodes.items) c.args.to ≡ Some b
     → plan_of b c.args.circuit (m.at b) (event.Deliver c.id-sender.result c.in_ok-message-in-Some.message) ≡ step_plan m (step.Deliver a b c.args.circuit (c.args.index + 1))
@@ -52,7 +53,7 @@ one c m a b h at to =
     let here = same_at xs c.args.from c.index.result.now a (slice_get_read xs (length xs) c.args.from c.index.result.now refl c.requires.from_below c.index.ensures) at in
     let found : slice_get (messages m a b) c.args.index ≡ Some c.in_ok-message-in-Some.message = ap (λ (ms : List Message). slice_get ms c.args.index) (sym (one_sent c m a b h at to)) ∙ sym c.in-Some.ensures.value ∙ ap Some (sym c.in_ok-message-in-Some.ensures) in
     ap (λ (i : Node). plan_of b c.args.circuit (m.at b) (event.Deliver i c.in_ok-message-in-Some.message)) (c.id-sender.ensures ∙ here)
-    ∙ delivery_is m c.args.circuit a b c.args.index c.in_ok-message-in-Some.message found h.up
+    ∙ delivery_is m c.args.circuit a b c.args.index c.in_ok-message-in-Some.message found (node_up c.args.circuit m xs c.args.to b h to c.requires.up)
 
 pub returns-in-None-clause-answer : goal.returns-in-None-clause-answer
 returns-in-None-clause-answer c = λ m a b h at to. sym (ap (λ (p : Plan). p.answer) (none c m a b h at to))

@@ -26,7 +26,7 @@ loop-to-preserved c =
           let here : slice_get (ids_of c.loop-to.self) c.args.from ≡ Some a = ap (λ (ns : List Node). slice_get ns c.args.from) c.loop-to.invariant.1 ∙ at in
           let taken : y.taken a recipient.0 ≡ c.index.result.now = sym (c.index.ensures ∙ ap (λ (r : List ℕ). get_or r c.loop-to.to c.index.result.now) so_far.1 ∙ row_at y.taken a (ids_of c.args.self.now) c.loop-to.to recipient.0 c.index.result.now recipient.1) in
           turn_own c.args.circuit z a (ids_of c.args.self.now) c.loop-to.to recipient.0 c.loop-to.self.nodes.items c.pair_turn.new.self.nodes.items c.loop-to.row.items c.in_ok-row.field-0 h.ordered recipient.1 so_far
-          (c.in_ok-row.ensures.moves y a recipient.0 here to taken) (c.in_ok-row.ensures.count y.world a recipient.0 so_far.0 here to),
+          (c.in_ok-row.ensures.moves y a recipient.0 here to taken) (c.in_ok-row.ensures.count y a recipient.0 so_far.0 here to taken),
       spares_then c.args.circuit xs c.loop-to.self.nodes.items c.pair_turn.new.self.nodes.items c.loop-to.invariant.4 (c.in_ok-row.ensures.moves (some_calming c.index.result.now) sender.0 recipient.0 from to refl).others,
     )
 

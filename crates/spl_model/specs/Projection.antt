@@ -1,0 +1,93 @@
+-- Which of the lines that ran are a circuit's own (docs/RULES.md, Circuits as worlds).
+use Rattle.std.specs.Prelude.{Bool, false, List, [], ◌∷◌, ◌++◌, if◌then◌else◌, Option, Some, None}
+use Rattle.std.specs.List.{list_all}
+use Rattle.std.specs.Str.{bytes_eq}
+use Rattle.spl_circuit.specs.Nodes.{Node, has_node}
+use Rattle.spl_wire.specs.declared.event.Event.{Event}
+use Rattle.spl_wire.specs.declared.event.Event.TheVariants as event
+use Rattle.spl_sched.specs.declared.line.Step.{Step}
+use Rattle.spl_sched.specs.declared.line.Step.TheVariants as step
+use Rattle.spl_sched.specs.declared.line.Line.{Line}
+use Rattle.spl_sched.specs.declared.line.Line.TheVariants as line
+use Rattle.spl_sched.specs.Grammar.{circuit_of, step_node, is_line}
+
+-- a line that ran. A cut or a fail stops its node in an event: `kept` says whether the disks have the record of that
+-- event. Of any other line it says nothing
+pub record Ran : Type 0 where
+  pub line : Line
+  pub kept : Bool
+
+-- a line with no record to keep
+abbrev pub plainly : Line → Ran
+plainly l = record { line = l; kept = false }
+
+-- the line is within its bounds
+abbrev pub line_fits : Ran → Bool
+line_fits r = is_line r.line
+
+abbrev pub lines_fit : List Ran → Bool
+lines_fit rs = list_all line_fits rs
+
+-- the line names this circuit
+abbrev pub names_circuit : Node → Option Node → Bool
+names_circuit c None = false
+names_circuit c (Some i) = bytes_eq i c
+
+abbrev pub names : Node → Line → Bool
+names c l = names_circuit c (circuit_of l)
+
+-- ---- the nodes concerned
+
+-- the members that an event proposes
+abbrev pub proposed_members : Event → List Node
+proposed_members (event.Propose d) = d.members
+proposed_members _ = []
+
+-- where a step takes place, and the members that it proposes
+abbrev pub step_concerns : Step → List Node
+step_concerns (step.At n c e) = n ∷ proposed_members e
+step_concerns (step.Deliver from to c k) = to ∷ []
+
+abbrev pub line_concerns : Line → List Node
+line_concerns (line.Step s) = step_concerns s
+line_concerns (line.Calm c k) = []
+line_concerns (line.Stop n) = []
+line_concerns (line.Start n) = []
+line_concerns (line.Roll n) = []
+line_concerns (line.Cut calls fill s) = step_concerns s
+line_concerns (line.Fail call s) = step_concerns s
+
+-- the nodes concerned with a circuit: those at which a line that names it takes place, and those that such a line
+-- proposes as members
+abbrev pub concerned : Node → List Ran → List Node
+concerned c [] = []
+concerned c (r ∷ rs) = (if names c r.line then line_concerns r.line else []) ++ concerned c rs
+
+-- ---- its own lines
+
+-- a stop or a start of a node, where it is one of these
+abbrev pub at_one_of : List Node → Node → Line → List Ran
+at_one_of ns n l = if has_node ns n then plainly l ∷ [] else []
+
+-- what is left of a line that doesn't name the circuit, where these nodes are concerned: their stops and starts. Where one
+-- stops in an event of another circuit, that is a stop
+abbrev pub beside : List Node → Line → List Ran
+beside ns (line.Step s) = []
+beside ns (line.Calm c k) = []
+beside ns (line.Stop n) = at_one_of ns n (line.Stop n)
+beside ns (line.Start n) = at_one_of ns n (line.Start n)
+beside ns (line.Roll n) = []
+beside ns (line.Cut calls fill s) = at_one_of ns (step_node s) (line.Stop (step_node s))
+beside ns (line.Fail call s) = at_one_of ns (step_node s) (line.Stop (step_node s))
+
+-- what is a circuit's own of a line, where these nodes are concerned with it: the line where it names it, or what is left
+abbrev pub own_line : Node → List Node → Ran → List Ran
+own_line c ns r = if names c r.line then r ∷ [] else beside ns r.line
+
+abbrev pub own_among : Node → List Node → List Ran → List Ran
+own_among c ns [] = []
+own_among c ns (r ∷ rs) = own_line c ns r ++ own_among c ns rs
+
+-- a circuit's own lines
+abbrev pub own : Node → List Ran → List Ran
+own c rs = own_among c (concerned c rs) rs

@@ -1,0 +1,12 @@
+pub mod Joins
+pub mod Within
+pub mod Confined
+pub mod Alike
+pub mod Calms
+pub mod Owns
+pub mod SameLines
+pub mod Ups
+pub mod Rolls
+pub mod Moments
+pub mod Outcomes
+pub mod Examples

@@ -1,0 +1,251 @@
+-- A circuit's own lines, and all lines, keep two worlds alike.
+use Rattle.std.proofs.Common.{◌≡◌, ℕ, ◌^◌, ◌⊎◌, Bool, true, false, ◌&&◌, List, [], ◌∷◌, ◌++◌, append_assoc, refl, sym, ap, subst, ◌∙◌, inl, inr}
+use Rattle.std.specs.Prelude.{Option, Some, None, nat_le, nat_lt, if◌then◌else◌}
+use Rattle.std.specs.Str.{bytes_eq}
+use Rattle.spl_agree.proofs.Tests.{bool_cases, and_left, and_right, or_true}
+use Rattle.spl_circuit.specs.Nodes.{Node, has_node}
+use Rattle.spl_wire.specs.declared.answer.Answer.{Answer}
+use Rattle.spl_wire.specs.declared.answer.Answer.TheVariants as answer
+use Rattle.spl_wire.specs.declared.answer.Refusal.TheVariants as refusal
+use Rattle.spl_wire.specs.declared.answer.Bit.{Bit}
+use Rattle.spl_wire.specs.declared.plan.Plan.{Plan}
+use Rattle.spl_sched.specs.declared.line.Step.{Step}
+use Rattle.spl_sched.specs.declared.line.Line.{Line}
+use Rattle.spl_sched.specs.declared.line.Line.TheVariants as line
+use Rattle.spl_sched.specs.Grammar.{step_node, is_step, is_fill, is_line, circuit_of}
+use Rattle.spl_rules.specs.Cells.{Empty}
+use Rattle.spl_projection.specs.Same.{IsSameFor}
+use Rattle.spl_model.specs.Worlds.{World, first_world, step_plan, happens, Stops, Starts, Halts}
+use Rattle.spl_model.specs.Projection.{Ran, plainly, line_fits, lines_fit, names, names_circuit, line_concerns, concerned, at_one_of, beside, own_line, own_among}
+use Rattle.spl_model.specs.Answers.{bit_of, halt_answer, line_answer, line_world, lines_world, last_answer, circuit_world, answer_about, answer_to}
+use Rattle.spl_projection.specs.Whole.{world_beside, world_after, whole_from, whole_world}
+use Rattle.spl_model.proofs.Nodes.{node_is, node_same}
+use Rattle.spl_model.proofs.Lines.{plain-step}
+use Rattle.spl_projection.proofs.Within.{are_within, within-empty}
+use Rattle.spl_projection.proofs.Confined.{IsConfined, confined-first, IsStepWithin, step-here, confined-step, confined-happens}
+use Rattle.spl_projection.proofs.Alike.{IsAlike, alike-same, same-alike, up-alike, plan-alike, step-alike, happens-alike, stops-aside, starts-aside}
+use Rattle.spl_projection.proofs.Calms.{calm-alike}
+
+-- the step behind a cut or a fail is within its bounds
+pub cut-fits : (calls : ℕ) (f : Rattle.spl_edge.specs.declared.fill.Fill.Fill) (s : Step) → is_line (line.Cut calls f s) ≡ true → is_step s ≡ true
+cut-fits calls f s h = and_right (nat_lt calls (2 ^ 8) && is_fill f) (is_step s) h
+
+pub fail-fits : (call : ℕ) (s : Step) → is_line (line.Fail call s) ≡ true → is_step s ≡ true
+fail-fits call s h = and_right (nat_le 1 call && nat_lt call (2 ^ 8)) (is_step s) h
+
+module _ (ns : List Node) where
+  -- two worlds that are alike at these nodes, which have all that touches the circuit
+  pub record IsPair (w v : World) : Type 0 where
+    pub alike : IsAlike ns w v
+    pub confined : IsConfined ns v
+
+  pub pair-first : (all : List Node) → IsPair (first_world all) (first_world all)
+  pair-first all = record { alike = alike-same ns (first_world all); confined = confined-first ns all }
+
+  -- ---- a line that names the circuit, or is about one of the nodes
+
+  -- where the line takes place, and whom it proposes
+  abbrev pub IsLineWithin : Line → Type 0
+  IsLineWithin (line.Step s) = IsStepWithin ns s
+  IsLineWithin (line.Calm c k) = Unit {0}
+  IsLineWithin (line.Stop n) = has_node ns n ≡ true
+  IsLineWithin (line.Start n) = has_node ns n ≡ true
+  IsLineWithin (line.Roll n) = Unit {0}
+  IsLineWithin (line.Cut calls f s) = IsStepWithin ns s
+  IsLineWithin (line.Fail call s) = IsStepWithin ns s
+
+  halts-pair : (w v : World) (s : Step) (kept : Bool) → is_step s ≡ true → IsStepWithin ns s → IsPair w v → IsPair (happens w (Halts kept s)) (happens v (Halts kept s))
+  halts-pair w v s kept f h p = record {
+    alike = happens-alike ns w v (Halts kept s) p.alike (step-here ns s h);
+    confined = confined-happens ns v (Halts kept s) (plain-step s f, h) p.confined;
+  }
+
+  pub line-pair : (w v : World) (l : Line) (kept : Bool) → is_line l ≡ true → IsLineWithin l → IsPair w v → IsPair (line_world w l kept) (line_world v l kept)
+  line-pair w v (line.Step s) kept f h p = record { alike = step-alike ns w v s p.alike (step-here ns s h); confined = confined-step ns v s (plain-step s f) h p.confined }
+  line-pair w v (line.Calm c k) kept f h p = let z = calm-alike ns c w v k p.alike p.confined in record { alike = z.world; confined = z.confined }
+  line-pair w v (line.Stop n) kept f h p = record { alike = happens-alike ns w v (Stops n) p.alike h; confined = confined-happens ns v (Stops n) tt p.confined }
+  line-pair w v (line.Start n) kept f h p = record { alike = happens-alike ns w v (Starts n) p.alike h; confined = confined-happens ns v (Starts n) tt p.confined }
+  line-pair w v (line.Roll n) kept f h p = p
+  line-pair w v (line.Cut calls fill s) kept f h p = halts-pair w v s kept (cut-fits calls fill s f) h p
+  line-pair w v (line.Fail call s) kept f h p = halts-pair w v s kept (fail-fits call s f) h p
+
+  halt-same : (say : Bit → Answer) (w v : World) (s : Step) (kept : Bool) → IsStepWithin ns s → IsAlike ns w v → halt_answer say w s kept ≡ halt_answer say v s kept
+  halt-same say w v s kept h a =
+      ap (λ (b : Bool). if b then say (bit_of kept (step_plan w s).changes) else answer.Refused refusal.Down) (up-alike ns w v (step_node s) a (step-here ns s h))
+      ∙ ap (λ (p : Plan). if v.up (step_node s) then say (bit_of kept p.changes) else answer.Refused refusal.Down) (plan-alike ns w v s a (step-here ns s h))
+
+  -- it is answered alike
+  pub answer-same : (w v : World) (l : Line) (kept : Bool) → IsLineWithin l → IsAlike ns w v → line_answer w l kept ≡ line_answer v l kept
+  answer-same w v (line.Step s) kept h a = ap (λ (p : Plan). p.answer) (plan-alike ns w v s a (step-here ns s h))
+  answer-same w v (line.Calm c k) kept h a = refl
+  answer-same w v (line.Stop n) kept h a = refl
+  answer-same w v (line.Start n) kept h a = refl
+  answer-same w v (line.Roll n) kept h a = refl
+  answer-same w v (line.Cut calls fill s) kept h a = halt-same answer.Cut w v s kept h a
+  answer-same w v (line.Fail call s) kept h a = halt-same answer.Fault w v s kept h a
+
+  -- ---- any other line
+
+  stops-pair : (w v : World) (n : Node) → IsPair w v → IsPair (lines_world w (at_one_of ns n (line.Stop n))) (happens v (Stops n))
+  stops-pair w v n p = go (bool_cases (has_node ns n))
+    where
+      confined : IsConfined ns (happens v (Stops n))
+      confined = confined-happens ns v (Stops n) tt p.confined
+
+      pick : (b : Bool) → List Ran
+      pick b = if b then plainly (line.Stop n) ∷ [] else []
+
+      go : (has_node ns n ≡ true) ⊎ (has_node ns n ≡ false) → IsPair (lines_world w (pick (has_node ns n))) (happens v (Stops n))
+      go (inl q) = subst (λ (b : Bool). IsPair (lines_world w (pick b)) (happens v (Stops n))) (sym q) (record { alike = happens-alike ns w v (Stops n) p.alike q; confined = confined })
+      go (inr q) = subst (λ (b : Bool). IsPair (lines_world w (pick b)) (happens v (Stops n))) (sym q) (record { alike = stops-aside ns w v n q p.confined p.alike; confined = confined })
+
+  starts-pair : (w v : World) (n : Node) → IsPair w v → IsPair (lines_world w (at_one_of ns n (line.Start n))) (happens v (Starts n))
+  starts-pair w v n p = go (bool_cases (has_node ns n))
+    where
+      confined : IsConfined ns (happens v (Starts n))
+      confined = confined-happens ns v (Starts n) tt p.confined
+
+      pick : (b : Bool) → List Ran
+      pick b = if b then plainly (line.Start n) ∷ [] else []
+
+      go : (has_node ns n ≡ true) ⊎ (has_node ns n ≡ false) → IsPair (lines_world w (pick (has_node ns n))) (happens v (Starts n))
+      go (inl q) = subst (λ (b : Bool). IsPair (lines_world w (pick b)) (happens v (Starts n))) (sym q) (record { alike = happens-alike ns w v (Starts n) p.alike q; confined = confined })
+      go (inr q) = subst (λ (b : Bool). IsPair (lines_world w (pick b)) (happens v (Starts n))) (sym q) (record { alike = starts-aside ns w v n q p.alike; confined = confined })
+
+  pub beside-pair : (w v : World) (l : Line) → IsPair w v → IsPair (lines_world w (beside ns l)) (world_beside v l)
+  beside-pair w v (line.Step s) p = p
+  beside-pair w v (line.Calm c k) p = p
+  beside-pair w v (line.Stop n) p = stops-pair w v n p
+  beside-pair w v (line.Start n) p = starts-pair w v n p
+  beside-pair w v (line.Roll n) p = p
+  beside-pair w v (line.Cut calls fill s) p = stops-pair w v (step_node s) p
+  beside-pair w v (line.Fail call s) p = stops-pair w v (step_node s) p
+
+  -- ---- lines
+
+  -- a line that names a circuit concerns what it touches
+  pub named-within : (c : Node) (l : Line) → names c l ≡ true → are_within ns (line_concerns l) ≡ true → IsLineWithin l
+  named-within c (line.Step s) h k = k
+  named-within c (line.Calm i j) h k = tt
+  named-within c (line.Stop n) h k = cc
+  named-within c (line.Start n) h k = cc
+  named-within c (line.Roll n) h k = tt
+  named-within c (line.Cut calls f s) h k = k
+  named-within c (line.Fail call s) h k = k
+
+  -- where it names the circuit, what it concerns is among the nodes
+  abbrev pub Concerns : Node → Ran → Type 0
+  Concerns c r = names c r.line ≡ true → are_within ns (line_concerns r.line) ≡ true
+
+  abbrev pub AllConcern : Node → List Ran → Type 0
+  AllConcern c [] = Unit {0}
+  AllConcern c (r ∷ rs) = Concerns c r × AllConcern c rs
+
+  pub ran-pair : (c : Node) (w v : World) (r : Ran) → line_fits r ≡ true → Concerns c r → IsPair w v → IsPair (lines_world w (own_line c ns r)) (world_after c v r)
+  ran-pair c w v r f h p = go (bool_cases (names c r.line))
+    where
+      go : (names c r.line ≡ true) ⊎ (names c r.line ≡ false) → IsPair (lines_world w (own_line c ns r)) (world_after c v r)
+      go (inl q) = rw q (line-pair w v r.line r.kept f (named-within c r.line q (h q)) p)
+      go (inr q) = rw q (beside-pair w v r.line p)
+
+  pub lines-append : (w : World) (xs ys : List Ran) → lines_world w (xs ++ ys) ≡ lines_world (lines_world w xs) ys
+  lines-append w [] ys = refl
+  lines-append w (x ∷ xs) ys = lines-append (line_world w x.line x.kept) xs ys
+
+  -- own lines and all lines
+  pub lines-pair : (c : Node) (w v : World) (rs : List Ran) → lines_fit rs ≡ true → AllConcern c rs → IsPair w v → IsPair (lines_world w (own_among c ns rs)) (whole_from c v rs)
+  lines-pair c w v [] f h p = p
+  lines-pair c w v (r ∷ rs) f h p =
+      subst (λ (u : World). IsPair u (whole_from c (world_after c v r) rs)) (sym (lines-append w (own_line c ns r) (own_among c ns rs)))
+      (lines-pair c (lines_world w (own_line c ns r)) (world_after c v r) rs (and_right (line_fits r) (lines_fit rs) f) h.1 (ran-pair c w v r (and_left (line_fits r) (lines_fit rs) f) h.0 p))
+
+-- ---- the nodes that lines concern
+
+within-left : (ns xs ys : List Node) → are_within ns (xs ++ ys) ≡ true → are_within ns xs ≡ true
+within-left ns [] ys h = refl
+within-left ns (x ∷ xs) ys h = rw (and_left (has_node ns x) (are_within ns (xs ++ ys)) h) (within-left ns xs ys (and_right (has_node ns x) (are_within ns (xs ++ ys)) h))
+
+within-right : (ns xs ys : List Node) → are_within ns (xs ++ ys) ≡ true → are_within ns ys ≡ true
+within-right ns [] ys h = h
+within-right ns (x ∷ xs) ys h = within-right ns xs ys (and_right (has_node ns x) (are_within ns (xs ++ ys)) h)
+
+-- what has all nodes concerned has those of each line
+pub all-concern : (ns : List Node) (c : Node) (rs : List Ran) → are_within ns (concerned c rs) ≡ true → AllConcern ns c rs
+all-concern ns c [] h = tt
+all-concern ns c (r ∷ rs) h = (
+  λ q. first q (within-left ns (if names c r.line then line_concerns r.line else []) (concerned c rs) h),
+  all-concern ns c rs (within-right ns (if names c r.line then line_concerns r.line else []) (concerned c rs) h),
+)
+  where
+    first : names c r.line ≡ true → are_within ns (if names c r.line then line_concerns r.line else []) ≡ true → are_within ns (line_concerns r.line) ≡ true
+    first q k = rw q at k
+
+-- nodes are among themselves
+within-by : (ns xs : List Node) → ((n : Node) → has_node xs n ≡ true → has_node ns n ≡ true) → are_within ns xs ≡ true
+within-by ns [] h = refl
+within-by ns (x ∷ xs) h = rw (h x (rw (node_same x))) (within-by ns xs (λ n k. h n (rw k (or_true (bytes_eq x n)))))
+
+pub within-same : (ns : List Node) → are_within ns ns ≡ true
+within-same ns = within-by ns ns (λ n h. h)
+
+-- ---- the laws
+
+-- the world of a circuit behind its own lines, and behind all lines
+pub own-pair : (ns : List Node) (c : Node) (rs : List Ran) → lines_fit rs ≡ true → IsPair (concerned c rs) (circuit_world ns c rs) (whole_world ns c rs)
+own-pair ns c rs f = lines-pair (concerned c rs) c (first_world ns) (first_world ns) rs f (all-concern (concerned c rs) c rs (within-same (concerned c rs))) (pair-first (concerned c rs) ns)
+
+-- own lines one list after the other
+pub own-append : (c : Node) (ns : List Node) (xs ys : List Ran) → own_among c ns (xs ++ ys) ≡ own_among c ns xs ++ own_among c ns ys
+own-append c ns [] ys = refl
+own-append c ns (x ∷ xs) ys = ap (λ (zs : List Ran). own_line c ns x ++ zs) (own-append c ns xs ys) ∙ sym (append_assoc (own_line c ns x) (own_among c ns xs) (own_among c ns ys))
+
+-- the last of some lines is answered behind those before it
+pub last-append : (w : World) (xs : List Ran) (r : Ran) → last_answer w (xs ++ r ∷ []) ≡ line_answer (lines_world w xs) r.line r.kept
+last-append w [] r = refl
+last-append w (x ∷ []) r = refl
+last-append w (x ∷ y ∷ ys) r = last-append (line_world w x.line x.kept) (y ∷ ys) r
+
+pub fits-left : (xs ys : List Ran) → lines_fit (xs ++ ys) ≡ true → lines_fit xs ≡ true
+fits-left [] ys h = refl
+fits-left (x ∷ xs) ys h = rw (and_left (line_fits x) (lines_fit (xs ++ ys)) h) (fits-left xs ys (and_right (line_fits x) (lines_fit (xs ++ ys)) h))
+
+pub concern-left : (ns : List Node) (c : Node) (xs ys : List Ran) → AllConcern ns c (xs ++ ys) → AllConcern ns c xs × AllConcern ns c ys
+concern-left ns c [] ys h = (tt, h)
+concern-left ns c (x ∷ xs) ys h = let k = concern-left ns c xs ys h.1 in ((h.0, k.0), k.1)
+
+-- which circuit a line names
+pub names-is : (c : Node) (l : Line) → names c l ≡ true → circuit_of l ≡ Some c
+names-is c l h = go (circuit_of l) h
+  where
+    go : (o : Option Node) → names_circuit c o ≡ true → o ≡ Some c
+    go None q = cc
+    go (Some i) q = ap (λ (x : Node). Some x) (node_is i c q)
+
+-- among any nodes that have all that is concerned, the last line is answered as in the world behind all lines
+pub last-same : (all ns : List Node) (c : Node) (before : List Ran) (r : Ran) → lines_fit (before ++ r ∷ []) ≡ true → AllConcern ns c (before ++ r ∷ []) → names c r.line ≡ true → last_answer (first_world all) (own_among c ns (before ++ r ∷ [])) ≡ line_answer (whole_world all c before) r.line r.kept
+last-same all ns c before r f h q =
+    ap (λ (xs : List Ran). last_answer (first_world all) xs) (own-append c ns before (r ∷ []) ∙ ap (λ (xs : List Ran). own_among c ns before ++ xs) one)
+    ∙ (last-append (first_world all) (own_among c ns before) r
+    ∙ answer-same ns (lines_world (first_world all) (own_among c ns before)) (whole_world all c before) r.line r.kept (named-within ns c r.line q (k.1.0 q)) p.alike)
+  where
+    k : AllConcern ns c before × AllConcern ns c (r ∷ [])
+    k = concern-left ns c before (r ∷ []) h
+
+    p : IsPair ns (lines_world (first_world all) (own_among c ns before)) (whole_world all c before)
+    p = lines-pair ns c (first_world all) (first_world all) before (fits-left before (r ∷ []) f) k.0 (pair-first ns all)
+
+    one : own_among c ns (r ∷ []) ≡ r ∷ []
+    one = rw q
+
+pub answer-whole : (ns : List Node) (before : List Ran) (r : Ran) (c : Node) → lines_fit (before ++ r ∷ []) ≡ true → names c r.line ≡ true → answer_to ns before r ≡ line_answer (whole_world ns c before) r.line r.kept
+answer-whole ns before r c f q =
+    ap (λ (o : Option Node). answer_about ns (before ++ r ∷ []) r.line o) (names-is c r.line q)
+    ∙ last-same ns (concerned c (before ++ r ∷ [])) c before r f (all-concern (concerned c (before ++ r ∷ [])) c (before ++ r ∷ []) (within-same (concerned c (before ++ r ∷ [])))) q
+
+-- nothing is kept at a node that isn't concerned
+pub elsewhere-empty : (ns : List Node) (c : Node) (rs : List Ran) (n : Node) → lines_fit rs ≡ true → has_node (concerned c rs) n ≡ false → (whole_world ns c rs).at n ≡ Empty
+elsewhere-empty ns c rs n f h = within-empty (concerned c rs) n ((whole_world ns c rs).at n) h ((own-pair ns c rs f).confined.cells n)
+
+-- the two worlds
+pub own-same : (ns : List Node) (c : Node) (rs : List Ran) → lines_fit rs ≡ true → IsSameFor (concerned c rs) (circuit_world ns c rs) (whole_world ns c rs)
+own-same ns c rs f = same-alike (concerned c rs) (circuit_world ns c rs) (whole_world ns c rs) (own-pair ns c rs f).alike

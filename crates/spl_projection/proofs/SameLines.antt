@@ -1,0 +1,119 @@
+-- The answers to the lines that name a circuit hang on its own lines alone.
+use Rattle.std.proofs.Common.{◌≡◌, ◌⊎◌, true, false, List, [], ◌∷◌, ◌++◌, append-nil, append_assoc, refl, sym, ap, subst, ◌∙◌, inl, inr}
+use Rattle.std.specs.Prelude.{if◌then◌else◌}
+use Rattle.spl_agree.proofs.Tests.{if_holds, bool_cases, and_left, and_right}
+use Rattle.spl_circuit.specs.Nodes.{Node, has_node}
+use Rattle.spl_wire.specs.declared.answer.Answer.{Answer}
+use Rattle.spl_sched.specs.declared.line.Line.{Line}
+use Rattle.spl_sched.specs.declared.line.Line.TheVariants as line
+use Rattle.spl_sched.specs.Grammar.{step_node}
+use Rattle.spl_model.specs.Worlds.{World, first_world}
+use Rattle.spl_model.specs.Projection.{Ran, line_fits, lines_fit, names, line_concerns, concerned, at_one_of, beside, own_line, own_among, own}
+use Rattle.spl_model.specs.Answers.{line_answer, line_world, lines_world, answer_to, answers_about}
+use Rattle.spl_projection.specs.Whole.{whole_world}
+use Rattle.spl_model.proofs.Lines.{fit-append}
+use Rattle.spl_projection.proofs.Owns.{IsPair, pair-first, named-within, answer-same, AllConcern, lines-append, lines-pair, within-same, all-concern, own-append, answer-whole}
+
+-- the answers to the lines that name a circuit, in a world where its own lines run
+abbrev pub named_answers : Node → World → List Ran → List Answer
+named_answers c w [] = []
+named_answers c w (r ∷ rs) =
+    if names c r.line then line_answer w r.line r.kept ∷ named_answers c (line_world w r.line r.kept) rs
+    else named_answers c (line_world w r.line r.kept) rs
+
+-- stops and starts are none of these
+named-one : (c : Node) (w : World) (ns : List Node) (n : Node) (l : Line) (xs : List Ran) → names c l ≡ false → named_answers c w (at_one_of ns n l ++ xs) ≡ named_answers c (lines_world w (at_one_of ns n l)) xs
+named-one c w ns n l xs h = if_holds (λ (ys : List Ran). named_answers c w (ys ++ xs) ≡ named_answers c (lines_world w ys) xs) (has_node ns n) _ _ (λ q. rw h) (λ q. refl)
+
+named-beside : (c : Node) (w : World) (ns : List Node) (l : Line) (xs : List Ran) → named_answers c w (beside ns l ++ xs) ≡ named_answers c (lines_world w (beside ns l)) xs
+named-beside c w ns (line.Step s) xs = refl
+named-beside c w ns (line.Calm i k) xs = refl
+named-beside c w ns (line.Stop n) xs = named-one c w ns n (line.Stop n) xs refl
+named-beside c w ns (line.Start n) xs = named-one c w ns n (line.Start n) xs refl
+named-beside c w ns (line.Roll n) xs = refl
+named-beside c w ns (line.Cut calls f s) xs = named-one c w ns (step_node s) (line.Stop (step_node s)) xs refl
+named-beside c w ns (line.Fail call s) xs = named-one c w ns (step_node s) (line.Stop (step_node s)) xs refl
+
+module _ (all : List Node) (c : Node) (ns : List Node) where
+  -- the world behind own lines
+  abbrev here : List Ran → World
+  here rs = lines_world (first_world all) (own_among c ns rs)
+
+  here-more : (before : List Ran) (r : Ran) → here (before ++ r ∷ []) ≡ lines_world (here before) (own_line c ns r)
+  here-more before r =
+      ap (λ (xs : List Ran). lines_world (first_world all) xs) (own-append c ns before (r ∷ []) ∙ ap (λ (xs : List Ran). own_among c ns before ++ xs) (append-nil (own_line c ns r)))
+      ∙ lines-append ns (first_world all) (own_among c ns before) (own_line c ns r)
+
+  concern-append : (xs ys : List Ran) → AllConcern ns c xs → AllConcern ns c ys → AllConcern ns c (xs ++ ys)
+  concern-append [] ys h k = k
+  concern-append (x ∷ xs) ys h k = (h.0, concern-append xs ys h.1 k)
+
+  pub about-named : (before rs : List Ran) → lines_fit before ≡ true → lines_fit rs ≡ true → AllConcern ns c before → AllConcern ns c rs → answers_about all c before rs ≡ named_answers c (here before) (own_among c ns rs)
+  about-named before [] f g h k = refl
+  about-named before (r ∷ rs) f g h k = go (bool_cases (names c r.line)) (about-named (before ++ r ∷ []) rs fits (and_right (line_fits r) (lines_fit rs) g) (concern-append before (r ∷ []) h (k.0, tt)) k.1)
+    where
+      fits : lines_fit (before ++ r ∷ []) ≡ true
+      fits = fit-append before (r ∷ []) f (rw (and_left (line_fits r) (lines_fit rs) g))
+
+      pair : IsPair ns (here before) (whole_world all c before)
+      pair = lines-pair ns c (first_world all) (first_world all) before f h (pair-first ns all)
+
+      answered : names c r.line ≡ true → answer_to all before r ≡ line_answer (here before) r.line r.kept
+      answered q = answer-whole all before r c fits q ∙ sym (answer-same ns (here before) (whole_world all c before) r.line r.kept (named-within ns c r.line q (k.0 q)) pair.alike)
+
+      own_is : names c r.line ≡ true → own_line c ns r ≡ r ∷ []
+      own_is q = rw q
+
+      beside_is : names c r.line ≡ false → own_line c ns r ≡ beside ns r.line
+      beside_is q = rw q
+
+      Goal : List Ran → Type 0
+      Goal xs = answers_about all c before (r ∷ rs) ≡ named_answers c (here before) (xs ++ own_among c ns rs)
+
+      go : (names c r.line ≡ true) ⊎ (names c r.line ≡ false) → answers_about all c (before ++ r ∷ []) rs ≡ named_answers c (here (before ++ r ∷ [])) (own_among c ns rs) → answers_about all c before (r ∷ rs) ≡ named_answers c (here before) (own_among c ns (r ∷ rs))
+      go (inl q) hyp =
+          subst (λ (xs : List Ran). Goal xs) (sym (own_is q))
+          (rw q (ap (λ (a : Answer). a ∷ answers_about all c (before ++ r ∷ []) rs) (answered q)
+          ∙ ap (λ (xs : List Answer). line_answer (here before) r.line r.kept ∷ xs) (hyp ∙ ap (λ (w : World). named_answers c w (own_among c ns rs)) (here-more before r ∙ ap (λ (xs : List Ran). lines_world (here before) xs) (own_is q)))))
+      go (inr q) hyp =
+          subst (λ (xs : List Ran). Goal xs) (sym (beside_is q))
+          (rw q (hyp ∙ (ap (λ (w : World). named_answers c w (own_among c ns rs)) (here-more before r ∙ ap (λ (xs : List Ran). lines_world (here before) xs) (beside_is q))
+          ∙ sym (named-beside c (here before) ns r.line (own_among c ns rs)))))
+
+-- of its own lines alone
+pub about-own : (all : List Node) (c : Node) (rs : List Ran) → lines_fit rs ≡ true → answers_about all c [] rs ≡ named_answers c (first_world all) (own c rs)
+about-own all c rs f = about-named all c (concerned c rs) [] rs refl f tt (all-concern (concerned c rs) c rs (within-same (concerned c rs)))
+
+-- equal own lines, equal answers
+pub equal-answers : (all : List Node) (c : Node) (rs ss : List Ran) → lines_fit rs ≡ true → lines_fit ss ≡ true → own c rs ≡ own c ss → answers_about all c [] rs ≡ answers_about all c [] ss
+equal-answers all c rs ss f g e = about-own all c rs f ∙ (ap (λ (xs : List Ran). named_answers c (first_world all) xs) e ∙ sym (about-own all c ss g))
+
+-- ---- a line that leaves nothing
+
+concerned-append : (c : Node) (xs ys : List Ran) → concerned c (xs ++ ys) ≡ concerned c xs ++ concerned c ys
+concerned-append c [] ys = refl
+concerned-append c (x ∷ xs) ys = ap (λ (ns : List Node). first ++ ns) (concerned-append c xs ys) ∙ sym (append_assoc first (concerned c xs) (concerned c ys))
+  where
+    first : List Node
+    first = if names c x.line then line_concerns x.line else []
+
+concerned-drop : (c : Node) (xs ys : List Ran) (r : Ran) → names c r.line ≡ false → concerned c (xs ++ r ∷ ys) ≡ concerned c (xs ++ ys)
+concerned-drop c xs ys r h = concerned-append c xs (r ∷ ys) ∙ (ap (λ (ns : List Node). concerned c xs ++ ns) one ∙ sym (concerned-append c xs ys))
+  where
+    one : concerned c (r ∷ ys) ≡ concerned c ys
+    one = rw h
+
+-- a line that doesn't name the circuit, and leaves no stop or start of a node concerned, is dropped
+pub own-drop : (c : Node) (xs ys : List Ran) (r : Ran) → names c r.line ≡ false → beside (concerned c (xs ++ ys)) r.line ≡ [] → own c (xs ++ r ∷ ys) ≡ own c (xs ++ ys)
+own-drop c xs ys r h e =
+    ap (λ (ns : List Node). own_among c ns (xs ++ r ∷ ys)) (concerned-drop c xs ys r h)
+    ∙ (own-append c all xs (r ∷ ys) ∙ (ap (λ (zs : List Ran). own_among c all xs ++ zs) one ∙ sym (own-append c all xs ys)))
+  where
+    all : List Node
+    all = concerned c (xs ++ ys)
+
+    line_is : own_line c all r ≡ []
+    line_is = rw h e
+
+    one : own_among c all (r ∷ ys) ≡ own_among c all ys
+    one = ap (λ (zs : List Ran). zs ++ own_among c all ys) line_is

@@ -1,0 +1,4 @@
+pub mod Whole
+pub mod Apart
+pub mod Same
+pub mod Moments

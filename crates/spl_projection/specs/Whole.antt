@@ -1,0 +1,31 @@
+-- The world of a circuit where the stops and starts of all nodes count (docs/RULES.md, Circuits as worlds).
+use Rattle.std.specs.Prelude.{List, [], ◌∷◌, if◌then◌else◌}
+use Rattle.spl_circuit.specs.Nodes.{Node}
+use Rattle.spl_sched.specs.declared.line.Line.{Line}
+use Rattle.spl_sched.specs.declared.line.Line.TheVariants as line
+use Rattle.spl_sched.specs.Grammar.{step_node}
+use Rattle.spl_model.specs.Worlds.{World, Stops, Starts, first_world, happens}
+use Rattle.spl_model.specs.Projection.{Ran, names}
+use Rattle.spl_model.specs.Answers.{line_world}
+
+-- a line that doesn't name the circuit
+abbrev pub world_beside : World → Line → World
+world_beside w (line.Step s) = w
+world_beside w (line.Calm c k) = w
+world_beside w (line.Stop n) = happens w (Stops n)
+world_beside w (line.Start n) = happens w (Starts n)
+world_beside w (line.Roll n) = w
+world_beside w (line.Cut calls fill s) = happens w (Stops (step_node s))
+world_beside w (line.Fail call s) = happens w (Stops (step_node s))
+
+-- any line
+abbrev pub world_after : Node → World → Ran → World
+world_after c w r = if names c r.line then line_world w r.line r.kept else world_beside w r.line
+
+abbrev pub whole_from : Node → World → List Ran → World
+whole_from c w [] = w
+whole_from c w (r ∷ rs) = whole_from c (world_after c w r) rs
+
+-- the world of a circuit behind all lines: nodes that keep all circuits stand for this one
+abbrev pub whole_world : List Node → Node → List Ran → World
+whole_world ns c rs = whole_from c (first_world ns) rs
