@@ -1,0 +1,30 @@
+-- The coupling of groups and cells goes on in a calm.
+use Rattle.std.proofs.Common.{List, subst}
+use Rattle.spl_circuit.specs.declared.definition.Definition.{Definition}
+use Rattle.spl_circuit.specs.declared.act.Act.{Act}
+use Rattle.spl_circuit.specs.Nodes.{Node}
+use Rattle.spl_command.specs.declared.batch.Batch.{Batch}
+use Rattle.spl_wire.specs.declared.plan.Plan.{Plan}
+use Rattle.spl_sched.specs.declared.line.Step.{Step}
+use Rattle.spl_rules.specs.Cells.{Cell}
+use Rattle.spl_rules.specs.Changes.{after_plan}
+use Rattle.spl_model.specs.Worlds.{World, Occurrence, Steps, carried_out, step_world, happens}
+use Rattle.spl_model.specs.Agreement.{IsPlain, IsPlainStep}
+use Rattle.spl_model.proofs.Coupling.{IsValidCell, InWorld}
+use Rattle.spl_model.proofs.Steps.{Past}
+use Rattle.spl_model.proofs.Deeds.{put_at-same, SomePast}
+use Rattle.spl_model.proofs.Runs.{happens-keeps}
+
+-- there are bindings and lists with which the groups are coupled with the cells
+abbrev pub IsCoupled : World → Type 0
+IsCoupled w = (past : Past) × (acts : Definition → List Act) × (batches : Definition → List Batch) × InWorld past w.at w.sent acts batches
+
+pub coupled-happens : (w : World) (e : Occurrence) → IsPlain e → IsCoupled w → IsCoupled (happens w e)
+coupled-happens w e h v = let u : SomePast v.0 (happens w e).at (happens w e).sent _ _ = happens-keeps v.0 w e v.1 v.2 h (v.0, (λ k f x. x), v.3) in (u.0, _, _, u.2)
+
+pub coupled-step : (w : World) (s : Step) → IsPlainStep s → IsCoupled w → IsCoupled (step_world w s)
+coupled-step w s h v = coupled-happens w (Steps s) h v
+
+-- so the cell behind a plan that was carried out is valid
+pub valid-behind : (w : World) (n : Node) (p : Plan) → IsCoupled (carried_out w n p) → IsValidCell n (after_plan n (w.at n) p)
+valid-behind w n p v = subst (λ (z : Cell). IsValidCell n z) (put_at-same w.at n (after_plan n (w.at n) p)) (v.3.valid n)
