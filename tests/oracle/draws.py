@@ -1,0 +1,122 @@
+"""Schedules drawn from a seed: few circuits and addresses, so that lines meet each other; a few broken lines."""
+import random
+
+from schedules import BadLine, World
+
+NODES = ["alpha", "beta", "gamma"]
+CIRCUITS = ["Ab3dE-00001", "Ab3dE-00002", "Zz9zZ-00000"]
+ADDRESSES = ["00" * 34 + "01", "00" * 34 + "02", "00" * 33 + "0102", "ff" * 35]
+BROKEN = ["show alpha", "show delta Ab3dE-00001", "calm Ab3dE-00001 0", "vote alpha Ab3dE-00001 maybe", "show  alpha Ab3dE-00001"]
+
+
+class Draw:
+    """Draws lines, and runs them along, so that most deliveries are of messages that were just sent."""
+
+    def __init__(self, seed):
+        self.random = random.Random(seed)
+        self.world = World(NODES)
+        self.circuits = CIRCUITS[: self.random.choice([1, 1, 2, 3])]
+        self.members = {}
+
+    def one(self, things):
+        return self.random.choice(things)
+
+    def lines(self):
+        """A schedule's lines: most circuits are brought to active first, so that batches run."""
+        found = []
+        for circuit in self.circuits:
+            if self.random.random() < 0.85:
+                found += [self.ran(line) for line in self.accepted(circuit)]
+        found += [self.ran(self.line()) for _ in range(self.random.randint(20, 120))]
+        if self.random.random() < 0.1:
+            found.insert(self.random.randrange(len(found) + 1), self.one([*BROKEN, "", "# a comment"]))
+        return found
+
+    def ran(self, line):
+        try:
+            self.world.run(line)
+        except BadLine:
+            pass
+        return line
+
+    def accepted(self, circuit):
+        members = self.one([NODES, NODES[:2], NODES[1:], [NODES[0], NODES[2]]])
+        first, *others = self.random.sample(members, len(members))
+        found = [self.propose(circuit, first, members, 1), f"calm {circuit} 8"]
+        for node in others:
+            found += [f"vote {node} {circuit} accept", f"calm {circuit} {self.one([2, 4, 8])}"]
+        return found
+
+    def propose(self, circuit, node, members, generation):
+        self.members[circuit] = members
+        ids = self.random.sample(["aaaa", "bbbb", "cccc"], len(members))
+        roster = sorted(zip(ids, members))
+        services = ",".join(f"{id}:scabbard:{member}" for id, member in roster)
+        name = self.one(["trade", "trade", "trio"])
+        return f"propose {node} {circuit} {generation} 1 grid {name} {','.join(members)} {services}"
+
+    def line(self):
+        circuit = self.one(self.circuits)
+        node = self.one(self.members.get(circuit, NODES) if self.random.random() < 0.9 else NODES)
+        kinds = {
+            self.drawn_propose: 4,
+            self.vote: 7,
+            self.submit: 12,
+            self.ask: 20,
+            self.step: 20,
+            self.deliver: 30,
+            self.calm: 3,
+        }
+        return self.random.choices(list(kinds), list(kinds.values()))[0](circuit, node)
+
+    def drawn_propose(self, circuit, node):
+        if self.random.random() < 0.2:
+            version, members = self.one([(2, "alpha,beta"), (1, "beta,alpha"), (1, "alpha"), (1, "alpha,gamma")])
+            return f"propose {node} {circuit} 1 {version} grid trade {members} aaaa:scabbard:alpha,bbbb:scabbard:beta"
+        return self.propose(circuit, node, self.one([NODES, NODES[:2], NODES[1:]]), self.one([1, 1, 1, 2]))
+
+    def vote(self, circuit, node):
+        return self.one([f"vote {node} {circuit} accept"] * 4 + [f"vote {node} {circuit} reject", f"remove {node} {circuit}"])
+
+    def submit(self, circuit, node):
+        count = self.random.choices([0, 1, 2, 3, 17], [1, 40, 12, 6, 1])[0]
+        body = " ".join(self.transaction() for _ in range(count))
+        return f"submit {node} {circuit} {self.random.randint(1, 9)} {body}".rstrip()
+
+    def transaction(self):
+        inputs = self.one(["in:"] * 4 + ["in:00", ""])
+        outputs = self.one(["out:"] * 8 + ["out:00", "out:ff out:00", ""])
+        commands = [self.command() for _ in range(self.random.choices([0, 1, 2, 4], [1, 40, 20, 10])[0])]
+        return " ".join(word for word in ["tx", inputs, outputs, *commands] if word)
+
+    def command(self):
+        address, data = self.one(ADDRESSES), self.one(["", "2a", "2a", "00ff", "01"] * 8 + ["2a" * 257])
+        usual = [f"set:{address}={data}"] * 6 + [f"get:{address}"] * 2 + [f"del:{address}"] * 3
+        rare = self.one(["invalid:no", "error:no", f"event:kind={data}"])
+        return self.one(usual + [f"event:kind={data}", f"data:{data}", rare])
+
+    def ask(self, circuit, node):
+        asked = [f"{word} {node} {circuit}" for word in ("show", "show", "root", "root", "history")]
+        asked += [f"get {node} {circuit} {self.one(ADDRESSES)}", f"list {node} {circuit} {self.one(['-', '00', 'ff'])}"]
+        asked.append(f"status {node} {circuit} {self.random.randint(1, 9)}")
+        services = self.one(["aaaa", "bbbb", "cccc", "zzzz"]), self.one(["aaaa", "bbbb", "cccc"])
+        asked.append(f"route {node} {circuit} {self.one(NODES)} {services[0]} {services[1]}")
+        return self.one(asked)
+
+    def step(self, circuit, node):
+        return self.one([f"tick {node} {circuit}"] * 6 + [f"expire {node} {circuit}"])
+
+    def deliver(self, circuit, node):
+        pairs = [(a, b) for a in NODES for b in NODES if a != b]
+        count = lambda pair: len(self.world.sent.get((circuit, *pair), []))
+        sender, to = self.one([pair for pair in pairs if count(pair)] or pairs)
+        back = self.random.choices([0, 1, 2, 5, -1], [10, 4, 2, 2, 1])[0]
+        return f"deliver {sender} {to} {circuit} {max(1, count((sender, to)) - back)}"
+
+    def calm(self, circuit, node):
+        return f"calm {circuit} {self.one([1, 1, 2, 4, 8])}"
+
+
+def schedule(seed):
+    """The bytes of the schedule of a seed."""
+    return "".join(line + "\n" for line in Draw(seed).lines()).encode()

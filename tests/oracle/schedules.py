@@ -1,0 +1,243 @@
+"""The lines of a schedule, and their run over all nodes, as docs/RULES.md has them (Schedules, Circuits as worlds)."""
+import re
+from dataclasses import dataclass, field
+
+from cells import Bound, Refused, Site
+from values import Batch, Command, Definition, Service, Transaction
+
+LONGEST_LINE = 2048
+NODE = "[a-z0-9-]{1,32}"
+CIRCUIT = "[0-9A-Za-z]{5}-[0-9A-Za-z]{5}"
+SERVICE = "[0-9A-Za-z]{4}"
+LABEL = "[!-~]{1,128}"
+KIND = "[a-z0-9-]{1,32}"
+HEX = "(?:[0-9a-f]{2})*"
+ADDRESS = "[0-9a-f]{70}"
+TEXT = "[!-<>-~]{1,64}"
+
+
+class BadLine(Exception):
+    """The line isn't one of a schedule."""
+
+
+def match(pattern, word):
+    found = re.fullmatch(pattern, word)
+    if not found:
+        raise BadLine
+    return found
+
+
+def number(word, least, most):
+    match("0|[1-9][0-9]*", word)
+    if not least <= int(word) <= most:
+        raise BadLine
+    return int(word)
+
+
+def few(word, separator):
+    parts = word.split(separator)
+    if not 1 <= len(parts) <= 16:
+        raise BadLine
+    return parts
+
+
+def definition(id, generation, version, management, name, members, services):
+    roster = [Service(*match(f"({SERVICE}):({KIND}):({NODE})", s).groups()) for s in few(services, ",")]
+    return Definition(
+        id,
+        number(generation, 0, 2**32 - 1),
+        number(version, 0, 255),
+        match(LABEL, management)[0],
+        match(LABEL, name)[0],
+        tuple(match(NODE, m)[0] for m in few(members, ",")),
+        tuple(roster),
+    )
+
+
+COMMANDS = [
+    (f"set:({ADDRESS})=({HEX})", lambda a, v: Command("Set", bytes.fromhex(a), bytes.fromhex(v))),
+    (f"get:({ADDRESS})", lambda a: Command("Get", bytes.fromhex(a))),
+    (f"del:({ADDRESS})", lambda a: Command("Delete", bytes.fromhex(a))),
+    (f"event:({TEXT})=({HEX})", lambda t, v: Command("Event", t, bytes.fromhex(v))),
+    (f"data:({HEX})", lambda v: Command("Data", None, bytes.fromhex(v))),
+    (f"invalid:({TEXT})", lambda t: Command("Invalid", t)),
+    (f"error:({TEXT})", lambda t: Command("Error", t)),
+]
+
+
+def command(word):
+    for pattern, made in COMMANDS:
+        found = re.fullmatch(pattern, word)
+        if found:
+            return made(*found.groups())
+    raise BadLine
+
+
+def prefixes(words, name):
+    """The prefixes at the front of some words, and what is behind them."""
+    found = []
+    while words and words[0].startswith(name):
+        digits = match(HEX, words[0][len(name) :])[0]
+        if len(digits) > 70:
+            raise BadLine
+        found.append(bytes.fromhex(digits))
+        words = words[1:]
+    return tuple(found), words
+
+
+def transactions(words):
+    found = []
+    while words:
+        if words[0] != "tx":
+            raise BadLine
+        inputs, words = prefixes(words[1:], "in:")
+        outputs, words = prefixes(words, "out:")
+        end = words.index("tx") if "tx" in words else len(words)
+        found.append(Transaction(inputs, outputs, tuple(command(w) for w in words[:end])))
+        words = words[end:]
+    return tuple(found)
+
+
+def prefix(word):
+    if word == "-":
+        return b""
+    digits = match(HEX, word)[0]
+    if not 2 <= len(digits) <= 70:
+        raise BadLine
+    return bytes.fromhex(digits)
+
+
+def batch_id(word):
+    return number(word, 0, 2**64 - 1)
+
+
+# What an event of a cell asks: the readers of its words, and what is called.
+EVENTS = {
+    "remove": ([], Site.remove),
+    "show": ([], Site.show),
+    "root": ([], Site.root),
+    "history": ([], Site.history),
+    "get": ([lambda w: bytes.fromhex(match(ADDRESS, w)[0])], Site.get),
+    "list": ([prefix], Site.list),
+    "status": ([batch_id], Site.status),
+    "route": ([lambda w: match(NODE, w)[0], lambda w: match(SERVICE, w)[0], lambda w: match(SERVICE, w)[0]], Site.route),
+    "tick": ([], Site.tick),
+    "expire": ([], Site.expire),
+}
+
+
+@dataclass
+class World:
+    """All nodes: their sites by node and circuit, and every message ever sent, by circuit and pair."""
+
+    nodes: list
+    sites: dict = field(default_factory=dict)
+    sent: dict = field(default_factory=dict)
+
+    def known(self, *names):
+        for name in names:
+            if name not in self.nodes:
+                raise BadLine
+        return names[0]
+
+    def at(self, node, circuit):
+        return self.sites.setdefault((node, circuit), Site(node, circuit))
+
+    def happens(self, site, does, *arguments):
+        """An event at a site: its answer; what it sends is posted."""
+        try:
+            return does(site, *arguments)
+        except Refused as refused:
+            return str(refused)
+        finally:
+            for to, message in site.sends:
+                if to in self.nodes and to != site.here:
+                    self.sent.setdefault((site.circuit, site.here, to), []).append(message)
+            site.sends = []
+
+    def run(self, text):
+        """The answer to a line."""
+        if any(not "!" <= c <= "~" for c in text.replace(" ", "")) or "" in text.split(" "):
+            raise BadLine
+        word, *rest = text.split(" ")
+        if word == "calm":
+            return self.read_calm(*self.exactly(rest, 2))
+        if word == "deliver":
+            return self.read_deliver(*self.exactly(rest, 4))
+        if len(rest) < 2:
+            raise BadLine
+        node, circuit, *words = rest
+        match(NODE, node), match(CIRCUIT, circuit)
+        does, arguments = self.event(word, circuit, words)
+        return self.happens(self.at(self.known(node), circuit), does, *arguments)
+
+    def exactly(self, words, count):
+        if len(words) != count:
+            raise BadLine
+        return words
+
+    def event(self, word, circuit, words):
+        if word == "propose":
+            proposed = definition(circuit, *self.exactly(words, 6))
+            self.known(*proposed.members, *(s.node for s in proposed.services))
+            return Site.propose, [proposed]
+        if word == "vote" and words in (["accept"], ["reject"]):
+            return Site.vote, [words[0].capitalize()]
+        if word == "submit" and words:
+            return Site.submit, [Batch(batch_id(words[0]), transactions(words[1:]))]
+        if word not in EVENTS:
+            raise BadLine
+        readers, does = EVENTS[word]
+        arguments = [read(w) for read, w in zip(readers, self.exactly(words, len(readers)))]
+        if word == "route":
+            self.known(arguments[0])
+        return does, arguments
+
+    def read_deliver(self, sender, to, circuit, place):
+        match(NODE, sender), match(NODE, to), match(CIRCUIT, circuit)
+        index = number(place, 1, 2**32 - 1)
+        if sender == to:
+            raise BadLine
+        self.known(sender, to)
+        return self.deliver(sender, to, circuit, index)
+
+    def deliver(self, sender, to, circuit, index):
+        messages = self.sent.get((circuit, sender, to), [])
+        if index > len(messages):
+            return str(Refused(17))
+        return self.happens(self.at(to, circuit), Site.deliver, sender, messages[index - 1])
+
+    def read_calm(self, circuit, passes):
+        match(CIRCUIT, circuit)
+        self.calm(circuit, number(passes, 1, 64))
+        return f"ok calm {passes}"
+
+    def calm(self, circuit, passes):
+        order = sorted(self.nodes)
+        count = lambda a, b: len(self.sent.get((circuit, a, b), []))
+        handed = {(a, b): count(a, b) for a in order for b in order if a != b}
+        sites = [self.at(n, circuit) for n in order]
+        for _ in range(passes):
+            for site in [s for s in sites if isinstance(s.cell, Bound) and s.cell.is_open]:
+                self.happens(site, Site.tick)
+            for a, b in handed:
+                while handed[a, b] < count(a, b):
+                    handed[a, b] += 1
+                    self.deliver(a, b, circuit, handed[a, b])
+
+
+def replay(nodes, schedule):
+    """What a run of a schedule writes, and its status."""
+    world, written = World(nodes), []
+    *lines, rest = schedule.split(b"\n")
+    for count, line in enumerate(lines, 1):
+        try:
+            if len(line) > LONGEST_LINE:
+                raise BadLine
+            if line and not line.startswith(b"#"):
+                written.append(f"{count} {world.run(line.decode('latin-1'))}\n")
+        except BadLine:
+            return "".join(written), 3, f"bad schedule: line {count}\n"
+    if rest:
+        return "".join(written), 3, f"bad schedule: line {len(lines) + 1}\n"
+    return "".join(written), 0, ""
