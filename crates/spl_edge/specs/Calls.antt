@@ -1,9 +1,9 @@
 -- What a call of a disk does.
-use Rattle.std.specs.Prelude.{◌≡◌, ◌≤◌, ◌+◌, ◌-◌, ◌^◌, ◌⊎◌, ◌∷◌, [], ◌++◌, ℕ, min, max, length, take, drop, Bool, false, ◌==◌, nat_le, IsTrue, Option, Some, IsSomeAnd, Result, IsErrOf, OnOk, OnErr}
+use Rattle.std.specs.Prelude.{◌≡◌, ◌<◌, ◌≤◌, ◌+◌, ◌-◌, ◌^◌, ◌⊎◌, ◌∷◌, [], ◌++◌, ℕ, min, max, length, take, drop, Bool, false, ◌==◌, nat_le, IsTrue, Option, Some, IsSomeAnd, Result, IsErrOf, OnOk, OnErr}
 use Rattle.std.specs.Option.{option_map}
 use Rattle.spl_edge.specs.declared.fault.DeviceError.{DeviceError}
 use Rattle.spl_edge.specs.declared.fault.DeviceError.TheVariants.{Failed}
-use Rattle.spl_edge.specs.Causes.{Rose}
+use Rattle.spl_edge.specs.Causes.{next, Rose}
 use Rattle.spl_edge.specs.Image.{Image}
 use Rattle.spl_edge.specs.declared.disk.Arming.{Arming}
 use Rattle.spl_edge.specs.declared.disk.Arming.TheVariants.{Off, After, At}
@@ -25,14 +25,16 @@ fails_at armed moment = is_due armed.arming (moment - armed.since)
 abbrev pub IsArmed : Armed → Type 0
 IsArmed armed = armed.arming ≡ Off → ⊥
 
--- one call has passed: its moment and its cause
+-- One call has passed: its moment and its cause. A call that the arming names doesn't succeed, and it fails unless the
+-- count of faults has no room for that.
 pub record Passes {T : Type 0} (before now : ℕ) (faults later_faults : ℕ) (armed : Armed) (result : Result T DeviceError) : Type 0 where
   pub tick : OnOk result (now ≡ before + 1)
-  pub any_tick : now ≡ min (before + 1) (2 ^ 64 - 1)
+  pub any_tick : now ≡ next before
   pub later : before ≤ now
   pub no_less : faults ≤ later_faults
   pub failed : IsErrOf result Failed → Rose faults later_faults
-  pub stopped : IsTrue (fails_at armed before) → IsErrOf result Failed
+  pub stopped : IsTrue (fails_at armed before) → OnOk result ⊥
+  pub told : IsTrue (fails_at armed before) → faults < 2 ^ 64 - 1 → IsErrOf result Failed
   pub named : IsErrOf result Failed → IsArmed armed → IsTrue (fails_at armed before)
 
 -- each earlier moment is as it was

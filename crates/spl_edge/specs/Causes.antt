@@ -1,5 +1,5 @@
 -- What a call of the outside did, and why it failed (docs/RULES.md, Statuses).
-use Rattle.std.specs.Prelude.{◌≡◌, ◌≤◌, ◌+◌, ◌-◌, ◌^◌, ℕ, min, List, [], take, Option, ◌++◌, Result, Ok, Err, IsErrOf}
+use Rattle.std.specs.Prelude.{◌≡◌, ◌<◌, ◌≤◌, ◌+◌, ◌-◌, ◌^◌, ℕ, min, List, [], take, Option, ◌++◌, Result, Ok, Err, IsErrOf}
 use Rattle.std.specs.Io.KnownBytes.{Appends}
 use Rattle.spl_edge.specs.declared.fault.DeviceError.{DeviceError}
 use Rattle.spl_edge.specs.declared.fault.DeviceError.TheVariants.{Failed}
@@ -8,9 +8,9 @@ use Rattle.spl_edge.specs.declared.fault.DeviceError.TheVariants.{Failed}
 abbrev pub next : ℕ → ℕ
 next count = min (count + 1) (2 ^ 64 - 1)
 
--- a count of 64 bits is above what it was, or stands at its end
+-- a count is above what it was
 abbrev pub Rose : ℕ → ℕ → Type 0
-Rose before now = next before ≤ now
+Rose before now = before < now
 
 -- a count has not fallen, and `Failed` is told only where it rose
 pub record HasCause {T : Type 0} (before now : ℕ) (result : Result T DeviceError) : Type 0 where

@@ -34,7 +34,7 @@ pub trait Disk {
     /// How many calls it has had. The count stops at 2^64 - 1.
     ghost moment: { Self → ℕ };
 
-    /// How often it has failed. The count stops at 2^64 - 1.
+    /// How often it has failed.
     ghost faults: { Self → ℕ };
 
     /// Which of the calls to come fail because it is made to stop.

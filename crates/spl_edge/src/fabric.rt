@@ -15,7 +15,7 @@ pub trait Fabric {
     /// The bytes taken so far, where it tells.
     ghost taken_on: { Self → ℕ → ℕ → Option (List ℕ) };
 
-    /// How often it has failed. The count stops at 2^64 - 1.
+    /// How often it has failed.
     ghost faults: { Self → ℕ };
 
     /// Takes in some bytes from the front of a piece, and tells how many. To take in nothing of a piece that isn't

@@ -13,7 +13,7 @@ mod source;
 pub use bench::{Bench, Pair, Shelf};
 pub use disk::{Armed, Arming, Disk, StopDisk};
 pub use fabric::Fabric;
-pub use fault::DeviceError;
+pub use fault::{DeviceError, count_fault};
 pub use fill::Fill;
 pub use memory::{MemSink, MemSource};
 pub use sink::{Sink, write_all};

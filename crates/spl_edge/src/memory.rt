@@ -1,9 +1,9 @@
 //! A source and a sink in memory, which fail at the calls whose numbers they are given.
-ghost use Rattle.std.specs.Prelude.{◌≡◌, ◌↔◌, ◌≤◌, ◌<◌, ◌++◌, Some, IfOk, IsErrOf, Contains, length, vec_len};
+ghost use Rattle.std.specs.Prelude.{◌≡◌, ◌↔◌, ◌≤◌, ◌<◌, ◌-◌, ◌^◌, ◌++◌, Some, IfOk, IsErrOf, Contains, length, vec_len};
 ghost use Rattle.std.specs.Io.KnownBytes.{Appends, Consumes, IsAtEnd};
 ghost use Rattle.spl_edge.specs.Causes.{next, HasCause, Rose, moved_by};
 
-use crate::{DeviceError, Sink, Source};
+use crate::{DeviceError, Sink, Source, count_fault};
 use std::alloc::Global;
 
 /// Bytes in memory that are read. The calls with these numbers, counted from 1, fail.
@@ -50,15 +50,14 @@ impl Source for MemSource {
         ensures end { IfOk result (λ n. n ≡ 0 → 0 < length buf.new → IsAtEnd (Some (left_of self.new))) }
         ensures cause { HasCause (read_faults self.old) (read_faults self.new) result }
 
-        // The calls with the numbers given fail, and no other.
+        // The calls with the numbers given fail, and no other, while there is room to count them.
         ensures calls { read_calls self.new ≡ next (read_calls self.old) }
         ensures failing { failing_reads self.new ≡ failing_reads self.old }
-        ensures fails { IsErrOf result DeviceError.Failed ↔ Contains (failing_reads self.old) (read_calls self.new) }
+        ensures fails { IsErrOf result DeviceError.Failed ↔ Contains (failing_reads self.old) (read_calls self.new) × (read_faults self.old < 2 ^ 64 - 1) }
     {
         self.calls = self.calls.saturating_add(1);
         if self.failing.contains(&self.calls) {
-            self.faults = self.faults.saturating_add(1);
-            return Err(DeviceError::Failed);
+            return Err(count_fault(&mut self.faults));
         }
         let count = buf.len().min(self.bytes.len() - self.at);
         buf[..count].copy_from_slice(&self.bytes[self.at..self.at + count]);
@@ -112,15 +111,14 @@ impl Sink for MemSink {
         ensures nothing { IfOk result (λ n. n ≡ 0 → 0 < length piece.now → Rose (write_faults self.old) (write_faults self.new)) }
         ensures cause { HasCause (write_faults self.old) (write_faults self.new) result }
 
-        // The calls with the numbers given fail, and no other.
+        // The calls with the numbers given fail, and no other, while there is room to count them.
         ensures calls { write_calls self.new ≡ next (write_calls self.old) }
         ensures failing { failing_writes self.new ≡ failing_writes self.old }
-        ensures fails { IsErrOf result DeviceError.Failed ↔ Contains (failing_writes self.old) (write_calls self.new) }
+        ensures fails { IsErrOf result DeviceError.Failed ↔ Contains (failing_writes self.old) (write_calls self.new) × (write_faults self.old < 2 ^ 64 - 1) }
     {
         self.calls = self.calls.saturating_add(1);
         if self.failing.contains(&self.calls) {
-            self.faults = self.faults.saturating_add(1);
-            return Err(DeviceError::Failed);
+            return Err(count_fault(&mut self.faults));
         }
         self.bytes.extend_from_slice(piece)?;
         Ok(piece.len())

@@ -10,7 +10,7 @@ pub trait Sink {
     /// The bytes written so far, where the object tells.
     ghost written: { Self → Option (List ℕ) };
 
-    /// How often it has failed. The count stops at 2^64 - 1.
+    /// How often it has failed.
     ghost faults: { Self → ℕ };
 
     /// Takes some bytes from the front of a piece, and tells how many. To take nothing of a piece that isn't empty

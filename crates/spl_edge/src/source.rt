@@ -14,7 +14,7 @@ pub trait Source {
     /// The bytes that are left, where the object tells.
     ghost left: { Self → Option (List ℕ) };
 
-    /// How often it has failed. The count stops at 2^64 - 1.
+    /// How often it has failed.
     ghost faults: { Self → ℕ };
 
     /// Takes some of the next bytes, and tells how many. A read of 0 into a buffer that isn't empty is the end.

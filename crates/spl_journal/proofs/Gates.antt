@@ -119,7 +119,7 @@ by_calls most at later first m now calls faults risen f g Part told armed was e 
 pub passed_more : {U : Type 0} (first m calls now faults risen : ℕ) (armed was : Armed) (x : U) → m ≡ first + calls → was ≡ armed → Passes m now faults risen was (Ok x)
     → ((j : ℕ) → j < calls → IsTrue (fails_at armed (first + j)) → ⊥) → (j : ℕ) → j < calls + 1 → IsTrue (fails_at armed (first + j)) → ⊥
 passed_more first m calls now faults risen armed was x here same call before j lt due = ⊎_elim
-    (λ (is : j ≡ calls). cc (call.stopped (subst IsTrue (ap (λ (n : ℕ). fails_at armed n) (omega (arith, is, here)) ∙ ap (λ (a : Armed). fails_at a m) (sym same)) due)))
+    (λ (is : j ≡ calls). call.stopped (subst IsTrue (ap (λ (n : ℕ). fails_at armed n) (omega (arith, is, here)) ∙ ap (λ (a : Armed). fails_at a m) (sym same)) due))
     (λ other. before j (omega (arith, lt, ne_lt j calls lt other)) due)
     (cases_eq j calls)
   where

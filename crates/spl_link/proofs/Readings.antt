@@ -52,7 +52,7 @@ pub read_back : (opens : Bool) (name : List ℕ) → IsTrue (is_node_id name) �
 read_back opens name h =
     let g = greeting opens name in
     let parsed : greeting_form.parse (record { rest = g; place = 0 }) ≡ Ok ((tag_of opens, (1, name)), record { rest = []; place = 0 + length g })
-        = ap (λ (r : List ℕ). greeting_form.parse (record { rest = r; place = 0 })) (sym (append-nil g)) ∙ exact_greeting.again (tag_of opens, (1, name)) [] 0 (fits opens name h) in
+    = ap (λ (r : List ℕ). greeting_form.parse (record { rest = r; place = 0 })) (sym (append-nil g)) ∙ exact_greeting.again (tag_of opens, (1, name)) [] 0 (fits opens name h) in
     ap (λ (p : Result ((ℕ × (ℕ × List ℕ)) × Input) ℕ). option_and_then (name_of opens (length g)) (result_ok (p >>= λ x. Ok (x.0, x.1.place)))) parsed
     ∙ named opens (0 + length g) (length g) name (omega arith)
 

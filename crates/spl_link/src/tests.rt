@@ -9,7 +9,8 @@ fn bodies(rt: HostRuntime) -> Result<(), Fail> {
     let alpha = NodeId::read(b"alpha").ok_or("no id")?;
     let beta = NodeId::read(b"beta").ok_or("no id")?;
     let gamma = NodeId::read(b"gamma").ok_or("no id")?;
-    let text = "[[node]]\nidentity = \"alpha\"\ndisplay_name = \"A\"\nendpoints = [\"x\"]\n[[node]]\nidentity = \"beta\"\ndisplay_name = \"B\"\nendpoints = [\"x\"]\n";
+    let text =
+        "[[node]]\nidentity = \"alpha\"\ndisplay_name = \"A\"\nendpoints = [\"x\"]\n[[node]]\nidentity = \"beta\"\ndisplay_name = \"B\"\nendpoints = [\"x\"]\n";
     let registry = Registry::read(alloc, text.as_bytes()).map_err(|_| "refused")?;
     let hello = Opening::new(alpha, beta, true).hello(alloc)?;
     assert_eq!(rt; hello.bytes(), b"\x03\x00\x01\x00\x05alpha".as_slice());

@@ -5,7 +5,7 @@ ghost use Rattle.spl_edge.specs.declared.disk.Arming.TheVariants.{Off};
 
 use crate::lies::{Lie, tell};
 use crate::mem_disk::{MOST, patch};
-use spl_edge::{DeviceError, Disk};
+use spl_edge::{DeviceError, Disk, count_fault};
 use std::alloc::Global;
 
 /// A disk that doesn't tell. The calls with the numbers given, counted from 1, fail, and so does a write behind the end.
@@ -48,8 +48,7 @@ impl LyingDisk {
         self.moment = self.moment.saturating_add(1);
         tell(&mut self.bytes, &self.lies, self.moment);
         if self.failing.contains(&self.moment) {
-            self.faults = self.faults.saturating_add(1);
-            return Err(DeviceError::Failed);
+            return Err(count_fault(&mut self.faults));
         }
         if at_end {
             return Err(DeviceError::NoMemory);
@@ -88,8 +87,7 @@ impl Disk for LyingDisk {
         }
         let len = self.bytes.len();
         if len < at as usize {
-            self.faults = self.faults.saturating_add(1);
-            return Err(DeviceError::Failed);
+            return Err(count_fault(&mut self.faults));
         }
         if bytes.len() > MOST - at as usize {
             return Err(DeviceError::NoMemory);

@@ -5,7 +5,7 @@ ghost use Rattle.spl_edge.specs.Image.{Image, patched, after_write, after_sync, 
 ghost use Rattle.spl_edge.specs.Picks.{filled, painted, picked_bytes, picked_of};
 ghost use Rattle.spl_edge.specs.Calls.{Passes, fails_at, armed_with};
 
-use spl_edge::{Armed, Arming, DeviceError, Disk, Fill, StopDisk};
+use spl_edge::{Armed, Arming, DeviceError, Disk, Fill, StopDisk, count_fault};
 use std::alloc::{AllocError, Global};
 
 /// The most bytes that a disk has.
@@ -78,8 +78,7 @@ fn begin(
     *moment = moment.saturating_add(1);
     *number = number.saturating_add(1);
     if due || (armed.arming == Arming::Off && failing.contains(number)) {
-        *faults = faults.saturating_add(1);
-        return Err(DeviceError::Failed);
+        return Err(count_fault(faults));
     }
     if at_end {
         return Err(DeviceError::NoMemory);

@@ -6,7 +6,7 @@ ghost use Rattle.spl_memory.specs.Fabrics.{put_of, taken_of};
 
 use crate::lane::Lane;
 use crate::lies::{Lie, tell};
-use spl_edge::{DeviceError, Fabric};
+use spl_edge::{DeviceError, Fabric, count_fault};
 use std::alloc::{AllocError, Global};
 
 /// The position of the lane from one node to another.
@@ -99,8 +99,7 @@ impl Fabric for MemFabric {
     fn put(&mut self, from: u8, to: u8, bytes: &[u8]) -> Result<usize, DeviceError> {
         self.calls = self.calls.saturating_add(1);
         if self.failing.contains(&self.calls) {
-            self.faults = self.faults.saturating_add(1);
-            return Err(DeviceError::Failed);
+            return Err(count_fault(&mut self.faults));
         }
         match put_at(self.alloc, &mut self.lanes, lane_from(from, to), bytes) {
             Ok(()) => Ok(bytes.len()),
@@ -111,8 +110,7 @@ impl Fabric for MemFabric {
     fn take(&mut self, from: u8, to: u8, buf: &mut [u8]) -> Result<usize, DeviceError> {
         self.calls = self.calls.saturating_add(1);
         if self.failing.contains(&self.calls) {
-            self.faults = self.faults.saturating_add(1);
-            return Err(DeviceError::Failed);
+            return Err(count_fault(&mut self.faults));
         }
         Ok(take_at(&mut self.lanes, lane_from(from, to), buf))
     }
@@ -157,8 +155,7 @@ impl Fabric for LyingFabric {
     fn put(&mut self, from: u8, to: u8, bytes: &[u8]) -> Result<usize, DeviceError> {
         self.calls = self.calls.saturating_add(1);
         if self.failing.contains(&self.calls) {
-            self.faults = self.faults.saturating_add(1);
-            return Err(DeviceError::Failed);
+            return Err(count_fault(&mut self.faults));
         }
         match put_at(self.alloc, &mut self.lanes, lane_from(from, to), bytes) {
             Ok(()) => Ok(bytes.len()),
@@ -169,12 +166,11 @@ impl Fabric for LyingFabric {
     fn take(&mut self, from: u8, to: u8, buf: &mut [u8]) -> Result<usize, DeviceError> {
         self.calls = self.calls.saturating_add(1);
         if self.failing.contains(&self.calls) {
-            self.faults = self.faults.saturating_add(1);
-            return Err(DeviceError::Failed);
+            return Err(count_fault(&mut self.faults));
         }
         let count = take_at(&mut self.lanes, lane_from(from, to), buf);
-        if count == 0 {
-            self.faults = self.faults.saturating_add(1);
+        if count == 0 && count_fault(&mut self.faults) == DeviceError::NoMemory {
+            return Err(DeviceError::NoMemory);
         }
         tell(&mut buf[..count], &self.lies, self.calls);
         Ok(count)

@@ -47,10 +47,15 @@ some_due n (Some p) (Some t) due pos = omega (arith, due, pos)
 
 -- a front of a piece came, and nothing since
 pub part_is : (from to n : ℕ) (piece : List ℕ) (a b c : Streams) → b from to ≡ append_known (a from to) (take n piece) → ((x y : ℕ) → x < 256 → y < 256 → IsOtherPair x y from to → b x y ≡ a x y) → ((x y : ℕ) → c x y ≡ b x y) → GrowsPart from to piece a c
-part_is from to n piece a b c here others same = (take n piece, drop n piece, sym (take-append-drop n piece), record {
-  here = same from to ∙ here;
-  others = λ x y p q other. same x y ∙ others x y p q other;
-})
+part_is from to n piece a b c here others same = (
+  take n piece,
+  drop n piece,
+  sym (take-append-drop n piece),
+  record {
+    here = same from to ∙ here;
+    others = λ x y p q other. same x y ∙ others x y p q other;
+  },
+)
 
 -- a front of what is left came behind what came before
 pub part_more : (from to n : ℕ) (all : List ℕ) (a b c : Streams) → Grows from to (take n all) a b → GrowsPart from to (drop n all) b c → GrowsPart from to all a c

@@ -9,7 +9,8 @@ use std::alloc::Global;
 use std::test::Fail;
 
 fn pump(alloc: Global) -> Result<Pump, Fail> {
-    let text = "[[node]]\nidentity = \"alpha\"\ndisplay_name = \"A\"\nendpoints = [\"x\"]\n[[node]]\nidentity = \"beta\"\ndisplay_name = \"B\"\nendpoints = [\"x\"]\n";
+    let text =
+        "[[node]]\nidentity = \"alpha\"\ndisplay_name = \"A\"\nendpoints = [\"x\"]\n[[node]]\nidentity = \"beta\"\ndisplay_name = \"B\"\nendpoints = [\"x\"]\n";
     let registry = Registry::read(alloc, text.as_bytes()).map_err(|_| "refused")?;
     Ok(Pump::new(alloc, &registry)?)
 }
@@ -64,10 +65,19 @@ fn lying(rt: HostRuntime) -> Result<(), Fail> {
     let alloc = rt.alloc();
     for (call, size) in [(2u64, 16usize), (4, 15), (6, 32), (8, 32)] {
         for offset in 0..size {
-            let lies = vec![in alloc; Lie { call, offset, byte: 0xee }]?;
+            let lies = vec![in alloc;
+                Lie {
+                    call,
+                    offset,
+                    byte: 0xee
+                },
+            ]?;
             let mut fabric = LyingFabric::new(alloc, Vec::new(alloc), lies);
             let fault = two(alloc, &mut fabric)?;
-            assert!(rt; matches!(fault, Some(PumpFault::Lied { .. })), "call {call} at {offset}");
+            assert!(rt;
+                matches!(fault, Some(PumpFault::Lied { .. })),
+                "call {call} at {offset}"
+            );
         }
     }
     Ok(())

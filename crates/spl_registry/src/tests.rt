@@ -2,11 +2,14 @@ use super::*;
 use spl_base::NodeId;
 use std::test::Fail;
 
-const ALPHA: &str = "[[node]]\nidentity = \"alpha\"\ndisplay_name = \"Alpha Company\"\nendpoints = [\"127.0.0.1:0\"]\n";
+const ALPHA: &str =
+    "[[node]]\nidentity = \"alpha\"\ndisplay_name = \"Alpha Company\"\nendpoints = [\"127.0.0.1:0\"]\n";
 
-const BETA: &str = "[[node]]\nidentity = \"beta\"\ndisplay_name = \"Beta Company\"\nendpoints = [\"127.0.0.1:1\", \"x\"]\nmetadata = { organization = \"Beta\" }\n";
+const BETA: &str =
+    "[[node]]\nidentity = \"beta\"\ndisplay_name = \"Beta Company\"\nendpoints = [\"127.0.0.1:1\", \"x\"]\nmetadata = { organization = \"Beta\" }\n";
 
-const UPPER: &str = "[[node]]\nidentity = \"Beta\"\ndisplay_name = \"Beta Company\"\nendpoints = [\"127.0.0.1:0\"]\n";
+const UPPER: &str =
+    "[[node]]\nidentity = \"Beta\"\ndisplay_name = \"Beta Company\"\nendpoints = [\"127.0.0.1:0\"]\n";
 
 const NAMELESS: &str =
     "[[node]]\nidentity = \"beta\"\ndisplay_name = \"\"\nendpoints = [\"127.0.0.1:0\"]\n";

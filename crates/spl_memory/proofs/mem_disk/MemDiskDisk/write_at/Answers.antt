@@ -24,7 +24,7 @@ invariant_of-self-2 c = record {
 }
 
 pub returns-in-Ok-clause-change : goal.returns-in-Ok-clause-change
-returns-in-Ok-clause-change c = made (fails_at c.args.self.now.armed c.args.self.now.moment) tt (after_write c.args.at c.args.bytes.now) (PartOfWrite c.args.at (length c.args.bytes.now)) (Some (replayed (settled_at c.args.self.now.first.items) (until c.args.self.now.moment c.args.self.now.calls.items))) (Some (replayed (settled_at c.args.self.now.first.items) (until c.begin.new.moment c.wrote.new.calls.items))) (told_done (settled_at c.args.self.now.first.items) (after_write c.args.at c.args.bytes.now) (λ i. []) c.args.self.now.calls.items c.wrote.new.calls.items c.args.self.now.moment c.begin.new.moment c.in-Ok.ensures.calls c.args.self.now.timely (omega (arith, c.in_default.ensures.tick))) (λ fails. cc (c.in_default.ensures.stopped fails))
+returns-in-Ok-clause-change c = made (fails_at c.args.self.now.armed c.args.self.now.moment) tt (after_write c.args.at c.args.bytes.now) (PartOfWrite c.args.at (length c.args.bytes.now)) (Some (replayed (settled_at c.args.self.now.first.items) (until c.args.self.now.moment c.args.self.now.calls.items))) (Some (replayed (settled_at c.args.self.now.first.items) (until c.begin.new.moment c.wrote.new.calls.items))) (told_done (settled_at c.args.self.now.first.items) (after_write c.args.at c.args.bytes.now) (λ i. []) c.args.self.now.calls.items c.wrote.new.calls.items c.args.self.now.moment c.begin.new.moment c.in-Ok.ensures.calls c.args.self.now.timely (omega (arith, c.in_default.ensures.tick))) c.in_default.ensures.stopped
 
 pub returns-in-Err-wrote-clause-change : goal.returns-in-Err-wrote-clause-change
 returns-in-Err-wrote-clause-change c = unchanged (fails_at c.args.self.now.armed c.args.self.now.moment) NoMemory (after_write c.args.at c.args.bytes.now) (PartOfWrite c.args.at (length c.args.bytes.now)) (Some (replayed (settled_at c.args.self.now.first.items) (until c.args.self.now.moment c.args.self.now.calls.items))) (Some (replayed (settled_at c.args.self.now.first.items) (until c.begin.new.moment c.wrote.new.calls.items))) (told_err (settled_at c.args.self.now.first.items) c.args.self.now.calls.items c.wrote.new.calls.items c.args.self.now.moment c.begin.new.moment c.in-Err-wrote.ensures.err c.args.self.now.timely c.begin.ensures.later)
