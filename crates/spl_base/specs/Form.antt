@@ -85,10 +85,6 @@ counted w most = record {
 abbrev pub string : ℕ → Form (List ℕ)
 string most = counted w16 most
 
--- a prefix of an address: one byte of length, at most 35, and that many bytes
-abbrev pub prefix : Form (List ℕ)
-prefix = counted w8 35
-
 abbrev pub flag_of : ℕ → ℕ → Input → Parsed Bool
 flag_of zero at s = Ok (false, s)
 flag_of (suc zero) at s = Ok (true, s)

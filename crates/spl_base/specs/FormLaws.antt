@@ -9,7 +9,7 @@ use Rattle.std.proofs.lemmas.Nat.{be_bytes_2, be_bytes_4, be_bytes_8, from_be_by
 use Rattle.spl_base.specs.declared.fault.FieldFault.{FieldFault}
 use Rattle.spl_base.specs.declared.fault.FieldFault.TheVariants.{Short, TooLong}
 use Rattle.spl_base.specs.Input.{Input, ◌>>=◌, advanced, raw_at, number_at, sized_at}
-use Rattle.spl_base.specs.Form.{Form, located, IsBytes, Taken, IsExact, IsExactCases, number, number_bytes, raw, sized, text, counted, string, prefix, flag, flag_of, ◌&◌, via, items_at, list_of, Cases, no_case, ◌or◌, by_tag, tagged, nothing}
+use Rattle.spl_base.specs.Form.{Form, located, IsBytes, Taken, IsExact, IsExactCases, number, number_bytes, raw, sized, text, counted, string, flag, flag_of, ◌&◌, via, items_at, list_of, Cases, no_case, ◌or◌, by_tag, tagged, nothing}
 
 -- ---- tests
 
@@ -459,9 +459,6 @@ module _ (w : Width) (limit : ℕ) (wide : IsWide w limit) (most : ℕ) (small :
 
 pub exact_string : (most : ℕ) → most < 2 ^ 16 → IsExact (string most)
 exact_string most small = exact_counted w16 (2 ^ 16) wide16 most small
-
-pub exact_prefix : IsExact prefix
-exact_prefix = exact_counted w8 (2 ^ 8) wide8 35 (lit< tt)
 
 flag_again : (b : Bool) (rest : List ℕ) (place : ℕ) → IsTrue (flag.fits b) → flag.parse (record { rest = flag.spell b ++ rest; place = place }) ≡ Ok (b, record { rest = rest; place = place + length (flag.spell b) })
 flag_again true rest place h = rw (number_again w8 (2 ^ 8) wide8 1 rest place (lit< tt), wide8.len 1) refl

@@ -51,12 +51,12 @@ impl<T> Boxed<T> {
 impl<T: Field> Field for Boxed<T> {
     ghost form = { T.form };
 
-    fn put(&self, w: &mut Writer) -> Result<(), AllocError> {
-        self.get().put(w)
+    fn put_parts(&self, w: &mut Writer) -> Result<(), AllocError> {
+        self.get().put_parts(w)
     }
 
-    fn take(alloc: Global, r: &mut Reader) -> Result<Boxed<T>, Malformed> {
-        let x = T::take(alloc, r)?;
+    fn take_parts(alloc: Global, r: &mut Reader) -> Result<Boxed<T>, Malformed> {
+        let x = T::take_parts(alloc, r)?;
         Ok(Boxed::new(alloc, x)?)
     }
 

@@ -1,5 +1,5 @@
 //! Values with a form in bytes.
-ghost use Rattle.std.specs.Prelude.{◌≡◌, ◌≤◌, ◌++◌, length, drop, IsTrue, IfOk, OnOk, Ok, List, ℕ};
+ghost use Rattle.std.specs.Prelude.{◌≡◌, ◌≤◌, ◌++◌, length, drop, IsTrue, IfOk, OnOk, OnErr, Ok, List, ℕ};
 ghost use Rattle.spl_base.specs.Front.{front_of, Answers};
 ghost use Rattle.std.specs.List.{flat_map, list_all};
 ghost use Rattle.std.specs.Int.{w16};
@@ -12,50 +12,77 @@ use crate::reader::Reader;
 use crate::writer::Writer;
 use std::alloc::{AllocError, Global};
 
-/// A value that has one spelling in bytes.
+/// A value that has one spelling in bytes (docs/RULES.md, Byte forms). An implementer writes `put_parts` and
+/// `take_parts`, which call those of its fields; whoever writes or reads a whole value calls `put` and `take`.
 pub trait Field: Drop {
     ghost form: { Form Self };
 
-    /// Appends the spelling.
-    fn put(&self, w: &mut Writer) -> Result<(), AllocError>
+    /// Appends the spelling. An error comes for want of memory alone; a part may then stand in the writer.
+    fn put_parts(&self, w: &mut Writer) -> Result<(), AllocError>
         requires { IsTrue (form.bounded self.now) }
         ensures ok { OnOk result (w.new ≡ w.old ++ form.spell self.now) }
         ensures fits { OnOk result (IsTrue (form.fits self.now)) };
 
-    /// Reads a value from the front.
-    fn take(alloc: Global, r: &mut Reader) -> Result<Self, Malformed>
+    /// Reads a value from the front. The fault is the place of the first field that cannot be read, or want of memory;
+    /// the reader may then stand behind some of the fields.
+    fn take_parts(alloc: Global, r: &mut Reader) -> Result<Self, Malformed>
         ensures { Reads (λ x. x) result r.new (form.parse r.old) };
+
+    /// Appends the spelling. An error comes for want of memory alone; the writer is then as it was.
+    final fn put(&self, alloc: Global, w: &mut Writer) -> Result<(), AllocError>
+        requires { IsTrue (form.bounded self.now) }
+        ensures ok { OnOk result (w.new ≡ w.old ++ form.spell self.now) }
+        ensures fits { OnOk result (IsTrue (form.fits self.now)) }
+        ensures unchanged { OnErr result (w.new ≡ w.old) }
+    {
+        let bytes = spelled(alloc, self)?;
+        w.put_raw(bytes.bytes())
+    }
+
+    /// Reads a value from the front. The fault is the place of the first field that cannot be read, or want of memory;
+    /// the reader then stands where it stood.
+    final fn take(alloc: Global, r: &mut Reader) -> Result<Self, Malformed>
+        ensures read { Reads (λ x. x) result r.new (form.parse r.old) }
+        ensures unmoved { OnErr result (r.new ≡ r.old) }
+    {
+        let start = r.fork();
+        let found = Self::take_parts(alloc, r);
+        if found.is_err() {
+            *r = start;
+        }
+        found
+    }
 
     ghost exact: { IsExact form };
 }
 
-/// Appends a count and the items.
-pub fn write_list<T: Field>(items: &[T], w: &mut Writer) -> Result<(), AllocError>
+/// Appends a count and the items, as `put_parts` does.
+pub fn put_list<T: Field>(items: &[T], w: &mut Writer) -> Result<(), AllocError>
     requires few { length items.now ≤ 65535 }
     requires bounded { IsTrue (list_all T.form.bounded items.now) }
     ensures ok { OnOk result (w.new ≡ w.old ++ (number_bytes w16 (length items.now) ++ flat_map T.form.spell items.now)) }
     ensures fits { OnOk result (IsTrue (list_all T.form.fits items.now)) }
 {
-    (items.len() as u16).put(w)?;
+    (items.len() as u16).put_parts(w)?;
     for x in items {
-        x.put(w)?;
+        x.put_parts(w)?;
     }
     Ok(())
 }
 
-fn read_items<T: Field>(alloc: Global, r: &mut Reader, count: u16) -> Result<Listing<T>, Malformed>
+fn take_items<T: Field>(alloc: Global, r: &mut Reader, count: u16) -> Result<Listing<T>, Malformed>
     ensures { Reads (λ x. x) result r.new (items_at T.form.parse count r.old) }
 {
     let mut items = Listing::new(alloc);
     for _ in 0..count {
-        let x = T::take(alloc, r)?;
+        let x = T::take_parts(alloc, r)?;
         items.push(x)?;
     }
     Ok(items)
 }
 
-/// Reads a count of at most so many, and the items.
-pub fn read_list<T: Field>(
+/// Reads a count of at most so many, and the items, as `take_parts` does.
+pub fn take_list<T: Field>(
     alloc: Global,
     r: &mut Reader,
     most: u16,
@@ -63,11 +90,11 @@ pub fn read_list<T: Field>(
     ensures { Reads (λ x. x) result r.new ((list_of most T.form).parse r.old) }
 {
     let at = r.place();
-    let count = u16::take(alloc, r)?;
+    let count = u16::take_parts(alloc, r)?;
     if most < count {
         return Err(Malformed::At { at });
     }
-    read_items(alloc, r, count)
+    take_items(alloc, r, count)
 }
 
 impl Field for u8 {
@@ -79,11 +106,11 @@ impl Field for u8 {
     ghost form = { number w8 (2 ^ 8) };
 
     #[tactic(auto, unfolding(crate::specs::Form::number_bytes))]
-    fn put(&self, w: &mut Writer) -> Result<(), AllocError> {
+    fn put_parts(&self, w: &mut Writer) -> Result<(), AllocError> {
         w.put_u8(*self)
     }
 
-    fn take(_alloc: Global, r: &mut Reader) -> Result<u8, Malformed> {
+    fn take_parts(_alloc: Global, r: &mut Reader) -> Result<u8, Malformed> {
         Ok(r.take_u8()?)
     }
 
@@ -99,11 +126,11 @@ impl Field for u16 {
     ghost form = { number w16 (2 ^ 16) };
 
     #[tactic(auto, unfolding(crate::specs::Form::number_bytes))]
-    fn put(&self, w: &mut Writer) -> Result<(), AllocError> {
+    fn put_parts(&self, w: &mut Writer) -> Result<(), AllocError> {
         w.put_u16(*self)
     }
 
-    fn take(_alloc: Global, r: &mut Reader) -> Result<u16, Malformed> {
+    fn take_parts(_alloc: Global, r: &mut Reader) -> Result<u16, Malformed> {
         Ok(r.take_u16()?)
     }
 
@@ -119,11 +146,11 @@ impl Field for u32 {
     ghost form = { number w32 (2 ^ 32) };
 
     #[tactic(auto, unfolding(crate::specs::Form::number_bytes))]
-    fn put(&self, w: &mut Writer) -> Result<(), AllocError> {
+    fn put_parts(&self, w: &mut Writer) -> Result<(), AllocError> {
         w.put_u32(*self)
     }
 
-    fn take(_alloc: Global, r: &mut Reader) -> Result<u32, Malformed> {
+    fn take_parts(_alloc: Global, r: &mut Reader) -> Result<u32, Malformed> {
         Ok(r.take_u32()?)
     }
 
@@ -139,11 +166,11 @@ impl Field for u64 {
     ghost form = { number w64 (2 ^ 64) };
 
     #[tactic(auto, unfolding(crate::specs::Form::number_bytes))]
-    fn put(&self, w: &mut Writer) -> Result<(), AllocError> {
+    fn put_parts(&self, w: &mut Writer) -> Result<(), AllocError> {
         w.put_u64(*self)
     }
 
-    fn take(_alloc: Global, r: &mut Reader) -> Result<u64, Malformed> {
+    fn take_parts(_alloc: Global, r: &mut Reader) -> Result<u64, Malformed> {
         Ok(r.take_u64()?)
     }
 
@@ -156,13 +183,17 @@ impl Field for bool {
 
     ghost form = { flag };
 
-    fn put(&self, w: &mut Writer) -> Result<(), AllocError> {
-        if *self { 1u8.put(w) } else { 0u8.put(w) }
+    fn put_parts(&self, w: &mut Writer) -> Result<(), AllocError> {
+        if *self {
+            1u8.put_parts(w)
+        } else {
+            0u8.put_parts(w)
+        }
     }
 
-    fn take(alloc: Global, r: &mut Reader) -> Result<bool, Malformed> {
+    fn take_parts(alloc: Global, r: &mut Reader) -> Result<bool, Malformed> {
         let at = r.place();
-        match u8::take(alloc, r)? {
+        match u8::take_parts(alloc, r)? {
             0 => Ok(false),
             1 => Ok(true),
             _ => Err(Malformed::At { at }),
@@ -184,17 +215,17 @@ pub fn read_front<T: Field>(alloc: Global, bytes: &[u8]) -> Result<(T, usize), M
     ensures only { (x : T) (rest : List ℕ) → IsTrue (T.form.fits x) → bytes.now ≡ T.form.spell x ++ rest → Answers result (Ok (x, length (T.form.spell x))) }
 {
     let mut r = Reader::new(bytes);
-    let x = T::take(alloc, &mut r)?;
+    let x = T::take_parts(alloc, &mut r)?;
     Ok((x, r.place()))
 }
 
-/// The spelling of a value.
+/// The spelling of a value. An error comes for want of memory alone.
 pub fn spelled<T: Field>(alloc: Global, x: &T) -> Result<Piece, AllocError>
     requires { IsTrue (T.form.bounded x.now) }
     ensures spelled { IfOk result (λ p. p ≡ T.form.spell x.now) }
     ensures fits { OnOk result (IsTrue (T.form.fits x.now)) }
 {
     let mut w = Writer::new(alloc);
-    x.put(&mut w)?;
+    x.put_parts(&mut w)?;
     Ok(w.into_piece())
 }

@@ -79,11 +79,11 @@ impl Field for NodeId {
     ghost form = { text 32 is_node_id };
 
     #[tactic(auto, unfolding(crate::specs::Form::number_bytes))]
-    fn put(&self, w: &mut Writer) -> Result<(), AllocError> {
+    fn put_parts(&self, w: &mut Writer) -> Result<(), AllocError> {
         w.put_text(self.bytes())
     }
 
-    fn take(_alloc: Global, r: &mut Reader) -> Result<NodeId, Malformed> {
+    fn take_parts(_alloc: Global, r: &mut Reader) -> Result<NodeId, Malformed> {
         let at = r.place();
         let bytes = r.take_text(32)?;
         NodeId::read(bytes).ok_or(Malformed::At { at })
@@ -154,11 +154,11 @@ impl Field for Label {
     ghost form = { text 128 is_label };
 
     #[tactic(auto, unfolding(crate::specs::Form::number_bytes))]
-    fn put(&self, w: &mut Writer) -> Result<(), AllocError> {
+    fn put_parts(&self, w: &mut Writer) -> Result<(), AllocError> {
         w.put_text(self.bytes())
     }
 
-    fn take(_alloc: Global, r: &mut Reader) -> Result<Label, Malformed> {
+    fn take_parts(_alloc: Global, r: &mut Reader) -> Result<Label, Malformed> {
         let at = r.place();
         let bytes = r.take_text(128)?;
         Label::read(bytes).ok_or(Malformed::At { at })
@@ -234,11 +234,11 @@ impl Field for ServiceId {
     ghost form = { raw 4 is_service_id };
 
     #[tactic(auto, unfolding(crate::specs::Form::number_bytes))]
-    fn put(&self, w: &mut Writer) -> Result<(), AllocError> {
+    fn put_parts(&self, w: &mut Writer) -> Result<(), AllocError> {
         w.put_raw(self.bytes())
     }
 
-    fn take(_alloc: Global, r: &mut Reader) -> Result<ServiceId, Malformed> {
+    fn take_parts(_alloc: Global, r: &mut Reader) -> Result<ServiceId, Malformed> {
         let at = r.place();
         let bytes = r.take_raw(4)?;
         ServiceId::read(bytes).ok_or(Malformed::At { at })
@@ -302,11 +302,11 @@ impl Field for CircuitId {
     ghost form = { raw 11 is_circuit_id };
 
     #[tactic(auto, unfolding(crate::specs::Form::number_bytes))]
-    fn put(&self, w: &mut Writer) -> Result<(), AllocError> {
+    fn put_parts(&self, w: &mut Writer) -> Result<(), AllocError> {
         w.put_raw(self.bytes())
     }
 
-    fn take(_alloc: Global, r: &mut Reader) -> Result<CircuitId, Malformed> {
+    fn take_parts(_alloc: Global, r: &mut Reader) -> Result<CircuitId, Malformed> {
         let at = r.place();
         let bytes = r.take_raw(11)?;
         match CircuitId::read(bytes) {

@@ -55,11 +55,11 @@ impl Field for Piece {
     ghost form = { string 1024 };
 
     #[tactic(auto, unfolding(crate::specs::Form::number_bytes))]
-    fn put(&self, w: &mut Writer) -> Result<(), AllocError> {
+    fn put_parts(&self, w: &mut Writer) -> Result<(), AllocError> {
         w.put_text(self.bytes())
     }
 
-    fn take(alloc: Global, r: &mut Reader) -> Result<Piece, Malformed> {
+    fn take_parts(alloc: Global, r: &mut Reader) -> Result<Piece, Malformed> {
         let bytes = r.take_text(1024)?;
         Ok(Piece::from(alloc, bytes)?)
     }

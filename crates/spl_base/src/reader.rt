@@ -43,6 +43,16 @@ impl<'a> Reader<'a> {
         self.place
     }
 
+    // A second reader that stands here.
+    pub(crate) fn fork(&self) -> Reader<'a>
+        ensures { result ≡ self.now }
+    {
+        Reader {
+            rest: self.rest,
+            place: self.place,
+        }
+    }
+
     /// Takes n bytes.
     pub fn take_raw(&mut self, n: usize) -> Result<&'a [u8], FieldFault>
         ensures taken { Takes (λ x. x.now) result self.old self.new (raw_at n self.old) }

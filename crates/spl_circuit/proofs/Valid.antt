@@ -1,23 +1,17 @@
 -- What a definition that breaks no rule has.
-use Rattle.std.proofs.Common.{◌≡◌, ◌≤◌, ℕ, zero, suc, ◌+◌, Bool, true, false, leb, ◌&&◌, IsTrue, List, [], ◌∷◌, length, get_or, None, refl, sym, ap, arith}
+use Rattle.std.proofs.Common.{◌≡◌, ◌≤◌, Bool, true, leb, ◌&&◌, IsTrue, List, [], ◌∷◌, length, None, refl, sym, ap, arith}
 use Rattle.std.specs.List.{list_all}
 use Rattle.std.specs.Prelude.{slice_index_or}
 use Rattle.std.proofs.lemmas.Bool.{leb-true, le-leb}
 use Rattle.spl_base.specs.FormLaws.{both_true, and_true}
+use Rattle.spl_base.specs.Rules.{test_at}
 use Rattle.spl_circuit.specs.declared.definition.Service.{Service}
 use Rattle.spl_circuit.specs.declared.definition.Definition.{Definition}
 use Rattle.spl_circuit.specs.Forms.{definition, node_id, service}
 use Rattle.spl_circuit.specs.Nodes.{Node, sorted, same_nodes, lowest}
 use Rattle.spl_circuit.specs.Rules as rules
-use Rattle.spl_circuit.specs.Rules.{broken, rules_of, first_false, ascends, ascends_after, ids_of, nodes_of, leading_node, admin}
+use Rattle.spl_circuit.specs.Rules.{broken, rules_of, ascends, ascends_after, ids_of, nodes_of, leading_node, admin}
 use Rattle.spl_circuit.proofs.Sorting.{first_is_lowest, first_service_is_lowest, length_served}
-
--- each test is passed where none is the first that fails
-test_at : (k n : ℕ) (bs : List Bool) → first_false n bs ≡ None → IsTrue (get_or bs k true)
-test_at k n [] e = refl
-test_at zero n (true ∷ bs) e = refl
-test_at (suc k) n (true ∷ bs) e = test_at k (n + 1) bs e
-test_at k n (false ∷ bs) e = absurd cc
 
 pub few_members : (d : Definition) → broken d ≡ None → (2 ≤ length d.members) × (length d.members ≤ 8)
 few_members d e =
@@ -55,11 +49,16 @@ all_pass : {A : Type 0} (p : A → Bool) → ((x : A) → p x ≡ true) → (xs 
 all_pass p h [] = refl
 all_pass p h (x ∷ xs) = and_true (p x) (list_all p xs) (h x) (all_pass p h xs)
 
+-- few members and few services have a byte form
+pub bounded_by : (d : Definition) → length d.members ≤ 16 → length d.services ≤ 16 → IsTrue (definition.bounded d)
+bounded_by d few same =
+    and_true (leb (length d.members) 16 && list_all node_id.bounded d.members) (leb (length d.services) 16 && list_all service.bounded d.services)
+    (and_true (leb (length d.members) 16) (list_all node_id.bounded d.members) (le-leb (length d.members) 16 few) (all_pass node_id.bounded (λ xs. refl) d.members))
+    (and_true (leb (length d.services) 16) (list_all service.bounded d.services) (le-leb (length d.services) 16 same) (all_pass service.bounded (λ s. refl) d.services))
+
 -- it has a byte form
 pub bounded_from_valid : (d : Definition) → broken d ≡ None → IsTrue (definition.bounded d)
 bounded_from_valid d e =
     let few = (few_members d e).1 in
     let same = as_many_services d e in
-    and_true (leb (length d.members) 16 && list_all node_id.bounded d.members) (leb (length d.services) 16 && list_all service.bounded d.services)
-    (and_true (leb (length d.members) 16) (list_all node_id.bounded d.members) (le-leb (length d.members) 16 (omega (arith, few))) (all_pass node_id.bounded (λ xs. refl) d.members))
-    (and_true (leb (length d.services) 16) (list_all service.bounded d.services) (le-leb (length d.services) 16 (omega (arith, few, same))) (all_pass service.bounded (λ s. refl) d.services))
+    bounded_by d (omega (arith, few)) (omega (arith, few, same))

@@ -1,15 +1,11 @@
 -- Definitions of circuits: the nine rules, and who coordinates (docs/RULES.md, Definitions).
-use Rattle.std.specs.Prelude.{ℕ, ◌+◌, Bool, true, ◌&&◌, ◌==◌, nat_le, List, [], ◌∷◌, length, if◌then◌else◌, Option, Some, None, codes}
+use Rattle.std.specs.Prelude.{ℕ, Bool, true, ◌&&◌, ◌==◌, nat_le, List, [], ◌∷◌, length, if◌then◌else◌, Option, Some, None, codes}
 use Rattle.std.specs.List.{list_all, list_any}
 use Rattle.std.specs.Str.{bytes_eq}
 use Rattle.spl_circuit.specs.declared.definition.Service.{Service}
 use Rattle.spl_circuit.specs.declared.definition.Definition.{Definition}
+pub use Rattle.spl_base.specs.Rules.{first_false}
 use Rattle.spl_circuit.specs.Nodes.{Node, has_node, is_below, lowest, sorted, same_nodes}
-
--- the number of the first test that fails
-abbrev pub first_false : ℕ → List Bool → Option ℕ
-first_false n [] = None
-first_false n (b ∷ bs) = if b then first_false (n + 1) bs else Some n
 
 abbrev pub ascends_after : Node → List Node → Bool
 ascends_after p [] = true

@@ -32,22 +32,22 @@ impl Field for ActKind {
 
     ghost form = { kind };
 
-    fn put(&self, w: &mut Writer) -> Result<(), AllocError> {
+    fn put_parts(&self, w: &mut Writer) -> Result<(), AllocError> {
         match self {
             ActKind::Propose(d) => {
-                1u8.put(w)?;
-                d.put(w)
+                1u8.put_parts(w)?;
+                d.put_parts(w)
             }
-            ActKind::Accept => 2u8.put(w),
-            ActKind::Reject => 3u8.put(w),
-            ActKind::Remove => 4u8.put(w),
+            ActKind::Accept => 2u8.put_parts(w),
+            ActKind::Reject => 3u8.put_parts(w),
+            ActKind::Remove => 4u8.put_parts(w),
         }
     }
 
-    fn take(alloc: Global, r: &mut Reader) -> Result<ActKind, Malformed> {
+    fn take_parts(alloc: Global, r: &mut Reader) -> Result<ActKind, Malformed> {
         let at = r.place();
-        match u8::take(alloc, r)? {
-            1 => Ok(ActKind::Propose(Boxed::take(alloc, r)?)),
+        match u8::take_parts(alloc, r)? {
+            1 => Ok(ActKind::Propose(Boxed::take_parts(alloc, r)?)),
             2 => Ok(ActKind::Accept),
             3 => Ok(ActKind::Reject),
             4 => Ok(ActKind::Remove),
@@ -63,16 +63,16 @@ impl Field for Act {
 
     ghost form = { act };
 
-    fn put(&self, w: &mut Writer) -> Result<(), AllocError> {
-        self.node.put(w)?;
-        self.turn.put(w)?;
-        self.kind.put(w)
+    fn put_parts(&self, w: &mut Writer) -> Result<(), AllocError> {
+        self.node.put_parts(w)?;
+        self.turn.put_parts(w)?;
+        self.kind.put_parts(w)
     }
 
-    fn take(alloc: Global, r: &mut Reader) -> Result<Act, Malformed> {
-        let node = NodeId::take(alloc, r)?;
-        let turn = u32::take(alloc, r)?;
-        let kind = ActKind::take(alloc, r)?;
+    fn take_parts(alloc: Global, r: &mut Reader) -> Result<Act, Malformed> {
+        let node = NodeId::take_parts(alloc, r)?;
+        let turn = u32::take_parts(alloc, r)?;
+        let kind = ActKind::take_parts(alloc, r)?;
         Ok(Act { node, turn, kind })
     }
 

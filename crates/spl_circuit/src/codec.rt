@@ -1,8 +1,9 @@
 //! The byte forms of definitions and acts.
-ghost use Rattle.std.specs.Prelude.{◌≡◌, ◌++◌, ◌+◌, List, ℕ, length, Ok, IsTrue, OnOk, OnErr, IfOk};
+ghost use Rattle.std.specs.Prelude.{◌≡◌, ◌++◌, ◌+◌, List, ℕ, length, Ok, None, IsTrue, OnOk, OnErr, IfOk};
 ghost use Rattle.spl_base.specs.Input.{Input};
 ghost use Rattle.spl_base.specs.Form.{Reads};
 ghost use Rattle.spl_circuit.specs.Forms.{definition, act};
+ghost use Rattle.spl_circuit.specs.Rules.{broken};
 ghost use Rattle.spl_circuit.specs.declared.definition.Definition.{Definition as Circuit};
 ghost use Rattle.spl_circuit.specs.declared.act.Act.{Act as Deed};
 ghost use Rattle.sha2.specs.Sha256.{sha256};
@@ -15,22 +16,22 @@ use std::alloc::{AllocError, Global};
 
 impl Definition {
     /// Appends the byte form, which a definition of at most 16 members and at most 16 services
-    /// has. After want of memory nothing was appended.
+    /// has. After want of memory the writer is as it was.
     pub fn write(&self, alloc: Global, w: &mut Writer) -> Result<(), AllocError>
         requires few { IsTrue (definition.bounded self.now) }
         ensures ok { OnOk result (w.new ≡ w.old ++ definition.spell self.now) }
         ensures fits { OnOk result (IsTrue (definition.fits self.now)) }
-        ensures err { OnErr result (w.new ≡ w.old) }
+        ensures unchanged { OnErr result (w.new ≡ w.old) }
     {
-        let mut own = Writer::new(alloc);
-        self.put(&mut own)?;
-        w.put_raw(own.bytes())
+        self.put(alloc, w)
     }
 
     /// Reads a definition from the front, whether or not it keeps the rules. The fault is the
-    /// place of the first field that cannot be read, or want of memory.
+    /// place of the first field that cannot be read, or want of memory; the reader then stands
+    /// where it stood.
     pub fn read(alloc: Global, r: &mut Reader) -> Result<Definition, Malformed>
-        ensures { Reads (λ x. x) result r.new (definition.parse r.old) }
+        ensures read { Reads (λ x. x) result r.new (definition.parse r.old) }
+        ensures unmoved { OnErr result (r.new ≡ r.old) }
     {
         Definition::take(alloc, r)
     }
@@ -49,26 +50,31 @@ impl Definition {
 
 impl Act {
     /// Appends the byte form, which an act has where the definition that it proposes has one.
-    /// After want of memory nothing was appended.
+    /// After want of memory the writer is as it was.
     pub fn write(&self, alloc: Global, w: &mut Writer) -> Result<(), AllocError>
         requires few { IsTrue (act.bounded self.now) }
         ensures ok { OnOk result (w.new ≡ w.old ++ act.spell self.now) }
         ensures fits { OnOk result (IsTrue (act.fits self.now)) }
-        ensures err { OnErr result (w.new ≡ w.old) }
+        ensures unchanged { OnErr result (w.new ≡ w.old) }
     {
-        let mut own = Writer::new(alloc);
-        self.put(&mut own)?;
-        w.put_raw(own.bytes())
+        self.put(alloc, w)
     }
 
     /// Reads an act from the front. The fault is the place of the first field that cannot be
-    /// read, or want of memory.
+    /// read, or want of memory; the reader then stands where it stood.
     pub fn read(alloc: Global, r: &mut Reader) -> Result<Act, Malformed>
-        ensures { Reads (λ x. x) result r.new (act.parse r.old) }
+        ensures read { Reads (λ x. x) result r.new (act.parse r.old) }
+        ensures unmoved { OnErr result (r.new ≡ r.old) }
     {
         Act::take(alloc, r)
     }
 }
+
+/// A definition that breaks no rule has a byte form.
+#[tactic(auto, using(crate::proofs::Valid::bounded_from_valid))]
+pub fn valid_definitions_have_a_form()
+    ensures { (d : Circuit) → broken d ≡ None → IsTrue (definition.bounded d) }
+{}
 
 /// What is spelled is read back, whatever follows it.
 pub fn definitions_are_read_back()

@@ -3,8 +3,8 @@ ghost use Rattle.std.specs.Prelude.{◌≡◌, ◌++◌, IsTrue, OnOk};
 
 use spl_agree::Generation;
 use spl_base::{
-    CircuitId, Field, Label, Listing, Malformed, NodeId, Reader, ServiceId, Writer, read_list,
-    write_list,
+    CircuitId, Field, Label, Listing, Malformed, NodeId, Reader, ServiceId, Writer, put_list,
+    take_list,
 };
 use std::alloc::{AllocError, Global};
 
@@ -39,16 +39,16 @@ impl Field for Service {
 
     ghost form = { service };
 
-    fn put(&self, w: &mut Writer) -> Result<(), AllocError> {
-        self.id.put(w)?;
-        self.kind.put(w)?;
-        self.node.put(w)
+    fn put_parts(&self, w: &mut Writer) -> Result<(), AllocError> {
+        self.id.put_parts(w)?;
+        self.kind.put_parts(w)?;
+        self.node.put_parts(w)
     }
 
-    fn take(alloc: Global, r: &mut Reader) -> Result<Service, Malformed> {
-        let id = ServiceId::take(alloc, r)?;
-        let kind = Label::take(alloc, r)?;
-        let node = NodeId::take(alloc, r)?;
+    fn take_parts(alloc: Global, r: &mut Reader) -> Result<Service, Malformed> {
+        let id = ServiceId::take_parts(alloc, r)?;
+        let kind = Label::take_parts(alloc, r)?;
+        let node = NodeId::take_parts(alloc, r)?;
         Ok(Service { id, kind, node })
     }
 
@@ -63,8 +63,8 @@ impl Definition {
         ensures ok { OnOk result (w.new ≡ w.old ++ lists.spell (self.now.members, self.now.services)) }
         ensures fits { OnOk result (IsTrue (lists.fits (self.now.members, self.now.services))) }
     {
-        write_list(self.members.as_slice(), w)?;
-        write_list(self.services.as_slice(), w)
+        put_list(self.members.as_slice(), w)?;
+        put_list(self.services.as_slice(), w)
     }
 }
 
@@ -73,23 +73,23 @@ impl Field for Definition {
 
     ghost form = { definition };
 
-    fn put(&self, w: &mut Writer) -> Result<(), AllocError> {
-        self.id.put(w)?;
-        self.generation.0.put(w)?;
-        self.version.put(w)?;
-        self.management.put(w)?;
-        self.name.put(w)?;
+    fn put_parts(&self, w: &mut Writer) -> Result<(), AllocError> {
+        self.id.put_parts(w)?;
+        self.generation.0.put_parts(w)?;
+        self.version.put_parts(w)?;
+        self.management.put_parts(w)?;
+        self.name.put_parts(w)?;
         self.put_lists(w)
     }
 
-    fn take(alloc: Global, r: &mut Reader) -> Result<Definition, Malformed> {
-        let id = CircuitId::take(alloc, r)?;
-        let generation = Generation(u32::take(alloc, r)?);
-        let version = u8::take(alloc, r)?;
-        let management = Label::take(alloc, r)?;
-        let name = Label::take(alloc, r)?;
-        let members = read_list(alloc, r, 16)?;
-        let services = read_list(alloc, r, 16)?;
+    fn take_parts(alloc: Global, r: &mut Reader) -> Result<Definition, Malformed> {
+        let id = CircuitId::take_parts(alloc, r)?;
+        let generation = Generation(u32::take_parts(alloc, r)?);
+        let version = u8::take_parts(alloc, r)?;
+        let management = Label::take_parts(alloc, r)?;
+        let name = Label::take_parts(alloc, r)?;
+        let members = take_list(alloc, r, 16)?;
+        let services = take_list(alloc, r, 16)?;
         Ok(Definition {
             id,
             generation,

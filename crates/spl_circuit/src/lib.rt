@@ -11,7 +11,7 @@ mod values;
 pub use act::{Act, ActKind};
 pub use codec::{
     acts_are_read_back, definitions_are_read_back, no_act_begins_another,
-    no_definition_begins_another,
+    no_definition_begins_another, valid_definitions_have_a_form,
 };
 pub use definition::{Definition, Members, Service, Services};
 pub use lifecycle::{Lifecycle, Mark, RouteFault};
