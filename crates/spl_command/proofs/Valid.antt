@@ -1,21 +1,15 @@
 -- What a batch that breaks no rule has.
-use Rattle.std.proofs.Common.{◌≡◌, ◌≤◌, ℕ, zero, suc, ◌+◌, Bool, true, false, leb, ◌&&◌, IsTrue, List, [], ◌∷◌, length, get_or, None, refl, arith}
+use Rattle.std.proofs.Common.{◌≡◌, ◌≤◌, ℕ, Bool, true, leb, ◌&&◌, IsTrue, List, [], ◌∷◌, length, None, refl, arith}
 use Rattle.std.specs.List.{list_all}
 use Rattle.std.proofs.lemmas.Bool.{leb-true, le-leb}
 use Rattle.spl_base.specs.FormLaws.{both_true, and_true}
+use Rattle.spl_base.specs.Rules.{test_at}
 use Rattle.spl_command.specs.declared.batch.Command.{Command}
 use Rattle.spl_command.specs.declared.batch.Command.TheVariants.{Set, Get, Delete, Event, Data, Invalid, Error}
 use Rattle.spl_command.specs.declared.batch.Transaction.{Transaction}
 use Rattle.spl_command.specs.declared.batch.Batch.{Batch}
 use Rattle.spl_command.specs.Forms.{prefix, prefixes, command, transaction, batch}
-use Rattle.spl_command.specs.Rules.{first_false, has_short_data, has_few_prefixes, has_few_commands, all_short, rules_of, broken_batch}
-
--- each test is passed where none is the first that fails
-test_at : (k n : ℕ) (bs : List Bool) → first_false n bs ≡ None → IsTrue (get_or bs k true)
-test_at k n [] e = refl
-test_at zero n (true ∷ bs) e = refl
-test_at (suc k) n (true ∷ bs) e = test_at k (n + 1) bs e
-test_at k n (false ∷ bs) e = absurd cc
+use Rattle.spl_command.specs.Rules.{has_short_data, has_few_prefixes, has_few_commands, all_short, rules_of, broken_batch}
 
 pub few_transactions : (b : Batch) → broken_batch b ≡ None → length b.transactions ≤ 16
 few_transactions b e = leb-true (length b.transactions) 16 (test_at 1 1 (rules_of b) e)

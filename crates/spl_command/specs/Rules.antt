@@ -1,16 +1,12 @@
 -- The six rules of a batch (docs/RULES.md, Batches).
-use Rattle.std.specs.Prelude.{ℕ, ◌+◌, Bool, true, ◌&&◌, nat_le, List, [], ◌∷◌, length, if◌then◌else◌, Option, Some, None}
+use Rattle.std.specs.Prelude.{ℕ, Bool, true, ◌&&◌, nat_le, List, [], ◌∷◌, length, Option}
 use Rattle.std.specs.List.{list_all}
 use Rattle.spl_command.specs.declared.batch.Command.{Command}
 use Rattle.spl_command.specs.declared.batch.Command.TheVariants.{Set, Get, Delete, Event, Data, Invalid, Error}
 use Rattle.spl_command.specs.declared.batch.Transaction.{Transaction}
 use Rattle.spl_command.specs.declared.batch.Batch.{Batch}
 use Rattle.spl_command.specs.Forms.{batch}
-
--- the number of the first test that fails
-abbrev pub first_false : ℕ → List Bool → Option ℕ
-first_false n [] = None
-first_false n (b ∷ bs) = if b then first_false (n + 1) bs else Some n
+pub use Rattle.spl_base.specs.Rules.{first_false}
 
 abbrev pub is_short : List ℕ → Bool
 is_short v = nat_le (length v) 256

@@ -4,7 +4,7 @@ ghost use Rattle.std.specs.Prelude.{◌≡◌};
 use crate::address::{put_address, take_address};
 use crate::prefixes::Prefixes;
 use spl_base::{
-    BatchId, Field, Label, Listing, Malformed, Piece, Reader, Writer, read_list, write_list,
+    BatchId, Field, Label, Listing, Malformed, Piece, Reader, Writer, put_list, take_list,
 };
 use spl_state::Address;
 use std::alloc::{AllocError, Global};
@@ -55,57 +55,57 @@ impl Field for Command {
 
     ghost form = { command };
 
-    fn put(&self, w: &mut Writer) -> Result<(), AllocError> {
+    fn put_parts(&self, w: &mut Writer) -> Result<(), AllocError> {
         match self {
             Command::Set(address, value) => {
-                1u8.put(w)?;
+                1u8.put_parts(w)?;
                 put_address(address, w)?;
-                value.put(w)
+                value.put_parts(w)
             }
             Command::Get(address) => {
-                2u8.put(w)?;
+                2u8.put_parts(w)?;
                 put_address(address, w)
             }
             Command::Delete(address) => {
-                3u8.put(w)?;
+                3u8.put_parts(w)?;
                 put_address(address, w)
             }
             Command::Event(kind, data) => {
-                4u8.put(w)?;
-                kind.put(w)?;
-                data.put(w)
+                4u8.put_parts(w)?;
+                kind.put_parts(w)?;
+                data.put_parts(w)
             }
             Command::Data(data) => {
-                5u8.put(w)?;
-                data.put(w)
+                5u8.put_parts(w)?;
+                data.put_parts(w)
             }
             Command::Invalid(text) => {
-                6u8.put(w)?;
-                text.put(w)
+                6u8.put_parts(w)?;
+                text.put_parts(w)
             }
             Command::Error(text) => {
-                7u8.put(w)?;
-                text.put(w)
+                7u8.put_parts(w)?;
+                text.put_parts(w)
             }
         }
     }
 
-    fn take(alloc: Global, r: &mut Reader) -> Result<Command, Malformed> {
+    fn take_parts(alloc: Global, r: &mut Reader) -> Result<Command, Malformed> {
         let at = r.place();
-        match u8::take(alloc, r)? {
+        match u8::take_parts(alloc, r)? {
             1 => {
                 let address = take_address(r)?;
-                Ok(Command::Set(address, Piece::take(alloc, r)?))
+                Ok(Command::Set(address, Piece::take_parts(alloc, r)?))
             }
             2 => Ok(Command::Get(take_address(r)?)),
             3 => Ok(Command::Delete(take_address(r)?)),
             4 => {
-                let kind = Label::take(alloc, r)?;
-                Ok(Command::Event(kind, Piece::take(alloc, r)?))
+                let kind = Label::take_parts(alloc, r)?;
+                Ok(Command::Event(kind, Piece::take_parts(alloc, r)?))
             }
-            5 => Ok(Command::Data(Piece::take(alloc, r)?)),
-            6 => Ok(Command::Invalid(Label::take(alloc, r)?)),
-            7 => Ok(Command::Error(Label::take(alloc, r)?)),
+            5 => Ok(Command::Data(Piece::take_parts(alloc, r)?)),
+            6 => Ok(Command::Invalid(Label::take_parts(alloc, r)?)),
+            7 => Ok(Command::Error(Label::take_parts(alloc, r)?)),
             _ => Err(Malformed::At { at }),
         }
     }
@@ -118,16 +118,16 @@ impl Field for Transaction {
 
     ghost form = { transaction };
 
-    fn put(&self, w: &mut Writer) -> Result<(), AllocError> {
-        self.inputs.put(w)?;
-        self.outputs.put(w)?;
-        write_list(self.commands.as_slice(), w)
+    fn put_parts(&self, w: &mut Writer) -> Result<(), AllocError> {
+        self.inputs.put_parts(w)?;
+        self.outputs.put_parts(w)?;
+        put_list(self.commands.as_slice(), w)
     }
 
-    fn take(alloc: Global, r: &mut Reader) -> Result<Transaction, Malformed> {
-        let inputs = Prefixes::take(alloc, r)?;
-        let outputs = Prefixes::take(alloc, r)?;
-        let commands = read_list(alloc, r, 1024)?;
+    fn take_parts(alloc: Global, r: &mut Reader) -> Result<Transaction, Malformed> {
+        let inputs = Prefixes::take_parts(alloc, r)?;
+        let outputs = Prefixes::take_parts(alloc, r)?;
+        let commands = take_list(alloc, r, 1024)?;
         Ok(Transaction {
             inputs,
             outputs,
@@ -143,14 +143,14 @@ impl Field for Batch {
 
     ghost form = { batch };
 
-    fn put(&self, w: &mut Writer) -> Result<(), AllocError> {
-        self.id.0.put(w)?;
-        write_list(self.transactions.as_slice(), w)
+    fn put_parts(&self, w: &mut Writer) -> Result<(), AllocError> {
+        self.id.0.put_parts(w)?;
+        put_list(self.transactions.as_slice(), w)
     }
 
-    fn take(alloc: Global, r: &mut Reader) -> Result<Batch, Malformed> {
-        let id = BatchId(u64::take(alloc, r)?);
-        let transactions = read_list(alloc, r, 1024)?;
+    fn take_parts(alloc: Global, r: &mut Reader) -> Result<Batch, Malformed> {
+        let id = BatchId(u64::take_parts(alloc, r)?);
+        let transactions = take_list(alloc, r, 1024)?;
         Ok(Batch { id, transactions })
     }
 

@@ -11,22 +11,22 @@ use std::alloc::{AllocError, Global};
 
 impl Batch {
     /// Appends the byte form, which a batch has where its lists have at most 1,024 items and its
-    /// byte strings at most 1,024 bytes. After want of memory nothing was appended.
+    /// byte strings at most 1,024 bytes. After want of memory the writer is as it was.
     pub fn write(&self, alloc: Global, w: &mut Writer) -> Result<(), AllocError>
         requires few { IsTrue (batch.bounded self.now) }
         ensures ok { OnOk result (w.new ≡ w.old ++ batch.spell self.now) }
         ensures fits { OnOk result (IsTrue (batch.fits self.now)) }
-        ensures err { OnErr result (w.new ≡ w.old) }
+        ensures unchanged { OnErr result (w.new ≡ w.old) }
     {
-        let mut own = Writer::new(alloc);
-        self.put(&mut own)?;
-        w.put_raw(own.bytes())
+        self.put(alloc, w)
     }
 
     /// Reads a batch from the front, whether or not it keeps the rules. The fault is the place
-    /// of the first field that cannot be read, or want of memory.
+    /// of the first field that cannot be read, or want of memory; the reader then stands where it
+    /// stood.
     pub fn read(alloc: Global, r: &mut Reader) -> Result<Batch, Malformed>
-        ensures { Reads (λ x. x) result r.new (batch.parse r.old) }
+        ensures read { Reads (λ x. x) result r.new (batch.parse r.old) }
+        ensures unmoved { OnErr result (r.new ≡ r.old) }
     {
         Batch::take(alloc, r)
     }

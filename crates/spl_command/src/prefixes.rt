@@ -3,7 +3,7 @@ ghost use Rattle.std.specs.Prelude.{◌≡◌, ◌++◌, ◌∷◌, [], length, 
 ghost use Rattle.std.specs.Option.{option_copied};
 ghost use Rattle.spl_command.specs.Execution.{covered};
 
-use spl_base::{Field, Listing, Malformed, Reader, Value, Writer, read_list, write_list};
+use spl_base::{Field, Listing, Malformed, Reader, Value, Writer, put_list, take_list};
 use spl_state::{Address, Prefix};
 use std::alloc::{AllocError, Global};
 use std::marker::Model;
@@ -36,13 +36,13 @@ impl Field for PrefixItem {
     ghost form = { prefix };
 
     #[tactic(auto, unfolding(spl_base::specs::Form::number_bytes))]
-    fn put(&self, w: &mut Writer) -> Result<(), AllocError> {
+    fn put_parts(&self, w: &mut Writer) -> Result<(), AllocError> {
         let bytes = self.0.bytes();
         w.put_u8(bytes.len() as u8)?;
         w.put_raw(bytes)
     }
 
-    fn take(_alloc: Global, r: &mut Reader) -> Result<PrefixItem, Malformed> {
+    fn take_parts(_alloc: Global, r: &mut Reader) -> Result<PrefixItem, Malformed> {
         let at = r.place();
         let len = r.take_u8()?;
         let Ok(bytes) = r.take_raw(len as usize) else {
@@ -135,12 +135,12 @@ impl Field for Prefixes {
 
     ghost form = { prefixes };
 
-    fn put(&self, w: &mut Writer) -> Result<(), AllocError> {
-        write_list(self.items.as_slice(), w)
+    fn put_parts(&self, w: &mut Writer) -> Result<(), AllocError> {
+        put_list(self.items.as_slice(), w)
     }
 
-    fn take(alloc: Global, r: &mut Reader) -> Result<Prefixes, Malformed> {
-        let items = read_list(alloc, r, 1024)?;
+    fn take_parts(alloc: Global, r: &mut Reader) -> Result<Prefixes, Malformed> {
+        let items = take_list(alloc, r, 1024)?;
         Ok(Prefixes { items })
     }
 

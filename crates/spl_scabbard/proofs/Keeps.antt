@@ -1,6 +1,6 @@
 -- What a service keeps, by ids, and one batch further.
-use Rattle.std.proofs.Common.{◌≡◌, ◌↔◌, ℕ, suc, ◌-◌, ◌^◌, ◌<◌, ◌==◌, Bool, true, false, cond, ◌||◌, IsTrue, List, [], ◌∷◌, ◌++◌, length, Option, Some, None, refl, sym, ap, subst, ◌∙◌, arith}
-use Rattle.std.specs.Prelude.{fold, is_some, IfSome}
+use Rattle.std.proofs.Common.{◌≡◌, ◌↔◌, ℕ, suc, ◌-◌, ◌^◌, ◌<◌, ◌==◌, Bool, true, false, cond, ◌||◌, IsTrue, List, [], ◌∷◌, ◌++◌, length, Option, Some, None, refl, sym, ap, ◌∙◌, arith}
+use Rattle.std.specs.Prelude.{fold, is_some}
 use Rattle.std.specs.Map.{lookup, keys_of}
 use Rattle.std.proofs.lemmas.List.{map-append, length-append}
 use Rattle.spl_agree.specs.declared.reason.Reason.{Reason}
@@ -70,14 +70,11 @@ new_where_good bs b kept e k =
     let free : is_taken bs b.id ≡ false = untaken (is_taken bs b.id) _ _ (unbroken (broken_batch b) (misfit_valid bs b) e).1 in
     ap (lookup (λ j. b.id == j)) k ∙ none_of (lookup (λ j. b.id == j) (kept_of bs)) (has_kept b.id bs [] ∙ free)
 
-pub kept_state : (o : Option (List Entry)) (m n : List Entry) → o ≡ Some m → IfSome o (λ x. x ≡ n) → m ≡ n
-kept_state o m n e h = subst (λ x. IfSome x (λ y. y ≡ n)) e h
-
 -- one batch further
 pub keeps : (bs all : List Batch) (b : Batch) (ids ids2 : List ℕ) (kept kept2 : List (ℕ × List Receipt)) (m m2 : List Entry) (rs : List Receipt)
     → ids ≡ ids_of bs → kept ≡ kept_of bs → m ≡ state_of bs → length bs < 2 ^ 32 - 1
     → all ≡ bs ++ b ∷ [] → ids2 ≡ ids ++ b.id ∷ [] → kept2 ≡ kept ++ (b.id, rs) ∷ [] → rs ≡ receipts_behind bs b → m2 ≡ with_receipts m rs
-    → IsKept all ids2 kept2 (Some m2)
+    → IsKept all ids2 kept2 m2
 keeps bs all b ids ids2 kept kept2 m m2 rs i k s room a i2 k2 r s2 = record {
   ids_are = i2 ∙ ap (λ xs. xs ++ b.id ∷ []) i ∙ sym (map-append (λ (c : Batch). c.id) bs (b ∷ [])) ∙ ap ids_of (sym a);
   kept_are = k2 ∙ ap (λ xs. xs ++ (b.id, rs) ∷ []) k ∙ ap (λ x. kept_of bs ++ (b.id, x) ∷ []) r ∙ sym (kept_more bs [] b) ∙ ap kept_of (sym a);

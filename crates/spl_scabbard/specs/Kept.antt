@@ -1,6 +1,5 @@
 -- What a service keeps of its batches.
-use Rattle.std.specs.Prelude.{◌≡◌, ◌<◌, ◌^◌, ℕ, List, [], ◌∷◌, length, Option}
-use Rattle.std.specs.Prelude.{IfSome}
+use Rattle.std.specs.Prelude.{◌≡◌, ◌<◌, ◌^◌, ℕ, List, [], ◌∷◌, length}
 use Rattle.spl_state.specs.Entries.{Entry}
 use Rattle.spl_command.specs.declared.batch.Batch.{Batch}
 use Rattle.spl_command.specs.declared.receipt.Receipt.{Receipt}
@@ -16,8 +15,8 @@ kept_from m (b ∷ bs) = (b.id, receipts_in (verdict_on m b)) ∷ kept_from (aft
 abbrev pub kept_of : List Batch → List (ℕ × List Receipt)
 kept_of bs = kept_from [] bs
 
-pub record IsKept (batches : List Batch) (ids : List ℕ) (kept : List (ℕ × List Receipt)) (state : Option (List Entry)) : Type 0 where
+pub record IsKept (batches : List Batch) (ids : List ℕ) (kept : List (ℕ × List Receipt)) (state : List Entry) : Type 0 where
   pub ids_are : ids ≡ ids_of batches
   pub kept_are : kept ≡ kept_of batches
-  pub state_is : IfSome state (λ m. m ≡ state_of batches)
+  pub state_is : state ≡ state_of batches
   pub few : length batches < 2 ^ 32

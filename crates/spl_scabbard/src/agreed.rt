@@ -1,9 +1,14 @@
 //! Batches are what the service group of a circuit agrees on.
+ghost use Rattle.std.specs.Prelude.{◌≡◌, ◌++◌, ◌∷◌, [], OnOk, OnErr};
+ghost use Rattle.spl_command.specs.Lists.{with_receipts};
+
 use crate::service::Service;
 use spl_agree::{Admit, Agreed, Reason};
-use spl_base::{BatchId, Value};
-use spl_command::{Batch, apply_receipts};
+use spl_base::{BatchId, BatchIds, Value};
+use spl_command::{Batch, Receipts, apply_receipts};
+use spl_state::{Draft, State};
 use std::alloc::{AllocError, Global};
+use std::mem;
 
 impl Agreed for Service {
     ghost use Rattle.std.specs.Prelude.{◌≡◌, None, refl};
@@ -61,14 +66,36 @@ impl Agreed for Service {
         let receipts = self.run(alloc, &value)?;
         self.batches.reserve(1)?;
         self.kept.reserve(1)?;
-        let Some(mut state) = self.state.take() else {
-            return Err(AllocError);
-        };
-        apply_receipts(&mut state, alloc, &receipts)?;
-        self.ids.push(value.id)?;
-        self.state = Some(state);
-        self.kept.insert(value.id, receipts).unwrap();
-        self.batches.push(value).unwrap();
-        Ok(())
+        let state = mem::replace(&mut self.state, State::new());
+        let mut draft = Draft::new(alloc, state);
+        match extend(&mut draft, &mut self.ids, value.id, &receipts) {
+            Ok(()) => {
+                self.state = draft.finish();
+                self.kept.insert(value.id, receipts).unwrap();
+                self.batches.push(value).unwrap();
+                Ok(())
+            }
+            Err(fault) => {
+                self.state = draft.undo();
+                Err(fault)
+            }
+        }
     }
+}
+
+/// Makes the changes of receipts in a draft, and adds the id of their batch to the others. After
+/// want of memory the ids are unchanged, and the draft can still be undone.
+fn extend(
+    draft: &mut Draft,
+    ids: &mut BatchIds,
+    id: BatchId,
+    receipts: &Receipts,
+) -> Result<(), AllocError>
+    ensures before { draft.new.before ≡ draft.old.before }
+    ensures ok { OnOk result (draft.new.entries ≡ with_receipts draft.old.entries receipts.now) }
+    ensures ids { OnOk result (ids.new ≡ ids.old ++ id ∷ []) }
+    ensures err { OnErr result (ids.new ≡ ids.old) }
+{
+    apply_receipts(draft, receipts)?;
+    ids.push(id)
 }

@@ -2,8 +2,10 @@
 #![tactic(auto)]
 
 mod agreed;
+mod laws;
 mod service;
 
+pub use laws::receipts_are_those_at_the_place;
 pub use service::Service;
 pub use spl_base::BatchIds;
 

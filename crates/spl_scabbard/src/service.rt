@@ -16,16 +16,14 @@ use std::alloc::{AllocError, Global};
 use std::marker::Model;
 
 /// The batches applied so far, the state that they left, and the receipts of each by its id
-/// (docs/RULES.md, Batches). Contracts see the batches.
-///
-/// A batch that wants memory while it is applied leaves the list as it was, and the service
-/// without its state: the member is halted.
+/// (docs/RULES.md, Batches). Contracts see the batches. A batch is applied whole or, after want of
+/// memory, not at all.
 #[derive(Drop)]
 pub struct Service {
     pub(crate) batches: Vec<Batch>,
     pub(crate) ids: BatchIds,
     pub(crate) kept: IndexMap<BatchId, Receipts>,
-    pub(crate) state: Option<State>,
+    pub(crate) state: State,
 }
 
 impl Model for Service {
@@ -49,35 +47,29 @@ impl Service {
             batches: Vec::new(alloc),
             ids: Listing::new(alloc),
             kept: IndexMap::new(alloc),
-            state: Some(State::new()),
+            state: State::new(),
         }
     }
 
-    /// The state that the batches left. An error comes only behind a want of memory in `apply`.
-    pub fn state(&self) -> Result<&State, AllocError>
-        ensures { IfOk result (λ s. s.now ≡ state_of self.now) }
+    /// The state that the batches left.
+    pub fn state(&self) -> &State
+        ensures { result.now ≡ state_of self.now }
     {
-        match &self.state {
-            Some(state) => Ok(state),
-            None => Err(AllocError),
-        }
+        &self.state
     }
 
-    /// The root of the state. An error comes only behind a want of memory in `apply`.
-    pub fn root(&self) -> Result<[u8; 32], AllocError>
-        ensures { IfOk result (λ r. r ≡ node_at 70 [] (state_of self.now)) }
+    /// The root of the state, without memory. What is stale is computed and not kept.
+    pub fn root(&self) -> [u8; 32]
+        ensures { result ≡ node_at 70 [] (state_of self.now) }
     {
-        let state = self.state()?;
-        Ok(state.root())
+        self.state.root()
     }
 
     /// Makes the state's stale digests anew, so that the next root costs nothing.
     pub fn renew(&mut self)
         ensures { self.new ≡ self.old }
     {
-        if let Some(state) = &mut self.state {
-            state.renew();
-        }
+        self.state.renew();
     }
 
     /// The ids of the batches, in the order in which they were applied.
@@ -139,7 +131,7 @@ impl Service {
         requires { broken_batch batch.now ≡ None }
         ensures { IfOk result (λ rs. rs ≡ receipts_behind self.now batch.now) }
     {
-        match execute(alloc, self.state()?, batch)? {
+        match execute(alloc, self.state(), batch)? {
             Verdict::Valid(receipts) => Ok(receipts),
             Verdict::Invalid { .. } => Ok(Receipts::new(alloc)),
         }

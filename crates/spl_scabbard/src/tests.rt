@@ -159,10 +159,10 @@ fn the_history_and_the_state(rt: HostRuntime) -> Result<(), Fail> {
     let mut state = State::new();
     state.set(alloc, address(3), &[1])?;
     state.set(alloc, address(2), &[12])?;
-    assert!(rt; service.root()? == state.root());
+    assert!(rt; service.root() == state.root());
     service.renew();
-    assert!(rt; service.root()? == state.root());
-    assert!(rt; service.state()?.get(&address(1)).is_none());
+    assert!(rt; service.root() == state.root());
+    assert!(rt; service.state().get(&address(1)).is_none());
     Ok(())
 }
 

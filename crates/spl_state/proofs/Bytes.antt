@@ -1,5 +1,5 @@
 -- The order of all digits is the order of the bytes.
-use Rattle.std.proofs.Common.{◌≡◌, ℕ, zero, suc, ◌+◌, ◌*◌, ◌/◌, ◌%◌, ◌<◌, Bool, true, false, cond, List, [], ◌∷◌, length, Some, None, nat_cmp, Ordering, Less, Equal, Greater, refl, sym, ap, ◌∙◌, arith}
+use Rattle.std.proofs.Common.{◌≡◌, ℕ, zero, suc, ◌+◌, ◌*◌, ◌/◌, ◌%◌, ◌<◌, Bool, true, false, cond, List, [], ◌∷◌, length, Some, None, Result, OnOk, OnErr, nat_cmp, Ordering, Less, Equal, Greater, refl, sym, ap, subst, ◌∙◌, arith}
 use Rattle.std.specs.Map.{lookup, remove_entry}
 use Rattle.std.specs.BTreeMap.{insert_entry, is_at}
 use Rattle.std.specs.Ordering.{ordering_then, is_eq, match_ordering}
@@ -9,8 +9,10 @@ use Rattle.spl_state.specs.declared.address.Address.{Address}
 use Rattle.spl_state.specs.Entries.{Entry, address_cmp}
 use Rattle.spl_state.specs.Root.{digit_of}
 use Rattle.spl_state.specs.Digits.{digits_cmp, tail_cmp}
-use Rattle.spl_state.specs.Kept.{AllWhole}
+use Rattle.spl_state.specs.Kept.{AllWhole, IsState}
 use Rattle.spl_state.proofs.Digits.{less_of, equal_of, greater_of}
+use Rattle.spl_state.proofs.Steps.{either}
+use Rattle.spl_state.proofs.Order.{Rises, insert_rises, remove_rises}
 
 -- the order of n digits of two lists, from the k-th on
 abbrev lists_cmp : ℕ → ℕ → List ℕ → List ℕ → Ordering
@@ -133,3 +135,23 @@ remove_none t (e ∷ es) h = by (t e.0) (remove_none t es) h
     by : (b : Bool) → (lookup t es ≡ None → remove_entry t es ≡ es) → cond b (Some e.1) (lookup t es) ≡ None → cond b es (e ∷ remove_entry t es) ≡ e ∷ es
     by true next h = cc
     by false next h = ap (λ r. e ∷ r) (next h)
+
+-- A state written, and one with an entry removed.
+
+pub state_same : (d k : ℕ) (es fs : List Entry) → IsState d es → k ≡ d → fs ≡ es → IsState k fs
+state_same d k es fs h depth e = record { top = depth ∙ h.top; whole = subst AllWhole (sym e) h.whole; rising = subst Rises (sym e) h.rising }
+
+pub state_written : (d k : ℕ) (a : Address) (v : List ℕ) (es fs : List Entry) → IsState d es → length a.0 ≡ 35 → k ≡ d → fs ≡ insert_entry (tail_cmp d) es a v → IsState k fs
+state_written d k a v es fs h ha depth e =
+    let by = e ∙ insert_by_bytes d a v es h.top ha h.whole in
+    record { top = depth ∙ h.top; whole = subst AllWhole (sym by) (insert_whole address_cmp a v es ha h.whole); rising = subst Rises (sym by) (insert_rises a v es h.rising) }
+
+pub state_removed : (d k : ℕ) (a : Address) (es fs : List Entry) → IsState d es → length a.0 ≡ 35 → k ≡ d → fs ≡ remove_entry (is_at (tail_cmp d a)) es → IsState k fs
+state_removed d k a es fs h ha depth e =
+    let by = e ∙ remove_by_bytes d a es h.top ha h.whole in
+    record { top = depth ∙ h.top; whole = subst AllWhole (sym by) (remove_whole (is_at (address_cmp a)) es h.whole); rising = subst Rises (sym by) (remove_rises a es h.rising) }
+
+-- a write that may want memory
+pub state_swapped : {T E : Type 0} (r : Result T E) (d k : ℕ) (a : Address) (v : List ℕ) (es fs : List Entry) → IsState d es → length a.0 ≡ 35 → k ≡ d
+    → OnOk r (fs ≡ insert_entry (tail_cmp d) es a v) → OnErr r (fs ≡ es) → IsState k fs
+state_swapped r d k a v es fs h ha depth good bad = either r (state_written d k a v es fs h ha depth) (state_same d k es fs h depth) good bad

@@ -1,7 +1,8 @@
 -- What a change of one part does to the whole, in the words of the code's goals.
-use Rattle.std.proofs.Common.{◌≡◌, ◌≢◌, ℕ, zero, suc, ◌+◌, ◌-◌, ◌<◌, Bool, true, false, List, [], ◌∷◌, ◌++◌, length, get_or, replicate, min, Result, Ok, Err, OnOk, OnErr, refl, sym, ap, subst, ◌∙◌, arith, slice_set, zero-add, append-nil, add-one}
+use Rattle.std.proofs.Common.{◌≡◌, ◌≢◌, ℕ, zero, suc, ◌+◌, ◌-◌, ◌<◌, ◌≤◌, Bool, true, false, List, [], ◌∷◌, ◌++◌, length, length-append, get_or, replicate, Ordering, Less, Equal, Greater, min, Result, Ok, Err, IfOk, OnOk, OnErr, Option, None, refl, sym, ap, subst, ◌∙◌, arith, slice_set, zero-add, append-nil, add-one}
 use Rattle.std.specs.Map.{lookup, remove_entry}
 use Rattle.std.specs.BTreeMap.{insert_entry, is_at}
+use Rattle.std.specs.Ordering.{match_ordering}
 use Rattle.spl_state.specs.declared.address.Address.{Address}
 use Rattle.spl_state.specs.declared.tree.Body.{Body}
 use Rattle.spl_state.specs.declared.tree.Body.TheVariants.{Empty, Leaf, Thin, Inner}
@@ -17,9 +18,13 @@ pub on_ok : {T E : Type 0} {A B : Type 0} (r : Result T E) → (A → B) → OnO
 on_ok (Ok x) f h = f h
 on_ok (Err x) f h = tt
 
-on_err : {T E : Type 0} {A B : Type 0} (r : Result T E) → (A → B) → OnErr r A → OnErr r B
+pub on_err : {T E : Type 0} {A B : Type 0} (r : Result T E) → (A → B) → OnErr r A → OnErr r B
 on_err (Ok x) f h = tt
 on_err (Err x) f h = f h
+
+pub where_err : {T E : Type 0} {A : Type 0} (r : Result T E) → A → OnErr r A
+where_err (Ok x) h = tt
+where_err (Err x) h = h
 
 pub either : {T E : Type 0} {A B C : Type 0} (r : Result T E) → (A → C) → (B → C) → OnOk r A → OnErr r B → C
 either (Ok x) f g h k = f h
@@ -60,6 +65,30 @@ pub entries_kept : {T E : Type 0} (r : Result T E) (i : ℕ) (es : List Entry) (
     → OnErr r (p.entries ≡ old.entries) → OnErr r (all_entries (slice_set ss i p) ≡ es)
 entries_kept r i es ss p old is all = on_err r (λ e. all_entries_same i ss p old (e ∙ ap (λ s. s.entries) is) ∙ all)
 
+-- a write makes no fewer entries
+
+longer_step : (o : Ordering) (a : Address) (v : List ℕ) (e : Entry) (es rest : List Entry) → length es ≤ length rest → length (e ∷ es) ≤ length (match_ordering o ((a, v) ∷ e ∷ es) ((e.0, v) ∷ es) (e ∷ rest))
+longer_step Less a v e es rest h = omega arith
+longer_step Equal a v e es rest h = omega arith
+longer_step Greater a v e es rest h = omega (arith, h)
+
+longer_inserted : (cmp : Address → Address → Ordering) (a : Address) (v : List ℕ) (es : List Entry) → length es ≤ length (insert_entry cmp es a v)
+longer_inserted cmp a v [] = omega arith
+longer_inserted cmp a v (e ∷ es) = longer_step (cmp a e.0) a v e es (insert_entry cmp es a v) (longer_inserted cmp a v es)
+
+longer_parts : (i : ℕ) (ss : List Part) (p s0 : Part) → length (get_or ss i s0).entries ≤ length p.entries → length (all_entries ss) ≤ length (all_entries (slice_set ss i p))
+longer_parts i [] p s0 h = omega arith
+longer_parts zero (s ∷ ss) p s0 h = omega (arith, h, length-append s.entries (all_entries ss), length-append p.entries (all_entries ss))
+longer_parts (suc i) (s ∷ ss) p s0 h =
+    omega (arith, longer_parts i ss p s0 h, length-append s.entries (all_entries ss), length-append s.entries (all_entries (slice_set ss i p)))
+
+pub size_grown : {T E : Type 0} (r : Result T E) (cmp : Address → Address → Ordering) (size i : ℕ) (a : Address) (v : List ℕ) (ss : List Part) (p old : Part) → size ≡ min (length (all_entries ss)) 2 → old ≡ get_or ss i old
+    → OnOk r (p.entries ≡ insert_entry cmp old.entries a v) → OnErr r (p.entries ≡ old.entries) → size ≤ length (all_entries (slice_set ss i p))
+size_grown r cmp size i a v ss p old sized is good bad =
+    let longer : length old.entries ≤ length p.entries = either r
+    (λ e. subst (λ es. length old.entries ≤ length es) (sym e) (longer_inserted cmp a v old.entries)) (λ e. subst (λ es. length old.entries ≤ length es) (sym e) (omega arith)) good bad in
+    omega (arith, sized, longer_parts i ss p old (subst (λ s. length s.entries ≤ length p.entries) is longer))
+
 -- after a removal
 pub inner_removed : (d i : ℕ) (t : Address → Bool) (ss : List Part) (p old : Part) → IsInner d ss → i < length ss → old ≡ get_or ss i old
     → p.depth ≡ old.depth → p.entries ≡ remove_entry t old.entries → IsInner d (slice_set ss i p)
@@ -81,6 +110,21 @@ found_below d i k a es ss old h at low is depth all =
     ap (λ n. lookup (is_at (tail_cmp n a)) old.entries) (depth_of d i ss old h low is) ∙ ap (λ s. lookup (is_at (tail_cmp (d + 1) a)) s.entries) is
     ∙ sym (lookup_parts d 0 i a ss old h.low h.sorted (sym at ∙ sym (zero-add i)) low)
     ∙ ap (λ n. lookup (is_at (tail_cmp n a)) (all_entries ss)) depth ∙ ap (λ xs. lookup (is_at (tail_cmp k a)) xs) all
+
+pub replaced_by : {E X : Type 0} (r : Result (Option X) E) (x y : Option X) → x ≡ y → IfOk r (λ o. o ≡ x) → IfOk r (λ o. o ≡ y)
+replaced_by (Ok o) x y e h = h ∙ e
+replaced_by (Err f) x y e h = tt
+
+-- what a write replaces in one part, it replaces in all, and so where there is nothing
+pub replaced_below : {E : Type 0} (r : Result (Option (List ℕ)) E) (d i k : ℕ) (a : Address) (es : List Entry) (ss : List Part) (old : Part) → IsInner d ss → i ≡ digit_of a.0 d → i < length ss → old ≡ get_or ss i old
+    → d ≡ k → all_entries ss ≡ es
+    → IfOk r (λ o. o ≡ lookup (is_at (tail_cmp old.depth a)) old.entries) → IfOk r (λ o. o ≡ lookup (is_at (tail_cmp k a)) es)
+replaced_below r d i k a es ss old h at low is depth all = replaced_by r _ _ (found_below d i k a es ss old h at low is depth all)
+
+pub missing_below : {T E : Type 0} (r : Result T E) (d i k : ℕ) (a : Address) (es : List Entry) (ss : List Part) (old : Part) → IsInner d ss → i ≡ digit_of a.0 d → i < length ss → old ≡ get_or ss i old
+    → d ≡ k → all_entries ss ≡ es
+    → OnErr r (lookup (is_at (tail_cmp old.depth a)) old.entries ≡ None) → OnErr r (lookup (is_at (tail_cmp k a)) es ≡ None)
+missing_below r d i k a es ss old h at low is depth all = on_err r (λ e. sym (found_below d i k a es ss old h at low is depth all) ∙ e)
 
 -- A lone entry moves into a part of its own.
 

@@ -1,7 +1,8 @@
 -- What a part of the tree keeps.
-use Rattle.std.specs.Prelude.{ℕ, ◌+◌, ◌-◌, ◌≡◌, ◌<◌, List, [], ◌∷◌, length, min, Bool, true, false, Option, Some, None, IfSome}
+use Rattle.std.specs.Prelude.{ℕ, ◌+◌, ◌-◌, ◌≡◌, ◌<◌, List, [], ◌∷◌, length, min, Bool, true, false, Option, Some, None, IfSome, IsTrue}
+use Rattle.std.specs.FinMap.Entries.{is_sorted}
 use Rattle.std.specs.List.{flat_map}
-use Rattle.spl_state.specs.Entries.{Entry}
+use Rattle.spl_state.specs.Entries.{Entry, address_cmp}
 use Rattle.spl_state.specs.Root.{digit_of}
 use Rattle.spl_state.specs.Levels.{node_of}
 use Rattle.spl_state.specs.Part.{Part, AllAt}
@@ -89,7 +90,8 @@ abbrev pub AllWhole : List Entry → Type 0
 AllWhole [] = Unit {0}
 AllWhole (e ∷ es) = (length e.0.0 ≡ 35) × AllWhole es
 
--- what a state keeps: its tree begins at the first digit, and each address has 35 bytes
+-- what a state keeps: its tree begins at the first digit, each address has 35 bytes, and they strictly rise
 pub record IsState (depth : ℕ) (es : List Entry) : Type 0 where
   pub top : depth ≡ 0
   pub whole : AllWhole es
+  pub rising : IsTrue (is_sorted address_cmp es)

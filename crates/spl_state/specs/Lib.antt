@@ -6,3 +6,4 @@ pub mod Levels
 pub mod Part
 pub mod Kept
 pub mod Falls
+pub mod Drafts

@@ -1,14 +1,17 @@
-//! A finite map from addresses to bytes, in address order, with the root of its 16-way tree.
+//! A finite map from addresses to bytes, in address order, with the root of its 16-way tree, and
+//! changes of it that can be given up.
 #![tactic(auto)]
 
 mod address;
 mod digest;
+mod draft;
 mod piece;
 mod prefix;
 mod state;
 mod tree;
 
 pub use address::Address;
+pub use draft::Draft;
 pub use prefix::Prefix;
 pub use state::State;
 

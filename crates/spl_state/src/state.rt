@@ -1,7 +1,9 @@
 //! States: finite maps from addresses to bytes, with their roots.
-ghost use Rattle.std.specs.Prelude.{◌≡◌, ◌≤◌, ◌-◌, [], IfOk, OnOk, OnErr, option_copied, is_some};
+ghost use Rattle.std.specs.Prelude.{◌≡◌, ◌≤◌, ◌-◌, [], IfOk, OnOk, OnErr, IsTrue, option_copied, is_some};
+ghost use Rattle.std.specs.FinMap.Entries.{is_sorted};
 ghost use Rattle.std.specs.Map.{lookup, remove_entry};
 ghost use Rattle.std.specs.BTreeMap.{insert_entry, is_at};
+ghost use Rattle.spl_state.specs.Drafts.{over, put_back};
 ghost use Rattle.spl_state.specs.Entries.{address_cmp, covered};
 ghost use Rattle.spl_state.specs.Root.{node_at, digits_of};
 
@@ -11,6 +13,13 @@ use crate::prefix::Prefix;
 use crate::tree::Tree;
 use std::alloc::{AllocError, Global};
 use std::marker::Model;
+
+/// What a write replaced: the value at an address, if there was one.
+#[derive(Drop)]
+pub(crate) struct Replaced {
+    address: Address,
+    value: Option<Piece>,
+}
 
 /// A finite map from addresses to bytes (docs/RULES.md, State). Contracts see its entries in
 /// address order. It keeps the digests of its parts: a write makes those above it stale, and
@@ -49,17 +58,59 @@ impl State {
     }
 
     /// Writes a value at an address, over the one there. After want of memory nothing is changed.
-    #[tactic(auto, using(crate::proofs::Bytes::insert_by_bytes, crate::proofs::Bytes::insert_whole))]
     pub fn set(&mut self, alloc: Global, address: Address, value: &[u8]) -> Result<(), AllocError>
         ensures ok { OnOk result (self.new ≡ insert_entry address_cmp self.old address value.now) }
         ensures err { OnErr result (self.new ≡ self.old) }
     {
+        self.swap(alloc, address, value)?;
+        Ok(())
+    }
+
+    /// Writes a value at an address, and tells what it replaced, by which `put_back` makes the
+    /// state of before. After want of memory nothing is changed.
+    #[tactic(auto, using(crate::proofs::Bytes::insert_by_bytes, crate::proofs::Bytes::state_same, crate::proofs::Bytes::state_written))]
+    pub(crate) fn swap(
+        &mut self,
+        alloc: Global,
+        address: Address,
+        value: &[u8],
+    ) -> Result<Replaced, AllocError>
+        ensures rising { OnOk result (IsTrue (is_sorted address_cmp self.old)) }
+        ensures ok { OnOk result (self.new ≡ insert_entry address_cmp self.old address value.now) }
+        ensures undone { IfOk result (λ r. put_back self.new r ≡ self.old) }
+        ensures err { OnErr result (self.new ≡ self.old) }
+    {
         let piece = Piece::from(alloc, value)?;
-        self.tree.set(alloc, address, piece)
+        let value = self.tree.swap(alloc, address, piece)?;
+        Ok(Replaced { address, value })
+    }
+
+    /// Puts back what a write replaced; where it wrote over a value that is gone since, nothing is
+    /// changed.
+    pub(crate) fn put_back(&mut self, alloc: Global, replaced: Replaced)
+        ensures { self.new ≡ put_back self.old replaced }
+    {
+        let Replaced { address, value } = replaced;
+        match value {
+            Some(former) => self.write_over(alloc, address, former),
+            None => {
+                self.delete(&address);
+            }
+        }
+    }
+
+    /// Writes a value over the one at an address, if there is one, which takes no memory.
+    #[tactic(auto, using(crate::proofs::Bytes::insert_by_bytes, crate::proofs::Bytes::lookup_by_bytes, crate::proofs::Bytes::state_swapped))]
+    fn write_over(&mut self, alloc: Global, address: Address, value: Piece)
+        ensures { self.new ≡ over self.old address value }
+    {
+        if self.tree.get(&address).is_some() {
+            let _ = self.tree.swap(alloc, address, value);
+        }
     }
 
     /// Removes the entry at an address, if there is one, and says whether there was.
-    #[tactic(auto, using(crate::proofs::Bytes::remove_by_bytes, crate::proofs::Bytes::lookup_by_bytes, crate::proofs::Bytes::remove_whole, crate::proofs::Bytes::remove_none))]
+    #[tactic(auto, using(crate::proofs::Bytes::remove_by_bytes, crate::proofs::Bytes::lookup_by_bytes, crate::proofs::Bytes::state_removed, crate::proofs::Bytes::remove_none))]
     pub fn delete(&mut self, address: &Address) -> bool
         ensures deleted { self.new ≡ remove_entry (is_at (address_cmp address.now)) self.old }
         ensures found { result ≡ is_some (lookup (is_at (address_cmp address.now)) self.old) }

@@ -2,7 +2,7 @@
 use super::build::{self, Row, Step, Under};
 use crate::{Verdict, apply_receipts, execute};
 use spl_base::Value;
-use spl_state::State;
+use spl_state::{Draft, State};
 use std::alloc::Global;
 use std::test::Fail;
 
@@ -298,7 +298,9 @@ fn runs(alloc: Global, case: Case) -> Result<bool, Fail> {
     let mut state = start(alloc)?;
     let verdict = execute(alloc, &state, &batch)?;
     if let Verdict::Valid(receipts) = &verdict {
-        apply_receipts(&mut state, alloc, receipts)?;
+        let mut draft = Draft::new(alloc, state);
+        apply_receipts(&mut draft, receipts)?;
+        state = draft.finish();
     }
     Ok(is_wanted(alloc, &verdict, case.1)? && are_left(alloc, &state, case.2)?)
 }

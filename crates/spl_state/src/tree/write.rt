@@ -12,18 +12,21 @@ use std::alloc::{AllocError, Global};
 use std::mem;
 
 impl Tree {
-    /// Writes a value at an address. After want of memory the entries are unchanged.
-    #[tactic(auto, using(crate::proofs::Steps::depth_of, crate::proofs::Steps::kept_stale, crate::proofs::Steps::entries_inserted, crate::proofs::Steps::entries_kept, crate::proofs::Thin::thin_inserted, crate::proofs::Thin::entries_in, crate::proofs::Thin::room_digit))]
-    pub(crate) fn set(
+    /// Writes a value at an address, and gives back the one that it replaced. Where one stands
+    /// there it takes no memory; after want of memory the entries are unchanged.
+    #[tactic(auto, using(crate::proofs::Steps::depth_of, crate::proofs::Steps::kept_stale, crate::proofs::Steps::entries_inserted, crate::proofs::Steps::entries_kept, crate::proofs::Steps::replaced_below, crate::proofs::Steps::missing_below, crate::proofs::Thin::thin_inserted, crate::proofs::Thin::entries_in, crate::proofs::Thin::replaced_in, crate::proofs::Thin::missing_in, crate::proofs::Thin::room_digit))]
+    pub(crate) fn swap(
         &mut self,
         alloc: Global,
         address: Address,
         value: Piece,
-    ) -> Result<(), AllocError>
+    ) -> Result<Option<Piece>, AllocError>
         requires { self.old.depth ≤ 70 }
         ensures depth { self.new.depth ≡ self.old.depth }
         ensures ok { OnOk result (self.new.entries ≡ insert_entry (tail_cmp self.old.depth) self.old.entries address value) }
+        ensures replaced { IfOk result (λ old. old ≡ lookup (is_at (tail_cmp self.old.depth address)) self.old.entries) }
         ensures err { OnErr result (self.new.entries ≡ self.old.entries) }
+        ensures missing { OnErr result (lookup (is_at (tail_cmp self.old.depth address)) self.old.entries ≡ None) }
     {
         self.make_room(alloc, &address)?;
         match &mut self.body {
@@ -31,23 +34,22 @@ impl Tree {
                 self.size = 1;
                 self.fresh = false;
                 self.body = Body::Leaf(address, value);
-                Ok(())
+                Ok(None)
             }
-            Body::Leaf(at, old) => {
+            Body::Leaf(_, old) => {
                 self.fresh = false;
-                *old = value;
-                Ok(())
+                Ok(Some(mem::replace(old, value)))
             }
             Body::Inner(parts) => {
                 let at = address.digit(self.depth) as usize;
                 let part = &mut parts[at];
-                let done = part.set(alloc, address, value);
-                self.size = size_of_all(parts.as_slice());
+                let done = part.swap(alloc, address, value);
+                self.size = size_of_more(self.size, parts.as_slice());
                 self.fresh = false;
                 done
             }
             Body::Thin(_, part) => {
-                let done = part.set(alloc, address, value);
+                let done = part.swap(alloc, address, value);
                 self.size = part.size();
                 self.fresh = false;
                 done
@@ -155,13 +157,14 @@ impl Tree {
     }
 
     /// Sees to it that an entry that stands here alone is the address's, and that a single part is
-    /// that of its digit.
+    /// that of its digit. Where the address has an entry that takes no memory.
     #[tactic(auto, using(crate::proofs::Digits::tail_low))]
     fn make_room(&mut self, alloc: Global, address: &Address) -> Result<(), AllocError>
         requires { self.old.depth ≤ 70 }
         ensures depth { self.new.depth ≡ self.old.depth }
         ensures entries { self.new.entries ≡ self.old.entries }
         ensures room { OnOk result (IsRoom address.now self.new) }
+        ensures missing { OnErr result (lookup (is_at (tail_cmp self.old.depth address.now)) self.old.entries ≡ None) }
     {
         match &self.body {
             Body::Leaf(at, _) => {
@@ -280,6 +283,14 @@ fn empty_parts(alloc: Global, depth: usize) -> Result<Vec<Tree>, AllocError>
         parts.push(Tree::new(depth))?;
     }
     Ok(parts)
+}
+
+/// How many entries some parts have, up to two, where they have no fewer than `least`.
+fn size_of_more(least: u8, parts: &[Tree]) -> u8
+    requires { least ≤ length (all_entries parts.now) }
+    ensures { result ≡ min (length (all_entries parts.now)) 2 }
+{
+    if least < 2 { size_of_all(parts) } else { 2 }
 }
 
 /// How many entries some parts have, up to two.
