@@ -1,5 +1,5 @@
 //! Durable changes and moves of the open round.
-ghost use Rattle.std.specs.Prelude.{◌≡◌, ◌+◌, ◌-◌, ◌^◌, ◌<◌, ◌++◌, ◌∷◌, [], true, false, Some, OnOk};
+ghost use Rattle.std.specs.Prelude.{◌≡◌, ◌+◌, ◌-◌, ◌^◌, ◌<◌, ◌++◌, ◌∷◌, [], true, false, Some, OnOk, OnErr};
 ghost use Rattle.spl_agree.specs.Member.{changed, moved, has, but, none_left};
 ghost use Rattle.spl_coord.specs.Positions.{positions};
 ghost use Rattle.spl_agree.specs.Fits.{fits, any_value, FitsMove};
@@ -9,13 +9,25 @@ use crate::Member;
 use spl_agree::{Agreed, GroupChange, OpenMove, Reason, Round};
 use spl_coord::without_position;
 use spl_part::Promised;
+use spl_queue::OfferFault;
 use std::alloc::{AllocError, Global};
 
+/// Why a queue with room for a value more did not take one.
+fn no_memory<V: Drop>(fault: OfferFault<V>) -> AllocError
+    requires room { (value : V) → fault ≡ OfferFault.Full value → ⊥ }
+{
+    match fault {
+        OfferFault::Full { .. } => unreachable!(),
+        OfferFault::NoMemory => AllocError,
+    }
+}
+
 impl<M: Agreed> Member<M> {
-    /// Makes a durable change that fits. An error comes for want of memory alone, and the member is halted then.
+    /// Makes a durable change that fits. An error comes for want of memory alone; the member keeps what it kept then, so that it goes on.
     pub fn apply(&mut self, alloc: Global, change: GroupChange<M::Value>) -> Result<(), AllocError>
         requires { fits (M.rules self.old.content) any_value self.old.state change ≡ true }
         ensures ok { OnOk result (self.new.state ≡ changed (M.rules self.old.content) self.old.state change) }
+        ensures unchanged { OnErr result (self.new.state ≡ self.old.state) }
         ensures ruled { M.rules self.new.content ≡ M.rules self.old.content }
         ensures fixed { IsFixed self.old self.new }
     {
@@ -53,6 +65,7 @@ impl<M: Agreed> Member<M> {
     fn keep(&mut self, value: M::Value, reason: Reason) -> Result<(), AllocError>
         requires { fits (M.rules self.old.content) any_value self.old.state (GroupChange.Kept value reason) ≡ true }
         ensures ok { OnOk result (self.new.state ≡ changed (M.rules self.old.content) self.old.state (GroupChange.Kept value reason)) }
+        ensures unchanged { OnErr result (self.new.state ≡ self.old.state) }
         ensures content { self.new.content ≡ self.old.content }
         ensures fixed { IsFixed self.old self.new }
     {
@@ -75,13 +88,15 @@ impl<M: Agreed> Member<M> {
     fn queue_value(&mut self, value: M::Value) -> Result<(), AllocError>
         requires { fits (M.rules self.old.content) any_value self.old.state (GroupChange.Queue value) ≡ true }
         ensures ok { OnOk result (self.new.state ≡ changed (M.rules self.old.content) self.old.state (GroupChange.Queue value)) }
+        ensures unchanged { OnErr result (self.new.state ≡ self.old.state) }
         ensures content { self.new.content ≡ self.old.content }
         ensures fixed { IsFixed self.old self.new }
     {
         let key = M::key(&value);
-        let Ok(_) = self.queue.offer(key, value) else {
-            return Err(AllocError);
-        };
+        match self.queue.offer(key, value) {
+            Ok(_) => {}
+            Err(fault) => return Err(no_memory(fault)),
+        }
         Ok(())
     }
 
@@ -89,6 +104,7 @@ impl<M: Agreed> Member<M> {
     fn refuse(&mut self, value: M::Value, reason: Reason) -> Result<(), AllocError>
         requires { fits (M.rules self.old.content) any_value self.old.state (GroupChange.Refuse value reason) ≡ true }
         ensures ok { OnOk result (self.new.state ≡ changed (M.rules self.old.content) self.old.state (GroupChange.Refuse value reason)) }
+        ensures unchanged { OnErr result (self.new.state ≡ self.old.state) }
         ensures content { self.new.content ≡ self.old.content }
         ensures fixed { IsFixed self.old self.new }
     {
@@ -102,6 +118,7 @@ impl<M: Agreed> Member<M> {
     fn commit(&mut self, alloc: Global, round: Round, value: M::Value) -> Result<(), AllocError>
         requires { fits (M.rules self.old.content) any_value self.old.state (GroupChange.Commit round value) ≡ true }
         ensures ok { OnOk result (self.new.state ≡ changed (M.rules self.old.content) self.old.state (GroupChange.Commit round value)) }
+        ensures unchanged { OnErr result (self.new.state ≡ self.old.state) }
         ensures ruled { M.rules self.new.content ≡ M.rules self.old.content }
         ensures fixed { IsFixed self.old self.new }
     {

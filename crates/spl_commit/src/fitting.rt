@@ -44,10 +44,7 @@ impl<M: Agreed> Member<M> {
     pub fn is_new(&self) -> bool
         ensures { result ≡ is_new self.now.state }
     {
-        self.has_nothing()
-            && self.queue.refused_len() == 0
-            && self.seen.0 == 0
-            && self.next.0 == 1
+        self.has_nothing() && self.queue.refused_len() == 0 && self.seen.0 == 0 && self.next.0 == 1
     }
 
     /// Whether no refused value has the key of this one, where nothing is pending.

@@ -6,6 +6,7 @@ mod fitting;
 mod forwards;
 mod history;
 mod member;
+mod messages;
 #[cfg(test)]
 mod numbers;
 mod packing;

@@ -30,11 +30,7 @@ impl<M: Agreed> Member<M> {
             alloc,
             Note::Declined(round),
             sender,
-            CommitMsg::Vote {
-                generation: self.generation,
-                round,
-                yes: false,
-            },
+            self.vote(round, false),
         )
     }
 
@@ -54,24 +50,12 @@ impl<M: Agreed> Member<M> {
             return self.requested_free(alloc, sender, round, value, fits);
         };
         match promise.on_request(round) {
-            Again::Yes => sends_one(
-                alloc,
-                Note::Again(round),
-                sender,
-                CommitMsg::Vote {
-                    generation: self.generation,
-                    round,
-                    yes: true,
-                },
-            ),
+            Again::Yes => sends_one(alloc, Note::Again(round), sender, self.vote(round, true)),
             Again::Ask(promised) => sends_one(
                 alloc,
                 Note::Asked(promised),
                 sender,
-                CommitMsg::DecisionRequest {
-                    generation: self.generation,
-                    round: promised,
-                },
+                self.decision_request(promised),
             ),
         }
     }
@@ -97,8 +81,8 @@ impl<M: Agreed> Member<M> {
     ) -> Result<GroupPlan<M::Value>, AllocError>
         ensures { IfOk result (λ p. p ≡ requested_free self.now.generation self.now.state.history self.now.state.seen sender round value.now fits) }
     {
-        let generation = self.generation;
         let committed = self.history.has_round(round);
+        // The states answer what a request does; a plan changes nothing, so one is made for the question.
         match Free::new().on_request(self.seen, round, committed, fits, ()) {
             Requested::Ignored(_, ()) => Ok(nothing(alloc, Note::Ignored)),
             Requested::Promised(_) => both(
@@ -106,11 +90,7 @@ impl<M: Agreed> Member<M> {
                 Note::Promised(round),
                 GroupChange::Promise(round, M::copy(alloc, value)?),
                 sender,
-                CommitMsg::Vote {
-                    generation,
-                    round,
-                    yes: true,
-                },
+                self.vote(round, true),
             ),
             Requested::Declined(_, ()) => self.declined(alloc, sender, round),
         }
@@ -127,11 +107,7 @@ impl<M: Agreed> Member<M> {
     ) -> Result<GroupPlan<M::Value>, AllocError>
         ensures { IfOk result (λ p. p ≡ (if self.now.state.seen == round then sends_one (Note.Declined round) sender (CommitMsg.Vote self.now.generation round false) else both (Note.Declined round) (GroupChange.Seen round) sender (CommitMsg.Vote self.now.generation round false))) }
     {
-        let no = CommitMsg::Vote {
-            generation: self.generation,
-            round,
-            yes: false,
-        };
+        let no = self.vote(round, false);
         if round == self.seen {
             sends_one(alloc, Note::Declined(round), sender, no)
         } else {
@@ -161,6 +137,7 @@ impl<M: Agreed> Member<M> {
         let Some(promise) = &self.promise else {
             return Ok(nothing(alloc, Note::Ignored));
         };
+        // Made for the question too: the promise itself stays.
         match Promised::kept(promise.tick(), ()).on_decision(round, commit) {
             Decided::Ignored(_) => Ok(nothing(alloc, Note::Ignored)),
             Decided::Aborted(_, round, ()) => {
@@ -185,6 +162,7 @@ impl<M: Agreed> Member<M> {
             Some((open, _)) => Some(open),
             None => None,
         };
+        // The rounds that the history has of this one: itself, or none.
         if self.history.has_round(round) {
             decision_of(&[round], self.next, opened, round)
         } else {

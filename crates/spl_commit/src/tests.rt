@@ -120,6 +120,10 @@ fn change_text(alloc: Global, change: &GroupChange<u64>) -> Result<String, Alloc
         GroupChange::Promise(round, value) => format!(in alloc; "promise {} {}", round.0, value),
         GroupChange::Abort => format!(in alloc; "abort"),
         GroupChange::Commit(round, value) => format!(in alloc; "commit {} {}", round.0, value),
+        GroupChange::Restore { next, seen } => format!(in alloc; "restore {} {}", next.0, seen.0),
+        GroupChange::Kept(value, reason) => {
+            format!(in alloc; "kept {} {} {}", value, reason.code, reason.at)
+        }
     }
 }
 

@@ -9,7 +9,7 @@ use crate::Member;
 use crate::plans::{both, changes_one, nothing, sends_one};
 use crate::sends::{decide_each, refuse_each, request_each};
 use spl_agree::{
-    Agreed, CommitMsg, GroupChange, GroupChanges, GroupPlan, Note, OpenMove, Place, Reason, Round,
+    Agreed, GroupChange, GroupChanges, GroupPlan, Note, OpenMove, Place, Reason, Round,
 };
 use std::alloc::{AllocError, Global};
 
@@ -137,10 +137,7 @@ impl<M: Agreed> Member<M> {
             alloc,
             Note::Asked(round),
             self.coordinator,
-            CommitMsg::DecisionRequest {
-                generation: self.generation,
-                round,
-            },
+            self.decision_request(round),
         )
     }
 
@@ -150,18 +147,12 @@ impl<M: Agreed> Member<M> {
     {
         match self.first() {
             None => Ok(nothing(alloc, Note::Idle)),
-            Some(value) => {
-                let value = M::copy(alloc, value)?;
-                sends_one(
-                    alloc,
-                    Note::Forwarded,
-                    self.coordinator,
-                    CommitMsg::Forward {
-                        generation: self.generation,
-                        value,
-                    },
-                )
-            }
+            Some(value) => sends_one(
+                alloc,
+                Note::Forwarded,
+                self.coordinator,
+                self.forward(alloc, value)?,
+            ),
         }
     }
 
@@ -203,16 +194,12 @@ impl<M: Agreed> Member<M> {
         if self.here == self.coordinator {
             return changes_one(alloc, Note::Queued, GroupChange::Queue(queued));
         }
-        let value = M::copy(alloc, value)?;
         both(
             alloc,
             Note::Queued,
             GroupChange::Queue(queued),
             self.coordinator,
-            CommitMsg::Forward {
-                generation: self.generation,
-                value,
-            },
+            self.forward(alloc, value)?,
         )
     }
 }

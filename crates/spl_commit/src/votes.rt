@@ -1,6 +1,6 @@
 //! What a vote gives.
 ghost use Rattle.std.specs.Prelude.{◌≡◌, ◌∷◌, [], IfOk, false};
-ghost use Rattle.spl_agree.specs.Member.{none_left};
+ghost use Rattle.spl_agree.specs.Member.{below_but, none_left};
 ghost use Rattle.spl_agree.specs.Rows.{on_vote, counted_vote, commit_open, abort_open};
 ghost use Rattle.spl_coord.specs.Positions.{positions};
 ghost use Rattle.spl_commit.specs.Views.{group_by};
@@ -11,7 +11,7 @@ use crate::sends::{abort_each, decide_each};
 use spl_agree::{
     Agreed, GroupChange, GroupChanges, GroupPlan, GroupSends, Note, OpenMove, Reason, Round,
 };
-use spl_coord::{Idle, Voted};
+use spl_coord::{Voted, Voting};
 use std::alloc::{AllocError, Global};
 
 /// A member voted no.
@@ -40,6 +40,14 @@ impl<M: Agreed> Member<M> {
         self.counted_vote(alloc, sender, round, missing, yes)
     }
 
+    /// The open round without its value, made for one question: a plan asks what a vote does, and changes nothing.
+    fn ballot(&self, round: Round, missing: u8) -> Voting<()>
+        requires { none_left (positions missing) ≡ false }
+        ensures { result ≡ record { round = round; value = tt; others = below_but self.now.members self.now.here; missing = positions missing } }
+    {
+        Voting::kept(round, (), self.others(), missing)
+    }
+
     /// A vote on the open round.
     fn counted_vote(
         &self,
@@ -55,10 +63,7 @@ impl<M: Agreed> Member<M> {
         if !self.is_other(sender) {
             return Ok(nothing(alloc, Note::Ignored));
         }
-        match Idle::new()
-            .begin(round, (), missing)
-            .on_vote(round, sender, yes)
-        {
+        match self.ballot(round, missing).on_vote(round, sender, yes) {
             Voted::Ignored(_) => Ok(nothing(alloc, Note::Ignored)),
             Voted::Counted(_) => Ok(GroupPlan {
                 note: Note::Counted(round),

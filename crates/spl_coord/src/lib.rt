@@ -21,6 +21,9 @@ mod tests {
         let Voted::Ignored(voting) = voting.on_vote(Round(2), 1, false) else {
             return Err(Fail::new("a vote on another round"));
         };
+        let Voted::Ignored(voting) = voting.on_vote(Round(3), 7, false) else {
+            return Err(Fail::new("a no of a stranger"));
+        };
         let Voted::Counted(voting) = voting.on_vote(Round(3), 1, true) else {
             return Err(Fail::new("the first yes"));
         };

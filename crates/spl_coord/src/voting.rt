@@ -22,23 +22,24 @@ impl Model for Idle {
     ghost view = { λ _. tt };
 }
 
-/// A round is open about a value, and some members have not voted yes. Contracts see it as a ballot.
+/// A round is open about a value for some members, and some of them have not voted yes.
 #[derive(Drop)]
 pub struct Voting<V> {
     round: Round,
     value: V,
+    others: u8,
     missing: u8,
 }
 
 impl<V> Model for Voting<V> {
     ghost use Rattle.std.specs.Prelude.{◌≡◌, false};
     ghost use Rattle.spl_agree.specs.Member.{none_left};
-    ghost use Rattle.spl_agree.specs.Agreement.{Ballot};
     ghost use Rattle.spl_coord.specs.Positions.{positions};
+    ghost use Rattle.spl_coord.specs.Views.{VotingView};
 
-    ghost Value = { Ballot V };
+    ghost Value = { VotingView V };
 
-    ghost view = { λ s. record { round = s.round; value = s.value; missing = positions s.missing } };
+    ghost view = { λ s. record { round = s.round; value = s.value; others = positions s.others; missing = positions s.missing } };
 
     ghost invariant = { λ s. none_left (positions s.missing) ≡ false };
 }
@@ -65,18 +66,27 @@ impl Idle {
     /// Opens a round about a value. `others` has the bits of the members that are to vote yes, one at least.
     pub fn begin<V>(self, round: Round, value: V, others: u8) -> Voting<V>
         requires { none_left (positions others) ≡ false }
-        ensures { result ≡ record { round = round; value = value; missing = positions others } }
+        ensures { result ≡ record { round = round; value = value; others = positions others; missing = positions others } }
     {
         let Idle { _private } = self;
-        Voting {
-            round,
-            value,
-            missing: others,
-        }
+        Voting::kept(round, value, others, others)
     }
 }
 
 impl<V> Voting<V> {
+    /// A round that goes on: the bits of the members that it was opened for, and of those of them that have not voted yes, one at least.
+    pub fn kept(round: Round, value: V, others: u8, missing: u8) -> Voting<V>
+        requires { none_left (positions missing) ≡ false }
+        ensures { result ≡ record { round = round; value = value; others = positions others; missing = positions missing } }
+    {
+        Voting {
+            round,
+            value,
+            others,
+            missing,
+        }
+    }
+
     /// The open round.
     pub fn round(&self) -> Round
         ensures { result ≡ self.now.round }
@@ -91,21 +101,17 @@ impl<V> Voting<V> {
         self.missing
     }
 
-    /// A vote of the member at a position below 8. A vote on another round, and a yes of one that isn't missing, is ignored.
+    /// A vote of the one at a position below 8. It is ignored where it is on another round, where the round was not opened for that member, and where it is a yes that is counted already.
     pub fn on_vote(self, round: Round, member: u8, yes: bool) -> Voted<V>
         requires { member < 8 }
         ensures { result ≡ voted_on self round member yes }
     {
-        if round != self.round {
+        if round != self.round || !has_position(self.others, member) {
             return Voted::Ignored(self);
         }
         if !yes {
-            let Voting {
-                round,
-                value,
-                missing: _,
-            } = self;
-            return Voted::Aborted(Idle::new(), round, value);
+            let (idle, round, value) = self.expire();
+            return Voted::Aborted(idle, round, value);
         }
         if !has_position(self.missing, member) {
             return Voted::Ignored(self);
@@ -113,17 +119,14 @@ impl<V> Voting<V> {
         let Voting {
             round,
             value,
+            others,
             missing,
         } = self;
         let rest = without_position(missing, member);
         if is_empty(rest) {
             Voted::Committed(Idle::new(), round, value)
         } else {
-            Voted::Counted(Voting {
-                round,
-                value,
-                missing: rest,
-            })
+            Voted::Counted(Voting::kept(round, value, others, rest))
         }
     }
 
@@ -135,6 +138,7 @@ impl<V> Voting<V> {
         let Voting {
             round,
             value,
+            others: _,
             missing: _,
         } = self;
         (Idle::new(), round, value)

@@ -39,9 +39,9 @@ pub enum Offered {
 /// Why a value was not taken.
 #[derive(Debug, Drop)]
 pub enum OfferFault<V> {
-    /// 64 values are pending.
+    /// 64 values are pending. The value is given back.
     Full { value: V },
-    /// Want of memory.
+    /// Want of memory. The value is lost.
     NoMemory,
 }
 
@@ -131,13 +131,13 @@ impl<K: Copy + Eq + Hash, V: Drop> Queue<K, V> {
         }
     }
 
-    /// A value whose key is not known here joins the pending ones. It is `Full` exactly where 64 are pending; after a fault nothing is changed.
+    /// A value whose key is not known here joins the pending ones. It is `Full` exactly where 64 are pending, and gives the value back then; after want of memory the value is lost. After either fault nothing is changed.
     pub fn offer(&mut self, key: K, value: V) -> Result<Offered, OfferFault<V>>
         requires not_pending { at K.eq self.old.pending key ≡ None }
         requires not_refused { at K.eq self.old.refused key ≡ None }
         ensures queued { OnOk result (self.new.pending ≡ self.old.pending ++ (key, value) ∷ []) }
         ensures others { self.new.refused ≡ self.old.refused }
-        ensures full { IsErrOf result (OfferFault.Full value) ↔ (length self.old.pending ≡ 64) }
+        ensures full { (v : V) → IsErrOf result (OfferFault.Full v) ↔ ((length self.old.pending ≡ 64) × (v ≡ value)) }
         ensures unchanged { OnErr result (self.new ≡ self.old) }
     {
         if self.pending.len() >= 64 {
