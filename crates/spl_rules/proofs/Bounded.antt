@@ -1,6 +1,6 @@
 -- No batch of a packed form breaks a rule, and its records are within the bounds.
 use Rattle.std.proofs.Common.{◌≡◌, ◌⊎◌, ℕ, true, false, ◌&&◌, IsTrue, List, [], ◌∷◌, ◌++◌, refl, inl, inr}
-use Rattle.std.specs.Prelude.{Option, Some, None, nat_le, is_none}
+use Rattle.std.specs.Prelude.{Option, Some, None, nat_le}
 use Rattle.std.specs.List.{list_all}
 use Rattle.spl_base.specs.FormLaws.{both_true, and_true}
 use Rattle.spl_agree.specs.declared.reason.Reason.{Reason}
@@ -15,8 +15,7 @@ use Rattle.spl_circuit.specs.declared.lifecycle.Mark.TheVariants as mark
 use Rattle.spl_circuit.specs.Nodes.{Node}
 use Rattle.spl_circuit.specs.Forms.{circuit_id}
 use Rattle.spl_command.specs.declared.batch.Batch.{Batch}
-use Rattle.spl_command.specs.Rules.{broken_batch}
-use Rattle.spl_scabbard.specs.Checks.{misfit_valid, misfit_batch, unless_broken, batch_rules}
+use Rattle.spl_scabbard.specs.Checks.{misfit_batch, batch_rules}
 use Rattle.spl_wire.specs.Changes.{change_form}
 use Rattle.spl_wire.specs.declared.change.Change.{Change}
 use Rattle.spl_wire.specs.Grouping.{value_in, breaks_no_rule, is_lawful, is_small, is_sized, grouped}
@@ -27,17 +26,11 @@ use Rattle.spl_rules.specs.Plans.{admin_changes, service_changes}
 use Rattle.spl_rules.specs.Changes.{may_serve, applied}
 use Rattle.spl_rules.specs.Pack.{packed_batches, packed_mark, packed}
 use Rattle.spl_rules.proofs.Keys.{Each}
+use Rattle.spl_rules.proofs.Lawful.{lawful-checked}
 use Rattle.spl_rules.proofs.Packed.{Made, made-applied}
 use Rattle.spl_rules.proofs.Written.{written-applied, written-packed}
 
--- ---- batches with a good check
-
-unless-none : (o : Option ℕ) (next : Option Reason) → unless_broken o next ≡ None → is_none o ≡ true
-unless-none None next h = refl
-unless-none (Some rule) next h = cc
-
-lawful-checked : (before : List Batch) (v : Batch) → misfit_batch before v ≡ None → may_serve v ≡ true
-lawful-checked before v h = unless-none (broken_batch v) (misfit_valid before v) h
+-- ---- batches
 
 abbrev Lawful : GroupChange Batch → Type 0
 Lawful x = breaks_no_rule (value_in x) ≡ true
@@ -93,8 +86,8 @@ lawful-packed here c (Held d m turn a b) s = all-append (admin_changes (packed_m
     batches = (
       refl,
       lawful-append (kept_each b.refused) _ (lawful-kept b.refused s.refused_lawful)
-      (lawful-append (committed_each b.history) _ (lawful-committed [] b.history s.batches.good)
-      (lawful-append (queued_each b.pending) _ (lawful-queued b.pending s.pending_lawful) (lawful-promised (values b.history) b.promise (λ e p. (s.batches.promised e p).good)))),
+          (lawful-append (committed_each b.history) _ (lawful-committed [] b.history s.batches.good)
+          (lawful-append (queued_each b.pending) _ (lawful-queued b.pending s.pending_lawful) (lawful-promised (values b.history) b.promise (λ e p. (s.batches.promised e p).good)))),
     )
 
     go : (runs d a ≡ true) ⊎ (runs d a ≡ false) → AllLawful (packed_batches d a b)

@@ -1,5 +1,5 @@
 -- When a deed fits a cell.
-use Rattle.std.proofs.Common.{◌≡◌, ◌⊎◌, ℕ, ◌≤◌, Bool, true, false, ◌&&◌, List, [], length, refl, sym, ◌∙◌, inl, inr}
+use Rattle.std.proofs.Common.{◌≡◌, ◌⊎◌, ℕ, ◌≤◌, Bool, true, false, ◌&&◌, IsTrue, List, [], length, refl, sym, ◌∙◌, inl, inr}
 use Rattle.std.specs.Prelude.{Option, Some, None, ◌==◌, if◌then◌else◌}
 use Rattle.std.specs.Str.{bytes_eq}
 use Rattle.spl_agree.specs.Member.{Group, Member, new_member, changed_by, others, has}
@@ -16,12 +16,14 @@ use Rattle.spl_agree.proofs.Tests.{if_holds, bool_cases, has-below_but-other}
 use Rattle.spl_circuit.specs.declared.definition.Definition.{Definition}
 use Rattle.spl_circuit.specs.declared.act.Act.{Act}
 use Rattle.spl_circuit.specs.declared.lifecycle.Mark.{Mark}
+use Rattle.spl_circuit.specs.Forms.{definition}
 use Rattle.spl_circuit.specs.Nodes.{Node, has_node, position}
 use Rattle.spl_circuit.specs.Rules.{broken}
 use Rattle.spl_circuit.specs.Acts.{act_rules, admits_act, admits_kind}
 use Rattle.spl_circuit.proofs.Valid.{few_members}
 use Rattle.spl_command.specs.declared.batch.Batch.{Batch}
 use Rattle.spl_wire.specs.declared.change.Change.TheVariants as durable
+use Rattle.spl_wire.specs.Bounds.{has_form}
 use Rattle.spl_rules.specs.Cells.{Cell, Held, Deed, Refuses, Tells, Replies, Binds, Acts, Serves, Turns, Abandons, Purges, admin_group, service_group, is_open, runs}
 use Rattle.spl_rules.specs.Plans.{admin_row}
 use Rattle.spl_rules.specs.Changes.{may_queue, may_serve, fits_free}
@@ -48,6 +50,7 @@ pub record ActsAt (here : Node) (k : Cell) (d : Definition) (a : Member Act) (e 
   pub held : k ≡ Held d mark turn a batches
   pub unclosed : is_open mark ≡ true
   pub fit : FitsEvent here d turn a e
+  pub brings : Brings has_form e
 
 pub record ServesAt (here : Node) (k : Cell) (d : Definition) (b : Member Batch) (e : GroupEvent Batch) : Type 0 where
   pub mark : Mark
@@ -68,6 +71,7 @@ pub record TurnsAt (here : Node) (k : Cell) (d : Definition) (a : Member Act) (b
   pub active : runs d a ≡ true
   pub fit : FitsEvent here d turn a x
   pub still : (changed_by (act_rules d) a (admin_row here d a x).changes).history ≡ a.history
+  pub asks : Brings has_form x
   pub serves : FitsServed here d b y
   pub brings : Brings may_serve y
 
@@ -90,7 +94,9 @@ pub record PurgesAt (k : Cell) : Type 0 where
 
 pub record BindsAt (here c : Node) (k : Cell) (d : Definition) (e : GroupEvent Act) : Type 0 where
   pub free : fits_free here c k (durable.Bind d) ≡ true
+  pub defined : IsTrue (definition.fits d)
   pub fit : FitsEvent here d 0 new_member e
+  pub brings : Brings has_form e
 
 -- the deed can be done at the cell
 abbrev pub FitsDeed : Node → Node → Cell → Deed → Type 0
@@ -104,8 +110,8 @@ FitsDeed here c k (Turns d a b x y) = TurnsAt here k d a b x y
 FitsDeed here c k Abandons = AbandonsAt k
 FitsDeed here c k Purges = PurgesAt k
 
-pub acts-at : (here : Node) (d : Definition) (m : Mark) (turn : ℕ) (a : Member Act) (b : Member Batch) (e : GroupEvent Act) → is_open m ≡ true → FitsEvent here d turn a e → ActsAt here (Held d m turn a b) d a e
-acts-at here d m turn a b e unclosed fit = record { mark = m; turn = turn; batches = b; held = refl; unclosed = unclosed; fit = fit }
+pub acts-at : (here : Node) (d : Definition) (m : Mark) (turn : ℕ) (a : Member Act) (b : Member Batch) (e : GroupEvent Act) → is_open m ≡ true → FitsEvent here d turn a e → Brings has_form e → ActsAt here (Held d m turn a b) d a e
+acts-at here d m turn a b e unclosed fit brings = record { mark = m; turn = turn; batches = b; held = refl; unclosed = unclosed; fit = fit; brings = brings }
 
 pub serves-at : (here : Node) (d : Definition) (m : Mark) (turn : ℕ) (a : Member Act) (b : Member Batch) (e : GroupEvent Batch) → is_open m ≡ true → runs d a ≡ true → FitsServed here d b e → Brings may_serve e → ServesAt here (Held d m turn a b) d b e
 serves-at here d m turn a b e unclosed active fit brings = record { mark = m; turn = turn; acts = a; held = refl; unclosed = unclosed; active = active; fit = fit; brings = brings }

@@ -4,7 +4,8 @@ use Rattle.std.specs.Prelude.{None, ◌==◌, nat_lt, is_none}
 use Rattle.std.specs.List.{list_all}
 use Rattle.spl_agree.specs.Member.{Rules, Member, values, known, changed, without, new_member}
 use Rattle.spl_agree.specs.Fits.{is_new, fits}
-use Rattle.spl_rules.specs.Valid.{IsKeptMember}
+use Rattle.spl_wire.specs.Grouping.{value_in, meets}
+use Rattle.spl_rules.specs.Valid.{IsKeptMember, AllMeet}
 use Rattle.spl_agree.specs.declared.event.GroupChange.{GroupChange}
 use Rattle.spl_agree.specs.declared.event.GroupChange.TheVariants as change
 use Rattle.spl_agree.proofs.Tests.{if_holds, and_left, and_right, ltb_is}
@@ -83,3 +84,20 @@ pending-changed rules may m change.Abort h l = l
 pending-changed rules may m (change.Commit r v) h l = without-all may (rules.same_key v) m.pending l
 pending-changed rules may m (change.Restore next seen) h l = l
 pending-changed rules may m (change.Kept v why) h l = l
+
+-- ---- what each value meets
+
+pub meets-new : {V : Type 0} (may : V → Bool) → AllMeet may new_member
+meets-new may = record { history = refl; pending = refl; refused = refl; promise = λ e p. cc }
+
+-- a change whose value meets the test
+pub meets-changed : {V : Type 0} (rules : Rules V) (may : V → Bool) (m : Member V) (x : GroupChange V) → meets may (value_in x) ≡ true → AllMeet may m → AllMeet may (changed rules m x)
+meets-changed rules may m (change.Queue v) h s = record { history = s.history; pending = more-all may m.pending v s.pending h; refused = s.refused; promise = s.promise }
+meets-changed rules may m (change.Refuse v why) h s = record { history = s.history; pending = without-all may (rules.same_key v) m.pending s.pending; refused = more-all (λ u. may u.0) m.refused (v, why) s.refused h; promise = s.promise }
+meets-changed rules may m (change.Begin r) h s = record { history = s.history; pending = s.pending; refused = s.refused; promise = s.promise }
+meets-changed rules may m (change.Seen r) h s = record { history = s.history; pending = s.pending; refused = s.refused; promise = s.promise }
+meets-changed {V} rules may m (change.Promise r v) h s = record { history = s.history; pending = s.pending; refused = s.refused; promise = λ e p. let same : (r, v) ≡ e = cc in subst (λ (x : ℕ × V). may x.1 ≡ true) same h }
+meets-changed rules may m change.Abort h s = record { history = s.history; pending = s.pending; refused = s.refused; promise = λ e p. cc }
+meets-changed rules may m (change.Commit r v) h s = record { history = rw (values-more m.history (r, v)) (more-all may (values m.history) v s.history h); pending = without-all may (rules.same_key v) m.pending s.pending; refused = s.refused; promise = λ e p. cc }
+meets-changed rules may m (change.Restore next seen) h s = record { history = s.history; pending = s.pending; refused = s.refused; promise = s.promise }
+meets-changed rules may m (change.Kept v why) h s = record { history = s.history; pending = s.pending; refused = more-all (λ u. may u.0) m.refused (v, why) s.refused h; promise = s.promise }

@@ -8,9 +8,9 @@ use Rattle.spl_agree.specs.declared.reason.Reason.{Reason}
 use Rattle.spl_agree.specs.declared.event.GroupChange.{GroupChange}
 use Rattle.spl_agree.specs.declared.event.GroupChange.TheVariants as change
 use Rattle.spl_agree.specs.Member.{Member, new_member, changed, changed_by}
-use Rattle.spl_agree.specs.Fits.{is_pending, is_new, fits as fits_group}
+use Rattle.spl_agree.specs.Fits.{is_new, fits as fits_group}
 use Rattle.spl_agree.specs.Pack.{kept_each, committed_each, queued_each, promised_one, packed_member}
-use Rattle.spl_agree.proofs.Tests.{if_holds, bool_cases, and_left, and_right, or_cases, eqb_is, eqb_same, ltb_is, lt_is}
+use Rattle.spl_agree.proofs.Tests.{if_holds, bool_cases, and_left, and_right, eqb_is, eqb_same, ltb_is, lt_is}
 use Rattle.spl_group.proofs.Sound.{is_none_is}
 use Rattle.spl_circuit.specs.declared.definition.Definition.{Definition}
 use Rattle.spl_circuit.specs.declared.act.Act.{Act}
@@ -23,7 +23,6 @@ use Rattle.spl_circuit.specs.Equality.{same_act_key, same_kind}
 use Rattle.spl_command.specs.declared.batch.Batch.{Batch}
 use Rattle.spl_command.specs.Equality.{same_list, same_transaction}
 use Rattle.spl_scabbard.specs.Checks.{batch_rules}
-use Rattle.spl_scabbard.specs.Same.{same_batches}
 use Rattle.spl_wire.specs.declared.change.Change.{Change}
 use Rattle.spl_wire.specs.declared.change.Change.TheVariants as durable
 use Rattle.spl_rules.specs.Cells.{Cell, Empty, Held, Purged, is_open, is_free, runs}
@@ -32,6 +31,7 @@ use Rattle.spl_rules.specs.Changes.{turn_after, may_queue, may_serve, may_keep, 
 use Rattle.spl_rules.specs.Pack.{packed_batches, packed_mark, packed}
 use Rattle.spl_rules.proofs.Positions.{node_is, node_same}
 use Rattle.spl_rules.proofs.Members.{pending-changed}
+use Rattle.spl_rules.proofs.Lawful.{pending-lawful}
 use Rattle.spl_rules.proofs.Plans.{applied-append}
 use Rattle.spl_rules.proofs.Keys.{Each, each-more, HasKeys}
 use Rattle.spl_rules.proofs.Built.{IsBuilt, built-new, built-changed, fresh}
@@ -139,15 +139,6 @@ made-admin here c d m turn a b x h s =
     go : fits_group (act_rules d) (may_queue here turn a.pending) a x ≡ true → runs d (changed (act_rules d) a x) ≡ false → (runs d a ≡ true) ⊎ (runs d a ≡ false) → b ≡ new_member
     go fit e (inl q) = absurd (let z : runs d (changed (act_rules d) a x) ≡ true = runs-changed d (may_queue here turn a.pending) a x q fit in cc)
     go fit e (inr q) = s.idle q
-
--- an equal batch is pending, and what is pending is lawful
-pending-lawful : (v : Batch) (us : List Batch) → is_pending batch_rules v us ≡ true → list_all may_serve us ≡ true → may_serve v ≡ true
-pending-lawful v [] h l = cc
-pending-lawful v (u ∷ us) h l = go (or_cases (batch_rules.same u v) (is_pending batch_rules v us) h) (pending-lawful v us)
-  where
-    go : (batch_rules.same u v ≡ true) ⊎ (is_pending batch_rules v us ≡ true) → (is_pending batch_rules v us ≡ true → list_all may_serve us ≡ true → may_serve v ≡ true) → may_serve v ≡ true
-    go (inl q) f = subst (λ (z : Batch). may_serve z ≡ true) ((same_batches u v).0 q) (and_left (may_serve u) (list_all may_serve us) l)
-    go (inr q) f = f q (and_right (may_serve u) (list_all may_serve us) l)
 
 refused-lawful : (b : Member Batch) (x : GroupChange Batch) → may_keep x ≡ true → fits_group batch_rules may_serve b x ≡ true → list_all may_serve b.pending ≡ true → Each Lawful b.refused → Each Lawful (changed batch_rules b x).refused
 refused-lawful b (change.Queue v) k h p r = r

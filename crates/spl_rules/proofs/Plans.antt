@@ -1,5 +1,6 @@
 -- The plan of a deed that fits.
-use Rattle.std.proofs.Common.{◌≡◌, ◌⊎◌, ℕ, Bool, true, List, [], ◌∷◌, ◌++◌, refl, sym, ap, subst, ◌∙◌, inl, inr}
+use Rattle.std.proofs.Common.{◌≡◌, ◌⊎◌, ℕ, Bool, true, IsTrue, List, [], ◌∷◌, ◌++◌, length, refl, sym, ap, subst, ◌∙◌, inl, inr}
+use Rattle.std.specs.Prelude.{nat_le}
 use Rattle.std.specs.List.{list_all}
 use Rattle.spl_agree.specs.Member.{Group, Member, new_member, values, changed, changed_by}
 use Rattle.spl_agree.specs.Rows.{row}
@@ -17,7 +18,8 @@ use Rattle.spl_circuit.specs.declared.definition.Definition.{Definition}
 use Rattle.spl_circuit.specs.declared.act.Act.{Act}
 use Rattle.spl_circuit.specs.declared.lifecycle.Mark.{Mark}
 use Rattle.spl_circuit.specs.declared.lifecycle.Mark.TheVariants as mark
-use Rattle.spl_circuit.specs.Nodes.{Node, position}
+use Rattle.spl_circuit.specs.Forms.{definition}
+use Rattle.spl_circuit.specs.Nodes.{Node, position, node_or}
 use Rattle.spl_agree.specs.declared.message.CommitMsg.{CommitMsg}
 use Rattle.spl_circuit.specs.Acts.{act_rules}
 use Rattle.spl_circuit.specs.Lifecycle.{life, is_active}
@@ -30,9 +32,12 @@ use Rattle.spl_wire.specs.declared.change.Change.TheVariants as durable
 use Rattle.spl_rules.specs.Cells.{Cell, Empty, Held, Purged, Deed, Refuses, Tells, Replies, Binds, Acts, Serves, Turns, Abandons, Purges, admin_group, service_group, is_open, runs}
 use Rattle.spl_rules.specs.Plans.{admin_changes, admin_sends, admin_row, service_changes, service_sends, service_row, planned}
 use Rattle.spl_rules.specs.Changes.{may_queue, may_serve, may_keep, fits_free, made_one, made, applied_one, applied}
-use Rattle.spl_rules.specs.Valid.{IsKeptMember, IsValid, FitsMoveAt, is_legal, are_legal}
+use Rattle.spl_wire.specs.Bounds.{has_form}
+use Rattle.spl_rules.specs.Valid.{IsKeptMember, AllMeet, IsNamed, IsValid, FitsMoveAt, is_legal, are_legal}
 use Rattle.spl_rules.proofs.SameActs.{act_same}
-use Rattle.spl_rules.proofs.Members.{checked-new}
+use Rattle.spl_rules.proofs.Members.{checked-new, meets-new}
+use Rattle.spl_rules.proofs.Services.{short-service_on}
+use Rattle.spl_rules.proofs.Events.{short-circuit}
 use Rattle.spl_rules.proofs.Carried.{AllCarry, Brings, send_carries, carry-row}
 use Rattle.spl_rules.proofs.Deeds.{FitsRow, FitsEvent, FitsServed, ActsAt, ServesAt, TurnsAt, AbandonsAt, PurgesAt, FitsDeed}
 
@@ -208,29 +213,35 @@ fitting-planned here c k Purges s f = fitting-purges here c k f
 
 -- ---- what a plan sends
 
-legal-admin : (c : Node) (d : Definition) (back : Node) (ss : List (ℕ × CommitMsg Act)) → are_legal (admin_sends c d back ss) ≡ true
-legal-admin c d back [] = refl
-legal-admin c d back (s ∷ ss) = legal-admin c d back ss
+legal-admin : (c : Node) (d : Definition) (back : Node) (ss : List (ℕ × CommitMsg Act)) → nat_le (length c) 11 ≡ true → AllCarry has_form ss → are_legal (admin_sends c d back ss) ≡ true
+legal-admin c d back [] l h = refl
+legal-admin c d back (s ∷ ss) l h =
+    rw (l, and_left (send_carries has_form s) (list_all (send_carries has_form) ss) h, legal-admin c d back ss l (and_right (send_carries has_form s) (list_all (send_carries has_form) ss) h))
 
-legal-service : (here c : Node) (d : Definition) (back : Node) (ss : List (ℕ × CommitMsg Batch)) → AllCarry may_serve ss → are_legal (service_sends here c d back ss) ≡ true
-legal-service here c d back [] h = refl
-legal-service here c d back (s ∷ ss) h =
-    rw (and_left (send_carries may_serve s) (list_all (send_carries may_serve) ss) h, legal-service here c d back ss (and_right (send_carries may_serve s) (list_all (send_carries may_serve) ss) h))
+legal-service : (here c : Node) (d : Definition) (back : Node) (ss : List (ℕ × CommitMsg Batch)) → nat_le (length c) 11 ≡ true → IsTrue (definition.fits d) → AllCarry may_serve ss → are_legal (service_sends here c d back ss) ≡ true
+legal-service here c d back [] l w h = refl
+legal-service here c d back (s ∷ ss) l w h =
+    rw (l, short-service_on d here w, short-service_on d (node_or d.members back s.0) w, and_left (send_carries may_serve s) (list_all (send_carries may_serve) ss) h, legal-service here c d back ss l w (and_right (send_carries may_serve s) (list_all (send_carries may_serve) ss) h))
 
 legal-append : (xs ys : List Outgoing) → are_legal xs ≡ true → are_legal ys ≡ true → are_legal (xs ++ ys) ≡ true
 legal-append [] ys h k = k
 legal-append (x ∷ xs) ys h k = rw (and_left (is_legal x.message) (are_legal xs) h, legal-append xs ys (and_right (is_legal x.message) (are_legal xs) h) k)
 
-served-legal : (here c : Node) (d : Definition) (m : Mark) (turn : ℕ) (a : Member Act) (b : Member Batch) (back : Node) (e : GroupEvent Batch) → IsValid here c (Held d m turn a b) → Brings may_serve e → are_legal (service_sends here c d back (service_row here d b e).sends) ≡ true
-served-legal here c d m turn a b back e v brings = legal-service here c d back (service_row here d b e).sends (carry-row may_serve (service_group d) (position d.members here) b e v.kept.legal brings)
+acted-legal : (here c : Node) (d : Definition) (a : Member Act) (back : Node) (e : GroupEvent Act) → IsNamed here c → AllMeet has_form a → Brings has_form e → are_legal (admin_sends c d back (admin_row here d a e).sends) ≡ true
+acted-legal here c d a back e n f brings = legal-admin c d back (admin_row here d a e).sends (short-circuit here c n) (carry-row has_form (admin_group d) (position d.members here) a e f.pending brings)
 
-pub legal-planned : (here c : Node) (k : Cell) (deed : Deed) → IsValid here c k → FitsDeed here c k deed → are_legal (planned here c deed).sends ≡ true
-legal-planned here c k (Refuses r) s f = refl
-legal-planned here c k (Tells a) s f = refl
-legal-planned here c k (Replies n to m) s f = rw f
-legal-planned here c k (Binds say d back e) s f = legal-admin c d back (admin_row here d new_member e).sends
-legal-planned here c k (Acts say d a back e) s f = legal-admin c d back (admin_row here d a e).sends
-legal-planned here c k (Serves say d b back e) s f = served-legal here c d f.mark f.turn f.acts b back e (subst (IsValid here c) f.held s) f.brings
-legal-planned here c k (Turns d a b x y) s f = legal-append (admin_sends c d here (admin_row here d a x).sends) (service_sends here c d here (service_row here d b y).sends) (legal-admin c d here (admin_row here d a x).sends) (served-legal here c d f.mark f.turn a b here y (subst (IsValid here c) f.held s) f.brings)
-legal-planned here c k Abandons s f = refl
-legal-planned here c k Purges s f = refl
+served-legal : (here c : Node) (d : Definition) (m : Mark) (turn : ℕ) (a : Member Act) (b : Member Batch) (back : Node) (e : GroupEvent Batch) → IsNamed here c → IsValid here c (Held d m turn a b) → Brings may_serve e → are_legal (service_sends here c d back (service_row here d b e).sends) ≡ true
+served-legal here c d m turn a b back e n v brings = legal-service here c d back (service_row here d b e).sends (short-circuit here c n) v.kept.defined (carry-row may_serve (service_group d) (position d.members here) b e v.kept.lawful.pending brings)
+
+pub legal-planned : (here c : Node) (k : Cell) (deed : Deed) → IsNamed here c → IsValid here c k → FitsDeed here c k deed → are_legal (planned here c deed).sends ≡ true
+legal-planned here c k (Refuses r) n s f = refl
+legal-planned here c k (Tells a) n s f = refl
+legal-planned here c k (Replies note to m) n s f = rw f
+legal-planned here c k (Binds say d back e) n s f = acted-legal here c d new_member back e n (meets-new has_form) f.brings
+legal-planned here c k (Acts say d a back e) n s f = acted-legal here c d a back e n (subst (IsValid here c) f.held s).kept.formed f.brings
+legal-planned here c k (Serves say d b back e) n s f = served-legal here c d f.mark f.turn f.acts b back e n (subst (IsValid here c) f.held s) f.brings
+legal-planned here c k (Turns d a b x y) n s f =
+    let v : IsValid here c (Held d f.mark f.turn a b) = subst (IsValid here c) f.held s in
+    legal-append (admin_sends c d here (admin_row here d a x).sends) (service_sends here c d here (service_row here d b y).sends) (acted-legal here c d a here x n v.kept.formed f.asks) (served-legal here c d f.mark f.turn a b here y n v f.brings)
+legal-planned here c k Abandons n s f = refl
+legal-planned here c k Purges n s f = refl

@@ -99,8 +99,8 @@ module _ {V : Type 0} (f : Form V) where
   writes-packed m s = (
     and_true (long.fits m.next) (long.fits (seen_without m.promise m.seen)) s.next (writes-seen m.promise m.seen s.seen),
     writes-append (kept_each m.refused) _ (writes-kept m.refused s.refused)
-    (writes-append (committed_each m.history) _ (writes-committed m.history s.history)
-    (writes-append (queued_each m.pending) _ (writes-queued m.pending s.pending) (writes-promised m.promise s.promise))),
+        (writes-append (committed_each m.history) _ (writes-committed m.history s.history)
+        (writes-append (queued_each m.pending) _ (writes-queued m.pending s.pending) (writes-promised m.promise s.promise))),
   )
 
 -- ---- a cell

@@ -1,5 +1,5 @@
 -- What a cell keeps whatever happens there (docs/RULES.md, Cells).
-use Rattle.std.specs.Prelude.{◌≡◌, ℕ, Bool, true, false, List, [], Some, None}
+use Rattle.std.specs.Prelude.{◌≡◌, ℕ, Bool, true, false, ◌&&◌, nat_le, IsTrue, List, [], length, Some, None}
 use Rattle.std.specs.List.{list_all}
 use Rattle.std.specs.Str.{bytes_eq}
 use Rattle.spl_agree.specs.declared.event.OpenMove.{OpenMove}
@@ -11,6 +11,7 @@ use Rattle.spl_agree.specs.Fits.{AllGood, IsRoomy, IsSettled, FitsMove}
 use Rattle.spl_circuit.specs.declared.definition.Definition.{Definition}
 use Rattle.spl_circuit.specs.declared.act.Act.{Act}
 use Rattle.spl_circuit.specs.declared.lifecycle.Mark.{Mark}
+use Rattle.spl_circuit.specs.Forms.{node_id, circuit_id, definition}
 use Rattle.spl_circuit.specs.Nodes.{Node, position}
 use Rattle.spl_circuit.specs.Rules.{broken, is_member}
 use Rattle.spl_circuit.specs.Acts.{act_rules}
@@ -21,7 +22,9 @@ use Rattle.spl_wire.specs.declared.message.Message.TheVariants as message
 use Rattle.spl_wire.specs.declared.plan.Outgoing.{Outgoing}
 use Rattle.spl_wire.specs.declared.event.Event.{Event}
 use Rattle.spl_wire.specs.declared.event.Event.TheVariants as event
+use Rattle.spl_wire.specs.declared.change.Change.{Change}
 use Rattle.spl_wire.specs.Messages.{circuit_of}
+use Rattle.spl_wire.specs.Bounds.{has_form, is_formed}
 use Rattle.spl_rules.specs.Cells.{Cell, Empty, Held, Purged, admin_group, service_group, is_open, runs}
 use Rattle.spl_rules.specs.Changes.{may_serve}
 
@@ -31,15 +34,24 @@ pub record IsKeptMember {V : Type 0} (rules : Rules V) (a : Member V) : Type 0 w
   pub promised : (e : ℕ × V) → a.promise ≡ Some e → rules.check (values a.history) e.1 ≡ None
   pub roomy : IsRoomy a
 
--- a bound cell: its definition is valid and the circuit's own, and the node is a member; what it keeps of each group; the
--- pending batches break no rule; what was abandoned is active
+-- each value that a member keeps meets a test
+pub record AllMeet {V : Type 0} (may : V → Bool) (a : Member V) : Type 0 where
+  pub history : list_all may (values a.history) ≡ true
+  pub pending : list_all may a.pending ≡ true
+  pub refused : list_all (λ u. may u.0) a.refused ≡ true
+  pub promise : (e : ℕ × V) → a.promise ≡ Some e → may e.1 ≡ true
+
+-- a bound cell: its definition is valid, has a byte form and is the circuit's own, and the node is a member; what it keeps
+-- of each group; its acts have byte forms, and its batches break no rule; what was abandoned is active
 pub record IsHeld (here c : Node) (d : Definition) (m : Mark) (a : Member Act) (b : Member Batch) : Type 0 where
   pub ruled : broken d ≡ None
+  pub defined : IsTrue (definition.fits d)
   pub own : bytes_eq d.id c ≡ true
   pub member : is_member d here ≡ true
   pub acts : IsKeptMember (act_rules d) a
   pub batches : IsKeptMember batch_rules b
-  pub legal : list_all may_serve b.pending ≡ true
+  pub formed : AllMeet has_form a
+  pub lawful : AllMeet may_serve b
   pub closed : is_open m ≡ false → runs d a ≡ true
 
 abbrev pub IsKept : Node → Node → Cell → Type 0
@@ -81,19 +93,29 @@ carries may (msg.DecisionRequest gen r) = true
 carries may (msg.Forward gen v) = may v
 carries may (msg.Refused gen v why) = may v
 
--- no batch in the message breaks a rule
+-- a message that a cell may hear: its ids aren't longer than a byte form has them, and the act in it has a byte form, or
+-- the batch in it breaks no rule
 abbrev pub is_legal : Message → Bool
-is_legal (message.Admin c x) = true
-is_legal (message.Scabbard c s t x) = carries may_serve x
+is_legal (message.Admin c x) = nat_le (length c) 11 && carries has_form x
+is_legal (message.Scabbard c s t x) = nat_le (length c) 11 && (nat_le (length s) 4 && (nat_le (length t) 4 && carries may_serve x))
 
 -- each message of a plan
 abbrev pub are_legal : List Outgoing → Bool
 are_legal os = list_all (λ o. is_legal o.message) os
 
--- an event at the circuit's cell: what is proposed has its id; a message is about it, comes from another node, and has no
--- batch that breaks a rule
+-- the definitions and the acts in changes have byte forms
+abbrev pub are_formed : List Change → Bool
+are_formed xs = list_all is_formed xs
+
+-- the ids of the node and of the circuit have byte forms
+pub record IsNamed (here c : Node) : Type 0 where
+  pub node : IsTrue (node_id.fits here)
+  pub circuit : IsTrue (circuit_id.fits c)
+
+-- an event at the circuit's cell: what is proposed has its id, and a byte form; a message is about it, comes from another
+-- node, and is one that a cell may hear
 abbrev pub IsFor : Node → Node → Event → Type 0
-IsFor here c (event.Propose d) = bytes_eq d.id c ≡ true
+IsFor here c (event.Propose d) = (bytes_eq d.id c ≡ true) × IsTrue (definition.fits d)
 IsFor here c (event.Vote accept) = Unit {0}
 IsFor here c event.Remove = Unit {0}
 IsFor here c event.Abandon = Unit {0}

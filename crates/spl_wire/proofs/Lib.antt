@@ -3,3 +3,4 @@ pub mod Short
 pub mod Small
 pub mod Sizes
 pub mod Packs
+pub mod Bounds

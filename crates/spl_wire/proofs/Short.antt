@@ -9,6 +9,7 @@ use Rattle.spl_base.specs.Form.{Form, number, number_bytes, raw, text, ◌&◌, 
 use Rattle.spl_base.specs.FormLaws.{IsWide, wide8, wide16, wide32, wide64, both_true}
 use Rattle.spl_circuit.specs.Forms.{node_id, label, service_id, circuit_id, byte, word, service, lists, definition, kind, act}
 use Rattle.spl_circuit.specs.declared.act.ActKind.TheVariants.{Propose, Accept, Reject, Remove}
+use Rattle.spl_agree.specs.declared.reason.Reason.{Reason}
 use Rattle.spl_wire.specs.Bodies.{reason}
 
 -- what has a spelling has a short one
@@ -51,13 +52,13 @@ short-word = short-number w32 (2 ^ 32) wide32
 pub short-long : (n : ℕ) → length (number_bytes w64 n) ≡ 8
 short-long n = wide64.len n
 
-short-node_id : IsShort node_id 34
+pub short-node_id : IsShort node_id 34
 short-node_id = short-text 32 _
 
 short-label : IsShort label 130
 short-label = short-text 128 _
 
-short-service : IsShort service 168
+pub short-service : IsShort service 168
 short-service x h = short-and service_id (label & node_id) 4 164 (short-raw 4 _) (short-and label node_id 130 34 short-label short-node_id) (x.id, (x.kind, x.node)) h
 
 pub short-definition : IsShort definition 3512
@@ -70,7 +71,7 @@ short-definition x h =
     (short-and (list_of 16 node_id) (list_of 16 service) 546 2690 (short-list 16 node_id 34 short-node_id) (short-list 16 service 168 short-service))))))
     (x.id, (x.generation, (x.version, (x.management, (x.name, (x.members, x.services)))))) h
 
-short-kind : IsShort kind 3513
+pub short-kind : IsShort kind 3513
 short-kind (Propose d) h =
     let b = both_true (nat_lt 1 256) (definition.fits d) h in
     omega (arith, short-definition d b.1, wide8.len 1, length-append (number_bytes w8 1) (definition.spell d))
@@ -84,5 +85,5 @@ short-act x h = short-and node_id (word & kind) 34 3517 short-node_id (short-and
 pub short-circuit_id : IsShort circuit_id 11
 short-circuit_id = short-raw 11 _
 
-pub short-reason : IsShort reason 2
-short-reason x h = short-and byte byte 1 1 short-byte short-byte (x.code, x.at) h
+pub short-reason : (r : Reason) → length (reason.spell r) ≡ 2
+short-reason r = omega (arith, wide8.len r.code, wide8.len r.at, length-append (number_bytes w8 r.code) (number_bytes w8 r.at))

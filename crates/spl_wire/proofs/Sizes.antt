@@ -11,7 +11,7 @@ use Rattle.spl_agree.proofs.Tests.{bool_cases}
 use Rattle.spl_wire.specs.Changes.{kinds, kind_of, change_form}
 use Rattle.spl_wire.specs.Grouping.{most_bytes, record_size}
 
-size-of : (c : List ℕ) (xs : List Change) → record_size c xs ≡ length c + 2 + length (flat_map change_form.spell xs)
+pub size-of : (c : List ℕ) (xs : List Change) → record_size c xs ≡ length c + 2 + length (flat_map change_form.spell xs)
 size-of c xs =
     let spelled = flat_map change_form.spell xs in
     omega (arith, wide16.len (length xs), length-append c (number_bytes w16 (length xs) ++ spelled), length-append (number_bytes w16 (length xs)) spelled)

@@ -1,18 +1,19 @@
 -- A change that has a spelling makes a small record where its batch breaks no rule.
-use Rattle.std.proofs.Common.{◌≡◌, ℕ, zero, suc, ◌+◌, ◌≤◌, Bool, true, false, IsTrue, List, [], ◌∷◌, ◌++◌, get_or, length, length-append, refl, subst, arith}
+use Rattle.std.proofs.Common.{◌≡◌, ℕ, ◌+◌, ◌≤◌, true, IsTrue, List, [], ◌∷◌, ◌++◌, length, length-append, refl, subst, arith}
 use Rattle.std.specs.Int.{w8, w16, w64}
 use Rattle.std.specs.Prelude.{Option, Some, None, nat_le, is_none}
 use Rattle.std.proofs.lemmas.Bool.{leb-true}
 use Rattle.std.proofs.lemmas.Bool.Decides.{nat_tests}
 use Rattle.spl_base.specs.Form.{Form, number_bytes}
 use Rattle.spl_base.specs.FormLaws.{wide8, wide16, both_true}
+use Rattle.spl_base.specs.Rules.{test_at}
 use Rattle.spl_agree.specs.declared.event.GroupChange.{GroupChange}
 use Rattle.spl_agree.specs.declared.event.GroupChange.TheVariants.{Queue, Refuse, Begin, Seen, Promise, Abort, Commit, Restore, Kept}
 use Rattle.spl_circuit.specs.declared.act.Act.{Act}
 use Rattle.spl_circuit.specs.Forms.{circuit_id, definition, word, act}
 use Rattle.spl_command.specs.declared.batch.Batch.{Batch}
 use Rattle.spl_command.specs.Forms.{batch}
-use Rattle.spl_command.specs.Rules.{first_false, rules_of, size_of, broken_batch}
+use Rattle.spl_command.specs.Rules.{rules_of, size_of, broken_batch}
 use Rattle.spl_wire.specs.Bodies.{long, reason}
 use Rattle.spl_wire.specs.Changes.{fields_of, fields, tag_of, fits_change, change_form}
 use Rattle.spl_wire.specs.Forms.{record_form}
@@ -21,18 +22,11 @@ use Rattle.spl_wire.specs.declared.change.Change.TheVariants.{Bind, Admin, Servi
 use Rattle.spl_wire.specs.Grouping.{most_bytes, record_of, record_size, value_in, breaks_no_rule, is_lawful, is_small}
 use Rattle.spl_wire.proofs.Short.{short-word, short-long, short-definition, short-act, short-circuit_id, short-reason}
 
--- each test is passed where none is the first that fails
-test_at : (k n : ℕ) (bs : List Bool) → first_false n bs ≡ None → IsTrue (get_or bs k true)
-test_at k n [] e = refl
-test_at zero n (true ∷ bs) e = refl
-test_at (suc k) n (true ∷ bs) e = test_at k (n + 1) bs e
-test_at k n (false ∷ bs) e = absurd cc
-
-none_is : {A : Type 0} (o : Option A) → is_none o ≡ true → o ≡ None
+pub none_is : {A : Type 0} (o : Option A) → is_none o ≡ true → o ≡ None
 none_is None h = refl
 none_is (Some x) h = cc
 
-short-batch : (b : Batch) → is_none (broken_batch b) ≡ true → length (batch.spell b) ≤ 8192
+pub short-batch : (b : Batch) → is_none (broken_batch b) ≡ true → length (batch.spell b) ≤ 8192
 short-batch b h = leb-true (size_of b) 8192 (test_at 5 1 (rules_of b) (none_is (broken_batch b) h))
 
 module _ {V : Type 0} (f : Form V) where
@@ -49,25 +43,25 @@ module _ {V : Type 0} (f : Form V) where
   value-fits (Kept u why) v h e = let same : u ≡ v = cc in subst (λ z. IsTrue (f.fits z)) same (both_true (f.fits u) (reason.fits why) h).0
 
   -- the fields are little longer than the value
-  short-fields : (most : ℕ) (x : GroupChange V) → IsTrue (fits_change f x) → ((v : V) → value_in x ≡ Some v → length (f.spell v) ≤ most) → length ((fields f).spell (fields_of x)) ≤ most + 16
-  short-fields most (Queue v) h s = omega (arith, s v refl)
-  short-fields most (Refuse v why) h s = omega (arith, s v refl, short-reason why (both_true (f.fits v) (reason.fits why) h).1, length-append (f.spell v) (reason.spell why))
-  short-fields most (Begin n) h s = omega (arith, short-long n)
-  short-fields most (Seen n) h s = omega (arith, short-long n)
-  short-fields most (Promise n v) h s = omega (arith, s v refl, short-long n, length-append (number_bytes w64 n) (f.spell v))
-  short-fields most Abort h s = omega arith
-  short-fields most (Commit n v) h s = omega (arith, s v refl, short-long n, length-append (number_bytes w64 n) (f.spell v))
-  short-fields most (Restore n t) h s = omega (arith, short-long n, short-long t, length-append (number_bytes w64 n) (number_bytes w64 t))
-  short-fields most (Kept v why) h s = omega (arith, s v refl, short-reason why (both_true (f.fits v) (reason.fits why) h).1, length-append (f.spell v) (reason.spell why))
+  short-fields : (most : ℕ) (x : GroupChange V) → ((v : V) → value_in x ≡ Some v → length (f.spell v) ≤ most) → length ((fields f).spell (fields_of x)) ≤ most + 16
+  short-fields most (Queue v) s = omega (arith, s v refl)
+  short-fields most (Refuse v why) s = omega (arith, s v refl, short-reason why, length-append (f.spell v) (reason.spell why))
+  short-fields most (Begin n) s = omega (arith, short-long n)
+  short-fields most (Seen n) s = omega (arith, short-long n)
+  short-fields most (Promise n v) s = omega (arith, s v refl, short-long n, length-append (number_bytes w64 n) (f.spell v))
+  short-fields most Abort s = omega arith
+  short-fields most (Commit n v) s = omega (arith, s v refl, short-long n, length-append (number_bytes w64 n) (f.spell v))
+  short-fields most (Restore n t) s = omega (arith, short-long n, short-long t, length-append (number_bytes w64 n) (number_bytes w64 t))
+  short-fields most (Kept v why) s = omega (arith, s v refl, short-reason why, length-append (f.spell v) (reason.spell why))
 
-  short-group : (most tag group : ℕ) (x : GroupChange V) → IsTrue (fits_change f x) → ((v : V) → value_in x ≡ Some v → length (f.spell v) ≤ most) → length (number_bytes w8 tag ++ (number_bytes w8 group ++ (fields f).spell (fields_of x))) ≤ most + 18
-  short-group most tag group x h s =
+  pub short-group : (most tag group : ℕ) (x : GroupChange V) → ((v : V) → value_in x ≡ Some v → length (f.spell v) ≤ most) → length (number_bytes w8 tag ++ (number_bytes w8 group ++ (fields f).spell (fields_of x))) ≤ most + 18
+  short-group most tag group x s =
       let spelled = (fields f).spell (fields_of x) in
-      omega (arith, short-fields most x h s, wide8.len tag, wide8.len group, length-append (number_bytes w8 tag) (number_bytes w8 group ++ spelled), length-append (number_bytes w8 group) spelled)
+      omega (arith, short-fields most x s, wide8.len tag, wide8.len group, length-append (number_bytes w8 tag) (number_bytes w8 group ++ spelled), length-append (number_bytes w8 group) spelled)
 
 -- ---- all changes
 
-spelled-admin : (x : GroupChange Act) → change_form.spell (Admin x) ≡ number_bytes w8 (tag_of x) ++ (number_bytes w8 1 ++ (fields act).spell (fields_of x))
+pub spelled-admin : (x : GroupChange Act) → change_form.spell (Admin x) ≡ number_bytes w8 (tag_of x) ++ (number_bytes w8 1 ++ (fields act).spell (fields_of x))
 spelled-admin (Queue v) = refl
 spelled-admin (Refuse v why) = refl
 spelled-admin (Begin n) = refl
@@ -78,7 +72,7 @@ spelled-admin (Commit n v) = refl
 spelled-admin (Restore n s) = refl
 spelled-admin (Kept v why) = refl
 
-spelled-service : (x : GroupChange Batch) → change_form.spell (Service x) ≡ number_bytes w8 (tag_of x) ++ (number_bytes w8 2 ++ (fields batch).spell (fields_of x))
+pub spelled-service : (x : GroupChange Batch) → change_form.spell (Service x) ≡ number_bytes w8 (tag_of x) ++ (number_bytes w8 2 ++ (fields batch).spell (fields_of x))
 spelled-service (Queue v) = refl
 spelled-service (Refuse v why) = refl
 spelled-service (Begin n) = refl
@@ -111,20 +105,20 @@ fits-service (Commit n v) h = h
 fits-service (Restore n s) h = h
 fits-service (Kept v why) h = h
 
-lawful-value : (o : Option Batch) (b : Batch) → breaks_no_rule o ≡ true → o ≡ Some b → is_none (broken_batch b) ≡ true
+pub lawful-value : (o : Option Batch) (b : Batch) → breaks_no_rule o ≡ true → o ≡ Some b → is_none (broken_batch b) ≡ true
 lawful-value (Some u) b h e = let same : u ≡ b = cc in subst (λ (z : Batch). is_none (broken_batch z) ≡ true) same h
 lawful-value None b h e = cc
 
 short-change : (x : Change) → IsTrue (change_form.fits x) → is_lawful x ≡ true → length (change_form.spell x) ≤ 8210
 short-change (Bind d) h l = omega (arith, short-definition d h, wide8.len 1, length-append (number_bytes w8 1) (definition.spell d))
-short-change (Admin x) h l = rw (spelled-admin x) (omega (arith, short-group act 3551 (tag_of x) 1 x (fits-admin x h) (λ v e. short-act v (value-fits act x v (fits-admin x h) e))))
-short-change (Service x) h l = rw (spelled-service x) (short-group batch 8192 (tag_of x) 2 x (fits-service x h) (λ v e. short-batch v (lawful-value (value_in x) v l e)))
+short-change (Admin x) h l = rw (spelled-admin x) (omega (arith, short-group act 3551 (tag_of x) 1 x (λ v e. short-act v (value-fits act x v (fits-admin x h) e))))
+short-change (Service x) h l = rw (spelled-service x) (short-group batch 8192 (tag_of x) 2 x (λ v e. short-batch v (lawful-value (value_in x) v l e)))
 short-change Abandon h l = omega (arith, wide8.len 9, length-append (number_bytes w8 9) [])
 short-change Purge h l = omega (arith, wide8.len 10, length-append (number_bytes w8 10) [])
 short-change (Turn n) h l = omega (arith, short-word n h, wide8.len 13, length-append (number_bytes w8 13) (word.spell n))
 short-change (Gone n) h l = omega (arith, short-word n h, wide8.len 14, length-append (number_bytes w8 14) (word.spell n))
 
-le_is : (a b : ℕ) → a ≤ b → nat_le a b ≡ true
+pub le_is : (a b : ℕ) → a ≤ b → nat_le a b ≡ true
 le_is a b h = grind (arith, nat_tests)
 
 pub small-change : (c : List ℕ) (x : Change) → IsTrue (record_form.fits (record_of c (x ∷ []))) → is_lawful x ≡ true → is_small c x ≡ true

@@ -64,9 +64,13 @@ value_in (Commit r v) = Some v
 value_in (Restore next seen) = None
 value_in (Kept v why) = Some v
 
+-- the value, if there is one, meets a test
+abbrev pub meets : {V : Type 0} → (V → Bool) → Option V → Bool
+meets may None = true
+meets may (Some v) = may v
+
 abbrev pub breaks_no_rule : Option Batch → Bool
-breaks_no_rule None = true
-breaks_no_rule (Some b) = is_none (broken_batch b)
+breaks_no_rule o = meets (λ b. is_none (broken_batch b)) o
 
 -- the batch in it, if there is one, breaks no rule
 abbrev pub is_lawful : Change → Bool

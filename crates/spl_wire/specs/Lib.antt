@@ -4,3 +4,4 @@ pub mod Changes
 pub mod Forms
 pub mod Grouping
 pub mod Packing
+pub mod Bounds

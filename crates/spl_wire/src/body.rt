@@ -11,15 +11,15 @@ pub(crate) fn put_reason(why: Reason, w: &mut Writer) -> Result<(), AllocError>
     ensures ok { OnOk result (w.new ≡ w.old ++ form.reason.spell why) }
     ensures fits { OnOk result (IsTrue (form.reason.fits why)) }
 {
-    why.code.put(w)?;
-    why.at.put(w)
+    why.code.put_parts(w)?;
+    why.at.put_parts(w)
 }
 
 pub(crate) fn take_reason(alloc: Global, r: &mut Reader) -> Result<Reason, Malformed>
     ensures { Reads (λ x. x) result r.new (form.reason.parse r.old) }
 {
-    let code = u8::take(alloc, r)?;
-    let at = u8::take(alloc, r)?;
+    let code = u8::take_parts(alloc, r)?;
+    let at = u8::take_parts(alloc, r)?;
     Ok(Reason { code, at })
 }
 
@@ -36,50 +36,50 @@ pub(crate) fn put_body<V: Field>(message: &CommitMsg<V>, w: &mut Writer) -> Resu
             place,
             value,
         } => {
-            1u8.put(w)?;
-            generation.0.put(w)?;
-            round.0.put(w)?;
-            place.0.put(w)?;
-            value.put(w)
+            1u8.put_parts(w)?;
+            generation.0.put_parts(w)?;
+            round.0.put_parts(w)?;
+            place.0.put_parts(w)?;
+            value.put_parts(w)
         }
         CommitMsg::Vote {
             generation,
             round,
             yes,
         } => {
-            2u8.put(w)?;
-            generation.0.put(w)?;
-            round.0.put(w)?;
-            yes.put(w)
+            2u8.put_parts(w)?;
+            generation.0.put_parts(w)?;
+            round.0.put_parts(w)?;
+            yes.put_parts(w)
         }
         CommitMsg::Decision {
             generation,
             round,
             commit,
         } => {
-            3u8.put(w)?;
-            generation.0.put(w)?;
-            round.0.put(w)?;
-            commit.put(w)
+            3u8.put_parts(w)?;
+            generation.0.put_parts(w)?;
+            round.0.put_parts(w)?;
+            commit.put_parts(w)
         }
         CommitMsg::DecisionRequest { generation, round } => {
-            4u8.put(w)?;
-            generation.0.put(w)?;
-            round.0.put(w)
+            4u8.put_parts(w)?;
+            generation.0.put_parts(w)?;
+            round.0.put_parts(w)
         }
         CommitMsg::Forward { generation, value } => {
-            5u8.put(w)?;
-            generation.0.put(w)?;
-            value.put(w)
+            5u8.put_parts(w)?;
+            generation.0.put_parts(w)?;
+            value.put_parts(w)
         }
         CommitMsg::Refused {
             generation,
             value,
             reason,
         } => {
-            6u8.put(w)?;
-            generation.0.put(w)?;
-            value.put(w)?;
+            6u8.put_parts(w)?;
+            generation.0.put_parts(w)?;
+            value.put_parts(w)?;
             put_reason(*reason, w)
         }
     }
@@ -90,12 +90,12 @@ pub(crate) fn take_body<V: Field>(alloc: Global, r: &mut Reader) -> Result<Commi
     ensures { Reads (λ x. x) result r.new ((form.body V.form).parse r.old) }
 {
     let at = r.place();
-    match u8::take(alloc, r)? {
+    match u8::take_parts(alloc, r)? {
         1 => {
-            let generation = Generation(u32::take(alloc, r)?);
-            let round = Round(u64::take(alloc, r)?);
-            let place = Place(u32::take(alloc, r)?);
-            let value = V::take(alloc, r)?;
+            let generation = Generation(u32::take_parts(alloc, r)?);
+            let round = Round(u64::take_parts(alloc, r)?);
+            let place = Place(u32::take_parts(alloc, r)?);
+            let value = V::take_parts(alloc, r)?;
             Ok(CommitMsg::VoteRequest {
                 generation,
                 round,
@@ -104,9 +104,9 @@ pub(crate) fn take_body<V: Field>(alloc: Global, r: &mut Reader) -> Result<Commi
             })
         }
         2 => {
-            let generation = Generation(u32::take(alloc, r)?);
-            let round = Round(u64::take(alloc, r)?);
-            let yes = bool::take(alloc, r)?;
+            let generation = Generation(u32::take_parts(alloc, r)?);
+            let round = Round(u64::take_parts(alloc, r)?);
+            let yes = bool::take_parts(alloc, r)?;
             Ok(CommitMsg::Vote {
                 generation,
                 round,
@@ -114,9 +114,9 @@ pub(crate) fn take_body<V: Field>(alloc: Global, r: &mut Reader) -> Result<Commi
             })
         }
         3 => {
-            let generation = Generation(u32::take(alloc, r)?);
-            let round = Round(u64::take(alloc, r)?);
-            let commit = bool::take(alloc, r)?;
+            let generation = Generation(u32::take_parts(alloc, r)?);
+            let round = Round(u64::take_parts(alloc, r)?);
+            let commit = bool::take_parts(alloc, r)?;
             Ok(CommitMsg::Decision {
                 generation,
                 round,
@@ -124,18 +124,18 @@ pub(crate) fn take_body<V: Field>(alloc: Global, r: &mut Reader) -> Result<Commi
             })
         }
         4 => {
-            let generation = Generation(u32::take(alloc, r)?);
-            let round = Round(u64::take(alloc, r)?);
+            let generation = Generation(u32::take_parts(alloc, r)?);
+            let round = Round(u64::take_parts(alloc, r)?);
             Ok(CommitMsg::DecisionRequest { generation, round })
         }
         5 => {
-            let generation = Generation(u32::take(alloc, r)?);
-            let value = V::take(alloc, r)?;
+            let generation = Generation(u32::take_parts(alloc, r)?);
+            let value = V::take_parts(alloc, r)?;
             Ok(CommitMsg::Forward { generation, value })
         }
         6 => {
-            let generation = Generation(u32::take(alloc, r)?);
-            let value = V::take(alloc, r)?;
+            let generation = Generation(u32::take_parts(alloc, r)?);
+            let value = V::take_parts(alloc, r)?;
             let reason = take_reason(alloc, r)?;
             Ok(CommitMsg::Refused {
                 generation,

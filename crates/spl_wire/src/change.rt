@@ -32,7 +32,7 @@ pub enum Change {
 fn take_refused<V: Field>(alloc: Global, r: &mut Reader) -> Result<(V, Reason), Malformed>
     ensures { Reads (λ x. x) result r.new ((V.form & form.reason).parse r.old) }
 {
-    let value = V::take(alloc, r)?;
+    let value = V::take_parts(alloc, r)?;
     let reason = take_reason(alloc, r)?;
     Ok((value, reason))
 }
@@ -40,8 +40,8 @@ fn take_refused<V: Field>(alloc: Global, r: &mut Reader) -> Result<(V, Reason), 
 fn take_rounded<V: Field>(alloc: Global, r: &mut Reader) -> Result<(u64, V), Malformed>
     ensures { Reads (λ x. x) result r.new ((form.long & V.form).parse r.old) }
 {
-    let round = u64::take(alloc, r)?;
-    let value = V::take(alloc, r)?;
+    let round = u64::take_parts(alloc, r)?;
+    let value = V::take_parts(alloc, r)?;
     Ok((round, value))
 }
 
@@ -62,52 +62,52 @@ impl Change {
     {
         match change {
             GroupChange::Queue(value) => {
-                2u8.put(w)?;
-                group.put(w)?;
-                value.put(w)
+                2u8.put_parts(w)?;
+                group.put_parts(w)?;
+                value.put_parts(w)
             }
             GroupChange::Refuse(value, reason) => {
-                3u8.put(w)?;
-                group.put(w)?;
-                value.put(w)?;
+                3u8.put_parts(w)?;
+                group.put_parts(w)?;
+                value.put_parts(w)?;
                 put_reason(*reason, w)
             }
             GroupChange::Begin(round) => {
-                4u8.put(w)?;
-                group.put(w)?;
-                round.0.put(w)
+                4u8.put_parts(w)?;
+                group.put_parts(w)?;
+                round.0.put_parts(w)
             }
             GroupChange::Seen(round) => {
-                5u8.put(w)?;
-                group.put(w)?;
-                round.0.put(w)
+                5u8.put_parts(w)?;
+                group.put_parts(w)?;
+                round.0.put_parts(w)
             }
             GroupChange::Promise(round, value) => {
-                6u8.put(w)?;
-                group.put(w)?;
-                round.0.put(w)?;
-                value.put(w)
+                6u8.put_parts(w)?;
+                group.put_parts(w)?;
+                round.0.put_parts(w)?;
+                value.put_parts(w)
             }
             GroupChange::Abort => {
-                7u8.put(w)?;
-                group.put(w)
+                7u8.put_parts(w)?;
+                group.put_parts(w)
             }
             GroupChange::Commit(round, value) => {
-                8u8.put(w)?;
-                group.put(w)?;
-                round.0.put(w)?;
-                value.put(w)
+                8u8.put_parts(w)?;
+                group.put_parts(w)?;
+                round.0.put_parts(w)?;
+                value.put_parts(w)
             }
             GroupChange::Restore { next, seen } => {
-                11u8.put(w)?;
-                group.put(w)?;
-                next.0.put(w)?;
-                seen.0.put(w)
+                11u8.put_parts(w)?;
+                group.put_parts(w)?;
+                next.0.put_parts(w)?;
+                seen.0.put_parts(w)
             }
             GroupChange::Kept(value, reason) => {
-                12u8.put(w)?;
-                group.put(w)?;
-                value.put(w)?;
+                12u8.put_parts(w)?;
+                group.put_parts(w)?;
+                value.put_parts(w)?;
                 put_reason(*reason, w)
             }
         }
@@ -117,9 +117,9 @@ impl Change {
         ensures { Reads (λ x. x) result r.new (behind_tag 2 r.old) }
     {
         let at = r.place();
-        match u8::take(alloc, r)? {
-            1 => Ok(Change::Admin(GroupChange::Queue(Act::take(alloc, r)?))),
-            2 => Ok(Change::Service(GroupChange::Queue(Batch::take(alloc, r)?))),
+        match u8::take_parts(alloc, r)? {
+            1 => Ok(Change::Admin(GroupChange::Queue(Act::take_parts(alloc, r)?))),
+            2 => Ok(Change::Service(GroupChange::Queue(Batch::take_parts(alloc, r)?))),
             _ => Err(Malformed::At { at }),
         }
     }
@@ -128,7 +128,7 @@ impl Change {
         ensures { Reads (λ x. x) result r.new (behind_tag 3 r.old) }
     {
         let at = r.place();
-        match u8::take(alloc, r)? {
+        match u8::take_parts(alloc, r)? {
             1 => {
                 let (value, reason) = take_refused(alloc, r)?;
                 Ok(Change::Admin(GroupChange::Refuse(value, reason)))
@@ -145,9 +145,9 @@ impl Change {
         ensures { Reads (λ x. x) result r.new (behind_tag 4 r.old) }
     {
         let at = r.place();
-        match u8::take(alloc, r)? {
-            1 => Ok(Change::Admin(GroupChange::Begin(Round(u64::take(alloc, r)?)))),
-            2 => Ok(Change::Service(GroupChange::Begin(Round(u64::take(alloc, r)?)))),
+        match u8::take_parts(alloc, r)? {
+            1 => Ok(Change::Admin(GroupChange::Begin(Round(u64::take_parts(alloc, r)?)))),
+            2 => Ok(Change::Service(GroupChange::Begin(Round(u64::take_parts(alloc, r)?)))),
             _ => Err(Malformed::At { at }),
         }
     }
@@ -156,9 +156,9 @@ impl Change {
         ensures { Reads (λ x. x) result r.new (behind_tag 5 r.old) }
     {
         let at = r.place();
-        match u8::take(alloc, r)? {
-            1 => Ok(Change::Admin(GroupChange::Seen(Round(u64::take(alloc, r)?)))),
-            2 => Ok(Change::Service(GroupChange::Seen(Round(u64::take(alloc, r)?)))),
+        match u8::take_parts(alloc, r)? {
+            1 => Ok(Change::Admin(GroupChange::Seen(Round(u64::take_parts(alloc, r)?)))),
+            2 => Ok(Change::Service(GroupChange::Seen(Round(u64::take_parts(alloc, r)?)))),
             _ => Err(Malformed::At { at }),
         }
     }
@@ -167,7 +167,7 @@ impl Change {
         ensures { Reads (λ x. x) result r.new (behind_tag 6 r.old) }
     {
         let at = r.place();
-        match u8::take(alloc, r)? {
+        match u8::take_parts(alloc, r)? {
             1 => {
                 let (round, value) = take_rounded(alloc, r)?;
                 Ok(Change::Admin(GroupChange::Promise(Round(round), value)))
@@ -184,7 +184,7 @@ impl Change {
         ensures { Reads (λ x. x) result r.new (behind_tag 7 r.old) }
     {
         let at = r.place();
-        match u8::take(alloc, r)? {
+        match u8::take_parts(alloc, r)? {
             1 => Ok(Change::Admin(GroupChange::Abort)),
             2 => Ok(Change::Service(GroupChange::Abort)),
             _ => Err(Malformed::At { at }),
@@ -195,7 +195,7 @@ impl Change {
         ensures { Reads (λ x. x) result r.new (behind_tag 8 r.old) }
     {
         let at = r.place();
-        match u8::take(alloc, r)? {
+        match u8::take_parts(alloc, r)? {
             1 => {
                 let (round, value) = take_rounded(alloc, r)?;
                 Ok(Change::Admin(GroupChange::Commit(Round(round), value)))
@@ -212,15 +212,15 @@ impl Change {
         ensures { Reads (λ x. x) result r.new (behind_tag 11 r.old) }
     {
         let at = r.place();
-        match u8::take(alloc, r)? {
+        match u8::take_parts(alloc, r)? {
             1 => {
-                let next = Round(u64::take(alloc, r)?);
-                let seen = Round(u64::take(alloc, r)?);
+                let next = Round(u64::take_parts(alloc, r)?);
+                let seen = Round(u64::take_parts(alloc, r)?);
                 Ok(Change::Admin(GroupChange::Restore { next, seen }))
             }
             2 => {
-                let next = Round(u64::take(alloc, r)?);
-                let seen = Round(u64::take(alloc, r)?);
+                let next = Round(u64::take_parts(alloc, r)?);
+                let seen = Round(u64::take_parts(alloc, r)?);
                 Ok(Change::Service(GroupChange::Restore { next, seen }))
             }
             _ => Err(Malformed::At { at }),
@@ -231,7 +231,7 @@ impl Change {
         ensures { Reads (λ x. x) result r.new (behind_tag 12 r.old) }
     {
         let at = r.place();
-        match u8::take(alloc, r)? {
+        match u8::take_parts(alloc, r)? {
             1 => {
                 let (value, reason) = take_refused(alloc, r)?;
                 Ok(Change::Admin(GroupChange::Kept(value, reason)))
@@ -250,31 +250,31 @@ impl Field for Change {
 
     ghost form = { change_form };
 
-    fn put(&self, w: &mut Writer) -> Result<(), AllocError> {
+    fn put_parts(&self, w: &mut Writer) -> Result<(), AllocError> {
         match self {
             Change::Bind(definition) => {
-                1u8.put(w)?;
-                definition.put(w)
+                1u8.put_parts(w)?;
+                definition.put_parts(w)
             }
             Change::Admin(change) => Change::put_group(1, change, w),
             Change::Service(change) => Change::put_group(2, change, w),
-            Change::Abandon => 9u8.put(w),
-            Change::Purge => 10u8.put(w),
+            Change::Abandon => 9u8.put_parts(w),
+            Change::Purge => 10u8.put_parts(w),
             Change::Turn(turn) => {
-                13u8.put(w)?;
-                turn.put(w)
+                13u8.put_parts(w)?;
+                turn.put_parts(w)
             }
             Change::Gone(generation) => {
-                14u8.put(w)?;
-                generation.0.put(w)
+                14u8.put_parts(w)?;
+                generation.0.put_parts(w)
             }
         }
     }
 
-    fn take(alloc: Global, r: &mut Reader) -> Result<Change, Malformed> {
+    fn take_parts(alloc: Global, r: &mut Reader) -> Result<Change, Malformed> {
         let at = r.place();
-        match u8::take(alloc, r)? {
-            1 => Ok(Change::Bind(Boxed::take(alloc, r)?)),
+        match u8::take_parts(alloc, r)? {
+            1 => Ok(Change::Bind(Boxed::take_parts(alloc, r)?)),
             2 => Change::take_queue(alloc, r),
             3 => Change::take_refuse(alloc, r),
             4 => Change::take_begin(alloc, r),
@@ -286,8 +286,8 @@ impl Field for Change {
             10 => Ok(Change::Purge),
             11 => Change::take_restore(alloc, r),
             12 => Change::take_kept(alloc, r),
-            13 => Ok(Change::Turn(u32::take(alloc, r)?)),
-            14 => Ok(Change::Gone(Generation(u32::take(alloc, r)?))),
+            13 => Ok(Change::Turn(u32::take_parts(alloc, r)?)),
+            14 => Ok(Change::Gone(Generation(u32::take_parts(alloc, r)?))),
             _ => Err(Malformed::At { at }),
         }
     }

@@ -32,11 +32,11 @@ impl Field for Message {
 
     ghost form = { message_form };
 
-    fn put(&self, w: &mut Writer) -> Result<(), AllocError> {
+    fn put_parts(&self, w: &mut Writer) -> Result<(), AllocError> {
         match self {
             Message::Admin { circuit, body } => {
-                1u8.put(w)?;
-                circuit.put(w)?;
+                1u8.put_parts(w)?;
+                circuit.put_parts(w)?;
                 put_body(body, w)
             }
             Message::Scabbard {
@@ -45,27 +45,27 @@ impl Field for Message {
                 to,
                 body,
             } => {
-                2u8.put(w)?;
-                circuit.put(w)?;
-                from.put(w)?;
-                to.put(w)?;
+                2u8.put_parts(w)?;
+                circuit.put_parts(w)?;
+                from.put_parts(w)?;
+                to.put_parts(w)?;
                 put_body(body, w)
             }
         }
     }
 
-    fn take(alloc: Global, r: &mut Reader) -> Result<Message, Malformed> {
+    fn take_parts(alloc: Global, r: &mut Reader) -> Result<Message, Malformed> {
         let at = r.place();
-        match u8::take(alloc, r)? {
+        match u8::take_parts(alloc, r)? {
             1 => {
-                let circuit = CircuitId::take(alloc, r)?;
+                let circuit = CircuitId::take_parts(alloc, r)?;
                 let body = take_body(alloc, r)?;
                 Ok(Message::Admin { circuit, body })
             }
             2 => {
-                let circuit = CircuitId::take(alloc, r)?;
-                let from = ServiceId::take(alloc, r)?;
-                let to = ServiceId::take(alloc, r)?;
+                let circuit = CircuitId::take_parts(alloc, r)?;
+                let from = ServiceId::take_parts(alloc, r)?;
+                let to = ServiceId::take_parts(alloc, r)?;
                 let body = take_body(alloc, r)?;
                 Ok(Message::Scabbard {
                     circuit,

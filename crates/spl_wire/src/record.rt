@@ -3,8 +3,8 @@ ghost use Rattle.std.specs.Prelude.{◌≡◌};
 
 use crate::change::Change;
 use spl_base::{
-    CircuitId, Field, Listing, Malformed, Piece, Reader, Writer, read_front, read_list, spelled,
-    write_list,
+    CircuitId, Field, Listing, Malformed, Piece, Reader, Writer, put_list, read_front, spelled,
+    take_list,
 };
 use std::alloc::{AllocError, Global};
 
@@ -23,14 +23,14 @@ impl Field for Record {
 
     ghost form = { record_form };
 
-    fn put(&self, w: &mut Writer) -> Result<(), AllocError> {
-        self.circuit.put(w)?;
-        write_list(self.changes.as_slice(), w)
+    fn put_parts(&self, w: &mut Writer) -> Result<(), AllocError> {
+        self.circuit.put_parts(w)?;
+        put_list(self.changes.as_slice(), w)
     }
 
-    fn take(alloc: Global, r: &mut Reader) -> Result<Record, Malformed> {
-        let circuit = CircuitId::take(alloc, r)?;
-        let changes = read_list(alloc, r, 64)?;
+    fn take_parts(alloc: Global, r: &mut Reader) -> Result<Record, Malformed> {
+        let circuit = CircuitId::take_parts(alloc, r)?;
+        let changes = take_list(alloc, r, 64)?;
         Ok(Record { circuit, changes })
     }
 

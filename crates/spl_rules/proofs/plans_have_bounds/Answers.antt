@@ -1,0 +1,15 @@
+use Rattle.spl_rules.specs.Events.{does}
+use Rattle.spl_rules.specs.Plans.{plan_of}
+use Rattle.spl_rules.proofs.Events.{fits-does}
+use Rattle.spl_rules.proofs.Limits.{limited-planned}
+use Rattle.spl_rules.proofs.Messages.{sendable-legal, sendable-all}
+use Rattle.spl_rules.proofs.Plans.{legal-planned}
+use Rattle.spl_rules.proofs.plans_have_bounds.Goals as goal
+
+pub returns : goal.returns
+returns g = record {
+  writable = λ here c k e n own s. (limited-planned here c k (does here c k e) n s (fits-does here c k e n own s.kept)).writable;
+  formed = λ here c k e n own s. (limited-planned here c k (does here c k e) n s (fits-does here c k e n own s.kept)).formed;
+  sends = λ here c k e n own s. sendable-all (plan_of here c k e).sends (legal-planned here c k (does here c k e) n s (fits-does here c k e n own s.kept));
+  message = sendable-legal;
+}
