@@ -12,7 +12,9 @@ use Rattle.spl_wire.specs.declared.change.Change.{Change}
 use Rattle.spl_wire.specs.declared.change.Change.TheVariants as durable
 use Rattle.spl_rules.specs.Cells.{Cell, Empty, Held, Purged, admin_group, service_group}
 use Rattle.spl_rules.specs.Changes.{fits, free_after, made_one, applied_one, applied}
-use Rattle.spl_rules.specs.Valid.{IsKept, IsSettledCell}
+use Rattle.spl_wire.specs.Bounds.{is_formed}
+use Rattle.spl_base.specs.FormLaws.{both_true}
+use Rattle.spl_rules.specs.Valid.{IsKept, IsSettledCell, are_formed}
 use Rattle.spl_cell.specs.States.{IsStill}
 
 -- one change more
@@ -20,9 +22,9 @@ pub applied_step : (here c : Node) (k : Cell) (xs : List Change) (i : ℕ) (x : 
 applied_step here c k xs i x lt e = rw (add-one, drop-cons xs i x) (ap (λ y. applied here c k (y ∷ drop (suc i) xs)) (sym e))
 
 -- what each change keeps, changes keep
-pub kept_list : (here c : Node) → ((a b : Node) (k : Cell) (x : Change) → IsKept a b k → IsKept a b (applied_one a b k x)) → (k : Cell) (xs : List Change) → IsKept here c k → IsKept here c (applied here c k xs)
-kept_list here c step k [] h = h
-kept_list here c step k (x ∷ xs) h = kept_list here c step (applied_one here c k x) xs (step here c k x h)
+pub kept_list : (here c : Node) → ((a b : Node) (k : Cell) (x : Change) → is_formed x ≡ true → IsKept a b k → IsKept a b (applied_one a b k x)) → (k : Cell) (xs : List Change) → are_formed xs ≡ true → IsKept here c k → IsKept here c (applied here c k xs)
+kept_list here c step k [] f h = h
+kept_list here c step k (x ∷ xs) f h = let b = both_true (is_formed x) (are_formed xs) f in kept_list here c step (applied_one here c k x) xs b.1 (step here c k x b.0 h)
 
 still_if : (b : Bool) (k l : Cell) → IsStill k → IsStill l → IsStill (if b then l else k)
 still_if true k l h g = g

@@ -1,5 +1,5 @@
 -- A cell, and a bound one, as callers see them.
-use Rattle.std.specs.Prelude.{◌≡◌, ℕ, true, List}
+use Rattle.std.specs.Prelude.{◌≡◌, ℕ, Bool, true, List}
 use Rattle.spl_agree.specs.Member.{Group, Member, new_member}
 use Rattle.spl_agree.specs.Fits.{IsSettled}
 use Rattle.spl_circuit.specs.declared.definition.Definition.{Definition}
@@ -13,11 +13,12 @@ use Rattle.spl_admin.specs.Kept.{LedgerView}
 use Rattle.spl_commit.specs.Views.{MemberView}
 use Rattle.spl_rules.specs.Cells.{Cell, admin_group, service_group}
 
--- the cell of a circuit at a node
+-- the cell of a circuit at a node, and whether a change of it was lost for want of memory
 pub record CellView : Type 0 where
   pub here : Node
   pub circuit : Node
   pub state : Cell
+  pub halted : Bool
 
 -- what a bound cell keeps
 pub record HeldView : Type 0 where

@@ -42,12 +42,13 @@ fn entries_at(alloc: Global, state: &State, addresses: &[Address]) -> Result<Ent
 
 impl Held {
     /// How many batches are committed here, and the root of their state.
-    fn root_told(&self) -> Result<Answer, AllocError>
-        ensures { IfOk result (λ a. a ≡ root_told self.now.batches) }
+    fn root_told(&self) -> Answer
+        ensures { result ≡ root_told self.now.batches }
     {
-        let count = self.batches_committed();
-        let root = self.service().root()?;
-        Ok(Answer::Root { count, root })
+        Answer::Root {
+            count: self.batches_committed(),
+            root: self.service().root(),
+        }
     }
 
     /// The ids of the batches.
@@ -61,7 +62,7 @@ impl Held {
     fn value_told(&self, alloc: Global, address: &Address) -> Result<Answer, AllocError>
         ensures { IfOk result (λ a. a ≡ value_told self.now.batches address.now) }
     {
-        let state = self.service().state()?;
+        let state = self.service().state();
         match state.get(address) {
             Some(bytes) => Ok(Answer::Value(Some(Piece::from(alloc, bytes)?))),
             None => Ok(Answer::Value(None)),
@@ -74,7 +75,7 @@ impl Held {
         ensures { IfOk result (λ a. a ≡ listed self.now.batches prefix.now) }
     {
         states_are_in_address_order();
-        let state = self.service().state()?;
+        let state = self.service().state();
         let addresses = state.under(alloc, prefix)?;
         Ok(Answer::Listed(entries_at(alloc, state, &addresses)?))
     }
@@ -123,7 +124,7 @@ impl Held {
         ensures { IfOk result (λ a. tells_only a ≡ planned self.now.here self.now.circuit (asks self.now.batches question)) }
     {
         match question {
-            Question::Root => self.root_told(),
+            Question::Root => Ok(self.root_told()),
             Question::History => self.history_told(alloc),
             Question::Value(address) => self.value_told(alloc, &address),
             Question::Listed(prefix) => self.listed(alloc, &prefix),

@@ -1,30 +1,33 @@
 //! The cell of a circuit at a node.
-ghost use Rattle.std.specs.Prelude.{◌≡◌, true, IsTrue, IfOk, OnOk};
+ghost use Rattle.std.specs.Prelude.{◌≡◌, true, false, IsTrue, IfOk, OnOk, OnErr};
 ghost use Rattle.std.specs.List.{list_all};
 ghost use Rattle.spl_wire.specs.Changes.{change_form};
+ghost use Rattle.spl_wire.specs.Bounds.{IsWritable, AllSendable};
 ghost use Rattle.spl_wire.specs.Grouping.{grouped, records_of};
 ghost use Rattle.spl_rules.specs.Pack.{packed};
 ghost use Rattle.spl_rules.specs.Cells.{Empty, is_bound, is_empty_cell, is_open_cell};
 ghost use Rattle.spl_rules.specs.Plans.{plan_of};
 ghost use Rattle.spl_rules.specs.Changes.{made, applied, moved_cell, stopped_cell};
-ghost use Rattle.spl_rules.specs.Valid.{IsValid, IsFor, FitsMoveAt, are_legal};
+ghost use Rattle.spl_rules.specs.Valid.{IsValid, IsFor, FitsMoveAt, are_formed, are_legal};
 ghost use Rattle.spl_cell.specs.States.{IsStill};
 
 use crate::site::Site;
 use crate::state::State;
 use spl_base::{CircuitId, NodeId};
-use spl_rules::{cells_stay_valid, plans_fit_cells};
+use spl_rules::{cells_stay_valid, packed_cells_have_a_form, plans_fit_cells, plans_have_bounds};
 use spl_wire::{ChangeList, Event, PackedRecords, Plan, packed_records};
 use std::alloc::{AllocError, Global};
 use std::marker::Model;
 use std::mem;
 
 /// What a node keeps about one circuit (docs/RULES.md, Cells). Contracts see the node, the circuit,
-/// and the cell of the rules.
+/// the cell of the rules, and whether it is halted: a change that found no memory was lost, so that
+/// nothing more may be asked of the cell.
 #[derive(Drop)]
 pub struct Cell {
     site: Site,
     state: State,
+    halted: bool,
 }
 
 impl Model for Cell {
@@ -34,7 +37,7 @@ impl Model for Cell {
 
     ghost Value = { CellView };
 
-    ghost view = { λ s. record { here = s.site.here; circuit = s.site.circuit; state = cell_of s.state } };
+    ghost view = { λ s. record { here = s.site.here; circuit = s.site.circuit; state = cell_of s.state; halted = s.halted } };
 
     ghost invariant = { λ s. IsAt s.site.here s.site.circuit s.state × IsValid s.site.here s.site.circuit (cell_of s.state) };
 }
@@ -42,15 +45,39 @@ impl Model for Cell {
 impl Cell {
     /// An empty cell.
     pub fn empty(here: NodeId, circuit: CircuitId) -> Cell
-        ensures { result ≡ record { here = here; circuit = circuit; state = Empty } }
+        ensures { result ≡ record { here = here; circuit = circuit; state = Empty; halted = false } }
     {
-        let site = Site { here, circuit };
-        let state = State::Empty;
-        Cell { site, state }
+        Cell {
+            site: Site { here, circuit },
+            state: State::Empty,
+            halted: false,
+        }
+    }
+
+    /// The node.
+    pub fn here(&self) -> NodeId
+        ensures { result ≡ self.now.here }
+    {
+        self.site.here
+    }
+
+    /// The circuit.
+    pub fn circuit(&self) -> CircuitId
+        ensures { result ≡ self.now.circuit }
+    {
+        self.site.circuit
+    }
+
+    /// Whether a change found no memory.
+    pub fn is_halted(&self) -> bool
+        ensures { result ≡ self.now.halted }
+    {
+        self.halted
     }
 
     /// Whether the cell is bound to a definition.
     pub fn bound(&self) -> bool
+        requires running { self.now.halted ≡ false }
         ensures { result ≡ is_bound self.now.state }
     {
         matches!(self.state, State::Held(_))
@@ -58,6 +85,7 @@ impl Cell {
 
     /// Whether nothing is kept.
     pub fn is_empty(&self) -> bool
+        requires running { self.now.halted ≡ false }
         ensures { result ≡ is_empty_cell self.now.state }
     {
         matches!(self.state, State::Empty)
@@ -65,6 +93,7 @@ impl Cell {
 
     /// Whether the cell is bound, and the node takes part.
     pub fn is_open(&self) -> bool
+        requires running { self.now.halted ≡ false }
         ensures { result ≡ is_open_cell self.now.state }
     {
         match &self.state {
@@ -77,6 +106,7 @@ impl Cell {
     /// What an event gives: an answer, durable changes, a move of the open round of each group, and
     /// messages. Nothing is changed. An error comes for want of memory alone.
     pub fn plan(&self, alloc: Global, event: &Event) -> Result<Plan, AllocError>
+        requires running { self.now.halted ≡ false }
         requires own { IsFor self.now.here self.now.circuit event.now }
         ensures plan { IfOk result (λ p. p ≡ plan_of self.now.here self.now.circuit self.now.state event.now) }
         ensures valid { IsValid self.now.here self.now.circuit self.now.state }
@@ -84,53 +114,77 @@ impl Cell {
         // Its changes fit, each behind those before it, and its moves fit behind them.
         ensures fits { IfOk result (λ p. (applied self.now.here self.now.circuit self.now.state p.changes ≡ made self.now.here self.now.state p.changes) × FitsMoveAt self.now.here (made self.now.here self.now.state p.changes) p.admin p.service) }
 
-        // No batch in a message breaks a rule.
+        // Its changes make a record of at most 64 changes and 16,384 bytes, which can be written.
+        ensures writable { IfOk result (λ p. IsWritable self.now.circuit p.changes) }
+
+        // The definitions and the acts in its changes have byte forms.
+        ensures formed { IfOk result (λ p. are_formed p.changes ≡ true) }
+
+        // Each message is one that a cell may hear; it can be written, and has at most 16,384 bytes.
         ensures legal { IfOk result (λ p. are_legal p.sends ≡ true) }
+        ensures sends { IfOk result (λ p. AllSendable p.sends) }
     {
+        self.site.is_named();
         plans_fit_cells();
+        plans_have_bounds();
         self.site.plan(alloc, &self.state, event)
     }
 
     /// Makes the changes of a plan, each where it fits, and then its moves. An error comes for want
     /// of memory alone, and the cell is halted then.
     pub fn apply(&mut self, alloc: Global, plan: &Plan) -> Result<(), AllocError>
-        requires { FitsMoveAt self.old.here (applied self.old.here self.old.circuit self.old.state plan.now.changes) plan.now.admin plan.now.service }
+        requires running { self.old.halted ≡ false }
+        requires fits { FitsMoveAt self.old.here (applied self.old.here self.old.circuit self.old.state plan.now.changes) plan.now.admin plan.now.service }
+        requires formed { are_formed plan.now.changes ≡ true }
         ensures fixed { (self.new.here ≡ self.old.here) × (self.new.circuit ≡ self.old.circuit) }
         ensures ok { OnOk result (self.new.state ≡ moved_cell self.old.here (applied self.old.here self.old.circuit self.old.state plan.now.changes) plan.now.admin plan.now.service) }
+        ensures running { OnOk result (self.new.halted ≡ false) }
+        ensures halted { OnErr result (self.new.halted ≡ true) }
     {
         cells_stay_valid();
+        self.halted = true;
         let state = mem::replace(&mut self.state, State::Empty);
         let state = self.site.applied(alloc, state, plan.changes.as_slice())?;
         self.state = self.site.moved(state, plan.admin, plan.service);
+        self.halted = false;
         Ok(())
     }
 
-    /// Makes changes that were read, each where it fits. An error comes for want of memory alone,
-    /// and the cell is halted then.
+    /// Makes changes that were read, each where it fits; no round is open behind them either, so
+    /// that more may be read. An error comes for want of memory alone, and the cell is halted then.
     pub fn replay(&mut self, alloc: Global, changes: &ChangeList) -> Result<(), AllocError>
-        requires { IsStill self.old.state }
+        requires running { self.old.halted ≡ false }
+        requires still { IsStill self.old.state }
+        requires formed { are_formed changes.now ≡ true }
         ensures fixed { (self.new.here ≡ self.old.here) × (self.new.circuit ≡ self.old.circuit) }
         ensures ok { OnOk result (self.new.state ≡ applied self.old.here self.old.circuit self.old.state changes.now) }
+        ensures still { OnOk result (IsStill self.new.state) }
+        ensures running { OnOk result (self.new.halted ≡ false) }
+        ensures halted { OnErr result (self.new.halted ≡ true) }
     {
         cells_stay_valid();
+        self.halted = true;
         let state = mem::replace(&mut self.state, State::Empty);
         self.state = self.site.applied(alloc, state, changes.as_slice())?;
+        self.halted = false;
         Ok(())
     }
 
     /// The records of the changes that make the cell of an empty one, in order. An empty cell has
     /// none, and open rounds aren't packed. An error comes for want of memory alone.
     pub fn pack(&self, alloc: Global) -> Result<PackedRecords, AllocError>
-        requires bounded { IsTrue (list_all change_form.bounded (packed self.now.state)) }
+        requires running { self.now.halted ≡ false }
         ensures records { IfOk result (λ rs. rs ≡ records_of self.now.circuit (grouped self.now.circuit (packed self.now.state))) }
         ensures fits { OnOk result (IsTrue (list_all change_form.fits (packed self.now.state))) }
     {
+        packed_cells_have_a_form();
         let changes = self.state.packed(alloc)?;
         packed_records(alloc, self.site.circuit, changes)
     }
 
     /// A stop forgets the open rounds, and nothing else.
     pub fn restart(&mut self)
+        requires running { self.old.halted ≡ false }
         ensures { self.new ≡ record self.old { state = stopped_cell self.old.state } }
     {
         cells_stay_valid();

@@ -17,10 +17,7 @@ use std::alloc::{AllocError, Global};
 
 /// The changes, and behind them those of the admin group.
 #[tactic(auto, using(crate::proofs::Steps::acts_more))]
-fn acts_behind(
-    first: Vec<Change>,
-    changes: GroupChanges<Act>,
-) -> Result<Vec<Change>, AllocError>
+fn acts_behind(first: Vec<Change>, changes: GroupChanges<Act>) -> Result<Vec<Change>, AllocError>
     ensures { IfOk result (λ cs. cs.items ≡ first.items ++ admin_changes changes) }
 {
     let mut all = first;
@@ -60,11 +57,7 @@ fn mark_behind(first: Vec<Change>, mark: Mark) -> Result<Vec<Change>, AllocError
 
 impl Held {
     /// The changes, and behind them those of the service group, where it goes on.
-    fn batches_packed(
-        &self,
-        alloc: Global,
-        first: Vec<Change>,
-    ) -> Result<Vec<Change>, AllocError>
+    fn batches_packed(&self, alloc: Global, first: Vec<Change>) -> Result<Vec<Change>, AllocError>
         ensures { IfOk result (λ cs. cs.items ≡ first.items ++ packed_batches self.now.definition self.now.acts self.now.batches) }
     {
         if !self.runs() {

@@ -1,6 +1,7 @@
 //! What events give at the cells of a circuit of alpha, beta and gamma, which alpha coordinates.
 ghost use Rattle.std.specs.Prelude.{◌≡◌, true};
 ghost use Rattle.spl_rules.specs.Changes.{may_serve};
+ghost use Rattle.spl_wire.specs.Bounds.{is_formed};
 ghost use Rattle.spl_rules.specs.Valid.{IsFor, carries};
 
 use crate::Cell;
@@ -13,7 +14,10 @@ use spl_wire::{Change, ChangeList, Event, Message, Plan};
 use std::alloc::Global;
 use std::test::Fail;
 use texts::plan_text;
-use values::{Deed, Kind, Said, act, circuit, definition, message, node, service};
+use values::{
+    Deed, Kind, Said, act, circuit, definition, form_act, form_body, form_definition, message,
+    node, service,
+};
 use works::{Kept, Letter, Work, address, batch, body, change, prefix};
 
 mod batches;
@@ -106,6 +110,9 @@ impl Seat {
         requires own { IsFor self.old.cell.here self.old.cell.circuit event.now }
     {
         plans_fit_cells();
+        if self.cell.is_halted() {
+            return Err(Fail::new("a halted cell"));
+        }
         let plan = self.cell.plan(alloc, event)?;
         self.cell.apply(alloc, &plan)?;
         Ok(plan)
@@ -115,15 +122,19 @@ impl Seat {
         if definition.id != self.circuit {
             return Err(Fail::new("another circuit"));
         }
+        form_definition(alloc, &definition)?;
         let event = Event::Propose(Boxed::new(alloc, definition)?);
         self.on(alloc, &event)
     }
 
+    #[tactic(auto, using(spl_rules::proofs::Named::short_circuit))]
     fn hear(&mut self, alloc: Global, from: NodeId, body: CommitMsg<Act>) -> Result<Plan, Fail> {
         if from == self.here {
             return Err(Fail::new("from itself"));
         }
+        form_body(alloc, &body)?;
         let circuit = self.circuit;
+        let _ = circuit.bytes();
         let message = Boxed::new(alloc, Message::Admin { circuit, body })?;
         self.on(alloc, &Event::Deliver { from, message })
     }
@@ -140,6 +151,7 @@ impl Seat {
         self.on(alloc, &event)
     }
 
+    #[tactic(auto, using(spl_rules::proofs::Named::short_circuit, spl_rules::proofs::Named::short_service))]
     fn post(
         &mut self,
         alloc: Global,
@@ -153,10 +165,15 @@ impl Seat {
         if !is_legal(&body) {
             return Err(Fail::new("a batch that breaks a rule"));
         }
+        let circuit = self.circuit;
+        let _ = circuit.bytes();
+        let (from_service, to_service) = (service(ends.1)?, service(ends.2)?);
+        let _ = from_service.bytes();
+        let _ = to_service.bytes();
         let message = Message::Scabbard {
-            circuit: self.circuit,
-            from: service(ends.1)?,
-            to: service(ends.2)?,
+            circuit,
+            from: from_service,
+            to: to_service,
             body,
         };
         let message = Boxed::new(alloc, message)?;
@@ -164,9 +181,14 @@ impl Seat {
     }
 
     /// A change is read. The cell has stopped before.
-    fn read(&mut self, alloc: Global, change: Change) -> Result<Plan, Fail> {
+    fn read(&mut self, alloc: Global, change: Change) -> Result<Plan, Fail>
+        requires { is_formed change ≡ true }
+    {
         let mut changes = ChangeList::new(alloc);
         changes.push(change)?;
+        if self.cell.is_halted() {
+            return Err(Fail::new("a halted cell"));
+        }
         self.cell.restart();
         self.cell.replay(alloc, &changes)?;
         self.on(alloc, &Event::Show)
@@ -175,6 +197,7 @@ impl Seat {
     fn fill(&mut self, alloc: Global, name: &'static str, count: u32) -> Result<Plan, Fail> {
         for turn in 0..count {
             let act = act(alloc, (name, turn, Accept))?;
+            form_act(alloc, &act)?;
             self.read(alloc, Change::Admin(GroupChange::Queue(act)))?;
         }
         self.on(alloc, &Event::Show)
@@ -226,10 +249,12 @@ impl Seat {
             }
             Queue(deed) => {
                 let act = act(alloc, deed)?;
+                form_act(alloc, &act)?;
                 self.read(alloc, Change::Admin(GroupChange::Queue(act)))
             }
             Settle(deed) => {
                 let act = act(alloc, deed)?;
+                form_act(alloc, &act)?;
                 let reason = Reason { code: 2, at: 0 };
                 self.read(alloc, Change::Admin(GroupChange::Refuse(act, reason)))
             }
@@ -306,6 +331,9 @@ fn made_and_read(
         read.happens(alloc, *what)?;
     }
     let plan = made.happens(alloc, what)?;
+    if made.cell.is_halted() || read.cell.is_halted() {
+        return Err(Fail::new("a halted cell"));
+    }
     made.cell.restart();
     read.cell.restart();
     read.cell.replay(alloc, &plan.changes)?;

@@ -63,6 +63,11 @@ fn group_text<V: Short>(alloc: Global, change: &GroupChange<V>) -> Result<String
             let value = value.short(alloc)?;
             format!(in alloc; "commit {} {}", round.0, value.as_str())
         }
+        GroupChange::Restore { next, seen } => format!(in alloc; "restore {} {}", next.0, seen.0),
+        GroupChange::Kept(value, reason) => {
+            let value = value.short(alloc)?;
+            format!(in alloc; "kept {} for {}", value.as_str(), reason.code)
+        }
     }
 }
 
@@ -73,6 +78,8 @@ fn change_text(alloc: Global, change: &Change) -> Result<String, AllocError> {
         Change::Service(change) => group_text(alloc, change),
         Change::Abandon => format!(in alloc; "abandon"),
         Change::Purge => format!(in alloc; "purge"),
+        Change::Turn(turn) => format!(in alloc; "turn {turn}"),
+        Change::Gone(generation) => format!(in alloc; "gone {}", generation.0),
     }
 }
 
@@ -200,6 +207,10 @@ fn answer_text(alloc: Global, answer: &Answer) -> Result<String, AllocError> {
         } => { format!(in alloc; "receipt {} at {} of {}", batch.0, place.0, receipts.len()) }
         Answer::Routed => format!(in alloc; "routed"),
         Answer::Calm { passes } => format!(in alloc; "calm {passes}"),
+        // A cell answers none of these.
+        Answer::Power { .. } | Answer::Roll(_) | Answer::Cut(_) | Answer::Fault(_) => {
+            format!(in alloc; "of nodes")
+        }
     }
 }
 

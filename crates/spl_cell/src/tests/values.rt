@@ -1,6 +1,11 @@
 //! Definitions, acts and messages of a circuit of alpha, beta and gamma, which alpha coordinates.
+ghost use Rattle.std.specs.Prelude.{◌≡◌, true, IsTrue, OnOk};
+ghost use Rattle.spl_circuit.specs.Forms as form;
+ghost use Rattle.spl_wire.specs.Bounds.{has_form};
+ghost use Rattle.spl_rules.specs.Valid.{carries};
+
 use spl_agree::{CommitMsg, Generation, Place, Reason, Round};
-use spl_base::{Boxed, CircuitId, Label, Listing, NodeId, ServiceId};
+use spl_base::{Boxed, CircuitId, Label, Listing, NodeId, ServiceId, Writer};
 use spl_circuit::{Act, ActKind, Definition, Members, Service};
 use std::alloc::Global;
 use std::test::Fail;
@@ -66,6 +71,54 @@ pub(crate) fn definition(alloc: Global, generation: u32, version: u8) -> Result<
         members: nodes(alloc)?,
         services,
     })
+}
+
+/// The definition has a byte form.
+#[tactic(auto, using(spl_circuit::proofs::Valid::bounded_by))]
+pub(crate) fn form_definition(alloc: Global, definition: &Definition) -> Result<(), Fail>
+    ensures { OnOk result (IsTrue (form.definition.fits definition.now)) }
+{
+    if 16 < definition.members.len() || 16 < definition.services.len() {
+        return Err(Fail::new("too many"));
+    }
+    definition.write(alloc, &mut Writer::new(alloc))?;
+    Ok(())
+}
+
+/// What an act does has a byte form.
+fn form_kind(alloc: Global, kind: &ActKind) -> Result<(), Fail>
+    ensures { OnOk result (IsTrue (form.kind.fits kind.now)) }
+{
+    match kind {
+        ActKind::Propose(definition) => form_definition(alloc, definition.get()),
+        ActKind::Accept => Ok(()),
+        ActKind::Reject => Ok(()),
+        ActKind::Remove => Ok(()),
+    }
+}
+
+/// The act has a byte form.
+#[tactic(auto, using(spl_rules::proofs::Named::formed_act))]
+pub(crate) fn form_act(alloc: Global, act: &Act) -> Result<(), Fail>
+    ensures { OnOk result (has_form act.now ≡ true) }
+{
+    form_kind(alloc, &act.kind)?;
+    let _ = act.node.bytes();
+    Ok(())
+}
+
+/// The act in a message has a byte form.
+pub(crate) fn form_body(alloc: Global, body: &CommitMsg<Act>) -> Result<(), Fail>
+    ensures { OnOk result (carries has_form body.now ≡ true) }
+{
+    match body {
+        CommitMsg::VoteRequest { value, .. } => form_act(alloc, value),
+        CommitMsg::Vote { .. } => Ok(()),
+        CommitMsg::Decision { .. } => Ok(()),
+        CommitMsg::DecisionRequest { .. } => Ok(()),
+        CommitMsg::Forward { value, .. } => form_act(alloc, value),
+        CommitMsg::Refused { value, .. } => form_act(alloc, value),
+    }
 }
 
 pub(crate) fn act(alloc: Global, deed: Deed) -> Result<Act, Fail> {

@@ -10,8 +10,8 @@ pub invariant_of-self-2 : goal.invariant_of-self-2
 invariant_of-self-2 c =
     let old = c.self.inside in
     let plan = c.args.plan.now in
-    let kept = kept_list old.site.here old.site.circuit c.cells_stay_valid.ensures.change (cell_of old.state) plan.changes c.self.invariant.1.kept in
-    let fits = subst (λ (v : CellView). FitsMoveAt v.here (applied v.here v.circuit v.state plan.changes) plan.admin plan.service) (sym c.self.view_is) c.requires in
+    let kept = kept_list old.site.here old.site.circuit c.cells_stay_valid.ensures.change (cell_of old.state) plan.changes c.requires.formed c.self.invariant.1.kept in
+    let fits = subst (λ (v : CellView). FitsMoveAt v.here (applied v.here v.circuit v.state plan.changes) plan.admin plan.service) (sym c.self.view_is) c.requires.fits in
     let made = c.in_ok-state.ensures.cell ∙ (ap (λ s. applied old.site.here old.site.circuit (cell_of s) c.as_slice.result.now) c.replace-state.ensures.value ∙ ap (applied old.site.here old.site.circuit (cell_of old.state)) c.as_slice.ensures) in (
       c.moved.ensures.at,
       subst (IsValid old.site.here old.site.circuit) (sym (c.moved.ensures.cell ∙ ap (λ k. moved_cell old.site.here k plan.admin plan.service) made)) (c.cells_stay_valid.ensures.moves old.site.here old.site.circuit (applied old.site.here old.site.circuit (cell_of old.state) plan.changes) plan.admin plan.service kept fits),
