@@ -1,6 +1,7 @@
 -- The JSON of a circuit at a node: compact, with the keys of each object in byte order (docs/RULES.md, Answers).
-use Rattle.std.specs.Prelude.{ℕ, ◌+◌, ◌/◌, ◌%◌, ◌||◌, ◌==◌, nat_lt, List, [], ◌∷◌, ◌++◌, Option, Some, None, if◌then◌else◌, codes, decimal}
+use Rattle.std.specs.Prelude.{ℕ, ◌||◌, ◌==◌, List, [], ◌∷◌, ◌++◌, Option, Some, None, if◌then◌else◌, codes, decimal}
 use Rattle.std.specs.List.{flat_map}
+use Rattle.hex.specs.Hex.{encode_lower}
 use Rattle.spl_circuit.specs.declared.definition.Service.{Service}
 use Rattle.spl_circuit.specs.declared.definition.Definition.{Definition}
 use Rattle.spl_circuit.specs.declared.lifecycle.Lifecycle.{Lifecycle}
@@ -32,11 +33,8 @@ text_or_null None = codes "null"
 text_or_null (Some xs) = quoted xs
 
 -- two digits of 0 to 9 and a to f for each byte
-abbrev pub hex_digit : ℕ → ℕ
-hex_digit n = if nat_lt n 10 then 48 + n else 87 + n
-
 abbrev pub hex_text : List ℕ → List ℕ
-hex_text xs = flat_map (λ b. hex_digit (b / 16) ∷ hex_digit (b % 16) ∷ []) xs
+hex_text bytes = encode_lower bytes
 
 -- a key, and its value behind a `:`
 unfoldable pub field : List ℕ → List ℕ → List ℕ

@@ -1,10 +1,11 @@
 //! JSON, and that of a circuit at a node.
-ghost use Rattle.std.specs.Prelude.{◌≡◌, ◌++◌, ◌∷◌, [], ◌<◌, List, ℕ, OnOk, decimal, codes};
+ghost use Rattle.std.specs.Prelude.{◌≡◌, ◌++◌, ◌∷◌, [], List, ℕ, OnOk, decimal, codes};
 ghost use Rattle.std.specs.List.{flat_map};
-ghost use Rattle.spl_answer.specs.Json.{escaped, quoted, others, array, text_or_null, in_quotes, hex_digit, hex_text, field, fields_to_management, fields_from_mark, detail};
+ghost use Rattle.spl_answer.specs.Json.{escaped, quoted, others, array, text_or_null, in_quotes, hex_text, field, fields_to_management, fields_from_mark, detail};
 
 use crate::names::{lifecycle_name, mark_name};
 use crate::part::{append, append_number};
+use hex::encode;
 use spl_base::NodeId;
 use spl_circuit::{Definition, Lifecycle, Mark, Service};
 use std::alloc::AllocError;
@@ -37,21 +38,12 @@ fn append_quoted(text: &[u8], out: &mut Vec<u8>) -> Result<(), AllocError>
     append(b"\"", out)
 }
 
-fn hex_digit(n: u8) -> u8
-    requires { n < 16 }
-    ensures { result ≡ hex_digit n }
-{
-    if n < 10 { b'0' + n } else { 87 + n }
-}
-
 /// Appends the bytes as lower-case digits.
 pub(crate) fn append_hex(bytes: &[u8], out: &mut Vec<u8>) -> Result<(), AllocError>
     ensures { OnOk result (out.new.items ≡ out.old.items ++ hex_text bytes.now) }
 {
-    for b in bytes {
-        append(&[hex_digit(*b / 16), hex_digit(*b % 16)], out)?;
-    }
-    Ok(())
+    let text = encode(*out.allocator(), bytes)?;
+    append(text.as_bytes(), out)
 }
 
 /// A value that has a JSON text.

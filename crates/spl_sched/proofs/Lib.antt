@@ -2,6 +2,7 @@ mod Splits
 mod Numbers
 mod WordLaws
 mod HexLaws
+mod HexDigits
 mod FrontLaws
 mod CommandLaws
 mod TransactionLaws

@@ -2,3 +2,4 @@ pub mod Words
 pub mod Transactions
 pub mod Grammar
 pub mod Taken
+pub mod HexWords

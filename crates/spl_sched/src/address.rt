@@ -3,8 +3,8 @@ ghost use Rattle.std.specs.Prelude.{◌≡◌, ◌++◌, ◌∷◌, OnOk};
 ghost use Rattle.spl_sched.specs.Words.{Reads, Takes, read_first};
 ghost use Rattle.spl_sched.specs.Transactions.{prefix, dashed};
 
+use crate::digits::{put_bytes, read_bytes, read_cells};
 use crate::fault::LineFault;
-use crate::hex::{put_bytes, read_bytes};
 use crate::word::Spelled;
 use crate::words::WordReader;
 use spl_base::Writer;
@@ -16,13 +16,11 @@ impl Spelled for Address {
 
     ghost word = { address };
 
-    fn read(alloc: Global, bytes: &[u8]) -> Result<Address, LineFault> {
-        let read = read_bytes(alloc, bytes)?;
-        if read.bytes().len() != 35 {
+    fn read(_alloc: Global, bytes: &[u8]) -> Result<Address, LineFault> {
+        let mut cells = [0; 35];
+        if !read_cells(bytes, &mut cells) {
             return Err(LineFault::BadLine);
         }
-        let mut cells = [0; 35];
-        cells.copy_from_slice(read.bytes());
         Ok(Address(cells))
     }
 

@@ -2,6 +2,7 @@
 ghost use Rattle.std.specs.Prelude.{◌≡◌};
 ghost use Rattle.spl_sched.specs.declared.fault.LineFault.TheVariants.{NoMemory};
 
+use hex::FromHexError;
 use std::alloc::{AllocError, AllocFailed};
 use thiserror::Error;
 
@@ -28,5 +29,18 @@ impl<T: Drop> From<AllocFailed<T>> for LineFault {
 
     fn from(_: AllocFailed<T>) -> Self {
         LineFault::NoMemory
+    }
+}
+
+impl From<FromHexError> for LineFault {
+    ghost use Rattle.spl_sched.specs.HexWords.{hex_fault};
+
+    ghost from_gives = { λ fault e. e ≡ hex_fault fault };
+
+    fn from(fault: FromHexError) -> Self {
+        match fault {
+            FromHexError::OutOfMemory => LineFault::NoMemory,
+            _ => LineFault::BadLine,
+        }
     }
 }

@@ -3,8 +3,8 @@ ghost use Rattle.std.specs.Prelude.{◌≡◌, None};
 ghost use Rattle.spl_sched.specs.Words.{Reads, read_kind};
 ghost use Rattle.spl_sched.specs.Grammar.{fill_kinds};
 
+use crate::digits::{put_hex, take_hex};
 use crate::fault::LineFault;
-use crate::hex::{put_hex, take_hex};
 use crate::word::Spelled;
 use crate::words::WordReader;
 use spl_base::Writer;

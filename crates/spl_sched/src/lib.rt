@@ -3,9 +3,9 @@
 
 mod address;
 mod command;
+mod digits;
 mod fault;
 mod fill;
-mod hex;
 mod known;
 mod laws;
 mod line;

@@ -4,8 +4,8 @@ ghost use Rattle.spl_sched.specs.Words.{Reads, behind_spaces};
 ghost use Rattle.spl_sched.specs.Transactions.{prefix, command_text, read_part, no_parts, with_part, with_word, read_open, read_transactions, words_of_transaction, words_of_transactions};
 
 use crate::address::read_prefix;
+use crate::digits::put_bytes;
 use crate::fault::LineFault;
-use crate::hex::put_bytes;
 use crate::word::{Spelled, put_next};
 use crate::words::{WordReader, behind};
 use spl_base::{Listing, Writer};

@@ -1,0 +1,11 @@
+use Rattle.std.proofs.Common.{List, ℕ, Option, ap}
+use Rattle.std.specs.Option.{option_map}
+use Rattle.spl_state.specs.declared.address.Address.{Address}
+use Rattle.spl_sched.specs.Words.{read_hex_string}
+use Rattle.spl_sched.proofs.HexDigits.{no_length}
+use Rattle.spl_sched.proofs.address.AddressSpelled.read.Goals as goal
+
+pub returns-then-not-read_cells : goal.returns-then-not-read_cells
+returns-then-not-read_cells c =
+    let to : List ℕ → Address = λ bytes. record { 0 = bytes } in
+    ap (λ (o : Option (List ℕ)). option_map to o) (no_length (read_hex_string c.args.bytes.now) 35 (c.read_cells.ensures.unread c.if-not-read_cells.true))

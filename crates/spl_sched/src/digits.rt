@@ -1,0 +1,106 @@
+//! Bytes in two digits.
+ghost use Rattle.std.specs.Prelude.{◌≡◌, ◌≢◌, ◌++◌, true, false, Some, OnOk, length, List, ℕ};
+ghost use Rattle.std.specs.List.{flat_map, list_all};
+ghost use Rattle.spl_sched.specs.HexWords.{is_lower_digit};
+ghost use Rattle.spl_sched.specs.Words.{hex, hex_byte, read_hex, read_hex_string, hex_string, read_first, Reads, Takes};
+
+use crate::fault::LineFault;
+use crate::word::Spelled;
+use crate::words::WordReader;
+use hex::{decode, decode_to_slice, encode_to_slice};
+use spl_base::{Piece, Writer};
+use std::alloc::{AllocError, Global};
+
+fn is_lower_digit(b: u8) -> bool
+    ensures { result ≡ is_lower_digit b }
+{
+    b.is_ascii_digit() || (b'a'..=b'f').contains(&b)
+}
+
+fn are_digits(bytes: &[u8]) -> bool
+    ensures { result ≡ list_all is_lower_digit bytes.now }
+{
+    bytes.iter().all(|b| is_lower_digit(*b))
+}
+
+/// Reads as many bytes as there are cells, two digits for each, and tells whether that is what the digits spell.
+pub(crate) fn read_cells(digits: &[u8], cells: &mut [u8]) -> bool
+    ensures read { result ≡ true → read_hex_string digits.now ≡ Some cells.new }
+    ensures unread { result ≡ false → (bytes : List ℕ) → read_hex_string digits.now ≡ Some bytes → length bytes ≢ length cells.old }
+{
+    if !are_digits(digits) {
+        return false;
+    }
+    match decode_to_slice(digits, cells) {
+        Ok(()) => true,
+        Err(_) => false,
+    }
+}
+
+/// The byte that two digits spell.
+fn read_hex(digits: &[u8]) -> Option<u8>
+    ensures { result ≡ read_hex digits.now }
+{
+    let mut cells = [0];
+    if read_cells(digits, &mut cells) {
+        Some(cells[0])
+    } else {
+        None
+    }
+}
+
+/// Takes the next word as a byte.
+pub(crate) fn take_hex(words: &mut WordReader) -> Result<u8, LineFault>
+    ensures { Takes result words.new (read_first hex words.old) }
+{
+    match words.next() {
+        Some(digits) => read_hex(digits).ok_or(LineFault::BadLine),
+        None => Err(LineFault::BadLine),
+    }
+}
+
+/// Appends the byte in two digits.
+pub(crate) fn put_hex(b: u8, w: &mut Writer) -> Result<(), AllocError>
+    ensures { OnOk result (w.new ≡ w.old ++ hex_byte b) }
+{
+    let mut digits = [0; 2];
+    encode_to_slice([b].as_slice(), &mut digits).unwrap();
+    w.put_raw(&digits)
+}
+
+/// The bytes that digits spell, two for each.
+pub(crate) fn read_bytes(alloc: Global, digits: &[u8]) -> Result<Piece, LineFault>
+    ensures { Reads result (hex_string.read digits.now) }
+{
+    if !are_digits(digits) {
+        return Err(LineFault::BadLine);
+    }
+    match decode(alloc, digits) {
+        Ok(bytes) => Ok(Piece::from(alloc, &bytes)?),
+        Err(fault) => Err(LineFault::from(fault)),
+    }
+}
+
+/// Appends bytes, each in two digits.
+pub(crate) fn put_bytes(bytes: &[u8], w: &mut Writer) -> Result<(), AllocError>
+    ensures { OnOk result (w.new ≡ w.old ++ flat_map hex_byte bytes.now) }
+{
+    for b in bytes {
+        put_hex(*b, w)?;
+    }
+    Ok(())
+}
+
+impl Spelled for Piece {
+    ghost use Rattle.spl_sched.specs.Words.{hex_string};
+
+    ghost word = { hex_string };
+
+    fn read(alloc: Global, bytes: &[u8]) -> Result<Piece, LineFault> {
+        read_bytes(alloc, bytes)
+    }
+
+    fn put(&self, w: &mut Writer) -> Result<(), AllocError> {
+        put_bytes(self.bytes(), w)
+    }
+}
