@@ -10,7 +10,7 @@ ghost use Rattle.spl_command.specs.declared.batch.Batch.{Batch};
 ghost use Rattle.spl_sched.specs.declared.line.Line.TheVariants as line;
 ghost use Rattle.spl_model.specs.Projection.{Ran, plainly, lines_fit};
 ghost use Rattle.spl_projection.specs.Whole.{whole_world};
-ghost use Rattle.spl_calm.specs.Happened.{whole_happened};
+ghost use Rattle.spl_projection.specs.Happened.{whole_happened};
 ghost use Rattle.spl_model.specs.Worlds.{Occurrence};
 ghost use Rattle.spl_model.specs.Calm.{calm};
 ghost use Rattle.spl_model.specs.Agreement.{world_behind, AllPlain};

@@ -4,11 +4,14 @@ use Rattle.spl_circuit.specs.declared.definition.Definition.{Definition}
 use Rattle.spl_circuit.specs.Nodes.{Node}
 use Rattle.spl_model.specs.Worlds.{Occurrence, first_world}
 use Rattle.spl_model.specs.Projection.{Ran, own, lines_fit}
+use Rattle.spl_model.specs.Lists.{act_list, batch_list}
 use Rattle.spl_model.specs.Agreement.{world_behind, AllPlain, IsAgreed, Agree}
 use Rattle.spl_model.proofs.Runs.{begins-acts, begins-batches, stays-behind}
 use Rattle.spl_model.proofs.Differ.{ids-differ, share-nothing}
 use Rattle.spl_model.proofs.Keys.{keeps-run}
-use Rattle.spl_model.proofs.Lines.{lines-run, plain-moment, tells-own}
+use Rattle.spl_model.proofs.Lines.{lines-run, plain-moment}
+use Rattle.spl_model.proofs.Tells.{tells-lists}
+use Rattle.spl_model.proofs.Unmoved.{knows-queued}
 use Rattle.spl_model.proofs.FewRuns.{few-behind}
 
 -- each part of the agreement
@@ -17,7 +20,8 @@ agreed-behind ns es d h = record {
   acts = begins-acts ns es d h;
   batches = begins-batches ns es d h;
   differ = ids-differ ns d es h;
-  told = λ c n m turn a b is. tells-own n c d m turn a b;
+  told = λ c n m turn a b is. tells-lists (world_behind ns es) n c d m turn a b (act_list ns d es) (batch_list ns d es) is (begins-acts ns es d h n m turn a b is) (begins-batches ns es d h n m turn a b is);
+  queued = λ before s e. knows-queued (world_behind ns before) s;
   apart = λ e. share-nothing ns d e es h;
   keeps = λ fs k n m turn a b is m2 turn2 a2 b2 is2. keeps-run (world_behind ns es) fs d n m m2 turn turn2 a a2 b b2 k is is2;
   past = λ fs k. stays-behind ns es fs d h k;

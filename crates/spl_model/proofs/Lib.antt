@@ -13,7 +13,11 @@ pub mod Differ
 pub mod Stays
 pub mod Keys
 pub mod Lines
-pub mod Queued
+pub mod Noted
+pub mod Honest
+pub mod Unmoved
+pub mod Fronts
+pub mod Tells
 pub mod FewCells
 pub mod FewLetters
 pub mod FewRows

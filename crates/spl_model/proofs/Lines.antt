@@ -1,14 +1,9 @@
--- What happens in lines, and what a bound cell tells.
+-- What happens in lines.
 use Rattle.std.proofs.Common.{◌≡◌, ℕ, zero, suc, ◌+◌, ◌-◌, ◌^◌, Bool, true, not, ◌&&◌, List, [], ◌∷◌, ◌++◌, length, refl, sym, ap, subst, ◌∙◌}
 use Rattle.std.specs.Prelude.{nat_le, nat_lt}
 use Rattle.std.specs.Str.{bytes_eq}
-use Rattle.spl_agree.specs.Member.{Member}
 use Rattle.spl_agree.proofs.Tests.{if_holds, and_left, and_right}
-use Rattle.spl_circuit.specs.declared.definition.Definition.{Definition}
-use Rattle.spl_circuit.specs.declared.act.Act.{Act}
-use Rattle.spl_circuit.specs.declared.lifecycle.Mark.{Mark}
 use Rattle.spl_circuit.specs.Nodes.{Node, has_node, sorted}
-use Rattle.spl_command.specs.declared.batch.Batch.{Batch}
 use Rattle.spl_wire.specs.declared.event.Event.{Event}
 use Rattle.spl_wire.specs.declared.event.Event.TheVariants as event
 use Rattle.spl_sched.specs.declared.line.Step.{Step}
@@ -21,7 +16,7 @@ use Rattle.spl_model.specs.Worlds.{World, first_world, Occurrence, Steps, step_w
 use Rattle.spl_model.specs.Projection.{Ran, names, line_fits, lines_fit, concerned, at_one_of, beside, own_line, own_among, own}
 use Rattle.spl_model.specs.Calm.{Calming, calming_step, calming, open_nodes, ticks, delivers, takes, pair_turn, to_all, from_all, pass, passes, calm}
 use Rattle.spl_model.specs.Answers.{line_world, lines_world, occurrences_in, occurrences_from, occurrences}
-use Rattle.spl_model.specs.Agreement.{AllPlain, IsPlainEvent, IsPlainStep, TellsOwn}
+use Rattle.spl_model.specs.Agreement.{AllPlain, IsPlainEvent, IsPlainStep}
 
 -- runs one after the other
 pub run-append : (w : World) (xs ys : List Occurrence) → run w (xs ++ ys) ≡ run (run w xs) ys
@@ -190,14 +185,3 @@ plain-front (x ∷ xs) ys h = (h.0, plain-front xs ys h.1)
 -- at each moment of a circuit's world
 pub plain-moment : (ns : List Node) (c : Node) (rs : List Ran) (es fs : List Occurrence) → lines_fit rs ≡ true → es ++ fs ≡ occurrences ns c rs → AllPlain es
 plain-moment ns c rs es fs h e = plain-front es fs (subst AllPlain (sym e) (plain-lines (first_world ns) (own c rs) (fit-own c (concerned c rs) rs h)))
-
--- what a bound cell tells hangs on its own histories
-pub tells-own : (n c : Node) (d : Definition) (m : Mark) (turn : ℕ) (a : Member Act) (b : Member Batch) → TellsOwn n c d m turn a b
-tells-own n c d m turn a b = record {
-  root = λ r. rw r;
-  history = λ r. rw r;
-  value = λ address r. rw r;
-  list = λ prefix r. rw r;
-  receipt = λ i r. rw r;
-  show = refl;
-}

@@ -12,11 +12,11 @@ use Rattle.spl_wire.specs.declared.change.Change.{Change}
 use Rattle.spl_sched.specs.declared.line.Step.{Step}
 use Rattle.spl_sched.specs.declared.line.Line.{Line}
 use Rattle.spl_sched.specs.declared.line.Line.TheVariants as line
-use Rattle.spl_sched.specs.Grammar.{circuit_of, step_node}
+use Rattle.spl_sched.specs.Grammar.{circuit_of, step_circuit, step_node}
 use Rattle.spl_rules.specs.Cells.{is_bound}
 use Rattle.spl_model.specs.Worlds.{World, Occurrence, Steps, Stops, Starts, Halts, first_world, step_plan, step_world, happens}
 use Rattle.spl_model.specs.Calm.{calm}
-use Rattle.spl_model.specs.Projection.{Ran, names, own}
+use Rattle.spl_model.specs.Projection.{Ran, names, concerned, own_among, own}
 
 -- ---- a line in a world
 
@@ -29,17 +29,17 @@ bit_of kept (x ∷ xs) = if kept then bit.Kept else bit.Lost
 abbrev pub halt_answer : (Bit → Answer) → World → Step → Bool → Answer
 halt_answer say w s kept = if w.up (step_node s) then say (bit_of kept (step_plan w s).changes) else answer.Refused refusal.Down
 
--- the answer to a line in a world. What roll asks for no one world tells
-abbrev pub line_answer : World → Line → Bool → Answer
-line_answer w (line.Step s) kept = (step_plan w s).answer
-line_answer w (line.Calm c k) kept = answer.Calm k
-line_answer w (line.Stop n) kept = answer.Power false
-line_answer w (line.Start n) kept = answer.Power true
-line_answer w (line.Roll n) kept = answer.Refused refusal.NoCircuit
-line_answer w (line.Cut calls fill s) kept = halt_answer answer.Cut w s kept
-line_answer w (line.Fail call s) kept = halt_answer answer.Fault w s kept
+-- the answer to a line, in the world of the circuit that it names; `roll` is what roll answers at each node
+abbrev pub line_answer : (Node → World) → (Node → Answer) → Line → Bool → Answer
+line_answer worlds roll (line.Step s) kept = (step_plan (worlds (step_circuit s)) s).answer
+line_answer worlds roll (line.Calm c k) kept = answer.Calm k
+line_answer worlds roll (line.Stop n) kept = answer.Power false
+line_answer worlds roll (line.Start n) kept = answer.Power true
+line_answer worlds roll (line.Roll n) kept = roll n
+line_answer worlds roll (line.Cut calls fill s) kept = halt_answer answer.Cut (worlds (step_circuit s)) s kept
+line_answer worlds roll (line.Fail call s) kept = halt_answer answer.Fault (worlds (step_circuit s)) s kept
 
--- the world behind it
+-- the world of a circuit behind a line of its own
 abbrev pub line_world : World → Line → Bool → World
 line_world w (line.Step s) kept = step_world w s
 line_world w (line.Calm c k) kept = (calm c w k).world
@@ -69,12 +69,6 @@ abbrev pub occurrences_from : World → List Ran → List Occurrence
 occurrences_from w [] = []
 occurrences_from w (r ∷ rs) = occurrences_in w r.line r.kept ++ occurrences_from (line_world w r.line r.kept) rs
 
--- the answer to the last of some lines
-abbrev pub last_answer : World → List Ran → Answer
-last_answer w [] = answer.Refused refusal.NoCircuit
-last_answer w (r ∷ []) = line_answer w r.line r.kept
-last_answer w (r ∷ s ∷ rs) = last_answer (line_world w r.line r.kept) (s ∷ rs)
-
 -- the world of a circuit among some nodes, behind the lines of a schedule: its own lines alone count
 abbrev pub circuit_world : List Node → Node → List Ran → World
 circuit_world ns c rs = lines_world (first_world ns) (own c rs)
@@ -83,16 +77,18 @@ circuit_world ns c rs = lines_world (first_world ns) (own c rs)
 abbrev pub occurrences : List Node → Node → List Ran → List Occurrence
 occurrences ns c rs = occurrences_from (first_world ns) (own c rs)
 
+-- the world of a circuit in which a line runs: what the line concerns counts already
+abbrev pub world_before : List Node → Node → List Ran → Ran → World
+world_before ns c before r = lines_world (first_world ns) (own_among c (concerned c (before ++ r ∷ [])) before)
+
 -- ---- nodes
 
 abbrev pub up_after : Node → Bool → Line → Bool
-up_after n up (line.Step s) = up
-up_after n up (line.Calm c k) = up
 up_after n up (line.Stop m) = if bytes_eq n m then false else up
 up_after n up (line.Start m) = if bytes_eq n m then true else up
-up_after n up (line.Roll m) = up
 up_after n up (line.Cut calls fill s) = if bytes_eq n (step_node s) then false else up
 up_after n up (line.Fail call s) = if bytes_eq n (step_node s) then false else up
+up_after n up _ = up
 
 abbrev pub up_from : Node → Bool → List Ran → Bool
 up_from n up [] = up
@@ -120,21 +116,9 @@ roll_answer ns rs n = if is_up n rs then answer.Roll (bound_at ns rs n) else ans
 
 -- ---- answers
 
--- the answer to a line that names no circuit
-abbrev pub node_answer : List Node → List Ran → Line → Answer
-node_answer ns rs (line.Stop n) = answer.Power false
-node_answer ns rs (line.Start n) = answer.Power true
-node_answer ns rs (line.Roll n) = roll_answer ns rs n
-node_answer ns rs _ = answer.Refused refusal.NoCircuit
-
--- the answer to the last of these lines: where it names a circuit, the last answer to the circuit's own lines
-abbrev pub answer_about : List Node → List Ran → Line → Option Node → Answer
-answer_about ns rs l None = node_answer ns rs l
-answer_about ns rs l (Some c) = last_answer (first_world ns) (own c rs)
-
 -- the answer to a line behind the lines that ran before it
-abbrev pub answer_to : List Node → List Ran → Ran → Answer
-answer_to ns before r = answer_about ns (before ++ r ∷ []) r.line (circuit_of r.line)
+unfoldable pub answer_to : List Node → List Ran → Ran → Answer
+answer_to ns before r = line_answer (λ c. world_before ns c before r) (λ n. roll_answer ns (before ++ r ∷ []) n) r.line r.kept
 
 -- the answers to lines that run behind others
 abbrev pub answers : List Node → List Ran → List Ran → List Answer

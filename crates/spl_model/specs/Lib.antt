@@ -5,4 +5,7 @@ pub mod Projection
 pub mod Outcomes
 pub mod Answers
 pub mod Lists
+pub mod Told
+pub mod Queued
 pub mod Agreement
+pub mod OneList

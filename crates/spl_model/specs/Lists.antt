@@ -18,9 +18,8 @@ use Rattle.spl_model.specs.Worlds.{World, Occurrence, Steps, Stops, Starts, Halt
 -- the changes that are made
 abbrev pub changes_of : World → Occurrence → List Change
 changes_of w (Steps s) = (step_plan w s).changes
-changes_of w (Stops n) = []
-changes_of w (Starts n) = []
 changes_of w (Halts kept s) = if w.up (step_node s) then (if kept then (step_plan w s).changes else []) else []
+changes_of w _ = []
 
 -- and where
 abbrev pub node_of : Occurrence → Node
@@ -32,32 +31,15 @@ node_of (Halts kept s) = step_node s
 -- what a change commits
 abbrev pub committed : {V : Type 0} → GroupChange V → List V
 committed (change.Commit r v) = v ∷ []
-committed (change.Queue v) = []
-committed (change.Refuse v why) = []
-committed (change.Begin r) = []
-committed (change.Seen r) = []
-committed (change.Promise r v) = []
-committed change.Abort = []
-committed (change.Restore next seen) = []
-committed (change.Kept v why) = []
+committed _ = []
 
 abbrev pub act_of : Change → List Act
-act_of (durable.Bind d) = []
 act_of (durable.Admin x) = committed x
-act_of (durable.Service x) = []
-act_of durable.Abandon = []
-act_of durable.Purge = []
-act_of (durable.Turn t) = []
-act_of (durable.Gone old) = []
+act_of _ = []
 
 abbrev pub batch_of : Change → List Batch
-batch_of (durable.Bind d) = []
-batch_of (durable.Admin x) = []
 batch_of (durable.Service x) = committed x
-batch_of durable.Abandon = []
-batch_of durable.Purge = []
-batch_of (durable.Turn t) = []
-batch_of (durable.Gone old) = []
+batch_of _ = []
 
 abbrev pub acts_in : List Change → List Act
 acts_in [] = []

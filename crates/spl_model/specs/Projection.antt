@@ -50,12 +50,9 @@ step_concerns (step.Deliver from to c k) = to ∷ []
 
 abbrev pub line_concerns : Line → List Node
 line_concerns (line.Step s) = step_concerns s
-line_concerns (line.Calm c k) = []
-line_concerns (line.Stop n) = []
-line_concerns (line.Start n) = []
-line_concerns (line.Roll n) = []
 line_concerns (line.Cut calls fill s) = step_concerns s
 line_concerns (line.Fail call s) = step_concerns s
+line_concerns _ = []
 
 -- the nodes concerned with a circuit: those at which a line that names it takes place, and those that such a line
 -- proposes as members
@@ -72,13 +69,11 @@ at_one_of ns n l = if has_node ns n then plainly l ∷ [] else []
 -- what is left of a line that doesn't name the circuit, where these nodes are concerned: their stops and starts. Where one
 -- stops in an event of another circuit, that is a stop
 abbrev pub beside : List Node → Line → List Ran
-beside ns (line.Step s) = []
-beside ns (line.Calm c k) = []
 beside ns (line.Stop n) = at_one_of ns n (line.Stop n)
 beside ns (line.Start n) = at_one_of ns n (line.Start n)
-beside ns (line.Roll n) = []
 beside ns (line.Cut calls fill s) = at_one_of ns (step_node s) (line.Stop (step_node s))
 beside ns (line.Fail call s) = at_one_of ns (step_node s) (line.Stop (step_node s))
+beside ns _ = []
 
 -- what is a circuit's own of a line, where these nodes are concerned with it: the line where it names it, or what is left
 abbrev pub own_line : Node → List Node → Ran → List Ran

@@ -1,5 +1,5 @@
 -- The world of one circuit (docs/RULES.md, Circuits as worlds).
-use Rattle.std.specs.Prelude.{◌-◌, Bool, true, false, ◌&&◌, List, [], ◌∷◌, ◌++◌, if◌then◌else◌, slice_get, Option, Some, None}
+use Rattle.std.specs.Prelude.{◌≡◌, ◌-◌, Bool, true, false, ◌&&◌, List, [], ◌∷◌, ◌++◌, if◌then◌else◌, slice_get, Option, Some, None}
 use Rattle.std.specs.Str.{bytes_eq}
 use Rattle.spl_circuit.specs.Nodes.{Node, has_node}
 use Rattle.spl_wire.specs.declared.message.Message.{Message}
@@ -100,3 +100,10 @@ happens w (Halts kept s) = if w.up (step_node s) then halted w (step_node s) kep
 abbrev pub run : World → List Occurrence → World
 run w [] = w
 run w (e ∷ es) = run (happens w e) es
+
+-- the world of a circuit stays as it was
+pub record IsUnmoved (old new : World) : Type 0 where
+  pub nodes : new.nodes ≡ old.nodes
+  pub up : (n : Node) → new.up n ≡ old.up n
+  pub at : (n : Node) → new.at n ≡ old.at n
+  pub sent : new.sent ≡ old.sent

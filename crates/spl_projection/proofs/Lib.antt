@@ -9,4 +9,7 @@ pub mod Ups
 pub mod Rolls
 pub mod Moments
 pub mod Outcomes
+pub mod Happens
+pub mod OneList
+pub mod Refusals
 pub mod Examples

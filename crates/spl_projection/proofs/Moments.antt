@@ -11,11 +11,11 @@ use Rattle.spl_rules.specs.Cells.{Cell}
 use Rattle.spl_model.specs.Worlds.{World, first_world, messages, Occurrence, Steps, run}
 use Rattle.spl_model.specs.Calm.{Calming, calming_step, open_nodes, ticks, delivers, takes, pair_turn, to_all, from_all, pass, passes, calm}
 use Rattle.spl_model.specs.Projection.{Ran, plainly, lines_fit, names, concerned}
-use Rattle.spl_model.specs.Answers.{occurrences_in, circuit_world}
+use Rattle.spl_model.specs.Answers.{occurrences_in, circuit_world, world_before}
 use Rattle.spl_projection.specs.Whole.{whole_world}
 use Rattle.spl_model.proofs.Lines.{IsRun}
 use Rattle.spl_projection.specs.Same.{IsSameFor}
-use Rattle.spl_projection.specs.Moments.{IsMoment, world_before, AreAtMoment}
+use Rattle.spl_projection.specs.Moments.{IsMoment, AreAtMoment}
 use Rattle.spl_projection.proofs.Confined.{step-here}
 use Rattle.spl_projection.proofs.Alike.{IsAlike, AllHere, run-alike, same-alike}
 use Rattle.spl_projection.proofs.Calms.{calm-alike}

@@ -12,12 +12,12 @@ use Rattle.spl_wire.specs.declared.plan.Plan.{Plan}
 use Rattle.spl_sched.specs.declared.line.Step.{Step}
 use Rattle.spl_sched.specs.declared.line.Line.{Line}
 use Rattle.spl_sched.specs.declared.line.Line.TheVariants as line
-use Rattle.spl_sched.specs.Grammar.{step_node, is_step, is_fill, is_line, circuit_of}
+use Rattle.spl_sched.specs.Grammar.{step_node, step_circuit, is_step, is_fill, is_line, circuit_of}
 use Rattle.spl_rules.specs.Cells.{Empty}
 use Rattle.spl_projection.specs.Same.{IsSameFor}
 use Rattle.spl_model.specs.Worlds.{World, first_world, step_plan, happens, Stops, Starts, Halts}
 use Rattle.spl_model.specs.Projection.{Ran, plainly, line_fits, lines_fit, names, names_circuit, line_concerns, concerned, at_one_of, beside, own_line, own_among}
-use Rattle.spl_model.specs.Answers.{bit_of, halt_answer, line_answer, line_world, lines_world, last_answer, circuit_world, answer_about, answer_to}
+use Rattle.spl_model.specs.Answers.{bit_of, halt_answer, line_answer, line_world, lines_world, circuit_world, world_before, roll_answer, answer_to}
 use Rattle.spl_projection.specs.Whole.{world_beside, world_after, whole_from, whole_world}
 use Rattle.spl_model.proofs.Nodes.{node_is, node_same}
 use Rattle.spl_model.proofs.Lines.{plain-step}
@@ -73,16 +73,6 @@ module _ (ns : List Node) where
   halt-same say w v s kept h a =
       ap (λ (b : Bool). if b then say (bit_of kept (step_plan w s).changes) else answer.Refused refusal.Down) (up-alike ns w v (step_node s) a (step-here ns s h))
       ∙ ap (λ (p : Plan). if v.up (step_node s) then say (bit_of kept p.changes) else answer.Refused refusal.Down) (plan-alike ns w v s a (step-here ns s h))
-
-  -- it is answered alike
-  pub answer-same : (w v : World) (l : Line) (kept : Bool) → IsLineWithin l → IsAlike ns w v → line_answer w l kept ≡ line_answer v l kept
-  answer-same w v (line.Step s) kept h a = ap (λ (p : Plan). p.answer) (plan-alike ns w v s a (step-here ns s h))
-  answer-same w v (line.Calm c k) kept h a = refl
-  answer-same w v (line.Stop n) kept h a = refl
-  answer-same w v (line.Start n) kept h a = refl
-  answer-same w v (line.Roll n) kept h a = refl
-  answer-same w v (line.Cut calls fill s) kept h a = halt-same answer.Cut w v s kept h a
-  answer-same w v (line.Fail call s) kept h a = halt-same answer.Fault w v s kept h a
 
   -- ---- any other line
 
@@ -199,12 +189,6 @@ pub own-append : (c : Node) (ns : List Node) (xs ys : List Ran) → own_among c 
 own-append c ns [] ys = refl
 own-append c ns (x ∷ xs) ys = ap (λ (zs : List Ran). own_line c ns x ++ zs) (own-append c ns xs ys) ∙ sym (append_assoc (own_line c ns x) (own_among c ns xs) (own_among c ns ys))
 
--- the last of some lines is answered behind those before it
-pub last-append : (w : World) (xs : List Ran) (r : Ran) → last_answer w (xs ++ r ∷ []) ≡ line_answer (lines_world w xs) r.line r.kept
-last-append w [] r = refl
-last-append w (x ∷ []) r = refl
-last-append w (x ∷ y ∷ ys) r = last-append (line_world w x.line x.kept) (y ∷ ys) r
-
 pub fits-left : (xs ys : List Ran) → lines_fit (xs ++ ys) ≡ true → lines_fit xs ≡ true
 fits-left [] ys h = refl
 fits-left (x ∷ xs) ys h = rw (and_left (line_fits x) (lines_fit (xs ++ ys)) h) (fits-left xs ys (and_right (line_fits x) (lines_fit (xs ++ ys)) h))
@@ -221,12 +205,31 @@ names-is c l h = go (circuit_of l) h
     go None q = cc
     go (Some i) q = ap (λ (x : Node). Some x) (node_is i c q)
 
--- among any nodes that have all that is concerned, the last line is answered as in the world behind all lines
-pub last-same : (all ns : List Node) (c : Node) (before : List Ran) (r : Ran) → lines_fit (before ++ r ∷ []) ≡ true → AllConcern ns c (before ++ r ∷ []) → names c r.line ≡ true → last_answer (first_world all) (own_among c ns (before ++ r ∷ [])) ≡ line_answer (whole_world all c before) r.line r.kept
-last-same all ns c before r f h q =
-    ap (λ (xs : List Ran). last_answer (first_world all) xs) (own-append c ns before (r ∷ []) ∙ ap (λ (xs : List Ran). own_among c ns before ++ xs) one)
-    ∙ (last-append (first_world all) (own_among c ns before) r
-    ∙ answer-same ns (lines_world (first_world all) (own_among c ns before)) (whole_world all c before) r.line r.kept (named-within ns c r.line q (k.1.0 q)) p.alike)
+-- two worlds of a circuit that a line names are alike at nodes where it takes place
+pub record IsAlikeFor (l : Line) (w v : World) : Type 0 where
+  pub nodes : List Node
+  pub within : IsLineWithin nodes l
+  pub alike : IsAlike nodes w v
+
+-- a line is answered alike where the worlds of the circuit that it names are alike
+pub answer-alike : (ws vs : Node → World) (roll : Node → Answer) (l : Line) (kept : Bool) → ((c : Node) → names c l ≡ true → IsAlikeFor l (ws c) (vs c)) → line_answer ws roll l kept ≡ line_answer vs roll l kept
+answer-alike ws vs roll (line.Step s) kept h =
+    let k : IsAlikeFor (line.Step s) (ws (step_circuit s)) (vs (step_circuit s)) = h (step_circuit s) (node_same (step_circuit s)) in
+    ap (λ (p : Plan). p.answer) (plan-alike k.nodes (ws (step_circuit s)) (vs (step_circuit s)) s k.alike (step-here k.nodes s k.within))
+answer-alike ws vs roll (line.Calm c k) kept h = refl
+answer-alike ws vs roll (line.Stop n) kept h = refl
+answer-alike ws vs roll (line.Start n) kept h = refl
+answer-alike ws vs roll (line.Roll n) kept h = refl
+answer-alike ws vs roll (line.Cut calls fill s) kept h =
+    let k : IsAlikeFor (line.Cut calls fill s) (ws (step_circuit s)) (vs (step_circuit s)) = h (step_circuit s) (node_same (step_circuit s)) in
+    halt-same k.nodes answer.Cut (ws (step_circuit s)) (vs (step_circuit s)) s kept k.within k.alike
+answer-alike ws vs roll (line.Fail call s) kept h =
+    let k : IsAlikeFor (line.Fail call s) (ws (step_circuit s)) (vs (step_circuit s)) = h (step_circuit s) (node_same (step_circuit s)) in
+    halt-same k.nodes answer.Fault (ws (step_circuit s)) (vs (step_circuit s)) s kept k.within k.alike
+
+-- among any nodes that have all that is concerned, the world behind the own lines is alike to the one behind all lines
+pub alike-for : (all ns : List Node) (c : Node) (before : List Ran) (r : Ran) → lines_fit (before ++ r ∷ []) ≡ true → AllConcern ns c (before ++ r ∷ []) → names c r.line ≡ true → IsAlikeFor r.line (lines_world (first_world all) (own_among c ns before)) (whole_world all c before)
+alike-for all ns c before r f h q = record { nodes = ns; within = named-within ns c r.line q (k.1.0 q); alike = p.alike }
   where
     k : AllConcern ns c before × AllConcern ns c (r ∷ [])
     k = concern-left ns c before (r ∷ []) h
@@ -234,13 +237,10 @@ last-same all ns c before r f h q =
     p : IsPair ns (lines_world (first_world all) (own_among c ns before)) (whole_world all c before)
     p = lines-pair ns c (first_world all) (first_world all) before (fits-left before (r ∷ []) f) k.0 (pair-first ns all)
 
-    one : own_among c ns (r ∷ []) ≡ r ∷ []
-    one = rw q
-
-pub answer-whole : (ns : List Node) (before : List Ran) (r : Ran) (c : Node) → lines_fit (before ++ r ∷ []) ≡ true → names c r.line ≡ true → answer_to ns before r ≡ line_answer (whole_world ns c before) r.line r.kept
-answer-whole ns before r c f q =
-    ap (λ (o : Option Node). answer_about ns (before ++ r ∷ []) r.line o) (names-is c r.line q)
-    ∙ last-same ns (concerned c (before ++ r ∷ [])) c before r f (all-concern (concerned c (before ++ r ∷ [])) c (before ++ r ∷ []) (within-same (concerned c (before ++ r ∷ [])))) q
+pub answer-whole : (ns : List Node) (before : List Ran) (r : Ran) → lines_fit (before ++ r ∷ []) ≡ true → answer_to ns before r ≡ line_answer (λ c. whole_world ns c before) (λ n. roll_answer ns (before ++ r ∷ []) n) r.line r.kept
+unfolding answer_to
+answer-whole ns before r f = answer-alike (λ c. world_before ns c before r) (λ c. whole_world ns c before) (λ n. roll_answer ns (before ++ r ∷ []) n) r.line r.kept
+    (λ c q. alike-for ns (concerned c (before ++ r ∷ [])) c before r f (all-concern (concerned c (before ++ r ∷ [])) c (before ++ r ∷ []) (within-same (concerned c (before ++ r ∷ [])))) q)
 
 -- nothing is kept at a node that isn't concerned
 pub elsewhere-empty : (ns : List Node) (c : Node) (rs : List Ran) (n : Node) → lines_fit rs ≡ true → has_node (concerned c rs) n ≡ false → (whole_world ns c rs).at n ≡ Empty

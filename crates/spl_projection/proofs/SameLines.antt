@@ -1,25 +1,44 @@
 -- The answers to the lines that name a circuit hang on its own lines alone.
-use Rattle.std.proofs.Common.{◌≡◌, ◌⊎◌, true, false, List, [], ◌∷◌, ◌++◌, append-nil, append_assoc, refl, sym, ap, subst, ◌∙◌, inl, inr}
-use Rattle.std.specs.Prelude.{if◌then◌else◌}
+use Rattle.std.proofs.Common.{◌≡◌, ◌⊎◌, Bool, true, false, List, [], ◌∷◌, ◌++◌, append-nil, append_assoc, refl, sym, ap, subst, ◌∙◌, inl, inr}
+use Rattle.std.specs.Prelude.{Some, if◌then◌else◌}
 use Rattle.spl_agree.proofs.Tests.{if_holds, bool_cases, and_left, and_right}
 use Rattle.spl_circuit.specs.Nodes.{Node, has_node}
 use Rattle.spl_wire.specs.declared.answer.Answer.{Answer}
+use Rattle.spl_wire.specs.declared.answer.Answer.TheVariants as answer
 use Rattle.spl_sched.specs.declared.line.Line.{Line}
 use Rattle.spl_sched.specs.declared.line.Line.TheVariants as line
-use Rattle.spl_sched.specs.Grammar.{step_node}
+use Rattle.spl_sched.specs.Grammar.{step_node, circuit_of}
 use Rattle.spl_model.specs.Worlds.{World, first_world}
 use Rattle.spl_model.specs.Projection.{Ran, line_fits, lines_fit, names, line_concerns, concerned, at_one_of, beside, own_line, own_among, own}
-use Rattle.spl_model.specs.Answers.{line_answer, line_world, lines_world, answer_to, answers_about}
+use Rattle.spl_model.specs.Answers.{line_answer, line_world, lines_world, roll_answer, answer_to, answers_about}
 use Rattle.spl_projection.specs.Whole.{whole_world}
 use Rattle.spl_model.proofs.Lines.{fit-append}
-use Rattle.spl_projection.proofs.Owns.{IsPair, pair-first, named-within, answer-same, AllConcern, lines-append, lines-pair, within-same, all-concern, own-append, answer-whole}
+use Rattle.spl_projection.proofs.Owns.{IsPair, pair-first, named-within, names-is, IsAlikeFor, answer-alike, AllConcern, lines-append, lines-pair, within-same, all-concern, own-append, answer-whole}
+
+-- the answer to a line that names a circuit, in a world of it
+abbrev pub named_answer : World → Ran → Answer
+named_answer w r = line_answer (λ c. w) (λ n. answer.Power true) r.line r.kept
 
 -- the answers to the lines that name a circuit, in a world where its own lines run
 abbrev pub named_answers : Node → World → List Ran → List Answer
 named_answers c w [] = []
 named_answers c w (r ∷ rs) =
-    if names c r.line then line_answer w r.line r.kept ∷ named_answers c (line_world w r.line r.kept) rs
+    if names c r.line then named_answer w r ∷ named_answers c (line_world w r.line r.kept) rs
     else named_answers c (line_world w r.line r.kept) rs
+
+-- no line that names a circuit asks for a roll
+unrolled : (c : Node) (ws : Node → World) (roll roll2 : Node → Answer) (l : Line) (kept : Bool) → names c l ≡ true → line_answer ws roll l kept ≡ line_answer ws roll2 l kept
+unrolled c ws roll roll2 (line.Step s) kept q = refl
+unrolled c ws roll roll2 (line.Calm i k) kept q = refl
+unrolled c ws roll roll2 (line.Stop n) kept q = refl
+unrolled c ws roll roll2 (line.Start n) kept q = refl
+unrolled c ws roll roll2 (line.Roll n) kept q = cc
+unrolled c ws roll roll2 (line.Cut calls f s) kept q = refl
+unrolled c ws roll roll2 (line.Fail call s) kept q = refl
+
+-- a line names one circuit
+named-one_circuit : (c i : Node) (l : Line) → names c l ≡ true → names i l ≡ true → i ≡ c
+named-one_circuit c i l q z = let x : circuit_of l ≡ Some c = names-is c l q in let y : circuit_of l ≡ Some i = names-is i l z in cc
 
 -- stops and starts are none of these
 named-one : (c : Node) (w : World) (ns : List Node) (n : Node) (l : Line) (xs : List Ran) → names c l ≡ false → named_answers c w (at_one_of ns n l ++ xs) ≡ named_answers c (lines_world w (at_one_of ns n l)) xs
@@ -58,8 +77,14 @@ module _ (all : List Node) (c : Node) (ns : List Node) where
       pair : IsPair ns (here before) (whole_world all c before)
       pair = lines-pair ns c (first_world all) (first_world all) before f h (pair-first ns all)
 
-      answered : names c r.line ≡ true → answer_to all before r ≡ line_answer (here before) r.line r.kept
-      answered q = answer-whole all before r c fits q ∙ sym (answer-same ns (here before) (whole_world all c before) r.line r.kept (named-within ns c r.line q (k.0 q)) pair.alike)
+      answered : names c r.line ≡ true → answer_to all before r ≡ named_answer (here before) r
+      answered q =
+          answer-whole all before r fits
+          ∙ (sym (answer-alike (λ i. here before) (λ i. whole_world all i before) (λ n. roll_answer all (before ++ r ∷ []) n) r.line r.kept alike)
+          ∙ unrolled c (λ i. here before) (λ n. roll_answer all (before ++ r ∷ []) n) (λ n. answer.Power true) r.line r.kept q)
+        where
+          alike : (i : Node) → names i r.line ≡ true → IsAlikeFor r.line (here before) (whole_world all i before)
+          alike i z = subst (λ (j : Node). IsAlikeFor r.line (here before) (whole_world all j before)) (sym (named-one_circuit c i r.line q z)) (record { nodes = ns; within = named-within ns c r.line q (k.0 q); alike = pair.alike })
 
       own_is : names c r.line ≡ true → own_line c ns r ≡ r ∷ []
       own_is q = rw q
@@ -74,7 +99,7 @@ module _ (all : List Node) (c : Node) (ns : List Node) where
       go (inl q) hyp =
           subst (λ (xs : List Ran). Goal xs) (sym (own_is q))
           (rw q (ap (λ (a : Answer). a ∷ answers_about all c (before ++ r ∷ []) rs) (answered q)
-          ∙ ap (λ (xs : List Answer). line_answer (here before) r.line r.kept ∷ xs) (hyp ∙ ap (λ (w : World). named_answers c w (own_among c ns rs)) (here-more before r ∙ ap (λ (xs : List Ran). lines_world (here before) xs) (own_is q)))))
+          ∙ ap (λ (xs : List Answer). named_answer (here before) r ∷ xs) (hyp ∙ ap (λ (w : World). named_answers c w (own_among c ns rs)) (here-more before r ∙ ap (λ (xs : List Ran). lines_world (here before) xs) (own_is q)))))
       go (inr q) hyp =
           subst (λ (xs : List Ran). Goal xs) (sym (beside_is q))
           (rw q (hyp ∙ (ap (λ (w : World). named_answers c w (own_among c ns rs)) (here-more before r ∙ ap (λ (xs : List Ran). lines_world (here before) xs) (beside_is q))

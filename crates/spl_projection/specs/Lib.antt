@@ -1,4 +1,5 @@
 pub mod Whole
+pub mod Happened
 pub mod Apart
 pub mod Same
 pub mod Moments

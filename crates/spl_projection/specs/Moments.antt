@@ -1,10 +1,10 @@
 -- The moments of a line (docs/RULES.md, Circuits as worlds).
-use Rattle.std.specs.Prelude.{◌≡◌, true, false, List, [], ◌∷◌, ◌++◌}
+use Rattle.std.specs.Prelude.{◌≡◌, true, false, List, ◌++◌}
 use Rattle.spl_circuit.specs.Nodes.{Node}
 use Rattle.spl_rules.specs.Cells.{Cell}
-use Rattle.spl_model.specs.Worlds.{World, Occurrence, first_world, run}
-use Rattle.spl_model.specs.Projection.{Ran, names, concerned, own_among}
-use Rattle.spl_model.specs.Answers.{occurrences_in, lines_world}
+use Rattle.spl_model.specs.Worlds.{World, Occurrence, run}
+use Rattle.spl_model.specs.Projection.{Ran, names}
+use Rattle.spl_model.specs.Answers.{occurrences_in}
 
 -- a world at a moment of a line: behind what has happened of it so far
 pub record IsMoment (w : World) (r : Ran) (m : World) : Type 0 where
@@ -12,10 +12,6 @@ pub record IsMoment (w : World) (r : Ran) (m : World) : Type 0 where
   pub later : List Occurrence
   pub all : happened ++ later ≡ occurrences_in w r.line r.kept
   pub is : m ≡ run w happened
-
--- the world of a circuit in which a line that names it runs: what the line concerns counts already
-abbrev pub world_before : List Node → Node → List Ran → Ran → World
-world_before ns c before r = lines_world (first_world ns) (own_among c (concerned c (before ++ r ∷ [])) before)
 
 -- what each node keeps of each circuit at one moment of a line: of the circuit that the line names, what its world has at
 -- that moment, the same for all nodes; of any other, what its world has before the line

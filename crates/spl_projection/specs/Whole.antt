@@ -10,13 +10,11 @@ use Rattle.spl_model.specs.Answers.{line_world}
 
 -- a line that doesn't name the circuit
 abbrev pub world_beside : World → Line → World
-world_beside w (line.Step s) = w
-world_beside w (line.Calm c k) = w
 world_beside w (line.Stop n) = happens w (Stops n)
 world_beside w (line.Start n) = happens w (Starts n)
-world_beside w (line.Roll n) = w
 world_beside w (line.Cut calls fill s) = happens w (Stops (step_node s))
 world_beside w (line.Fail call s) = happens w (Stops (step_node s))
+world_beside w _ = w
 
 -- any line
 abbrev pub world_after : Node → World → Ran → World

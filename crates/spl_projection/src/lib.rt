@@ -4,14 +4,17 @@
 ghost use Rattle.std.specs.Prelude.{◌≡◌, Bool, true, false, List, [], ◌∷◌, ◌++◌};
 ghost use Rattle.spl_circuit.specs.Nodes.{Node, has_node};
 ghost use Rattle.spl_circuit.specs.Rules.{ascends};
+ghost use Rattle.spl_wire.specs.declared.answer.Refusal.{Refusal};
+ghost use Rattle.spl_wire.specs.declared.answer.Answer.TheVariants as answer;
 ghost use Rattle.spl_sched.specs.declared.line.Step.{Step};
 ghost use Rattle.spl_rules.specs.Cells.{Cell, Empty, is_bound};
-ghost use Rattle.spl_model.specs.Worlds.{World, Halts, step_plan, happens};
+ghost use Rattle.spl_model.specs.Worlds.{World, IsUnmoved, Halts, step_plan, happens};
 ghost use Rattle.spl_model.specs.Projection.{Ran, lines_fit, names, concerned, beside, own};
-ghost use Rattle.spl_model.specs.Answers.{line_answer, line_world, circuit_world, is_up, bound_at, answer_to, answers_about};
+ghost use Rattle.spl_model.specs.Answers.{line_answer, line_world, circuit_world, world_before, is_up, bound_at, roll_answer, answer_to, answers_about};
+ghost use Rattle.spl_model.specs.OneList.{TellOneList};
 ghost use Rattle.spl_projection.specs.Whole.{world_beside, whole_world};
 ghost use Rattle.spl_projection.specs.Same.{IsSameFor};
-ghost use Rattle.spl_projection.specs.Moments.{IsMoment, world_before, AreAtMoment};
+ghost use Rattle.spl_projection.specs.Moments.{IsMoment, AreAtMoment};
 
 /// A line that names a circuit moves that circuit's world; a stop or a start, also one in an event
 /// of another circuit, is one in each; no other line moves a world.
@@ -22,12 +25,12 @@ pub fn circuits_are_apart()
 
 /// A circuit's world behind its own lines and the one behind all lines have the same cells and the
 /// same messages, and of the nodes concerned the same are up; at any other node nothing is kept. So
-/// a line that names the circuit is answered as in the world behind all lines. A node is up in that
+/// a line is answered as in the worlds behind all lines. A node is up in that
 /// world of each circuit, or of none. Each moment of a line is one in both worlds.
 pub fn own_lines_suffice()
     ensures same { (ns : List Node) (c : Node) (rs : List Ran) → lines_fit rs ≡ true → IsSameFor (concerned c rs) (circuit_world ns c rs) (whole_world ns c rs) }
     ensures elsewhere { (ns : List Node) (c : Node) (rs : List Ran) (n : Node) → lines_fit rs ≡ true → has_node (concerned c rs) n ≡ false → (whole_world ns c rs).at n ≡ Empty }
-    ensures answer { (ns : List Node) (before : List Ran) (r : Ran) (c : Node) → lines_fit (before ++ r ∷ []) ≡ true → names c r.line ≡ true → answer_to ns before r ≡ line_answer (whole_world ns c before) r.line r.kept }
+    ensures answer { (ns : List Node) (before : List Ran) (r : Ran) → lines_fit (before ++ r ∷ []) ≡ true → answer_to ns before r ≡ line_answer (λ c. whole_world ns c before) (λ n. roll_answer ns (before ++ r ∷ []) n) r.line r.kept }
     ensures up { (ns : List Node) (c : Node) (rs : List Ran) (n : Node) → (whole_world ns c rs).up n ≡ is_up n rs }
     ensures moments { (ns : List Node) (c : Node) (before : List Ran) (r : Ran) (m : World) → lines_fit (before ++ r ∷ []) ≡ true → names c r.line ≡ true → IsMoment (whole_world ns c before) r m → (n : World) × IsMoment (world_before ns c before r) r n × IsSameFor (concerned c (before ++ r ∷ [])) n m }
     ensures cells { (ns : List Node) (before : List Ran) (r : Ran) (cells : Node → Node → Cell) → lines_fit (before ++ r ∷ []) ≡ true → AreAtMoment (λ c. whole_world ns c before) (λ c. whole_world ns c before) r cells → AreAtMoment (λ c. world_before ns c before r) (λ c. circuit_world ns c before) r cells }
@@ -47,6 +50,17 @@ pub fn rolls_have_what_is_bound()
     ensures ordered { (ns : List Node) (rs : List Ran) (n : Node) → ascends (bound_at ns rs n) ≡ true }
     ensures bound { (ns : List Node) (rs : List Ran) (n c : Node) → lines_fit rs ≡ true → has_node (bound_at ns rs n) c ≡ is_bound ((whole_world ns c rs).at n) }
     ensures only { (ns : List Node) (rs : List Ran) (n : Node) (xs : List Node) → lines_fit rs ≡ true → ascends xs ≡ true → ((c : Node) → has_node xs c ≡ is_bound ((whole_world ns c rs).at n)) → xs ≡ bound_at ns rs n }
+{}
+
+/// What nodes that are bound to one definition tell about a circuit, in whatever lines, is of one
+/// list: roots of as many batches are one root, and of two histories one begins the other.
+pub fn members_tell_one_list()
+    ensures { (ns : List Node) (rs : List Ran) → lines_fit rs ≡ true → TellOneList ns rs }
+{}
+
+/// A line that is refused, whatever the refusal, leaves the world of each circuit as it was.
+pub fn refusals_move_no_world()
+    ensures { (ns : List Node) (before : List Ran) (r : Ran) (why : Refusal) (c : Node) → lines_fit (before ++ r ∷ []) ≡ true → answer_to ns before r ≡ answer.Refused why → IsUnmoved (whole_world ns c before) (whole_world ns c (before ++ r ∷ [])) }
 {}
 
 /// Where an event without changes is cut off, it doesn't matter whether its record is kept.

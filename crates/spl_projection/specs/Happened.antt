@@ -11,13 +11,11 @@ use Rattle.spl_projection.specs.Whole.{world_after}
 
 -- in a line that doesn't name the circuit
 abbrev pub happened_beside : Line → List Occurrence
-happened_beside (line.Step s) = []
-happened_beside (line.Calm c k) = []
 happened_beside (line.Stop n) = Stops n ∷ []
 happened_beside (line.Start n) = Starts n ∷ []
-happened_beside (line.Roll n) = []
 happened_beside (line.Cut calls fill s) = Stops (step_node s) ∷ []
 happened_beside (line.Fail call s) = Stops (step_node s) ∷ []
+happened_beside _ = []
 
 -- in any line
 abbrev pub happened_in : Node → World → Ran → List Occurrence

@@ -1,0 +1,62 @@
+-- A line that is refused moves the world of no circuit.
+use Rattle.std.proofs.Common.{◌≡◌, ◌⊎◌, Bool, true, false, List, [], ◌∷◌, ◌++◌, sym, ap, subst, ◌∙◌, inl, inr}
+use Rattle.std.specs.Prelude.{if◌then◌else◌}
+use Rattle.spl_agree.proofs.Tests.{if_holds, bool_cases}
+use Rattle.spl_circuit.specs.Nodes.{Node}
+use Rattle.spl_wire.specs.declared.answer.Answer.{Answer}
+use Rattle.spl_wire.specs.declared.answer.Answer.TheVariants as answer
+use Rattle.spl_wire.specs.declared.answer.Bit.{Bit}
+use Rattle.spl_wire.specs.declared.answer.Refusal.{Refusal}
+use Rattle.spl_wire.specs.declared.answer.Refusal.TheVariants as refusal
+use Rattle.spl_sched.specs.declared.line.Step.{Step}
+use Rattle.spl_sched.specs.declared.line.Line.{Line}
+use Rattle.spl_sched.specs.declared.line.Line.TheVariants as line
+use Rattle.spl_sched.specs.Grammar.{step_node, step_circuit}
+use Rattle.spl_model.specs.Worlds.{World, IsUnmoved, Stops, happens, step_plan}
+use Rattle.spl_model.specs.Projection.{Ran, names, lines_fit}
+use Rattle.spl_model.specs.Answers.{bit_of, halt_answer, line_answer, roll_answer, answer_to}
+use Rattle.spl_model.proofs.Unmoved.{unmoved-same, unmoved-line}
+use Rattle.spl_projection.specs.Whole.{world_beside, whole_world}
+use Rattle.spl_projection.specs.Apart.{moves-own, moves-beside}
+use Rattle.spl_projection.proofs.Owns.{answer-whole}
+use Rattle.spl_projection.proofs.Ups.{whole-up}
+
+module _ (ns : List Node) (before : List Ran) (why : Refusal) where
+  abbrev worlds : Node → World
+  worlds i = whole_world ns i before
+
+  -- where a stop in a step is refused, its node is down already, in the world of each circuit
+  unmoved-stop : (say : Bit → Answer) (s : Step) (kept : Bool) (c : Node) → ((b : Bit) → say b ≡ answer.Refused why → ⊥) → halt_answer say (worlds (step_circuit s)) s kept ≡ answer.Refused why → IsUnmoved (worlds c) (happens (worlds c) (Stops (step_node s)))
+  unmoved-stop say s kept c other h =
+      if_holds (IsUnmoved (worlds c)) ((worlds c).up (step_node s)) _ _ (λ q. absurd (other (bit_of kept (step_plan here s).changes) (sym (up (there q)) ∙ h))) (λ q. unmoved-same (worlds c))
+    where
+      here : World
+      here = worlds (step_circuit s)
+
+      there : (worlds c).up (step_node s) ≡ true → here.up (step_node s) ≡ true
+      there q = whole-up ns (step_circuit s) before (step_node s) ∙ (sym (whole-up ns c before (step_node s)) ∙ q)
+
+      up : here.up (step_node s) ≡ true → halt_answer say here s kept ≡ say (bit_of kept (step_plan here s).changes)
+      up q = ap (λ (b : Bool). if b then say (bit_of kept (step_plan here s).changes) else answer.Refused refusal.Down) q
+
+  unmoved-beside : (roll : Node → Answer) (l : Line) (kept : Bool) (c : Node) → line_answer worlds roll l kept ≡ answer.Refused why → IsUnmoved (worlds c) (world_beside (worlds c) l)
+  unmoved-beside roll (line.Step s) kept c h = unmoved-same (worlds c)
+  unmoved-beside roll (line.Calm i k) kept c h = unmoved-same (worlds c)
+  unmoved-beside roll (line.Stop n) kept c h = cc
+  unmoved-beside roll (line.Start n) kept c h = cc
+  unmoved-beside roll (line.Roll n) kept c h = unmoved-same (worlds c)
+  unmoved-beside roll (line.Cut calls fill s) kept c h = unmoved-stop answer.Cut s kept c (λ b x. cc) h
+  unmoved-beside roll (line.Fail call s) kept c h = unmoved-stop answer.Fault s kept c (λ b x. cc) h
+
+pub unmoved-worlds : (ns : List Node) (before : List Ran) (r : Ran) (why : Refusal) (c : Node) → lines_fit (before ++ r ∷ []) ≡ true → answer_to ns before r ≡ answer.Refused why → IsUnmoved (whole_world ns c before) (whole_world ns c (before ++ r ∷ []))
+unmoved-worlds ns before r why c f h = go (bool_cases (names c r.line))
+  where
+    roll : Node → Answer
+    roll n = roll_answer ns (before ++ r ∷ []) n
+
+    told : line_answer (λ i. whole_world ns i before) roll r.line r.kept ≡ answer.Refused why
+    told = sym (answer-whole ns before r f) ∙ h
+
+    go : (names c r.line ≡ true) ⊎ (names c r.line ≡ false) → IsUnmoved (whole_world ns c before) (whole_world ns c (before ++ r ∷ []))
+    go (inl q) = subst (λ (w : World). IsUnmoved (whole_world ns c before) w) (sym (moves-own ns before r c q)) (unmoved-line (λ i. whole_world ns i before) roll r.line r.kept why c q told)
+    go (inr q) = subst (λ (w : World). IsUnmoved (whole_world ns c before) w) (sym (moves-beside ns before r c q)) (unmoved-beside ns before why roll r.line r.kept c told)
