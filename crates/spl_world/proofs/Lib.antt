@@ -11,6 +11,8 @@ mod Results
 mod Sends
 mod Slots
 mod Standing
+mod Staying
+mod Defined
 mod Steps
 mod Ticking
 mod Turns

@@ -1,5 +1,6 @@
 -- What follows where a call succeeded.
-use Rattle.std.proofs.Common.{Result, Ok, Err, OnOk, OnErr, IfOk}
+use Rattle.std.proofs.Common.{◌≡◌, Bool, true, false, Result, Ok, Err, OnOk, OnErr, IfOk}
+use Rattle.std.specs.Prelude.{is_err}
 
 pub at_ok : {A E : Type 0} {P Q : Type 0} (r : Result A E) → (P → Q) → OnOk r P → OnOk r Q
 at_ok (Ok a) f p = f p
@@ -13,9 +14,9 @@ pub both_ok : {A E : Type 0} {P Q R : A → Type 0} (r : Result A E) → ((a : A
 both_ok (Ok a) f p q = f a p q
 both_ok (Err e) f p q = p
 
-pub all_ok : {A E : Type 0} {P Q R S : A → Type 0} (r : Result A E) → ((a : A) → P a → Q a → R a → S a) → IfOk r P → IfOk r Q → IfOk r R → IfOk r S
-all_ok (Ok a) f p q r = f a p q r
-all_ok (Err e) f p q r = p
+pub all_ok : {A E : Type 0} {P Q R S T : A → Type 0} (r : Result A E) → ((a : A) → P a → Q a → R a → S a → T a) → IfOk r P → IfOk r Q → IfOk r R → IfOk r S → IfOk r T
+all_ok (Ok a) f p q r s = f a p q r s
+all_ok (Err e) f p q r s = p
 
 pub at_err : {A E : Type 0} {P Q : Type 0} (r : Result A E) → (P → Q) → OnErr r P → OnErr r Q
 at_err (Ok a) f p = p
@@ -24,3 +25,12 @@ at_err (Err e) f p = f p
 pub ok_both : {A E : Type 0} {P Q R : Type 0} (r : Result A E) → (P → Q → R) → OnOk r P → OnOk r Q → OnOk r R
 ok_both (Ok a) f p q = f p q
 ok_both (Err e) f p q = p
+
+-- whether a call failed, where it succeeded and where it did not
+pub ok_is : {A E : Type 0} (r : Result A E) (b : Bool) → b ≡ is_err r → OnOk r (b ≡ false)
+ok_is (Ok a) b e = e
+ok_is (Err x) b e = tt
+
+pub err_is : {A E : Type 0} (r : Result A E) (b : Bool) → b ≡ is_err r → OnErr r (b ≡ true)
+err_is (Ok a) b e = tt
+err_is (Err x) b e = e

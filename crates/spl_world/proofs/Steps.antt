@@ -1,5 +1,5 @@
 -- What a line that may run says of its step.
-use Rattle.std.proofs.Common.{◌≡◌, ℕ, zero, suc, ◌+◌, ◌-◌, Bool, true, false, not, ◌&&◌, nat_le, nat_lt, ◌^◌, List, [], ◌∷◌, refl, arith}
+use Rattle.std.proofs.Common.{◌≡◌, ℕ, zero, suc, ◌+◌, ◌-◌, Bool, true, false, not, ◌&&◌, IsTrue, nat_le, nat_lt, ◌^◌, List, [], ◌∷◌, refl, arith}
 use Rattle.std.specs.List.{list_all}
 use Rattle.std.specs.Str.{bytes_eq}
 use Rattle.spl_base.specs.FormLaws.{both_true}
@@ -10,34 +10,32 @@ use Rattle.spl_wire.specs.declared.event.Event.TheVariants as event
 use Rattle.spl_sched.specs.declared.line.Step.TheVariants as step
 use Rattle.spl_sched.specs.Grammar.{is_event, is_step, step_nodes, is_definition}
 use Rattle.spl_rules.specs.Valid.{IsFor}
+use Rattle.spl_world.proofs.Defined.{defined_by}
 
-event_for : (n c : Node) (e : Event) → is_event c e ≡ true → IsFor n c e
-event_for n c (event.Propose d) h = (both_true (bytes_eq d.id c) (is_definition d) h).0
-event_for n c (event.Vote accept) h = tt
-event_for n c event.Remove h = tt
-event_for n c event.Abandon h = tt
-event_for n c event.Purge h = tt
-event_for n c (event.Submit v) h = tt
-event_for n c event.Show h = tt
-event_for n c event.Detail h = tt
-event_for n c event.Root h = tt
-event_for n c event.History h = tt
-event_for n c (event.Get address) h = tt
-event_for n c (event.List prefix) h = tt
-event_for n c (event.Status i) h = tt
-event_for n c (event.Receipt i) h = tt
-event_for n c (event.Route from s t) h = tt
-event_for n c event.Tick h = tt
-event_for n c event.Expire h = tt
-event_for n c (event.Deliver from x) h = absurd cc
-
-last_true : (a b c : Bool) → (a && b && c) ≡ true → c ≡ true
-last_true true true c h = h
-last_true true false c h = absurd cc
-last_true false b c h = absurd cc
+event_for : (n c : Node) (e : Event) → IsTrue (is_circuit_id c) → is_event c e ≡ true → IsFor n c e
+event_for n c (event.Propose d) k h = let b = both_true (bytes_eq d.id c) (is_definition d) h in (b.0, defined_by c d k b.0 b.1)
+event_for n c (event.Vote accept) k h = tt
+event_for n c event.Remove k h = tt
+event_for n c event.Abandon k h = tt
+event_for n c event.Purge k h = tt
+event_for n c (event.Submit v) k h = tt
+event_for n c event.Show k h = tt
+event_for n c event.Detail k h = tt
+event_for n c event.Root k h = tt
+event_for n c event.History k h = tt
+event_for n c (event.Get address) k h = tt
+event_for n c (event.List prefix) k h = tt
+event_for n c (event.Status i) k h = tt
+event_for n c (event.Receipt i) k h = tt
+event_for n c (event.Route from s t) k h = tt
+event_for n c event.Tick k h = tt
+event_for n c event.Expire k h = tt
+event_for n c (event.Deliver from x) k h = absurd cc
 
 pub step_for : (n node c : Node) (e : Event) → is_step (step.At node c e) ≡ true → IsFor n c e
-step_for n node c e h = event_for n c e (last_true (is_node_id node) (is_circuit_id c) (is_event c e) h)
+step_for n node c e h =
+    let b = both_true (is_node_id node && is_circuit_id c) (is_event c e) h in
+    event_for n c e (both_true (is_node_id node) (is_circuit_id c) b.0).1 b.1
 
 tests : (a b c d e : Bool) → (a && b && c && d && e) ≡ true → (d ≡ true) × (e ≡ true)
 tests true true true true true h = (refl, refl)

@@ -13,7 +13,7 @@ use Rattle.spl_wire.specs.declared.plan.Plan.{Plan}
 use Rattle.spl_wire.specs.Messages.{circuit_of}
 use Rattle.spl_rules.specs.Cells.{Cell, Empty}
 use Rattle.spl_rules.specs.Changes.{made, applied, after_plan}
-use Rattle.spl_rules.specs.Valid.{FitsMoveAt, is_legal}
+use Rattle.spl_rules.specs.Valid.{FitsMoveAt, are_formed, is_legal}
 
 -- what was ever sent, by recipient
 abbrev pub Lists : Type 0
@@ -57,7 +57,7 @@ abbrev pub sends_to : Node → List Outgoing → List Message
 sends_to b [] = []
 sends_to b (o ∷ os) = if bytes_eq o.to b then o.message ∷ sends_to b os else sends_to b os
 
--- a message is about a circuit, and has no batch that breaks a rule
+-- a message is about a circuit, and is one that a cell may hear
 abbrev pub belongs : Node → Message → Bool
 belongs c m = bytes_eq (circuit_of m) c && is_legal m
 
@@ -70,11 +70,12 @@ send_belongs c o = belongs c o.message
 abbrev pub SendsBelong : Node → List Outgoing → Type 0
 SendsBelong c os = list_all (send_belongs c) os ≡ true
 
--- a plan that can be carried out at a place: its changes fit, one behind the other, and its moves behind them; what it
--- sends belongs to the circuit
+-- a plan that can be carried out at a place: its changes fit, one behind the other, and its moves behind them; the acts and
+-- the definitions in them have byte forms; what it sends belongs to the circuit
 pub record Suits (v : PlaceView) (p : Plan) : Type 0 where
   pub fits : applied v.here v.circuit v.state p.changes ≡ made v.here v.state p.changes
   pub moves : FitsMoveAt v.here (made v.here v.state p.changes) p.admin p.service
+  pub formed : are_formed p.changes ≡ true
   pub about : SendsBelong v.circuit p.sends
 
 -- a plan was carried out at a place of this node: its changes and its moves are made, and its messages sent

@@ -21,6 +21,10 @@ has_id n x = bytes_eq x.id n
 abbrev pub ids_of : World → List Node
 ids_of w = ids_in w.nodes.items
 
+-- a line found no memory, so that nothing more is asked
+abbrev pub is_halted : World → Bool
+is_halted w = w.halted
+
 -- a node is up where it is so in a world of the circuit; what it keeps about the circuit, and what it sent to a registered
 -- node, is what that world has there
 pub record IsAs (c : Node) (m : CircuitWorld) (x : NodeView) : Type 0 where
@@ -43,6 +47,10 @@ pub record Stands (before : List Ran) (w : World) : Type 0 where
 -- the worlds of the other circuits stay
 abbrev pub Spares : Node → List NodeView → List NodeView → Type 0
 Spares c old new = (d : Node) (m : CircuitWorld) → bytes_eq c d ≡ false → Holds d m old → Holds d m new
+
+-- the worlds of all circuits stay
+abbrev pub Stays : List NodeView → List NodeView → Type 0
+Stays old new = (c : Node) (m : CircuitWorld) → Holds c m old → Holds c m new
 
 -- something at a circuit moved its world so, and no other
 pub record Moves (c : Node) (f : CircuitWorld → CircuitWorld) (old new : List NodeView) : Type 0 where

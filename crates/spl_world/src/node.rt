@@ -69,13 +69,13 @@ fn handle_first(
     ensures own { IfOk result (λ r. IsOwn here circuit (place_or_fresh here circuit r.1)) }
     ensures done { IfOk result (λ r. IsDone here (plan_of here circuit Empty event.now) (fresh_place here circuit) (place_or_fresh here circuit r.1)) }
 {
-    let mut place = Place::new(alloc, here, circuit);
-    let plan = place.plan(alloc, event)?;
+    let mut first = Place::new(alloc, here, circuit);
+    let plan = first.plan(alloc, event)?;
     if !does_something(&plan) {
         return Ok((plan.answer, None));
     }
-    place.carry_out(alloc, &plan)?;
-    Ok((plan.answer, Some(place)))
+    first.carry_out(alloc, &plan)?;
+    Ok((plan.answer, Some(first)))
 }
 
 // A place more is kept.

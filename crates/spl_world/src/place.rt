@@ -22,6 +22,7 @@ pub struct Place {
 }
 
 impl Model for Place {
+    ghost use Rattle.std.specs.Prelude.{◌≡◌, false};
     ghost use Rattle.spl_circuit.specs.Nodes.{Node as Id};
     ghost use Rattle.spl_world.specs.Kept.{PlaceView, AllBelong, sent_to};
 
@@ -29,7 +30,7 @@ impl Model for Place {
 
     ghost view = { λ s. record { here = s.cell.here; circuit = s.cell.circuit; state = s.cell.state; sent = s.sent } };
 
-    ghost invariant = { λ s. (b : Id) → AllBelong s.cell.circuit (sent_to s.sent b) };
+    ghost invariant = { λ s. (s.cell.halted ≡ false) × ((b : Id) → AllBelong s.cell.circuit (sent_to s.sent b)) };
 }
 
 impl Place {
@@ -52,13 +53,20 @@ impl Place {
         self.cell.plan(alloc, event)
     }
 
-    /// Makes the changes and the moves of a plan, and sends its messages.
+    /// Makes the changes and the moves of a plan, and sends its messages. An error comes for want of
+    /// memory alone; what was kept is lost then.
     pub fn carry_out(&mut self, alloc: Global, plan: &Plan) -> Result<(), AllocError>
         requires { Suits self.old plan.now }
         ensures fixed { (self.new.here ≡ self.old.here) × (self.new.circuit ≡ self.old.circuit) }
         ensures done { OnOk result (IsDone self.old.here plan.now self.old self.new) }
     {
-        self.cell.apply(alloc, plan)?;
+        match self.cell.apply(alloc, plan) {
+            Ok(()) => {}
+            Err(AllocError) => {
+                self.cell = Cell::empty(self.cell.here(), self.cell.circuit());
+                return Err(AllocError);
+            }
+        }
         self.sent.post_all(alloc, plan.sends.as_slice())
     }
 

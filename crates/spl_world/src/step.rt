@@ -1,5 +1,5 @@
 //! A line of a schedule in the world.
-ghost use Rattle.std.specs.Prelude.{◌≡◌, ◌++◌, ◌∷◌, [], List, true, IsTrue, IfOk, OnOk};
+ghost use Rattle.std.specs.Prelude.{◌≡◌, ◌++◌, ◌∷◌, [], List, true, false, IsTrue, IfOk, OnOk, OnErr};
 ghost use Rattle.std.specs.List.{list_all};
 ghost use Rattle.spl_circuit.specs.Nodes.{has_node};
 ghost use Rattle.spl_model.specs.Projection.{Ran};
@@ -8,7 +8,7 @@ ghost use Rattle.spl_sched.specs.Grammar.{nodes_of, step_nodes, step_circuit, is
 ghost use Rattle.spl_sched.specs.Taken.{is_taken, is_step_taken};
 ghost use Rattle.spl_model.specs.Worlds.{World as CircuitWorld, step_plan, step_world};
 ghost use Rattle.spl_model.specs.Answers.{answer_to};
-ghost use Rattle.spl_world.specs.Views.{Holds, Moves, Stands, ids_of};
+ghost use Rattle.spl_world.specs.Views.{Holds, Moves, Stands, Stays, ids_of, is_halted};
 
 use crate::world::World;
 use spl_sched::{Line, Step};
@@ -54,15 +54,37 @@ impl World {
         }
     }
 
-    /// Runs a line and answers it. `before` are the lines that ran so far. After want of memory the
-    /// world is done: no further call is made on it.
+    /// Runs a line and answers it. `before` are the lines that ran so far. An error comes for want of
+    /// memory alone, and the world is halted then.
     pub fn step(&mut self, alloc: Global, line: &Line) -> Result<Answer, AllocError>
+        requires running { is_halted self.old ≡ false }
         requires known { IsTrue (list_all (has_node (ids_of self.old)) (nodes_of line.now)) }
         requires fits { IsTrue (is_line line.now) }
         requires taken { is_taken line.now ≡ true }
         ensures ids { ids_of self.new ≡ ids_of self.old }
         ensures answer { (before : List Ran) → Stands before self.old → IfOk result (λ a. a ≡ answer_to (ids_of self.old) before (by_rule line.now)) }
         ensures stands { (before : List Ran) → Stands before self.old → OnOk result (Stands (before ++ by_rule line.now ∷ []) self.new) }
+        // Where a line is refused, whatever the refusal, no node keeps anything else, and nothing is
+        // sent.
+        ensures refused { (why : Refusal) → IfOk result (λ a. a ≡ Answer.Refused why → Stays self.old.nodes.items self.new.nodes.items) }
+        ensures running { OnOk result (is_halted self.new ≡ false) }
+        ensures halted { OnErr result (is_halted self.new ≡ true) }
+    {
+        let answered = self.run_line(alloc, line);
+        let failed = answered.is_err();
+        self.halted = failed;
+        answered
+    }
+
+    // Runs a line, whether the world is halted or not.
+    fn run_line(&mut self, alloc: Global, line: &Line) -> Result<Answer, AllocError>
+        requires known { IsTrue (list_all (has_node (ids_of self.old)) (nodes_of line.now)) }
+        requires fits { IsTrue (is_line line.now) }
+        requires taken { is_taken line.now ≡ true }
+        ensures ids { ids_of self.new ≡ ids_of self.old }
+        ensures answer { (before : List Ran) → Stands before self.old → IfOk result (λ a. a ≡ answer_to (ids_of self.old) before (by_rule line.now)) }
+        ensures stands { (before : List Ran) → Stands before self.old → OnOk result (Stands (before ++ by_rule line.now ∷ []) self.new) }
+        ensures refused { (why : Refusal) → IfOk result (λ a. a ≡ Answer.Refused why → Stays self.old.nodes.items self.new.nodes.items) }
     {
         match line {
             Line::Step(step) => self.run(alloc, step),
@@ -70,7 +92,7 @@ impl World {
                 self.calm(alloc, *circuit, *passes)?;
                 Ok(Answer::Calm { passes: *passes })
             }
-            _ => Ok(Answer::Refused(Refusal::NoCircuit)),
+            _ => unreachable!(),
         }
     }
 }

@@ -9,7 +9,7 @@ ghost use Rattle.spl_rules.specs.Cells.{is_open_cell};
 ghost use Rattle.spl_rules.specs.Plans.{plan_of};
 ghost use Rattle.spl_rules.specs.Valid.{IsFor};
 ghost use Rattle.spl_model.specs.Worlds.{World as CircuitWorld, messages, carried_out, step_plan, step_world};
-ghost use Rattle.spl_world.specs.Views.{Holds, IsAt, IsUp, Moves, Stands, has_id, ids_of, ups_of};
+ghost use Rattle.spl_world.specs.Views.{Holds, IsAt, IsUp, Moves, Stands, has_id, ids_of, is_halted, ups_of};
 
 use crate::node::Node;
 use spl_base::{Boxed, CircuitId, NodeId};
@@ -17,10 +17,12 @@ use spl_wire::{Answer, Event, Message, Refusal};
 use std::alloc::{AllocError, Global};
 
 /// The nodes of a run, in the order of their ids. Each keeps its cells, and what it sent, by
-/// itself.
+/// itself. The world is halted where a line found no memory: what was kept may be lost then, and
+/// nothing more may be asked.
 #[derive(Drop)]
 pub struct World {
     nodes: Vec<Node>,
+    pub(crate) halted: bool,
 }
 
 fn position_of(nodes: &[Node], node: &NodeId) -> Option<usize>
@@ -41,13 +43,24 @@ impl World {
     pub fn new(alloc: Global, ids: &[NodeId]) -> Result<World, AllocError>
         requires ordered { IsTrue (ascends ids.now) }
         ensures ids { IfOk result (λ w. ids_of w ≡ ids.now) }
+        ensures running { IfOk result (λ w. is_halted w ≡ false) }
         ensures stands { IfOk result (λ w. Stands [] w) }
     {
         let mut nodes = Vec::new(alloc);
         for id in ids {
             nodes.push(Node::new(alloc, *id))?;
         }
-        Ok(World { nodes })
+        Ok(World {
+            nodes,
+            halted: false,
+        })
+    }
+
+    /// Whether a line found no memory.
+    pub fn is_halted(&self) -> bool
+        ensures { result ≡ is_halted self.now }
+    {
+        self.halted
     }
 
     // How many nodes there are.
