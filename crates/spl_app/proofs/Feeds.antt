@@ -1,8 +1,10 @@
--- How a text splits at its first line feed.
-use Rattle.std.proofs.Common.{◌≡◌, ◌≢◌, ℕ, ◌+◌, ◌-◌, ◌<◌, List, [], ◌∷◌, ◌++◌, length, get_or, take, drop, refl, sym, ◌∙◌, ap, subst, arith, take-append-drop, length-drop}
+-- How a text splits at its first line feed, and at its last.
+use Rattle.std.proofs.Common.{◌≡◌, ◌≢◌, ⊎_elim, ℕ, Bool, true, false, if◌then◌else◌, ◌+◌, ◌-◌, ◌<◌, ◌≤◌, List, [], ◌∷◌, ◌++◌, length, get_or, take, drop, refl, sym, ◌∙◌, ap, subst, arith, take-append-drop, length-drop}
 use Rattle.std.proofs.lemmas.List.{take_more, drop_more, take_rest}
+use Rattle.std.proofs.lemmas.Bool.{cases_eq}
 use Rattle.std.proofs.lemmas.Bool.Decides.{nat_tests}
-use Rattle.spl_app.specs.Lines.{lines_of, onto_line, is_whole}
+use Rattle.std.specs.List.{AllByRecursion}
+use Rattle.spl_app.specs.Lines.{lines_of, onto_line, has_feed, rest_of}
 
 -- there is none
 abbrev pub NoFeed : List ℕ → Type 0
@@ -24,11 +26,50 @@ pub lines_first : (line rest : List ℕ) → NoFeed line → lines_of (line ++ 1
 lines_first [] rest none = refl
 lines_first (b ∷ line) rest none = lines-other b (line ++ 10 ∷ rest) none.0 ∙ ap (onto_line b) (lines_first line rest none.1)
 
-pub whole_first : (line rest : List ℕ) → is_whole (line ++ 10 ∷ rest) ≡ is_whole rest
-whole_first [] [] = refl
-whole_first [] (b ∷ rest) = refl
-whole_first (b ∷ []) rest = whole_first [] rest
-whole_first (b ∷ a ∷ line) rest = whole_first (a ∷ line) rest
+no_feed : (bytes : List ℕ) → NoFeed bytes → has_feed bytes ≡ false
+no_feed [] none = refl
+no_feed (b ∷ bytes) none =
+    let other = none.0 in
+    let rest = no_feed bytes none.1 in
+    grind (arith, nat_tests)
+
+a_feed : (front rest : List ℕ) → has_feed (front ++ 10 ∷ rest) ≡ true
+a_feed [] rest = refl
+a_feed (b ∷ front) rest =
+    let more = a_feed front rest in
+    grind (arith, nat_tests)
+
+pub rest_none : (bytes : List ℕ) → NoFeed bytes → rest_of bytes ≡ bytes
+rest_none [] none = refl
+rest_none (b ∷ bytes) none = ap (λ (t : Bool). if t then rest_of bytes else b ∷ bytes) (no_feed (b ∷ bytes) none)
+
+pub rest_behind : (front rest : List ℕ) → NoFeed rest → rest_of (front ++ 10 ∷ rest) ≡ rest
+rest_behind [] rest none = rest_none rest none
+rest_behind (b ∷ front) rest none =
+    ap (λ (t : Bool). if t then rest_of (front ++ 10 ∷ rest) else b ∷ front ++ 10 ∷ rest) (a_feed (b ∷ front) rest) ∙ rest_behind front rest none
+
+onto_more : (b : ℕ) (xs more : List (List ℕ)) → (rest : List (List ℕ)) × (onto_line b (xs ++ more) ≡ onto_line b xs ++ rest)
+onto_more b [] more = (onto_line b more, refl)
+onto_more b (x ∷ xs) more = (more, refl)
+
+-- the lines of a front of a text are a front of its lines
+lines_front : (a b : List ℕ) → (rest : List (List ℕ)) × (lines_of (a ++ b) ≡ lines_of a ++ rest)
+lines_front [] b = (lines_of b, refl)
+lines_front (c ∷ a) b = ⊎_elim
+    (λ (is : c ≡ 10). let (rest, same) = lines_front a b in (rest, subst (λ (d : ℕ). lines_of (d ∷ a ++ b) ≡ lines_of (d ∷ a) ++ rest) (sym is) (ap (λ (ls : List (List ℕ)). [] ∷ ls) same)))
+    (λ (other : c ≢ 10).
+    let (rest, same) = lines_front a b in
+    let (more, onto) = onto_more c (lines_of a) rest in
+    (more, lines-other c (a ++ b) other ∙ ap (onto_line c) same ∙ onto ∙ ap (λ (ls : List (List ℕ)). ls ++ more) (sym (lines-other c a other))))
+    (cases_eq c 10)
+
+all_front : (P : List ℕ → Type 0) (xs ys : List (List ℕ)) → AllByRecursion P (xs ++ ys) → AllByRecursion P xs
+all_front P [] ys all = tt
+all_front P (x ∷ xs) ys all = (all.0, all_front P xs ys all.1)
+
+-- where each line of a text has P, each line of its fronts has it
+pub lines_all_front : (P : List ℕ → Type 0) (a b : List ℕ) → AllByRecursion P (lines_of (a ++ b)) → AllByRecursion P (lines_of a)
+lines_all_front P a b all = let (rest, same) = lines_front a b in all_front P (lines_of a) rest (subst (AllByRecursion P) same all)
 
 -- a text is what stands before a place, the byte there and what stands behind it
 pub split_at : (bytes : List ℕ) (i : ℕ) → i < length bytes → get_or bytes i 0 ≡ 10 → bytes ≡ take i bytes ++ 10 ∷ drop (i + 1) bytes
@@ -40,11 +81,17 @@ NoFeed_more bytes i within none other = subst NoFeed (sym (take_more bytes i 0 w
 
 -- the parts of a text round its first line feed
 pub first_parts : (bytes : List ℕ) (i : ℕ) → i < length bytes → NoFeed (take i bytes) → get_or bytes i 0 ≡ 10
-    → let rest = take (length bytes - (i + 1)) (drop (i + 1) bytes) in (lines_of bytes ≡ take i bytes ∷ lines_of rest) × (is_whole bytes ≡ is_whole rest) × (length rest < length bytes)
+    → let rest = take (length bytes - (i + 1)) (drop (i + 1) bytes) in (lines_of bytes ≡ take i bytes ∷ lines_of rest) × (length rest < length bytes)
 first_parts bytes i within none feed =
     let same : bytes ≡ take i bytes ++ 10 ∷ drop (i + 1) bytes = split_at bytes i within feed in
     rw take_rest (
       ap lines_of same ∙ lines_first (take i bytes) (drop (i + 1) bytes) none,
-      ap is_whole same ∙ whole_first (take i bytes) (drop (i + 1) bytes),
       omega (arith, length-drop (i + 1) bytes),
     )
+
+-- the bytes behind the last line feed, from the back
+pub last_part : (bytes : List ℕ) (from : ℕ) → 0 < from → from ≤ length bytes → NoFeed (drop from bytes) → get_or bytes (from - 1) 0 ≡ 10 → take (length bytes - from) (drop from bytes) ≡ rest_of bytes
+last_part bytes from some within none feed =
+    let here : from - 1 + 1 ≡ from = omega arith in
+    let same = split_at bytes (from - 1) (omega arith) feed ∙ ap (λ (n : ℕ). take (from - 1) bytes ++ 10 ∷ drop n bytes) here in
+    rw take_rest (sym (ap rest_of same ∙ rest_behind (take (from - 1) bytes) (drop from bytes) none))

@@ -1,14 +1,16 @@
 -- What a run over the bytes that were read says of the bytes that a source gave.
-use Rattle.std.proofs.Common.{◌≡◌, ℕ, zero, suc, ◌+◌, ◌-◌, ◌≤◌, List, [], ◌∷◌, ◌++◌, IsTrue, Option, length, take, drop, refl, sym, ◌∙◌, ap, subst, arith}
+use Rattle.std.proofs.Common.{◌≡◌, ◌≢◌, Bool, true, false, ◌==◌, ℕ, zero, suc, ◌+◌, ◌-◌, ◌<◌, ◌≤◌, ◌⊎◌, List, [], ◌∷◌, ◌++◌, Option, None, Some, length, length-append, take, drop, refl, sym, ◌∙◌, ap, subst, arith}
 use Rattle.std.proofs.lemmas.List.{drop_at, take_all}
+use Rattle.std.proofs.lemmas.Bool.Decides.{nat_tests}
 use Rattle.std.specs.List.{AllByRecursion}
 use Rattle.std.specs.Io.{appended_bytes}
-use Rattle.std.specs.Io.KnownBytes.{Appends}
+use Rattle.std.specs.Io.KnownBytes.{Appends, Consumes, IsAtEnd}
 use Rattle.spl_edge.specs.Causes.{AppendsPart}
-use Rattle.spl_app.specs.Lines.{lines_of, is_whole}
+use Rattle.spl_app.specs.Lines.{lines_of, rest_of, longest_line}
 use Rattle.spl_app.specs.Run.{IsLine}
 use Rattle.spl_app.specs.Run.{answers, IsFirstBad}
-use Rattle.spl_app.specs.Schedule.{run_of, limit, IsSchedule, IsUnfinished}
+use Rattle.spl_app.specs.Schedule.{run_of, limit, IsSchedule, HadSchedule, IsUnfinished, IsCut, IsBadRest}
+use Rattle.spl_app.proofs.Feeds.{lines_all_front}
 
 all_at : (lines : List (List ℕ)) (n : ℕ) (line : List ℕ) (behind : List (List ℕ)) → drop n lines ≡ line ∷ behind → AllByRecursion IsLine lines → IsLine line
 all_at [] zero line behind place good = absurd (cc)
@@ -19,6 +21,32 @@ all_at (l ∷ lines) (suc n) line behind place good = all_at lines n line behind
 pub limit_is : limit ≡ 67108864
 unfolding limit
 limit_is = refl
+
+no_length : (bytes : List ℕ) → length bytes ≡ 0 → bytes ≡ []
+no_length [] none = refl
+no_length (b ∷ bytes) none = absurd (omega arith)
+
+-- what a test for emptiness says of the bytes behind the last line feed
+pub rest_empty : (text lent : List ℕ) (test : Bool) → lent ≡ rest_of text → test ≡ (length lent == 0) → test ≡ true → rest_of text ≡ []
+rest_empty text lent test same is holds = sym same ∙ no_length lent (grind (arith, nat_tests))
+
+pub rest_more : (text lent : List ℕ) (test : Bool) → lent ≡ rest_of text → test ≡ (length lent == 0) → test ≡ false → rest_of text ≢ []
+rest_more text lent test same is fails = λ none.
+    let zero : length lent ≡ 0 = ap length (same ∙ none) in
+    grind (arith, nat_tests)
+
+-- what a source gave of a schedule
+record IsFront (given : List ℕ) : Type 0 where
+  pub lines : AllByRecursion IsLine (lines_of given)
+  pub short : length given ≤ limit
+
+front_of : (old new : Option (List ℕ)) (given : List ℕ) → Consumes old new given → HadSchedule old given → IsFront given
+front_of None new given consumed had = record { lines = had.lines; short = had.short }
+front_of (Some all) None given consumed had = absurd consumed
+front_of (Some all) (Some rest) given consumed had = record {
+  lines = lines_all_front IsLine given rest (subst (λ (l : List ℕ). AllByRecursion IsLine (lines_of l)) consumed had.lines);
+  short = omega (arith, had.short, ap length consumed, length-append given rest);
+}
 
 -- the bytes that a source gave, and the part of them that is run
 pub record Gave (before after bytes text : List ℕ) : Type 0 where
@@ -53,29 +81,59 @@ module _ {before after bytes text : List ℕ} (r : Gave before after bytes text)
       → AllByRecursion IsLine (run_of (appended_bytes before after)) × Appends a b (answers (run_of (appended_bytes before after)))
   good_run a b good wrote = subst (λ (ls : List (List ℕ)). AllByRecursion IsLine ls × Appends a b (answers ls)) lines_run (good, wrote)
 
-  -- a schedule has no bad line
-  pub no_bad : (number : ℕ) → IsFirstBad (lines_of text) number → IsSchedule (appended_bytes before after) → ⊥
-  no_bad number found schedule =
-      let short : length bytes ≤ limit = omega (arith, schedule.short, given_length) in
-      let good = subst (λ (l : List ℕ). AllByRecursion IsLine (lines_of l)) (sym (text_given short)) schedule.lines in
-      found.bad (all_at (lines_of text) (number - 1) found.line found.behind found.place good)
+  -- where the source had a schedule it gave a front of one
+  module _ (old new : Option (List ℕ)) (consumed : Consumes old new bytes) (had : HadSchedule old (appended_bytes before after)) where
+    front : IsFront (appended_bytes before after)
+    front = front_of old new (appended_bytes before after) (subst (Consumes old new) (sym given) consumed) had
+
+    pub had_short : length bytes ≤ limit
+    had_short = omega (arith, front.short, given_length)
+
+    pub no_bad : (number : ℕ) → IsFirstBad (lines_of text) number → ⊥
+    no_bad number found =
+        let good = subst (λ (l : List ℕ). AllByRecursion IsLine (lines_of l)) (sym (text_given had_short)) front.lines in
+        found.bad (all_at (lines_of text) (number - 1) found.line found.behind found.place good)
 
   pub good_given : (a b : Option (List ℕ)) → length bytes ≤ limit → AllByRecursion IsLine (lines_of text) → Appends a b (answers (lines_of text))
       → AllByRecursion IsLine (lines_of (appended_bytes before after)) × Appends a b (answers (lines_of (appended_bytes before after)))
   good_given a b short good wrote = subst (λ (l : List ℕ). AllByRecursion IsLine (lines_of l) × Appends a b (answers (lines_of l))) (text_given short) (good, wrote)
 
-  pub schedule_given : length bytes ≤ limit → AllByRecursion IsLine (lines_of text) → IsTrue (is_whole text) → IsSchedule (appended_bytes before after)
+  pub schedule_given : length bytes ≤ limit → AllByRecursion IsLine (lines_of text) → rest_of text ≡ [] → IsSchedule (appended_bytes before after)
   schedule_given short good ends = record {
     lines = subst (λ (l : List ℕ). AllByRecursion IsLine (lines_of l)) (text_given short) good;
-    whole = subst (λ (l : List ℕ). IsTrue (is_whole l)) (text_given short) ends;
+    whole = subst (λ (l : List ℕ). rest_of l ≡ []) (text_given short) ends;
     short = omega (arith, short, given_length);
   }
 
-  -- the end of a schedule whose last line has no line feed
-  pub unfinished_run : (a b : Option (List ℕ)) (number : ℕ) → length bytes ≤ limit → AllByRecursion IsLine (lines_of text) → (IsTrue (is_whole text) → ⊥) → number ≡ length (lines_of text) + 1 → Appends a b (answers (lines_of text))
-      → IsUnfinished (appended_bytes before after) number × Appends a b (answers (take (number - 1) (run_of (appended_bytes before after))))
-  unfinished_run a b number short good not_whole is wrote = (
-    subst (λ (l : List ℕ). IsUnfinished l number) (text_given short) (record { lines = good; not_whole = not_whole; behind = is }),
+  text_head : text ≡ take limit (appended_bytes before after)
+  text_head = r.is_head ∙ sym (ap (λ (l : List ℕ). take limit l) given)
+
+  pub unfinished : (left : Option (List ℕ)) → length bytes ≤ limit → rest_of text ≢ [] → IsAtEnd left → IsUnfinished (appended_bytes before after) left
+  unfinished left short more ended = record {
+    ended = ended;
+    short = omega (arith, short, given_length);
+    more = λ none. more (ap rest_of (text_given short) ∙ none);
+  }
+
+  rest_head : (lent : List ℕ) → lent ≡ rest_of text → length lent ≡ length (rest_of (take limit (appended_bytes before after)))
+  rest_head lent is = ap length (is ∙ ap rest_of text_head)
+
+  pub cut : (lent : List ℕ) → limit < length bytes → lent ≡ rest_of text → longest_line < length lent → IsCut (appended_bytes before after)
+  cut lent long is over = record { long = omega (arith, long, given_length); over = omega (arith, over, rest_head lent is) }
+
+  pub rest_short : (lent : List ℕ) → lent ≡ rest_of text → length lent ≤ longest_line → length (rest_of (take limit (appended_bytes before after))) ≤ longest_line
+  rest_short lent is short = omega (arith, short, rest_head lent is)
+
+  -- the line behind those that are run is bad
+  pub bad_rest : (a b left : Option (List ℕ)) (number : ℕ) → AllByRecursion IsLine (lines_of text) → number ≡ length (lines_of text) + 1
+      → IsUnfinished (appended_bytes before after) left ⊎ IsCut (appended_bytes before after) → Appends a b (answers (lines_of text))
+      → IsBadRest (appended_bytes before after) left number × Appends a b (answers (take (number - 1) (run_of (appended_bytes before after))))
+  bad_rest a b left number good is bad wrote = (
+    record {
+      lines = subst (AllByRecursion IsLine) lines_run good;
+      behind = is ∙ ap (λ (ls : List (List ℕ)). length ls + 1) lines_run;
+      bad = bad;
+    },
     subst (λ (ls : List (List ℕ)). Appends a b (answers (take (number - 1) ls))) lines_run
         (subst (λ (ls : List (List ℕ)). Appends a b (answers ls)) (sym (take_all (number - 1) (lines_of text) (omega arith))) wrote),
   )

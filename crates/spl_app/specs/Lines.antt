@@ -1,5 +1,5 @@
 -- A text as lines (docs/RULES.md, Schedules).
-use Rattle.std.specs.Prelude.{ℕ, List, [], ◌∷◌, if◌then◌else◌, ◌==◌, Bool, true}
+use Rattle.std.specs.Prelude.{ℕ, List, [], ◌∷◌, if◌then◌else◌, ◌==◌, ◌||◌, Bool, true, false}
 
 -- b goes to the front of the first of these lines
 abbrev pub onto_line : ℕ → List (List ℕ) → List (List ℕ)
@@ -11,11 +11,18 @@ abbrev pub lines_of : List ℕ → List (List ℕ)
 lines_of [] = []
 lines_of (b ∷ bytes) = if b == 10 then [] ∷ lines_of bytes else onto_line b (lines_of bytes)
 
--- nothing stands behind the last line feed
-abbrev pub is_whole : List ℕ → Bool
-is_whole [] = true
-is_whole (b ∷ []) = b == 10
-is_whole (b ∷ c ∷ bytes) = is_whole (c ∷ bytes)
+abbrev pub has_feed : List ℕ → Bool
+has_feed [] = false
+has_feed (b ∷ bytes) = b == 10 || has_feed bytes
+
+-- what stands behind the last line feed
+abbrev pub rest_of : List ℕ → List ℕ
+rest_of [] = []
+rest_of (b ∷ bytes) = if has_feed (b ∷ bytes) then rest_of bytes else b ∷ bytes
+
+-- the most bytes that a line may have
+abbrev pub longest_line : ℕ
+longest_line = 2048
 
 -- an empty line or a comment, which is numbered and has no answer
 abbrev pub is_silent : List ℕ → Bool

@@ -9,7 +9,7 @@ use Rattle.spl_model.specs.Projection.{Ran}
 use Rattle.spl_model.specs.Outcomes.{by_rule}
 use Rattle.spl_model.specs.Answers.{answer_to}
 use Rattle.spl_answer.specs.Texts.{text}
-use Rattle.spl_app.specs.Lines.{is_silent}
+use Rattle.spl_app.specs.Lines.{is_silent, longest_line}
 
 -- the nodes of every run
 abbrev pub registered : List Node
@@ -27,7 +27,7 @@ pub record IsRunnable (l : Line) : Type 0 where
 
 -- a line that a schedule may have
 abbrev pub IsLine : List ℕ → Type 0
-IsLine line = (length line ≤ 2048) × (IsTrue (is_silent line) ⊎ IsSomeAnd (line_of line) IsAdmitted)
+IsLine line = (length line ≤ longest_line) × (IsTrue (is_silent line) ⊎ IsSomeAnd (line_of line) IsAdmitted)
 
 -- what is run of a line
 abbrev pub said : List ℕ → Option Line

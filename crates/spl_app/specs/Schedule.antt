@@ -1,8 +1,9 @@
 -- What the words and the bytes of a schedule ask for (docs/RULES.md, Schedules, Statuses).
-use Rattle.std.specs.Prelude.{◌≡◌, ◌≤◌, ◌+◌, ℕ, List, [], ◌∷◌, length, take, codes, IsTrue}
+use Rattle.std.specs.Prelude.{◌≡◌, ◌≢◌, ◌≤◌, ◌<◌, ◌+◌, ◌⊎◌, ℕ, List, [], ◌∷◌, length, take, codes, Option, None, Some}
 use Rattle.std.specs.List.{AllByRecursion}
-use Rattle.spl_app.specs.Lines.{lines_of, is_whole}
-use Rattle.spl_app.specs.Run.{IsLine}
+use Rattle.std.specs.Io.KnownBytes.{IsAtEnd}
+use Rattle.spl_app.specs.Lines.{lines_of, rest_of, longest_line}
+use Rattle.spl_app.specs.Run.{IsLine, IsFirstBad}
 
 -- replay REGISTRY SCHEDULE
 abbrev pub IsReplay : List (List ℕ) → Type 0
@@ -16,14 +17,34 @@ limit = 67108864
 abbrev pub run_of : List ℕ → List (List ℕ)
 run_of given = lines_of (take limit given)
 
--- a schedule: each line is one that it may have
+-- a schedule: each line is one that it may have, and nothing stands behind the last
 pub record IsSchedule (text : List ℕ) : Type 0 where
   pub lines : AllByRecursion IsLine (lines_of text)
-  pub whole : IsTrue (is_whole text)
+  pub whole : rest_of text ≡ []
   pub short : length text ≤ limit
 
--- each line is one that a schedule may have, and more stands behind the last of them, which would have this number
-pub record IsUnfinished (text : List ℕ) (number : ℕ) : Type 0 where
-  pub lines : AllByRecursion IsLine (lines_of text)
-  pub not_whole : IsTrue (is_whole text) → ⊥
-  pub behind : number ≡ length (lines_of text) + 1
+-- a schedule is what the source had; what it gave, where it doesn't tell
+abbrev pub HadSchedule : Option (List ℕ) → List ℕ → Type 0
+HadSchedule None given = IsSchedule given
+HadSchedule (Some all) given = IsSchedule all
+
+-- the source is at its end, within the limit, and its last line lacks its line feed
+pub record IsUnfinished (given : List ℕ) (left : Option (List ℕ)) : Type 0 where
+  pub ended : IsAtEnd left
+  pub short : length given ≤ limit
+  pub more : rest_of given ≢ []
+
+-- the limit cuts a line that is too long already
+pub record IsCut (given : List ℕ) : Type 0 where
+  pub long : limit < length given
+  pub over : longest_line < length (rest_of (take limit given))
+
+-- each line that is run is one that a schedule may have, and the one behind them, with this number, is none: it lacks its line feed or is too long
+pub record IsBadRest (given : List ℕ) (left : Option (List ℕ)) (number : ℕ) : Type 0 where
+  pub lines : AllByRecursion IsLine (run_of given)
+  pub behind : number ≡ length (run_of given) + 1
+  pub bad : IsUnfinished given left ⊎ IsCut given
+
+-- the first line that a schedule may not have has this number
+abbrev pub IsBadAt : List ℕ → Option (List ℕ) → ℕ → Type 0
+IsBadAt given left number = IsFirstBad (run_of given) number ⊎ IsBadRest given left number

@@ -1,16 +1,20 @@
 //! The circuits of a run agree.
 ghost use Rattle.std.specs.Prelude.{List, ℕ};
 ghost use Rattle.spl_model.specs.Agreement.{Agree};
+ghost use Rattle.spl_model.specs.OneList.{TellOneList};
 ghost use Rattle.spl_app.specs.Run.{registered};
 ghost use Rattle.spl_app.specs.Behind.{ran};
 
 use spl_model::circuits_agree;
+use spl_projection::members_tell_one_list;
 use spl_sched::lines_have_one_spelling;
 
-/// Whatever lines run, the members of each circuit agree at each moment.
+/// Whatever lines run, the members of each circuit agree at each moment, and tell one list.
 pub fn runs_agree()
-    ensures { (lines : List (List ℕ)) → Agree registered (ran lines) }
+    ensures agreed { (lines : List (List ℕ)) → Agree registered (ran lines) }
+    ensures told { (lines : List (List ℕ)) → TellOneList registered (ran lines) }
 {
     circuits_agree();
+    members_tell_one_list();
     lines_have_one_spelling();
 }

@@ -3,6 +3,7 @@
 #![tactic(auto)]
 
 mod agree;
+mod fault;
 mod lines;
 mod output;
 mod run;
@@ -12,13 +13,5 @@ mod top;
 pub use status::Status;
 pub use top::splinter;
 
-#[cfg(test)]
-mod act_tests;
-#[cfg(test)]
-mod batch_tests;
-#[cfg(test)]
-mod plain;
-#[cfg(test)]
-mod plain_tests;
 #[cfg(test)]
 mod tests;

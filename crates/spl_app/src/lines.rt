@@ -1,6 +1,9 @@
 //! The lines of a text.
 ghost use Rattle.std.specs.Prelude.{◌≡◌, ◌∷◌, ◌<◌, [], MatchOption, length};
-ghost use Rattle.spl_app.specs.Lines.{lines_of, is_whole, is_silent};
+ghost use Rattle.spl_app.specs.Lines.{lines_of, rest_of, is_silent};
+
+/// The most bytes that a line may have.
+pub const LONGEST_LINE: usize = 2048;
 
 /// Whether the line is empty or a comment.
 pub fn is_silent(line: &[u8]) -> bool
@@ -12,21 +15,24 @@ pub fn is_silent(line: &[u8]) -> bool
     }
 }
 
-/// Whether nothing stands behind the last line feed.
-pub fn is_whole(text: &[u8]) -> bool
-    ensures { result ≡ is_whole text.now }
+/// What stands behind the last line feed.
+pub fn rest_of(text: &[u8]) -> &[u8]
+    ensures { result.now ≡ rest_of text.now }
 {
-    match text {
-        [] => true,
-        [.., last] => *last == b'\n',
+    let mut from = text.len();
+    'back: while from > 0 {
+        if text[from - 1] == b'\n' {
+            return &text[from..];
+        }
+        from -= 1;
     }
+    text
 }
 
 /// The first line that has its line feed, and what stands behind it.
 pub fn first_line(bytes: &[u8]) -> Option<(&[u8], &[u8])>
     ensures { MatchOption result (lines_of bytes.now ≡ []) (λ parts.
-        (lines_of bytes.now ≡ parts.0.now ∷ lines_of parts.1.now)
-        × (is_whole bytes.now ≡ is_whole parts.1.now) × (length parts.1.now < length bytes.now)) }
+        (lines_of bytes.now ≡ parts.0.now ∷ lines_of parts.1.now) × (length parts.1.now < length bytes.now)) }
 {
     for (i, b) in bytes.iter().enumerate() {
         if *b == b'\n' {

@@ -76,8 +76,7 @@ impl Output {
     }
 
     /// Lets an answer wait, with the number of its line. It hands over what waits before, where
-    /// both together are
-    /// more than a piece.
+    /// both together are more than a piece.
     pub fn put<W: Sink>(
         &mut self,
         sink: &mut W,

@@ -1,5 +1,5 @@
 //! Runs the lines of a schedule.
-ghost use Rattle.std.specs.Prelude.{◌≡◌, ◌≤◌, ◌<◌, ◌+◌, ◌-◌, ◌^◌, ◌++◌, ◌∷◌, [], ℕ, List, Option, IfOk, IfSome, OnOk, IsErrOf, IsTrue, take, length};
+ghost use Rattle.std.specs.Prelude.{◌≡◌, false, ◌≤◌, ◌<◌, ◌+◌, ◌-◌, ◌^◌, ◌++◌, ◌∷◌, [], ℕ, List, Option, IfOk, IfSome, OnOk, IsErrOf, IsTrue, take, length};
 ghost use Rattle.std.specs.List.{AllByRecursion};
 ghost use Rattle.std.specs.Io.KnownBytes.{Appends};
 ghost use Rattle.spl_edge.specs.Causes.{Rose, AppendsPart};
@@ -11,30 +11,17 @@ ghost use Rattle.spl_answer.specs.Texts.{text as text_of};
 ghost use Rattle.spl_model.specs.Projection.{Ran};
 ghost use Rattle.spl_model.specs.Outcomes.{by_rule};
 ghost use Rattle.spl_model.specs.Answers.{answer_to};
-ghost use Rattle.spl_world.specs.Views.{ids_of, Stands};
+ghost use Rattle.spl_world.specs.Views.{ids_of, is_halted, Stands};
 
-use crate::lines::{first_line, is_silent};
+use crate::fault::RunFault;
+use crate::lines::{LONGEST_LINE, first_line, is_silent};
 use crate::output::Output;
 use spl_answer::append_text;
 use spl_base::NodeId;
-use spl_edge::{DeviceError, Sink};
+use spl_edge::Sink;
 use spl_sched::{Line, LineFault, read_line};
 use spl_world::World;
 use std::alloc::{AllocError, Global};
-
-/// Why a run ended before its last line.
-#[derive(Clone, Copy, Debug, PartialEq, Eq)]
-pub enum RunFault {
-    /// A schedule may not have the line of this number.
-    BadLine(u32),
-    /// An answer could not be written.
-    Write,
-    /// Memory ran out.
-    NoMemory,
-}
-
-// The longest line.
-const MOST: usize = 2048;
 
 fn node(name: &[u8]) -> NodeId
     requires { IsTrue (is_node_id name.now) }
@@ -75,7 +62,7 @@ impl Run {
         ensures known { IfOk result (λ o. IfSome o IsRunnable) }
         ensures bad { IsErrOf result LineFault.BadLine → IsLine line.now → ⊥ }
     {
-        if line.len() > MOST {
+        if line.len() > LONGEST_LINE {
             return Err(LineFault::BadLine);
         }
         if is_silent(line) {
@@ -91,8 +78,10 @@ impl Run {
     // Runs a line that says this, and keeps the text of the answer.
     fn ask(&mut self, alloc: Global, said: &Line) -> Result<(), AllocError>
         requires nodes { ids_of self.old.world ≡ registered }
+        requires running { is_halted self.old.world ≡ false }
         requires known { IsRunnable said.now }
         ensures nodes { ids_of self.new.world ≡ registered }
+        ensures running { OnOk result (is_halted self.new.world ≡ false) }
         ensures stands { (before : List Ran) → Stands before self.old.world → OnOk result (Stands (before ++ by_rule said.now ∷ []) self.new.world) }
         ensures text { (before : List Ran) → Stands before self.old.world → OnOk result (self.new.text.items ≡ text_of (answer_to registered before (by_rule said.now))) }
         ensures output { self.new.output ≡ self.old.output }
@@ -111,8 +100,10 @@ impl Run {
         out: &mut W,
     ) -> Result<(), RunFault>
         requires nodes { ids_of self.old.world ≡ registered }
+        requires running { is_halted self.old.world ≡ false }
         requires known { IsRunnable said.now }
         ensures nodes { ids_of self.new.world ≡ registered }
+        ensures running { OnOk result (is_halted self.new.world ≡ false) }
         ensures stands { (before : List Ran) → Stands before self.old.world → OnOk result (Stands (before ++ by_rule said.now ∷ []) self.new.world) }
         ensures due { (before : List Ran) → Stands before self.old.world → OnOk result (IsDue (W.written out.old) (W.written out.new) self.new.output
             (self.old.output ++ printed number (text_of (answer_to registered before (by_rule said.now))))) }
@@ -122,15 +113,9 @@ impl Run {
         ensures write { IsErrOf result RunFault.Write → Rose (W.faults out.old) (W.faults out.new) }
         ensures later { W.faults out.old ≤ W.faults out.new }
     {
-        match self.ask(alloc, said) {
-            Ok(()) => {}
-            Err(AllocError) => return Err(RunFault::NoMemory),
-        }
-        match self.output.put(out, number, &self.text) {
-            Ok(()) => Ok(()),
-            Err(DeviceError::Failed) => Err(RunFault::Write),
-            Err(DeviceError::NoMemory) => Err(RunFault::NoMemory),
-        }
+        self.ask(alloc, said)?;
+        self.output.put(out, number, &self.text)?;
+        Ok(())
     }
 
     // Runs one line. A line that a schedule may not have changes nothing.
@@ -142,6 +127,7 @@ impl Run {
         out: &mut W,
     ) -> Result<(), RunFault>
         requires nodes { ids_of self.old.world ≡ registered }
+        requires running { is_halted self.old.world ≡ false }
         ensures ok { (lines : List (List ℕ)) → (start : Option (List ℕ)) → IsBehind lines self.old start (W.written out.old) → number ≡ length lines + 1
             → OnOk result (IsBehind (lines ++ line.now ∷ []) self.new start (W.written out.new)) }
         ensures good { OnOk result (IsLine line.now) }
@@ -188,8 +174,7 @@ impl Run {
 }
 
 /// Runs each line of a text, up to the first that a schedule may not have, writes the answers, and
-/// tells how many
-/// lines there were.
+/// tells how many lines there were.
 pub fn run_lines<W: Sink>(alloc: Global, text: &[u8], out: &mut W) -> Result<u32, RunFault>
     requires { length text.now < 2 ^ 32 - 1 }
     ensures count { IfOk result (λ count. count ≡ length (lines_of text.now)) }
@@ -206,14 +191,8 @@ pub fn run_lines<W: Sink>(alloc: Global, text: &[u8], out: &mut W) -> Result<u32
     ensures write { IsErrOf result RunFault.Write → Rose (W.faults out.old) (W.faults out.new) }
     ensures later { W.faults out.old ≤ W.faults out.new }
 {
-    let mut run = match Run::new(alloc) {
-        Ok(run) => run,
-        Err(AllocError) => return Err(RunFault::NoMemory),
-    };
+    let mut run = Run::new(alloc)?;
     let ended = run.lines(alloc, text, out);
-    match run.output.flush(out) {
-        Ok(()) => ended,
-        Err(DeviceError::Failed) => Err(RunFault::Write),
-        Err(DeviceError::NoMemory) => Err(RunFault::NoMemory),
-    }
+    run.output.flush(out)?;
+    ended
 }

@@ -7,22 +7,12 @@ use std::test::Fail;
 // A run: the schedule, the calls of the source and of the sink that fail, how it ends and what it
 // writes.
 #[derive(Clone, Copy)]
-pub(crate) struct Row<'a> {
+struct Row<'a> {
     schedule: &'a str,
     reads: &'a [u64],
     writes: &'a [u64],
     status: Status,
     written: &'a str,
-}
-
-pub(crate) fn fault_free<'a>(schedule: &'a str, status: Status, written: &'a str) -> Row<'a> {
-    Row {
-        schedule,
-        reads: &[],
-        writes: &[],
-        status,
-        written,
-    }
 }
 
 fn words(alloc: Global, texts: &[&str]) -> Result<Vec<String>, AllocError> {
@@ -34,7 +24,7 @@ fn words(alloc: Global, texts: &[&str]) -> Result<Vec<String>, AllocError> {
 }
 
 // How a run of this schedule ends, and what it writes.
-pub(crate) fn ran(
+fn ran(
     alloc: Global,
     schedule: Vec<u8>,
     reads: &[u64],
@@ -47,7 +37,7 @@ pub(crate) fn ran(
     Ok((status, out.bytes().to_vec(alloc)?))
 }
 
-pub(crate) fn check(rt: &impl Abort, alloc: Global, rows: &[Row]) -> Result<(), Fail> {
+fn check(rt: &impl Abort, alloc: Global, rows: &[Row]) -> Result<(), Fail> {
     for row in rows {
         let (status, written) = ran(
             alloc,
@@ -68,129 +58,6 @@ pub(crate) fn check(rt: &impl Abort, alloc: Global, rows: &[Row]) -> Result<(), 
 
 // Memory is ample here, so no run may end for want of it.
 #[test]
-fn answers_stand(rt: HostRuntime) -> Result<(), Fail> {
-    check(
-        &rt,
-        rt.alloc(),
-        &[
-            fault_free("", Status::Ok, ""),
-            fault_free("\n# nothing\n\n", Status::Ok, ""),
-            fault_free(
-                "propose alpha Ab3dE-00001 1 1 grid trade alpha,beta aaaa:scabbard:alpha,bbbb:scabbard:beta\n\
-             show alpha Ab3dE-00001\n\
-             show beta Ab3dE-00001\n\
-             propose alpha Ab3dE-00001 1 1 grid trade alpha,beta aaaa:scabbard:alpha,bbbb:scabbard:beta\n\
-             propose alpha Ab3dE-00001 2 1 grid trade alpha,beta aaaa:scabbard:alpha,bbbb:scabbard:beta\n",
-                Status::Ok,
-                "1 ok queued\n\
-             2 ok circuit generation 1 lifecycle none mark open accepted - acts 0 1 batches 0 0\n\
-             3 refused 2\n\
-             4 refused 5 1\n\
-             5 refused 6\n",
-            ),
-            fault_free(
-                "propose gamma Ab3dE-00001 1 1 grid trade alpha,beta aaaa:scabbard:alpha,bbbb:scabbard:beta\n\
-             show gamma Ab3dE-00001\n",
-                Status::Ok,
-                "1 refused 4\n2 refused 2\n",
-            ),
-            fault_free(
-                "propose alpha Ab3dE-00001 1 1 grid solo alpha aaaa:scabbard:alpha\n\
-             propose alpha Ab3dE-00001 0 1 grid trade alpha,beta aaaa:scabbard:alpha,bbbb:scabbard:beta\n",
-                Status::Ok,
-                "1 refused 3 5\n2 refused 3 2\n",
-            ),
-            // Each circuit by itself.
-            fault_free(
-                "propose alpha Ab3dE-00001 3 1 grid trade alpha,beta aaaa:scabbard:alpha,bbbb:scabbard:beta\n\
-             \n\
-             show alpha Ab3dE-00002\n\
-             propose alpha Ab3dE-00002 7 1 grid trade alpha,beta aaaa:scabbard:alpha,bbbb:scabbard:beta\n\
-             # a comment\n\
-             show alpha Ab3dE-00001\n",
-                Status::Ok,
-                "1 ok queued\n\
-             3 refused 2\n\
-             4 ok queued\n\
-             6 ok circuit generation 3 lifecycle none mark open accepted - acts 0 1 batches 0 0\n",
-            ),
-        ],
-    )
-}
-
-#[test]
-fn bad_lines_are_named(rt: HostRuntime) -> Result<(), Fail> {
-    check(
-        &rt,
-        rt.alloc(),
-        &[
-            fault_free(
-                "show delta Ab3dE-00001\n",
-                Status::BadSchedule { line: 1 },
-                "",
-            ),
-            fault_free(
-                "show alpha Ab3dE-00001\nshow al",
-                Status::BadSchedule { line: 2 },
-                "1 refused 2\n",
-            ),
-            fault_free(
-                "show alpha Ab3dE-00001",
-                Status::BadSchedule { line: 1 },
-                "",
-            ),
-            fault_free(
-                "show alpha Ab3dE-00001\r\n",
-                Status::BadSchedule { line: 1 },
-                "",
-            ),
-            fault_free(
-                "#\n\nshow  alpha Ab3dE-00001\n",
-                Status::BadSchedule { line: 3 },
-                "",
-            ),
-            fault_free(
-                "show alpha Ab3dE-00001 \n",
-                Status::BadSchedule { line: 1 },
-                "",
-            ),
-            fault_free(
-                "show Alpha Ab3dE-00001\n",
-                Status::BadSchedule { line: 1 },
-                "",
-            ),
-            fault_free(
-                "show alpha Ab3dE-0000\n",
-                Status::BadSchedule { line: 1 },
-                "",
-            ),
-            fault_free(
-                "abandon alpha Ab3dE-00001\n",
-                Status::BadSchedule { line: 1 },
-                "",
-            ),
-            fault_free(
-                "show beta Ab3dE-00001\n\
-             propose alpha Ab3dE-00001 01 1 grid trade alpha,beta aaaa:scabbard:alpha,bbbb:scabbard:beta\n\
-             show beta Ab3dE-00001\n",
-                Status::BadSchedule { line: 2 },
-                "1 refused 2\n",
-            ),
-            fault_free(
-                "propose alpha Ab3dE-00001 1 1 grid trade alpha,delta aaaa:scabbard:alpha,bbbb:scabbard:beta\n",
-                Status::BadSchedule { line: 1 },
-                "",
-            ),
-            fault_free(
-                "propose alpha Ab3dE-00001 1 1 grid trade alpha,beta aaaa:scabbard:alpha,bbbb:scabbard:delta\n",
-                Status::BadSchedule { line: 1 },
-                "",
-            ),
-        ],
-    )
-}
-
-#[test]
 fn faults_are_told(rt: HostRuntime) -> Result<(), Fail> {
     let good = "show alpha Ab3dE-00001\n";
     check(
@@ -206,6 +73,14 @@ fn faults_are_told(rt: HostRuntime) -> Result<(), Fail> {
             },
             Row {
                 schedule: good,
+                reads: &[2],
+                writes: &[],
+                status: Status::ReadFault,
+                written: "1 refused 2\n",
+            },
+            // In mid-line too it is the read that failed, and not a line without its line feed.
+            Row {
+                schedule: "show alpha Ab3dE-00001\nshow al",
                 reads: &[2],
                 writes: &[],
                 status: Status::ReadFault,
@@ -244,6 +119,15 @@ fn long_input(rt: HostRuntime) -> Result<(), Fail> {
     let (status, written) = ran(alloc, schedule, &[], &[])?;
     assert_eq!(rt; status, Status::TooLong);
     assert_eq!(rt; written.len(), 0);
+    // The limit cuts a last line that is too long already.
+    let mut schedule = Vec::new(alloc);
+    for _ in 0..32_766 {
+        schedule.extend_from_slice(&line)?;
+    }
+    schedule.extend_from_slice(&comment(alloc, 2046)?)?;
+    schedule.extend_from_slice(&comment(alloc, 2049)?)?;
+    let (status, _) = ran(alloc, schedule, &[], &[])?;
+    assert_eq!(rt; status, Status::BadSchedule { line: 32_768 });
     Ok(())
 }
 

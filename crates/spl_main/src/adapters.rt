@@ -1,8 +1,8 @@
 //! A file as a source, and standard output as a sink. Neither tells what it holds. What they say of the outside is
 //! trusted.
-ghost use Rattle.std.specs.Prelude.{None};
+ghost use Rattle.std.specs.Prelude.{◌≡◌, [], None};
 
-use spl_edge::{DeviceError, Sink, Source};
+use spl_edge::{DeviceError, Sink, Source, count_fault};
 use std::alloc::Global;
 use std::io::{Read, Write};
 
@@ -15,7 +15,12 @@ pub struct FileSource<R: Read + Drop> {
 }
 
 impl<R: Read + Drop> FileSource<R> {
-    pub fn new(alloc: Global, file: Option<R>) -> Self {
+    /// A source that gave nothing yet, and has no fault.
+    pub fn new(alloc: Global, file: Option<R>) -> Self
+        ensures file { result.file ≡ file }
+        ensures taken { result.taken.items ≡ [] }
+        ensures faults { result.faults ≡ 0 }
+    {
         FileSource {
             file,
             taken: Vec::new(alloc),
@@ -34,18 +39,14 @@ impl<R: Read + Drop> Source for FileSource<R> {
     fn read(&mut self, buf: &mut [u8]) -> Result<usize, DeviceError> {
         self.taken.try_reserve(buf.len())?;
         let Some(file) = &mut self.file else {
-            self.faults = self.faults.saturating_add(1);
-            return Err(DeviceError::Failed);
+            return Err(count_fault(&mut self.faults));
         };
         match file.read(buf) {
             Ok(count) => {
                 self.taken.extend_from_slice(&buf[..count])?;
                 Ok(count)
             }
-            Err(_) => {
-                self.faults = self.faults.saturating_add(1);
-                Err(DeviceError::Failed)
-            }
+            Err(_) => Err(count_fault(&mut self.faults)),
         }
     }
 }
@@ -58,7 +59,11 @@ pub struct StdSink<W: Write + Drop> {
 }
 
 impl<W: Write + Drop> StdSink<W> {
-    pub fn new(out: W) -> Self {
+    /// A sink that has no fault.
+    pub fn new(out: W) -> Self
+        ensures out { result.out ≡ out }
+        ensures faults { result.faults ≡ 0 }
+    {
         StdSink { out, faults: 0 }
     }
 }
@@ -71,10 +76,7 @@ impl<W: Write + Drop> Sink for StdSink<W> {
     fn write(&mut self, piece: &[u8]) -> Result<usize, DeviceError> {
         match self.out.write(piece) {
             Ok(count) if count > 0 || piece.is_empty() => Ok(count),
-            _ => {
-                self.faults = self.faults.saturating_add(1);
-                Err(DeviceError::Failed)
-            }
+            _ => Err(count_fault(&mut self.faults)),
         }
     }
 }

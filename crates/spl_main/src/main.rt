@@ -1,11 +1,14 @@
 //! The program: it opens the files that its words name, runs, and says how that ended.
 #![tactic(auto)]
 
+ghost use Rattle.std.specs.Prelude.{◌≡◌, ◌≢◌};
+ghost use Rattle.std.specs.IoError.{error_kind};
+
 mod adapters;
 
 use adapters::{FileSource, StdSink};
 use spl_app::{Status, splinter};
-use std::io::Write;
+use std::io::{ErrorKind, Write};
 use std::process::ExitCode;
 use std::{env, fs, io};
 
@@ -18,10 +21,22 @@ fn words_of(rt: &HostRuntime) -> io::Result<Vec<String>> {
     Ok(words)
 }
 
+// How a run ends whose words can't be read.
+fn unread(error: &io::Error) -> Status
+    ensures memory { error_kind error.now ≡ ErrorKind.OutOfMemory → result ≡ Status.NoMemory }
+    ensures others { error_kind error.now ≢ ErrorKind.OutOfMemory → result ≡ Status.Usage }
+{
+    match error.kind() {
+        ErrorKind::OutOfMemory => Status::NoMemory,
+        _ => Status::Usage,
+    }
+}
+
 // A file that can't be opened is one whose first read fails.
 fn run(rt: &HostRuntime) -> Status {
-    let Ok(words) = words_of(rt) else {
-        return Status::Usage;
+    let words = match words_of(rt) {
+        Ok(words) => words,
+        Err(error) => return unread(&error),
     };
     let file = match words.get(2) {
         Some(name) => fs::open(rt, name.as_str()).ok(),

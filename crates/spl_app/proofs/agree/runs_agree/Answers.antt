@@ -3,5 +3,8 @@ use Rattle.spl_app.specs.Behind.{ran}
 use Rattle.spl_app.proofs.Agreed.{ran_fits}
 use Rattle.spl_app.proofs.agree.runs_agree.Goals as goal
 
-pub returns : goal.returns
-returns c = λ lines. c.circuits_agree.ensures.lines registered (ran lines) (ran_fits c.lines_have_one_spelling.ensures lines)
+pub returns-clause-agreed : goal.returns-clause-agreed
+returns-clause-agreed c = λ lines. c.circuits_agree.ensures.lines registered (ran lines) (ran_fits c.lines_have_one_spelling.ensures lines)
+
+pub returns-clause-told : goal.returns-clause-told
+returns-clause-told c = λ lines. c.members_tell_one_list.ensures registered (ran lines) (ran_fits c.lines_have_one_spelling.ensures lines)

@@ -3,10 +3,10 @@ use Rattle.std.proofs.lemmas.List.{take_all}
 use Rattle.spl_app.specs.Schedule.{limit}
 use Rattle.spl_app.proofs.top.head.Goals as goal
 
-pub returns-then-bytes-lt-LIMIT : goal.returns-then-bytes-lt-LIMIT
+pub returns-then-bytes-lt-MOST_BYTES : goal.returns-then-bytes-lt-MOST_BYTES
 unfolding limit
-returns-then-bytes-lt-LIMIT c = sym (take_all limit c.args.bytes.now (omega arith))
+returns-then-bytes-lt-MOST_BYTES c = sym (take_all limit c.args.bytes.now (omega arith))
 
-pub returns-else-bytes-lt-LIMIT : goal.returns-else-bytes-lt-LIMIT
+pub returns-else-bytes-lt-MOST_BYTES : goal.returns-else-bytes-lt-MOST_BYTES
 unfolding limit
-returns-else-bytes-lt-LIMIT c = search rules
+returns-else-bytes-lt-MOST_BYTES c = search rules

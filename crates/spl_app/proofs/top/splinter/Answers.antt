@@ -3,7 +3,7 @@ use Rattle.std.specs.Io.{appended_bytes}
 use Rattle.std.proofs.KnownBytes.{Appends-nil}
 use Rattle.spl_app.specs.Run.{answers}
 use Rattle.spl_app.specs.Schedule.{run_of, limit}
-use Rattle.spl_app.proofs.Given.{gave, given_length, part_run, bad_run, good_run, good_given, no_bad, schedule_given, unfinished_run, limit_is}
+use Rattle.spl_app.proofs.Given.{gave, given_length, part_run, bad_run, good_run, good_given, had_short, no_bad, schedule_given, unfinished, cut, rest_short, rest_empty, rest_more, bad_rest, limit_is}
 use Rattle.spl_app.proofs.top.splinter.Goals as goal
 
 pub run_lines-requires : goal.run_lines-requires
@@ -45,7 +45,7 @@ returns-in-Err-BadLine-clause-bad g c = λ line is.
 pub returns-in-Err-BadLine-clause-complete : goal.returns-in-Err-BadLine-clause-complete
 returns-in-Err-BadLine-clause-complete g c = λ form read wrote schedule.
     let found = c.in-Err-BadLine.ensures.bad c.in-Err-BadLine.line (search rules) in
-    absurd (no_bad (gave c.read_all-reading.ensures.taken c.head-text.ensures c.deref.ensures.value) _ found.0 schedule)
+    absurd (no_bad (gave c.read_all-reading.ensures.taken c.head-text.ensures c.deref.ensures.value) _ _ c.read_all-reading.ensures.left schedule _ found.0)
 
 pub returns-in-Fault-clause-read : goal.returns-in-Fault-clause-read
 returns-in-Fault-clause-read g c = λ _.
@@ -58,22 +58,38 @@ pub returns-in-Whole-clause-ok : goal.returns-in-Whole-clause-ok
 returns-in-Whole-clause-ok g c = λ _.
     let no : 67108864 < length c.read_all-reading.result.bytes.items → ⊥ = λ long. cc (c.read_all-reading.ensures.too_long.1 long) in
     let short : length c.read_all-reading.result.bytes.items ≤ limit = omega (arith, no, limit_is) in
+    let none = rest_empty c.head-text.result.now _ _ c.rest_of.ensures c.is_empty.ensures c.if-is_empty.true in
     let good = good_given (gave c.read_all-reading.ensures.taken c.head-text.ensures c.deref.ensures.value) _ _ short c.in-Ok.ensures.good c.in-Ok.ensures.written in
-    (schedule_given (gave c.read_all-reading.ensures.taken c.head-text.ensures c.deref.ensures.value) short c.in-Ok.ensures.good (search rules), c.read_all-reading.ensures.whole c.in-Whole.is, good.1)
+    (schedule_given (gave c.read_all-reading.ensures.taken c.head-text.ensures c.deref.ensures.value) short c.in-Ok.ensures.good none, c.read_all-reading.ensures.whole c.in-Whole.is, good.1)
 
 pub returns-in-TooLong-clause-long : goal.returns-in-TooLong-clause-long
 returns-in-TooLong-clause-long g c = λ _.
     let good = good_run (gave c.read_all-reading.ensures.taken c.head-text.ensures c.deref.ensures.value) _ _ c.in-Ok.ensures.good c.in-Ok.ensures.written in
-    (omega (arith, limit_is, c.read_all-reading.ensures.too_long.0 c.in-TooLong.is, given_length (gave c.read_all-reading.ensures.taken c.head-text.ensures c.deref.ensures.value)), good.0, good.1)
+    (omega (arith, limit_is, c.read_all-reading.ensures.too_long.0 c.in-TooLong.is, given_length (gave c.read_all-reading.ensures.taken c.head-text.ensures c.deref.ensures.value)), good.0, rest_short (gave c.read_all-reading.ensures.taken c.head-text.ensures c.deref.ensures.value) _ c.rest_of-in-Ok.ensures c.if-rest_of-le-LONGEST_LINE.true, good.1)
 
 pub returns-in-TooLong-clause-complete : goal.returns-in-TooLong-clause-complete
 returns-in-TooLong-clause-complete g c = λ form read wrote schedule.
-    absurd (omega (arith, limit_is, schedule.short, c.read_all-reading.ensures.too_long.0 c.in-TooLong.is, given_length (gave c.read_all-reading.ensures.taken c.head-text.ensures c.deref.ensures.value)))
+    absurd (omega (arith, limit_is, had_short (gave c.read_all-reading.ensures.taken c.head-text.ensures c.deref.ensures.value) _ _ c.read_all-reading.ensures.left schedule, c.read_all-reading.ensures.too_long.0 c.in-TooLong.is))
+
+pub returns-in-Whole-2-clause-bad : goal.returns-in-Whole-2-clause-bad
+returns-in-Whole-2-clause-bad g c = λ line is.
+    let no : 67108864 < length c.read_all-reading.result.bytes.items → ⊥ = λ long. cc (c.read_all-reading.ensures.too_long.1 long) in
+    let short : length c.read_all-reading.result.bytes.items ≤ limit = omega (arith, no, limit_is) in
+    let more = rest_more c.head-text.result.now _ _ c.rest_of.ensures c.is_empty.ensures c.if-is_empty.false in
+    let bad = unfinished (gave c.read_all-reading.ensures.taken c.head-text.ensures c.deref.ensures.value) _ short more (c.read_all-reading.ensures.whole c.in-Whole-2.is) in
+    let found = bad_rest (gave c.read_all-reading.ensures.taken c.head-text.ensures c.deref.ensures.value) _ _ _ line c.in-Ok.ensures.good (let same : c.in-Ok.count + 1 ≡ line = cc in omega (arith, c.in-Ok.ensures.count)) (inl bad) c.in-Ok.ensures.written in
+    (inr found.0, found.1)
+
+pub overflow_add-result-in-TooLong-2 : goal.overflow_add-result-in-TooLong-2
+overflow_add-result-in-TooLong-2 g c = omega (arith, limit_is, c.in-Ok.ensures.room, ap length c.head-text.ensures, length-take {A = ℕ})
 
 pub returns-clause-bad : goal.returns-clause-bad
 returns-clause-bad g c = λ line is.
-    let same : c.in-Ok.count + 1 ≡ line = cc in
-    let no : 67108864 < length c.read_all-reading.result.bytes.items → ⊥ = λ long. cc (c.read_all-reading.ensures.too_long.1 long) in
-    let short : length c.read_all-reading.result.bytes.items ≤ limit = omega (arith, no, limit_is) in
-    let found = unfinished_run (gave c.read_all-reading.ensures.taken c.head-text.ensures c.deref.ensures.value) _ _ line short c.in-Ok.ensures.good (search rules) (omega (arith, c.in-Ok.ensures.count)) c.in-Ok.ensures.written in
+    let long : limit < length c.read_all-reading.result.bytes.items = omega (arith, limit_is, c.read_all-reading.ensures.too_long.0 c.in-TooLong-2.is) in
+    let bad = cut (gave c.read_all-reading.ensures.taken c.head-text.ensures c.deref.ensures.value) _ long c.rest_of-in-Ok.ensures c.if-rest_of-le-LONGEST_LINE.false in
+    let found = bad_rest (gave c.read_all-reading.ensures.taken c.head-text.ensures c.deref.ensures.value) _ _ _ line c.in-Ok.ensures.good (let same : c.in-Ok.count + 1 ≡ line = cc in omega (arith, c.in-Ok.ensures.count)) (inr bad) c.in-Ok.ensures.written in
     (inr found.0, found.1)
+
+pub returns-clause-complete : goal.returns-clause-complete
+returns-clause-complete g c = λ form read wrote schedule.
+    absurd (omega (arith, limit_is, had_short (gave c.read_all-reading.ensures.taken c.head-text.ensures c.deref.ensures.value) _ _ c.read_all-reading.ensures.left schedule, c.read_all-reading.ensures.too_long.0 c.in-TooLong-2.is))

@@ -7,8 +7,8 @@ use Rattle.spl_app.specs.Run.{registered, printed}
 use Rattle.spl_app.proofs.Dues.{due_waits, due_part}
 use Rattle.spl_app.proofs.run.Run.answer.Goals as goal
 
-pub returns-in-Err-clause-part : goal.returns-in-Err-clause-part
-returns-in-Err-clause-part g c = λ before stands.
+pub returns-in_err-ask-clause-part : goal.returns-in_err-ask-clause-part
+returns-in_err-ask-clause-part g c = λ before stands.
     let written = g.W.Sink.written c.args.out.now in
     let last = printed c.args.number (text (answer_to registered before (by_rule c.args.said.now))) in
     subst (λ (waiting : List ℕ). IsDuePart written written waiting (c.args.self.now.output ++ last)) (sym c.ask.ensures.output)

@@ -13,7 +13,7 @@ returns-in-Ok-None-clause-part g c = λ lines start behind counted. behind_part 
 pub returns-in-Ok-Some-clause-ok : goal.returns-in-Ok-Some-clause-ok
 returns-in-Ok-Some-clause-ok g c = λ lines start behind counted.
     let said_is = sym c.in-Ok-Some.ensures.said ∙ c.in-Ok-Some.field-0-is in
-    on_ok c.answer.result (c.answer.ensures.stands (ran lines) behind.stands) (c.answer.ensures.due (ran lines) behind.stands)
+    on_ok c.answer.result c.answer.ensures.running (c.answer.ensures.stands (ran lines) behind.stands) (c.answer.ensures.due (ran lines) behind.stands)
     (behind_said lines c.args.self.now start _ behind c.args.line.now c.args.number c.in-Ok-Some.said counted said_is _ c.answer.new.self c.answer.ensures.nodes)
 
 pub returns-in-Ok-Some-clause-part : goal.returns-in-Ok-Some-clause-part

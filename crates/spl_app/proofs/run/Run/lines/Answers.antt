@@ -1,7 +1,7 @@
 use Rattle.std.proofs.Common.{Err, ◌≡◌, ◌-◌, ℕ, List, take, sym, ◌∙◌, ap, subst, rules, arith}
 use Rattle.std.specs.List.{AllByRecursion}
-use Rattle.spl_app.specs.declared.run.RunFault.{RunFault}
-use Rattle.spl_app.specs.declared.run.RunFault.TheVariants.{BadLine}
+use Rattle.spl_app.specs.declared.fault.RunFault.{RunFault}
+use Rattle.spl_app.specs.declared.fault.RunFault.TheVariants.{BadLine}
 use Rattle.spl_app.specs.Lines.{lines_of}
 use Rattle.spl_app.specs.Run.{IsLine, answers}
 use Rattle.spl_app.specs.Due.{IsDue}

@@ -1,0 +1,37 @@
+//! Why a run ended before its last line.
+ghost use Rattle.std.specs.Prelude.{◌≡◌};
+ghost use Rattle.spl_app.specs.Faults.{fault_of};
+ghost use Rattle.spl_app.specs.declared.fault.RunFault.TheVariants.{NoMemory};
+
+use spl_edge::DeviceError;
+use std::alloc::AllocError;
+
+/// Why a run ended before its last line.
+#[derive(Clone, Copy, Debug, PartialEq, Eq)]
+pub enum RunFault {
+    /// A schedule may not have the line of this number.
+    BadLine(u32),
+    /// An answer could not be written.
+    Write,
+    /// Memory ran out.
+    NoMemory,
+}
+
+impl From<AllocError> for RunFault {
+    ghost from_gives = { λ _ e. e ≡ NoMemory };
+
+    fn from(_: AllocError) -> Self {
+        RunFault::NoMemory
+    }
+}
+
+impl From<DeviceError> for RunFault {
+    ghost from_gives = { λ fault e. e ≡ fault_of fault };
+
+    fn from(fault: DeviceError) -> Self {
+        match fault {
+            DeviceError::Failed => RunFault::Write,
+            DeviceError::NoMemory => RunFault::NoMemory,
+        }
+    }
+}
