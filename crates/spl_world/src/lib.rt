@@ -9,6 +9,3 @@ mod step;
 mod world;
 
 pub use world::World;
-
-#[cfg(test)]
-mod tests;
