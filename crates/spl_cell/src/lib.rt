@@ -26,6 +26,3 @@ mod vote;
 
 pub use cell::Cell;
 pub use spl_wire::{Outgoing, Plan, SendList};
-
-#[cfg(test)]
-mod tests;

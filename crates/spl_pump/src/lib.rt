@@ -12,6 +12,3 @@ pub use carry::Carry;
 pub use fault::PumpFault;
 pub use pump::Pump;
 pub use straight::Straight;
-
-#[cfg(test)]
-mod tests;
