@@ -1,7 +1,6 @@
 //! Acts are what the admin group of a circuit agrees on.
 use crate::key::ActKey;
 use crate::ledger::Ledger;
-use crate::standing::reason;
 use spl_agree::{Admit, Agreed, Reason};
 use spl_base::Value;
 use spl_circuit::{Act, ActKind};
@@ -11,7 +10,7 @@ impl Agreed for Ledger {
     ghost use Rattle.std.specs.Prelude.{◌≡◌, refl};
     ghost use Rattle.spl_circuit.specs.Equality.{same_act};
     ghost use Rattle.spl_circuit.specs.Acts.{act_rules, stray_act};
-    ghost use Rattle.spl_admin.specs.Same.{same_acts};
+    ghost use Rattle.spl_circuit.specs.Same.{same_acts};
 
     type Key = ActKey;
 
@@ -48,8 +47,8 @@ impl Agreed for Ledger {
 
     fn stray(value: &Act) -> Option<Reason> {
         match value.kind {
-            ActKind::Propose(_) => Some(reason(6)),
-            ActKind::Accept | ActKind::Reject | ActKind::Remove => None,
+            ActKind::Propose(_) => Some(Reason::CANNOT_BIND),
+            _ => None,
         }
     }
 

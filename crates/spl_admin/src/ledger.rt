@@ -8,7 +8,7 @@ ghost use Rattle.spl_circuit.specs.Acts.{misfit_kind, misfit, admits_kind};
 ghost use Rattle.spl_circuit.specs.Equality.{same_definition};
 ghost use Rattle.spl_admin.specs.Kept.{accepted_members};
 
-use crate::standing::{Standing, reason};
+use crate::standing::Standing;
 use spl_agree::{Admit, Reason};
 use spl_base::{NodeId, Value};
 use spl_circuit::{Act, ActKind, Definition, Lifecycle, Members};
@@ -107,7 +107,7 @@ impl Ledger {
         if self.definition.is_member(&act.node) {
             self.misfit_kind(&act.node, &act.kind)
         } else {
-            Some(reason(1))
+            Some(Reason::NOT_A_MEMBER)
         }
     }
 
@@ -117,23 +117,23 @@ impl Ledger {
         match kind {
             ActKind::Propose(proposed) => {
                 if !is_same(proposed.get(), &self.definition) {
-                    return Some(reason(5));
+                    return Some(Reason::OTHER_DEFINITION);
                 }
                 if self.acts.is_empty() {
                     None
                 } else {
-                    Some(reason(2))
+                    Some(Reason::WRONG_LIFECYCLE)
                 }
             }
             ActKind::Accept | ActKind::Reject => self.standing.misfit_vote(node),
             ActKind::Remove => {
                 if !self.standing.is_proposed() {
-                    return Some(reason(2));
+                    return Some(Reason::WRONG_LIFECYCLE);
                 }
                 if self.standing.is_requester(node) {
                     None
                 } else {
-                    Some(reason(4))
+                    Some(Reason::NOT_REQUESTER)
                 }
             }
         }
@@ -148,10 +148,10 @@ impl Ledger {
                 if is_same(proposed.get(), &self.definition) {
                     Admit::Take
                 } else {
-                    Admit::Return(reason(5))
+                    Admit::Return(Reason::OTHER_DEFINITION)
                 }
             }
-            ActKind::Accept | ActKind::Reject | ActKind::Remove => Admit::Take,
+            _ => Admit::Take,
         }
     }
 

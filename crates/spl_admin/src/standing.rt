@@ -27,13 +27,6 @@ impl Model for Standing {
     ghost view = { λ s. record { state = s.lifecycle; requester = s.requester; accepted = s.accepted.items } };
 }
 
-/// A reason that points at no part of the act.
-pub(crate) fn reason(code: u8) -> Reason
-    ensures { result ≡ record { code = code; at = 0 } }
-{
-    Reason { code, at: 0 }
-}
-
 impl Standing {
     /// Where nothing was proposed.
     pub(crate) fn new(alloc: Global) -> Standing
@@ -94,10 +87,10 @@ impl Standing {
         ensures { result ≡ misfit_vote self.now node.now }
     {
         if !self.is_proposed() {
-            return Some(reason(2));
+            return Some(Reason::WRONG_LIFECYCLE);
         }
         if self.has_accepted(node) {
-            Some(reason(3))
+            Some(Reason::ALREADY_ACCEPTED)
         } else {
             None
         }

@@ -1,60 +1,17 @@
--- Tests, rounds of a history and positions.
-use Rattle.std.proofs.Common.{◌≡◌, ◌≢◌, ℕ, zero, suc, ◌<◌, ◌≤◌, ◌⊎◌, Bool, true, false, not, ◌&&◌, ◌||◌, eqb, List, [], ◌∷◌, ◌++◌, refl, sym, subst, inl, inr, arith, eq-eqb}
-use Rattle.std.specs.Prelude.{◌==◌, nat_lt, if◌then◌else◌}
-use Rattle.std.proofs.lemmas.Bool.Decides.{nat_tests}
-use Rattle.spl_agree.specs.Member.{has_round, has, below_but, but, none_left}
+-- Rounds of a history and positions.
+use Rattle.std.proofs.Common.{◌≡◌, ◌≢◌, ℕ, zero, suc, ◌<◌, ◌⊎◌, Bool, true, false, ◌||◌, eqb, List, [], ◌∷◌, ◌++◌, length, refl, ap, sym, subst, inl, inr, arith, eq-eqb}
+use Rattle.std.specs.Prelude.{◌==◌, if◌then◌else◌}
+pub use Rattle.spl_agree.proofs.Booleans.{if_holds, if_true, if_false, eqb_same, or_true, and_left, and_right, or_left, or_right, bool_cases, or_cases, not_true, eqb_is, eqb_not, eqb_other, ltb_is, ltb_not, lt_is}
+use Rattle.spl_agree.specs.Member.{values, has_round, has, below_but, but, none_left}
 use Rattle.spl_agree.specs.World.{put}
 
--- a choice, by its test
-pub if_holds : {A : Type 0} (P : A → Type 0) (b : Bool) (x y : A) → (b ≡ true → P x) → (b ≡ false → P y) → P (if b then x else y)
-if_holds P true x y p q = p refl
-if_holds P false x y p q = q refl
+pub length-values : {V : Type 0} (h : List (ℕ × V)) → length (values h) ≡ length h
+length-values [] = refl
+length-values (e ∷ es) = ap suc (length-values es)
 
-pub if_true : {A : Type 0} (P : A → Type 0) (b : Bool) (x y : A) → b ≡ true → P x → P (if b then x else y)
-if_true P true x y h p = p
-if_true P false x y h p = cc
-
-pub if_false : {A : Type 0} (P : A → Type 0) (b : Bool) (x y : A) → b ≡ false → P y → P (if b then x else y)
-if_false P true x y h p = cc
-if_false P false x y h p = p
-
-pub or_true : (b : Bool) → (b || true) ≡ true
-or_true true = refl
-or_true false = refl
-
-pub or_cases : (a b : Bool) → (a || b) ≡ true → (a ≡ true) ⊎ (b ≡ true)
-or_cases true b h = inl refl
-or_cases false b h = inr h
-
-pub and_left : (a b : Bool) → (a && b) ≡ true → a ≡ true
-and_left true b h = refl
-and_left false b h = h
-
-pub and_right : (a b : Bool) → (a && b) ≡ true → b ≡ true
-and_right true b h = h
-and_right false b h = cc
-
-pub not_true : (b : Bool) → not b ≡ true → b ≡ false
-not_true true h = cc
-not_true false h = refl
-
-pub eqb_same : (n : ℕ) → eqb n n ≡ true
-eqb_same n = grind (arith, nat_tests)
-
-pub eqb_is : (a b : ℕ) → eqb a b ≡ true → a ≡ b
-eqb_is a b h = grind (arith, nat_tests)
-
-pub eqb_not : (a b : ℕ) → eqb a b ≡ false → a ≢ b
-eqb_not a b h = grind (arith, nat_tests)
-
-pub eqb_other : (a b : ℕ) → a ≢ b → eqb a b ≡ false
-eqb_other a b h = grind (arith, nat_tests)
-
-pub ltb_is : (a b : ℕ) → nat_lt a b ≡ true → a < b
-ltb_is a b h = grind (arith, nat_tests)
-
-pub ltb_not : (a b : ℕ) → nat_lt a b ≡ false → b ≤ a
-ltb_not a b h = grind (arith, nat_tests)
+pub values-more : {V : Type 0} (h : List (ℕ × V)) (e : ℕ × V) → values (h ++ e ∷ []) ≡ values h ++ e.1 ∷ []
+values-more [] e = refl
+values-more (d ∷ ds) e = ap (λ vs. d.1 ∷ vs) (values-more ds e)
 
 -- the round of the last entry is there
 pub has_round-last : {V : Type 0} (h : List (ℕ × V)) (e : ℕ × V) → has_round e.0 (h ++ e ∷ []) ≡ true
@@ -86,11 +43,6 @@ has_round-cases r (x ∷ xs) e p = ⊎_case (or_cases (eqb x.0 r) (has_round r (
     ⊎_case : (eqb x.0 r ≡ true) ⊎ (has_round r (xs ++ e ∷ []) ≡ true) → (has_round r (xs ++ e ∷ []) ≡ true → (has_round r xs ≡ true) ⊎ (e.0 ≡ r)) → ((eqb x.0 r || has_round r xs) ≡ true) ⊎ (e.0 ≡ r)
     ⊎_case (inl q) ih = inl (rw q)
     ⊎_case (inr q) ih = rest (ih q)
-
--- a test is one or the other
-pub bool_cases : (b : Bool) → (b ≡ true) ⊎ (b ≡ false)
-bool_cases true = inl refl
-bool_cases false = inr refl
 
 -- no round comes in where it was not and is not the last
 pub has_round-none : {V : Type 0} (r : ℕ) (h : List (ℕ × V)) (e : ℕ × V) → has_round r h ≡ false → e.0 ≢ r → has_round r (h ++ e ∷ []) ≡ false
@@ -162,14 +114,3 @@ put-same f h m = rw (eqb_same h)
 pub put-other : {A : Type 0} (f : ℕ → A) (h : ℕ) (m : A) (i : ℕ) → i ≢ h → put f h m i ≡ f i
 unfolding put
 put-other f h m i n = rw (eqb_other i h n)
-
-pub lt_is : (a b : ℕ) → a < b → nat_lt a b ≡ true
-lt_is a b h = grind (arith, nat_tests)
-
-pub or_left : (a b : Bool) → (a || b) ≡ false → a ≡ false
-or_left true b h = cc
-or_left false b h = refl
-
-pub or_right : (a b : Bool) → (a || b) ≡ false → b ≡ false
-or_right true b h = cc
-or_right false b h = h

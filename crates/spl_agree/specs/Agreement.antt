@@ -70,20 +70,12 @@ abbrev pub Told : {V : Type 0} → Lead V → CommitMsg V → Type 0
 Told l (msg.VoteRequest gen r place v) = (r < l.next) × ((b : Ballot _) → l.ballot ≡ Some b → b.round ≡ r → b.value ≡ v)
 Told l (msg.Decision gen r true) = has_round r l.history ≡ true
 Told l (msg.Decision gen r false) = (r < l.next) × (has_round r l.history ≡ false) × ((b : Ballot _) → l.ballot ≡ Some b → b.round ≢ r)
-Told l (msg.Vote gen r is_yes) = Unit {0}
-Told l (msg.DecisionRequest gen r) = Unit {0}
-Told l (msg.Forward gen v) = Unit {0}
-Told l (msg.Refused gen v reason) = Unit {0}
+Told l _ = Unit {0}
 
 -- a message that another member has sent
 abbrev pub Said : {V : Type 0} → Lead V → Seat V → CommitMsg V → Type 0
 Said l s (msg.Vote gen r true) = (r < l.next) × ((b : Ballot _) → l.ballot ≡ Some b → b.round ≡ r → s.promise ≡ Some (b.round, b.value))
-Said l s (msg.Vote gen r false) = Unit {0}
-Said l s (msg.VoteRequest gen r place v) = Unit {0}
-Said l s (msg.Decision gen r commit) = Unit {0}
-Said l s (msg.DecisionRequest gen r) = Unit {0}
-Said l s (msg.Forward gen v) = Unit {0}
-Said l s (msg.Refused gen v reason) = Unit {0}
+Said l s _ = Unit {0}
 
 -- the message was sent
 abbrev pub Was : {V : Type 0} → Sent V → List (Sent V) → Type 0
@@ -106,10 +98,8 @@ pub record MayCome {V : Type 0} (g : Group V) (w : World V) (here sender : ℕ) 
 
 -- an event that may happen here
 abbrev pub MayHappen : {V : Type 0} → Group V → World V → ℕ → GroupEvent V → Type 0
-MayHappen g w here event.Tick = Unit {0}
-MayHappen g w here event.Expire = Unit {0}
-MayHappen g w here (event.Submit v) = Unit {0}
 MayHappen g w here (event.From sender x) = MayCome g w here sender x
+MayHappen g w here _ = Unit {0}
 
 -- nobody has a history or a promise, and nothing is open at the coordinator
 pub record IsFresh {V : Type 0} (g : Group V) (at : ℕ → Member V) : Type 0 where

@@ -1,6 +1,7 @@
 -- When an event, a change and a move fit a member, and what a member keeps by itself (docs/RULES.md, "Groups").
 use Rattle.std.specs.Prelude.{◌≡◌, ◌≢◌, ℕ, suc, ◌-◌, ◌^◌, ◌<◌, ◌≤◌, Bool, true, false, not, ◌&&◌, ◌==◌, nat_lt, List, [], ◌∷◌, ◌++◌, length, Option, Some, None, is_some, is_none}
 use Rattle.std.specs.List.{list_any}
+use Rattle.spl_agree.specs.declared.limit.TheConstants.{MOST_PENDING}
 use Rattle.spl_agree.specs.declared.message.CommitMsg.{CommitMsg}
 use Rattle.spl_agree.specs.declared.message.CommitMsg.TheVariants as msg
 use Rattle.spl_agree.specs.declared.reason.Admit.TheVariants as admit
@@ -35,13 +36,12 @@ generation_of (msg.DecisionRequest gen r) = gen
 generation_of (msg.Forward gen v) = gen
 generation_of (msg.Refused gen v reason) = gen
 
--- what an event asks: a submitted value isn't known, and fewer than 64 are pending; a message has the
+-- what an event asks: a submitted value isn't known, and fewer than the limit are pending; a message has the
 -- group's generation, and comes from another position
 abbrev pub IsDue : {V : Type 0} → Group V → ℕ → Member V → GroupEvent V → Type 0
-IsDue g here m event.Tick = Unit {0}
-IsDue g here m event.Expire = Unit {0}
-IsDue g here m (event.Submit v) = (known g.rules m v ≡ None) × (length m.pending < 64)
+IsDue g here m (event.Submit v) = (known g.rules m v ≡ None) × (length m.pending < MOST_PENDING)
 IsDue g here m (event.From sender x) = (generation_of x ≡ g.generation) × (sender ≢ here)
+IsDue g here m _ = Unit {0}
 
 -- an equal value is pending
 abbrev pub is_pending : {V : Type 0} → Rules V → V → List V → Bool
@@ -57,7 +57,7 @@ is_new m = has_nothing m && (length m.refused == 0 && (m.seen == 0 && m.next == 
 
 -- where a change fits. `may` tells which values the content lets into the pending ones
 abbrev pub fits : {V : Type 0} → Rules V → (V → Bool) → Member V → GroupChange V → Bool
-fits rules may m (change.Queue v) = is_none (known rules m v) && (nat_lt (length m.pending) 64 && may v)
+fits rules may m (change.Queue v) = is_none (known rules m v) && (nat_lt (length m.pending) MOST_PENDING && may v)
 fits rules may m (change.Refuse v reason) = is_pending rules v m.pending
 fits rules may m (change.Begin r) = r == m.next && nat_lt r (2 ^ 64 - 1)
 fits rules may m (change.Seen r) = nat_lt m.seen r && is_none m.promise
@@ -83,10 +83,9 @@ misses_more i (Some o) = has i o.1 && not (none_left (but i o.1))
 
 -- what the move itself asks: a round begins where none is open; a yes is counted where it is missing and isn't the last one
 abbrev pub CanMove : {V : Type 0} → Member V → OpenMove → Type 0
-CanMove m move.Keep = Unit {0}
 CanMove m (move.Begin r) = m.opened ≡ None
 CanMove m (move.Yes i) = misses_more i m.opened ≡ true
-CanMove m move.Close = Unit {0}
+CanMove m _ = Unit {0}
 
 -- a move fits where it can be made and leaves the member settled
 pub record FitsMove {V : Type 0} (g : Group V) (here : ℕ) (m : Member V) (x : OpenMove) : Type 0 where
@@ -114,19 +113,13 @@ pub record IsSound {V : Type 0} (g : Group V) (here : ℕ) (m : Member V) : Type
   pub settled : IsSettled g here m
 
 pub record IsRoomy {V : Type 0} (m : Member V) : Type 0 where
-  pub few : length m.pending ≤ 64
+  pub few : length m.pending ≤ MOST_PENDING
   pub rounds : m.next ≤ 2 ^ 64 - 1
   pub room : length m.history ≤ 2 ^ 32 - 1
   pub while_promised : (e : ℕ × V) → m.promise ≡ Some e → length m.history < 2 ^ 32 - 1
 
 -- what the content has to see to: what is submitted, and what it takes in, may be pending
 abbrev pub MayQueue : {V : Type 0} → Group V → (V → Bool) → GroupEvent V → Type 0
-MayQueue g may event.Tick = Unit {0}
-MayQueue g may event.Expire = Unit {0}
 MayQueue g may (event.Submit v) = may v ≡ true
 MayQueue g may (event.From s (msg.Forward gen v)) = g.rules.admits s v ≡ admit.Take → may v ≡ true
-MayQueue g may (event.From s (msg.VoteRequest gen r place v)) = Unit {0}
-MayQueue g may (event.From s (msg.Vote gen r aye)) = Unit {0}
-MayQueue g may (event.From s (msg.Decision gen r commit)) = Unit {0}
-MayQueue g may (event.From s (msg.DecisionRequest gen r)) = Unit {0}
-MayQueue g may (event.From s (msg.Refused gen v why)) = Unit {0}
+MayQueue g may _ = Unit {0}

@@ -3,7 +3,9 @@
 use Rattle.std.specs.Prelude.{ℕ, ◌-◌, ◌^◌, Bool, true, false, ◌&&◌, ◌==◌, nat_lt, List, [], ◌∷◌, length, if◌then◌else◌}
 use Rattle.std.specs.Prelude.{Option, Some, None, is_none}
 use Rattle.spl_agree.specs.Member.{Rules, Group, Member, values, has_round, found, found_refused, others, has, but, none_left, is_spent, decision}
+use Rattle.spl_agree.specs.declared.limit.TheConstants.{MOST_PENDING}
 use Rattle.spl_agree.specs.declared.reason.Reason.{Reason}
+use Rattle.spl_agree.specs.declared.reason.TheConstants.Reason.{VOTED_NO, ID_TAKEN}
 use Rattle.spl_agree.specs.declared.reason.Admit.{Admit}
 use Rattle.spl_agree.specs.declared.reason.Admit.TheVariants as admit
 use Rattle.spl_agree.specs.declared.message.CommitMsg.{CommitMsg}
@@ -43,11 +45,11 @@ abort_each gen r v reason (i ∷ is) = (i, msg.Decision gen r false) ∷ (i, msg
 
 -- a value of that key is known here with other content
 abbrev pub other_value : Reason
-other_value = record { code = 8; at = 0 }
+other_value = ID_TAKEN
 
 -- a member voted no
 abbrev pub vote_no : Reason
-vote_no = record { code = 7; at = 0 }
+vote_no = VOTED_NO
 
 -- Tick at the coordinator
 -- a round is open: the request goes again to those that have not voted yes
@@ -205,7 +207,7 @@ abbrev pub returns : {V : Type 0} → ℕ → ℕ → V → Reason → GroupPlan
 returns gen sender v reason = sends_one (note.Returned reason) sender (msg.Refused gen v reason)
 
 abbrev pub forwarded_new : {V : Type 0} → Member V → V → GroupPlan V
-forwarded_new m v = if length m.pending == 64 then nothing note.Ignored else changes_one note.Queued (change.Queue v)
+forwarded_new m v = if length m.pending == MOST_PENDING then nothing note.Ignored else changes_one note.Queued (change.Queue v)
 
 abbrev pub forwarded_refused : {V : Type 0} → Group V → Member V → ℕ → V → Option (V × Reason) → GroupPlan V
 forwarded_refused g m sender v None = forwarded_new m v

@@ -1,5 +1,5 @@
 -- One group as a whole: its members and all messages ever sent (docs/RULES.md, "Groups").
-use Rattle.std.specs.Prelude.{◌≡◌, ℕ, Bool, true, false, not, ◌&&◌, ◌==◌, nat_lt, List, [], ◌∷◌, ◌++◌, if◌then◌else◌, slice_get, Option, Some, None}
+use Rattle.std.specs.Prelude.{◌≡◌, ℕ, Bool, true, not, ◌&&◌, ◌==◌, nat_lt, List, [], ◌∷◌, ◌++◌, if◌then◌else◌, slice_get, Option, Some, None}
 use Rattle.spl_agree.specs.Member.{Group, Member, new_member, changed_by, moved, restarted}
 use Rattle.spl_agree.specs.Rows.{row}
 use Rattle.spl_agree.specs.declared.message.CommitMsg.{CommitMsg}
@@ -49,11 +49,8 @@ cut_short g w here made = record { at = put w.at here (restarted (changed_by g.r
 abbrev pub is_strange_message : {V : Type 0} → Group V → ℕ → CommitMsg V → Bool
 is_strange_message g sender (msg.VoteRequest gen r place v) = not (sender == g.coordinator)
 is_strange_message g sender (msg.Vote gen r true) = not (nat_lt sender g.members)
-is_strange_message g sender (msg.Vote gen r false) = true
 is_strange_message g sender (msg.Decision gen r commit) = not (sender == g.coordinator)
-is_strange_message g sender (msg.DecisionRequest gen r) = true
-is_strange_message g sender (msg.Forward gen v) = true
-is_strange_message g sender (msg.Refused gen v reason) = true
+is_strange_message g sender _ = true
 
 abbrev pub is_strange : {V : Type 0} → Group V → ℕ → ℕ → CommitMsg V → Bool
 is_strange g here sender m = not (sender == here) && is_strange_message g sender m

@@ -3,6 +3,7 @@
 
 mod agreed;
 mod event;
+mod limit;
 mod message;
 mod number;
 mod plan;
@@ -10,6 +11,7 @@ mod reason;
 
 pub use agreed::Agreed;
 pub use event::{GroupChange, GroupEvent, Note, OpenMove};
+pub use limit::MOST_PENDING;
 pub use message::CommitMsg;
 pub use number::{Generation, Place, Round};
 pub use plan::{GroupChanges, GroupPlan, GroupSends};

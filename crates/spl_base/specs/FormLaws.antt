@@ -2,7 +2,8 @@
 use Rattle.std.proofs.Common.{◌≡◌, ℕ, zero, suc, ◌+◌, ◌%◌, ◌^◌, ◌<◌, ◌≤◌, Bool, true, false, cond, ltb, leb, ◌&&◌, IsTrue, List, [], ◌∷◌, ◌++◌, length, take, drop, Result, Ok, Err, refl, sym, ap, subst, ◌∙◌, append_assoc, arith, inl, inr, ◌⊎◌, lit<}
 use Rattle.std.specs.List.{flat_map, list_all}
 use Rattle.std.specs.Int.{Width, w8, w16, w32, w64, byte_len, from_be_bytes}
-use Rattle.std.proofs.lemmas.Bool.{cases_lt, ltb-false, ltb-true, le-ltb, lt-ltb, leb-true, le-leb}
+use Rattle.std.proofs.lemmas.Bool.{and_parts, and_from, cases_lt, ltb-false, ltb-true, le-ltb, lt-ltb, leb-true, le-leb}
+pub use Rattle.std.proofs.lemmas.Bool.{and_parts as both_true, and_from as and_true}
 use Rattle.std.proofs.lemmas.List.{take_at, drop_at, take-append-drop, length-append, length-take, get_or-drop, get_or-take, get_or_past}
 use Rattle.std.proofs.lemmas.List.Concat.{flat_map-cons}
 use Rattle.std.proofs.lemmas.Nat.{be_bytes_2, be_bytes_4, be_bytes_8, from_be_bytes-to_be_bytes_2, from_be_bytes-to_be_bytes_4, from_be_bytes-to_be_bytes_8}
@@ -12,14 +13,6 @@ use Rattle.spl_base.specs.Input.{Input, ◌>>=◌, advanced, raw_at, number_at, 
 use Rattle.spl_base.specs.Form.{Form, located, IsBytes, Taken, IsExact, IsExactCases, number, number_bytes, raw, sized, text, counted, string, flag, flag_of, ◌&◌, via, items_at, list_of, Cases, no_case, ◌or◌, by_tag, tagged, nothing}
 
 -- ---- tests
-
-pub both_true : (a b : Bool) → IsTrue (a && b) → IsTrue a × IsTrue b
-both_true true b h = (refl, h)
-both_true false b h = absurd cc
-
-pub and_true : (a b : Bool) → IsTrue a → IsTrue b → IsTrue (a && b)
-and_true true b p q = q
-and_true false b p q = absurd cc
 
 -- the value of a step that did not fail
 pub bind_ok : {A B E : Type 0} (r : Result A E) (f : A → Result B E) (y : B) → (r >>= f) ≡ Ok y → (x : A) × (r ≡ Ok x) × (f x ≡ Ok y)
@@ -57,7 +50,7 @@ IsBytes-take n bytes h i =
 module _ {A B : Type 0} (f : Form A) (g : Form B) (p : IsExact f) (q : IsExact g) where
   and_again : (x : A × B) (rest : List ℕ) (place : ℕ) → IsTrue ((f & g).fits x) → (f & g).parse (record { rest = (f & g).spell x ++ rest; place = place }) ≡ Ok (x, record { rest = rest; place = place + length ((f & g).spell x) })
   and_again x rest place h =
-      let b = both_true (f.fits x.0) (g.fits x.1) h in
+      let b = and_parts (f.fits x.0) (g.fits x.1) h in
       let regrouped : (f.spell x.0 ++ g.spell x.1) ++ rest ≡ f.spell x.0 ++ (g.spell x.1 ++ rest) = append_assoc (f.spell x.0) (g.spell x.1) rest in
       let places : place + length (f.spell x.0) + length (g.spell x.1) ≡ place + length (f.spell x.0 ++ g.spell x.1) = omega (arith, length-append (f.spell x.0) (g.spell x.1)) in
       ap (λ (r : List ℕ). (f & g).parse (record { rest = r; place = place })) regrouped
@@ -73,12 +66,12 @@ module _ {A B : Type 0} (f : Form A) (g : Form B) (p : IsExact f) (q : IsExact g
       subst (λ (y : (A × B) × Input). Taken (f & g).spell (f & g).fits s y.0 y.1) (ok_is made (x, t) b.2) (record {
         parts = first.parts ∙ ap (λ (r : List ℕ). f.spell a.0.0 ++ r) second.parts ∙ sym (append_assoc (f.spell a.0.0) (g.spell b.0.0) b.0.1.rest);
         place = omega (arith, first.place, second.place, length-append (f.spell a.0.0) (g.spell b.0.0));
-        is_fit = and_true (f.fits a.0.0) (g.fits b.0.0) first.is_fit second.is_fit;
+        is_fit = and_from (f.fits a.0.0) (g.fits b.0.0) first.is_fit second.is_fit;
         bytes = second.bytes;
       })
 
   pub exact_and : IsExact (f & g)
-  exact_and = record { again = and_again; takes = and_takes; bounds = λ x h. let b = both_true (f.fits x.0) (g.fits x.1) h in and_true (f.bounded x.0) (g.bounded x.1) (p.bounds x.0 b.0) (q.bounds x.1 b.1) }
+  exact_and = record { again = and_again; takes = and_takes; bounds = λ x h. let b = and_parts (f.fits x.0) (g.fits x.1) h in and_from (f.bounded x.0) (g.bounded x.1) (p.bounds x.0 b.0) (q.bounds x.1 b.1) }
 
 -- ---- another type
 
@@ -196,8 +189,8 @@ module _ (n : ℕ) (p : List ℕ → Bool) where
 
   raw_spelled : (xs rest : List ℕ) (place : ℕ) → IsTrue ((raw n p).fits xs) → (raw n p).parse (record { rest = xs ++ rest; place = place }) ≡ Ok (xs, record { rest = rest; place = place + length xs })
   raw_spelled xs rest place h =
-      let b = both_true (leb n (length xs) && leb (length xs) n) (p xs) h in
-      let c = both_true (leb n (length xs)) (leb (length xs) n) b.0 in
+      let b = and_parts (leb n (length xs) && leb (length xs) n) (p xs) h in
+      let c = and_parts (leb n (length xs)) (leb (length xs) n) b.0 in
       let len : length xs ≡ n = omega (arith, leb-true _ _ c.0, leb-true _ _ c.1) in
       ap (λ (r : Result (List ℕ × Input) FieldFault). located r >>= λ x. cond (p x.0) (Ok x) (Err place)) (raw_again xs rest place len)
       ∙ rw b.1 (ap (λ (k : ℕ). Ok (xs, record { rest = rest; place = place + k })) (sym len))
@@ -213,7 +206,7 @@ module _ (n : ℕ) (p : List ℕ → Bool) where
       subst (λ (x : List ℕ × Input). Taken (raw n p).spell (raw n p).fits s x.0 x.1) (g.1 ∙ q.1) (record {
         parts = sym (take-append-drop n s.rest);
         place = ap (λ (i : ℕ). s.place + i) (sym len);
-        is_fit = and_true _ _ (and_true _ _ (le-leb n (length (take n s.rest)) (omega arith)) (le-leb (length (take n s.rest)) n (omega arith))) passes;
+        is_fit = and_from _ _ (and_from _ _ (le-leb n (length (take n s.rest)) (omega arith)) (le-leb (length (take n s.rest)) n (omega arith))) passes;
         bytes = IsBytes-drop n s.rest bytes;
       })
 
@@ -231,7 +224,7 @@ module _ (w : Width) (limit : ℕ) (wide : IsWide w limit) (most : ℕ) (p : Lis
 
   sized_spelled : (xs rest : List ℕ) (place : ℕ) → IsTrue ((sized w most p).fits xs) → (sized w most p).parse (record { rest = (sized w most p).spell xs ++ rest; place = place }) ≡ Ok (xs, record { rest = rest; place = place + length ((sized w most p).spell xs) })
   sized_spelled xs rest place h =
-      let b = both_true (leb (length xs) most) (p xs) h in
+      let b = and_parts (leb (length xs) most) (p xs) h in
       let regrouped : (number_bytes w (length xs) ++ xs) ++ rest ≡ number_bytes w (length xs) ++ (xs ++ rest) = append_assoc (number_bytes w (length xs)) xs rest in
       let places : place + byte_len w + length xs ≡ place + length (number_bytes w (length xs) ++ xs) = omega (arith, length-append (number_bytes w (length xs)) xs, wide.len (length xs)) in
       ap (λ (r : Result (List ℕ × Input) FieldFault). located r >>= λ x. cond (p x.0) (Ok x) (Err place)) (ap (λ (r : List ℕ). sized_at w most (record { rest = r; place = place })) regrouped ∙ sized_again xs rest place (leb-true _ _ b.0))
@@ -256,7 +249,7 @@ module _ (w : Width) (limit : ℕ) (wide : IsWide w limit) (most : ℕ) (p : Lis
       subst (λ (x : List ℕ × Input). Taken (sized w most p).spell (sized w most p).fits s x.0 x.1) (k.1 ∙ q.1) (record {
         parts = first.parts ∙ ap (λ (r : List ℕ). number_bytes w n.0 ++ r) whole ∙ sym (append_assoc (number_bytes w n.0) cut (drop n.0 n.1.rest)) ∙ ap (λ (z : List ℕ). (z ++ cut) ++ drop n.0 n.1.rest) counted;
         place = omega (arith, first.place, len, length-append (number_bytes w (length cut)) cut, wide.len (length cut), wide.len n.0);
-        is_fit = and_true (leb (length cut) most) (p cut) (le-leb (length cut) most (omega arith)) passes;
+        is_fit = and_from (leb (length cut) most) (p cut) (le-leb (length cut) most (omega arith)) passes;
         bytes = IsBytes-drop n.0 n.1.rest first.bytes;
       })
 
@@ -272,13 +265,13 @@ module _ {A : Type 0} (f : Form A) (p : IsExact f) where
   items_bounds : (xs : List A) → IsTrue (list_all f.fits xs) → IsTrue (list_all f.bounded xs)
   items_bounds [] h = refl
   items_bounds (x ∷ xs) h =
-      let b = both_true (f.fits x) (list_all f.fits xs) h in
-      and_true (f.bounded x) (list_all f.bounded xs) (p.bounds x b.0) (items_bounds xs b.1)
+      let b = and_parts (f.fits x) (list_all f.fits xs) h in
+      and_from (f.bounded x) (list_all f.bounded xs) (p.bounds x b.0) (items_bounds xs b.1)
 
   items_again : (xs : List A) (rest : List ℕ) (place : ℕ) → IsTrue (list_all f.fits xs) → items_at f.parse (length xs) (record { rest = flat_map f.spell xs ++ rest; place = place }) ≡ Ok (xs, record { rest = rest; place = place + length (flat_map f.spell xs) })
   items_again [] rest place h = ap (λ (k : ℕ). Ok ([], record { rest = rest; place = k })) (omega arith)
   items_again (x ∷ xs) rest place h =
-      let b = both_true (f.fits x) (list_all f.fits xs) h in
+      let b = and_parts (f.fits x) (list_all f.fits xs) h in
       let apart = flat_map-cons f.spell x xs in
       let regrouped : flat_map f.spell (x ∷ xs) ++ rest ≡ f.spell x ++ (flat_map f.spell xs ++ rest) = ap (λ (z : List ℕ). z ++ rest) apart ∙ append_assoc (f.spell x) (flat_map f.spell xs) rest in
       let places : place + length (f.spell x) + length (flat_map f.spell xs) ≡ place + length (flat_map f.spell (x ∷ xs)) = omega (arith, ap length apart, length-append (f.spell x) (flat_map f.spell xs)) in
@@ -300,7 +293,7 @@ module _ {A : Type 0} (f : Form A) (p : IsExact f) where
         record {
           parts = first.parts ∙ ap (λ (r : List ℕ). f.spell a.0.0 ++ r) others.0.parts ∙ sym (append_assoc (f.spell a.0.0) (flat_map f.spell b.0.0) b.0.1.rest) ∙ ap (λ (z : List ℕ). z ++ b.0.1.rest) (sym apart);
           place = omega (arith, first.place, others.0.place, ap length apart, length-append (f.spell a.0.0) (flat_map f.spell b.0.0));
-          is_fit = and_true (f.fits a.0.0) (list_all f.fits b.0.0) first.is_fit others.0.is_fit;
+          is_fit = and_from (f.fits a.0.0) (list_all f.fits b.0.0) first.is_fit others.0.is_fit;
           bytes = others.0.bytes;
         },
         ap suc others.1,
@@ -309,7 +302,7 @@ module _ {A : Type 0} (f : Form A) (p : IsExact f) where
   module _ (most : ℕ) (small : most < 2 ^ 16) where
     list_again : (xs : List A) (rest : List ℕ) (place : ℕ) → IsTrue ((list_of most f).fits xs) → (list_of most f).parse (record { rest = (list_of most f).spell xs ++ rest; place = place }) ≡ Ok (xs, record { rest = rest; place = place + length ((list_of most f).spell xs) })
     list_again xs rest place h =
-        let b = both_true (leb (length xs) most) (list_all f.fits xs) h in
+        let b = and_parts (leb (length xs) most) (list_all f.fits xs) h in
         let le : length xs ≤ most = leb-true _ _ b.0 in
         let short : ltb most (length xs) ≡ false = le-ltb _ _ le in
         let count = number_bytes w16 (length xs) in
@@ -329,14 +322,14 @@ module _ {A : Type 0} (f : Form A) (p : IsExact f) where
         record {
           parts = first.parts ∙ ap (λ (r : List ℕ). number_bytes w16 a.0.0 ++ r) others.0.parts ∙ sym (append_assoc (number_bytes w16 a.0.0) (flat_map f.spell xs) t.rest) ∙ ap (λ (c : List ℕ). (c ++ flat_map f.spell xs) ++ t.rest) counted;
           place = omega (arith, first.place, others.0.place, length-append count (flat_map f.spell xs), wide16.len (length xs), wide16.len a.0.0);
-          is_fit = and_true (leb (length xs) most) (list_all f.fits xs) (le-leb _ _ (omega (arith, ltb-false _ _ g.0, others.1))) others.0.is_fit;
+          is_fit = and_from (leb (length xs) most) (list_all f.fits xs) (le-leb _ _ (omega (arith, ltb-false _ _ g.0, others.1))) others.0.is_fit;
           bytes = others.0.bytes;
         }
 
     list_bounds : (xs : List A) → IsTrue ((list_of most f).fits xs) → IsTrue ((list_of most f).bounded xs)
     list_bounds xs h =
-        let b = both_true (leb (length xs) most) (list_all f.fits xs) h in
-        and_true (leb (length xs) most) (list_all f.bounded xs) b.0 (items_bounds xs b.1)
+        let b = and_parts (leb (length xs) most) (list_all f.fits xs) h in
+        and_from (leb (length xs) most) (list_all f.bounded xs) b.0 (items_bounds xs b.1)
 
     pub exact_list : IsExact (list_of most f)
     exact_list = record { again = list_again; takes = list_takes; bounds = list_bounds }
@@ -389,7 +382,7 @@ module _ {A B : Type 0} (f : Form A) (c : Cases B) (p : IsExact f) (q : IsExactC
 module _ {A : Type 0} (c : Cases A) (q : IsExactCases c) where
   tagged_again : (x : A) (rest : List ℕ) (place : ℕ) → IsTrue ((tagged c).fits x) → (tagged c).parse (record { rest = (tagged c).spell x ++ rest; place = place }) ≡ Ok (x, record { rest = rest; place = place + length ((tagged c).spell x) })
   tagged_again x rest place h =
-      let b = both_true (ltb (suc (c.index x)) 256) (c.fits x) h in
+      let b = and_parts (ltb (suc (c.index x)) 256) (c.fits x) h in
       let tag = number_bytes w8 (suc (c.index x)) in
       let regrouped : (tag ++ c.spell x) ++ rest ≡ tag ++ (c.spell x ++ rest) = append_assoc tag (c.spell x) rest in
       let places : place + 1 + length (c.spell x) ≡ place + length (tag ++ c.spell x) = omega (arith, length-append tag (c.spell x), wide8.len (suc (c.index x))) in
@@ -410,12 +403,12 @@ module _ {A : Type 0} (c : Cases A) (q : IsExactCases c) where
       record {
         parts = first.parts ∙ ap (λ (r : List ℕ). number_bytes w8 a.0.0 ++ r) body.1.parts ∙ sym (append_assoc (number_bytes w8 a.0.0) (c.spell x) t.rest) ∙ ap (λ (z : List ℕ). (z ++ c.spell x) ++ t.rest) tagged_so;
         place = omega (arith, first.place, body.1.place, length-append tag (c.spell x), wide8.len (suc (c.index x)), wide8.len a.0.0);
-        is_fit = and_true (ltb (suc (c.index x)) 256) (c.fits x) (lt-ltb _ _ (omega (arith, body.0, ltb-true _ _ first.is_fit))) body.1.is_fit;
+        is_fit = and_from (ltb (suc (c.index x)) 256) (c.fits x) (lt-ltb _ _ (omega (arith, body.0, ltb-true _ _ first.is_fit))) body.1.is_fit;
         bytes = body.1.bytes;
       }
 
   pub exact_tagged : IsExact (tagged c)
-  exact_tagged = record { again = tagged_again; takes = tagged_takes; bounds = λ x h. q.bounds x (both_true (ltb (suc (c.index x)) 256) (c.fits x) h).1 }
+  exact_tagged = record { again = tagged_again; takes = tagged_takes; bounds = λ x h. q.bounds x (and_parts (ltb (suc (c.index x)) 256) (c.fits x) h).1 }
 
   -- a tag that no case has
   pub no_tag : (n at : ℕ) (s : Input) → (n ≡ 0) ⊎ (c.count < n) → by_tag c n at s ≡ Err at
@@ -436,10 +429,6 @@ prefix_free {A} f p x y a b h k e =
 passes_all : List ℕ → Bool
 passes_all xs = true
 
-and_true_is : (b : Bool) → (b && true) ≡ b
-and_true_is true = refl
-and_true_is false = refl
-
 module _ (w : Width) (limit : ℕ) (wide : IsWide w limit) (most : ℕ) (small : most < limit) where
   counted_again : (xs rest : List ℕ) (place : ℕ) → IsTrue ((counted w most).fits xs) → (counted w most).parse (record { rest = (counted w most).spell xs ++ rest; place = place }) ≡ Ok (xs, record { rest = rest; place = place + length ((counted w most).spell xs) })
   counted_again xs rest place h =
@@ -452,7 +441,7 @@ module _ (w : Width) (limit : ℕ) (wide : IsWide w limit) (most : ℕ) (small :
   unfolding passes_all
   counted_takes s xs t bytes e =
       let all = sized_takes w limit wide most passes_all small s xs t bytes (rw e refl) in
-      record { parts = all.parts; place = all.place; is_fit = (both_true (leb (length xs) most) true all.is_fit).0; bytes = all.bytes }
+      record { parts = all.parts; place = all.place; is_fit = (and_parts (leb (length xs) most) true all.is_fit).0; bytes = all.bytes }
 
   pub exact_counted : IsExact (counted w most)
   exact_counted = record { again = counted_again; takes = counted_takes; bounds = λ xs h. h }

@@ -8,6 +8,9 @@ use crate::writer::Writer;
 use std::alloc::{AllocError, Global};
 use std::marker::Model;
 
+/// How many bytes a byte string has at most where it is read.
+pub const LONGEST_PIECE: u16 = 1024;
+
 /// A byte string. Contracts see the bytes.
 #[derive(Debug, Drop)]
 pub struct Piece {
@@ -51,8 +54,9 @@ impl Field for Piece {
     ghost use Rattle.std.proofs.Common.{lit<};
     ghost use Rattle.spl_base.specs.Form.{string};
     ghost use Rattle.spl_base.specs.FormLaws.{exact_string};
+    ghost use Rattle.spl_base.specs.declared.piece.TheConstants.{LONGEST_PIECE};
 
-    ghost form = { string 1024 };
+    ghost form = { string LONGEST_PIECE };
 
     #[tactic(auto, unfolding(crate::specs::Form::number_bytes))]
     fn put_parts(&self, w: &mut Writer) -> Result<(), AllocError> {
@@ -60,9 +64,9 @@ impl Field for Piece {
     }
 
     fn take_parts(alloc: Global, r: &mut Reader) -> Result<Piece, Malformed> {
-        let bytes = r.take_text(1024)?;
+        let bytes = r.take_text(LONGEST_PIECE)?;
         Ok(Piece::from(alloc, bytes)?)
     }
 
-    ghost exact = { exact_string 1024 (lit< tt) };
+    ghost exact = { exact_string LONGEST_PIECE (lit< tt) };
 }

@@ -1,14 +1,13 @@
 -- Nodes in ascending order, and the test that the nodes of the services are the members.
-use Rattle.std.proofs.Common.{◌≡◌, ℕ, suc, Bool, true, false, true≢false, if◌then◌else◌, eqb, ◌&&◌, ◌||◌, ◌==◌, List, [], ◌∷◌, length, refl, sym, ap, ◌∙◌, arith}
+use Rattle.std.proofs.Common.{◌≡◌, suc, Bool, true, false, true≢false, if◌then◌else◌, ◌&&◌, ◌||◌, ◌==◌, List, [], ◌∷◌, length, refl, sym, ap, ◌∙◌, arith}
 use Rattle.std.specs.List.{list_all, list_any}
 use Rattle.std.specs.Str.{bytes_eq}
 use Rattle.std.specs.Cmp.{both_ways}
-use Rattle.std.proofs.lemmas.Bool.{eqb-true}
-use Rattle.std.proofs.lemmas.Slice.Eq.{bytes_eq-Decides}
-use Rattle.spl_base.specs.FormLaws.{both_true, and_true}
+use Rattle.std.proofs.lemmas.Bool.{eqb-true, eq-eqb, and_parts, and_from, or_left, or_right}
 use Rattle.spl_circuit.specs.declared.definition.Service.{Service}
 use Rattle.spl_circuit.specs.Nodes.{Node, has_node, is_below, inserted, sorted, same_nodes, lowest_from}
 use Rattle.spl_circuit.specs.Rules.{ascends, ascends_after, nodes_of, ids_of, serves, lowest_service}
+use Rattle.spl_circuit.specs.Same.{node_is, node_same, nodes_are, nodes_same}
 use Rattle.spl_circuit.proofs.Order.{below_trans, below_turned, same_from_ties, below_from_not, not_below_itself}
 
 -- ---- the order of two insertions
@@ -42,11 +41,11 @@ has_inserted_by : (x y : Node) (ys : List Node) (m : Node) (b : Bool) → is_bel
 has_inserted_by x y ys m true h e = rw (h, e) (or_swap (bytes_eq y m) (bytes_eq x m) (has_node ys m))
 has_inserted_by x y ys m false h e = rw h refl
 
-has_inserted : (x : Node) (ys : List Node) (m : Node) → has_node (inserted x ys) m ≡ (bytes_eq x m || has_node ys m)
+pub has_inserted : (x : Node) (ys : List Node) (m : Node) → has_node (inserted x ys) m ≡ (bytes_eq x m || has_node ys m)
 has_inserted x [] m = refl
 has_inserted x (y ∷ ys) m = has_inserted_by x y ys m (is_below y x) refl (has_inserted x ys m)
 
-has_sorted : (xs : List Node) (m : Node) → has_node (sorted xs) m ≡ has_node xs m
+pub has_sorted : (xs : List Node) (m : Node) → has_node (sorted xs) m ≡ has_node xs m
 has_sorted [] m = refl
 has_sorted (x ∷ xs) m = has_inserted x (sorted xs) m ∙ ap (λ b. bytes_eq x m || b) (has_sorted xs m)
 
@@ -62,35 +61,12 @@ length_sorted : (xs : List Node) → length (sorted xs) ≡ length xs
 length_sorted [] = refl
 length_sorted (x ∷ xs) = length_inserted x (sorted xs) ∙ ap suc (length_sorted xs)
 
--- ---- the same nodes
-
-same_itself : (x : Node) → bytes_eq x x ≡ true
-same_itself x = (bytes_eq-Decides x x).1 refl
-
-same_nodes_itself : (xs : List Node) → same_nodes xs xs ≡ true
-same_nodes_itself [] = refl
-same_nodes_itself (x ∷ xs) = and_true (bytes_eq x x) (same_nodes xs xs) (same_itself x) (same_nodes_itself xs)
-
-is_same_nodes : (xs ys : List Node) → same_nodes xs ys ≡ true → xs ≡ ys
-is_same_nodes [] [] e = refl
-is_same_nodes [] (y ∷ ys) e = absurd cc
-is_same_nodes (x ∷ xs) [] e = absurd cc
-is_same_nodes (x ∷ xs) (y ∷ ys) e =
-    let b = both_true (bytes_eq x y) (same_nodes xs ys) e in
-    ap (λ v. v ∷ xs) ((bytes_eq-Decides x y).0 b.0) ∙ ap (λ v. y ∷ v) (is_same_nodes xs ys b.1)
-
-or_left : (a b : Bool) → a ≡ true → (a || b) ≡ true
-or_left true b e = refl
-or_left false b e = absurd cc
-
-or_right : (a b : Bool) → b ≡ true → (a || b) ≡ true
-or_right true b e = refl
-or_right false b e = e
+-- ---- what each node passes
 
 -- a test that each of its nodes passes
 all_pass : (p : Node → Bool) (ms : List Node) → ((m : Node) → has_node ms m ≡ true → p m ≡ true) → list_all p ms ≡ true
 all_pass p [] h = refl
-all_pass p (m ∷ ms) h = and_true (p m) (list_all p ms) (h m (or_left (bytes_eq m m) (has_node ms m) (same_itself m))) (all_pass p ms (λ k e. h k (or_right (bytes_eq m k) (has_node ms k) e)))
+all_pass p (m ∷ ms) h = and_from (p m) (list_all p ms) (h m (or_left (bytes_eq m m) (has_node ms m) (node_same m))) (all_pass p ms (λ k e. h k (or_right (bytes_eq m k) (has_node ms k) e)))
 
 -- ---- one node taken away
 
@@ -99,7 +75,7 @@ without m [] = []
 without m (x ∷ xs) = if bytes_eq x m then xs else x ∷ without m xs
 
 sorted_without_by : (m x : Node) (xs : List Node) (b : Bool) → bytes_eq x m ≡ b → (b || has_node xs m) ≡ true → (has_node xs m ≡ true → sorted xs ≡ inserted m (sorted (without m xs))) → sorted (x ∷ xs) ≡ inserted m (sorted (without m (x ∷ xs)))
-sorted_without_by m x xs true e h f = rw e (ap (λ v. inserted v (sorted xs)) ((bytes_eq-Decides x m).0 e))
+sorted_without_by m x xs true e h f = rw e (ap (λ v. inserted v (sorted xs)) (node_is x m e))
 sorted_without_by m x xs false e h f = rw e (ap (λ v. inserted x v) (f h) ∙ swaps x m (sorted (without m xs)))
 
 sorted_without : (m : Node) (xs : List Node) → has_node xs m ≡ true → sorted xs ≡ inserted m (sorted (without m xs))
@@ -123,7 +99,7 @@ or_step true b c h f = refl
 or_step false b c h f = f h
 
 has_without_by : (m k x : Node) (xs : List Node) (b : Bool) → bytes_eq x m ≡ b → bytes_eq m k ≡ false → has_node (x ∷ xs) k ≡ true → (has_node xs k ≡ true → has_node (without m xs) k ≡ true) → has_node (without m (x ∷ xs)) k ≡ true
-has_without_by m k x xs true e n h f = rw e (or_false (bytes_eq x k) (has_node xs k) (ap (λ v. bytes_eq v k) ((bytes_eq-Decides x m).0 e) ∙ n) h)
+has_without_by m k x xs true e n h f = rw e (or_false (bytes_eq x k) (has_node xs k) (ap (λ v. bytes_eq v k) (node_is x m e) ∙ n) h)
 has_without_by m k x xs false e n h f = rw e (or_step (bytes_eq x k) (has_node xs k) (has_node (without m xs) k) h f)
 
 has_without : (m k : Node) (xs : List Node) → bytes_eq m k ≡ false → has_node xs k ≡ true → has_node (without m xs) k ≡ true
@@ -132,37 +108,37 @@ has_without m k (x ∷ xs) n h = has_without_by m k x xs (bytes_eq x m) refl n h
 
 -- ---- nodes that ascend
 
-weaken : (m k : Node) (ks : List Node) → is_below m k ≡ true → ascends_after k ks ≡ true → ascends_after m ks ≡ true
+pub weaken : (m k : Node) (ks : List Node) → is_below m k ≡ true → ascends_after k ks ≡ true → ascends_after m ks ≡ true
 weaken m k [] p h = refl
-weaken m k (j ∷ js) p h = let b = both_true (is_below k j) (ascends_after j js) h in and_true (is_below m j) (ascends_after j js) (below_trans m k j p b.0) b.1
+weaken m k (j ∷ js) p h = let b = and_parts (is_below k j) (ascends_after j js) h in and_from (is_below m j) (ascends_after j js) (below_trans m k j p b.0) b.1
 
 differ_by : (m k : Node) (b : Bool) → bytes_eq m k ≡ b → is_below m k ≡ true → b ≡ false
 differ_by m k false e p = refl
-differ_by m k true e p = absurd (true≢false (sym p ∙ ap (λ v. is_below v k) ((bytes_eq-Decides m k).0 e) ∙ not_below_itself k))
+differ_by m k true e p = absurd (true≢false (sym p ∙ ap (λ v. is_below v k) (node_is m k e) ∙ not_below_itself k))
 
-differ : (m k : Node) → is_below m k ≡ true → bytes_eq m k ≡ false
+pub differ : (m k : Node) → is_below m k ≡ true → bytes_eq m k ≡ false
 differ m k p = differ_by m k (bytes_eq m k) refl p
 
 kept : (m : Node) (ns ms : List Node) → ascends_after m ms ≡ true → list_all (has_node ns) ms ≡ true → list_all (has_node (without m ns)) ms ≡ true
 kept m ns [] a h = refl
 kept m ns (k ∷ ks) a h =
-    let p = both_true (is_below m k) (ascends_after k ks) a in
-    let b = both_true (has_node ns k) (list_all (has_node ns) ks) h in
-    and_true (has_node (without m ns) k) (list_all (has_node (without m ns)) ks) (has_without m k ns (differ m k p.0) b.0) (kept m ns ks (weaken m k ks p.0 p.1) b.1)
+    let p = and_parts (is_below m k) (ascends_after k ks) a in
+    let b = and_parts (has_node ns k) (list_all (has_node ns) ks) h in
+    and_from (has_node (without m ns) k) (list_all (has_node (without m ns)) ks) (has_without m k ns (differ m k p.0) b.0) (kept m ns ks (weaken m k ks p.0 p.1) b.1)
 
 inserted_first : (m : Node) (ms : List Node) → ascends_after m ms ≡ true → inserted m ms ≡ m ∷ ms
 inserted_first m [] a = refl
-inserted_first m (k ∷ ks) a = rw (below_turned m k (both_true (is_below m k) (ascends_after k ks) a).0) refl
+inserted_first m (k ∷ ks) a = rw (below_turned m k (and_parts (is_below m k) (ascends_after k ks) a).0) refl
 
-ascends_on : (m : Node) (ms : List Node) → ascends_after m ms ≡ true → ascends ms ≡ true
+pub ascends_on : (m : Node) (ms : List Node) → ascends_after m ms ≡ true → ascends ms ≡ true
 ascends_on m [] a = refl
-ascends_on m (k ∷ ks) a = (both_true (is_below m k) (ascends_after k ks) a).1
+ascends_on m (k ∷ ks) a = (and_parts (is_below m k) (ascends_after k ks) a).1
 
 all_served : (ms ns : List Node) → ascends ms ≡ true → length ns ≡ length ms → list_all (has_node ns) ms ≡ true → sorted ns ≡ ms
 all_served [] [] a l h = refl
 all_served [] (n ∷ ns) a l h = absurd (omega (arith, l))
 all_served (m ∷ ms) ns a l h =
-    let b = both_true (has_node ns m) (list_all (has_node ns) ms) h in
+    let b = and_parts (has_node ns m) (list_all (has_node ns) ms) h in
     let l' : length (without m ns) ≡ length ms = omega (arith, l, length_without m ns b.0) in
     sorted_without m ns b.0 ∙ ap (inserted m) (all_served ms (without m ns) (ascends_on m ms a) l' (kept m ns ms a b.1)) ∙ inserted_first m ms a
 
@@ -170,17 +146,14 @@ all_served (m ∷ ms) ns a l h =
 
 tested : (ms ns : List Node) → ascends ms ≡ true → (length ns == length ms && list_all (has_node ns) ms) ≡ true → same_nodes (sorted ns) ms ≡ true
 tested ms ns a h =
-    let b = both_true (length ns == length ms) (list_all (has_node ns) ms) h in
-    ap (λ v. same_nodes v ms) (all_served ms ns a (eqb-true (length ns) (length ms) b.0) b.1) ∙ same_nodes_itself ms
-
-equal_test : (n m : ℕ) → n ≡ m → eqb n m ≡ true
-equal_test n m e = grind (arith, e)
+    let b = and_parts (length ns == length ms) (list_all (has_node ns) ms) h in
+    ap (λ v. same_nodes v ms) (all_served ms ns a (eqb-true (length ns) (length ms) b.0) b.1) ∙ nodes_same ms
 
 testing : (ms ns : List Node) → same_nodes (sorted ns) ms ≡ true → (length ns == length ms && list_all (has_node ns) ms) ≡ true
 testing ms ns h =
-    let e = is_same_nodes (sorted ns) ms h in
-    and_true (length ns == length ms) (list_all (has_node ns) ms)
-    (equal_test (length ns) (length ms) (sym (length_sorted ns) ∙ ap length e))
+    let e = nodes_are (sorted ns) ms h in
+    and_from (length ns == length ms) (list_all (has_node ns) ms)
+    (eq-eqb (length ns) (length ms) (sym (length_sorted ns) ∙ ap length e))
     (all_pass (has_node ns) ms (λ m k. sym (has_sorted ns m) ∙ ap (λ v. has_node v m) e ∙ k))
 
 exactly : (ms ns : List Node) → ascends ms ≡ true → (length ns == length ms && list_all (has_node ns) ms) ≡ same_nodes (sorted ns) ms
@@ -190,7 +163,7 @@ pub length_nodes : (ss : List Service) → length (nodes_of ss) ≡ length ss
 length_nodes [] = refl
 length_nodes (s ∷ ss) = ap suc (length_nodes ss)
 
-any_node : (ss : List Service) (n : Node) → has_node (nodes_of ss) n ≡ serves ss n
+pub any_node : (ss : List Service) (n : Node) → has_node (nodes_of ss) n ≡ serves ss n
 any_node [] n = refl
 any_node (s ∷ ss) n = ap (λ b. bytes_eq s.node n || b) (any_node ss n)
 
@@ -207,18 +180,18 @@ any_member [] n = refl
 any_member (m ∷ ms) n = ap (λ b. bytes_eq m n || b) (any_member ms n)
 
 pub length_served : (ss : List Service) (ms : List Node) → same_nodes (sorted (nodes_of ss)) ms ≡ true → length ss ≡ length ms
-length_served ss ms e = sym (length_nodes ss) ∙ sym (length_sorted (nodes_of ss)) ∙ ap length (is_same_nodes (sorted (nodes_of ss)) ms e)
+length_served ss ms e = sym (length_nodes ss) ∙ sym (length_sorted (nodes_of ss)) ∙ ap length (nodes_are (sorted (nodes_of ss)) ms e)
 
 -- ---- the lowest of what ascends is the first
 
 pub first_is_lowest : (x : Node) (ys : List Node) → ascends_after x ys ≡ true → lowest_from x ys ≡ x
 first_is_lowest x [] a = refl
 first_is_lowest x (y ∷ ys) a =
-    let b = both_true (is_below x y) (ascends_after y ys) a in
+    let b = and_parts (is_below x y) (ascends_after y ys) a in
     rw (below_turned x y b.0) (first_is_lowest x ys (weaken x y ys b.0 b.1))
 
 pub first_service_is_lowest : (s : Service) (ts : List Service) → ascends_after s.id (ids_of ts) ≡ true → lowest_service s ts ≡ s
 first_service_is_lowest s [] a = refl
 first_service_is_lowest s (t ∷ ts) a =
-    let b = both_true (is_below s.id t.id) (ascends_after t.id (ids_of ts)) a in
+    let b = and_parts (is_below s.id t.id) (ascends_after t.id (ids_of ts)) a in
     rw (below_turned s.id t.id b.0) (first_service_is_lowest s ts (weaken s.id t.id (ids_of ts) b.0 b.1))

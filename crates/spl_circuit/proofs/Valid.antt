@@ -1,9 +1,9 @@
 -- What a definition that breaks no rule has.
-use Rattle.std.proofs.Common.{◌≡◌, ◌≤◌, Bool, true, leb, ◌&&◌, IsTrue, List, [], ◌∷◌, length, None, refl, sym, ap, arith}
+use Rattle.std.proofs.Common.{◌≡◌, ◌≤◌, leb, ◌&&◌, IsTrue, List, [], ◌∷◌, length, None, refl, sym, ap, arith}
 use Rattle.std.specs.List.{list_all}
 use Rattle.std.specs.Prelude.{slice_index_or}
-use Rattle.std.proofs.lemmas.Bool.{leb-true, le-leb}
-use Rattle.spl_base.specs.FormLaws.{both_true, and_true}
+use Rattle.std.proofs.lemmas.Bool.{leb-true, le-leb, and_parts, and_from}
+use Rattle.spl_base.specs.Booleans.{all_pass}
 use Rattle.spl_base.specs.Rules.{test_at}
 use Rattle.spl_circuit.specs.declared.definition.Service.{Service}
 use Rattle.spl_circuit.specs.declared.definition.Definition.{Definition}
@@ -16,7 +16,7 @@ use Rattle.spl_circuit.proofs.Sorting.{first_is_lowest, first_service_is_lowest,
 pub few_members : (d : Definition) → broken d ≡ None → (2 ≤ length d.members) × (length d.members ≤ 8)
 few_members d e =
     let h : IsTrue (leb 2 (length d.members) && leb (length d.members) 8) = test_at 4 1 (rules_of d) e in
-    let b = both_true (leb 2 (length d.members)) (leb (length d.members) 8) h in
+    let b = and_parts (leb 2 (length d.members)) (leb (length d.members) 8) h in
     (leb-true 2 (length d.members) b.0, leb-true (length d.members) 8 b.1)
 
 pub members_ascend : (d : Definition) → broken d ≡ None → IsTrue (ascends d.members)
@@ -45,16 +45,12 @@ first_service (t ∷ ts) s a l = ap (λ v. v.node) (sym (first_service_is_lowest
 pub service_is_first : (d : Definition) (s : Service) → broken d ≡ None → (slice_index_or d.services 0 s).node ≡ rules.service d
 service_is_first d s e = first_service d.services s (services_ascend d e) (omega (arith, as_many_services d e, (few_members d e).0))
 
-all_pass : {A : Type 0} (p : A → Bool) → ((x : A) → p x ≡ true) → (xs : List A) → IsTrue (list_all p xs)
-all_pass p h [] = refl
-all_pass p h (x ∷ xs) = and_true (p x) (list_all p xs) (h x) (all_pass p h xs)
-
 -- few members and few services have a byte form
 pub bounded_by : (d : Definition) → length d.members ≤ 16 → length d.services ≤ 16 → IsTrue (definition.bounded d)
 bounded_by d few same =
-    and_true (leb (length d.members) 16 && list_all node_id.bounded d.members) (leb (length d.services) 16 && list_all service.bounded d.services)
-    (and_true (leb (length d.members) 16) (list_all node_id.bounded d.members) (le-leb (length d.members) 16 few) (all_pass node_id.bounded (λ xs. refl) d.members))
-    (and_true (leb (length d.services) 16) (list_all service.bounded d.services) (le-leb (length d.services) 16 same) (all_pass service.bounded (λ s. refl) d.services))
+    and_from (leb (length d.members) 16 && list_all node_id.bounded d.members) (leb (length d.services) 16 && list_all service.bounded d.services)
+    (and_from (leb (length d.members) 16) (list_all node_id.bounded d.members) (le-leb (length d.members) 16 few) (all_pass node_id.bounded (λ xs. refl) d.members))
+    (and_from (leb (length d.services) 16) (list_all service.bounded d.services) (le-leb (length d.services) 16 same) (all_pass service.bounded (λ s. refl) d.services))
 
 -- it has a byte form
 pub bounded_from_valid : (d : Definition) → broken d ≡ None → IsTrue (definition.bounded d)

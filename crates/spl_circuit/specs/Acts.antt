@@ -2,6 +2,7 @@
 use Rattle.std.specs.Prelude.{ℕ, Bool, true, false, not, List, [], ◌∷◌, if◌then◌else◌, Option, Some, None}
 use Rattle.std.specs.Str.{bytes_eq}
 use Rattle.spl_agree.specs.declared.reason.Reason.{Reason}
+use Rattle.spl_agree.specs.declared.reason.TheConstants.Reason.{NOT_A_MEMBER, WRONG_LIFECYCLE, ALREADY_ACCEPTED, NOT_REQUESTER, OTHER_DEFINITION, CANNOT_BIND}
 use Rattle.spl_agree.specs.declared.reason.Admit.{Admit}
 use Rattle.spl_agree.specs.declared.reason.Admit.TheVariants as admit
 use Rattle.spl_agree.specs.Member.{Rules}
@@ -28,36 +29,32 @@ is_first (a ∷ rest) = false
 -- Accept and Reject: the circuit is proposed, and the node hasn't accepted
 abbrev pub misfit_vote : Life → Node → Option Reason
 misfit_vote l n =
-    if not (is_proposed l.state) then Some (reason 2)
-    else (if has_node l.accepted n then Some (reason 3) else None)
+    if not (is_proposed l.state) then Some WRONG_LIFECYCLE
+    else (if has_node l.accepted n then Some ALREADY_ACCEPTED else None)
 
 abbrev pub misfit_kind : Definition → List Act → Node → ActKind → Option Reason
 misfit_kind d acts n (kind.Propose e) =
-    if not (same_definition e d) then Some (reason 5)
-    else (if is_first acts then None else Some (reason 2))
+    if not (same_definition e d) then Some OTHER_DEFINITION
+    else (if is_first acts then None else Some WRONG_LIFECYCLE)
 misfit_kind d acts n kind.Accept = misfit_vote (life d acts) n
 misfit_kind d acts n kind.Reject = misfit_vote (life d acts) n
 misfit_kind d acts n kind.Remove =
-    if not (is_proposed (life d acts).state) then Some (reason 2)
-    else (if is_node (life d acts).requester n then None else Some (reason 4))
+    if not (is_proposed (life d acts).state) then Some WRONG_LIFECYCLE
+    else (if is_node (life d acts).requester n then None else Some NOT_REQUESTER)
 
 -- the check of an act against the committed ones: the reason of the first test that fails
 abbrev pub misfit : Definition → List Act → Act → Option Reason
-misfit d acts a = if is_member d a.node then misfit_kind d acts a.node a.kind else Some (reason 1)
+misfit d acts a = if is_member d a.node then misfit_kind d acts a.node a.kind else Some NOT_A_MEMBER
 
 -- a forwarded proposal goes back at a member that isn't the coordinator
 abbrev pub stray_act : ActKind → Option Reason
-stray_act (kind.Propose d) = Some (reason 6)
-stray_act kind.Accept = None
-stray_act kind.Reject = None
-stray_act kind.Remove = None
+stray_act (kind.Propose d) = Some CANNOT_BIND
+stray_act _ = None
 
 -- a forwarded proposal of another definition goes back
 abbrev pub admits_kind : Definition → ActKind → Admit
-admits_kind d (kind.Propose e) = if same_definition e d then admit.Take else admit.Return (reason 5)
-admits_kind d kind.Accept = admit.Take
-admits_kind d kind.Reject = admit.Take
-admits_kind d kind.Remove = admit.Take
+admits_kind d (kind.Propose e) = if same_definition e d then admit.Take else admit.Return OTHER_DEFINITION
+admits_kind d _ = admit.Take
 
 -- an act of another node than the sender's is passed over
 abbrev pub admits_act : Definition → ℕ → Act → Admit

@@ -13,9 +13,8 @@ same_service s t = bytes_eq s.id t.id && (bytes_eq s.kind t.kind && bytes_eq s.n
 
 abbrev pub same_services : List Service → List Service → Bool
 same_services [] [] = true
-same_services [] (t ∷ ts) = false
-same_services (s ∷ ss) [] = false
 same_services (s ∷ ss) (t ∷ ts) = same_service s t && same_services ss ts
+same_services ss ts = false
 
 abbrev pub same_definition : Definition → Definition → Bool
 same_definition d e =
@@ -24,21 +23,10 @@ same_definition d e =
 
 abbrev pub same_kind : ActKind → ActKind → Bool
 same_kind (kind.Propose d) (kind.Propose e) = same_definition d e
-same_kind (kind.Propose d) kind.Accept = false
-same_kind (kind.Propose d) kind.Reject = false
-same_kind (kind.Propose d) kind.Remove = false
-same_kind kind.Accept (kind.Propose e) = false
 same_kind kind.Accept kind.Accept = true
-same_kind kind.Accept kind.Reject = false
-same_kind kind.Accept kind.Remove = false
-same_kind kind.Reject (kind.Propose e) = false
-same_kind kind.Reject kind.Accept = false
 same_kind kind.Reject kind.Reject = true
-same_kind kind.Reject kind.Remove = false
-same_kind kind.Remove (kind.Propose e) = false
-same_kind kind.Remove kind.Accept = false
-same_kind kind.Remove kind.Reject = false
 same_kind kind.Remove kind.Remove = true
+same_kind a b = false
 
 -- the key of an act is its node and its turn
 abbrev pub same_act_key : Act → Act → Bool

@@ -98,16 +98,11 @@ exact_definition = exact_via _ _ _ (λ _. refl) (λ _. refl)
 
 there : (k : ActKind) → kind_of (case_of k) ≡ k
 there (Propose d) = refl
-there Accept = refl
-there Reject = refl
-there Remove = refl
+there k = refl
 
 back : (x : Definition ⊎ (Unit {0} ⊎ (Unit {0} ⊎ (Unit {0} ⊎ ⊥)))) → case_of (kind_of x) ≡ x
-back (inl d) = refl
-back (inr (inl _)) = refl
-back (inr (inr (inl _))) = refl
-back (inr (inr (inr (inl _)))) = refl
 back (inr (inr (inr (inr x)))) = absurd x
+back x = refl
 
 pub exact_kinds : IsExactCases kinds
 exact_kinds = exact_or _ _ exact_definition (exact_or _ _ exact_nothing (exact_or _ _ exact_nothing (exact_or _ _ exact_nothing exact_no_case)))

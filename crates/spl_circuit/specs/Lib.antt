@@ -2,6 +2,8 @@ pub mod Forms
 pub mod Nodes
 pub mod Rules
 pub mod Equality
+pub mod Same
+pub mod Positions
 pub mod Lifecycle
 pub mod Acts
 pub mod Routing

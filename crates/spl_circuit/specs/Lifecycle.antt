@@ -42,15 +42,9 @@ abbrev pub life : Definition → List Act → Life
 life d acts = life_from d no_life acts
 
 abbrev pub is_proposed : Lifecycle → Bool
-is_proposed lifecycle.None = false
 is_proposed lifecycle.Proposed = true
-is_proposed lifecycle.Active = false
-is_proposed lifecycle.Rejected = false
-is_proposed lifecycle.Removed = false
+is_proposed _ = false
 
 abbrev pub is_active : Lifecycle → Bool
-is_active lifecycle.None = false
-is_active lifecycle.Proposed = false
 is_active lifecycle.Active = true
-is_active lifecycle.Rejected = false
-is_active lifecycle.Removed = false
+is_active _ = false

@@ -53,6 +53,5 @@ sorted (x ∷ xs) = inserted x (sorted xs)
 -- the same nodes in the same order
 abbrev pub same_nodes : List Node → List Node → Bool
 same_nodes [] [] = true
-same_nodes [] (y ∷ ys) = false
-same_nodes (x ∷ xs) [] = false
 same_nodes (x ∷ xs) (y ∷ ys) = bytes_eq x y && same_nodes xs ys
+same_nodes xs ys = false

@@ -6,7 +6,7 @@ use Rattle.std.proofs.lemmas.List.Sums.{fold_more}
 use Rattle.spl_state.specs.declared.address.Address.{Address}
 use Rattle.spl_state.specs.Entries.{Entry}
 use Rattle.spl_command.specs.declared.batch.Command.{Command}
-use Rattle.spl_command.specs.declared.batch.Command.TheVariants.{Set, Get, Delete, Event, Data, Invalid, Error}
+use Rattle.spl_command.specs.declared.batch.Command.TheVariants.{Set}
 use Rattle.spl_command.specs.declared.batch.Transaction.{Transaction}
 use Rattle.spl_command.specs.declared.batch.Batch.{Batch}
 use Rattle.spl_command.specs.declared.receipt.Receipt.{Receipt}
@@ -18,12 +18,7 @@ use Rattle.spl_command.specs.Runs.{value_after, values_behind, receipt_of, recei
 -- one address of the state behind a command, and behind commands
 pub after_at : (m : Values) (c : Command) (a : Address) → values_after m c a ≡ value_after a (m a) c
 after_at m (Set b w) a = refl
-after_at m (Get b) a = refl
-after_at m (Delete b) a = refl
-after_at m (Event k w) a = refl
-after_at m (Data w) a = refl
-after_at m (Invalid k) a = refl
-after_at m (Error k) a = refl
+after_at m c a = refl
 
 pub behind_at : (cs : List Command) (m : Values) (a : Address) → fold values_after m cs a ≡ fold (value_after a) (m a) cs
 behind_at [] m a = refl

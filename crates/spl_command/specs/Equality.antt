@@ -23,9 +23,8 @@ same_command c d = false
 -- item by item
 abbrev pub same_list : {A : Type 0} → (A → A → Bool) → List A → List A → Bool
 same_list same [] [] = true
-same_list same [] (y ∷ ys) = false
-same_list same (x ∷ xs) [] = false
 same_list same (x ∷ xs) (y ∷ ys) = same x y && same_list same xs ys
+same_list same xs ys = false
 
 abbrev pub same_transaction : Transaction → Transaction → Bool
 same_transaction t u = same_list bytes_eq t.inputs u.inputs && (same_list bytes_eq t.outputs u.outputs && same_list same_command t.commands u.commands)

@@ -5,6 +5,7 @@ use Rattle.std.specs.Map.{lookup}
 use Rattle.std.specs.BTreeMap.{is_at}
 use Rattle.spl_state.specs.declared.address.Address.{Address}
 use Rattle.spl_state.specs.Entries.{Entry, address_cmp}
+use Rattle.spl_command.specs.declared.cause.TheConstants.{WRITE_OUTSIDE_OUTPUTS, READ_OUTSIDE_INPUTS, INVALID_COMMAND, ERROR_COMMAND}
 use Rattle.spl_command.specs.declared.batch.Command.{Command}
 use Rattle.spl_command.specs.declared.batch.Command.TheVariants.{Set, Get, Delete, Event, Data, Invalid, Error}
 use Rattle.spl_command.specs.declared.batch.Transaction.{Transaction}
@@ -30,23 +31,18 @@ with_value m a v = λ b. if is_at (address_cmp b) a then v else m b
 
 -- why a command makes its batch invalid, if it does
 abbrev pub cause_in : Transaction → Command → Option ℕ
-cause_in t (Set a v) = if covered t.outputs a then None else Some 9
-cause_in t (Get a) = if covered t.inputs a then None else Some 10
-cause_in t (Delete a) = if covered t.outputs a then None else Some 9
-cause_in t (Event k v) = None
-cause_in t (Data v) = None
-cause_in t (Invalid k) = Some 11
-cause_in t (Error k) = Some 12
+cause_in t (Set a v) = if covered t.outputs a then None else Some WRITE_OUTSIDE_OUTPUTS
+cause_in t (Get a) = if covered t.inputs a then None else Some READ_OUTSIDE_INPUTS
+cause_in t (Delete a) = if covered t.outputs a then None else Some WRITE_OUTSIDE_OUTPUTS
+cause_in t (Invalid k) = Some INVALID_COMMAND
+cause_in t (Error k) = Some ERROR_COMMAND
+cause_in t _ = None
 
 -- the state that a command leaves
 abbrev pub values_after : Values → Command → Values
 values_after m (Set a v) = with_value m a (Some v)
-values_after m (Get a) = m
 values_after m (Delete a) = with_value m a None
-values_after m (Event k v) = m
-values_after m (Data v) = m
-values_after m (Invalid k) = m
-values_after m (Error k) = m
+values_after m _ = m
 
 -- the receipt of a transaction, with what a command adds to it
 abbrev pub receipt_after : Values → Receipt → Command → Receipt
@@ -55,8 +51,7 @@ receipt_after m r (Get a) = record r { returned = r.returned ++ option_to_list (
 receipt_after m r (Delete a) = if is_some (m a) then record r { changes = r.changes ++ change.Delete a ∷ [] } else r
 receipt_after m r (Event k v) = record r { events = r.events ++ record { kind = k; «data» = v } ∷ [] }
 receipt_after m r (Data v) = record r { returned = r.returned ++ v ∷ [] }
-receipt_after m r (Invalid k) = r
-receipt_after m r (Error k) = r
+receipt_after m r _ = r
 
 -- a transaction that has run so far: the state, and its receipt
 pub record Ran : Type 0 where

@@ -5,7 +5,9 @@ use Rattle.std.specs.Int.{w8, w64}
 use Rattle.spl_base.specs.Ids.{is_label}
 use Rattle.spl_base.specs.Form.{Form, IsExact, number, raw, sized, text, string, ◌&◌, via, list_of, Cases, IsExactCases, no_case, ◌or◌, tagged}
 use Rattle.spl_base.specs.FormLaws.{wide8, wide64, exact_number, exact_raw, exact_sized, exact_text, exact_string, exact_and, exact_via, exact_list, exact_no_case, exact_or, exact_tagged}
+use Rattle.spl_base.specs.declared.piece.TheConstants.{LONGEST_PIECE}
 use Rattle.spl_state.specs.declared.address.Address.{Address}
+use Rattle.spl_command.specs.declared.batch.TheConstants.{MOST_ITEMS}
 use Rattle.spl_command.specs.declared.batch.Command.{Command}
 use Rattle.spl_command.specs.declared.batch.Command.TheVariants.{Set, Get, Delete, Event, Data, Invalid, Error}
 use Rattle.spl_command.specs.declared.batch.Transaction.{Transaction}
@@ -23,14 +25,14 @@ label = text 128 is_label
 
 -- a byte string
 abbrev pub piece : Form (List ℕ)
-piece = string 1024
+piece = string LONGEST_PIECE
 
 -- one byte of length, at most 35, and that many bytes
 abbrev pub prefix : Form (List ℕ)
 prefix = sized w8 35 any_bytes
 
 abbrev pub prefixes : Form (List (List ℕ))
-prefixes = list_of 1024 prefix
+prefixes = list_of MOST_ITEMS prefix
 
 abbrev pub Choice : Type 0
 Choice = (Address × List ℕ) ⊎ (Address ⊎ (Address ⊎ ((List ℕ × List ℕ) ⊎ (List ℕ ⊎ (List ℕ ⊎ (List ℕ ⊎ ⊥))))))
@@ -63,11 +65,11 @@ command = via command_of choice_of (tagged commands)
 
 -- inputs, outputs and commands
 abbrev pub transaction : Form Transaction
-transaction = via (λ x. record { inputs = x.0; outputs = x.1.0; commands = x.1.1 }) (λ t. (t.inputs, (t.outputs, t.commands))) (prefixes & prefixes & list_of 1024 command)
+transaction = via (λ x. record { inputs = x.0; outputs = x.1.0; commands = x.1.1 }) (λ t. (t.inputs, (t.outputs, t.commands))) (prefixes & prefixes & list_of MOST_ITEMS command)
 
 -- id and transactions
 abbrev pub batch : Form Batch
-batch = via (λ x. record { id = x.0; transactions = x.1 }) (λ b. (b.id, b.transactions)) (number w64 (2 ^ 64) & list_of 1024 transaction)
+batch = via (λ x. record { id = x.0; transactions = x.1 }) (λ b. (b.id, b.transactions)) (number w64 (2 ^ 64) & list_of MOST_ITEMS transaction)
 
 -- ---- each of them is read back and reads nothing else
 
@@ -78,32 +80,21 @@ pub exact_label : IsExact label
 exact_label = exact_text 128 is_label (lit< tt)
 
 pub exact_piece : IsExact piece
-exact_piece = exact_string 1024 (lit< tt)
+exact_piece = exact_string LONGEST_PIECE (lit< tt)
 
 pub exact_prefix : IsExact prefix
 exact_prefix = exact_sized w8 (2 ^ 8) wide8 35 any_bytes (lit< tt)
 
 pub exact_prefixes : IsExact prefixes
-exact_prefixes = exact_list _ exact_prefix 1024 (lit< tt)
+exact_prefixes = exact_list _ exact_prefix MOST_ITEMS (lit< tt)
 
 there : (k : Command) → command_of (choice_of k) ≡ k
 there (Set a v) = refl
-there (Get a) = refl
-there (Delete a) = refl
-there (Event k v) = refl
-there (Data v) = refl
-there (Invalid k) = refl
-there (Error k) = refl
+there k = refl
 
 back : (x : Choice) → choice_of (command_of x) ≡ x
-back (inl x) = refl
-back (inr (inl x)) = refl
-back (inr (inr (inl x))) = refl
-back (inr (inr (inr (inl x)))) = refl
-back (inr (inr (inr (inr (inl x))))) = refl
-back (inr (inr (inr (inr (inr (inl x)))))) = refl
-back (inr (inr (inr (inr (inr (inr (inl x))))))) = refl
 back (inr (inr (inr (inr (inr (inr (inr x))))))) = absurd x
+back x = refl
 
 pub exact_commands : IsExactCases commands
 exact_commands =
@@ -114,7 +105,7 @@ pub exact_command : IsExact command
 exact_command = exact_via _ _ _ there back (exact_tagged _ exact_commands)
 
 pub exact_transaction : IsExact transaction
-exact_transaction = exact_via _ _ _ (λ _. refl) (λ _. refl) (exact_and _ _ exact_prefixes (exact_and _ _ exact_prefixes (exact_list _ exact_command 1024 (lit< tt))))
+exact_transaction = exact_via _ _ _ (λ _. refl) (λ _. refl) (exact_and _ _ exact_prefixes (exact_and _ _ exact_prefixes (exact_list _ exact_command MOST_ITEMS (lit< tt))))
 
 pub exact_batch : IsExact batch
-exact_batch = exact_via _ _ _ (λ _. refl) (λ _. refl) (exact_and _ _ (exact_number w64 (2 ^ 64) wide64) (exact_list _ exact_transaction 1024 (lit< tt)))
+exact_batch = exact_via _ _ _ (λ _. refl) (λ _. refl) (exact_and _ _ (exact_number w64 (2 ^ 64) wide64) (exact_list _ exact_transaction MOST_ITEMS (lit< tt)))

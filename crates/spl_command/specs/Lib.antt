@@ -1,4 +1,5 @@
 pub mod Equality
+pub mod Same
 pub mod Execution
 pub mod Forms
 pub mod Lists

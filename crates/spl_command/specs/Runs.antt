@@ -4,7 +4,7 @@ use Rattle.std.specs.BTreeMap.{is_at}
 use Rattle.spl_state.specs.declared.address.Address.{Address}
 use Rattle.spl_state.specs.Entries.{Entry, address_cmp}
 use Rattle.spl_command.specs.declared.batch.Command.{Command}
-use Rattle.spl_command.specs.declared.batch.Command.TheVariants.{Set, Get, Delete, Event, Data, Invalid, Error}
+use Rattle.spl_command.specs.declared.batch.Command.TheVariants.{Set, Delete}
 use Rattle.spl_command.specs.declared.batch.Transaction.{Transaction}
 use Rattle.spl_command.specs.declared.receipt.Receipt.{Receipt}
 use Rattle.spl_command.specs.Execution.{Values, values_of, values_after, begun, ran}
@@ -12,12 +12,8 @@ use Rattle.spl_command.specs.Execution.{Values, values_of, values_after, begun, 
 -- the value at an address behind a command
 abbrev pub value_after : Address → Option (List ℕ) → Command → Option (List ℕ)
 value_after a v (Set b w) = if is_at (address_cmp a) b then Some w else v
-value_after a v (Get b) = v
 value_after a v (Delete b) = if is_at (address_cmp a) b then None else v
-value_after a v (Event k w) = v
-value_after a v (Data w) = v
-value_after a v (Invalid k) = v
-value_after a v (Error k) = v
+value_after a v _ = v
 
 -- the state behind transactions
 abbrev pub values_behind : Values → List Transaction → Values

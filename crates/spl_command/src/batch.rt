@@ -9,6 +9,9 @@ use spl_base::{
 use spl_state::Address;
 use std::alloc::{AllocError, Global};
 
+/// How many items a list in a batch has at most where it is read.
+pub const MOST_ITEMS: u16 = 1024;
+
 /// What a transaction does, one step of it (docs/RULES.md, Batches).
 #[derive(Debug, Drop)]
 pub enum Command {
@@ -127,7 +130,7 @@ impl Field for Transaction {
     fn take_parts(alloc: Global, r: &mut Reader) -> Result<Transaction, Malformed> {
         let inputs = Prefixes::take_parts(alloc, r)?;
         let outputs = Prefixes::take_parts(alloc, r)?;
-        let commands = take_list(alloc, r, 1024)?;
+        let commands = take_list(alloc, r, MOST_ITEMS)?;
         Ok(Transaction {
             inputs,
             outputs,
@@ -150,7 +153,7 @@ impl Field for Batch {
 
     fn take_parts(alloc: Global, r: &mut Reader) -> Result<Batch, Malformed> {
         let id = BatchId(u64::take_parts(alloc, r)?);
-        let transactions = take_list(alloc, r, 1024)?;
+        let transactions = take_list(alloc, r, MOST_ITEMS)?;
         Ok(Batch { id, transactions })
     }
 

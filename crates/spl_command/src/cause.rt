@@ -5,6 +5,19 @@ ghost use Rattle.spl_command.specs.Execution.{cause_in, cause_among, cause_from,
 ghost use Rattle.spl_state.specs.Entries.{Entry};
 
 use crate::batch::{Batch, Command, Transaction};
+use crate::rules::MOST_TRANSACTIONS;
+
+/// The cause of a command that writes outside the outputs.
+pub const WRITE_OUTSIDE_OUTPUTS: u8 = 9;
+
+/// The cause of a command that reads outside the inputs.
+pub const READ_OUTSIDE_INPUTS: u8 = 10;
+
+/// The cause of the command Invalid.
+pub const INVALID_COMMAND: u8 = 11;
+
+/// The cause of the command Error.
+pub const ERROR_COMMAND: u8 = 12;
 
 impl Transaction {
     /// Why this command would make the batch invalid, if it would.
@@ -16,19 +29,19 @@ impl Transaction {
                 if self.outputs.cover(address) {
                     None
                 } else {
-                    Some(9)
+                    Some(WRITE_OUTSIDE_OUTPUTS)
                 }
             }
             Command::Get(address) => {
                 if self.inputs.cover(address) {
                     None
                 } else {
-                    Some(10)
+                    Some(READ_OUTSIDE_INPUTS)
                 }
             }
             Command::Event(_, _) | Command::Data(_) => None,
-            Command::Invalid(_) => Some(11),
-            Command::Error(_) => Some(12),
+            Command::Invalid(_) => Some(INVALID_COMMAND),
+            Command::Error(_) => Some(ERROR_COMMAND),
         }
     }
 
@@ -47,7 +60,7 @@ impl Transaction {
 }
 
 fn first_cause(transactions: &[Transaction]) -> Option<(u8, u8)>
-    requires { length transactions.now ≤ 16 }
+    requires { length transactions.now ≤ MOST_TRANSACTIONS }
     ensures { result ≡ cause_from 1 transactions.now }
 {
     let mut number = 1u8;

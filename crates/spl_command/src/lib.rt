@@ -15,7 +15,8 @@ mod size;
 mod values;
 
 pub use apply::apply_receipts;
-pub use batch::{Batch, Command, Commands, Transaction, Transactions};
+pub use batch::{Batch, Command, Commands, MOST_ITEMS, Transaction, Transactions};
+pub use cause::{ERROR_COMMAND, INVALID_COMMAND, READ_OUTSIDE_INPUTS, WRITE_OUTSIDE_OUTPUTS};
 pub use codec::{batches_are_read_back, no_batch_begins_another};
 pub use execution::execute;
 pub use laws::{
@@ -24,6 +25,7 @@ pub use laws::{
 };
 pub use prefixes::Prefixes;
 pub use receipt::{Changes, Events, Pieces, Receipt, Receipts, StateChange, StateEvent, Verdict};
+pub use rules::{LONGEST_BATCH, LONGEST_DATA, MOST_COMMANDS, MOST_PREFIXES, MOST_TRANSACTIONS};
 
 #[cfg(test)]
 mod tests;

@@ -3,6 +3,7 @@ ghost use Rattle.std.specs.Prelude.{◌≡◌, ◌++◌, ◌∷◌, [], length, 
 ghost use Rattle.std.specs.Option.{option_copied};
 ghost use Rattle.spl_command.specs.Execution.{covered};
 
+use crate::batch::MOST_ITEMS;
 use spl_base::{Field, Listing, Malformed, Reader, Value, Writer, put_list, take_list};
 use spl_state::{Address, Prefix};
 use std::alloc::{AllocError, Global};
@@ -140,7 +141,7 @@ impl Field for Prefixes {
     }
 
     fn take_parts(alloc: Global, r: &mut Reader) -> Result<Prefixes, Malformed> {
-        let items = take_list(alloc, r, 1024)?;
+        let items = take_list(alloc, r, MOST_ITEMS)?;
         Ok(Prefixes { items })
     }
 

@@ -6,10 +6,25 @@ ghost use Rattle.spl_command.specs.Rules.{broken_batch, is_short, has_short_data
 use crate::batch::{Batch, Command, Transaction};
 use spl_base::Piece;
 
+/// How many transactions a batch has at most.
+pub const MOST_TRANSACTIONS: usize = 16;
+
+/// How many commands a transaction has at most.
+pub const MOST_COMMANDS: usize = 16;
+
+/// How many inputs a transaction has at most, and how many outputs.
+pub const MOST_PREFIXES: usize = 8;
+
+/// How many bytes a value, event data and receipt data have at most.
+pub const LONGEST_DATA: usize = 256;
+
+/// How many bytes the byte form of a batch has at most.
+pub const LONGEST_BATCH: usize = 8192;
+
 fn is_short(piece: &Piece) -> bool
     ensures { result ≡ is_short piece.now }
 {
-    piece.bytes().len() <= 256
+    piece.bytes().len() <= LONGEST_DATA
 }
 
 fn has_short_data(command: &Command) -> bool
@@ -17,26 +32,22 @@ fn has_short_data(command: &Command) -> bool
 {
     match command {
         Command::Set(_, value) => is_short(value),
-        Command::Get(_) => true,
-        Command::Delete(_) => true,
-        Command::Event(_, data) => is_short(data),
-        Command::Data(data) => is_short(data),
-        Command::Invalid(_) => true,
-        Command::Error(_) => true,
+        Command::Event(_, data) | Command::Data(data) => is_short(data),
+        _ => true,
     }
 }
 
 fn has_few_prefixes(transaction: &Transaction) -> bool
     ensures { result ≡ has_few_prefixes transaction.now }
 {
-    transaction.inputs.len() <= 8 && transaction.outputs.len() <= 8
+    transaction.inputs.len() <= MOST_PREFIXES && transaction.outputs.len() <= MOST_PREFIXES
 }
 
 fn has_few_commands(transaction: &Transaction) -> bool
     ensures { result ≡ has_few_commands transaction.now }
 {
     let count = transaction.commands.len();
-    1 <= count && count <= 16
+    1 <= count && count <= MOST_COMMANDS
 }
 
 fn all_short(transaction: &Transaction) -> bool
@@ -76,7 +87,7 @@ impl Batch {
         let transactions = self.transactions.as_slice();
         if transactions.is_empty() {
             Some(1)
-        } else if 16 < transactions.len() {
+        } else if MOST_TRANSACTIONS < transactions.len() {
             Some(2)
         } else if !all_have_few_prefixes(transactions) {
             Some(3)
@@ -84,7 +95,7 @@ impl Batch {
             Some(4)
         } else if !all_have_short_data(transactions) {
             Some(5)
-        } else if 8192 < self.size() {
+        } else if LONGEST_BATCH < self.size() {
             Some(6)
         } else {
             None

@@ -3,6 +3,7 @@ use Rattle.std.proofs.Common.{◌≡◌, ◌↔◌, ℕ, suc, ◌-◌, ◌^◌, 
 use Rattle.std.specs.Prelude.{fold, is_some}
 use Rattle.std.specs.Map.{lookup, keys_of}
 use Rattle.std.proofs.lemmas.List.{map-append, length-append}
+use Rattle.spl_base.specs.Booleans.{none_of}
 use Rattle.spl_agree.specs.declared.reason.Reason.{Reason}
 use Rattle.spl_state.specs.Entries.{Entry}
 use Rattle.spl_command.specs.declared.batch.Batch.{Batch}
@@ -56,10 +57,6 @@ unbroken (Some rule) next e = absurd cc
 untaken : (t : Bool) (r : Reason) (next : Option Reason) → cond t (Some r) next ≡ None → t ≡ false
 untaken true r next e = absurd cc
 untaken false r next e = refl
-
-none_of : {A : Type 0} (o : Option A) → is_some o ≡ false → o ≡ None
-none_of None e = refl
-none_of (Some x) e = absurd cc
 
 pub unbroken_where_good : (bs : List Batch) (b : Batch) → misfit_batch bs b ≡ None → broken_batch b ≡ None
 unbroken_where_good bs b e = (unbroken (broken_batch b) (misfit_valid bs b) e).0

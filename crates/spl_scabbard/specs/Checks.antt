@@ -2,6 +2,7 @@
 use Rattle.std.specs.Prelude.{ℕ, ◌==◌, Bool, List, if◌then◌else◌, Option, Some, None}
 use Rattle.std.specs.List.{list_any}
 use Rattle.spl_agree.specs.declared.reason.Reason.{Reason}
+use Rattle.spl_agree.specs.declared.reason.TheConstants.Reason.{ID_TAKEN, BROKEN_RULE}
 use Rattle.spl_agree.specs.declared.reason.Admit.TheVariants as admit
 use Rattle.spl_agree.specs.Member.{Rules}
 use Rattle.spl_command.specs.declared.batch.Batch.{Batch}
@@ -20,11 +21,11 @@ reason_of (Some x) = Some (record { code = x.1; at = x.0 })
 
 -- a batch that breaks no rule, behind others
 abbrev pub misfit_valid : List Batch → Batch → Option Reason
-misfit_valid bs b = if is_taken bs b.id then Some (record { code = 8; at = 0 }) else reason_of (told_cause (verdict_on (state_of bs) b))
+misfit_valid bs b = if is_taken bs b.id then Some ID_TAKEN else reason_of (told_cause (verdict_on (state_of bs) b))
 
 abbrev pub unless_broken : Option ℕ → Option Reason → Option Reason
 unless_broken None next = next
-unless_broken (Some rule) next = Some (record { code = 13; at = rule })
+unless_broken (Some rule) next = Some (record { code = BROKEN_RULE; at = rule })
 
 abbrev pub misfit_batch : List Batch → Batch → Option Reason
 misfit_batch bs b = unless_broken (broken_batch b) (misfit_valid bs b)

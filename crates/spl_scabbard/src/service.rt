@@ -105,7 +105,7 @@ impl Service {
         ensures { result ≡ misfit_valid self.now batch.now }
     {
         if self.has(batch.id) {
-            return Some(Reason { code: 8, at: 0 });
+            return Some(Reason::ID_TAKEN);
         }
         match batch.cause() {
             Some((transaction, cause)) => Some(Reason {
@@ -121,7 +121,10 @@ impl Service {
         ensures { result ≡ misfit_batch self.now batch.now }
     {
         match batch.fault() {
-            Some(rule) => Some(Reason { code: 13, at: rule }),
+            Some(rule) => Some(Reason {
+                code: Reason::BROKEN_RULE,
+                at: rule,
+            }),
             None => self.misfit_valid(batch),
         }
     }

@@ -12,7 +12,7 @@ use Rattle.spl_state.specs.Digits.{digits_cmp, tail_cmp}
 use Rattle.spl_state.specs.Kept.{AllWhole, IsState}
 use Rattle.spl_state.proofs.Digits.{less_of, equal_of, greater_of}
 use Rattle.spl_state.proofs.Steps.{either}
-use Rattle.spl_state.proofs.Order.{Rises, insert_rises, remove_rises}
+use Rattle.spl_state.specs.Order.{Rises, insert_rises, remove_rises}
 
 -- the order of n digits of two lists, from the k-th on
 abbrev lists_cmp : ℕ → ℕ → List ℕ → List ℕ → Ordering

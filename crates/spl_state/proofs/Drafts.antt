@@ -9,7 +9,7 @@ use Rattle.spl_state.specs.declared.address.Address.{Address}
 use Rattle.spl_state.specs.declared.state.Replaced.{Replaced}
 use Rattle.spl_state.specs.Entries.{Entry, address_cmp}
 use Rattle.spl_state.specs.Drafts.{put_back, undone, without_one, without}
-use Rattle.spl_state.proofs.Order.{Rises, value, same, insert_rises, remove_rises, value_inserted, value_removed, one_map, by_same, one_address, tied}
+use Rattle.spl_state.specs.Order.{Rises, value, same, insert_rises, remove_rises, value_inserted, value_removed, one_map, by_same, one_address, tied}
 
 -- the last write is put back first
 pub undone_more : (es : List Entry) (rs : List Replaced) (r : Replaced) → undone es (rs ++ r ∷ []) ≡ undone (put_back es r) rs

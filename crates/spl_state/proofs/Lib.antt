@@ -8,5 +8,4 @@ pub mod Prefixes
 pub mod Bytes
 pub mod Covers
 pub mod Thin
-pub mod Order
 pub mod Drafts

@@ -1,24 +1,17 @@
 -- The plain root is the one over filtered lists.
 use Rattle.std.proofs.Common.{◌≡◌, ℕ, zero, suc, ◌+◌, ◌==◌, ◌&&◌, Bool, true, false, cond, List, [], ◌∷◌, ◌++◌, length, filter, replicate, refl, sym, ap, ◌∙◌, arith, zero-add, add-zero, length-append}
+use Rattle.std.proofs.Math.Bool.{and-true, and_assoc}
 use Rattle.sha2.specs.Sha256.{sha256}
 use Rattle.spl_state.specs.Entries.{Entry}
 use Rattle.spl_state.specs.Root.{digit_of, agrees, under, by_count, joined, node_at}
 use Rattle.spl_state.specs.Levels.{branch, children, node_of}
 
-and_assoc : (a b c : Bool) → a && (b && c) ≡ (a && b) && c
-and_assoc true b c = refl
-and_assoc false b c = refl
-
-and_true : (a : Bool) → (a && true) ≡ a
-and_true true = refl
-and_true false = refl
-
 agrees_last : (k : ℕ) (p : List ℕ) (d : ℕ) (a : List ℕ) → agrees k (p ++ d ∷ []) a ≡ (agrees k p a && (digit_of a (k + length p) == d))
-agrees_last k [] d a = and_true _ ∙ ap (λ i. digit_of a i == d) (sym (add-zero k))
+agrees_last k [] d a = and-true _ ∙ ap (λ i. digit_of a i == d) (sym (add-zero k))
 agrees_last k (e ∷ p) d a =
     let at : k + 1 + length p ≡ k + length (e ∷ p) = omega arith in
     ap (λ b. (digit_of a k == e) && b) (agrees_last (k + 1) p d a ∙ ap (λ i. agrees (k + 1) p a && (digit_of a i == d)) at)
-    ∙ and_assoc (digit_of a k == e) (agrees (k + 1) p a) (digit_of a (k + length (e ∷ p)) == d)
+    ∙ sym (and_assoc (digit_of a k == e) (agrees (k + 1) p a) (digit_of a (k + length (e ∷ p)) == d))
 
 filter_step : (a b : Bool) (e : Entry) (xs ys : List Entry) (g : Entry → Bool) → g e ≡ b → xs ≡ filter g ys → cond (a && b) (e ∷ xs) xs ≡ filter g (cond a (e ∷ ys) ys)
 filter_step true b e xs ys g ge h = ap (λ c. cond c (e ∷ xs) xs) (sym ge) ∙ ap (λ r. cond (g e) (e ∷ r) r) h

@@ -7,3 +7,4 @@ pub mod Part
 pub mod Kept
 pub mod Falls
 pub mod Drafts
+pub mod Order

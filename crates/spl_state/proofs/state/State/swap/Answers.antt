@@ -2,7 +2,7 @@
 use Rattle.std.proofs.Common.{◌≡◌, ap, ◌∙◌, arith, length}
 use Rattle.spl_state.specs.Drafts.{with_former}
 use Rattle.spl_state.proofs.Bytes.{insert_by_bytes, lookup_by_bytes, state_written}
-use Rattle.spl_state.proofs.Order.{write_undone}
+use Rattle.spl_state.specs.Order.{write_undone}
 use Rattle.spl_state.proofs.state.State.swap.Goals as goal
 
 pub invariant_of-self-2 : goal.invariant_of-self-2
