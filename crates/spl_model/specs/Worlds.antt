@@ -97,9 +97,13 @@ happens w (Stops n) = if w.up n then stopped w n else w
 happens w (Starts n) = if w.up n then w else started w n
 happens w (Halts kept s) = if w.up (step_node s) then halted w (step_node s) kept (step_plan w s) else w
 
-abbrev pub run : World → List Occurrence → World
-run w [] = w
-run w (e ∷ es) = run (happens w e) es
+abbrev pub occur : World → List Occurrence → World
+occur w [] = w
+occur w (e ∷ es) = occur (happens w e) es
+
+-- the world behind what happened
+abbrev pub world_behind : List Node → List Occurrence → World
+world_behind ns es = occur (first_world ns) es
 
 -- the world of a circuit stays as it was
 pub record IsUnmoved (old new : World) : Type 0 where

@@ -40,7 +40,7 @@ use Rattle.spl_wire.specs.declared.change.Change.TheVariants as durable
 use Rattle.spl_wire.specs.declared.plan.Outgoing.{Outgoing}
 use Rattle.spl_wire.specs.declared.plan.Plan.{Plan}
 use Rattle.spl_rules.specs.Valid.{carries}
-use Rattle.spl_rules.specs.Cells.{Cell, Empty, Held, Purged, Deed, Refuses, Tells, Replies, Binds, Acts, Serves, Turns, Abandons, Purges, admin_group, is_open, is_open_cell, own_life, runs, can_bind, proposes, proposes_at, votes, removes, is_act_pending, is_waiting, asked_first, forwarded_first, hears_first}
+use Rattle.spl_rules.specs.Cells.{Cell, Empty, Held, Purged, Deed, Tells, Replies, Binds, Acts, Serves, Turns, admin_group, is_open, is_open_cell, own_life, runs, can_bind, proposes, proposes_at, votes, removes, is_act_pending, is_waiting, asked_first, forwarded_first, hears_first}
 use Rattle.spl_rules.specs.Batches.{submits, submits_ruled, submits_known, when_active, status_kept, status_refused, receipt_kept, has_the_id, routed, way, hears_routed, serves_other}
 use Rattle.spl_rules.specs.Events.{turns, held_hears, held_does, other_does, does}
 use Rattle.spl_rules.specs.Changes.{made_one, made, moved_cell, stopped_cell, after_plan}
@@ -51,9 +51,7 @@ use Rattle.spl_projection.proofs.Joins.{joins, AllJoin, join-row, pending-change
 -- what is pending is not moved
 moved-pending : {V : Type 0} (g : Group V) (i : ℕ) (m : Member V) (o : OpenMove) (may : V → Bool) → list_all may m.pending ≡ true → list_all may (moved g i m o).pending ≡ true
 moved-pending g i m move.Keep may h = h
-moved-pending g i m (move.Begin r) may h = h
-moved-pending g i m (move.Yes j) may h = h
-moved-pending g i m move.Close may h = h
+moved-pending g i m _ may h = h
 
 module _ (ns : List Node) where
   -- all of these are among the nodes
@@ -63,9 +61,7 @@ module _ (ns : List Node) where
   -- the members that an act proposes are
   abbrev pub is_kind_within : ActKind → Bool
   is_kind_within (kind.Propose d) = are_within d.members
-  is_kind_within kind.Accept = true
-  is_kind_within kind.Reject = true
-  is_kind_within kind.Remove = true
+  is_kind_within _ = true
 
   abbrev pub is_act_within : Act → Bool
   is_act_within v = is_kind_within v.kind
@@ -85,51 +81,33 @@ module _ (ns : List Node) where
   abbrev pub is_change_within : Change → Bool
   is_change_within (durable.Bind d) = are_within d.members
   is_change_within (durable.Admin x) = joins is_act_within x
-  is_change_within (durable.Service x) = true
-  is_change_within durable.Abandon = true
-  is_change_within durable.Purge = true
-  is_change_within (durable.Turn t) = true
-  is_change_within (durable.Gone old) = true
+  is_change_within _ = true
 
   abbrev pub AllWithin : List Change → Type 0
   AllWithin xs = list_all is_change_within xs ≡ true
 
   within-made_one : (n : Node) (k : Cell) (x : Change) → has_node ns n ≡ true → is_change_within x ≡ true → IsCellWithin n k → IsCellWithin n (made_one n k x)
   within-made_one n Empty (durable.Bind d) h i k = (h, i, refl)
-  within-made_one n Empty (durable.Admin x) h i k = k
-  within-made_one n Empty (durable.Service x) h i k = k
-  within-made_one n Empty durable.Abandon h i k = k
-  within-made_one n Empty durable.Purge h i k = k
-  within-made_one n Empty (durable.Turn u) h i k = k
   within-made_one n Empty (durable.Gone u) h i k = h
   within-made_one n (Purged old) (durable.Bind d) h i k = (h, i, refl)
-  within-made_one n (Purged old) (durable.Admin x) h i k = k
-  within-made_one n (Purged old) (durable.Service x) h i k = k
-  within-made_one n (Purged old) durable.Abandon h i k = k
-  within-made_one n (Purged old) durable.Purge h i k = k
-  within-made_one n (Purged old) (durable.Turn u) h i k = k
   within-made_one n (Purged old) (durable.Gone u) h i k = h
   within-made_one n (Held e m t a b) (durable.Bind d) h i k = (h, i, refl)
   within-made_one n (Held e m t a b) (durable.Admin x) h i k = (h, k.1, pending-changed is_act_within (act_rules e) a x i k.2)
-  within-made_one n (Held e m t a b) (durable.Service x) h i k = k
-  within-made_one n (Held e m t a b) durable.Abandon h i k = k
   within-made_one n (Held e m t a b) durable.Purge h i k = h
-  within-made_one n (Held e m t a b) (durable.Turn u) h i k = k
   within-made_one n (Held e m t a b) (durable.Gone u) h i k = h
+  within-made_one n _ _ h i k = k
 
   pub within-made : (n : Node) (k : Cell) (xs : List Change) → has_node ns n ≡ true → AllWithin xs → IsCellWithin n k → IsCellWithin n (made n k xs)
   within-made n k [] h i w = w
   within-made n k (x ∷ xs) h i w = within-made n (made_one n k x) xs h (and_right (is_change_within x) (list_all is_change_within xs) i) (within-made_one n k x h (and_left (is_change_within x) (list_all is_change_within xs) i) w)
 
   pub within-moved : (n : Node) (k : Cell) (x y : OpenMove) → IsCellWithin n k → IsCellWithin n (moved_cell n k x y)
-  within-moved n Empty x y w = w
-  within-moved n (Purged old) x y w = w
   within-moved n (Held d m t a b) x y w = (w.0, w.1, moved-pending (admin_group d) (position d.members n) a x is_act_within w.2)
+  within-moved n _ x y w = w
 
   pub within-stopped : (n : Node) (k : Cell) → IsCellWithin n k → IsCellWithin n (stopped_cell k)
   within-stopped n Empty w = w
-  within-stopped n (Purged old) w = w
-  within-stopped n (Held d m t a b) w = w
+  within-stopped n _ w = w
 
   -- a cell elsewhere is empty
   pub within-empty : (n : Node) (k : Cell) → has_node ns n ≡ false → IsCellWithin n k → k ≡ Empty
@@ -139,9 +117,8 @@ module _ (ns : List Node) where
 
   -- where a cell is open, its node is one of these
   pub open-within : (n : Node) (k : Cell) → is_open_cell k ≡ true → IsCellWithin n k → has_node ns n ≡ true
-  open-within n Empty h w = cc
-  open-within n (Purged old) h w = cc
   open-within n (Held d m t a b) h w = w.0
+  open-within n _ h w = cc
 
   -- ---- what is sent
 
@@ -188,15 +165,12 @@ module _ (ns : List Node) where
 
   -- what a deed names is among the nodes
   abbrev pub IsDeedWithin : Deed → Type 0
-  IsDeedWithin (Refuses r) = Unit {0}
-  IsDeedWithin (Tells a) = Unit {0}
   IsDeedWithin (Replies note to m) = (has_node ns to ≡ true) × (is_message_within m ≡ true)
   IsDeedWithin (Binds say d back e) = (are_within d.members ≡ true) × (has_node ns back ≡ true) × Brings is_act_within e
   IsDeedWithin (Acts say d a back e) = (are_within d.members ≡ true) × (has_node ns back ≡ true) × (list_all is_act_within a.pending ≡ true) × Brings is_act_within e
   IsDeedWithin (Serves say d b back e) = (are_within d.members ≡ true) × (has_node ns back ≡ true)
   IsDeedWithin (Turns d a b x y) = (are_within d.members ≡ true) × (list_all is_act_within a.pending ≡ true) × Brings is_act_within x
-  IsDeedWithin Abandons = Unit {0}
-  IsDeedWithin Purges = Unit {0}
+  IsDeedWithin _ = Unit {0}
 
   -- what a plan changes and sends is
   pub record IsPlanWithin (p : Plan) : Type 0 where
@@ -204,8 +178,6 @@ module _ (ns : List Node) where
     pub sends : AllGo p.sends
 
   pub within-planned : (n c : Node) (deed : Deed) → has_node ns n ≡ true → IsDeedWithin deed → IsPlanWithin (planned n c deed)
-  within-planned n c (Refuses r) h w = record { changes = refl; sends = refl }
-  within-planned n c (Tells a) h w = record { changes = refl; sends = refl }
   within-planned n c (Replies note to m) h w = record { changes = refl; sends = rw (w.0, w.1) }
   within-planned n c (Binds say d back e) h w = record {
     changes = rw w.0 (within-admin_changes (admin_row n d new_member e).changes (join-row is_act_within (admin_group d) (position d.members n) new_member e w.2));
@@ -225,8 +197,7 @@ module _ (ns : List Node) where
     sends = all-go (admin_sends c d n (admin_row n d a x).sends) (service_sends n c d n (service_row n d b y).sends)
         (within-admin_sends c d n (admin_row n d a x).sends w.0 h (carry-row is_act_within (admin_group d) (position d.members n) a x w.1 w.2)) (within-service_sends n c d n (service_row n d b y).sends w.0 h);
   }
-  within-planned n c Abandons h w = record { changes = refl; sends = refl }
-  within-planned n c Purges h w = record { changes = refl; sends = refl }
+  within-planned n c _ h w = record { changes = refl; sends = refl }
 
   -- the cell behind a plan
   pub within-after : (n : Node) (k : Cell) (p : Plan) → has_node ns n ≡ true → IsPlanWithin p → IsCellWithin n k → IsCellWithin n (after_plan n k p)
@@ -238,22 +209,7 @@ module _ (ns : List Node) where
   abbrev pub IsDueWithin : Event → Type 0
   IsDueWithin (event.Propose d) = are_within d.members ≡ true
   IsDueWithin (event.Deliver from x) = (has_node ns from ≡ true) × (is_message_within x ≡ true)
-  IsDueWithin event.Tick = Unit {0}
-  IsDueWithin event.Expire = Unit {0}
-  IsDueWithin (event.Vote accept) = Unit {0}
-  IsDueWithin event.Remove = Unit {0}
-  IsDueWithin event.Abandon = Unit {0}
-  IsDueWithin event.Purge = Unit {0}
-  IsDueWithin (event.Submit v) = Unit {0}
-  IsDueWithin event.Show = Unit {0}
-  IsDueWithin event.Detail = Unit {0}
-  IsDueWithin event.Root = Unit {0}
-  IsDueWithin event.History = Unit {0}
-  IsDueWithin (event.Get address) = Unit {0}
-  IsDueWithin (event.List prefix) = Unit {0}
-  IsDueWithin (event.Status i) = Unit {0}
-  IsDueWithin (event.Receipt i) = Unit {0}
-  IsDueWithin (event.Route from s t) = Unit {0}
+  IsDueWithin _ = Unit {0}
 
   within-proposes_at : (n : Node) (d : Definition) (k : Cell) → has_node ns n ≡ true → are_within d.members ≡ true → IsDeedWithin (proposes_at n d k)
   within-proposes_at n d Empty h w = (w, h, w)
@@ -300,8 +256,7 @@ module _ (ns : List Node) where
 
   within-receipt : (i : ℕ) (o : Option ℕ) (r : Option (List Receipt)) → IsDeedWithin (receipt_kept i o r)
   within-receipt i (Some place) (Some rs) = tt
-  within-receipt i (Some place) None = tt
-  within-receipt i None r = tt
+  within-receipt i _ _ = tt
 
   within-routes : (o : Way) → IsDeedWithin (routed o (Tells answer.Routed))
   within-routes (Err f) = tt
@@ -313,31 +268,20 @@ module _ (ns : List Node) where
   -- messages
   within-asked : (n c : Node) (k : Cell) (from : Node) (gen r place : ℕ) (v : Act) (w : ActKind) → has_node ns from ≡ true → is_act_within v ≡ true → is_kind_within w ≡ true → IsDeedWithin (asked_first n c k from gen r place v w)
   within-asked n c k from gen r place v (kind.Propose d) h i j = if_holds IsDeedWithin (place == 0 && (can_bind n c k gen d && bytes_eq (admin d) from)) _ _ (λ q. (j, h, i)) (λ q. (h, refl))
-  within-asked n c k from gen r place v kind.Accept h i j = (h, refl)
-  within-asked n c k from gen r place v kind.Reject h i j = (h, refl)
-  within-asked n c k from gen r place v kind.Remove h i j = (h, refl)
+  within-asked n c k from gen r place v _ h i j = (h, refl)
 
   within-forwarded : (n c : Node) (k : Cell) (from : Node) (gen : ℕ) (v : Act) (w : ActKind) → has_node ns from ≡ true → is_act_within v ≡ true → is_kind_within w ≡ true → IsDeedWithin (forwarded_first n c k from gen v w)
   within-forwarded n c k from gen v (kind.Propose d) h i j = if_holds IsDeedWithin (can_bind n c k gen d && (bytes_eq (admin d) n && (bytes_eq v.node from && (is_member d from && not (bytes_eq from n))))) _ _ (λ q. (j, h, i)) (λ q. (h, i))
-  within-forwarded n c k from gen v kind.Accept h i j = tt
-  within-forwarded n c k from gen v kind.Reject h i j = tt
-  within-forwarded n c k from gen v kind.Remove h i j = tt
+  within-forwarded n c k from gen v _ h i j = tt
 
   within-first : (n c : Node) (k : Cell) (from : Node) (x : CommitMsg Act) → has_node ns from ≡ true → carries is_act_within x ≡ true → IsDeedWithin (hears_first n c k from x)
   within-first n c k from (msg.VoteRequest gen r place v) h i = within-asked n c k from gen r place v v.kind h i i
-  within-first n c k from (msg.Vote gen r aye) h i = tt
-  within-first n c k from (msg.Decision gen r commit) h i = tt
-  within-first n c k from (msg.DecisionRequest gen r) h i = tt
   within-first n c k from (msg.Forward gen v) h i = within-forwarded n c k from gen v v.kind h i i
-  within-first n c k from (msg.Refused gen v why) h i = tt
+  within-first n c k from _ h i = tt
 
   within-other : (c from s t : Node) (x : CommitMsg Batch) → has_node ns from ≡ true → IsDeedWithin (serves_other c from s t x)
   within-other c from s t (msg.VoteRequest gen r place v) h = (h, refl)
-  within-other c from s t (msg.Vote gen r aye) h = tt
-  within-other c from s t (msg.Decision gen r commit) h = tt
-  within-other c from s t (msg.DecisionRequest gen r) h = tt
-  within-other c from s t (msg.Forward gen v) h = tt
-  within-other c from s t (msg.Refused gen v why) h = tt
+  within-other c from s t _ h = tt
 
   within-routed : (c : Node) (d : Definition) (b : Member Batch) (from s t : Node) (x : CommitMsg Batch) (o : Way) → has_node ns from ≡ true → are_within d.members ≡ true → IsDeedWithin (routed o (hears_routed c d b from s t x))
   within-routed c d b from s t x (Err f) h i = tt
@@ -358,38 +302,21 @@ module _ (ns : List Node) where
   within-held n c d m t a b (event.Submit v) h i p due = within-submits n d m a b v h i
   within-held n c d m t a b event.Show h i p due = tt
   within-held n c d m t a b event.Detail h i p due = tt
-  within-held n c d m t a b event.Root h i p due = within-active d a _ tt
-  within-held n c d m t a b event.History h i p due = within-active d a _ tt
-  within-held n c d m t a b (event.Get address) h i p due = within-active d a _ tt
-  within-held n c d m t a b (event.List prefix) h i p due = within-active d a _ tt
   within-held n c d m t a b (event.Status j) h i p due = within-active d a _ (within-status b j (place_of (values b.history) j))
   within-held n c d m t a b (event.Receipt j) h i p due = within-active d a _ (within-receipt j (place_of (values b.history) j) (receipts_of (values b.history) j))
   within-held n c d m t a b (event.Route from s u) h i p due = within-routes (way n d m a from s u)
   within-held n c d m t a b event.Tick h i p due = within-turns n d m a b group.Tick group.Tick h i p tt
   within-held n c d m t a b event.Expire h i p due = within-turns n d m a b group.Expire group.Expire h i p tt
   within-held n c d m t a b (event.Deliver from x) h i p due = within-hears n c d m t a b from x due.0 due.1 i p
+  within-held n c d m t a b _ h i p due = within-active d a _ tt
 
   -- any event at another cell
   within-elsewhere : (n c : Node) (k : Cell) (e : Event) → has_node ns n ≡ true → IsDueWithin e → IsDeedWithin (other_does n c k e)
   within-elsewhere n c k (event.Propose f) h due = within-proposes n f k (broken f) h due
-  within-elsewhere n c k (event.Vote accept) h due = tt
-  within-elsewhere n c k event.Remove h due = tt
-  within-elsewhere n c k event.Abandon h due = tt
-  within-elsewhere n c k event.Purge h due = tt
-  within-elsewhere n c k (event.Submit v) h due = tt
-  within-elsewhere n c k event.Show h due = tt
-  within-elsewhere n c k event.Detail h due = tt
-  within-elsewhere n c k event.Root h due = tt
-  within-elsewhere n c k event.History h due = tt
-  within-elsewhere n c k (event.Get address) h due = tt
-  within-elsewhere n c k (event.List prefix) h due = tt
-  within-elsewhere n c k (event.Status i) h due = tt
-  within-elsewhere n c k (event.Receipt i) h due = tt
   within-elsewhere n c k (event.Route from s u) h due = within-routes (route None false from s u n)
-  within-elsewhere n c k event.Tick h due = tt
-  within-elsewhere n c k event.Expire h due = tt
   within-elsewhere n c k (event.Deliver from (message.Admin c2 x)) h due = within-first n c k from x due.0 due.1
   within-elsewhere n c k (event.Deliver from (message.Scabbard c2 s t x)) h due = within-routes (route None false from s t n)
+  within-elsewhere n c k _ h due = tt
 
   pub within-does : (n c : Node) (k : Cell) (e : Event) → has_node ns n ≡ true → IsDueWithin e → IsCellWithin n k → IsDeedWithin (does n c k e)
   within-does n c Empty e h due w = within-elsewhere n c Empty e h due
