@@ -108,7 +108,7 @@ moved-facts g here a (move.Begin r) = record { checked = λ s. checked-opened g.
 moved-facts g here a (move.Yes i) = record { checked = λ s. checked-opened g.rules a _ s; meets = λ may s. meets-opened may a _ s; history = refl }
 moved-facts g here a move.Close = record { checked = λ s. checked-opened g.rules a _ s; meets = λ may s. meets-opened may a _ s; history = refl }
 
-kept-moved : (site : Site) (h : Bound) (x y : OpenMove) → IsHeld site h → IsKept site (moved_cell site (Held h) x y)
+kept-moved : (site : Site) (h : Bound) (x y : OpenMove) → IsHeld site h → IsKept site (moved_cell site.here (Held h) x y)
 kept-moved site h x y s =
     let p : IsMoved (act_rules h.definition) h.acts (moved (admin_group h.definition) (position h.definition.members site.here) h.acts x) = moved-facts (admin_group h.definition) (position h.definition.members site.here) h.acts x in
     let q : IsMoved batch_rules h.batches (moved (service_group h.definition) (position h.definition.members site.here) h.batches y) = moved-facts (service_group h.definition) (position h.definition.members site.here) h.batches y in
@@ -124,7 +124,7 @@ kept-moved site h x y s =
       closed = λ e. subst (λ (w : List (ℕ × Act)). is_active (life h.definition (values w)).state ≡ true) (sym p.history) (s.closed e);
     }
 
-pub valid-moved : (site : Site) (k : Cell) (x y : OpenMove) → IsKept site k → FitsMoveAt site k x y → IsValid site (moved_cell site k x y)
+pub valid-moved : (site : Site) (k : Cell) (x y : OpenMove) → IsKept site k → FitsMoveAt site.here k x y → IsValid site (moved_cell site.here k x y)
 valid-moved site (Held h) x y s f = record { kept = kept-moved site h x y s; settled = (f.0.settled, f.1.settled) }
 valid-moved site k x y s f = record { kept = tt; settled = tt }
 

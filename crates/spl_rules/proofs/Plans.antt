@@ -40,8 +40,8 @@ use Rattle.spl_rules.proofs.Deeds.{FitsRow, FitsEvent, FitsServed, ActsAt, Serve
 
 -- each change of a plan fits behind those before it, and the moves fit behind them
 pub record PlanFits (site : Site) (k : Cell) (xs : List Change) (x y : OpenMove) : Type 0 where
-  pub changes : applied site k xs ≡ made site k xs
-  pub moves : FitsMoveAt site (made site k xs) x y
+  pub changes : applied site k xs ≡ made site.here k xs
+  pub moves : FitsMoveAt site.here (made site.here k xs) x y
 
 -- ---- a row at a member of any group
 
@@ -70,23 +70,23 @@ batch_same v = (same_batches v v).1 refl
 
 -- ---- changes of the two groups at a cell
 
-admin-made : (site : Site) (xs : List (GroupChange Act)) (h : Bound) → (t : ℕ) × (made site (Held h) (map durable.Admin xs) ≡ Held (record h { turn = t; acts = changed_by (act_rules h.definition) h.acts xs }))
+admin-made : (site : Site) (xs : List (GroupChange Act)) (h : Bound) → (t : ℕ) × (made site.here (Held h) (map durable.Admin xs) ≡ Held (record h { turn = t; acts = changed_by (act_rules h.definition) h.acts xs }))
 admin-made site [] h = (h.turn, refl)
 admin-made site (x ∷ xs) h = admin-made site xs (record h { turn = turn_after site.here h.turn x; acts = changed (act_rules h.definition) h.acts x })
 
-service-made : (site : Site) (xs : List (GroupChange Batch)) (h : Bound) → made site (Held h) (map durable.Service xs) ≡ Held (record h { batches = changed_by batch_rules h.batches xs })
+service-made : (site : Site) (xs : List (GroupChange Batch)) (h : Bound) → made site.here (Held h) (map durable.Service xs) ≡ Held (record h { batches = changed_by batch_rules h.batches xs })
 service-made site [] h = refl
 service-made site (x ∷ xs) h = service-made site xs (record h { batches = changed batch_rules h.batches x })
 
-made-append : (site : Site) (k : Cell) (xs ys : List Change) → made site k (xs ++ ys) ≡ made site (made site k xs) ys
+made-append : (site : Site) (k : Cell) (xs ys : List Change) → made site.here k (xs ++ ys) ≡ made site.here (made site.here k xs) ys
 made-append site k [] ys = refl
-made-append site k (x ∷ xs) ys = made-append site (made_one site k x) xs ys
+made-append site k (x ∷ xs) ys = made-append site (made_one site.here k x) xs ys
 
 pub applied-append : (site : Site) (k : Cell) (xs ys : List Change) → applied site k (xs ++ ys) ≡ applied site (applied site k xs) ys
 applied-append site k [] ys = refl
 applied-append site k (x ∷ xs) ys = applied-append site (applied_one site k x) xs ys
 
-admin-applied : (site : Site) (h : Bound) (xs : List (GroupChange Act)) → IsSingle xs → is_open h.mark ≡ true → AllFit (act_rules h.definition) (may_queue site.here h.turn h.acts.pending) h.acts xs → applied site (Held h) (map durable.Admin xs) ≡ made site (Held h) (map durable.Admin xs)
+admin-applied : (site : Site) (h : Bound) (xs : List (GroupChange Act)) → IsSingle xs → is_open h.mark ≡ true → AllFit (act_rules h.definition) (may_queue site.here h.turn h.acts.pending) h.acts xs → applied site (Held h) (map durable.Admin xs) ≡ made site.here (Held h) (map durable.Admin xs)
 admin-applied site h [] single unclosed fit = refl
 admin-applied site h (x ∷ []) single unclosed fit = rw (unclosed, fit.0)
 admin-applied site h (x ∷ y ∷ zs) single unclosed fit = absurd single
@@ -96,7 +96,7 @@ keep-planned : (x : GroupChange Batch) → IsPlanned x → may_keep x ≡ true
 keep-planned (change.Kept v why) p = absurd p
 keep-planned _ p = refl
 
-service-applied : (site : Site) (h : Bound) (xs : List (GroupChange Batch)) → IsSingle xs → is_open h.mark ≡ true → is_active_here h ≡ true → AllFit batch_rules may_serve h.batches xs → applied site (Held h) (map durable.Service xs) ≡ made site (Held h) (map durable.Service xs)
+service-applied : (site : Site) (h : Bound) (xs : List (GroupChange Batch)) → IsSingle xs → is_open h.mark ≡ true → is_active_here h ≡ true → AllFit batch_rules may_serve h.batches xs → applied site (Held h) (map durable.Service xs) ≡ made site.here (Held h) (map durable.Service xs)
 service-applied site h [] single unclosed active fit = refl
 service-applied site h (x ∷ []) single unclosed active fit = rw (unclosed, active, keep-planned x single, fit.0)
 service-applied site h (x ∷ y ∷ zs) single unclosed active fit = absurd single
@@ -117,17 +117,17 @@ module _ (site : Site) (h : Bound) where
   abbrev with_acts : List (GroupChange Act) → ℕ → Bound
   with_acts xs t = record h { turn = t; acts = changed_by (act_rules h.definition) h.acts xs }
 
-  acts-fit : IsKeptMember (act_rules h.definition) h.acts → IsSettledCell site (Held h) → is_open h.mark ≡ true → (e : GroupEvent Act) → FitsEvent site h e → PlanFits site (Held h) (map durable.Admin (act_changes e)) (group_row (admin_lane site h.definition) h.acts e).opening move.Keep
+  acts-fit : IsKeptMember (act_rules h.definition) h.acts → IsSettledCell site.here (Held h) → is_open h.mark ≡ true → (e : GroupEvent Act) → FitsEvent site h e → PlanFits site (Held h) (map durable.Admin (act_changes e)) (group_row (admin_lane site h.definition) h.acts e).opening move.Keep
   acts-fit k s unclosed e f = record {
     changes = admin-applied site h (act_changes e) (single-row (admin_group h.definition) spot h.acts e) unclosed (row-fits (admin_group h.definition) (may_queue site.here h.turn h.acts.pending) spot h.acts e act_same (sound (admin_group h.definition) spot h.acts k s.0) k.roomy f);
-    moves = subst (λ (z : Cell). FitsMoveAt site z (group_row (admin_lane site h.definition) h.acts e).opening move.Keep) (sym (admin-made site (act_changes e) h).1)
+    moves = subst (λ (z : Cell). FitsMoveAt site.here z (group_row (admin_lane site h.definition) h.acts e).opening move.Keep) (sym (admin-made site (act_changes e) h).1)
         (row-moves (admin_group h.definition) (may_queue site.here h.turn h.acts.pending) spot h.acts e act_same (sound (admin_group h.definition) spot h.acts k s.0) k.roomy f, kept-settled (service_group h.definition) spot h.batches s.1);
   }
 
-  serves-fit : IsKeptMember batch_rules h.batches → IsSettledCell site (Held h) → is_open h.mark ≡ true → is_active_here h ≡ true → (e : GroupEvent Batch) → FitsServed site h e → PlanFits site (Held h) (map durable.Service (batch_changes e)) move.Keep (group_row (service_lane site h.definition) h.batches e).opening
+  serves-fit : IsKeptMember batch_rules h.batches → IsSettledCell site.here (Held h) → is_open h.mark ≡ true → is_active_here h ≡ true → (e : GroupEvent Batch) → FitsServed site h e → PlanFits site (Held h) (map durable.Service (batch_changes e)) move.Keep (group_row (service_lane site h.definition) h.batches e).opening
   serves-fit k s unclosed active e f = record {
     changes = service-applied site h (batch_changes e) (single-row (service_group h.definition) spot h.batches e) unclosed active (row-fits (service_group h.definition) may_serve spot h.batches e batch_same (sound (service_group h.definition) spot h.batches k s.1) k.roomy f);
-    moves = subst (λ (z : Cell). FitsMoveAt site z move.Keep (group_row (service_lane site h.definition) h.batches e).opening) (sym (service-made site (batch_changes e) h))
+    moves = subst (λ (z : Cell). FitsMoveAt site.here z move.Keep (group_row (service_lane site h.definition) h.batches e).opening) (sym (service-made site (batch_changes e) h))
         (kept-settled (admin_group h.definition) spot h.acts s.0, row-moves (service_group h.definition) may_serve spot h.batches e batch_same (sound (service_group h.definition) spot h.batches k s.1) k.roomy f);
   }
 
@@ -137,18 +137,18 @@ module _ (site : Site) (h : Bound) where
       let xs : List (GroupChange Act) = act_changes x in
       let ys : List (GroupChange Batch) = batch_changes y in
       let first : PlanFits site (Held h) (map durable.Admin xs) (group_row (admin_lane site h.definition) h.acts x).opening move.Keep = acts-fit v.kept.acts v.settled f.unclosed x f.fit in
-      let behind : (t : ℕ) × (made site (Held h) (map durable.Admin xs) ≡ Held (with_acts xs t)) = admin-made site xs h in
+      let behind : (t : ℕ) × (made site.here (Held h) (map durable.Admin xs) ≡ Held (with_acts xs t)) = admin-made site xs h in
       let still_active : is_active_here (with_acts xs behind.0) ≡ true = subst (λ (z : List (ℕ × Act)). is_active (life h.definition (values z)).state ≡ true) (sym f.still) f.active in
       let ready : IsSound (service_group h.definition) spot h.batches = sound (service_group h.definition) spot h.batches v.kept.batches v.settled.1 in
       let all : AllFit batch_rules may_serve h.batches ys = row-fits (service_group h.definition) may_serve spot h.batches y batch_same ready v.kept.batches.roomy f.serves in
-      let last : applied site (Held (with_acts xs behind.0)) (map durable.Service ys) ≡ made site (Held (with_acts xs behind.0)) (map durable.Service ys)
+      let last : applied site (Held (with_acts xs behind.0)) (map durable.Service ys) ≡ made site.here (Held (with_acts xs behind.0)) (map durable.Service ys)
       = service-applied site (with_acts xs behind.0) ys (single-row (service_group h.definition) spot h.batches y) f.unclosed still_active all in
-      let final : made site (Held h) (map durable.Admin xs ++ map durable.Service ys) ≡ Held (record h { turn = behind.0; acts = changed_by (act_rules h.definition) h.acts xs; batches = changed_by batch_rules h.batches ys })
-      = made-append site (Held h) (map durable.Admin xs) (map durable.Service ys) ∙ (ap (λ (k : Cell). made site k (map durable.Service ys)) behind.1 ∙ service-made site ys (with_acts xs behind.0)) in
+      let final : made site.here (Held h) (map durable.Admin xs ++ map durable.Service ys) ≡ Held (record h { turn = behind.0; acts = changed_by (act_rules h.definition) h.acts xs; batches = changed_by batch_rules h.batches ys })
+      = made-append site (Held h) (map durable.Admin xs) (map durable.Service ys) ∙ (ap (λ (k : Cell). made site.here k (map durable.Service ys)) behind.1 ∙ service-made site ys (with_acts xs behind.0)) in
       record {
         changes = applied-append site (Held h) (map durable.Admin xs) (map durable.Service ys)
             ∙ (ap (λ (k : Cell). applied site k (map durable.Service ys)) (first.changes ∙ behind.1) ∙ (last ∙ (service-made site ys (with_acts xs behind.0) ∙ sym final)));
-        moves = subst (λ (k : Cell). FitsMoveAt site k (group_row (admin_lane site h.definition) h.acts x).opening (group_row (service_lane site h.definition) h.batches y).opening) (sym final) (
+        moves = subst (λ (k : Cell). FitsMoveAt site.here k (group_row (admin_lane site h.definition) h.acts x).opening (group_row (service_lane site h.definition) h.batches y).opening) (sym final) (
           row-moves (admin_group h.definition) (may_queue site.here h.turn h.acts.pending) spot h.acts x act_same (sound (admin_group h.definition) spot h.acts v.kept.acts v.settled.0) v.kept.acts.roomy f.fit,
           row-moves (service_group h.definition) may_serve spot h.batches y batch_same ready v.kept.batches.roomy f.serves,
         );

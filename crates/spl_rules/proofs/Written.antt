@@ -173,11 +173,11 @@ written-turn here turn _ w h = h
 
 written-held : (site : Site) (h : Bound) (x : Change) → IsTrue (change_form.fits x) → IsWrittenHeld h → IsWritten (applied_one site (Held h) x)
 written-held site h (durable.Bind e) w s = s
-written-held site h (durable.Admin x) w s = if_holds IsWritten _ (held_after site h (durable.Admin x)) (Held h) (λ q. record { defined = s.defined; turned = written-turn site.here h.turn x (fits-admin x w) s.turned; acts = written-changed act (act_rules h.definition) (may_queue site.here h.turn h.acts.pending) h.acts x (and_right (is_open h.mark) _ q) (fits-admin x w) s.acts; batches = s.batches }) (λ q. s)
-written-held site h (durable.Service x) w s = if_holds IsWritten _ (held_after site h (durable.Service x)) (Held h) (λ q. record { defined = s.defined; turned = s.turned; acts = s.acts; batches = written-changed batch batch_rules may_serve h.batches x (and_right (may_keep x) _ (and_right (is_active_here h) _ (and_right (is_open h.mark) _ q))) (fits-service x w) s.batches }) (λ q. s)
-written-held site h durable.Abandon w s = if_holds IsWritten (is_open h.mark && is_active_here h) (held_after site h durable.Abandon) (Held h) (λ q. record { defined = s.defined; turned = s.turned; acts = s.acts; batches = s.batches }) (λ q. s)
+written-held site h (durable.Admin x) w s = if_holds IsWritten _ (held_after site.here h (durable.Admin x)) (Held h) (λ q. record { defined = s.defined; turned = written-turn site.here h.turn x (fits-admin x w) s.turned; acts = written-changed act (act_rules h.definition) (may_queue site.here h.turn h.acts.pending) h.acts x (and_right (is_open h.mark) _ q) (fits-admin x w) s.acts; batches = s.batches }) (λ q. s)
+written-held site h (durable.Service x) w s = if_holds IsWritten _ (held_after site.here h (durable.Service x)) (Held h) (λ q. record { defined = s.defined; turned = s.turned; acts = s.acts; batches = written-changed batch batch_rules may_serve h.batches x (and_right (may_keep x) _ (and_right (is_active_here h) _ (and_right (is_open h.mark) _ q))) (fits-service x w) s.batches }) (λ q. s)
+written-held site h durable.Abandon w s = if_holds IsWritten (is_open h.mark && is_active_here h) (held_after site.here h durable.Abandon) (Held h) (λ q. record { defined = s.defined; turned = s.turned; acts = s.acts; batches = s.batches }) (λ q. s)
 written-held site h durable.Purge w s = generation-fits h.definition s.defined
-written-held site h (durable.Turn t) w s = if_holds IsWritten (is_new h.acts) (held_after site h (durable.Turn t)) (Held h) (λ q. record { defined = s.defined; turned = w; acts = s.acts; batches = s.batches }) (λ q. s)
+written-held site h (durable.Turn t) w s = if_holds IsWritten (is_new h.acts) (held_after site.here h (durable.Turn t)) (Held h) (λ q. record { defined = s.defined; turned = w; acts = s.acts; batches = s.batches }) (λ q. s)
 written-held site h (durable.Gone old) w s = s
 
 bound-written : (d : Definition) → IsTrue (definition.fits d) → IsWrittenHeld (fresh d)

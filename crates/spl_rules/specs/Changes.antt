@@ -27,28 +27,28 @@ abbrev pub turn_after : NodeId → ℕ → GroupChange Act → ℕ
 turn_after here turn (change.Queue v) = if bytes_eq v.node here then v.turn else turn
 turn_after here turn _ = turn
 
-abbrev pub held_after : Site → Bound → Change → Cell
-held_after site h (durable.Bind d) = Held (fresh d)
-held_after site h (durable.Admin x) = Held (record h { turn = turn_after site.here h.turn x; acts = changed (act_rules h.definition) h.acts x })
-held_after site h (durable.Service x) = Held (record h { batches = changed batch_rules h.batches x })
-held_after site h durable.Abandon = Held (record h { mark = mark.Abandoned })
-held_after site h durable.Purge = Purged h.definition.generation
-held_after site h (durable.Turn t) = Held (record h { turn = t })
-held_after site h (durable.Gone old) = Purged old
+abbrev pub held_after : NodeId → Bound → Change → Cell
+held_after here h (durable.Bind d) = Held (fresh d)
+held_after here h (durable.Admin x) = Held (record h { turn = turn_after here h.turn x; acts = changed (act_rules h.definition) h.acts x })
+held_after here h (durable.Service x) = Held (record h { batches = changed batch_rules h.batches x })
+held_after here h durable.Abandon = Held (record h { mark = mark.Abandoned })
+held_after here h durable.Purge = Purged h.definition.generation
+held_after here h (durable.Turn t) = Held (record h { turn = t })
+held_after here h (durable.Gone old) = Purged old
 
 abbrev pub free_after : Cell → Change → Cell
 free_after k (durable.Bind d) = Held (fresh d)
 free_after k (durable.Gone old) = Purged old
 free_after k _ = k
 
-abbrev pub made_one : Site → Cell → Change → Cell
-made_one site (Held h) x = held_after site h x
-made_one site k x = free_after k x
+abbrev pub made_one : NodeId → Cell → Change → Cell
+made_one here (Held h) x = held_after here h x
+made_one here k x = free_after k x
 
 -- changes that are made
-abbrev pub made : Site → Cell → List Change → Cell
-made site k [] = k
-made site k (x ∷ xs) = made site (made_one site k x) xs
+abbrev pub made : NodeId → Cell → List Change → Cell
+made here k [] = k
+made here k (x ∷ xs) = made here (made_one here k x) xs
 
 -- ---- where a change fits
 
@@ -85,7 +85,7 @@ fits site k x = fits_free site k x
 
 -- a change that does not fit changes nothing
 abbrev pub applied_one : Site → Cell → Change → Cell
-applied_one site k x = if fits site k x then made_one site k x else k
+applied_one site k x = if fits site k x then made_one site.here k x else k
 
 -- changes as they are read
 abbrev pub applied : Site → Cell → List Change → Cell
@@ -95,9 +95,9 @@ applied site k (x ∷ xs) = applied site (applied_one site k x) xs
 -- ---- moves
 
 -- the open rounds of the admin group and of the service group
-abbrev pub moved_cell : Site → Cell → OpenMove → OpenMove → Cell
-moved_cell site (Held h) x y = Held (record h { acts = moved (admin_group h.definition) (position h.definition.members site.here) h.acts x; batches = moved (service_group h.definition) (position h.definition.members site.here) h.batches y })
-moved_cell site k x y = k
+abbrev pub moved_cell : NodeId → Cell → OpenMove → OpenMove → Cell
+moved_cell here (Held h) x y = Held (record h { acts = moved (admin_group h.definition) (position h.definition.members here) h.acts x; batches = moved (service_group h.definition) (position h.definition.members here) h.batches y })
+moved_cell here k x y = k
 
 -- a stop forgets the open rounds
 abbrev pub stopped_cell : Cell → Cell
@@ -105,5 +105,5 @@ stopped_cell (Held h) = Held (record h { acts = restarted h.acts; batches = rest
 stopped_cell k = k
 
 -- the cell behind a plan: its changes and its moves are made
-abbrev pub after_plan : Site → Cell → Plan → Cell
-after_plan site k p = moved_cell site (made site k p.changes) p.admin p.service
+abbrev pub after_plan : NodeId → Cell → Plan → Cell
+after_plan here k p = moved_cell here (made here k p.changes) p.admin p.service

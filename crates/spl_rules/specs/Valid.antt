@@ -9,7 +9,7 @@ use Rattle.spl_agree.specs.declared.message.CommitMsg.TheVariants as msg
 use Rattle.spl_agree.specs.Member.{Rules, Member, values}
 use Rattle.spl_agree.specs.Fits.{AllGood, IsRoomy, IsSettled, FitsMove}
 use Rattle.spl_circuit.specs.Forms.{node_id, circuit_id, definition}
-use Rattle.spl_circuit.specs.Nodes.{position}
+use Rattle.spl_circuit.specs.Nodes.{NodeId, position}
 use Rattle.spl_circuit.specs.Rules.{broken, is_member}
 use Rattle.spl_circuit.specs.Acts.{act_rules}
 use Rattle.spl_scabbard.specs.Checks.{batch_rules}
@@ -55,13 +55,13 @@ IsKept site (Held h) = IsHeld site h
 IsKept site _ = Unit {0}
 
 -- in each group no round is open, or one is as it has to be
-abbrev pub IsSettledCell : Site → Cell → Type 0
-IsSettledCell site (Held h) = IsSettled (admin_group h.definition) (position h.definition.members site.here) h.acts × IsSettled (service_group h.definition) (position h.definition.members site.here) h.batches
-IsSettledCell site _ = Unit {0}
+abbrev pub IsSettledCell : NodeId → Cell → Type 0
+IsSettledCell here (Held h) = IsSettled (admin_group h.definition) (position h.definition.members here) h.acts × IsSettled (service_group h.definition) (position h.definition.members here) h.batches
+IsSettledCell here _ = Unit {0}
 
 pub record IsValid (site : Site) (k : Cell) : Type 0 where
   pub kept : IsKept site k
-  pub settled : IsSettledCell site k
+  pub settled : IsSettledCell site.here k
 
 -- a move where there is no group
 abbrev pub is_no_move : OpenMove → Bool
@@ -70,9 +70,9 @@ is_no_move move.Close = true
 is_no_move _ = false
 
 -- the moves of the two groups fit where they can be made and leave the cell settled
-abbrev pub FitsMoveAt : Site → Cell → OpenMove → OpenMove → Type 0
-FitsMoveAt site (Held h) x y = FitsMove (admin_group h.definition) (position h.definition.members site.here) h.acts x × FitsMove (service_group h.definition) (position h.definition.members site.here) h.batches y
-FitsMoveAt site _ x y = (is_no_move x ≡ true) × (is_no_move y ≡ true)
+abbrev pub FitsMoveAt : NodeId → Cell → OpenMove → OpenMove → Type 0
+FitsMoveAt here (Held h) x y = FitsMove (admin_group h.definition) (position h.definition.members here) h.acts x × FitsMove (service_group h.definition) (position h.definition.members here) h.batches y
+FitsMoveAt here _ x y = (is_no_move x ≡ true) × (is_no_move y ≡ true)
 
 -- ---- what comes and goes
 

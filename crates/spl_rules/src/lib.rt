@@ -26,8 +26,8 @@ ghost use Rattle.spl_agree.specs.declared.event.OpenMove.{OpenMove};
 /// An event that is refused changes nothing and sends nothing; one that only tells something does
 /// neither.
 pub fn refusals_change_nothing()
-    ensures refused { (site : Site) (k : Cell) (e : Event) (r : Refusal) → does site k e ≡ Refuses r → ((plan_of site k e).answer ≡ answer.Refused r) × (after_plan site k (plan_of site k e) ≡ k) × ((plan_of site k e).sends ≡ []) }
-    ensures told { (site : Site) (k : Cell) (e : Event) (a : Told) → does site k e ≡ Tells a → (after_plan site k (plan_of site k e) ≡ k) × ((plan_of site k e).sends ≡ []) }
+    ensures refused { (site : Site) (k : Cell) (e : Event) (r : Refusal) → does site k e ≡ Refuses r → ((plan_of site k e).answer ≡ answer.Refused r) × (after_plan site.here k (plan_of site k e) ≡ k) × ((plan_of site k e).sends ≡ []) }
+    ensures told { (site : Site) (k : Cell) (e : Event) (a : Told) → does site k e ≡ Tells a → (after_plan site.here k (plan_of site k e) ≡ k) × ((plan_of site k e).sends ≡ []) }
 {}
 
 /// What a cell keeps: it is valid at first; a change whose definition or act has a byte form keeps
@@ -36,7 +36,7 @@ pub fn refusals_change_nothing()
 pub fn cells_stay_valid()
     ensures empty { (site : Site) → IsValid site Empty }
     ensures change { (site : Site) (k : Cell) (x : Change) → is_formed x ≡ true → IsKept site k → IsKept site (applied_one site k x) }
-    ensures moves { (site : Site) (k : Cell) (x y : OpenMove) → IsKept site k → FitsMoveAt site k x y → IsValid site (moved_cell site k x y) }
+    ensures moves { (site : Site) (k : Cell) (x y : OpenMove) → IsKept site k → FitsMoveAt site.here k x y → IsValid site (moved_cell site.here k x y) }
     ensures stop { (site : Site) (k : Cell) → IsKept site k → IsValid site (stopped_cell k) }
 {}
 
@@ -49,9 +49,9 @@ pub fn records_are_formed()
 /// At a valid cell each change of a plan fits behind those before it, and the moves fit behind
 /// them; so the cell behind a plan is valid. Each message of a plan is one that a cell may hear.
 pub fn plans_fit_cells()
-    ensures changes { (site : Site) (k : Cell) (e : Event) → IsNamed site → IsFor site e → IsValid site k → applied site k (plan_of site k e).changes ≡ made site k (plan_of site k e).changes }
-    ensures moves { (site : Site) (k : Cell) (e : Event) → IsNamed site → IsFor site e → IsValid site k → FitsMoveAt site (made site k (plan_of site k e).changes) (plan_of site k e).admin (plan_of site k e).service }
-    ensures valid { (site : Site) (k : Cell) (e : Event) → IsNamed site → IsFor site e → IsValid site k → IsValid site (after_plan site k (plan_of site k e)) }
+    ensures changes { (site : Site) (k : Cell) (e : Event) → IsNamed site → IsFor site e → IsValid site k → applied site k (plan_of site k e).changes ≡ made site.here k (plan_of site k e).changes }
+    ensures moves { (site : Site) (k : Cell) (e : Event) → IsNamed site → IsFor site e → IsValid site k → FitsMoveAt site.here (made site.here k (plan_of site k e).changes) (plan_of site k e).admin (plan_of site k e).service }
+    ensures valid { (site : Site) (k : Cell) (e : Event) → IsNamed site → IsFor site e → IsValid site k → IsValid site (after_plan site.here k (plan_of site k e)) }
     ensures legal { (site : Site) (k : Cell) (e : Event) → IsNamed site → IsFor site e → IsValid site k → are_legal (plan_of site k e).sends ≡ true }
 {}
 
