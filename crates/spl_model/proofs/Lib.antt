@@ -1,5 +1,4 @@
 pub mod Nodes
 pub mod Puts
 pub mod LinesAsOccurrences
-pub mod Refused
 pub mod Unmoved

@@ -2,6 +2,7 @@
 use Rattle.std.proofs.Common.{◌≡◌, ◌≢◌, ◌-◌, ◌⊎◌, Bool, true, append-nil, refl, sym, ap, subst, ◌∙◌, inl, inr}
 use Rattle.std.specs.Prelude.{Option, Some, None, slice_get, if◌then◌else◌}
 use Rattle.spl_agree.proofs.Tests.{if_holds}
+use Rattle.spl_agree.specs.declared.event.Note.{Note}
 use Rattle.spl_agree.specs.declared.event.OpenMove.TheVariants as move
 use Rattle.spl_circuit.specs.Nodes.{Node}
 use Rattle.spl_wire.specs.declared.message.Message.{Message}
@@ -17,28 +18,49 @@ use Rattle.spl_sched.specs.declared.line.Step.TheVariants as step
 use Rattle.spl_sched.specs.declared.line.Line.{Line}
 use Rattle.spl_sched.specs.declared.line.Line.TheVariants as line
 use Rattle.spl_sched.specs.Grammar.{step_node, step_circuit}
-use Rattle.spl_rules.specs.Cells.{Cell, Empty}
-use Rattle.spl_rules.specs.Plans.{tells_only}
+use Rattle.spl_rules.specs.Cells.{Cell, Empty, Held, Purged, Site, Say, Submitted, Delivered, Alone, said, Deed, Refuses, Tells, Binds, Acts, Serves}
+use Rattle.spl_rules.specs.Events.{does}
+use Rattle.spl_rules.specs.Plans.{tells_only, planned}
 use Rattle.spl_rules.specs.Changes.{moved_cell}
-use Rattle.spl_model.specs.Worlds.{World, IsUnmoved, put_at, messages, delivery, plan_up, step_plan, step_world, carried_out, Halts, happens}
+use Rattle.spl_model.specs.Worlds.{World, site_at, IsUnmoved, put_at, messages, delivery, plan_up, step_plan, step_world, carried_out, Halts, happens}
 use Rattle.spl_model.specs.Projection.{names}
 use Rattle.spl_model.specs.Answers.{bit_of, halt_answer, line_answer, line_world}
 use Rattle.spl_model.proofs.Nodes.{node_cases, node_is}
 use Rattle.spl_model.proofs.Puts.{put_at-same, put_at-other}
-use Rattle.spl_model.proofs.Refused.{IsAlone, tells-alone, plan-alone}
 
 -- ---- a refusal is the answer alone
 
+-- where a plan is answered with a refusal, it is that answer alone
+record IsAlone (p : Plan) : Type 0 where
+  alone : (why : Refusal) → p.answer ≡ answer.Refused why → p ≡ tells_only (answer.Refused why)
+
+alone-tells : (a : Answer) → IsAlone (tells_only a)
+alone-tells a = record { alone = λ why q. ap tells_only q }
+
+-- no note is answered with a refusal
+never-refused : (say : Say) (x : Note) (why : Refusal) → said say x ≡ answer.Refused why → ⊥
+never-refused Submitted x why h = cc
+never-refused Delivered x why h = cc
+never-refused Alone x why h = cc
+
+alone-deed : (site : Site) (deed : Deed) → IsAlone (planned site deed)
+alone-deed site (Refuses r) = alone-tells (answer.Refused r)
+alone-deed site (Tells a) = alone-tells a
+alone-deed site (Binds say d back e) = record { alone = λ why q. absurd (never-refused say _ why q) }
+alone-deed site (Acts say h back e) = record { alone = λ why q. absurd (never-refused say _ why q) }
+alone-deed site (Serves say h back e) = record { alone = λ why q. absurd (never-refused say _ why q) }
+alone-deed site _ = record { alone = λ why q. cc }
+
 alone-delivery : (c : Node) (w : World) (from to : Node) (o : Option Message) → IsAlone (delivery c w from to o)
-alone-delivery c w from to None = tells-alone (answer.Refused refusal.NoMessage)
-alone-delivery c w from to (Some m) = plan-alone to c (w.at to) (event.Deliver from m)
+alone-delivery c w from to None = alone-tells (answer.Refused refusal.NoMessage)
+alone-delivery c w from to (Some m) = alone-deed (site_at to c) (does (site_at to c) (w.at to) (event.Deliver from m))
 
 alone-up : (w : World) (s : Step) → IsAlone (plan_up w s)
-alone-up w (step.At n c e) = plan-alone n c (w.at n) e
+alone-up w (step.At n c e) = alone-deed (site_at n c) (does (site_at n c) (w.at n) e)
 alone-up w (step.Deliver from to c k) = alone-delivery c w from to (slice_get (messages w from to) (k - 1))
 
 alone-step : (w : World) (s : Step) → IsAlone (step_plan w s)
-alone-step w s = if_holds IsAlone (w.up (step_node s)) _ _ (λ q. alone-up w s) (λ q. tells-alone (answer.Refused refusal.Down))
+alone-step w s = if_holds IsAlone (w.up (step_node s)) _ _ (λ q. alone-up w s) (λ q. alone-tells (answer.Refused refusal.Down))
 
 -- ---- a refusal moves nothing
 

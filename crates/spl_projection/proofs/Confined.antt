@@ -14,7 +14,7 @@ use Rattle.spl_sched.specs.declared.line.Step.{Step}
 use Rattle.spl_sched.specs.declared.line.Step.TheVariants as step
 use Rattle.spl_sched.specs.Grammar.{step_node}
 use Rattle.spl_rules.specs.Changes.{made, stopped_cell, after_plan}
-use Rattle.spl_model.specs.Worlds.{Sent, World, first_world, put_at, on_pair, messages, posted, delivery, step_plan, carried_out, step_world, stopped, started, halted, Occurrence, Steps, Stops, Starts, Halts, happens, occur}
+use Rattle.spl_model.specs.Worlds.{Sent, World, site_at, first_world, put_at, on_pair, messages, posted, delivery, step_plan, carried_out, step_world, stopped, started, halted, Occurrence, Steps, Stops, Starts, Halts, happens, occur}
 use Rattle.spl_model.specs.Projection.{proposed_members, step_concerns}
 use Rattle.spl_model.specs.Plain.{IsPlainEvent, IsPlainStep}
 use Rattle.spl_model.proofs.Nodes.{node_is, node_cases}
@@ -131,7 +131,7 @@ module _ (ns : List Node) where
 
   delivery-within : (c : Node) (w : World) (from to : Node) (k : ℕ) (o : Option Message) → has_node ns to ≡ true → IsConfined w → slice_get (messages w from to) k ≡ o → IsPlanWithin ns (delivery c w from to o)
   delivery-within c w from to k None h i e = record { changes = refl; sends = refl }
-  delivery-within c w from to k (Some m) h i e = within-plan ns to c (w.at to) (event.Deliver from m) h (go (bool_cases (bytes_eq from to))) (i.cells to)
+  delivery-within c w from to k (Some m) h i e = within-plan ns (site_at to c) (w.at to) (event.Deliver from m) h (go (bool_cases (bytes_eq from to))) (i.cells to)
     where
       none_there : (xs : List Message) (j : ℕ) → xs ≡ [] → slice_get xs j ≡ Some m → ⊥
       none_there [] j q x = cc
@@ -146,7 +146,7 @@ module _ (ns : List Node) where
 
   pub step-within : (w : World) (s : Step) → IsPlainStep s → IsStepWithin s → IsConfined w → IsPlanWithin ns (step_plan w s)
   step-within w (step.At n c e) p h i = if_holds (IsPlanWithin ns) (w.up n) _ _
-      (λ q. within-plan ns n c (w.at n) e (step-here (step.At n c e) h) (event-due e p (and_right (has_node ns n) (are_within ns (proposed_members e)) h)) (i.cells n))
+      (λ q. within-plan ns (site_at n c) (w.at n) e (step-here (step.At n c e) h) (event-due e p (and_right (has_node ns n) (are_within ns (proposed_members e)) h)) (i.cells n))
       (λ q. record { changes = refl; sends = refl })
   step-within w (step.Deliver from to c k) p h i = if_holds (IsPlanWithin ns) (w.up to) _ _
       (λ q. delivery-within c w from to (k - 1) (slice_get (messages w from to) (k - 1)) (step-here (step.Deliver from to c k) h) i refl)
