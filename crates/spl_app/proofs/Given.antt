@@ -7,8 +7,7 @@ use Rattle.std.specs.Io.{appended_bytes}
 use Rattle.std.specs.Io.KnownBytes.{Appends, Consumes, IsAtEnd}
 use Rattle.spl_edge.specs.Causes.{AppendsPart}
 use Rattle.spl_app.specs.Lines.{lines_of, rest_of, longest_line}
-use Rattle.spl_app.specs.Run.{IsLine}
-use Rattle.spl_app.specs.Run.{answers, IsFirstBad}
+use Rattle.spl_app.specs.Run.{IsLine, answers, IsFirstBad}
 use Rattle.spl_app.specs.Schedule.{run_of, limit, IsSchedule, HadSchedule, IsUnfinished, IsCut, IsBadRest}
 use Rattle.spl_app.proofs.Feeds.{lines_all_front}
 

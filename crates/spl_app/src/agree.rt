@@ -1,12 +1,11 @@
 //! The circuits of a run agree.
 ghost use Rattle.std.specs.Prelude.{List, ℕ};
-ghost use Rattle.spl_model.specs.Agreement.{Agree};
-ghost use Rattle.spl_model.specs.OneList.{TellOneList};
+ghost use Rattle.spl_agreement.specs.Agreement.{Agree};
+ghost use Rattle.spl_agreement.specs.OneList.{TellOneList};
 ghost use Rattle.spl_app.specs.Run.{registered};
 ghost use Rattle.spl_app.specs.Behind.{ran};
 
-use spl_model::circuits_agree;
-use spl_projection::members_tell_one_list;
+use spl_agreement::{circuits_agree, members_tell_one_list};
 use spl_sched::lines_have_one_spelling;
 
 /// Whatever lines run, the members of each circuit agree at each moment, and tell one list.

@@ -28,10 +28,11 @@ use Rattle.spl_rules.specs.Batches.{routed, way, hears_routed, serves_other}
 use Rattle.spl_rules.specs.Plans.{planned, plan_of, admin_sends, service_sends}
 use Rattle.spl_settle.specs.Calm.{mail}
 use Rattle.spl_settle.proofs.Strangers.{AllTo, LeavesBe, stranger-leaves}
-use Rattle.spl_model.proofs.Nodes.{node_same, position-below}
-use Rattle.spl_model.proofs.Rosters.{roster}
-use Rattle.spl_model.proofs.Lane.{AllPosts, There, there_is, after_row, plan_row, group_of}
-use Rattle.spl_model.proofs.Coupling.{admin_lane, service_lane, admin_stand}
+use Rattle.spl_model.proofs.Nodes.{node_same}
+use Rattle.spl_agreement.proofs.Positions.{position-below}
+use Rattle.spl_agreement.proofs.Rosters.{roster}
+use Rattle.spl_agreement.proofs.GroupOfDefinition.{AllPosts, There, there_is, after_row, plan_row, group_of}
+use Rattle.spl_agreement.proofs.GroupWorlds.{admin_lane, service_lane, admin_presence}
 use Rattle.spl_calm.proofs.Places.{outside}
 use Rattle.spl_calm.proofs.Pairs.{to_node, to_node-append}
 use Rattle.spl_calm.proofs.Shapes.{Shape, owns, owns-append, Gives, IsShaped}
@@ -45,7 +46,7 @@ own_act d from to (message.Admin i x) = if generation_of x == d.generation then 
 own_act d from to (message.Scabbard i s t x) = None
 
 abbrev pub act_shape : Shape Act
-act_shape = record { lane = admin_lane; stand = admin_stand; own = own_act }
+act_shape = record { lane = admin_lane; stand = admin_presence; own = own_act }
 
 -- bound to the definition, and open
 abbrev pub IsOpenTo : Definition → Cell → Type 0
@@ -81,14 +82,14 @@ ActGives d n k c deed m ss = Gives act_shape d n k (planned n c deed) m ss
 pub acts-acts : (d : Definition) (c n back : Node) (t : ℕ) (a : Member Act) (b : Member Batch) (say : Note → Answer) (e : GroupEvent Act) → broken d ≡ None → AllPosts (Lands d n back) (plan_row admin_lane d n a e).sends → ActGives d n (Held d mark.Open t a b) c (Acts say d a back e) (after_row admin_lane d n a e) (plan_row admin_lane d n a e).sends
 acts-acts d c n back t a b say e ruled all =
     let x : (u : ℕ) × (_ ≡ Held d mark.Open u (after_row admin_lane d n a e) b) = after-acts n d mark.Open t a b (plan_row admin_lane d n a e) in record {
-      stands = ap admin_stand x.1;
+      stands = ap admin_presence x.1;
       sends = λ y h dif. mail-acts d c n back y (plan_row admin_lane d n a e).sends ruled h dif all;
     }
 
 pub acts-serves : (d : Definition) (c n back : Node) (t : ℕ) (a : Member Act) (b : Member Batch) (say : Note → Answer) (e : GroupEvent Batch) → ActGives d n (Held d mark.Open t a b) c (Serves say d b back e) a []
 acts-serves d c n back t a b say e =
     let x : _ ≡ Held d mark.Open t a (after_row service_lane d n b e) = after-serves n d mark.Open t a b (plan_row service_lane d n b e) in record {
-      stands = ap admin_stand x;
+      stands = ap admin_presence x;
       sends = λ y h dif. none-of-batches d c n back y (plan_row service_lane d n b e).sends;
     }
 
@@ -97,7 +98,7 @@ acts-turns d c n t a b e f ruled all =
     let p : GroupPlan Act = plan_row admin_lane d n a e in
     let q : GroupPlan Batch = plan_row service_lane d n b f in
     let x : (u : ℕ) × (_ ≡ Held d mark.Open u (after_row admin_lane d n a e) (after_row service_lane d n b f)) = after-both n d mark.Open t a b p q in record {
-      stands = ap admin_stand x.1;
+      stands = ap admin_presence x.1;
       sends = λ y h dif.
           ap (λ z. owns (own_act d n y) z) (to_node-append y (admin_sends c d n p.sends) (service_sends n c d n q.sends))
           ∙ (owns-append (own_act d n y) (to_node y (admin_sends c d n p.sends)) (to_node y (service_sends n c d n q.sends))
@@ -126,7 +127,7 @@ acts-stranger d c n from t a b x ruled none =
     let p : GroupPlan Act = plan_row admin_lane d n a (group.From (position d.members from) x) in
     let be : LeavesBe (group_of admin_lane d) (position d.members n) a (position d.members from) p = stranger-leaves (group_of admin_lane d) (position d.members n) a (position d.members from) x (position-below d.members (admin d) (roster d ruled).admin_in) (outside d from ruled none) in
     let y : (u : ℕ) × (_ ≡ Held d mark.Open u (after (group_of admin_lane d) (position d.members n) a p) b) = after-acts n d mark.Open t a b p in record {
-      stands = ap admin_stand y.1 ∙ ap (λ (z : Member Act). There d z) be.same;
+      stands = ap admin_presence y.1 ∙ ap (λ (z : Member Act). There d z) be.same;
       sends = λ z h dif. back-acts d c n from z (position d.members from) p.sends (outside d from ruled none) h none be.back;
     }
 
@@ -155,8 +156,8 @@ acts-pass d c n from t a b (message.Admin i x) ruled o = if_holds (λ (deed : De
 -- ---- the laws
 
 -- what holds at a cell that is open to the definition
-pub at-open : (d : Definition) (k : Cell) (m : Member Act) (P : Cell → Member Act → Type 0) → ((t : ℕ) (a : Member Act) (b : Member Batch) → k ≡ Held d mark.Open t a b → P (Held d mark.Open t a b) a) → IsOpenTo d k → admin_stand k ≡ There d m → P k m
-at-open d k m P f o is = subst (λ (z : Cell). P z m) (sym o.3) (subst (λ (z : Member Act). P (Held d mark.Open o.0 o.1 o.2) z) (there_is d d o.1 m (sym (ap admin_stand o.3) ∙ is)).1 (f o.0 o.1 o.2 o.3))
+pub at-open : (d : Definition) (k : Cell) (m : Member Act) (P : Cell → Member Act → Type 0) → ((t : ℕ) (a : Member Act) (b : Member Batch) → k ≡ Held d mark.Open t a b → P (Held d mark.Open t a b) a) → IsOpenTo d k → admin_presence k ≡ There d m → P k m
+at-open d k m P f o is = subst (λ (z : Cell). P z m) (sym o.3) (subst (λ (z : Member Act). P (Held d mark.Open o.0 o.1 o.2) z) (there_is d d o.1 m (sym (ap admin_presence o.3) ∙ is)).1 (f o.0 o.1 o.2 o.3))
 
 pub act-shaped : (d : Definition) → broken d ≡ None → IsShaped act_shape IsOpenTo d
 act-shaped d ruled = record {
@@ -168,13 +169,13 @@ act-shaped d ruled = record {
       (λ t a b e. acts-pass d c n from t a b x ruled o) met.on met.stands;
 }
   where
-    heard : (c n from : Node) (k : Cell) (m : Member Act) (i : Node) (x y : CommitMsg Act) → has_node d.members from ≡ true → (generation_of x == d.generation) ≡ true → x ≡ y → IsOpenTo d k → admin_stand k ≡ There d m
+    heard : (c n from : Node) (k : Cell) (m : Member Act) (i : Node) (x y : CommitMsg Act) → has_node d.members from ≡ true → (generation_of x == d.generation) ≡ true → x ≡ y → IsOpenTo d k → admin_presence k ≡ There d m
         → Gives act_shape d n k (plan_of n c k (event.Deliver from (message.Admin i x))) (after_row admin_lane d n m (group.From (position d.members from) y)) (plan_row admin_lane d n m (group.From (position d.members from) y)).sends
     heard c n from k m i x y h g same on is = subst (λ (u : CommitMsg Act). Gives act_shape d n k (plan_of n c k (event.Deliver from (message.Admin i x))) (after_row admin_lane d n m (group.From (position d.members from) u)) (plan_row admin_lane d n m (group.From (position d.members from) u)).sends) same
         (at-open d k m (λ z a. Gives act_shape d n z (plan_of n c z (event.Deliver from (message.Admin i x))) (after_row admin_lane d n a (group.From (position d.members from) x)) (plan_row admin_lane d n a (group.From (position d.members from) x)).sends)
         (λ t a b e. acts-hear d c n from t a b i x ruled h g) on is)
 
-    hears : (c n from : Node) (k : Cell) (m : Member Act) (x : Message) (y : CommitMsg Act) → has_node d.members from ≡ true → own_act d from n x ≡ Some y → IsOpenTo d k → admin_stand k ≡ There d m
+    hears : (c n from : Node) (k : Cell) (m : Member Act) (x : Message) (y : CommitMsg Act) → has_node d.members from ≡ true → own_act d from n x ≡ Some y → IsOpenTo d k → admin_presence k ≡ There d m
         → Gives act_shape d n k (plan_of n c k (event.Deliver from x)) (after_row admin_lane d n m (group.From (position d.members from) y)) (plan_row admin_lane d n m (group.From (position d.members from) y)).sends
     hears c n from k m (message.Scabbard i s t x) y h o on is = absurd (let z : ◌≡◌ {A = Option (CommitMsg Act)} None (Some y) = o in cc)
     hears c n from k m (message.Admin i x) y h o on is = go (bool_cases (generation_of x == d.generation))

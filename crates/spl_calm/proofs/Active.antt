@@ -19,19 +19,16 @@ use Rattle.spl_circuit.specs.Equality.{same_definition}
 use Rattle.spl_circuit.specs.Lifecycle.{Life, life, is_active, is_proposed}
 use Rattle.spl_circuit.specs.Acts.{reason, misfit, misfit_kind, misfit_vote, is_first, act_rules}
 use Rattle.spl_rules.specs.Cells.{runs}
-use Rattle.spl_model.proofs.Lane.{group_of, all_committed, history-after}
-use Rattle.spl_model.proofs.Coupling.{admin_lane}
+use Rattle.spl_agreement.proofs.GroupOfDefinition.{group_of, all_committed, history-after}
+use Rattle.spl_agreement.proofs.GroupWorlds.{admin_lane}
 
 some_none : (x : Reason) → Some x ≡ None → ⊥
 some_none x h = cc
 
 -- what is active is proposed no more
 pub active-proposed : (l : Lifecycle) → is_active l ≡ true → is_proposed l ≡ false
-active-proposed lifecycle.None h = refl
 active-proposed lifecycle.Proposed h = cc
-active-proposed lifecycle.Active h = refl
-active-proposed lifecycle.Rejected h = refl
-active-proposed lifecycle.Removed h = refl
+active-proposed _ h = refl
 
 -- no act is good behind acts that made the circuit active
 pub no-vote : (l : Life) (n : Node) → is_active l.state ≡ true → misfit_vote l n ≡ None → ⊥
@@ -43,9 +40,8 @@ no-kind d acts n (kind.Propose e) h = if_holds (λ (o : Option Reason). o ≡ No
     first : (xs : List Act) → is_active (life d xs).state ≡ true → (if is_first xs then None else Some (reason 2)) ≡ None → ⊥
     first [] x k = cc
     first (y ∷ ys) x k = some_none _ k
-no-kind d acts n kind.Accept h = no-vote (life d acts) n h
-no-kind d acts n kind.Reject h = no-vote (life d acts) n h
 no-kind d acts n kind.Remove h = λ k. some_none _ (rw (active-proposed (life d acts).state h) at k)
+no-kind d acts n _ h = no-vote (life d acts) n h
 
 pub no-more : (d : Definition) (acts : List Act) (v : Act) → is_active (life d acts).state ≡ true → misfit d acts v ≡ None → ⊥
 no-more d acts v h = if_holds (λ (o : Option Reason). o ≡ None → ⊥) (is_member d v.node) _ _ (λ q. no-kind d acts v.node v.kind h) (λ q k. some_none _ k)

@@ -26,9 +26,10 @@ use Rattle.spl_rules.specs.Cells.{Cell, Held, is_open_cell, Deed, Acts, Serves, 
 use Rattle.spl_rules.specs.Batches.{routed, way, hears_routed, serves_other}
 use Rattle.spl_rules.specs.Plans.{planned, plan_of, admin_sends, service_sends, service_on}
 use Rattle.spl_settle.specs.Calm.{mail}
-use Rattle.spl_model.proofs.Nodes.{node_same, position-below}
-use Rattle.spl_model.proofs.Lane.{AllPosts, There, there_is, after_row, plan_row, group_of}
-use Rattle.spl_model.proofs.Coupling.{admin_lane, service_lane, service_stand}
+use Rattle.spl_model.proofs.Nodes.{node_same}
+use Rattle.spl_agreement.proofs.Positions.{position-below}
+use Rattle.spl_agreement.proofs.GroupOfDefinition.{AllPosts, There, there_is, after_row, plan_row, group_of}
+use Rattle.spl_agreement.proofs.GroupWorlds.{admin_lane, service_lane, service_presence}
 use Rattle.spl_calm.proofs.Places.{route-members, route-from}
 use Rattle.spl_calm.proofs.Pairs.{to_node, to_node-append}
 use Rattle.spl_calm.proofs.Shapes.{Shape, owned, owns, owns-append, Gives, IsMet, IsShaped}
@@ -47,7 +48,7 @@ own_batch d from to (message.Admin i x) = None
 own_batch d from to (message.Scabbard i s t x) = if generation_of x == d.generation && goes (route (Some d) true from s t to) then Some x else None
 
 abbrev pub batch_shape : Shape Batch
-batch_shape = record { lane = service_lane; stand = service_stand; own = own_batch }
+batch_shape = record { lane = service_lane; stand = service_presence; own = own_batch }
 
 -- bound to the definition, open, and active
 abbrev pub IsActiveIn : Definition → Cell → Type 0
@@ -89,14 +90,14 @@ BatchGives d n k c deed m ss = Gives batch_shape d n k (planned n c deed) m ss
 pub batches-serves : (d : Definition) (c n back : Node) (t : ℕ) (a : Member Act) (b : Member Batch) (say : Note → Answer) (e : GroupEvent Batch) → broken d ≡ None → has_node d.members n ≡ true → AllPosts (Lands d n back) (plan_row service_lane d n b e).sends → BatchGives d n (Held d mark.Open t a b) c (Serves say d b back e) (after_row service_lane d n b e) (plan_row service_lane d n b e).sends
 batches-serves d c n back t a b say e ruled here all =
     let x : _ ≡ Held d mark.Open t a (after_row service_lane d n b e) = after-serves n d mark.Open t a b (plan_row service_lane d n b e) in record {
-      stands = ap service_stand x;
+      stands = ap service_presence x;
       sends = λ y k dif. mail-batches d c n back y (plan_row service_lane d n b e).sends ruled here k dif all;
     }
 
 pub batches-acts : (d : Definition) (c n back : Node) (t : ℕ) (a : Member Act) (b : Member Batch) (say : Note → Answer) (e : GroupEvent Act) → BatchGives d n (Held d mark.Open t a b) c (Acts say d a back e) b []
 batches-acts d c n back t a b say e =
     let x : (u : ℕ) × (_ ≡ Held d mark.Open u (after_row admin_lane d n a e) b) = after-acts n d mark.Open t a b (plan_row admin_lane d n a e) in record {
-      stands = ap service_stand x.1;
+      stands = ap service_presence x.1;
       sends = λ y k dif. none-of-acts d c n back y (plan_row admin_lane d n a e).sends;
     }
 
@@ -105,7 +106,7 @@ batches-turns d c n t a b e f ruled here all =
     let p : GroupPlan Act = plan_row admin_lane d n a e in
     let q : GroupPlan Batch = plan_row service_lane d n b f in
     let x : (u : ℕ) × (_ ≡ Held d mark.Open u (after_row admin_lane d n a e) (after_row service_lane d n b f)) = after-both n d mark.Open t a b p q in record {
-      stands = ap service_stand x.1;
+      stands = ap service_presence x.1;
       sends = λ y k dif.
           ap (λ z. owns (own_batch d n y) z) (to_node-append y (admin_sends c d n p.sends) (service_sends n c d n q.sends))
           ∙ (owns-append (own_batch d n y) (to_node y (admin_sends c d n p.sends)) (to_node y (service_sends n c d n q.sends))
@@ -170,8 +171,8 @@ batches-pass d c n from t a b (message.Scabbard i s u x) ruled h o = batches-rou
 -- ---- the laws
 
 -- what holds at a cell that is active
-pub at-active : (d : Definition) (k : Cell) (m : Member Batch) (P : Cell → Member Batch → Type 0) → ((t : ℕ) (a : Member Act) (b : Member Batch) → k ≡ Held d mark.Open t a b → runs d a ≡ true → P (Held d mark.Open t a b) b) → IsActiveIn d k → service_stand k ≡ There d m → P k m
-at-active d k m P f o is = subst (λ (z : Cell). P z m) (sym o.3) (subst (λ (z : Member Batch). P (Held d mark.Open o.0 o.1 o.2) z) (there_is d d o.2 m (sym (ap service_stand o.3) ∙ is)).1 (f o.0 o.1 o.2 o.3 o.4))
+pub at-active : (d : Definition) (k : Cell) (m : Member Batch) (P : Cell → Member Batch → Type 0) → ((t : ℕ) (a : Member Act) (b : Member Batch) → k ≡ Held d mark.Open t a b → runs d a ≡ true → P (Held d mark.Open t a b) b) → IsActiveIn d k → service_presence k ≡ There d m → P k m
+at-active d k m P f o is = subst (λ (z : Cell). P z m) (sym o.3) (subst (λ (z : Member Batch). P (Held d mark.Open o.0 o.1 o.2) z) (there_is d d o.2 m (sym (ap service_presence o.3) ∙ is)).1 (f o.0 o.1 o.2 o.3 o.4))
 
 pub batch-shaped : (d : Definition) → broken d ≡ None → IsShaped batch_shape IsActiveIn d
 batch-shaped d ruled = record {

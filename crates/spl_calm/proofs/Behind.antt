@@ -6,9 +6,9 @@ use Rattle.spl_circuit.specs.declared.act.Act.{Act}
 use Rattle.spl_circuit.specs.Nodes.{Node}
 use Rattle.spl_circuit.specs.Rules.{admin, service, is_member}
 use Rattle.spl_command.specs.declared.batch.Batch.{Batch}
-use Rattle.spl_model.specs.Worlds.{Occurrence}
+use Rattle.spl_model.specs.Worlds.{Occurrence, world_behind}
 use Rattle.spl_model.specs.Calm.{calm}
-use Rattle.spl_model.specs.Agreement.{world_behind, AllPlain}
+use Rattle.spl_model.specs.Plain.{AllPlain}
 use Rattle.spl_calm.specs.Settled.{acts_kept, batches_kept, AtMembers, IsWhole, IsActiveAll, IsSettled}
 use Rattle.spl_calm.proofs.Circuits.{some-member, behind, calm-acts, calm-batches}
 

@@ -2,23 +2,24 @@
 use Rattle.std.proofs.Common.{◌≡◌, ℕ, ◌+◌, ◌≤◌, ◌⊎◌, true, List, [], ◌∷◌, length, refl, sym, ap, subst, ◌∙◌, inl, inr}
 use Rattle.std.specs.Prelude.{None}
 use Rattle.spl_agree.specs.Member.{Member}
-use Rattle.spl_agree.specs.World as one
+use Rattle.spl_agree.specs.World.{World as GroupWorld}
 use Rattle.spl_circuit.specs.declared.definition.Definition.{Definition}
 use Rattle.spl_circuit.specs.declared.act.Act.{Act}
 use Rattle.spl_circuit.specs.declared.lifecycle.Mark.{Mark}
 use Rattle.spl_circuit.specs.Nodes.{Node, has_node, position}
 use Rattle.spl_circuit.specs.Rules.{broken, admin, service, is_member}
 use Rattle.spl_command.specs.declared.batch.Batch.{Batch}
-use Rattle.spl_rules.specs.Cells.{Cell, Empty, Held, Purged, runs}
+use Rattle.spl_rules.specs.Cells.{Cell, Held, runs}
 use Rattle.spl_settle.specs.Bound.{InHistory, IsPending, IsRefused, Settles}
-use Rattle.spl_model.specs.Worlds.{Sent, World, first_world, Occurrence}
+use Rattle.spl_model.specs.Worlds.{Sent, World, first_world, Occurrence, world_behind}
 use Rattle.spl_model.specs.Calm.{calm}
-use Rattle.spl_model.specs.Agreement.{world_behind, AllPlain}
-use Rattle.spl_model.proofs.Nodes.{node_same, position-below}
-use Rattle.spl_model.proofs.Rosters.{roster}
-use Rattle.spl_model.proofs.Lane.{Lane, There, there_is, away_not, group_of}
-use Rattle.spl_model.proofs.Coupling.{admin_lane, service_lane, admin_stand, service_stand, admin_said, service_said, IsValid, IsValidCell}
-use Rattle.spl_model.proofs.Runs.{world-start}
+use Rattle.spl_model.specs.Plain.{AllPlain}
+use Rattle.spl_model.proofs.Nodes.{node_same}
+use Rattle.spl_agreement.proofs.Positions.{position-below}
+use Rattle.spl_agreement.proofs.Rosters.{roster}
+use Rattle.spl_agreement.proofs.GroupOfDefinition.{Lane, There, there_is, away_not, group_of}
+use Rattle.spl_agreement.proofs.GroupWorlds.{admin_lane, service_lane, admin_presence, service_presence, admin_said, service_said, IsValid, IsValidCell}
+use Rattle.spl_agreement.proofs.Occurrences.{world-start}
 use Rattle.spl_calm.specs.Settled.{cell_acts, cell_batches, acts_kept, batches_kept, IsOpenIn, AtMembers, IsWhole, IsActiveAll, IsSettled}
 use Rattle.spl_calm.proofs.Coupled.{IsCoupled}
 use Rattle.spl_calm.proofs.Lasting.{IsCarried}
@@ -32,9 +33,8 @@ use Rattle.spl_calm.proofs.Settles.{IsReached, reached-lane, fit-lane, IsCalm, a
 -- ---- cells
 
 pub open-to : (d : Definition) (k : Cell) → IsOpenIn d k → IsOpenTo d k
-open-to d Empty o = absurd o
-open-to d (Purged old) o = absurd o
 open-to d (Held e m t a b) o = (t, a, b, ap (λ (z : Definition). Held z m t a b) o.0 ∙ ap (λ (z : Mark). Held d z t a b) o.1)
+open-to d _ o = absurd o
 
 pub open-in : (d : Definition) (k : Cell) → IsOpenTo d k → IsOpenIn d k
 open-in d k o = subst (IsOpenIn d) (sym o.3) (refl, refl)
@@ -49,25 +49,21 @@ pub active-runs : (d : Definition) (k : Cell) → IsActiveIn d k → runs d (cel
 active-runs d k o = subst (λ (z : Cell). runs d (cell_acts z) ≡ true) (sym o.3) o.4
 
 -- what the lanes see of a cell is what it keeps
-pub acts-there : (d : Definition) (k : Cell) (m : Member Act) → admin_stand k ≡ There d m → cell_acts k ≡ m
-acts-there d Empty m h = absurd (away_not d m h)
-acts-there d (Purged old) m h = absurd (away_not d m h)
+pub acts-there : (d : Definition) (k : Cell) (m : Member Act) → admin_presence k ≡ There d m → cell_acts k ≡ m
 acts-there d (Held e x t a b) m h = (there_is e d a m h).1
+acts-there d _ m h = absurd (away_not d m h)
 
-pub batches-there : (d : Definition) (k : Cell) (m : Member Batch) → service_stand k ≡ There d m → cell_batches k ≡ m
-batches-there d Empty m h = absurd (away_not d m h)
-batches-there d (Purged old) m h = absurd (away_not d m h)
+pub batches-there : (d : Definition) (k : Cell) (m : Member Batch) → service_presence k ≡ There d m → cell_batches k ≡ m
 batches-there d (Held e x t a b) m h = (there_is e d b m h).1
+batches-there d _ m h = absurd (away_not d m h)
 
-pub tame-acts : (n : Node) (sent : List Sent) (count : ℕ) (k : Cell) (d : Definition) (m : Member Act) → IsTameCell n sent count k → admin_stand k ≡ There d m → IsTame admin_lane d n (admin_said sent) count m
-tame-acts n sent count Empty d m t h = absurd (away_not d m h)
-tame-acts n sent count (Purged old) d m t h = absurd (away_not d m h)
+pub tame-acts : (n : Node) (sent : List Sent) (count : ℕ) (k : Cell) (d : Definition) (m : Member Act) → IsTameCell n sent count k → admin_presence k ≡ There d m → IsTame admin_lane d n (admin_said sent) count m
 tame-acts n sent count (Held e x u a b) d m t h = let p : (e ≡ d) × (a ≡ m) = there_is e d a m h in subst (λ (z : Definition). IsTame admin_lane z n (admin_said sent) count m) p.0 (subst (λ (z : Member Act). IsTame admin_lane e n (admin_said sent) count z) p.1 t.0)
+tame-acts n sent count _ d m t h = absurd (away_not d m h)
 
-pub tame-batches : (n : Node) (sent : List Sent) (count : ℕ) (k : Cell) (d : Definition) (m : Member Batch) → IsTameCell n sent count k → service_stand k ≡ There d m → IsTame service_lane d n (service_said sent) count m
-tame-batches n sent count Empty d m t h = absurd (away_not d m h)
-tame-batches n sent count (Purged old) d m t h = absurd (away_not d m h)
+pub tame-batches : (n : Node) (sent : List Sent) (count : ℕ) (k : Cell) (d : Definition) (m : Member Batch) → IsTameCell n sent count k → service_presence k ≡ There d m → IsTame service_lane d n (service_said sent) count m
 tame-batches n sent count (Held e x u a b) d m t h = let p : (e ≡ d) × (b ≡ m) = there_is e d b m h in subst (λ (z : Definition). IsTame service_lane z n (service_said sent) count m) p.0 (subst (λ (z : Member Batch). IsTame service_lane e n (service_said sent) count z) p.1 t.1)
+tame-batches n sent count _ d m t h = absurd (away_not d m h)
 
 -- ---- worlds
 
@@ -90,7 +86,7 @@ some-member d = go d.members refl
     go (m ∷ ms) e = inl (m, subst (λ (xs : List Node). has_node xs m ≡ true) (sym e) (rw (node_same m)))
 
 -- a settled group shows in what the members keep
-pub settled-from : {V : Type 0} (lane : Lane V) (d : Definition) (v : V) (w : one.World V) (kept : Node → Member V) → broken d ≡ None → has_node d.members (lane.leader d) ≡ true → ((n : Node) → has_node d.members n ≡ true → kept n ≡ w.at (position d.members n)) → Settles (group_of lane d) v w → IsSettled d (lane.leader d) v kept
+pub settled-from : {V : Type 0} (lane : Lane V) (d : Definition) (v : V) (w : GroupWorld V) (kept : Node → Member V) → broken d ≡ None → has_node d.members (lane.leader d) ≡ true → ((n : Node) → has_node d.members n ≡ true → kept n ≡ w.at (position d.members n)) → Settles (group_of lane d) v w → IsSettled d (lane.leader d) v kept
 settled-from {V} lane d v w kept ruled leads same (inl h) = inl (λ n m. subst (λ (z : Member V). InHistory v z) (sym (same n m)) (h (position d.members n) (position-below d.members n m)))
 settled-from {V} lane d v w kept ruled leads same (inr h) = inr (
   subst (λ (z : Member V). IsRefused v z) (sym (same (lane.leader d) leads)) h.0,
@@ -111,7 +107,7 @@ pub record ActsCalm (c : Node) (k count : ℕ) (w : World) (d : Definition) : Ty
   pub idles : AtMembers d (λ j. (acts_kept w j).pending ≡ []) → (acts_kept w (admin d)).opened ≡ None → (acts_kept (calm c w k).world (admin d)).history ≡ (acts_kept w (admin d)).history
 
 pub calm-acts : (c : Node) (k count : ℕ) (w : World) (d : Definition) (n : Node) → IsCoupled w → AllTame count w → IsWhole w d → is_member d n ≡ true → ActsCalm c k count w d
-calm-acts c k count w d n coupled tame whole member = go (reached-lane admin_lane d count coupled.0 (λ j. admin_stand (w.at j)) (admin_said w.sent) (coupled.1 d) leads there (λ j m h. tame-acts j w.sent count (w.at j) d m (tame j) h) (coupled.3.admins d))
+calm-acts c k count w d n coupled tame whole member = go (reached-lane admin_lane d count coupled.0 (λ j. admin_presence (w.at j)) (admin_said w.sent) (coupled.1 d) leads there (λ j m h. tame-acts j w.sent count (w.at j) d m (tame j) h) (coupled.3.admins d))
   where
     ruled : broken d ≡ None
     ruled = ruled-whole w d n coupled whole member
@@ -119,10 +115,10 @@ calm-acts c k count w d n coupled tame whole member = go (reached-lane admin_lan
     leads : has_node d.members (admin d) ≡ true
     leads = (roster d ruled).admin_in
 
-    there : (j : Node) → has_node d.members j ≡ true → (m : Member Act) × (admin_stand (w.at j) ≡ There d m)
-    there j h = let o : IsOpenTo d (w.at j) = open-to d (w.at j) (whole.open_cells j h) in (o.1, ap admin_stand o.3)
+    there : (j : Node) → has_node d.members j ≡ true → (m : Member Act) × (admin_presence (w.at j) ≡ There d m)
+    there j h = let o : IsOpenTo d (w.at j) = open-to d (w.at j) (whole.open_cells j h) in (o.1, ap admin_presence o.3)
 
-    go : (g : one.World Act) × IsReached admin_lane d count (λ j. admin_stand (w.at j)) g → ActsCalm c k count w d
+    go : (g : GroupWorld Act) × IsReached admin_lane d count (λ j. admin_presence (w.at j)) g → ActsCalm c k count w d
     go r = calmed (calm-group act_shape IsOpenTo d (CellsAre d (IsOpenTo d)) (acts-carried d ruled) c k w r.0 (coupled, λ j h. open-to d (w.at j) (whole.open_cells j h)) (record { registered = whole.registered; up = whole.up; same = r.1.same }))
       where
         mine : (j : Node) → has_node d.members j ≡ true → acts_kept w j ≡ r.0.at (position d.members j)
@@ -131,7 +127,7 @@ calm-acts c k count w d n coupled tame whole member = go (reached-lane admin_lan
         calmed : IsCalm act_shape d (CellsAre d (IsOpenTo d)) k (calm c w k) r.0 → ActsCalm c k count w d
         calmed x = record {
           whole = record { registered = x.calmed.registered; up = x.calmed.up; open_cells = λ j h. open-in d ((calm c w k).world.at j) (x.inv.1 j h) };
-          settles = λ v rest few six first. settled-from admin_lane d v x.group (acts_kept (calm c w k).world) ruled leads theirs (x.settles v rest six (fit-lane admin_lane d count (λ j. admin_stand (w.at j)) r.0 (keyed-acts d) ruled leads few r.1) (subst (λ (z : Member Act). z.pending ≡ v ∷ rest) (mine (admin d) leads) first));
+          settles = λ v rest few six first. settled-from admin_lane d v x.group (acts_kept (calm c w k).world) ruled leads theirs (x.settles v rest six (fit-lane admin_lane d count (λ j. admin_presence (w.at j)) r.0 (keyed-acts d) ruled leads few r.1) (subst (λ (z : Member Act). z.pending ≡ v ∷ rest) (mine (admin d) leads) first));
           idles = λ empty shut.
               ap (λ (z : Member Act). z.history) (theirs (admin d) leads)
               ∙ (x.idles (λ j h. subst (λ (z : Member Act). z.pending ≡ []) (mine j h) (empty j h)) (subst (λ (z : Member Act). z.opened ≡ None) (mine (admin d) leads) shut)
@@ -154,22 +150,22 @@ pub record BatchesCalm (c : Node) (k count : ℕ) (w : World) (d : Definition) :
 
 -- by any fact that carries the group
 pub calm-batches-by : (c : Node) (k count : ℕ) (w : World) (d : Definition) (Inv : World → (Node → Node → ℕ) → Type 0) → IsCarried batch_shape IsActiveIn d Inv → Inv w (all_taken w) → IsCoupled w → AllTame count w → IsWhole w d → BatchesCalm c k count w d
-calm-batches-by c k count w d Inv run inv coupled tame whole = go (reached-lane service_lane d count coupled.0 (λ j. service_stand (w.at j)) (service_said w.sent) (coupled.2 d) leads there (λ j m h. tame-batches j w.sent count (w.at j) d m (tame j) h) (coupled.3.services d))
+calm-batches-by c k count w d Inv run inv coupled tame whole = go (reached-lane service_lane d count coupled.0 (λ j. service_presence (w.at j)) (service_said w.sent) (coupled.2 d) leads there (λ j m h. tame-batches j w.sent count (w.at j) d m (tame j) h) (coupled.3.services d))
   where
     leads : has_node d.members (service d) ≡ true
     leads = (roster d run.ruled).service_in
 
-    there : (j : Node) → has_node d.members j ≡ true → (m : Member Batch) × (service_stand (w.at j) ≡ There d m)
-    there j h = let o : IsOpenTo d (w.at j) = open-to d (w.at j) (whole.open_cells j h) in (o.2, ap service_stand o.3)
+    there : (j : Node) → has_node d.members j ≡ true → (m : Member Batch) × (service_presence (w.at j) ≡ There d m)
+    there j h = let o : IsOpenTo d (w.at j) = open-to d (w.at j) (whole.open_cells j h) in (o.2, ap service_presence o.3)
 
-    go : (g : one.World Batch) × IsReached service_lane d count (λ j. service_stand (w.at j)) g → BatchesCalm c k count w d
+    go : (g : GroupWorld Batch) × IsReached service_lane d count (λ j. service_presence (w.at j)) g → BatchesCalm c k count w d
     go r = calmed (calm-group batch_shape IsActiveIn d Inv run c k w r.0 inv (record { registered = whole.registered; up = whole.up; same = r.1.same }))
       where
         calmed : IsCalm batch_shape d Inv k (calm c w k) r.0 → BatchesCalm c k count w d
         calmed x = record {
           active = λ j h. active-runs d ((calm c w k).world.at j) (run.on (calm c w k).world (calm c w k).taken x.inv j h);
           settles = λ v rest few six first. settled-from service_lane d v x.group (batches_kept (calm c w k).world) run.ruled leads (λ j h. batches-there d ((calm c w k).world.at j) (x.group.at (position d.members j)) (x.calmed.same j h))
-              (x.settles v rest six (fit-lane service_lane d count (λ j. service_stand (w.at j)) r.0 keyed-batches run.ruled leads few r.1)
+              (x.settles v rest six (fit-lane service_lane d count (λ j. service_presence (w.at j)) r.0 keyed-batches run.ruled leads few r.1)
               (subst (λ (z : Member Batch). z.pending ≡ v ∷ rest) (batches-there d (w.at (service d)) (r.0.at (position d.members (service d))) (r.1.same (service d) leads)) first));
         }
 

@@ -9,11 +9,12 @@ use Rattle.spl_sched.specs.declared.line.Step.{Step}
 use Rattle.spl_rules.specs.Cells.{Cell}
 use Rattle.spl_rules.specs.Changes.{after_plan}
 use Rattle.spl_model.specs.Worlds.{World, Occurrence, Steps, carried_out, step_world, happens}
-use Rattle.spl_model.specs.Agreement.{IsPlain, IsPlainStep}
-use Rattle.spl_model.proofs.Coupling.{IsValidCell, InWorld}
-use Rattle.spl_model.proofs.Steps.{Past}
-use Rattle.spl_model.proofs.Deeds.{put_at-same, SomePast}
-use Rattle.spl_model.proofs.Runs.{happens-keeps}
+use Rattle.spl_model.specs.Plain.{IsPlain, IsPlainStep}
+use Rattle.spl_agreement.proofs.GroupWorlds.{IsValidCell, InWorld}
+use Rattle.spl_agreement.proofs.CoupledSteps.{Past}
+use Rattle.spl_model.proofs.Puts.{put_at-same}
+use Rattle.spl_agreement.proofs.CoupledDeeds.{SomePast}
+use Rattle.spl_agreement.proofs.Occurrences.{happens-keeps}
 
 -- there are bindings and lists with which the groups are coupled with the cells
 abbrev pub IsCoupled : World → Type 0

@@ -18,8 +18,8 @@ use Rattle.spl_rules.specs.Plans.{plan_of}
 use Rattle.spl_settle.specs.Calm.{Calm, left, ticked, delivered, deliver, turn_by}
 use Rattle.spl_settle.proofs.Moves.{left-same, left-cases}
 use Rattle.spl_model.specs.Worlds.{World, messages, carried_out, delivery, step_plan, step_world}
-use Rattle.spl_model.proofs.Nodes.{position-apart, position-below}
-use Rattle.spl_model.proofs.Lane.{group_of}
+use Rattle.spl_agreement.proofs.Positions.{position-apart, position-below}
+use Rattle.spl_agreement.proofs.GroupOfDefinition.{group_of}
 use Rattle.spl_calm.proofs.Shapes.{Shape, owned, owns, Gives, IsMet}
 use Rattle.spl_calm.proofs.Idles.{gives-still}
 use Rattle.spl_calm.proofs.Lasting.{took, took-same, took-cases, IsCarried}

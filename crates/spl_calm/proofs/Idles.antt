@@ -17,12 +17,12 @@ use Rattle.spl_circuit.specs.Rules.{admin, is_member}
 use Rattle.spl_command.specs.declared.batch.Batch.{Batch}
 use Rattle.spl_wire.specs.declared.message.Message.{Message}
 use Rattle.spl_wire.specs.declared.message.Message.TheVariants as message
-use Rattle.spl_rules.specs.Cells.{Cell, Held, Deed, Refuses, Tells, Replies, Binds, Acts, Serves, Turns, Abandons, Purges, can_bind, asked_first, forwarded_first, hears_first}
+use Rattle.spl_rules.specs.Cells.{Cell, Held, Deed, Refuses, Tells, Replies, can_bind, asked_first, forwarded_first, hears_first}
 use Rattle.spl_rules.specs.Batches.{serves_other}
 use Rattle.spl_rules.specs.Plans.{planned}
-use Rattle.spl_model.proofs.Lane.{There}
-use Rattle.spl_model.proofs.Fair.{bind-facts}
-use Rattle.spl_model.proofs.Deeds.{moved-keep}
+use Rattle.spl_agreement.proofs.GroupOfDefinition.{There}
+use Rattle.spl_agreement.proofs.DeedsAreSteps.{bind-facts}
+use Rattle.spl_model.proofs.Unmoved.{moved-keep}
 use Rattle.spl_calm.proofs.Shapes.{Shape, owned, owns, Gives}
 
 -- nothing changes, and nothing of the group is sent
@@ -30,27 +30,17 @@ abbrev pub IsIdle : {V : Type 0} → Shape V → Definition → Node → Deed �
 IsIdle s d n (Refuses r) = Unit {0}
 IsIdle s d n (Tells a) = Unit {0}
 IsIdle s d n (Replies note to m) = (y : Node) → s.own d n y m ≡ None
-IsIdle s d n (Binds say e back x) = ⊥
-IsIdle s d n (Acts say e a back x) = ⊥
-IsIdle s d n (Serves say e b back x) = ⊥
-IsIdle s d n (Turns e a b x y) = ⊥
-IsIdle s d n Abandons = ⊥
-IsIdle s d n Purges = ⊥
+IsIdle s d n _ = ⊥
 
 -- a cell stays
 pub gives-still : {V : Type 0} (s : Shape V) (d : Definition) (c n : Node) (k : Cell) (m : Member V) (deed : Deed) → IsIdle s d n deed → s.stand k ≡ There d m → Gives s d n k (planned n c deed) m []
-gives-still {V} s d c n k m (Refuses r) idle is = record { stands = ap s.stand (moved-keep n k) ∙ is; sends = λ y h e. refl }
-gives-still {V} s d c n k m (Tells a) idle is = record { stands = ap s.stand (moved-keep n k) ∙ is; sends = λ y h e. refl }
 gives-still {V} s d c n k m (Replies note to x) idle is = record {
   stands = ap s.stand (moved-keep n k) ∙ is;
   sends = λ y h e. if_holds (λ (z : List Message). owns (s.own d n y) z ≡ []) (bytes_eq to y) _ _ (λ q. ap (λ (o : Option (CommitMsg V)). owned o []) (idle y)) (λ q. refl);
 }
-gives-still s d c n k m (Binds say e back x) idle is = absurd idle
-gives-still s d c n k m (Acts say e a back x) idle is = absurd idle
-gives-still s d c n k m (Serves say e b back x) idle is = absurd idle
-gives-still s d c n k m (Turns e a b x y) idle is = absurd idle
-gives-still s d c n k m Abandons idle is = absurd idle
-gives-still s d c n k m Purges idle is = absurd idle
+gives-still {V} s d c n k m (Refuses r) idle is = record { stands = ap s.stand (moved-keep n k) ∙ is; sends = λ y h e. refl }
+gives-still {V} s d c n k m (Tells a) idle is = record { stands = ap s.stand (moved-keep n k) ∙ is; sends = λ y h e. refl }
+gives-still s d c n k m _ idle is = absurd idle
 
 -- a reply to a message of acts is one of its generation
 abbrev pub Declines : {V : Type 0} → Shape V → Definition → Node → Node → ℕ → Type 0
@@ -63,8 +53,7 @@ idle-asked {V} s d n c e m t a b from gen r place v (kind.Propose f) h =
     (λ q. absurd (bind-facts n c (Held e m t a b) gen f (and_left (can_bind n c (Held e m t a b) gen f) _ (and_right (place == 0) _ q))).2)
     (λ q y. h y (msg.Vote gen r false) refl)
 idle-asked s d n c e m t a b from gen r place v kind.Accept h = λ y. h y (msg.Vote gen r false) refl
-idle-asked s d n c e m t a b from gen r place v kind.Reject h = λ y. h y (msg.Vote gen r false) refl
-idle-asked s d n c e m t a b from gen r place v kind.Remove h = λ y. h y (msg.Vote gen r false) refl
+idle-asked s d n c e m t a b from gen r place v _ h = λ y. h y (msg.Vote gen r false) refl
 
 pub idle-forwarded : {V : Type 0} (s : Shape V) (d : Definition) (n c : Node) (e : Definition) (m : Mark) (t : ℕ) (a : Member Act) (b : Member Batch) (from : Node) (gen : ℕ) (v : Act) (w : ActKind) → Declines s d n c gen → IsIdle s d n (forwarded_first n c (Held e m t a b) from gen v w)
 idle-forwarded {V} s d n c e m t a b from gen v (kind.Propose f) h =
@@ -72,22 +61,14 @@ idle-forwarded {V} s d n c e m t a b from gen v (kind.Propose f) h =
     (λ q. absurd (bind-facts n c (Held e m t a b) gen f (and_left (can_bind n c (Held e m t a b) gen f) _ q)).2)
     (λ q y. h y (msg.Refused gen v _) refl)
 idle-forwarded s d n c e m t a b from gen v kind.Accept h = tt
-idle-forwarded s d n c e m t a b from gen v kind.Reject h = tt
-idle-forwarded s d n c e m t a b from gen v kind.Remove h = tt
+idle-forwarded s d n c e m t a b from gen v _ h = tt
 
 pub idle-first : {V : Type 0} (s : Shape V) (d : Definition) (n c : Node) (e : Definition) (m : Mark) (t : ℕ) (a : Member Act) (b : Member Batch) (from : Node) (x : CommitMsg Act) → Declines s d n c (generation_of x) → IsIdle s d n (hears_first n c (Held e m t a b) from x)
 idle-first s d n c e m t a b from (msg.VoteRequest gen r place v) h = idle-asked s d n c e m t a b from gen r place v v.kind h
-idle-first s d n c e m t a b from (msg.Vote gen r aye) h = tt
-idle-first s d n c e m t a b from (msg.Decision gen r commit) h = tt
-idle-first s d n c e m t a b from (msg.DecisionRequest gen r) h = tt
 idle-first s d n c e m t a b from (msg.Forward gen v) h = idle-forwarded s d n c e m t a b from gen v v.kind h
-idle-first s d n c e m t a b from (msg.Refused gen v why) h = tt
+idle-first s d n c e m t a b from _ h = tt
 
 -- a message of batches of another generation
 pub idle-other : {V : Type 0} (s : Shape V) (d : Definition) (n c from i t : Node) (x : CommitMsg Batch) → ((y : Node) (z : CommitMsg Batch) → generation_of z ≡ generation_of x → s.own d n y (message.Scabbard c t i z) ≡ None) → IsIdle s d n (serves_other c from i t x)
 idle-other s d n c from i t (msg.VoteRequest gen r place v) h = λ y. h y (msg.Vote gen r false) refl
-idle-other s d n c from i t (msg.Vote gen r aye) h = tt
-idle-other s d n c from i t (msg.Decision gen r commit) h = tt
-idle-other s d n c from i t (msg.DecisionRequest gen r) h = tt
-idle-other s d n c from i t (msg.Forward gen v) h = tt
-idle-other s d n c from i t (msg.Refused gen v why) h = tt
+idle-other s d n c from i t _ h = tt

@@ -19,10 +19,11 @@ use Rattle.spl_command.specs.declared.batch.Batch.{Batch}
 use Rattle.spl_rules.specs.Cells.{Cell, Held}
 use Rattle.spl_rules.specs.Changes.{made, moved_cell}
 use Rattle.spl_rules.specs.Plans.{admin_changes, service_changes}
-use Rattle.spl_model.proofs.Nodes.{node_other, position-or}
-use Rattle.spl_model.proofs.Lane.{AllPosts, group_of}
-use Rattle.spl_model.proofs.Coupling.{admin_lane, service_lane}
-use Rattle.spl_model.proofs.Deeds.{made-admin, made-service, made-append}
+use Rattle.spl_model.proofs.Nodes.{node_other}
+use Rattle.spl_agreement.proofs.Positions.{position-or}
+use Rattle.spl_agreement.proofs.GroupOfDefinition.{AllPosts, group_of}
+use Rattle.spl_agreement.proofs.GroupWorlds.{admin_lane, service_lane}
+use Rattle.spl_agreement.proofs.CoupledDeeds.{made-admin, made-service, made-append}
 use Rattle.spl_calm.proofs.Places.{position-at, or-back}
 
 -- a message of the generation, to a member or back to this node

@@ -19,10 +19,11 @@ use Rattle.spl_rules.specs.Cells.{Cell, runs}
 use Rattle.spl_rules.specs.Changes.{after_plan}
 use Rattle.spl_rules.specs.Plans.{plan_of, tells_only}
 use Rattle.spl_model.specs.Worlds.{World, messages, delivery, step_plan, step_world, put_at}
-use Rattle.spl_model.specs.Agreement.{IsPlainStep}
+use Rattle.spl_model.specs.Plain.{IsPlainStep}
 use Rattle.spl_model.proofs.Nodes.{node_cases}
-use Rattle.spl_model.proofs.Coupling.{IsValidCell}
-use Rattle.spl_model.proofs.Deeds.{put_at-same, put_at-other, moved-keep}
+use Rattle.spl_agreement.proofs.GroupWorlds.{IsValidCell}
+use Rattle.spl_model.proofs.Puts.{put_at-same, put_at-other}
+use Rattle.spl_model.proofs.Unmoved.{moved-keep}
 use Rattle.spl_calm.proofs.ActShape.{IsOpenTo}
 use Rattle.spl_calm.proofs.BatchShape.{IsActiveIn}
 use Rattle.spl_calm.proofs.Stays.{StaysOpen, stays-tick, stays-deliver, stays-active}

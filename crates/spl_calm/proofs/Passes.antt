@@ -15,8 +15,9 @@ use Rattle.spl_settle.specs.Calm as group
 use Rattle.spl_settle.proofs.Orders.{pairs-more, pair-left, pair-right}
 use Rattle.spl_model.specs.Worlds.{World}
 use Rattle.spl_model.specs.Calm.{Calming, calming_step, open_nodes, ticks, pair_turn, to_all, from_all, pass, passes}
-use Rattle.spl_model.proofs.Nodes.{node_is, node_cases, position-apart, position-below}
-use Rattle.spl_model.proofs.Lane.{group_of}
+use Rattle.spl_model.proofs.Nodes.{node_is, node_cases}
+use Rattle.spl_agreement.proofs.Positions.{position-apart, position-below}
+use Rattle.spl_agreement.proofs.GroupOfDefinition.{group_of}
 use Rattle.spl_calm.proofs.Places.{or-member, position-at}
 use Rattle.spl_calm.proofs.Shapes.{Shape}
 use Rattle.spl_calm.proofs.Lasting.{IsCarried}

@@ -12,8 +12,10 @@ use Rattle.spl_circuit.specs.Routing.{Way, way_between, route}
 use Rattle.spl_circuit.proofs.Order.{below_trans, not_below_itself}
 use Rattle.spl_circuit.proofs.Valid.{members_ascend, services_ascend, few_members}
 use Rattle.spl_rules.specs.Plans.{or_none, service_on}
-use Rattle.spl_model.proofs.Nodes.{node_is, node_same, node_other, position-member, position-none, same_nodes_is}
-use Rattle.spl_model.proofs.Rosters.{AllTrue, all_true, has-sorted}
+use Rattle.spl_model.proofs.Nodes.{node_is, node_same, node_other}
+use Rattle.spl_agreement.proofs.Positions.{position-member, position-none}
+use Rattle.spl_agreement.proofs.Same.{same_nodes_is}
+use Rattle.spl_agreement.proofs.Rosters.{AllTrue, all_true, has-sorted}
 
 -- ---- positions
 
@@ -137,6 +139,5 @@ pub route-from : (d : Definition) (from s t here : Node) → broken d ≡ None �
 route-from d from s t here ruled h = served-member d from ruled (go (node_of_service d.services s) (node_of_service d.services t) refl h)
   where
     go : (x y : Option Node) → node_of_service d.services s ≡ x → way_between from x y here ≡ Ok tt → has_node (nodes_of d.services) from ≡ true
-    go None y e w = cc
-    go (Some m) None e w = cc
     go (Some m) (Some r) e w = if_holds (λ (z : Way). z ≡ Ok tt → has_node (nodes_of d.services) from ≡ true) (bytes_eq m from) _ _ (λ q k. service-node d.services s from (e ∙ ap (λ (z : Node). Some z) (node_is m from q))) (λ q k. absurd (let z : Err fault.SenderNotOnNode ≡ Ok tt = k in cc)) w
+    go _ _ e w = cc

@@ -12,7 +12,7 @@ use Rattle.spl_agree.specs.declared.event.GroupEvent.TheVariants as event
 use Rattle.spl_agree.specs.declared.plan.GroupPlan.{GroupPlan}
 use Rattle.spl_agree.specs.Fits.{generation_of}
 use Rattle.spl_agree.proofs.Tests.{if_holds, eqb_same, or_true, has-below_but-other}
-use Rattle.spl_model.proofs.Lane.{AllPosts}
+use Rattle.spl_agreement.proofs.GroupOfDefinition.{AllPosts}
 
 -- of the group's generation, and to a member
 abbrev pub IsPost : {V : Type 0} → Group V → ℕ → CommitMsg V → Type 0

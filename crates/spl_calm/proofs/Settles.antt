@@ -3,7 +3,7 @@ use Rattle.std.proofs.Common.{◌≡◌, ◌≢◌, ℕ, ◌<◌, ◌≤◌, ◌
 use Rattle.std.specs.Prelude.{None}
 use Rattle.spl_agree.specs.declared.message.CommitMsg.{CommitMsg}
 use Rattle.spl_agree.specs.Member.{Member}
-use Rattle.spl_agree.specs.World as one
+use Rattle.spl_agree.specs.World.{World as GroupWorld}
 use Rattle.spl_agree.specs.Agreement.{Told, lead, Agrees}
 use Rattle.spl_circuit.specs.declared.definition.Definition.{Definition}
 use Rattle.spl_circuit.specs.Nodes.{Node, has_node, position, node_or, sorted}
@@ -19,9 +19,9 @@ use Rattle.spl_settle.proofs.Milestones.{orders-settle}
 use Rattle.spl_settle.proofs.Idle.{idle-calm}
 use Rattle.spl_model.specs.Worlds.{World, messages}
 use Rattle.spl_model.specs.Calm.{Calming, calming, calm}
-use Rattle.spl_model.proofs.Nodes.{position-below}
-use Rattle.spl_model.proofs.Rosters.{has-sorted}
-use Rattle.spl_model.proofs.Lane.{Lane, Stand, There, Letter, Matters, SomeWorld, InLane, group_of, says-told}
+use Rattle.spl_agreement.proofs.Positions.{position-below}
+use Rattle.spl_agreement.proofs.Rosters.{has-sorted}
+use Rattle.spl_agreement.proofs.GroupOfDefinition.{Lane, Presence, There, GroupMessage, Matters, SomeWorld, InLane, group_of, says-told}
 use Rattle.spl_calm.proofs.Places.{or-member, position-at}
 use Rattle.spl_calm.proofs.Pairs.{drop-all}
 use Rattle.spl_calm.proofs.Shapes.{Shape, owns}
@@ -31,17 +31,17 @@ use Rattle.spl_calm.proofs.Passes.{HasMembers, AllPassed, sim-passes}
 use Rattle.spl_calm.proofs.Tame.{IsTame, WasAsked}
 
 -- the world of a group beside its cells, after so many events
-pub record IsReached {V : Type 0} (lane : Lane V) (d : Definition) (count : ℕ) (at : Node → Stand V) (w : one.World V) : Type 0 where
+pub record IsReached {V : Type 0} (lane : Lane V) (d : Definition) (count : ℕ) (at : Node → Presence V) (w : GroupWorld V) : Type 0 where
   pub agrees : Agrees (group_of lane d) w
   pub same : (n : Node) → has_node d.members n ≡ true → at n ≡ There d (w.at (position d.members n))
   pub steady : (n : Node) → has_node d.members n ≡ true → IsSteady (group_of lane d) count (w.at (position d.members n))
   pub heard : (n : Node) → has_node d.members n ≡ true → n ≢ lane.leader d → (w.at (position d.members n)).seen < (w.at (position d.members (lane.leader d))).next
 
 -- there is such a world, where all members are bound
-pub reached-lane : {V : Type 0} (lane : Lane V) (d : Definition) (count : ℕ) (past : List (Node × Definition)) (at : Node → Stand V) (said : Letter V → Type 0) (list : List V) → has_node d.members (lane.leader d) ≡ true → ((n : Node) → has_node d.members n ≡ true → (m : Member V) × (at n ≡ There d m)) → ((n : Node) (m : Member V) → at n ≡ There d m → IsTame lane d n said count m) → InLane lane d past at said list → (w : one.World V) × IsReached lane d count at w
+pub reached-lane : {V : Type 0} (lane : Lane V) (d : Definition) (count : ℕ) (past : List (Node × Definition)) (at : Node → Presence V) (said : GroupMessage V → Type 0) (list : List V) → has_node d.members (lane.leader d) ≡ true → ((n : Node) → has_node d.members n ≡ true → (m : Member V) × (at n ≡ There d m)) → ((n : Node) (m : Member V) → at n ≡ There d m → IsTame lane d n said count m) → InLane lane d past at said list → (w : GroupWorld V) × IsReached lane d count at w
 reached-lane {V} lane d count past at said list leads there tame c = go (c.coupled (c.ever (lane.leader d) d (there (lane.leader d) leads).0 (there (lane.leader d) leads).1))
   where
-    go : SomeWorld lane d past at said list → (w : one.World V) × IsReached lane d count at w
+    go : SomeWorld lane d past at said list → (w : GroupWorld V) × IsReached lane d count at w
     go x = (x.0, record { agrees = x.1.agrees; same = same; steady = λ n h. (tame n (x.0.at (position d.members n)) (same n h)).steady; heard = λ n h off. heard n h ((tame n (x.0.at (position d.members n)) (same n h)).heard off) })
       where
         same : (n : Node) → has_node d.members n ≡ true → at n ≡ There d (x.0.at (position d.members n))
@@ -60,13 +60,13 @@ reached-lane {V} lane d count past at said list leads there tame c = go (c.coupl
             let y : 1 ≤ (x.0.at (position d.members (lane.leader d))).next = b.begun in omega (arith, e, y)
 
 -- it is fit
-pub fit-lane : {V : Type 0} (lane : Lane V) (d : Definition) (count : ℕ) (at : Node → Stand V) (w : one.World V) → IsKeyed (lane.rules d) → broken d ≡ None → has_node d.members (lane.leader d) ≡ true → count ≤ 32768 → IsReached lane d count at w → IsFit (group_of lane d) w
+pub fit-lane : {V : Type 0} (lane : Lane V) (d : Definition) (count : ℕ) (at : Node → Presence V) (w : GroupWorld V) → IsKeyed (lane.rules d) → broken d ≡ None → has_node d.members (lane.leader d) ≡ true → count ≤ 32768 → IsReached lane d count at w → IsFit (group_of lane d) w
 fit-lane {V} lane d count at w keyed ruled leads few r = fit-by (group_of lane d) keyed (few_members d ruled).0 (position-below d.members (lane.leader d) leads) count w few r.agrees
     (λ i l. subst (λ (j : ℕ). IsSteady (group_of lane d) count (w.at j)) (position-at d [] i ruled l) (r.steady (node_or d.members [] i) (or-member d.members [] i l)))
     (λ i l off. subst (λ (j : ℕ). (w.at j).seen < (w.at (position d.members (lane.leader d))).next) (position-at d [] i ruled l) (r.heard (node_or d.members [] i) (or-member d.members [] i l) (λ e. off (sym (position-at d [] i ruled l) ∙ ap (λ (z : Node). position d.members z) e))))
 
 -- the members are registered and up, and their cells have the members of a world of the group
-pub record IsCalmed {V : Type 0} (s : Shape V) (d : Definition) (w : World) (g : one.World V) : Type 0 where
+pub record IsCalmed {V : Type 0} (s : Shape V) (d : Definition) (w : World) (g : GroupWorld V) : Type 0 where
   pub registered : HasMembers d w.nodes
   pub up : (n : Node) → has_node d.members n ≡ true → w.up n ≡ true
   pub same : (n : Node) → has_node d.members n ≡ true → s.stand (w.at n) ≡ There d (g.at (position d.members n))
@@ -75,7 +75,7 @@ pub record IsCalmed {V : Type 0} (s : Shape V) (d : Definition) (w : World) (g :
 abbrev pub all_taken : World → Node → Node → ℕ
 all_taken w a b = length (messages w a b)
 
-pub sim-start : {V : Type 0} (s : Shape V) (d : Definition) (Inv : World → (Node → Node → ℕ) → Type 0) (w : World) (g : one.World V) → Inv w (all_taken w) → IsCalmed s d w g → Sim s d Inv w (all_taken w) (begins g)
+pub sim-start : {V : Type 0} (s : Shape V) (d : Definition) (Inv : World → (Node → Node → ℕ) → Type 0) (w : World) (g : GroupWorld V) → Inv w (all_taken w) → IsCalmed s d w g → Sim s d Inv w (all_taken w) (begins g)
 sim-start s d Inv w g inv q = record {
   inv = inv;
   registered = q.registered;
@@ -88,14 +88,14 @@ sim-start s d Inv w g inv q = record {
 -- behind a calm: the fact holds, and there is a world of the group beside the cells. It is settled, where the calm has six
 -- passes or more and a value was pending first; and its coordinator has committed nothing, where nothing was pending and no
 -- round was open
-pub record IsCalm {V : Type 0} (s : Shape V) (d : Definition) (Inv : World → (Node → Node → ℕ) → Type 0) (k : ℕ) (z : Calming) (g : one.World V) : Type 0 where
+pub record IsCalm {V : Type 0} (s : Shape V) (d : Definition) (Inv : World → (Node → Node → ℕ) → Type 0) (k : ℕ) (z : Calming) (g : GroupWorld V) : Type 0 where
   pub inv : Inv z.world z.taken
-  pub group : one.World V
+  pub group : GroupWorld V
   pub calmed : IsCalmed s d z.world group
   pub settles : (v : V) (rest : List V) → 6 ≤ k → IsFit (group_of s.lane d) g → (g.at (position d.members (s.lane.leader d))).pending ≡ v ∷ rest → Settles (group_of s.lane d) v group
   pub idles : ((n : Node) → has_node d.members n ≡ true → (g.at (position d.members n)).pending ≡ []) → (g.at (position d.members (s.lane.leader d))).opened ≡ None → (group.at (position d.members (s.lane.leader d))).history ≡ (g.at (position d.members (s.lane.leader d))).history
 
-pub calm-group : {V : Type 0} (s : Shape V) (IsOn : Definition → Cell → Type 0) (d : Definition) (Inv : World → (Node → Node → ℕ) → Type 0) → IsCarried s IsOn d Inv → (c : Node) (k : ℕ) (w : World) (g : one.World V) → Inv w (all_taken w) → IsCalmed s d w g → IsCalm s d Inv k (calm c w k) g
+pub calm-group : {V : Type 0} (s : Shape V) (IsOn : Definition → Cell → Type 0) (d : Definition) (Inv : World → (Node → Node → ℕ) → Type 0) → IsCarried s IsOn d Inv → (c : Node) (k : ℕ) (w : World) (g : GroupWorld V) → Inv w (all_taken w) → IsCalmed s d w g → IsCalm s d Inv k (calm c w k) g
 calm-group {V} s IsOn d Inv run c k w g inv q = go (sim-passes s IsOn d Inv run c (sorted w.nodes) k (calming w) (begins g) (λ n h. has-sorted w.nodes n (q.registered n h)) (sim-start s d Inv w g inv q))
   where
     go : AllPassed s d Inv k (calm c w k) (begins g) → IsCalm s d Inv k (calm c w k) g

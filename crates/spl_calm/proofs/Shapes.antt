@@ -13,13 +13,13 @@ use Rattle.spl_rules.specs.Cells.{Cell, is_open_cell}
 use Rattle.spl_rules.specs.Changes.{after_plan}
 use Rattle.spl_rules.specs.Plans.{plan_of}
 use Rattle.spl_settle.specs.Calm.{mail}
-use Rattle.spl_model.proofs.Lane.{Lane, Stand, There, after_row, plan_row}
+use Rattle.spl_agreement.proofs.GroupOfDefinition.{Lane, Presence, There, after_row, plan_row}
 use Rattle.spl_calm.proofs.Pairs.{to_node}
 
 -- its lane, what it sees of a cell, and what a message from a node to another is to the group of a definition
 pub record Shape (V : Type 0) : Type 0 where
   pub lane : Lane V
-  pub stand : Cell → Stand V
+  pub stand : Cell → Presence V
   pub own : Definition → Node → Node → Message → Option (CommitMsg V)
 
 abbrev pub owned : {V : Type 0} → Option (CommitMsg V) → List (CommitMsg V) → List (CommitMsg V)

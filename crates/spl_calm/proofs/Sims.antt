@@ -12,9 +12,10 @@ use Rattle.spl_rules.specs.Changes.{after_plan}
 use Rattle.spl_settle.specs.Calm.{Calm, mail, move}
 use Rattle.spl_settle.proofs.Moves.{mailed-here, mailed-other}
 use Rattle.spl_model.specs.Worlds.{World, messages, carried_out, put_at}
-use Rattle.spl_model.proofs.Nodes.{node_cases, position-apart, position-below}
-use Rattle.spl_model.proofs.Lane.{There, after_row, plan_row, group_of}
-use Rattle.spl_model.proofs.Deeds.{put_at-same, put_at-other}
+use Rattle.spl_model.proofs.Nodes.{node_cases}
+use Rattle.spl_agreement.proofs.Positions.{position-apart, position-below}
+use Rattle.spl_agreement.proofs.GroupOfDefinition.{There, after_row, plan_row, group_of}
+use Rattle.spl_model.proofs.Puts.{put_at-same, put_at-other}
 use Rattle.spl_calm.proofs.Pairs.{to_node, messages-mine, messages-other, drop-front}
 use Rattle.spl_calm.proofs.Shapes.{Shape, owns, owns-append, Gives}
 use Rattle.spl_calm.proofs.Lasting.{SameTaken, IsLasting}

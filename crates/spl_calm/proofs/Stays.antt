@@ -26,8 +26,8 @@ use Rattle.spl_rules.specs.Cells.{Cell, Held, Deed, Refuses, Tells, Replies, Bin
 use Rattle.spl_rules.specs.Batches.{routed, way, hears_routed, serves_other}
 use Rattle.spl_rules.specs.Changes.{after_plan}
 use Rattle.spl_rules.specs.Plans.{planned, plan_of}
-use Rattle.spl_model.proofs.Lane.{after_row, plan_row, group_of}
-use Rattle.spl_model.proofs.Coupling.{admin_lane, service_lane, IsValid, IsValidCell}
+use Rattle.spl_agreement.proofs.GroupOfDefinition.{after_row, plan_row, group_of}
+use Rattle.spl_agreement.proofs.GroupWorlds.{admin_lane, service_lane, IsValid, IsValidCell}
 use Rattle.spl_calm.proofs.Landing.{after-acts, after-serves, after-both}
 use Rattle.spl_calm.proofs.Idles.{IsIdle, idle-first, idle-other}
 use Rattle.spl_calm.proofs.ActShape.{act_shape}
@@ -37,15 +37,13 @@ use Rattle.spl_calm.proofs.Active.{active-after}
 
 -- what a calm does at an open cell
 abbrev pub IsCalmDeed : Definition → Member Act → Member Batch → Deed → Type 0
-IsCalmDeed d a b (Refuses r) = Unit {0}
-IsCalmDeed d a b (Tells x) = Unit {0}
-IsCalmDeed d a b (Replies note to m) = Unit {0}
 IsCalmDeed d a b (Binds say e back x) = ⊥
 IsCalmDeed d a b (Acts say e x back y) = (e ≡ d) × (x ≡ a)
 IsCalmDeed d a b (Serves say e x back y) = (e ≡ d) × (x ≡ b)
 IsCalmDeed d a b (Turns e x y v w) = (e ≡ d) × (x ≡ a) × (y ≡ b)
 IsCalmDeed d a b Abandons = ⊥
 IsCalmDeed d a b Purges = ⊥
+IsCalmDeed d a b _ = Unit {0}
 
 -- the cell is open still, and its member of acts is as it was, or as a plan leaves it
 pub record StaysOpen (d : Definition) (n : Node) (a : Member Act) (k : Cell) : Type 0 where
@@ -72,9 +70,6 @@ pub stays-still : (d : Definition) (n : Node) (t : ℕ) (a : Member Act) (b : Me
 stays-still d n t a b = record { turn = t; acts = a; batches = b; held = refl; grown = inl refl }
 
 pub stays-deed : (c n : Node) (d : Definition) (t : ℕ) (a : Member Act) (b : Member Batch) (deed : Deed) → IsCalmDeed d a b deed → StaysOpen d n a (after_plan n (Held d mark.Open t a b) (planned n c deed))
-stays-deed c n d t a b (Refuses r) h = stays-still d n t a b
-stays-deed c n d t a b (Tells x) h = stays-still d n t a b
-stays-deed c n d t a b (Replies note to m) h = stays-still d n t a b
 stays-deed c n d t a b (Binds say e back x) h = absurd h
 stays-deed c n d t a b (Acts say e x back y) h = subst (λ (z : Definition). StaysOpen d n a (after_plan n (Held d mark.Open t a b) (planned n c (Acts say z x back y)))) (sym h.0)
     (subst (λ (z : Member Act). StaysOpen d n a (after_plan n (Held d mark.Open t a b) (planned n c (Acts say d z back y)))) (sym h.1) (stays-acts c n d t a b say back y))
@@ -85,18 +80,14 @@ stays-deed c n d t a b (Turns e x y v w) h = subst (λ (z : Definition). StaysOp
     (subst (λ (z : Member Batch). StaysOpen d n a (after_plan n (Held d mark.Open t a b) (planned n c (Turns d a z v w)))) (sym h.2) (stays-turns c n d t a b v w)))
 stays-deed c n d t a b Abandons h = absurd h
 stays-deed c n d t a b Purges h = absurd h
+stays-deed c n d t a b _ h = stays-still d n t a b
 
 -- an idle deed is one of a calm
 pub idle-calm : {V : Type 0} (s : Shape V) (d e : Definition) (n : Node) (a : Member Act) (b : Member Batch) (deed : Deed) → IsIdle s e n deed → IsCalmDeed d a b deed
 idle-calm s d e n a b (Refuses r) h = tt
 idle-calm s d e n a b (Tells x) h = tt
 idle-calm s d e n a b (Replies note to m) h = tt
-idle-calm s d e n a b (Binds say f back x) h = absurd h
-idle-calm s d e n a b (Acts say f x back y) h = absurd h
-idle-calm s d e n a b (Serves say f x back y) h = absurd h
-idle-calm s d e n a b (Turns f x y v w) h = absurd h
-idle-calm s d e n a b Abandons h = absurd h
-idle-calm s d e n a b Purges h = absurd h
+idle-calm s d e n a b _ h = absurd h
 
 -- a tick
 pub stays-tick : (c n : Node) (d : Definition) (t : ℕ) (a : Member Act) (b : Member Batch) → StaysOpen d n a (after_plan n (Held d mark.Open t a b) (plan_of n c (Held d mark.Open t a b) event.Tick))

@@ -1,7 +1,7 @@
 -- What each cell keeps of its groups by itself, over a run: the keys of pending values differ, numbers grow by one at most
 -- in an event, and a member has seen no round but one that its coordinator has asked for.
 use Rattle.std.proofs.Common.{◌≡◌, ◌≢◌, ℕ, ◌+◌, ◌⊎◌, true, eqb, refl, sym, ap, subst, ◌∙◌, inl, inr}
-use Rattle.std.specs.Prelude.{Option, Some, None}
+use Rattle.std.specs.Prelude.{Option, None}
 use Rattle.std.specs.Str.{bytes_eq}
 use Rattle.spl_agree.specs.declared.reason.Reason.{Reason}
 use Rattle.spl_agree.specs.declared.message.CommitMsg.TheVariants as msg
@@ -20,9 +20,11 @@ use Rattle.spl_scabbard.specs.Checks.{batch_rules}
 use Rattle.spl_scabbard.specs.Same.{same_batches}
 use Rattle.spl_settle.specs.Bound.{IsKeyed}
 use Rattle.spl_settle.proofs.Steady.{IsSteady, IsFair, Asks, steady-new, steady-more, steady-restarted, steady-row, seen-row}
-use Rattle.spl_model.proofs.Nodes.{node_is, node_same, position-apart, act_same}
-use Rattle.spl_model.proofs.Lane.{Lane, Letter, IsPlaced, MayHear, after_row, group_of}
-use Rattle.spl_model.proofs.Steps.{IsNew}
+use Rattle.spl_model.proofs.Nodes.{node_is, node_same}
+use Rattle.spl_agreement.proofs.Positions.{position-apart}
+use Rattle.spl_agreement.proofs.Same.{act_same}
+use Rattle.spl_agreement.proofs.GroupOfDefinition.{Lane, GroupMessage, IsPlaced, MayHear, after_row, group_of}
+use Rattle.spl_agreement.proofs.CoupledSteps.{IsNew}
 
 -- ---- keys
 
@@ -54,28 +56,28 @@ keyed-batches = record {
 -- ---- a member
 
 -- the coordinator has sent a request for this round
-abbrev pub WasAsked : {V : Type 0} → Lane V → Definition → (Letter V → Type 0) → ℕ → Type 0
-WasAsked {V} lane d said r = (l : Letter V) × said l × (l.from ≡ lane.leader d) × (place : ℕ) × (v : V) × (l.body ≡ msg.VoteRequest d.generation r place v)
+abbrev pub WasAsked : {V : Type 0} → Lane V → Definition → (GroupMessage V → Type 0) → ℕ → Type 0
+WasAsked {V} lane d said r = (l : GroupMessage V) × said l × (l.from ≡ lane.leader d) × (place : ℕ) × (v : V) × (l.body ≡ msg.VoteRequest d.generation r place v)
 
-pub record IsTame {V : Type 0} (lane : Lane V) (d : Definition) (n : Node) (said : Letter V → Type 0) (count : ℕ) (m : Member V) : Type 0 where
+pub record IsTame {V : Type 0} (lane : Lane V) (d : Definition) (n : Node) (said : GroupMessage V → Type 0) (count : ℕ) (m : Member V) : Type 0 where
   pub steady : IsSteady (group_of lane d) count m
   pub heard : n ≢ lane.leader d → (m.seen ≡ 0) ⊎ WasAsked lane d said m.seen
 
-pub tame-new : {V : Type 0} (lane : Lane V) (d : Definition) (n : Node) (said : Letter V → Type 0) (count : ℕ) → IsTame lane d n said count new_member
+pub tame-new : {V : Type 0} (lane : Lane V) (d : Definition) (n : Node) (said : GroupMessage V → Type 0) (count : ℕ) → IsTame lane d n said count new_member
 tame-new lane d n said count = record { steady = steady-new (group_of lane d) count; heard = λ q. inl refl }
 
 -- what is said stays said
-pub tame-said : {V : Type 0} (lane : Lane V) (d : Definition) (n : Node) (said said2 : Letter V → Type 0) (count : ℕ) (m : Member V) → ((l : Letter V) → said l → said2 l) → IsTame lane d n said count m → IsTame lane d n said2 count m
+pub tame-said : {V : Type 0} (lane : Lane V) (d : Definition) (n : Node) (said said2 : GroupMessage V → Type 0) (count : ℕ) (m : Member V) → ((l : GroupMessage V) → said l → said2 l) → IsTame lane d n said count m → IsTame lane d n said2 count m
 tame-said {V} lane d n said said2 count m more t = record { steady = t.steady; heard = λ q. go (t.heard q) }
   where
     go : (m.seen ≡ 0) ⊎ WasAsked lane d said m.seen → (m.seen ≡ 0) ⊎ WasAsked lane d said2 m.seen
     go (inl e) = inl e
     go (inr a) = inr (a.0, more a.0 a.1, a.2, a.3, a.4, a.5)
 
-pub tame-more : {V : Type 0} (lane : Lane V) (d : Definition) (n : Node) (said : Letter V → Type 0) (count : ℕ) (m : Member V) → IsTame lane d n said count m → IsTame lane d n said (count + 1) m
+pub tame-more : {V : Type 0} (lane : Lane V) (d : Definition) (n : Node) (said : GroupMessage V → Type 0) (count : ℕ) (m : Member V) → IsTame lane d n said count m → IsTame lane d n said (count + 1) m
 tame-more lane d n said count m t = record { steady = steady-more (group_of lane d) count m t.steady; heard = t.heard }
 
-pub tame-restarted : {V : Type 0} (lane : Lane V) (d : Definition) (n : Node) (said : Letter V → Type 0) (count : ℕ) (m : Member V) → IsTame lane d n said count m → IsTame lane d n said count (restarted m)
+pub tame-restarted : {V : Type 0} (lane : Lane V) (d : Definition) (n : Node) (said : GroupMessage V → Type 0) (count : ℕ) (m : Member V) → IsTame lane d n said count m → IsTame lane d n said count (restarted m)
 tame-restarted lane d n said count m t = record { steady = steady-restarted (group_of lane d) count m t.steady; heard = t.heard }
 
 -- what is not known is not pending
@@ -83,19 +85,17 @@ pub not-pending : {V : Type 0} (rules : Rules V) (m : Member V) (v : V) → know
 not-pending {V} rules m v h = go (found (rules.same_key v) (values m.history)) (found (rules.same_key v) m.pending) (found_refused (rules.same_key v) m.refused) h
   where
     go : (x y : Option V) (z : Option (V × Reason)) → or_else x (or_else y (value_of z)) ≡ None → y ≡ None
-    go (Some x) y z k = cc
-    go None (Some y) z k = cc
     go None None z k = refl
+    go _ _ z k = cc
 
 -- what may be heard at a cell is fair
-pub fair-hear : {V : Type 0} (lane : Lane V) (d : Definition) (n back : Node) (said : Letter V → Type 0) (m : Member V) (e : GroupEvent V) → IsPlaced lane d n → MayHear d said n back e → IsNew (lane.rules d) m e → IsFair (group_of lane d) (position d.members n) m e
-fair-hear lane d n back said m event.Tick p h new = tt
-fair-hear lane d n back said m event.Expire p h new = tt
+pub fair-hear : {V : Type 0} (lane : Lane V) (d : Definition) (n back : Node) (said : GroupMessage V → Type 0) (m : Member V) (e : GroupEvent V) → IsPlaced lane d n → MayHear d said n back e → IsNew (lane.rules d) m e → IsFair (group_of lane d) (position d.members n) m e
 fair-hear lane d n back said m (event.Submit v) p h new = not-pending (lane.rules d) m v new.0
 fair-hear lane d n back said m (event.From s x) p h new = λ q. h.3 (sym (position-apart d.members n back p.few p.here (sym q ∙ h.0)))
+fair-hear lane d n back said m _ p h new = tt
 
 -- a request that is heard was sent by the coordinator
-pub asked-hear : {V : Type 0} (lane : Lane V) (d : Definition) (n back : Node) (said : Letter V → Type 0) (e : GroupEvent V) (r : ℕ) → IsPlaced lane d n → MayHear d said n back e → Asks (group_of lane d) r e → WasAsked lane d said r
+pub asked-hear : {V : Type 0} (lane : Lane V) (d : Definition) (n back : Node) (said : GroupMessage V → Type 0) (e : GroupEvent V) (r : ℕ) → IsPlaced lane d n → MayHear d said n back e → Asks (group_of lane d) r e → WasAsked lane d said r
 asked-hear {V} lane d n back said e r p h a = go (subst (λ (z : GroupEvent V). MayHear d said n back z) a.3 h)
   where
     named : (gen : ℕ) → gen ≡ d.generation → msg.VoteRequest gen r a.1 a.2 ≡ msg.VoteRequest d.generation r a.1 a.2
@@ -105,7 +105,7 @@ asked-hear {V} lane d n back said e r p h a = go (subst (λ (z : GroupEvent V). 
     go k = (record { from = back; to = n; body = msg.VoteRequest a.0 r a.1 a.2 }, k.1, sym (position-apart d.members (lane.leader d) back p.few p.leads k.0), a.1, a.2, named a.0 k.2)
 
 -- a row keeps a member tame
-pub tame-row : {V : Type 0} (lane : Lane V) (d : Definition) (n back : Node) (said : Letter V → Type 0) (count : ℕ) (m : Member V) (e : GroupEvent V) → IsKeyed (lane.rules d) → broken d ≡ None → IsPlaced lane d n → MayHear d said n back e → IsNew (lane.rules d) m e → IsTame lane d n said count m → IsTame lane d n said (count + 1) (after_row lane d n m e)
+pub tame-row : {V : Type 0} (lane : Lane V) (d : Definition) (n back : Node) (said : GroupMessage V → Type 0) (count : ℕ) (m : Member V) (e : GroupEvent V) → IsKeyed (lane.rules d) → broken d ≡ None → IsPlaced lane d n → MayHear d said n back e → IsNew (lane.rules d) m e → IsTame lane d n said count m → IsTame lane d n said (count + 1) (after_row lane d n m e)
 tame-row {V} lane d n back said count m e keyed ruled p h new t = record {
   steady = steady-row (group_of lane d) keyed (few_members d ruled).0 count (position d.members n) m e fair t.steady;
   heard = λ off. go off (seen-row (group_of lane d) (position d.members n) m e (λ q. off (position-apart d.members n (lane.leader d) p.few p.here q)) fair);

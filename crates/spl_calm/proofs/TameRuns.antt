@@ -7,50 +7,45 @@ use Rattle.spl_circuit.specs.declared.lifecycle.Mark.TheVariants as mark
 use Rattle.spl_circuit.specs.Nodes.{Node}
 use Rattle.spl_wire.specs.declared.plan.Plan.{Plan}
 use Rattle.spl_sched.specs.Grammar.{step_node}
-use Rattle.spl_rules.specs.Cells.{Cell, Empty, Held, Purged, Deed, Refuses, Tells, Replies, Binds, Acts, Serves, Turns, Abandons, Purges}
+use Rattle.spl_rules.specs.Cells.{Cell, Held, Deed, Binds, Acts, Serves, Turns, Abandons, Purges}
 use Rattle.spl_rules.specs.Changes.{made, moved_cell, stopped_cell, after_plan}
 use Rattle.spl_rules.specs.Plans.{planned, admin_changes}
-use Rattle.spl_model.specs.Worlds.{Sent, World, put_at, posted, step_plan, stopped, started, halted, Occurrence, Steps, Stops, Starts, Halts, happens, run}
-use Rattle.spl_model.specs.Agreement.{IsPlain, AllPlain}
+use Rattle.spl_model.specs.Worlds.{Sent, World, put_at, posted, step_plan, stopped, started, halted, Occurrence, Steps, Stops, Starts, Halts, happens, occur}
+use Rattle.spl_model.specs.Plain.{IsPlain, AllPlain}
 use Rattle.spl_model.proofs.Nodes.{node_cases}
-use Rattle.spl_model.proofs.Lane.{after_row, plan_row}
-use Rattle.spl_model.proofs.Coupling.{admin_lane, service_lane, admin_said, service_said, WasSent, IsValid, IsValidCell, placed-admin, placed-service, was-left}
-use Rattle.spl_model.proofs.Fair.{Fair}
-use Rattle.spl_model.proofs.Deeds.{put_at-same, put_at-other, made-bind, moved-keep, stopped-moved}
-use Rattle.spl_model.proofs.Runs.{IsDeed, step-deed}
+use Rattle.spl_agreement.proofs.GroupOfDefinition.{after_row, plan_row}
+use Rattle.spl_agreement.proofs.GroupWorlds.{admin_lane, service_lane, admin_said, service_said, WasSent, IsValid, IsValidCell, placed-admin, placed-service, was-left}
+use Rattle.spl_agreement.proofs.DeedsAreSteps.{IsStepOf}
+use Rattle.spl_model.proofs.Puts.{put_at-same, put_at-other}
+use Rattle.spl_agreement.proofs.CoupledDeeds.{made-bind, stopped-moved}
+use Rattle.spl_model.proofs.Unmoved.{moved-keep}
+use Rattle.spl_agreement.proofs.Occurrences.{IsDeed, step-deed}
 use Rattle.spl_calm.proofs.Landing.{after-acts, after-serves, after-both}
 use Rattle.spl_calm.proofs.Coupled.{IsCoupled, coupled-happens}
 use Rattle.spl_calm.proofs.Tame.{IsTame, tame-new, tame-said, tame-more, tame-restarted, tame-row, keyed-acts, keyed-batches}
 
 -- what a cell keeps of both groups
 abbrev pub IsTameCell : Node → List Sent → ℕ → Cell → Type 0
-IsTameCell n sent count Empty = Unit {0}
-IsTameCell n sent count (Purged old) = Unit {0}
 IsTameCell n sent count (Held d m t a b) = IsTame admin_lane d n (admin_said sent) count a × IsTame service_lane d n (service_said sent) count b
+IsTameCell n sent count _ = Unit {0}
 
 pub tame-cell-more : (n : Node) (sent : List Sent) (count : ℕ) (k : Cell) → IsTameCell n sent count k → IsTameCell n sent (count + 1) k
-tame-cell-more n sent count Empty t = tt
-tame-cell-more n sent count (Purged old) t = tt
 tame-cell-more n sent count (Held d m u a b) t = (tame-more admin_lane d n (admin_said sent) count a t.0, tame-more service_lane d n (service_said sent) count b t.1)
+tame-cell-more n sent count _ t = tt
 
 pub tame-cell-sent : (n : Node) (sent sent2 : List Sent) (count : ℕ) (k : Cell) → ((x : Sent) → WasSent x sent → WasSent x sent2) → IsTameCell n sent count k → IsTameCell n sent2 count k
-tame-cell-sent n sent sent2 count Empty more t = tt
-tame-cell-sent n sent sent2 count (Purged old) more t = tt
 tame-cell-sent n sent sent2 count (Held d m u a b) more t = (
   tame-said admin_lane d n (admin_said sent) (admin_said sent2) count a (λ l s. (s.0, more _ s.1)) t.0,
   tame-said service_lane d n (service_said sent) (service_said sent2) count b (λ l s. (s.0, s.1, s.2, more _ s.3)) t.1,
 )
+tame-cell-sent n sent sent2 count _ more t = tt
 
 pub tame-cell-stopped : (n : Node) (sent : List Sent) (count : ℕ) (k : Cell) → IsTameCell n sent count k → IsTameCell n sent count (stopped_cell k)
-tame-cell-stopped n sent count Empty t = tt
-tame-cell-stopped n sent count (Purged old) t = tt
 tame-cell-stopped n sent count (Held d m u a b) t = (tame-restarted admin_lane d n (admin_said sent) count a t.0, tame-restarted service_lane d n (service_said sent) count b t.1)
+tame-cell-stopped n sent count _ t = tt
 
 -- a fair deed keeps a valid cell tame
-pub tame-deed : (c n : Node) (sent : List Sent) (count : ℕ) (k : Cell) (deed : Deed) → Fair n sent k deed → IsValidCell n k → IsTameCell n sent count k → IsTameCell n sent (count + 1) (after_plan n k (planned n c deed))
-tame-deed c n sent count k (Refuses r) fair v t = subst (IsTameCell n sent (count + 1)) (sym (moved-keep n k)) (tame-cell-more n sent count k t)
-tame-deed c n sent count k (Tells a) fair v t = subst (IsTameCell n sent (count + 1)) (sym (moved-keep n k)) (tame-cell-more n sent count k t)
-tame-deed c n sent count k (Replies note to m) fair v t = subst (IsTameCell n sent (count + 1)) (sym (moved-keep n k)) (tame-cell-more n sent count k t)
+pub tame-deed : (c n : Node) (sent : List Sent) (count : ℕ) (k : Cell) (deed : Deed) → IsStepOf n sent k deed → IsValidCell n k → IsTameCell n sent count k → IsTameCell n sent (count + 1) (after_plan n k (planned n c deed))
 tame-deed c n sent count k (Binds say d back e) fair v t =
     let x : (u : ℕ) × (_ ≡ Held d mark.Open u (after_row admin_lane d n new_member e) new_member) = after-acts n d mark.Open 0 new_member new_member (plan_row admin_lane d n new_member e) in
     subst (IsTameCell n sent (count + 1)) (sym (ap (λ (z : Cell). moved_cell n (made n z (admin_changes (plan_row admin_lane d n new_member e).changes)) (plan_row admin_lane d n new_member e).opening move.Keep) (made-bind n k d) ∙ x.1))
@@ -79,6 +74,7 @@ tame-deed c n sent count k Abandons fair v t =
     subst (IsTameCell n sent (count + 1)) (sym (ap (λ (z : Cell). after_plan n z (planned n c Abandons)) fair.5))
     (tame-more admin_lane fair.0 n (admin_said sent) count (restarted fair.3) (tame-restarted admin_lane fair.0 n (admin_said sent) count fair.3 both.0), tame-more service_lane fair.0 n (service_said sent) count (restarted fair.4) (tame-restarted service_lane fair.0 n (service_said sent) count fair.4 both.1))
 tame-deed c n sent count k Purges fair v t = subst (IsTameCell n sent (count + 1)) (sym (ap (λ (z : Cell). after_plan n z (planned n c Purges)) fair.5)) tt
+tame-deed c n sent count k _ fair v t = subst (IsTameCell n sent (count + 1)) (sym (moved-keep n k)) (tame-cell-more n sent count k t)
 
 -- ---- worlds
 
@@ -123,8 +119,8 @@ tame-happens count w (Starts n) h v t = tame-starts count w n (w.up n) t
 tame-happens count w (Halts kept s) h v t = tame-halts count w (step_node s) (step_plan w s) kept (w.up (step_node s)) (tame-step count w (step_node s) (step_plan w s) (step-deed w s h) v t) t
 
 -- any run
-pub tame-run : (count : ℕ) (w : World) (es : List Occurrence) → AllPlain es → IsCoupled w → AllTame count w → IsCoupled (run w es) × AllTame (count + length es) (run w es)
+pub tame-run : (count : ℕ) (w : World) (es : List Occurrence) → AllPlain es → IsCoupled w → AllTame count w → IsCoupled (occur w es) × AllTame (count + length es) (occur w es)
 tame-run count w [] h v t = (v, subst (λ (i : ℕ). AllTame i w) (let y : count ≡ count + 0 = omega arith in y) t)
 tame-run count w (e ∷ es) h v t =
-    let r : IsCoupled (run (happens w e) es) × AllTame (count + 1 + length es) (run (happens w e) es) = tame-run (count + 1) (happens w e) es h.1 (coupled-happens w e h.0 v) (tame-happens count w e h.0 v t) in
-    (r.0, subst (λ (i : ℕ). AllTame i (run (happens w e) es)) (let y : count + 1 + length es ≡ count + suc (length es) = omega arith in y) r.1)
+    let r : IsCoupled (occur (happens w e) es) × AllTame (count + 1 + length es) (occur (happens w e) es) = tame-run (count + 1) (happens w e) es h.1 (coupled-happens w e h.0 v) (tame-happens count w e h.0 v t) in
+    (r.0, subst (λ (i : ℕ). AllTame i (occur (happens w e) es)) (let y : count + 1 + length es ≡ count + suc (length es) = omega arith in y) r.1)

@@ -12,7 +12,7 @@ use Rattle.spl_settle.specs.Calm.{Calm, deliver, turn_by, turn}
 use Rattle.spl_model.specs.Worlds.{World, messages, step_plan, step_world}
 use Rattle.spl_model.specs.Calm.{Calming, calming_step, delivers, pair_turn}
 use Rattle.spl_model.proofs.Nodes.{node_cases}
-use Rattle.spl_model.proofs.Lane.{group_of}
+use Rattle.spl_agreement.proofs.GroupOfDefinition.{group_of}
 use Rattle.spl_calm.proofs.Pairs.{messages-other, messages-self, drop-all, drop-next}
 use Rattle.spl_calm.proofs.Shapes.{Shape, owned, owns}
 use Rattle.spl_calm.proofs.Sims.{Sim, sim-taken}

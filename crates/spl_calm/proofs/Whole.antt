@@ -6,10 +6,9 @@ use Rattle.spl_circuit.specs.Nodes.{Node}
 use Rattle.spl_circuit.specs.Rules.{admin, service}
 use Rattle.spl_command.specs.declared.batch.Batch.{Batch}
 use Rattle.spl_sched.specs.declared.line.Line.TheVariants as line
-use Rattle.spl_model.specs.Worlds.{World, first_world}
+use Rattle.spl_model.specs.Worlds.{World, first_world, world_behind}
 use Rattle.spl_model.specs.Calm.{calm}
 use Rattle.spl_model.specs.Projection.{Ran, plainly, lines_fit}
-use Rattle.spl_model.specs.Agreement.{world_behind}
 use Rattle.spl_model.proofs.Nodes.{node_same}
 use Rattle.spl_projection.specs.Whole.{whole_world}
 use Rattle.spl_projection.specs.Apart.{moves-own}

@@ -8,19 +8,17 @@ use Rattle.spl_circuit.specs.Nodes.{Node, has_node}
 use Rattle.spl_circuit.specs.Rules.{is_member}
 use Rattle.spl_command.specs.declared.batch.Batch.{Batch}
 use Rattle.spl_settle.specs.Bound.{InHistory, IsPending, IsRefused}
-use Rattle.spl_rules.specs.Cells.{Cell, Empty, Held, Purged, runs}
+use Rattle.spl_rules.specs.Cells.{Cell, Held, runs}
 use Rattle.spl_model.specs.Worlds.{World}
 
 -- what a cell keeps of acts, and of batches; a cell that is not bound keeps nothing
 abbrev pub cell_acts : Cell → Member Act
-cell_acts Empty = new_member
-cell_acts (Purged old) = new_member
 cell_acts (Held d m turn a b) = a
+cell_acts _ = new_member
 
 abbrev pub cell_batches : Cell → Member Batch
-cell_batches Empty = new_member
-cell_batches (Purged old) = new_member
 cell_batches (Held d m turn a b) = b
+cell_batches _ = new_member
 
 -- what each node keeps of them
 abbrev pub acts_kept : World → Node → Member Act
@@ -31,9 +29,8 @@ batches_kept w n = cell_batches (w.at n)
 
 -- the cell is bound to the definition, and the node takes part
 abbrev pub IsOpenIn : Definition → Cell → Type 0
-IsOpenIn d Empty = ⊥
-IsOpenIn d (Purged old) = ⊥
 IsOpenIn d (Held e m turn a b) = (e ≡ d) × (m ≡ mark.Open)
+IsOpenIn d _ = ⊥
 
 -- something holds of each member
 abbrev pub AtMembers : Definition → (Node → Type 0) → Type 0

@@ -11,9 +11,9 @@ ghost use Rattle.spl_sched.specs.declared.line.Line.TheVariants as line;
 ghost use Rattle.spl_model.specs.Projection.{Ran, plainly, lines_fit};
 ghost use Rattle.spl_projection.specs.Whole.{whole_world};
 ghost use Rattle.spl_projection.specs.Happened.{whole_happened};
-ghost use Rattle.spl_model.specs.Worlds.{Occurrence};
+ghost use Rattle.spl_model.specs.Worlds.{Occurrence, world_behind};
 ghost use Rattle.spl_model.specs.Calm.{calm};
-ghost use Rattle.spl_model.specs.Agreement.{world_behind, AllPlain};
+ghost use Rattle.spl_model.specs.Plain.{AllPlain};
 ghost use Rattle.spl_calm.specs.Settled.{acts_kept, batches_kept, AtMembers, IsWhole, IsActiveAll, IsSettled};
 
 /// Take any world of a circuit's id that at most 32,768 occurrences reach, and a definition all of whose members are registered and up, bound to it and open. A calm of six passes or more settles the first pending act of its admin coordinator; and, where the circuit is active at each member, the first pending batch of its service coordinator.

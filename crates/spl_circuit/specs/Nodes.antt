@@ -4,6 +4,18 @@ use Rattle.std.specs.Ordering.{nat_cmp, is_lt}
 use Rattle.std.specs.Cmp.Lexicographic.{slice_cmp}
 use Rattle.std.specs.Str.{bytes_eq}
 
+-- the id of a node
+abbrev pub NodeId : Type 0
+NodeId = List ℕ
+
+-- the id of a circuit
+abbrev pub CircuitId : Type 0
+CircuitId = List ℕ
+
+-- the id of a service
+abbrev pub ServiceId : Type 0
+ServiceId = List ℕ
+
 -- the id of a node, or of a service
 abbrev pub Node : Type 0
 Node = List ℕ

@@ -88,16 +88,12 @@ agrees-lead {V} g w new sends keeps follow fresh a = record {
     said s e (inr x) = keeps.said (seat (w.at s.from)) s.message (a.said s x e)
 
 pub heard-seat : {V : Type 0} (g : Group V) (w : World V) (here : ℕ) (e : GroupEvent V) → MayHappen g w here e → Heard g (lead (w.at g.coordinator)) e
-heard-seat g w here event.Tick h = tt
-heard-seat g w here event.Expire h = tt
-heard-seat g w here (event.Submit v) h = tt
 heard-seat g w here (event.From sender x) h = h.told
+heard-seat g w here _ h = tt
 
 pub heard-lead : {V : Type 0} (g : Group V) (w : World V) (e : GroupEvent V) → MayHappen g w g.coordinator e → HeardByLead g g.coordinator (λ i. seat (w.at i)) (lead (w.at g.coordinator)) e
-heard-lead g w event.Tick h = tt
-heard-lead g w event.Expire h = tt
-heard-lead g w (event.Submit v) h = tt
 heard-lead g w (event.From sender x) h = (h.other, λ l n. h.said refl l n)
+heard-lead g w _ h = tt
 
 -- any event at a member keeps the agreement
 pub agrees-row : {V : Type 0} (g : Group V) (w : World V) (here : ℕ) (e : GroupEvent V) → here < g.members → MayHappen g w here e → Agrees g w → Agrees g (carried_out g w here (row g here (w.at here) e))
@@ -145,19 +141,11 @@ may_come-sent g w s d was a = record { other = d; told = a.told s was; said = λ
 pub strange-told : {V : Type 0} (g : Group V) (l : Lead V) (sender : ℕ) (x : CommitMsg V) → is_strange_message g sender x ≡ true → sender ≡ g.coordinator → Told l x
 strange-told g l sender (msg.VoteRequest gen r place v) h e = absurd (eqb_not sender g.coordinator (not_true (sender == g.coordinator) h) e)
 strange-told g l sender (msg.Decision gen r commit) h e = absurd (eqb_not sender g.coordinator (not_true (sender == g.coordinator) h) e)
-strange-told g l sender (msg.Vote gen r aye) h e = tt
-strange-told g l sender (msg.DecisionRequest gen r) h e = tt
-strange-told g l sender (msg.Forward gen v) h e = tt
-strange-told g l sender (msg.Refused gen v reason) h e = tt
+strange-told g l sender _ h e = tt
 
 pub strange-said : {V : Type 0} (g : Group V) (l : Lead V) (s : Seat V) (sender : ℕ) (x : CommitMsg V) → is_strange_message g sender x ≡ true → sender < g.members → Said l s x
 strange-said g l s sender (msg.Vote gen r true) h e = absurd (let k : g.members ≤ sender = ltb_not sender g.members (not_true (nat_lt sender g.members) h) in omega arith)
-strange-said g l s sender (msg.Vote gen r false) h e = tt
-strange-said g l s sender (msg.VoteRequest gen r place v) h e = tt
-strange-said g l s sender (msg.Decision gen r commit) h e = tt
-strange-said g l s sender (msg.DecisionRequest gen r) h e = tt
-strange-said g l s sender (msg.Forward gen v) h e = tt
-strange-said g l s sender (msg.Refused gen v reason) h e = tt
+strange-said g l s sender _ h e = tt
 
 pub may_come-strange : {V : Type 0} (g : Group V) (w : World V) (here sender : ℕ) (x : CommitMsg V) → is_strange g here sender x ≡ true → MayCome g w here sender x
 may_come-strange g w here sender x h =
@@ -283,9 +271,7 @@ agrees-cut {V} g w here e made rest l may f a = go (single-front made rest (row 
 
     shut : (m : Member V) (x : OpenMove) → restarted (moved g here m x) ≡ restarted m
     shut m move.Keep = refl
-    shut m (move.Begin r) = refl
-    shut m (move.Yes i) = refl
-    shut m move.Close = refl
+    shut m _ = refl
 
     go : (made ≡ []) ⊎ (made ≡ p.changes) → Agrees g (cut_short g w here made)
     go (inl q) = subst (λ (cs : List (GroupChange V)). Agrees g (cut_short g w here cs)) (sym q) (agrees-stopped g w here l a)

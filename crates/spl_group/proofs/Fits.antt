@@ -165,8 +165,7 @@ good-forwarded g may here m sender v (Some u) h k f = if_holds (Good g may here 
 
 pub good-admitted : {V : Type 0} (g : Group V) (may : V → Bool) (here : ℕ) (m : Member V) (sender : ℕ) (v : V) (a : Admit) → (a ≡ admit.Take → may v ≡ true) → IsRoomy m → Good g may here m (admitted g m sender v a)
 good-admitted g may here m sender v admit.Take k f = good-forwarded g may here m sender v (found (g.rules.same_key v) (values m.history)) refl (k refl) f
-good-admitted g may here m sender v admit.Ignore k f = (tt, f, tt)
-good-admitted g may here m sender v (admit.Return reason) k f = (tt, f, tt)
+good-admitted g may here m sender v _ k f = (tt, f, tt)
 
 pub good-strayed : {V : Type 0} (g : Group V) (may : V → Bool) (here : ℕ) (m : Member V) (sender : ℕ) (v : V) (o : Option Reason) → IsRoomy m → Good g may here m (strayed g.generation sender v o)
 good-strayed g may here m sender v None f = (tt, f, tt)
@@ -248,12 +247,6 @@ sound-restarted g here m s = record { good = s.good; held = s.held; settled = λ
 
 -- any value may be queued
 pub may-any : {V : Type 0} (g : Group V) (e : GroupEvent V) → MayQueue g any_value e
-may-any g event.Tick = tt
-may-any g event.Expire = tt
 may-any g (event.Submit v) = refl
-may-any g (event.From s (msg.VoteRequest gen r place v)) = tt
-may-any g (event.From s (msg.Vote gen r aye)) = tt
-may-any g (event.From s (msg.Decision gen r commit)) = tt
-may-any g (event.From s (msg.DecisionRequest gen r)) = tt
 may-any g (event.From s (msg.Forward gen v)) = λ e. refl
-may-any g (event.From s (msg.Refused gen v reason)) = tt
+may-any g _ = tt

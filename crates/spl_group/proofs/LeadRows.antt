@@ -59,9 +59,8 @@ no_empty o (u ∷ us) e h = cc
 
 -- one more pending value changes nothing of an open round
 pub ballot-queue : {V : Type 0} (o : Option (ℕ × List ℕ)) (us : List V) (v : V) → ((x : ℕ × List ℕ) → o ≡ Some x → (b : Ballot V) × (ballot_of o us ≡ Some b)) → ballot_of o us ≡ ballot_of o (us ++ v ∷ [])
-ballot-queue None us v s = refl
 ballot-queue (Some o) [] v s = let k : (b : Ballot _) × (None ≡ Some b) = s o refl in let e : None ≡ Some k.0 = k.1 in cc
-ballot-queue (Some o) (u ∷ us) v s = refl
+ballot-queue _ _ v s = refl
 
 pub lead-queue : {V : Type 0} (g : Group V) (here : ℕ) (at : ℕ → Seat V) (m : Member V) (p : GroupPlan V) (v : V) → p.changes ≡ change.Queue v ∷ [] → p.opening ≡ move.Keep → AllSends (Told (lead m)) p.sends → IsLed (lead m) → AllFollow g here at (lead m) → LeadKeeps g here at m p
 lead-queue g here at m p v c o sends led f = lead-by g here at m p (lead m) (rw (c, o) (rw (← ballot-queue m.opened m.pending v led.settled))) (keeps-same (lead m) led) f sends
@@ -229,8 +228,6 @@ pub lead-message : {V : Type 0} (g : Group V) (here : ℕ) (at : ℕ → Seat V)
 lead-message g here at m sender (msg.VoteRequest gen r place v) c d led f heard =
     if_false (LeadKeeps g here at m) (sender == g.coordinator) _ _ (eqb_other sender g.coordinator (subst (λ k. sender ≢ k) c d)) (lead-sends g here at m _ sender (msg.Vote g.generation r false) led f tt)
 lead-message g here at m sender (msg.Vote gen r aye) c d led f heard = lead-vote g here at m m.opened sender r aye refl led f heard
-lead-message g here at m sender (msg.Decision gen r commit) c d led f heard =
-    if_false (LeadKeeps g here at m) (sender == g.coordinator) _ _ (eqb_other sender g.coordinator (subst (λ k. sender ≢ k) c d)) (lead-nothing g here at m note.Ignored led f)
 lead-message g here at m sender (msg.DecisionRequest gen r) c d led f heard =
     if_holds (LeadKeeps g here at m) (here == g.coordinator && has sender (others g here)) _ _
     (λ q. lead-told g here at m (decision m r) sender r led f (decision-truly m r))
@@ -240,15 +237,13 @@ lead-message g here at m sender (msg.Forward gen v) c d led f heard =
     (if_holds (LeadKeeps g here at m) (has sender (others g here)) _ _
     (λ q. lead-admitted g here at m sender v (g.rules.admits sender v) led f)
     (λ q. lead-nothing g here at m note.Ignored led f))
-lead-message g here at m sender (msg.Refused gen v reason) c d led f heard =
+lead-message g here at m sender _ c d led f heard =
     if_false (LeadKeeps g here at m) (sender == g.coordinator) _ _ (eqb_other sender g.coordinator (subst (λ k. sender ≢ k) c d)) (lead-nothing g here at m note.Ignored led f)
 
 -- what is heard at the coordinator
 abbrev pub HeardByLead : {V : Type 0} → Group V → ℕ → (ℕ → Seat V) → Lead V → GroupEvent V → Type 0
-HeardByLead g here at l event.Tick = Unit {0}
-HeardByLead g here at l event.Expire = Unit {0}
-HeardByLead g here at l (event.Submit v) = Unit {0}
 HeardByLead g here at l (event.From sender x) = (sender ≢ here) × (sender < g.members → sender ≢ here → Said l (at sender) x)
+HeardByLead g here at l _ = Unit {0}
 
 -- any event
 pub lead-row : {V : Type 0} (g : Group V) (here : ℕ) (at : ℕ → Seat V) (m : Member V) (e : GroupEvent V) → here ≡ g.coordinator → IsLed (lead m) → AllFollow g here at (lead m) → HeardByLead g here at (lead m) e → LeadKeeps g here at m (row g here m e)

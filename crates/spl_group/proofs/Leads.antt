@@ -51,19 +51,11 @@ pub told-round : {V : Type 0} (all : List ℕ) (l : Lead V) (v : V) (m : CommitM
 told-round all l v (msg.VoteRequest gen q p u) h = (omega arith, λ b o e. absurd (let k : b.round ≡ l.next = round_is (first_ballot all l v) b o in omega (arith, h.0)))
 told-round all l v (msg.Decision gen q true) h = h
 told-round all l v (msg.Decision gen q false) h = (omega arith, h.1, λ b o e. let k : b.round ≡ l.next = round_is (first_ballot all l v) b o in omega (arith, h.0))
-told-round all l v (msg.Vote gen q a) h = tt
-told-round all l v (msg.DecisionRequest gen q) h = tt
-told-round all l v (msg.Forward gen u) h = tt
-told-round all l v (msg.Refused gen u reason) h = tt
+told-round all l v _ h = tt
 
 pub said-round : {V : Type 0} (all : List ℕ) (l : Lead V) (v : V) (s : Seat V) (m : CommitMsg V) → Said l s m → Said (with_round all l v) s m
 said-round all l v s (msg.Vote gen q true) h = (omega arith, λ b o e. absurd (let k : b.round ≡ l.next = round_is (first_ballot all l v) b o in omega (arith, h.0)))
-said-round all l v s (msg.Vote gen q false) h = tt
-said-round all l v s (msg.VoteRequest gen q p u) h = tt
-said-round all l v s (msg.Decision gen q a) h = tt
-said-round all l v s (msg.DecisionRequest gen q) h = tt
-said-round all l v s (msg.Forward gen u) h = tt
-said-round all l v s (msg.Refused gen u reason) h = tt
+said-round all l v s _ h = tt
 
 pub keeps-round : {V : Type 0} (all : List ℕ) (l : Lead V) (v : V) → IsLed l → Keeps l (with_round all l v)
 keeps-round all l v led = record {
@@ -98,19 +90,11 @@ pub told-aye : {V : Type 0} (l : Lead V) (b : Ballot V) (i : ℕ) (m : CommitMsg
 told-aye l b i (msg.VoteRequest gen q p u) open_is h = (h.0, λ c o e. let r : c.round ≡ b.round = round_is (aye_ballot b i) c o in let v : c.value ≡ b.value = value_is (aye_ballot b i) c o in let k : b.value ≡ u = h.1 b open_is (sym r ∙ e) in cc)
 told-aye l b i (msg.Decision gen q true) open_is h = h
 told-aye l b i (msg.Decision gen q false) open_is h = (h.0, h.1, λ c o e. let r : c.round ≡ b.round = round_is (aye_ballot b i) c o in h.2 b open_is (sym r ∙ e))
-told-aye l b i (msg.Vote gen q a) open_is h = tt
-told-aye l b i (msg.DecisionRequest gen q) open_is h = tt
-told-aye l b i (msg.Forward gen u) open_is h = tt
-told-aye l b i (msg.Refused gen u reason) open_is h = tt
+told-aye l b i _ open_is h = tt
 
 pub said-aye : {V : Type 0} (l : Lead V) (b : Ballot V) (i : ℕ) (s : Seat V) (m : CommitMsg V) → l.ballot ≡ Some b → Said l s m → Said (with_aye l b i) s m
 said-aye l b i s (msg.Vote gen q true) open_is h = (h.0, λ c o e. let r : c.round ≡ b.round = round_is (aye_ballot b i) c o in let v : c.value ≡ b.value = value_is (aye_ballot b i) c o in let k : s.promise ≡ Some (b.round, b.value) = h.1 b open_is (sym r ∙ e) in cc)
-said-aye l b i s (msg.Vote gen q false) open_is h = tt
-said-aye l b i s (msg.VoteRequest gen q p u) open_is h = tt
-said-aye l b i s (msg.Decision gen q a) open_is h = tt
-said-aye l b i s (msg.DecisionRequest gen q) open_is h = tt
-said-aye l b i s (msg.Forward gen u) open_is h = tt
-said-aye l b i s (msg.Refused gen u reason) open_is h = tt
+said-aye l b i s _ open_is h = tt
 
 pub keeps-aye : {V : Type 0} (l : Lead V) (b : Ballot V) (i : ℕ) → IsLed l → l.ballot ≡ Some b → Keeps l (with_aye l b i)
 keeps-aye l b i led open_is = record {
@@ -146,19 +130,11 @@ pub told-closed : {V : Type 0} (l : Lead V) (m : CommitMsg V) → Told l m → T
 told-closed l (msg.VoteRequest gen q p u) h = (h.0, λ c o e. cc)
 told-closed l (msg.Decision gen q true) h = h
 told-closed l (msg.Decision gen q false) h = (h.0, h.1, λ c o e. cc)
-told-closed l (msg.Vote gen q a) h = tt
-told-closed l (msg.DecisionRequest gen q) h = tt
-told-closed l (msg.Forward gen u) h = tt
-told-closed l (msg.Refused gen u reason) h = tt
+told-closed l _ h = tt
 
 pub said-closed : {V : Type 0} (l : Lead V) (s : Seat V) (m : CommitMsg V) → Said l s m → Said (closed l) s m
 said-closed l s (msg.Vote gen q true) h = (h.0, λ c o e. cc)
-said-closed l s (msg.Vote gen q false) h = tt
-said-closed l s (msg.VoteRequest gen q p u) h = tt
-said-closed l s (msg.Decision gen q a) h = tt
-said-closed l s (msg.DecisionRequest gen q) h = tt
-said-closed l s (msg.Forward gen u) h = tt
-said-closed l s (msg.Refused gen u reason) h = tt
+said-closed l s _ h = tt
 
 pub keeps-closed : {V : Type 0} (l : Lead V) → IsLed l → Keeps l (closed l)
 keeps-closed l led = record {
@@ -180,19 +156,11 @@ pub told-committed : {V : Type 0} (l : Lead V) (b : Ballot V) (m : CommitMsg V) 
 told-committed l b (msg.VoteRequest gen q p u) open_is h = (h.0, λ c o e. cc)
 told-committed l b (msg.Decision gen q true) open_is h = has_round-more q l.history (b.round, b.value) h
 told-committed l b (msg.Decision gen q false) open_is h = (h.0, has_round-none q l.history (b.round, b.value) h.1 (h.2 b open_is), λ c o e. cc)
-told-committed l b (msg.Vote gen q a) open_is h = tt
-told-committed l b (msg.DecisionRequest gen q) open_is h = tt
-told-committed l b (msg.Forward gen u) open_is h = tt
-told-committed l b (msg.Refused gen u reason) open_is h = tt
+told-committed l b _ open_is h = tt
 
 pub said-committed : {V : Type 0} (l : Lead V) (b : Ballot V) (s : Seat V) (m : CommitMsg V) → Said l s m → Said (committed l b) s m
 said-committed l b s (msg.Vote gen q true) h = (h.0, λ c o e. cc)
-said-committed l b s (msg.Vote gen q false) h = tt
-said-committed l b s (msg.VoteRequest gen q p u) h = tt
-said-committed l b s (msg.Decision gen q a) h = tt
-said-committed l b s (msg.DecisionRequest gen q) h = tt
-said-committed l b s (msg.Forward gen u) h = tt
-said-committed l b s (msg.Refused gen u reason) h = tt
+said-committed l b s _ h = tt
 
 pub keeps-committed : {V : Type 0} (l : Lead V) (b : Ballot V) → IsLed l → l.ballot ≡ Some b → Keeps l (committed l b)
 keeps-committed l b led open_is = record {

@@ -109,10 +109,8 @@ seat-tick g l i m None f = seat-forward g l i m m.pending f
 
 -- what is heard at a member that is not the coordinator
 abbrev pub Heard : {V : Type 0} → Group V → Lead V → GroupEvent V → Type 0
-Heard g l event.Tick = Unit {0}
-Heard g l event.Expire = Unit {0}
-Heard g l (event.Submit v) = Unit {0}
 Heard g l (event.From sender x) = sender ≡ g.coordinator → Told l x
+Heard g l _ = Unit {0}
 
 -- any event
 pub seat-row : {V : Type 0} (g : Group V) (l : Lead V) (here : ℕ) (m : Member V) (e : GroupEvent V) → here ≢ g.coordinator → IsLed l → Follows l (seat m) here → Heard g l e → SeatKeeps g l here m (row g here m e)

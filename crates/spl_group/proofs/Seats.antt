@@ -18,12 +18,7 @@ follows-seen l s i r h f = record {
 
 pub said-seen : {V : Type 0} (l : Lead V) (s : Seat V) (r : ℕ) (m : CommitMsg V) → Said l s m → Said l (record s { seen = r }) m
 said-seen l s r (msg.Vote gen q true) h = h
-said-seen l s r (msg.Vote gen q false) h = tt
-said-seen l s r (msg.VoteRequest gen q p v) h = tt
-said-seen l s r (msg.Decision gen q c) h = tt
-said-seen l s r (msg.DecisionRequest gen q) h = tt
-said-seen l s r (msg.Forward gen v) h = tt
-said-seen l s r (msg.Refused gen v reason) h = tt
+said-seen l s r _ h = tt
 
 -- it makes a promise
 pub follows-promise : {V : Type 0} (l : Lead V) (s : Seat V) (i r place : ℕ) (v : V) → s.promise ≡ None → s.seen < r → Told l (msg.VoteRequest 0 r place v) → Follows l s i → Follows l (record { history = s.history; promise = Some (r, v); seen = r }) i
@@ -45,12 +40,7 @@ follows-promise {V} l s i r place v none more t f = record {
 
 pub said-promise : {V : Type 0} (l : Lead V) (s : Seat V) (r : ℕ) (v : V) (m : CommitMsg V) → s.promise ≡ None → Said l s m → Said l (record { history = s.history; promise = Some (r, v); seen = r }) m
 said-promise l s r v (msg.Vote gen q true) none h = (h.0, λ b p e. let k : s.promise ≡ Some (b.round, b.value) = h.1 b p e in cc)
-said-promise l s r v (msg.Vote gen q false) none h = tt
-said-promise l s r v (msg.VoteRequest gen q p u) none h = tt
-said-promise l s r v (msg.Decision gen q c) none h = tt
-said-promise l s r v (msg.DecisionRequest gen q) none h = tt
-said-promise l s r v (msg.Forward gen u) none h = tt
-said-promise l s r v (msg.Refused gen u reason) none h = tt
+said-promise l s r v _ none h = tt
 
 -- the yes that goes with the promise
 pub said-yes : {V : Type 0} (l : Lead V) (s : Seat V) (r place : ℕ) (v : V) → Told l (msg.VoteRequest 0 r place v) → Said l (record { history = s.history; promise = Some (r, v); seen = r }) (msg.Vote 0 r true)
@@ -77,11 +67,7 @@ said-commit l s h e (msg.Vote gen q true) led p c t = (
       let n : has_round b.round l.history ≡ false = (led.latest b o).1 in cc,
 )
 said-commit l s h e (msg.Vote gen q false) led p c t = tt
-said-commit l s h e (msg.VoteRequest gen q r u) led p c t = tt
-said-commit l s h e (msg.Decision gen q x) led p c t = tt
-said-commit l s h e (msg.DecisionRequest gen q) led p c t = tt
-said-commit l s h e (msg.Forward gen u) led p c t = tt
-said-commit l s h e (msg.Refused gen u reason) led p c t = tt
+said-commit l s h e _ led p c t = tt
 
 -- it moves by an abort
 pub follows-abort : {V : Type 0} (l : Lead V) (s : Seat V) (i : ℕ) (e : ℕ × V) → s.promise ≡ Some e → Told l (msg.Decision 0 e.0 false) → Follows l s i → Follows l (record { history = s.history; promise = None; seen = s.seen }) i
@@ -102,9 +88,4 @@ follows-abort {V} l s i e p t f = record {
 
 pub said-abort : {V : Type 0} (l : Lead V) (s : Seat V) (e : ℕ × V) (m : CommitMsg V) → s.promise ≡ Some e → Told l (msg.Decision 0 e.0 false) → Said l s m → Said l (record { history = s.history; promise = None; seen = s.seen }) m
 said-abort l s e (msg.Vote gen q true) p t h = (h.0, λ b o x. let k : s.promise ≡ Some (b.round, b.value) = h.1 b o x in let n : b.round ≡ e.0 = cc in absurd (t.2 b o n))
-said-abort l s e (msg.Vote gen q false) p t h = tt
-said-abort l s e (msg.VoteRequest gen q r u) p t h = tt
-said-abort l s e (msg.Decision gen q x) p t h = tt
-said-abort l s e (msg.DecisionRequest gen q) p t h = tt
-said-abort l s e (msg.Forward gen u) p t h = tt
-said-abort l s e (msg.Refused gen u reason) p t h = tt
+said-abort l s e _ p t h = tt

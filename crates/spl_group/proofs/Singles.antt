@@ -17,15 +17,9 @@ use Rattle.spl_agree.proofs.Tests.{if_holds}
 
 -- a change that a row may give
 abbrev pub IsPlanned : {V : Type 0} → GroupChange V → Type 0
-IsPlanned (change.Queue v) = Unit {0}
-IsPlanned (change.Refuse v why) = Unit {0}
-IsPlanned (change.Begin r) = Unit {0}
-IsPlanned (change.Seen r) = Unit {0}
-IsPlanned (change.Promise r v) = Unit {0}
-IsPlanned change.Abort = Unit {0}
-IsPlanned (change.Commit r v) = Unit {0}
 IsPlanned (change.Restore next seen) = ⊥
 IsPlanned (change.Kept v why) = ⊥
+IsPlanned _ = Unit {0}
 
 abbrev pub IsSingle : {V : Type 0} → List (GroupChange V) → Type 0
 IsSingle [] = Unit {0}
@@ -90,8 +84,7 @@ single-forwarded g m sender v (Some u) = if_holds Single (g.rules.same u v) _ _ 
 
 pub single-admitted : {V : Type 0} (g : Group V) (m : Member V) (sender : ℕ) (v : V) (a : Admit) → Single (admitted g m sender v a)
 single-admitted g m sender v admit.Take = single-forwarded g m sender v (found (g.rules.same_key v) (values m.history))
-single-admitted g m sender v admit.Ignore = tt
-single-admitted g m sender v (admit.Return reason) = tt
+single-admitted g m sender v _ = tt
 
 pub single-strayed : {V : Type 0} (gen sender : ℕ) (v : V) (o : Option Reason) → Single (strayed gen sender v o)
 single-strayed gen sender v None = tt

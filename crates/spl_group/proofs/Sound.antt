@@ -136,8 +136,7 @@ sound-forwarded g here m sender v (Some u) s = if_holds (Sounds g here m) (g.rul
 
 pub sound-admitted : {V : Type 0} (g : Group V) (here : ℕ) (m : Member V) (sender : ℕ) (v : V) (a : Admit) → IsSound g here m → Sounds g here m (admitted g m sender v a)
 sound-admitted g here m sender v admit.Take s = sound-forwarded g here m sender v (found (g.rules.same_key v) (values m.history)) s
-sound-admitted g here m sender v admit.Ignore s = s
-sound-admitted g here m sender v (admit.Return reason) s = s
+sound-admitted g here m sender v _ s = s
 
 pub sound-strayed : {V : Type 0} (g : Group V) (here : ℕ) (m : Member V) (sender : ℕ) (v : V) (o : Option Reason) → IsSound g here m → Sounds g here m (strayed g.generation sender v o)
 sound-strayed g here m sender v None s = s

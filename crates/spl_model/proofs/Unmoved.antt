@@ -1,7 +1,8 @@
--- A step that is refused moves nothing, and what one is answered to have queued is known.
+-- A step that is refused moves nothing.
 use Rattle.std.proofs.Common.{◌≡◌, ◌≢◌, ◌-◌, ◌⊎◌, Bool, true, append-nil, refl, sym, ap, subst, ◌∙◌, inl, inr}
 use Rattle.std.specs.Prelude.{Option, Some, None, slice_get, if◌then◌else◌}
 use Rattle.spl_agree.proofs.Tests.{if_holds}
+use Rattle.spl_agree.specs.declared.event.Note.{Note}
 use Rattle.spl_agree.specs.declared.event.OpenMove.TheVariants as move
 use Rattle.spl_circuit.specs.Nodes.{Node}
 use Rattle.spl_wire.specs.declared.message.Message.{Message}
@@ -17,54 +18,70 @@ use Rattle.spl_sched.specs.declared.line.Step.TheVariants as step
 use Rattle.spl_sched.specs.declared.line.Line.{Line}
 use Rattle.spl_sched.specs.declared.line.Line.TheVariants as line
 use Rattle.spl_sched.specs.Grammar.{step_node, step_circuit}
-use Rattle.spl_rules.specs.Cells.{Cell, Empty, Held, Purged}
-use Rattle.spl_rules.specs.Plans.{tells_only}
-use Rattle.spl_rules.specs.Changes.{moved_cell, after_plan}
-use Rattle.spl_model.specs.Worlds.{World, IsUnmoved, put_at, messages, delivery, step_plan, step_world, carried_out, Halts, happens}
+use Rattle.spl_rules.specs.Cells.{Cell, Empty, Held, Purged, Site, Say, Submitted, Delivered, Alone, said, Deed, Refuses, Tells, Binds, Acts, Serves}
+use Rattle.spl_rules.specs.Events.{does}
+use Rattle.spl_rules.specs.Plans.{tells_only, planned}
+use Rattle.spl_rules.specs.Changes.{moved_cell}
+use Rattle.spl_model.specs.Worlds.{World, site_at, IsUnmoved, put_at, messages, delivery, plan_up, step_plan, step_world, carried_out, Halts, happens}
 use Rattle.spl_model.specs.Projection.{names}
 use Rattle.spl_model.specs.Answers.{bit_of, halt_answer, line_answer, line_world}
-use Rattle.spl_model.specs.Queued.{knows, handed_over, brought, KnowsQueued}
 use Rattle.spl_model.proofs.Nodes.{node_cases, node_is}
-use Rattle.spl_model.proofs.Deeds.{put_at-same, put_at-other}
-use Rattle.spl_model.proofs.Honest.{IsKnown, IsHonest, honest-refuses, honest-does}
+use Rattle.spl_model.proofs.Puts.{put_at-same, put_at-other}
 
--- ---- a step is answered honestly
+-- ---- a refusal is the answer alone
 
-honest-delivery : (c : Node) (w : World) (from to : Node) (o : Option Message) → IsHonest to (w.at to) (handed_over o) (delivery c w from to o)
-honest-delivery c w from to None = honest-refuses to c (w.at to) None refusal.NoMessage
-honest-delivery c w from to (Some m) = honest-does to c (w.at to) (event.Deliver from m)
+-- where a plan is answered with a refusal, it is that answer alone
+record IsAlone (p : Plan) : Type 0 where
+  alone : (why : Refusal) → p.answer ≡ answer.Refused why → p ≡ tells_only (answer.Refused why)
 
-pub honest-step : (w : World) (s : Step) → IsHonest (step_node s) (w.at (step_node s)) (brought w s) (step_plan w s)
-honest-step w (step.At n c e) = if_holds (IsHonest n (w.at n) (brought w (step.At n c e))) (w.up n) _ _ (λ q. honest-does n c (w.at n) e) (λ q. honest-refuses n c (w.at n) _ refusal.Down)
-honest-step w (step.Deliver from to c k) = if_holds (IsHonest to (w.at to) (brought w (step.Deliver from to c k))) (w.up to) _ _ (λ q. honest-delivery c w from to (slice_get (messages w from to) (k - 1))) (λ q. honest-refuses to c (w.at to) _ refusal.Down)
+alone-tells : (a : Answer) → IsAlone (tells_only a)
+alone-tells a = record { alone = λ why q. ap tells_only q }
 
--- what it is answered to have queued
-pub knows-queued : (w : World) (s : Step) → KnowsQueued w s
-knows-queued w s q =
-    let k : IsKnown (step_node s) (w.at (step_node s)) (brought w s) (step_plan w s) = (honest-step w s).queued q in
-    (k.value, k.is, subst (λ (x : Cell). knows k.value x ≡ true) (sym (put_at-same w.at (step_node s) (after_plan (step_node s) (w.at (step_node s)) (step_plan w s)))) k.there)
+-- no note is answered with a refusal
+never-refused : (say : Say) (x : Note) (why : Refusal) → said say x ≡ answer.Refused why → ⊥
+never-refused Submitted x why h = cc
+never-refused Delivered x why h = cc
+never-refused Alone x why h = cc
+
+alone-deed : (site : Site) (deed : Deed) → IsAlone (planned site deed)
+alone-deed site (Refuses r) = alone-tells (answer.Refused r)
+alone-deed site (Tells a) = alone-tells a
+alone-deed site (Binds say d back e) = record { alone = λ why q. absurd (never-refused say _ why q) }
+alone-deed site (Acts say h back e) = record { alone = λ why q. absurd (never-refused say _ why q) }
+alone-deed site (Serves say h back e) = record { alone = λ why q. absurd (never-refused say _ why q) }
+alone-deed site _ = record { alone = λ why q. cc }
+
+alone-delivery : (c : Node) (w : World) (from to : Node) (o : Option Message) → IsAlone (delivery c w from to o)
+alone-delivery c w from to None = alone-tells (answer.Refused refusal.NoMessage)
+alone-delivery c w from to (Some m) = alone-deed (site_at to c) (does (site_at to c) (w.at to) (event.Deliver from m))
+
+alone-up : (w : World) (s : Step) → IsAlone (plan_up w s)
+alone-up w (step.At n c e) = alone-deed (site_at n c) (does (site_at n c) (w.at n) e)
+alone-up w (step.Deliver from to c k) = alone-delivery c w from to (slice_get (messages w from to) (k - 1))
+
+alone-step : (w : World) (s : Step) → IsAlone (step_plan w s)
+alone-step w s = if_holds IsAlone (w.up (step_node s)) _ _ (λ q. alone-up w s) (λ q. alone-tells (answer.Refused refusal.Down))
 
 -- ---- a refusal moves nothing
 
 pub unmoved-same : (w : World) → IsUnmoved w w
 unmoved-same w = record { nodes = refl; up = λ n. refl; at = λ n. refl; sent = refl }
 
--- moves that keep what is open
-still-cell : (n : Node) (k : Cell) → moved_cell n k move.Keep move.Keep ≡ k
-still-cell n Empty = refl
-still-cell n (Purged old) = refl
-still-cell n (Held d m t a b) = refl
+-- without a move a cell stays
+pub moved-keep : (n : Node) (k : Cell) → moved_cell n k move.Keep move.Keep ≡ k
+moved-keep n Empty = refl
+moved-keep n _ = refl
 
 -- an answer alone
 unmoved-tells : (w : World) (n : Node) (a : Answer) → IsUnmoved w (carried_out w n (tells_only a))
 unmoved-tells w n a = record { nodes = refl; up = λ j. refl; at = λ j. there j (node_cases j n); sent = append-nil w.sent }
   where
     there : (j : Node) → (j ≡ n) ⊎ (j ≢ n) → put_at w.at n (moved_cell n (w.at n) move.Keep move.Keep) j ≡ w.at j
-    there j (inl q) = subst (λ (i : Node). put_at w.at n (moved_cell n (w.at n) move.Keep move.Keep) i ≡ w.at i) (sym q) (put_at-same w.at n _ ∙ still-cell n (w.at n))
+    there j (inl q) = subst (λ (i : Node). put_at w.at n (moved_cell n (w.at n) move.Keep move.Keep) i ≡ w.at i) (sym q) (put_at-same w.at n _ ∙ moved-keep n (w.at n))
     there j (inr q) = put_at-other w.at n _ j q
 
 pub unmoved-step : (w : World) (s : Step) (why : Refusal) → (step_plan w s).answer ≡ answer.Refused why → IsUnmoved w (step_world w s)
-unmoved-step w s why h = subst (λ (p : Plan). IsUnmoved w (carried_out w (step_node s) p)) (sym ((honest-step w s).refused why h)) (unmoved-tells w (step_node s) (answer.Refused why))
+unmoved-step w s why h = subst (λ (p : Plan). IsUnmoved w (carried_out w (step_node s) p)) (sym ((alone-step w s).alone why h)) (unmoved-tells w (step_node s) (answer.Refused why))
 
 -- a stop in a step
 pub unmoved-halt : (say : Bit → Answer) (w : World) (s : Step) (kept : Bool) (why : Refusal) → ((b : Bit) → say b ≡ answer.Refused why → ⊥) → halt_answer say w s kept ≡ answer.Refused why → IsUnmoved w (happens w (Halts kept s))
@@ -76,9 +93,6 @@ unmoved-halt say w s kept why other h = if_holds (IsUnmoved w) (w.up (step_node 
 -- a line of the circuit
 pub unmoved-line : (worlds : Node → World) (roll : Node → Answer) (l : Line) (kept : Bool) (why : Refusal) (c : Node) → names c l ≡ true → line_answer worlds roll l kept ≡ answer.Refused why → IsUnmoved (worlds c) (line_world (worlds c) l kept)
 unmoved-line worlds roll (line.Step s) kept why c q h = unmoved-step (worlds c) s why (subst (λ (i : Node). (step_plan (worlds i) s).answer ≡ answer.Refused why) (node_is (step_circuit s) c q) h)
-unmoved-line worlds roll (line.Calm i k) kept why c q h = cc
-unmoved-line worlds roll (line.Stop n) kept why c q h = cc
-unmoved-line worlds roll (line.Start n) kept why c q h = cc
-unmoved-line worlds roll (line.Roll n) kept why c q h = cc
 unmoved-line worlds roll (line.Cut calls fill s) kept why c q h = unmoved-halt answer.Cut (worlds c) s kept why (λ b x. cc) (subst (λ (i : Node). halt_answer answer.Cut (worlds i) s kept ≡ answer.Refused why) (node_is (step_circuit s) c q) h)
 unmoved-line worlds roll (line.Fail call s) kept why c q h = unmoved-halt answer.Fault (worlds c) s kept why (λ b x. cc) (subst (λ (i : Node). halt_answer answer.Fault (worlds i) s kept ≡ answer.Refused why) (node_is (step_circuit s) c q) h)
+unmoved-line worlds roll _ kept why c q h = cc

@@ -1,11 +1,7 @@
 pub mod Worlds
 pub mod Puts
 pub mod Calm
+pub mod Plain
 pub mod Projection
 pub mod Outcomes
 pub mod Answers
-pub mod Lists
-pub mod Told
-pub mod Queued
-pub mod Agreement
-pub mod OneList

@@ -1,7 +1,7 @@
 -- The world of one circuit (docs/RULES.md, Circuits as worlds).
 use Rattle.std.specs.Prelude.{◌≡◌, ◌-◌, Bool, true, false, ◌&&◌, List, [], ◌∷◌, ◌++◌, if◌then◌else◌, slice_get, Option, Some, None}
 use Rattle.std.specs.Str.{bytes_eq}
-use Rattle.spl_circuit.specs.Nodes.{Node, has_node}
+use Rattle.spl_circuit.specs.Nodes.{NodeId, CircuitId, has_node}
 use Rattle.spl_wire.specs.declared.message.Message.{Message}
 use Rattle.spl_wire.specs.declared.event.Event.TheVariants as event
 use Rattle.spl_wire.specs.declared.answer.Refusal.TheVariants as refusal
@@ -11,54 +11,58 @@ use Rattle.spl_wire.specs.declared.plan.Plan.{Plan}
 use Rattle.spl_sched.specs.declared.line.Step.{Step}
 use Rattle.spl_sched.specs.declared.line.Step.TheVariants as step
 use Rattle.spl_sched.specs.Grammar.{step_node}
-use Rattle.spl_rules.specs.Cells.{Cell, Empty}
+use Rattle.spl_rules.specs.Cells.{Cell, Empty, Site}
 use Rattle.spl_rules.specs.Plans.{tells_only, plan_of}
 use Rattle.spl_rules.specs.Changes.{made, after_plan, stopped_cell}
 
 -- a message that was sent
 pub record Sent : Type 0 where
-  pub from : Node
-  pub to : Node
+  pub from : NodeId
+  pub to : NodeId
   pub message : Message
 
 -- the registered nodes, which of them are up, what each keeps about the circuit, and all messages about it that were ever
 -- sent, in their order
 pub record World : Type 0 where
-  pub nodes : List Node
-  pub up : Node → Bool
-  pub at : Node → Cell
+  pub nodes : List NodeId
+  pub up : NodeId → Bool
+  pub at : NodeId → Cell
   pub sent : List Sent
 
 -- at first all nodes are up, nothing is kept, and nothing was sent
-abbrev pub first_world : List Node → World
+abbrev pub first_world : List NodeId → World
 first_world ns = record { nodes = ns; up = λ n. true; at = λ n. Empty; sent = [] }
 
 -- another thing at one node
-unfoldable pub put_at : {A : Type 0} → (Node → A) → Node → A → Node → A
+unfoldable pub put_at : {A : Type 0} → (NodeId → A) → NodeId → A → NodeId → A
 put_at f here x n = if bytes_eq n here then x else f n
 
 -- what was ever sent on a pair of nodes, in order
-abbrev pub on_pair : Node → Node → List Sent → List Message
+abbrev pub on_pair : NodeId → NodeId → List Sent → List Message
 on_pair from to [] = []
 on_pair from to (s ∷ ss) = if bytes_eq s.from from && bytes_eq s.to to then s.message ∷ on_pair from to ss else on_pair from to ss
 
 -- no node sends to itself
-abbrev pub messages : World → Node → Node → List Message
+abbrev pub messages : World → NodeId → NodeId → List Message
 messages w from to = if bytes_eq from to then [] else on_pair from to w.sent
 
 -- a message to a node that isn't registered is dropped
-abbrev pub posted : List Node → Node → List Outgoing → List Sent
+abbrev pub posted : List NodeId → NodeId → List Outgoing → List Sent
 posted ns here [] = []
 posted ns here (o ∷ os) = if has_node ns o.to then record { from = here; to = o.to; message = o.message } ∷ posted ns here os else posted ns here os
 
+-- a circuit at a node
+abbrev pub site_at : NodeId → CircuitId → Site
+site_at n c = record { here = n; circuit = c }
+
 -- a message is handed over, and stays where it is
-abbrev pub delivery : Node → World → Node → Node → Option Message → Plan
+abbrev pub delivery : CircuitId → World → NodeId → NodeId → Option Message → Plan
 delivery c w from to None = tells_only (answer.Refused refusal.NoMessage)
-delivery c w from to (Some m) = plan_of to c (w.at to) (event.Deliver from m)
+delivery c w from to (Some m) = plan_of (site_at to c) (w.at to) (event.Deliver from m)
 
 -- what a step gives at a node that is up; messages of a pair are numbered from 1
 abbrev pub plan_up : World → Step → Plan
-plan_up w (step.At n c e) = plan_of n c (w.at n) e
+plan_up w (step.At n c e) = plan_of (site_at n c) (w.at n) e
 plan_up w (step.Deliver from to c k) = delivery c w from to (slice_get (messages w from to) (k - 1))
 
 -- what a step gives in the world of its circuit
@@ -66,28 +70,28 @@ abbrev pub step_plan : World → Step → Plan
 step_plan w s = if w.up (step_node s) then plan_up w s else tells_only (answer.Refused refusal.Down)
 
 -- the changes and the moves of a plan are made at a node, and its messages are sent
-abbrev pub carried_out : World → Node → Plan → World
+abbrev pub carried_out : World → NodeId → Plan → World
 carried_out w n p = record { nodes = w.nodes; up = w.up; at = put_at w.at n (after_plan n (w.at n) p); sent = w.sent ++ posted w.nodes n p.sends }
 
 abbrev pub step_world : World → Step → World
 step_world w s = carried_out w (step_node s) (step_plan w s)
 
 -- a node stops: its open rounds are forgotten
-abbrev pub stopped : World → Node → World
+abbrev pub stopped : World → NodeId → World
 stopped w n = record { nodes = w.nodes; up = put_at w.up n false; at = put_at w.at n (stopped_cell (w.at n)); sent = w.sent }
 
-abbrev pub started : World → Node → World
+abbrev pub started : World → NodeId → World
 started w n = record { nodes = w.nodes; up = put_at w.up n true; at = w.at; sent = w.sent }
 
 -- a node stops in a step: its changes are made where their record is kept, and nothing is sent
-abbrev pub halted : World → Node → Bool → Plan → World
+abbrev pub halted : World → NodeId → Bool → Plan → World
 halted w n kept p = record { nodes = w.nodes; up = put_at w.up n false; at = put_at w.at n (stopped_cell (if kept then made n (w.at n) p.changes else w.at n)); sent = w.sent }
 
 -- what may happen in the world of a circuit
 pub data Occurrence : Type 0 where
   Steps : Step → Occurrence
-  Stops : Node → Occurrence
-  Starts : Node → Occurrence
+  Stops : NodeId → Occurrence
+  Starts : NodeId → Occurrence
   -- the node of the step stops in it, and its record is kept or not
   Halts : (kept : Bool) → Step → Occurrence
 
@@ -97,13 +101,17 @@ happens w (Stops n) = if w.up n then stopped w n else w
 happens w (Starts n) = if w.up n then w else started w n
 happens w (Halts kept s) = if w.up (step_node s) then halted w (step_node s) kept (step_plan w s) else w
 
-abbrev pub run : World → List Occurrence → World
-run w [] = w
-run w (e ∷ es) = run (happens w e) es
+abbrev pub occur : World → List Occurrence → World
+occur w [] = w
+occur w (e ∷ es) = occur (happens w e) es
+
+-- the world behind what happened
+abbrev pub world_behind : List NodeId → List Occurrence → World
+world_behind ns es = occur (first_world ns) es
 
 -- the world of a circuit stays as it was
 pub record IsUnmoved (old new : World) : Type 0 where
   pub nodes : new.nodes ≡ old.nodes
-  pub up : (n : Node) → new.up n ≡ old.up n
-  pub at : (n : Node) → new.at n ≡ old.at n
+  pub up : (n : NodeId) → new.up n ≡ old.up n
+  pub at : (n : NodeId) → new.at n ≡ old.at n
   pub sent : new.sent ≡ old.sent

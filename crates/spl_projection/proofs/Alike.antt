@@ -13,9 +13,9 @@ use Rattle.spl_sched.specs.Grammar.{step_node}
 use Rattle.spl_rules.specs.Cells.{Cell, Empty}
 use Rattle.spl_rules.specs.Changes.{stopped_cell}
 use Rattle.spl_rules.specs.Plans.{tells_only}
-use Rattle.spl_model.specs.Worlds.{World, put_at, plan_up, step_plan, carried_out, step_world, stopped, started, halted, Occurrence, Steps, Stops, Starts, Halts, happens, run}
+use Rattle.spl_model.specs.Worlds.{World, put_at, plan_up, step_plan, carried_out, step_world, stopped, started, halted, Occurrence, Steps, Stops, Starts, Halts, happens, occur}
 use Rattle.spl_model.proofs.Nodes.{node_cases}
-use Rattle.spl_model.proofs.Deeds.{put_at-same, put_at-other, put_at-still}
+use Rattle.spl_model.proofs.Puts.{put_at-same, put_at-other, put_at-still}
 use Rattle.spl_projection.specs.Same.{IsSameFor}
 use Rattle.spl_projection.proofs.Within.{within-empty}
 use Rattle.spl_projection.proofs.Confined.{IsConfined}
@@ -146,6 +146,6 @@ module _ (ns : List Node) where
   AllHere [] = Unit {0}
   AllHere (e ∷ es) = IsHere e × AllHere es
 
-  pub run-alike : (w v : World) (es : List Occurrence) → IsAlike w v → AllHere es → IsAlike (run w es) (run v es)
+  pub run-alike : (w v : World) (es : List Occurrence) → IsAlike w v → AllHere es → IsAlike (occur w es) (occur v es)
   run-alike w v [] a h = a
   run-alike w v (e ∷ es) a h = run-alike (happens w e) (happens v e) es (happens-alike w v e a h.0) h.1

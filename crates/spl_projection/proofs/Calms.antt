@@ -11,7 +11,7 @@ use Rattle.spl_sched.specs.declared.line.Step.TheVariants as step
 use Rattle.spl_rules.specs.Cells.{Cell, is_open_cell}
 use Rattle.spl_model.specs.Worlds.{World, messages, Occurrence, Steps}
 use Rattle.spl_model.specs.Calm.{Calming, calming_step, calming, open_nodes, ticks, delivers, takes, pair_turn, to_all, from_all, pass, passes, calm}
-use Rattle.spl_model.specs.Agreement.{IsPlainStep}
+use Rattle.spl_model.specs.Plain.{IsPlainStep}
 use Rattle.spl_model.proofs.Nodes.{node_is}
 use Rattle.spl_projection.proofs.Within.{are_within, within-empty, open-within}
 use Rattle.spl_projection.proofs.Confined.{IsConfined, messages-none, IsStepWithin, step-here, confined-step, AllWithin, within-append}

@@ -14,11 +14,11 @@ use Rattle.spl_sched.specs.declared.line.Step.{Step}
 use Rattle.spl_sched.specs.declared.line.Step.TheVariants as step
 use Rattle.spl_sched.specs.Grammar.{step_node}
 use Rattle.spl_rules.specs.Changes.{made, stopped_cell, after_plan}
-use Rattle.spl_model.specs.Worlds.{Sent, World, first_world, put_at, on_pair, messages, posted, delivery, step_plan, carried_out, step_world, stopped, started, halted, Occurrence, Steps, Stops, Starts, Halts, happens, run}
+use Rattle.spl_model.specs.Worlds.{Sent, World, site_at, first_world, put_at, on_pair, messages, posted, delivery, step_plan, carried_out, step_world, stopped, started, halted, Occurrence, Steps, Stops, Starts, Halts, happens, occur}
 use Rattle.spl_model.specs.Projection.{proposed_members, step_concerns}
-use Rattle.spl_model.specs.Agreement.{IsPlainEvent, IsPlainStep}
+use Rattle.spl_model.specs.Plain.{IsPlainEvent, IsPlainStep}
 use Rattle.spl_model.proofs.Nodes.{node_is, node_cases}
-use Rattle.spl_model.proofs.Deeds.{put_at-same, put_at-other}
+use Rattle.spl_model.proofs.Puts.{put_at-same, put_at-other}
 use Rattle.spl_projection.proofs.Within.{are_within, is_message_within, IsCellWithin, within-made, within-stopped, within-after, AllGo, is_outgoing_within, IsPlanWithin, IsDueWithin, within-plan}
 
 -- something holds at each node, where it holds of what is put at one
@@ -127,26 +127,11 @@ module _ (ns : List Node) where
   event-due : (e : Event) → IsPlainEvent e → are_within ns (proposed_members e) ≡ true → IsDueWithin ns e
   event-due (event.Propose d) p h = h
   event-due (event.Deliver from x) p h = absurd p
-  event-due event.Tick p h = tt
-  event-due event.Expire p h = tt
-  event-due (event.Vote accept) p h = tt
-  event-due event.Remove p h = tt
-  event-due event.Abandon p h = tt
-  event-due event.Purge p h = tt
-  event-due (event.Submit v) p h = tt
-  event-due event.Show p h = tt
-  event-due event.Detail p h = tt
-  event-due event.Root p h = tt
-  event-due event.History p h = tt
-  event-due (event.Get address) p h = tt
-  event-due (event.List prefix) p h = tt
-  event-due (event.Status i) p h = tt
-  event-due (event.Receipt i) p h = tt
-  event-due (event.Route from s t) p h = tt
+  event-due _ p h = tt
 
   delivery-within : (c : Node) (w : World) (from to : Node) (k : ℕ) (o : Option Message) → has_node ns to ≡ true → IsConfined w → slice_get (messages w from to) k ≡ o → IsPlanWithin ns (delivery c w from to o)
   delivery-within c w from to k None h i e = record { changes = refl; sends = refl }
-  delivery-within c w from to k (Some m) h i e = within-plan ns to c (w.at to) (event.Deliver from m) h (go (bool_cases (bytes_eq from to))) (i.cells to)
+  delivery-within c w from to k (Some m) h i e = within-plan ns (site_at to c) (w.at to) (event.Deliver from m) h (go (bool_cases (bytes_eq from to))) (i.cells to)
     where
       none_there : (xs : List Message) (j : ℕ) → xs ≡ [] → slice_get xs j ≡ Some m → ⊥
       none_there [] j q x = cc
@@ -161,7 +146,7 @@ module _ (ns : List Node) where
 
   pub step-within : (w : World) (s : Step) → IsPlainStep s → IsStepWithin s → IsConfined w → IsPlanWithin ns (step_plan w s)
   step-within w (step.At n c e) p h i = if_holds (IsPlanWithin ns) (w.up n) _ _
-      (λ q. within-plan ns n c (w.at n) e (step-here (step.At n c e) h) (event-due e p (and_right (has_node ns n) (are_within ns (proposed_members e)) h)) (i.cells n))
+      (λ q. within-plan ns (site_at n c) (w.at n) e (step-here (step.At n c e) h) (event-due e p (and_right (has_node ns n) (are_within ns (proposed_members e)) h)) (i.cells n))
       (λ q. record { changes = refl; sends = refl })
   step-within w (step.Deliver from to c k) p h i = if_holds (IsPlanWithin ns) (w.up to) _ _
       (λ q. delivery-within c w from to (k - 1) (slice_get (messages w from to) (k - 1)) (step-here (step.Deliver from to c k) h) i refl)
@@ -200,7 +185,7 @@ module _ (ns : List Node) where
   AllWithin [] = Unit {0}
   AllWithin (e ∷ es) = IsWithin e × AllWithin es
 
-  pub confined-run : (w : World) (es : List Occurrence) → AllWithin es → IsConfined w → IsConfined (run w es)
+  pub confined-run : (w : World) (es : List Occurrence) → AllWithin es → IsConfined w → IsConfined (occur w es)
   confined-run w [] h i = i
   confined-run w (e ∷ es) h i = confined-run (happens w e) es h.1 (confined-happens w e h.0 i)
 

@@ -4,45 +4,37 @@ use Rattle.spl_agree.proofs.Tests.{if_holds, and_left, and_right}
 use Rattle.spl_circuit.specs.Nodes.{Node}
 use Rattle.spl_sched.specs.declared.line.Line.{Line}
 use Rattle.spl_sched.specs.declared.line.Line.TheVariants as line
-use Rattle.spl_model.specs.Worlds.{World, Occurrence, run}
+use Rattle.spl_model.specs.Worlds.{World, Occurrence, occur}
 use Rattle.spl_model.specs.Projection.{Ran, names, line_fits, lines_fit}
 use Rattle.spl_model.specs.Answers.{occurrences_in}
-use Rattle.spl_model.specs.Agreement.{AllPlain}
-use Rattle.spl_model.proofs.Lines.{line-run, plain-line, run-append, plain-append}
+use Rattle.spl_model.specs.Plain.{AllPlain}
+use Rattle.spl_model.proofs.LinesAsOccurrences.{line-run, plain-line, run-append, plain-append}
 use Rattle.spl_projection.specs.Whole.{world_beside, world_after, whole_from}
 use Rattle.spl_projection.specs.Happened.{happened_beside, happened_in, happened_from}
 
-beside-run : (w : World) (l : Line) → world_beside w l ≡ run w (happened_beside l)
+beside-run : (w : World) (l : Line) → world_beside w l ≡ occur w (happened_beside l)
 beside-run w (line.Step s) = refl
-beside-run w (line.Calm c k) = refl
-beside-run w (line.Stop n) = refl
-beside-run w (line.Start n) = refl
-beside-run w (line.Roll n) = refl
-beside-run w (line.Cut calls fill s) = refl
-beside-run w (line.Fail call s) = refl
+beside-run w _ = refl
 
-after-run : (c : Node) (w : World) (r : Ran) → world_after c w r ≡ run w (happened_in c w r)
+after-run : (c : Node) (w : World) (r : Ran) → world_after c w r ≡ occur w (happened_in c w r)
 after-run c w r = go (names c r.line) refl
   where
-    go : (b : Bool) → names c r.line ≡ b → world_after c w r ≡ run w (happened_in c w r)
+    go : (b : Bool) → names c r.line ≡ b → world_after c w r ≡ occur w (happened_in c w r)
     go true h = rw h (line-run w r.line r.kept)
     go false h = rw h (beside-run w r.line)
 
-pub whole-run : (c : Node) (w : World) (rs : List Ran) → whole_from c w rs ≡ run w (happened_from c w rs)
+pub whole-run : (c : Node) (w : World) (rs : List Ran) → whole_from c w rs ≡ occur w (happened_from c w rs)
 whole-run c w [] = refl
 whole-run c w (r ∷ rs) =
     whole-run c (world_after c w r) rs
-    ∙ (ap (λ (x : World). run x (happened_from c (world_after c w r) rs)) (after-run c w r)
+    ∙ (ap (λ (x : World). occur x (happened_from c (world_after c w r) rs)) (after-run c w r)
     ∙ sym (run-append w (happened_in c w r) (happened_from c (world_after c w r) rs)))
 
 plain-beside : (l : Line) → AllPlain (happened_beside l)
 plain-beside (line.Step s) = tt
 plain-beside (line.Calm c k) = tt
-plain-beside (line.Stop n) = (tt, tt)
-plain-beside (line.Start n) = (tt, tt)
 plain-beside (line.Roll n) = tt
-plain-beside (line.Cut calls fill s) = (tt, tt)
-plain-beside (line.Fail call s) = (tt, tt)
+plain-beside _ = (tt, tt)
 
 plain-after : (c : Node) (w : World) (r : Ran) → line_fits r ≡ true → AllPlain (happened_in c w r)
 plain-after c w r h = if_holds AllPlain (names c r.line) (occurrences_in w r.line r.kept) (happened_beside r.line) (λ q. plain-line w r.line r.kept h) (λ q. plain-beside r.line)

@@ -21,14 +21,7 @@ module _ {V : Type 0} (may : V → Bool) where
   -- what a change queues meets the test
   abbrev pub joins : GroupChange V → Bool
   joins (change.Queue v) = may v
-  joins (change.Refuse v why) = true
-  joins (change.Begin r) = true
-  joins (change.Seen r) = true
-  joins (change.Promise r v) = true
-  joins change.Abort = true
-  joins (change.Commit r v) = true
-  joins (change.Restore next seen) = true
-  joins (change.Kept v why) = true
+  joins _ = true
 
   abbrev pub AllJoin : List (GroupChange V) → Type 0
   AllJoin xs = list_all joins xs ≡ true
@@ -83,8 +76,7 @@ module _ {V : Type 0} (may : V → Bool) where
 
   join-admitted : (g : Group V) (m : Member V) (sender : ℕ) (v : V) (a : Admit) → may v ≡ true → Join (admitted g m sender v a)
   join-admitted g m sender v admit.Take h = join-forwarded g m sender v (found (g.rules.same_key v) (values m.history)) h
-  join-admitted g m sender v admit.Ignore h = refl
-  join-admitted g m sender v (admit.Return why) h = refl
+  join-admitted g m sender v _ h = refl
 
   join-strayed : (gen sender : ℕ) (v : V) (o : Option Reason) → Join (strayed gen sender v o)
   join-strayed gen sender v None = refl
@@ -156,10 +148,5 @@ module _ {V : Type 0} (may : V → Bool) where
   pub pending-changed : (rules : Rules V) (m : Member V) (x : GroupChange V) → joins x ≡ true → list_all may m.pending ≡ true → list_all may (changed rules m x).pending ≡ true
   pending-changed rules m (change.Queue v) k h = all-append m.pending (v ∷ []) h (rw k)
   pending-changed rules m (change.Refuse v why) k h = all-without (rules.same_key v) m.pending h
-  pending-changed rules m (change.Begin r) k h = h
-  pending-changed rules m (change.Seen r) k h = h
-  pending-changed rules m (change.Promise r v) k h = h
-  pending-changed rules m change.Abort k h = h
   pending-changed rules m (change.Commit r v) k h = all-without (rules.same_key v) m.pending h
-  pending-changed rules m (change.Restore next seen) k h = h
-  pending-changed rules m (change.Kept v why) k h = h
+  pending-changed rules m _ k h = h

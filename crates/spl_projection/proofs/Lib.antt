@@ -10,6 +10,5 @@ pub mod Rolls
 pub mod Moments
 pub mod Outcomes
 pub mod Happens
-pub mod OneList
 pub mod Refusals
 pub mod Examples

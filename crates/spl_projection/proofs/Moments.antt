@@ -8,12 +8,12 @@ use Rattle.spl_sched.specs.declared.line.Step.TheVariants as step
 use Rattle.spl_sched.specs.declared.line.Line.{Line}
 use Rattle.spl_sched.specs.declared.line.Line.TheVariants as line
 use Rattle.spl_rules.specs.Cells.{Cell}
-use Rattle.spl_model.specs.Worlds.{World, first_world, messages, Occurrence, Steps, run}
+use Rattle.spl_model.specs.Worlds.{World, first_world, messages, Occurrence, Steps, occur}
 use Rattle.spl_model.specs.Calm.{Calming, calming_step, open_nodes, ticks, delivers, takes, pair_turn, to_all, from_all, pass, passes, calm}
 use Rattle.spl_model.specs.Projection.{Ran, plainly, lines_fit, names, concerned}
 use Rattle.spl_model.specs.Answers.{occurrences_in, circuit_world, world_before}
 use Rattle.spl_projection.specs.Whole.{whole_world}
-use Rattle.spl_model.proofs.Lines.{IsRun}
+use Rattle.spl_model.proofs.LinesAsOccurrences.{IsRun}
 use Rattle.spl_projection.specs.Same.{IsSameFor}
 use Rattle.spl_projection.specs.Moments.{IsMoment, AreAtMoment}
 use Rattle.spl_projection.proofs.Confined.{step-here}
@@ -24,13 +24,8 @@ use Rattle.spl_projection.proofs.Owns.{IsPair, pair-first, IsLineWithin, named-w
 module _ (ns : List Node) where
   -- the same happens in a line
   occurrences-same : (w v : World) (l : Line) (kept : Bool) → IsPair ns w v → occurrences_in w l kept ≡ occurrences_in v l kept
-  occurrences-same w v (line.Step s) kept p = refl
   occurrences-same w v (line.Calm c k) kept p = (calm-alike ns c w v k p.alike p.confined).happened
-  occurrences-same w v (line.Stop n) kept p = refl
-  occurrences-same w v (line.Start n) kept p = refl
-  occurrences-same w v (line.Roll n) kept p = refl
-  occurrences-same w v (line.Cut calls f s) kept p = refl
-  occurrences-same w v (line.Fail call s) kept p = refl
+  occurrences-same w v _ kept p = refl
 
   -- at these nodes
   occurrences-here : (w v : World) (l : Line) (kept : Bool) → IsLineWithin ns l → IsPair ns w v → AllHere ns (occurrences_in v l kept)
@@ -48,9 +43,9 @@ module _ (ns : List Node) where
 
   moment-alike : (w v m : World) (r : Ran) → IsLineWithin ns r.line → IsPair ns w v → IsMoment v r m → (n : World) × IsMoment w r n × IsSameFor ns n m
   moment-alike w v m r h p i = (
-    run w i.happened,
+    occur w i.happened,
     record { happened = i.happened; later = i.later; all = i.all ∙ sym (occurrences-same w v r.line r.kept p); is = refl },
-    same-alike ns (run w i.happened) m (subst (λ (x : World). IsAlike ns (run w i.happened) x) (sym i.is)
+    same-alike ns (occur w i.happened) m (subst (λ (x : World). IsAlike ns (occur w i.happened) x) (sym i.is)
         (run-alike ns w v i.happened p.alike (here-front i.happened i.later (subst (λ (es : List Occurrence). AllHere ns es) (sym i.all) (occurrences-here w v r.line r.kept h p))))),
   )
 

@@ -20,7 +20,7 @@ use Rattle.spl_model.specs.Projection.{Ran, plainly, line_fits, lines_fit, names
 use Rattle.spl_model.specs.Answers.{bit_of, halt_answer, line_answer, line_world, lines_world, circuit_world, world_before, roll_answer, answer_to}
 use Rattle.spl_projection.specs.Whole.{world_beside, world_after, whole_from, whole_world}
 use Rattle.spl_model.proofs.Nodes.{node_is, node_same}
-use Rattle.spl_model.proofs.Lines.{plain-step}
+use Rattle.spl_model.proofs.LinesAsOccurrences.{plain-step}
 use Rattle.spl_projection.proofs.Within.{are_within, within-empty}
 use Rattle.spl_projection.proofs.Confined.{IsConfined, confined-first, IsStepWithin, step-here, confined-step, confined-happens}
 use Rattle.spl_projection.proofs.Alike.{IsAlike, alike-same, same-alike, up-alike, plan-alike, step-alike, happens-alike, stops-aside, starts-aside}
@@ -103,25 +103,21 @@ module _ (ns : List Node) where
       go (inr q) = subst (λ (b : Bool). IsPair (lines_world w (pick b)) (happens v (Starts n))) (sym q) (record { alike = starts-aside ns w v n q p.alike; confined = confined })
 
   pub beside-pair : (w v : World) (l : Line) → IsPair w v → IsPair (lines_world w (beside ns l)) (world_beside v l)
-  beside-pair w v (line.Step s) p = p
-  beside-pair w v (line.Calm c k) p = p
   beside-pair w v (line.Stop n) p = stops-pair w v n p
   beside-pair w v (line.Start n) p = starts-pair w v n p
-  beside-pair w v (line.Roll n) p = p
   beside-pair w v (line.Cut calls fill s) p = stops-pair w v (step_node s) p
   beside-pair w v (line.Fail call s) p = stops-pair w v (step_node s) p
+  beside-pair w v _ p = p
 
   -- ---- lines
 
   -- a line that names a circuit concerns what it touches
   pub named-within : (c : Node) (l : Line) → names c l ≡ true → are_within ns (line_concerns l) ≡ true → IsLineWithin l
-  named-within c (line.Step s) h k = k
   named-within c (line.Calm i j) h k = tt
   named-within c (line.Stop n) h k = cc
   named-within c (line.Start n) h k = cc
   named-within c (line.Roll n) h k = tt
-  named-within c (line.Cut calls f s) h k = k
-  named-within c (line.Fail call s) h k = k
+  named-within c _ h k = k
 
   -- where it names the circuit, what it concerns is among the nodes
   abbrev pub Concerns : Node → Ran → Type 0
@@ -216,16 +212,13 @@ pub answer-alike : (ws vs : Node → World) (roll : Node → Answer) (l : Line) 
 answer-alike ws vs roll (line.Step s) kept h =
     let k : IsAlikeFor (line.Step s) (ws (step_circuit s)) (vs (step_circuit s)) = h (step_circuit s) (node_same (step_circuit s)) in
     ap (λ (p : Plan). p.answer) (plan-alike k.nodes (ws (step_circuit s)) (vs (step_circuit s)) s k.alike (step-here k.nodes s k.within))
-answer-alike ws vs roll (line.Calm c k) kept h = refl
-answer-alike ws vs roll (line.Stop n) kept h = refl
-answer-alike ws vs roll (line.Start n) kept h = refl
-answer-alike ws vs roll (line.Roll n) kept h = refl
 answer-alike ws vs roll (line.Cut calls fill s) kept h =
     let k : IsAlikeFor (line.Cut calls fill s) (ws (step_circuit s)) (vs (step_circuit s)) = h (step_circuit s) (node_same (step_circuit s)) in
     halt-same k.nodes answer.Cut (ws (step_circuit s)) (vs (step_circuit s)) s kept k.within k.alike
 answer-alike ws vs roll (line.Fail call s) kept h =
     let k : IsAlikeFor (line.Fail call s) (ws (step_circuit s)) (vs (step_circuit s)) = h (step_circuit s) (node_same (step_circuit s)) in
     halt-same k.nodes answer.Fault (ws (step_circuit s)) (vs (step_circuit s)) s kept k.within k.alike
+answer-alike ws vs roll _ kept h = refl
 
 -- among any nodes that have all that is concerned, the world behind the own lines is alike to the one behind all lines
 pub alike-for : (all ns : List Node) (c : Node) (before : List Ran) (r : Ran) → lines_fit (before ++ r ∷ []) ≡ true → AllConcern ns c (before ++ r ∷ []) → names c r.line ≡ true → IsAlikeFor r.line (lines_world (first_world all) (own_among c ns before)) (whole_world all c before)

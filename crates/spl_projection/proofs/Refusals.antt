@@ -40,13 +40,11 @@ module _ (ns : List Node) (before : List Ran) (why : Refusal) where
       up q = ap (λ (b : Bool). if b then say (bit_of kept (step_plan here s).changes) else answer.Refused refusal.Down) q
 
   unmoved-beside : (roll : Node → Answer) (l : Line) (kept : Bool) (c : Node) → line_answer worlds roll l kept ≡ answer.Refused why → IsUnmoved (worlds c) (world_beside (worlds c) l)
-  unmoved-beside roll (line.Step s) kept c h = unmoved-same (worlds c)
-  unmoved-beside roll (line.Calm i k) kept c h = unmoved-same (worlds c)
   unmoved-beside roll (line.Stop n) kept c h = cc
   unmoved-beside roll (line.Start n) kept c h = cc
-  unmoved-beside roll (line.Roll n) kept c h = unmoved-same (worlds c)
   unmoved-beside roll (line.Cut calls fill s) kept c h = unmoved-stop answer.Cut s kept c (λ b x. cc) h
   unmoved-beside roll (line.Fail call s) kept c h = unmoved-stop answer.Fault s kept c (λ b x. cc) h
+  unmoved-beside roll _ kept c h = unmoved-same (worlds c)
 
 pub unmoved-worlds : (ns : List Node) (before : List Ran) (r : Ran) (why : Refusal) (c : Node) → lines_fit (before ++ r ∷ []) ≡ true → answer_to ns before r ≡ answer.Refused why → IsUnmoved (whole_world ns c before) (whole_world ns c (before ++ r ∷ []))
 unmoved-worlds ns before r why c f h = go (bool_cases (names c r.line))

@@ -12,7 +12,7 @@ use Rattle.spl_model.specs.Worlds.{World, first_world}
 use Rattle.spl_model.specs.Projection.{Ran, line_fits, lines_fit, names, line_concerns, concerned, at_one_of, beside, own_line, own_among, own}
 use Rattle.spl_model.specs.Answers.{line_answer, line_world, lines_world, roll_answer, answer_to, answers_about}
 use Rattle.spl_projection.specs.Whole.{whole_world}
-use Rattle.spl_model.proofs.Lines.{fit-append}
+use Rattle.spl_model.proofs.LinesAsOccurrences.{fit-append}
 use Rattle.spl_projection.proofs.Owns.{IsPair, pair-first, named-within, names-is, IsAlikeFor, answer-alike, AllConcern, lines-append, lines-pair, within-same, all-concern, own-append, answer-whole}
 
 -- the answer to a line that names a circuit, in a world of it
@@ -28,13 +28,8 @@ named_answers c w (r ∷ rs) =
 
 -- no line that names a circuit asks for a roll
 unrolled : (c : Node) (ws : Node → World) (roll roll2 : Node → Answer) (l : Line) (kept : Bool) → names c l ≡ true → line_answer ws roll l kept ≡ line_answer ws roll2 l kept
-unrolled c ws roll roll2 (line.Step s) kept q = refl
-unrolled c ws roll roll2 (line.Calm i k) kept q = refl
-unrolled c ws roll roll2 (line.Stop n) kept q = refl
-unrolled c ws roll roll2 (line.Start n) kept q = refl
 unrolled c ws roll roll2 (line.Roll n) kept q = cc
-unrolled c ws roll roll2 (line.Cut calls f s) kept q = refl
-unrolled c ws roll roll2 (line.Fail call s) kept q = refl
+unrolled c ws roll roll2 _ kept q = refl
 
 -- a line names one circuit
 named-one_circuit : (c i : Node) (l : Line) → names c l ≡ true → names i l ≡ true → i ≡ c
@@ -45,13 +40,11 @@ named-one : (c : Node) (w : World) (ns : List Node) (n : Node) (l : Line) (xs : 
 named-one c w ns n l xs h = if_holds (λ (ys : List Ran). named_answers c w (ys ++ xs) ≡ named_answers c (lines_world w ys) xs) (has_node ns n) _ _ (λ q. rw h) (λ q. refl)
 
 named-beside : (c : Node) (w : World) (ns : List Node) (l : Line) (xs : List Ran) → named_answers c w (beside ns l ++ xs) ≡ named_answers c (lines_world w (beside ns l)) xs
-named-beside c w ns (line.Step s) xs = refl
-named-beside c w ns (line.Calm i k) xs = refl
 named-beside c w ns (line.Stop n) xs = named-one c w ns n (line.Stop n) xs refl
 named-beside c w ns (line.Start n) xs = named-one c w ns n (line.Start n) xs refl
-named-beside c w ns (line.Roll n) xs = refl
 named-beside c w ns (line.Cut calls f s) xs = named-one c w ns (step_node s) (line.Stop (step_node s)) xs refl
 named-beside c w ns (line.Fail call s) xs = named-one c w ns (step_node s) (line.Stop (step_node s)) xs refl
+named-beside c w ns _ xs = refl
 
 module _ (all : List Node) (c : Node) (ns : List Node) where
   -- the world behind own lines

@@ -70,22 +70,19 @@ halts-up : (w : World) (kept : Bool) (s : Step) (n : Node) → (happens w (Halts
 halts-up w kept s n = if_holds (λ (x : World). x.up n ≡ (if bytes_eq n (step_node s) then false else w.up n)) (w.up (step_node s)) (halted w (step_node s) kept (step_plan w s)) w (λ q. put-up w.up (step_node s) n false) (λ q. still-up w.up (step_node s) n false q)
 
 line-up : (w : World) (l : Line) (kept : Bool) (n : Node) → (line_world w l kept).up n ≡ up_after n (w.up n) l
-line-up w (line.Step s) kept n = refl
 line-up w (line.Calm c k) kept n = ap (λ (f : Node → Bool). f n) (calm-up c w k)
 line-up w (line.Stop m) kept n = stops-up w m n
 line-up w (line.Start m) kept n = starts-up w m n
-line-up w (line.Roll m) kept n = refl
 line-up w (line.Cut calls f s) kept n = halts-up w kept s n
 line-up w (line.Fail call s) kept n = halts-up w kept s n
+line-up w _ kept n = refl
 
 beside-up : (w : World) (l : Line) (n : Node) → (world_beside w l).up n ≡ up_after n (w.up n) l
-beside-up w (line.Step s) n = refl
-beside-up w (line.Calm c k) n = refl
 beside-up w (line.Stop m) n = stops-up w m n
 beside-up w (line.Start m) n = starts-up w m n
-beside-up w (line.Roll m) n = refl
 beside-up w (line.Cut calls f s) n = stops-up w (step_node s) n
 beside-up w (line.Fail call s) n = stops-up w (step_node s) n
+beside-up w _ n = refl
 
 after-up : (c : Node) (w : World) (r : Ran) (n : Node) → (world_after c w r).up n ≡ up_after n (w.up n) r.line
 after-up c w r n = if_holds (λ (x : World). x.up n ≡ up_after n (w.up n) r.line) (names c r.line) (line_world w r.line r.kept) (world_beside w r.line) (λ q. line-up w r.line r.kept n) (λ q. beside-up w r.line n)

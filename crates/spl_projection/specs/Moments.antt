@@ -2,7 +2,7 @@
 use Rattle.std.specs.Prelude.{◌≡◌, true, false, List, ◌++◌}
 use Rattle.spl_circuit.specs.Nodes.{Node}
 use Rattle.spl_rules.specs.Cells.{Cell}
-use Rattle.spl_model.specs.Worlds.{World, Occurrence, run}
+use Rattle.spl_model.specs.Worlds.{World, Occurrence, occur}
 use Rattle.spl_model.specs.Projection.{Ran, names}
 use Rattle.spl_model.specs.Answers.{occurrences_in}
 
@@ -11,7 +11,7 @@ pub record IsMoment (w : World) (r : Ran) (m : World) : Type 0 where
   pub happened : List Occurrence
   pub later : List Occurrence
   pub all : happened ++ later ≡ occurrences_in w r.line r.kept
-  pub is : m ≡ run w happened
+  pub is : m ≡ occur w happened
 
 -- what each node keeps of each circuit at one moment of a line: of the circuit that the line names, what its world has at
 -- that moment, the same for all nodes; of any other, what its world has before the line

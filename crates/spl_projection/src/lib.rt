@@ -11,7 +11,6 @@ ghost use Rattle.spl_rules.specs.Cells.{Cell, Empty, is_bound};
 ghost use Rattle.spl_model.specs.Worlds.{World, IsUnmoved, Halts, step_plan, happens};
 ghost use Rattle.spl_model.specs.Projection.{Ran, lines_fit, names, concerned, beside, own};
 ghost use Rattle.spl_model.specs.Answers.{line_answer, line_world, circuit_world, world_before, is_up, bound_at, roll_answer, answer_to, answers_about};
-ghost use Rattle.spl_model.specs.OneList.{TellOneList};
 ghost use Rattle.spl_projection.specs.Whole.{world_beside, whole_world};
 ghost use Rattle.spl_projection.specs.Same.{IsSameFor};
 ghost use Rattle.spl_projection.specs.Moments.{IsMoment, AreAtMoment};
@@ -50,12 +49,6 @@ pub fn rolls_have_what_is_bound()
     ensures ordered { (ns : List Node) (rs : List Ran) (n : Node) → ascends (bound_at ns rs n) ≡ true }
     ensures bound { (ns : List Node) (rs : List Ran) (n c : Node) → lines_fit rs ≡ true → has_node (bound_at ns rs n) c ≡ is_bound ((whole_world ns c rs).at n) }
     ensures only { (ns : List Node) (rs : List Ran) (n : Node) (xs : List Node) → lines_fit rs ≡ true → ascends xs ≡ true → ((c : Node) → has_node xs c ≡ is_bound ((whole_world ns c rs).at n)) → xs ≡ bound_at ns rs n }
-{}
-
-/// What nodes that are bound to one definition tell about a circuit, in whatever lines, is of one
-/// list: roots of as many batches are one root, and of two histories one begins the other.
-pub fn members_tell_one_list()
-    ensures { (ns : List Node) (rs : List Ran) → lines_fit rs ≡ true → TellOneList ns rs }
 {}
 
 /// A line that is refused, whatever the refusal, leaves the world of each circuit as it was.

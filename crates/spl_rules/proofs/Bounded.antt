@@ -1,6 +1,6 @@
 -- No batch of a packed form breaks a rule, and its records are within the bounds.
 use Rattle.std.proofs.Common.{◌≡◌, ◌⊎◌, ℕ, true, false, ◌&&◌, IsTrue, List, [], ◌∷◌, ◌++◌, refl, inl, inr}
-use Rattle.std.specs.Prelude.{Option, Some, None, nat_le}
+use Rattle.std.specs.Prelude.{map, Option, Some, None, nat_le}
 use Rattle.std.specs.List.{list_all}
 use Rattle.spl_base.specs.FormLaws.{both_true, and_true}
 use Rattle.spl_agree.specs.declared.reason.Reason.{Reason}
@@ -12,17 +12,16 @@ use Rattle.spl_agree.proofs.Tests.{bool_cases, and_left, and_right}
 use Rattle.spl_circuit.specs.declared.act.Act.{Act}
 use Rattle.spl_circuit.specs.declared.lifecycle.Mark.{Mark}
 use Rattle.spl_circuit.specs.declared.lifecycle.Mark.TheVariants as mark
-use Rattle.spl_circuit.specs.Nodes.{Node}
 use Rattle.spl_circuit.specs.Forms.{circuit_id}
 use Rattle.spl_command.specs.declared.batch.Batch.{Batch}
 use Rattle.spl_scabbard.specs.Checks.{misfit_batch, batch_rules}
 use Rattle.spl_wire.specs.Changes.{change_form}
 use Rattle.spl_wire.specs.declared.change.Change.{Change}
+use Rattle.spl_wire.specs.declared.change.Change.TheVariants as durable
 use Rattle.spl_wire.specs.Grouping.{value_in, breaks_no_rule, is_lawful, is_small, is_sized, grouped}
 use Rattle.spl_wire.proofs.Groups.{sized-grouped}
 use Rattle.spl_wire.proofs.Small.{small-change}
-use Rattle.spl_rules.specs.Cells.{Cell, Empty, Held, Purged, runs}
-use Rattle.spl_rules.specs.Plans.{admin_changes, service_changes}
+use Rattle.spl_rules.specs.Cells.{Cell, Empty, Held, Site, is_active_here}
 use Rattle.spl_rules.specs.Changes.{may_serve, applied}
 use Rattle.spl_rules.specs.Pack.{packed_batches, packed_mark, packed}
 use Rattle.spl_rules.proofs.Keys.{Each}
@@ -64,35 +63,33 @@ all-append : (xs ys : List Change) → AllLawful xs → AllLawful ys → AllLawf
 all-append [] ys h k = k
 all-append (x ∷ xs) ys h k = rw (and_left (is_lawful x) (list_all is_lawful xs) h, all-append xs ys (and_right (is_lawful x) (list_all is_lawful xs) h) k)
 
-all-admin : (xs : List (GroupChange Act)) → AllLawful (admin_changes xs)
+all-admin : (xs : List (GroupChange Act)) → AllLawful (map durable.Admin xs)
 all-admin [] = refl
 all-admin (x ∷ xs) = all-admin xs
 
-all-service : (xs : List (GroupChange Batch)) → Each Lawful xs → AllLawful (service_changes xs)
+all-service : (xs : List (GroupChange Batch)) → Each Lawful xs → AllLawful (map durable.Service xs)
 all-service [] h = refl
 all-service (x ∷ xs) h = rw (h.0, all-service xs h.1)
 
 all-mark : (m : Mark) → AllLawful (packed_mark m)
-all-mark mark.Open = refl
 all-mark mark.Abandoned = refl
-all-mark mark.Purged = refl
+all-mark _ = refl
 
-lawful-packed : (here c : Node) (k : Cell) → Made here c k → AllLawful (packed k)
-lawful-packed here c Empty s = refl
-lawful-packed here c (Purged old) s = refl
-lawful-packed here c (Held d m turn a b) s = all-append (admin_changes (packed_member a)) _ (all-admin (packed_member a)) (all-append (packed_batches d a b) (packed_mark m) (go (bool_cases (runs d a))) (all-mark m))
+lawful-packed : (site : Site) (k : Cell) → Made site k → AllLawful (packed k)
+lawful-packed site (Held h) s = all-append (map durable.Admin (packed_member h.acts)) _ (all-admin (packed_member h.acts)) (all-append (packed_batches h) (packed_mark h.mark) (go (bool_cases (is_active_here h))) (all-mark h.mark))
   where
-    batches : Each Lawful (packed_member b)
+    batches : Each Lawful (packed_member h.batches)
     batches = (
       refl,
-      lawful-append (kept_each b.refused) _ (lawful-kept b.refused s.refused_lawful)
-          (lawful-append (committed_each b.history) _ (lawful-committed [] b.history s.batches.good)
-          (lawful-append (queued_each b.pending) _ (lawful-queued b.pending s.pending_lawful) (lawful-promised (values b.history) b.promise (λ e p. (s.batches.promised e p).good)))),
+      lawful-append (kept_each h.batches.refused) _ (lawful-kept h.batches.refused s.refused_lawful)
+          (lawful-append (committed_each h.batches.history) _ (lawful-committed [] h.batches.history s.batches.good)
+          (lawful-append (queued_each h.batches.pending) _ (lawful-queued h.batches.pending s.pending_lawful) (lawful-promised (values h.batches.history) h.batches.promise (λ e p. (s.batches.promised e p).good)))),
     )
 
-    go : (runs d a ≡ true) ⊎ (runs d a ≡ false) → AllLawful (packed_batches d a b)
-    go (inl q) = rw q (all-service (packed_member b) batches)
+    go : (is_active_here h ≡ true) ⊎ (is_active_here h ≡ false) → AllLawful (packed_batches h)
+    go (inl q) = rw q (all-service (packed_member h.batches) batches)
     go (inr q) = rw q
+lawful-packed site k s = refl
 
 small-all : (c : List ℕ) (xs : List Change) → IsTrue (circuit_id.fits c) → IsTrue (list_all change_form.fits xs) → AllLawful xs → list_all (is_small c) xs ≡ true
 small-all c [] h w l = refl
@@ -101,8 +98,8 @@ small-all c (x ∷ xs) h w l =
     let one : IsTrue (circuit_id.fits c && (nat_le 1 64 && (change_form.fits x && true))) = and_true (circuit_id.fits c) _ h (and_true (change_form.fits x) true b.0 refl) in
     rw (small-change c x one (and_left (is_lawful x) (list_all is_lawful xs) l), small-all c xs h b.1 (and_right (is_lawful x) (list_all is_lawful xs) l))
 
-pub packed-written : (here c : Node) (xs : List Change) → IsTrue (list_all change_form.fits xs) → IsTrue (list_all change_form.fits (packed (applied here c Empty xs)))
-packed-written here c xs w = written-packed (applied here c Empty xs) (written-applied here c Empty xs w tt)
+pub packed-written : (site : Site) (xs : List Change) → IsTrue (list_all change_form.fits xs) → IsTrue (list_all change_form.fits (packed (applied site Empty xs)))
+packed-written site xs w = written-packed (applied site Empty xs) (written-applied site Empty xs w tt)
 
-pub packed-sized : (here c : Node) (xs : List Change) → IsTrue (circuit_id.fits c) → IsTrue (list_all change_form.fits xs) → list_all (is_sized c) (grouped c (packed (applied here c Empty xs))) ≡ true
-packed-sized here c xs h w = sized-grouped c (packed (applied here c Empty xs)) (small-all c (packed (applied here c Empty xs)) h (packed-written here c xs w) (lawful-packed here c (applied here c Empty xs) (made-applied here c Empty xs tt)))
+pub packed-sized : (site : Site) (xs : List Change) → IsTrue (circuit_id.fits site.circuit) → IsTrue (list_all change_form.fits xs) → list_all (is_sized site.circuit) (grouped site.circuit (packed (applied site Empty xs))) ≡ true
+packed-sized site xs h w = sized-grouped site.circuit (packed (applied site Empty xs)) (small-all site.circuit (packed (applied site Empty xs)) h (packed-written site xs w) (lawful-packed site (applied site Empty xs) (made-applied site Empty xs tt)))

@@ -63,8 +63,8 @@ pub record IsFresh {V : Type 0} (m : Member V) : Type 0 where
   pub seen : m.seen ≡ 0
   pub next : m.next ≡ 1
 
-pub fresh : {V : Type 0} (m : Member V) → is_new m ≡ true → IsFresh m
-fresh m h =
+pub is-fresh : {V : Type 0} (m : Member V) → is_new m ≡ true → IsFresh m
+is-fresh m h =
     let k : (length m.refused == 0 && (m.seen == 0 && m.next == 1)) ≡ true = and_right (has_nothing m) _ h in
     let l : (m.seen == 0 && m.next == 1) ≡ true = and_right (length m.refused == 0) _ k in
     record {
@@ -166,7 +166,7 @@ module _ {V : Type 0} (rules : Rules V) (may : V → Bool) (m : Member V) where
   built-restore : (next seen : ℕ) → Keeps (change.Restore next seen)
   built-restore next seen h s =
       let both : (nat_lt 0 next && nat_lt next (2 ^ 64)) ≡ true = and_right (is_new m) _ h in
-      let b : IsFresh m = fresh m (and_left (is_new m) _ h) in
+      let b : IsFresh m = is-fresh m (and_left (is_new m) _ h) in
       let none : m.promise ≡ None = b.bare.promise in
       record {
         good = s.good;

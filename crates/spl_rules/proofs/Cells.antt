@@ -2,7 +2,7 @@
 use Rattle.std.proofs.Common.{◌≡◌, ℕ, true, ◌&&◌, IsTrue, List, [], ◌∷◌, Bool, Option, refl, sym, subst}
 use Rattle.std.specs.Prelude.{None, nat_lt, is_none}
 use Rattle.std.specs.Str.{bytes_eq}
-use Rattle.spl_agree.specs.Member.{Rules, Group, Member, new_member, values, changed, moved}
+use Rattle.spl_agree.specs.Member.{Rules, Group, Member, values, changed, moved}
 use Rattle.spl_agree.specs.Fits.{is_new, fits as fits_group}
 use Rattle.spl_agree.specs.declared.event.GroupChange.{GroupChange}
 use Rattle.spl_agree.specs.declared.event.OpenMove.{OpenMove}
@@ -12,10 +12,9 @@ use Rattle.spl_group.proofs.Sound.{is_none_is}
 use Rattle.spl_group.proofs.Fits.{roomy-open}
 use Rattle.spl_circuit.specs.declared.definition.Definition.{Definition}
 use Rattle.spl_circuit.specs.declared.act.Act.{Act}
-use Rattle.spl_circuit.specs.declared.lifecycle.Mark.{Mark}
 use Rattle.spl_circuit.specs.declared.lifecycle.Mark.TheVariants as mark
 use Rattle.spl_circuit.specs.Forms.{definition}
-use Rattle.spl_circuit.specs.Nodes.{Node, position}
+use Rattle.spl_circuit.specs.Nodes.{position}
 use Rattle.spl_circuit.specs.Rules.{broken, is_member}
 use Rattle.spl_circuit.specs.Acts.{act_rules}
 use Rattle.spl_circuit.specs.Lifecycle.{life, is_active}
@@ -23,8 +22,8 @@ use Rattle.spl_command.specs.declared.batch.Batch.{Batch}
 use Rattle.spl_scabbard.specs.Checks.{batch_rules}
 use Rattle.spl_wire.specs.declared.change.Change.{Change}
 use Rattle.spl_wire.specs.declared.change.Change.TheVariants as durable
-use Rattle.spl_rules.specs.Cells.{Cell, Empty, Held, Purged, admin_group, service_group, is_open, is_free, runs}
-use Rattle.spl_rules.specs.Changes.{may_queue, may_serve, may_keep, fits_free, applied_one, applied, moved_cell, stopped_cell}
+use Rattle.spl_rules.specs.Cells.{Bound, Cell, Empty, Held, Purged, Site, fresh, admin_group, service_group, is_open, is_free, is_active_here}
+use Rattle.spl_rules.specs.Changes.{turn_after, may_queue, may_serve, may_keep, fits_free, applied_one, applied, moved_cell, stopped_cell}
 use Rattle.spl_wire.specs.Grouping.{value_in, meets}
 use Rattle.spl_wire.specs.Bounds.{has_form, is_formed}
 use Rattle.spl_rules.specs.Valid.{IsKeptMember, AllMeet, IsHeld, IsKept, IsValid, FitsMoveAt, are_formed}
@@ -34,15 +33,15 @@ use Rattle.spl_rules.proofs.Lawful.{fitting-lawful}
 -- ---- changes
 
 -- a cell that is bound to a definition that fits
-kept-bound : (here c : Node) (k : Cell) (d : Definition) → fits_free here c k (durable.Bind d) ≡ true → IsTrue (definition.fits d) → IsHeld here c d mark.Open new_member new_member
-kept-bound here c k d h w =
-    let own : (bytes_eq d.id c && (is_none (broken d) && is_member d here)) ≡ true = and_right (is_free k d.generation) _ h in
-    let ruled : (is_none (broken d) && is_member d here) ≡ true = and_right (bytes_eq d.id c) _ own in
+kept-bound : (site : Site) (k : Cell) (d : Definition) → fits_free site k (durable.Bind d) ≡ true → IsTrue (definition.fits d) → IsHeld site (fresh d)
+kept-bound site k d h w =
+    let own : (bytes_eq d.id site.circuit && (is_none (broken d) && is_member d site.here)) ≡ true = and_right (is_free k d.generation) _ h in
+    let ruled : (is_none (broken d) && is_member d site.here) ≡ true = and_right (bytes_eq d.id site.circuit) _ own in
     record {
-      ruled = is_none_is (broken d) (and_left (is_none (broken d)) (is_member d here) ruled);
+      ruled = is_none_is (broken d) (and_left (is_none (broken d)) (is_member d site.here) ruled);
       defined = w;
-      own = and_left (bytes_eq d.id c) _ own;
-      member = and_right (is_none (broken d)) (is_member d here) ruled;
+      own = and_left (bytes_eq d.id site.circuit) _ own;
+      member = and_right (is_none (broken d)) (is_member d site.here) ruled;
       acts = checked-new (act_rules d);
       batches = checked-new batch_rules;
       formed = meets-new has_form;
@@ -50,51 +49,44 @@ kept-bound here c k d h w =
       closed = λ e. cc;
     }
 
-kept-admin : (here c : Node) (d : Definition) (m : Mark) (turn : ℕ) (a : Member Act) (b : Member Batch) (x : GroupChange Act) → (is_open m && fits_group (act_rules d) (may_queue here turn a.pending) a x) ≡ true → meets has_form (value_in x) ≡ true → IsHeld here c d m a b → IsHeld here c d m (changed (act_rules d) a x) b
-kept-admin here c d m turn a b x h w s =
-    let unclosed : is_open m ≡ true = and_left (is_open m) _ h in
-    let fit : fits_group (act_rules d) (may_queue here turn a.pending) a x ≡ true = and_right (is_open m) _ h in
-    record { ruled = s.ruled; defined = s.defined; own = s.own; member = s.member; acts = checked-changed (act_rules d) (may_queue here turn a.pending) a x fit s.acts; batches = s.batches; formed = meets-changed (act_rules d) has_form a x w s.formed; lawful = s.lawful; closed = λ e. cc }
+kept-admin : (site : Site) (h : Bound) (x : GroupChange Act) → (is_open h.mark && fits_group (act_rules h.definition) (may_queue site.here h.turn h.acts.pending) h.acts x) ≡ true → meets has_form (value_in x) ≡ true → IsHeld site h → IsHeld site (record h { turn = turn_after site.here h.turn x; acts = changed (act_rules h.definition) h.acts x })
+kept-admin site h x q w s =
+    let unclosed : is_open h.mark ≡ true = and_left (is_open h.mark) _ q in
+    let fit : fits_group (act_rules h.definition) (may_queue site.here h.turn h.acts.pending) h.acts x ≡ true = and_right (is_open h.mark) _ q in
+    record { ruled = s.ruled; defined = s.defined; own = s.own; member = s.member; acts = checked-changed (act_rules h.definition) (may_queue site.here h.turn h.acts.pending) h.acts x fit s.acts; batches = s.batches; formed = meets-changed (act_rules h.definition) has_form h.acts x w s.formed; lawful = s.lawful; closed = λ e. cc }
 
-kept-service : (here c : Node) (d : Definition) (m : Mark) (a : Member Act) (b : Member Batch) (x : GroupChange Batch) → (is_open m && (runs d a && (may_keep x && fits_group batch_rules may_serve b x))) ≡ true → IsHeld here c d m a b → IsHeld here c d m a (changed batch_rules b x)
-kept-service here c d m a b x h s =
-    let both : (may_keep x && fits_group batch_rules may_serve b x) ≡ true = and_right (runs d a) _ (and_right (is_open m) _ h) in
-    let fit : fits_group batch_rules may_serve b x ≡ true = and_right (may_keep x) _ both in
-    let good : meets may_serve (value_in x) ≡ true = fitting-lawful b x (and_left (may_keep x) _ both) fit s.lawful.pending in
-    record { ruled = s.ruled; defined = s.defined; own = s.own; member = s.member; acts = s.acts; batches = checked-changed batch_rules may_serve b x fit s.batches; formed = s.formed; lawful = meets-changed batch_rules may_serve b x good s.lawful; closed = s.closed }
+kept-service : (site : Site) (h : Bound) (x : GroupChange Batch) → (is_open h.mark && (is_active_here h && (may_keep x && fits_group batch_rules may_serve h.batches x))) ≡ true → IsHeld site h → IsHeld site (record h { batches = changed batch_rules h.batches x })
+kept-service site h x w s =
+    let both : (may_keep x && fits_group batch_rules may_serve h.batches x) ≡ true = and_right (is_active_here h) _ (and_right (is_open h.mark) _ w) in
+    let fit : fits_group batch_rules may_serve h.batches x ≡ true = and_right (may_keep x) _ both in
+    let good : meets may_serve (value_in x) ≡ true = fitting-lawful h.batches x (and_left (may_keep x) _ both) fit s.lawful.pending in
+    record { ruled = s.ruled; defined = s.defined; own = s.own; member = s.member; acts = s.acts; batches = checked-changed batch_rules may_serve h.batches x fit s.batches; formed = s.formed; lawful = meets-changed batch_rules may_serve h.batches x good s.lawful; closed = s.closed }
 
-kept-abandon : (here c : Node) (d : Definition) (m : Mark) (a : Member Act) (b : Member Batch) → (is_open m && runs d a) ≡ true → IsHeld here c d m a b → IsHeld here c d mark.Abandoned a b
-kept-abandon here c d m a b h s = record { ruled = s.ruled; defined = s.defined; own = s.own; member = s.member; acts = s.acts; batches = s.batches; formed = s.formed; lawful = s.lawful; closed = λ e. and_right (is_open m) (runs d a) h }
+kept-abandon : (site : Site) (h : Bound) → (is_open h.mark && is_active_here h) ≡ true → IsHeld site h → IsHeld site (record h { mark = mark.Abandoned })
+kept-abandon site h w s = record { ruled = s.ruled; defined = s.defined; own = s.own; member = s.member; acts = s.acts; batches = s.batches; formed = s.formed; lawful = s.lawful; closed = λ e. and_right (is_open h.mark) (is_active_here h) w }
 
-kept-held : (here c : Node) (d : Definition) (m : Mark) (turn : ℕ) (a : Member Act) (b : Member Batch) (x : Change) → is_formed x ≡ true → IsHeld here c d m a b → IsKept here c (applied_one here c (Held d m turn a b) x)
-kept-held here c d m turn a b (durable.Bind e) w s = s
-kept-held here c d m turn a b (durable.Admin x) w s = if_holds (IsKept here c) _ _ _ (λ h. kept-admin here c d m turn a b x h w s) (λ h. s)
-kept-held here c d m turn a b (durable.Service x) w s = if_holds (IsKept here c) _ _ _ (λ h. kept-service here c d m a b x h s) (λ h. s)
-kept-held here c d m turn a b durable.Abandon w s = if_holds (IsKept here c) _ _ _ (λ h. kept-abandon here c d m a b h s) (λ h. s)
-kept-held here c d m turn a b durable.Purge w s = tt
-kept-held here c d m turn a b (durable.Turn t) w s = if_holds (IsKept here c) (is_new a) (Held d m t a b) (Held d m turn a b) (λ h. s) (λ h. s)
-kept-held here c d m turn a b (durable.Gone old) w s = s
+kept-turn : (site : Site) (h : Bound) (t : ℕ) → IsHeld site h → IsHeld site (record h { turn = t })
+kept-turn site h t s = record { ruled = s.ruled; defined = s.defined; own = s.own; member = s.member; acts = s.acts; batches = s.batches; formed = s.formed; lawful = s.lawful; closed = s.closed }
 
-pub kept-one : (here c : Node) (k : Cell) (x : Change) → is_formed x ≡ true → IsKept here c k → IsKept here c (applied_one here c k x)
-kept-one here c Empty (durable.Bind d) w s = if_holds (IsKept here c) _ _ _ (λ h. kept-bound here c Empty d h w) (λ h. tt)
-kept-one here c Empty (durable.Admin x) w s = tt
-kept-one here c Empty (durable.Service x) w s = tt
-kept-one here c Empty durable.Abandon w s = tt
-kept-one here c Empty durable.Purge w s = tt
-kept-one here c Empty (durable.Turn t) w s = tt
-kept-one here c Empty (durable.Gone old) w s = if_holds (IsKept here c) (nat_lt 0 old) (Purged old) Empty (λ h. tt) (λ h. tt)
-kept-one here c (Purged old) (durable.Bind d) w s = if_holds (IsKept here c) _ _ _ (λ h. kept-bound here c (Purged old) d h w) (λ h. tt)
-kept-one here c (Purged old) (durable.Admin x) w s = tt
-kept-one here c (Purged old) (durable.Service x) w s = tt
-kept-one here c (Purged old) durable.Abandon w s = tt
-kept-one here c (Purged old) durable.Purge w s = tt
-kept-one here c (Purged old) (durable.Turn t) w s = tt
-kept-one here c (Purged old) (durable.Gone new) w s = tt
-kept-one here c (Held d m turn a b) x w s = kept-held here c d m turn a b x w s
+kept-held : (site : Site) (h : Bound) (x : Change) → is_formed x ≡ true → IsHeld site h → IsKept site (applied_one site (Held h) x)
+kept-held site h (durable.Bind e) w s = s
+kept-held site h (durable.Admin x) w s = if_holds (IsKept site) _ _ _ (λ q. kept-admin site h x q w s) (λ q. s)
+kept-held site h (durable.Service x) w s = if_holds (IsKept site) _ _ _ (λ q. kept-service site h x q s) (λ q. s)
+kept-held site h durable.Abandon w s = if_holds (IsKept site) _ _ _ (λ q. kept-abandon site h q s) (λ q. s)
+kept-held site h durable.Purge w s = tt
+kept-held site h (durable.Turn t) w s = if_holds (IsKept site) (is_new h.acts) (Held (record h { turn = t })) (Held h) (λ q. kept-turn site h t s) (λ q. s)
+kept-held site h (durable.Gone old) w s = s
 
-pub kept-applied : (here c : Node) (k : Cell) (xs : List Change) → are_formed xs ≡ true → IsKept here c k → IsKept here c (applied here c k xs)
-kept-applied here c k [] w s = s
-kept-applied here c k (x ∷ xs) w s = kept-applied here c (applied_one here c k x) xs (and_right (is_formed x) (are_formed xs) w) (kept-one here c k x (and_left (is_formed x) (are_formed xs) w) s)
+pub kept-one : (site : Site) (k : Cell) (x : Change) → is_formed x ≡ true → IsKept site k → IsKept site (applied_one site k x)
+kept-one site (Held h) x w s = kept-held site h x w s
+kept-one site Empty (durable.Bind d) w s = if_holds (IsKept site) _ _ _ (λ q. kept-bound site Empty d q w) (λ q. tt)
+kept-one site Empty (durable.Gone old) w s = if_holds (IsKept site) (nat_lt 0 old) (Purged old) Empty (λ q. tt) (λ q. tt)
+kept-one site (Purged old) (durable.Bind d) w s = if_holds (IsKept site) _ _ _ (λ q. kept-bound site (Purged old) d q w) (λ q. tt)
+kept-one site k x w s = s
+
+pub kept-applied : (site : Site) (k : Cell) (xs : List Change) → are_formed xs ≡ true → IsKept site k → IsKept site (applied site k xs)
+kept-applied site k [] w s = s
+kept-applied site k (x ∷ xs) w s = kept-applied site (applied_one site k x) xs (and_right (is_formed x) (are_formed xs) w) (kept-one site k x (and_left (is_formed x) (are_formed xs) w) s)
 
 -- ---- moves
 
@@ -116,10 +108,10 @@ moved-facts g here a (move.Begin r) = record { checked = λ s. checked-opened g.
 moved-facts g here a (move.Yes i) = record { checked = λ s. checked-opened g.rules a _ s; meets = λ may s. meets-opened may a _ s; history = refl }
 moved-facts g here a move.Close = record { checked = λ s. checked-opened g.rules a _ s; meets = λ may s. meets-opened may a _ s; history = refl }
 
-kept-moved : (here c : Node) (d : Definition) (m : Mark) (a : Member Act) (b : Member Batch) (x y : OpenMove) → IsHeld here c d m a b → IsHeld here c d m (moved (admin_group d) (position d.members here) a x) (moved (service_group d) (position d.members here) b y)
-kept-moved here c d m a b x y s =
-    let p : IsMoved (act_rules d) a (moved (admin_group d) (position d.members here) a x) = moved-facts (admin_group d) (position d.members here) a x in
-    let q : IsMoved batch_rules b (moved (service_group d) (position d.members here) b y) = moved-facts (service_group d) (position d.members here) b y in
+kept-moved : (site : Site) (h : Bound) (x y : OpenMove) → IsHeld site h → IsKept site (moved_cell site.here (Held h) x y)
+kept-moved site h x y s =
+    let p : IsMoved (act_rules h.definition) h.acts (moved (admin_group h.definition) (position h.definition.members site.here) h.acts x) = moved-facts (admin_group h.definition) (position h.definition.members site.here) h.acts x in
+    let q : IsMoved batch_rules h.batches (moved (service_group h.definition) (position h.definition.members site.here) h.batches y) = moved-facts (service_group h.definition) (position h.definition.members site.here) h.batches y in
     record {
       ruled = s.ruled;
       defined = s.defined;
@@ -129,18 +121,16 @@ kept-moved here c d m a b x y s =
       batches = q.checked s.batches;
       formed = p.meets has_form s.formed;
       lawful = q.meets may_serve s.lawful;
-      closed = λ e. subst (λ (h : List (ℕ × Act)). is_active (life d (values h)).state ≡ true) (sym p.history) (s.closed e);
+      closed = λ e. subst (λ (w : List (ℕ × Act)). is_active (life h.definition (values w)).state ≡ true) (sym p.history) (s.closed e);
     }
 
-pub valid-moved : (here c : Node) (k : Cell) (x y : OpenMove) → IsKept here c k → FitsMoveAt here k x y → IsValid here c (moved_cell here k x y)
-valid-moved here c Empty x y s f = record { kept = tt; settled = tt }
-valid-moved here c (Purged old) x y s f = record { kept = tt; settled = tt }
-valid-moved here c (Held d m turn a b) x y s f = record { kept = kept-moved here c d m a b x y s; settled = (f.0.settled, f.1.settled) }
+pub valid-moved : (site : Site) (k : Cell) (x y : OpenMove) → IsKept site k → FitsMoveAt site.here k x y → IsValid site (moved_cell site.here k x y)
+valid-moved site (Held h) x y s f = record { kept = kept-moved site h x y s; settled = (f.0.settled, f.1.settled) }
+valid-moved site k x y s f = record { kept = tt; settled = tt }
 
-pub valid-stopped : (here c : Node) (k : Cell) → IsKept here c k → IsValid here c (stopped_cell k)
-valid-stopped here c Empty s = record { kept = tt; settled = tt }
-valid-stopped here c (Purged old) s = record { kept = tt; settled = tt }
-valid-stopped here c (Held d m turn a b) s = record {
-  kept = record { ruled = s.ruled; defined = s.defined; own = s.own; member = s.member; acts = checked-opened (act_rules d) a None s.acts; batches = checked-opened batch_rules b None s.batches; formed = meets-opened has_form a None s.formed; lawful = meets-opened may_serve b None s.lawful; closed = s.closed };
+pub valid-stopped : (site : Site) (k : Cell) → IsKept site k → IsValid site (stopped_cell k)
+valid-stopped site (Held h) s = record {
+  kept = record { ruled = s.ruled; defined = s.defined; own = s.own; member = s.member; acts = checked-opened (act_rules h.definition) h.acts None s.acts; batches = checked-opened batch_rules h.batches None s.batches; formed = meets-opened has_form h.acts None s.formed; lawful = meets-opened may_serve h.batches None s.lawful; closed = s.closed };
   settled = ((λ o e. cc), (λ o e. cc));
 }
+valid-stopped site k s = record { kept = tt; settled = tt }

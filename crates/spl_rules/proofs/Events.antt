@@ -4,7 +4,7 @@ use Rattle.std.specs.Prelude.{Option, Some, None, ◌==◌, nat_le, is_none, is_
 use Rattle.std.specs.List.{list_any}
 use Rattle.std.specs.Str.{bytes_eq}
 use Rattle.std.proofs.lemmas.Bool.Decides.{nat_tests}
-use Rattle.spl_agree.specs.Member.{Member, new_member, values, known, found, found_refused, changed_by}
+use Rattle.spl_agree.specs.Member.{Member, values, known, found, found_refused, changed_by}
 use Rattle.spl_agree.specs.Fits.{IsRoomy, generation_of}
 use Rattle.spl_agree.specs.declared.reason.Reason.{Reason}
 use Rattle.spl_agree.specs.declared.message.CommitMsg.{CommitMsg}
@@ -17,11 +17,10 @@ use Rattle.spl_circuit.specs.declared.definition.Definition.{Definition}
 use Rattle.spl_circuit.specs.declared.act.ActKind.{ActKind}
 use Rattle.spl_circuit.specs.declared.act.ActKind.TheVariants as kind
 use Rattle.spl_circuit.specs.declared.act.Act.{Act}
-use Rattle.spl_circuit.specs.declared.lifecycle.Mark.{Mark}
 use Rattle.spl_circuit.specs.declared.lifecycle.Lifecycle.{Lifecycle}
 use Rattle.spl_circuit.specs.declared.lifecycle.Lifecycle.TheVariants as lifecycle
 use Rattle.spl_circuit.specs.Forms as form
-use Rattle.spl_circuit.specs.Nodes.{Node, has_node, position}
+use Rattle.spl_circuit.specs.Nodes.{NodeId, ServiceId, has_node, position}
 use Rattle.spl_circuit.specs.Rules.{broken, admin, is_member}
 use Rattle.spl_circuit.specs.Lifecycle.{is_proposed, is_active}
 use Rattle.spl_circuit.specs.Acts.{act_rules, is_node}
@@ -39,10 +38,10 @@ use Rattle.spl_wire.specs.declared.answer.Answer.TheVariants as answer
 use Rattle.spl_wire.specs.declared.change.Change.TheVariants as durable
 use Rattle.spl_wire.specs.declared.event.Event.{Event}
 use Rattle.spl_wire.specs.declared.event.Event.TheVariants as event
-use Rattle.spl_rules.specs.Cells.{Cell, Empty, Held, Purged, Deed, Tells, admin_group, is_open, is_free, runs, own_life, can_bind, proposal, proposes, proposes_at, next_act, is_act_pending, votes, removes, abandons, purges, is_waiting, declines, asked_first, forwarded_first, hears_first}
+use Rattle.spl_rules.specs.Cells.{Bound, Cell, Empty, Held, Purged, Site, Deed, Tells, fresh, admin_group, is_open, is_free, is_active_here, own_life, can_bind, proposal, proposes, proposes_at, next_act, is_act_pending, votes, removes, abandons, purges, is_waiting, declines, asked_first, forwarded_first, hears_first}
 use Rattle.spl_rules.specs.Batches.{submits_known, submits_ruled, submits, when_active, root_told, history_told, value_told, listed, has_the_id, status_refused, status_kept, status_told, receipt_kept, receipt_told, routed, way, serves_other, hears_routed}
 use Rattle.spl_rules.specs.Events.{turns, hears_admin, held_hears, other_hears, held_does, other_does, does}
-use Rattle.spl_rules.specs.Plans.{admin_row}
+use Rattle.spl_rules.specs.Plans.{admin_lane, group_row}
 use Rattle.spl_rules.specs.Changes.{may_queue, may_serve, fits_free}
 use Rattle.spl_wire.specs.Bounds.{has_form}
 use Rattle.spl_rules.specs.Valid.{IsHeld, IsKept, IsNamed, IsFor, carries, is_legal}
@@ -58,19 +57,19 @@ not_false false q = cc
 -- ---- an act of this node
 
 -- no act of the node pends here, there is space, and the next one isn't known
-record CanAct (here : Node) (d : Definition) (turn : ℕ) (a : Member Act) : Type 0 where
-  none : list_any (λ v. bytes_eq v.node here) a.pending ≡ false
-  space : length a.pending ≢ 64
-  unknown : known (act_rules d) a (next_act here turn kind.Accept) ≡ None
+record CanAct (site : Site) (h : Bound) : Type 0 where
+  none : list_any (λ v. bytes_eq v.node site.here) h.acts.pending ≡ false
+  space : length h.acts.pending ≢ 64
+  unknown : known (act_rules h.definition) h.acts (next_act site.here h.turn kind.Accept) ≡ None
 
-can-act : (here : Node) (d : Definition) (turn : ℕ) (a : Member Act) → is_act_pending d here turn a ≡ false → CanAct here d turn a
-can-act here d turn a h =
-    let rest : _ ≡ false = or_right (list_any (λ v. bytes_eq v.node here) a.pending) _ h in
-    let more : _ ≡ false = or_right (length a.pending == 64) _ rest in
+can-act : (site : Site) (h : Bound) → is_act_pending site h ≡ false → CanAct site h
+can-act site h w =
+    let rest : _ ≡ false = or_right (list_any (λ v. bytes_eq v.node site.here) h.acts.pending) _ w in
+    let more : _ ≡ false = or_right (length h.acts.pending == 64) _ rest in
     record {
-      none = or_left (list_any (λ v. bytes_eq v.node here) a.pending) _ h;
-      space = eqb_not (length a.pending) 64 (or_left (length a.pending == 64) _ rest);
-      unknown = is_some_not (known (act_rules d) a (next_act here turn kind.Accept)) (or_left (is_some (known (act_rules d) a (next_act here turn kind.Accept))) _ more);
+      none = or_left (list_any (λ v. bytes_eq v.node site.here) h.acts.pending) _ w;
+      space = eqb_not (length h.acts.pending) 64 (or_left (length h.acts.pending == 64) _ rest);
+      unknown = is_some_not (known (act_rules h.definition) h.acts (next_act site.here h.turn kind.Accept)) (or_left (is_some (known (act_rules h.definition) h.acts (next_act site.here h.turn kind.Accept))) _ more);
     }
   where
     is_some_not : (o : Option Act) → is_some o ≡ false → o ≡ None
@@ -80,279 +79,248 @@ can-act here d turn a h =
 next-turn : (turn : ℕ) → nat_le turn (turn + 1) ≡ true
 next-turn turn = grind (arith, nat_tests)
 
-fits-next : (here : Node) (d : Definition) (turn : ℕ) (a : Member Act) (k : ActKind) → IsRoomy a → CanAct here d turn a → FitsEvent here d turn a (group.Submit (next_act here turn k))
-fits-next here d turn a k roomy free = record {
-  due = (free.unknown, let few : length a.pending ≤ 64 = roomy.few in let space : length a.pending ≢ 64 = free.space in omega arith);
-  queues = inl (rw (node_same here, free.none, next-turn turn));
+fits-next : (site : Site) (h : Bound) (k : ActKind) → IsRoomy h.acts → CanAct site h → FitsEvent site h (group.Submit (next_act site.here h.turn k))
+fits-next site h k roomy free = record {
+  due = (free.unknown, let few : length h.acts.pending ≤ 64 = roomy.few in let space : length h.acts.pending ≢ 64 = free.space in omega arith);
+  queues = inl (rw (node_same site.here, free.none, next-turn h.turn));
 }
 
 -- what isn't open is active, and so isn't proposed
-open-proposed : (here c : Node) (d : Definition) (m : Mark) (a : Member Act) (b : Member Batch) → IsHeld here c d m a b → is_proposed (own_life d a).state ≡ true → is_open m ≡ true
-open-proposed here c d m a b s p = go (bool_cases (is_open m))
+open-proposed : (site : Site) (h : Bound) → IsHeld site h → is_proposed (own_life h).state ≡ true → is_open h.mark ≡ true
+open-proposed site h s p = go (bool_cases (is_open h.mark))
   where
     apart : (l : Lifecycle) → is_proposed l ≡ true → is_active l ≡ true → ⊥
-    apart lifecycle.None x y = cc
-    apart lifecycle.Proposed x y = cc
     apart lifecycle.Active x y = cc
-    apart lifecycle.Rejected x y = cc
-    apart lifecycle.Removed x y = cc
+    apart _ x y = cc
 
-    go : (is_open m ≡ true) ⊎ (is_open m ≡ false) → is_open m ≡ true
+    go : (is_open h.mark ≡ true) ⊎ (is_open h.mark ≡ false) → is_open h.mark ≡ true
     go (inl q) = q
-    go (inr q) = absurd (apart (own_life d a).state p (s.closed q))
+    go (inr q) = absurd (apart (own_life h).state p (s.closed q))
 
-acts-next : (here c : Node) (d : Definition) (m : Mark) (turn : ℕ) (a : Member Act) (b : Member Batch) (k : ActKind) → IsNamed here c → IsTrue (form.kind.fits k) → IsHeld here c d m a b → is_act_pending d here turn a ≡ false → not (is_proposed (own_life d a).state) ≡ false → ActsAt here (Held d m turn a b) d a (group.Submit (next_act here turn k))
-acts-next here c d m turn a b k n f s free proposed = acts-at here d m turn a b (group.Submit (next_act here turn k)) (open-proposed here c d m a b s (not_false _ proposed)) (fits-next here d turn a k s.acts.roomy (can-act here d turn a free)) (rw (n.node, f))
+acts-next : (site : Site) (h : Bound) (k : ActKind) → IsNamed site → IsTrue (form.kind.fits k) → IsHeld site h → is_act_pending site h ≡ false → not (is_proposed (own_life h).state) ≡ false → ActsAt site (Held h) h (group.Submit (next_act site.here h.turn k))
+acts-next site h k n f s free proposed = acts-at site h (group.Submit (next_act site.here h.turn k)) (open-proposed site h s (not_false _ proposed)) (fits-next site h k s.acts.roomy (can-act site h free)) (rw (n.node, f))
 
-fits-votes : (here c : Node) (d : Definition) (m : Mark) (turn : ℕ) (a : Member Act) (b : Member Batch) (k : ActKind) → IsNamed here c → IsTrue (form.kind.fits k) → IsHeld here c d m a b → FitsDeed here c (Held d m turn a b) (votes here d turn a k)
-fits-votes here c d m turn a b k n f s =
-    if_holds (FitsDeed here c (Held d m turn a b)) _ _ _ (λ q. tt) (λ free.
-    if_holds (FitsDeed here c (Held d m turn a b)) _ _ _ (λ q. tt) (λ proposed.
-    if_holds (FitsDeed here c (Held d m turn a b)) (has_node (own_life d a).accepted here) _ _ (λ q. tt) (λ q. acts-next here c d m turn a b k n f s free proposed)))
+fits-votes : (site : Site) (h : Bound) (k : ActKind) → IsNamed site → IsTrue (form.kind.fits k) → IsHeld site h → FitsDeed site (Held h) (votes site h k)
+fits-votes site h k n f s =
+    if_holds (FitsDeed site (Held h)) _ _ _ (λ q. tt) (λ free.
+    if_holds (FitsDeed site (Held h)) _ _ _ (λ q. tt) (λ proposed.
+    if_holds (FitsDeed site (Held h)) (has_node (own_life h).accepted site.here) _ _ (λ q. tt) (λ q. acts-next site h k n f s free proposed)))
 
-fits-removes : (here c : Node) (d : Definition) (m : Mark) (turn : ℕ) (a : Member Act) (b : Member Batch) → IsNamed here c → IsHeld here c d m a b → FitsDeed here c (Held d m turn a b) (removes here d turn a)
-fits-removes here c d m turn a b n s =
-    if_holds (FitsDeed here c (Held d m turn a b)) _ _ _ (λ q. tt) (λ free.
-    if_holds (FitsDeed here c (Held d m turn a b)) _ _ _ (λ q. tt) (λ proposed.
-    if_holds (FitsDeed here c (Held d m turn a b)) (not (is_node (own_life d a).requester here)) _ _ (λ q. tt) (λ q. acts-next here c d m turn a b kind.Remove n refl s free proposed)))
+fits-removes : (site : Site) (h : Bound) → IsNamed site → IsHeld site h → FitsDeed site (Held h) (removes site h)
+fits-removes site h n s =
+    if_holds (FitsDeed site (Held h)) _ _ _ (λ q. tt) (λ free.
+    if_holds (FitsDeed site (Held h)) _ _ _ (λ q. tt) (λ proposed.
+    if_holds (FitsDeed site (Held h)) (not (is_node (own_life h).requester site.here)) _ _ (λ q. tt) (λ q. acts-next site h kind.Remove n refl s free proposed)))
 
 -- ---- proposals
 
-fits-first : (here : Node) (d : Definition) (v : Act) → may_queue here 0 [] v ≡ true → FitsEvent here d 0 new_member (group.Submit v)
-fits-first here d v may = record { due = (refl, omega arith); queues = inl may }
+fits-first : (site : Site) (d : Definition) (v : Act) → may_queue site.here 0 [] v ≡ true → FitsEvent site (fresh d) (group.Submit v)
+fits-first site d v may = record { due = (refl, omega arith); queues = inl may }
 
-binds-proposal : (here c : Node) (k : Cell) (d : Definition) → IsNamed here c → IsTrue (form.definition.fits d) → is_free k d.generation ≡ true → bytes_eq d.id c ≡ true → broken d ≡ None → is_member d here ≡ true → BindsAt here c k d (group.Submit (proposal here d))
-binds-proposal here c k d n w free own ruled member = record { free = rw (free, own, ruled, member); defined = w; fit = fits-first here d (proposal here d) (rw (node_same here)); brings = rw (n.node, w) }
+binds-proposal : (site : Site) (k : Cell) (d : Definition) → IsNamed site → IsTrue (form.definition.fits d) → is_free k d.generation ≡ true → bytes_eq d.id site.circuit ≡ true → broken d ≡ None → is_member d site.here ≡ true → BindsAt site k d (group.Submit (proposal site.here d))
+binds-proposal site k d n w free own ruled member = record { free = rw (free, own, ruled, member); defined = w; fit = fits-first site d (proposal site.here d) (rw (node_same site.here)); brings = rw (n.node, w) }
 
-fits-proposes_at : (here c : Node) (d : Definition) (k : Cell) → IsNamed here c → IsTrue (form.definition.fits d) → bytes_eq d.id c ≡ true → broken d ≡ None → is_member d here ≡ true → FitsDeed here c k (proposes_at here d k)
-fits-proposes_at here c d Empty n w own ruled member = binds-proposal here c Empty d n w refl own ruled member
-fits-proposes_at here c d (Held e m turn a b) n w own ruled member = tt
-fits-proposes_at here c d (Purged old) n w own ruled member = if_holds (FitsDeed here c (Purged old)) _ _ _ (λ q. binds-proposal here c (Purged old) d n w q own ruled member) (λ q. tt)
+fits-proposes_at : (site : Site) (d : Definition) (k : Cell) → IsNamed site → IsTrue (form.definition.fits d) → bytes_eq d.id site.circuit ≡ true → broken d ≡ None → is_member d site.here ≡ true → FitsDeed site k (proposes_at site d k)
+fits-proposes_at site d Empty n w own ruled member = binds-proposal site Empty d n w refl own ruled member
+fits-proposes_at site d (Held h) n w own ruled member = tt
+fits-proposes_at site d (Purged old) n w own ruled member = if_holds (FitsDeed site (Purged old)) _ _ _ (λ q. binds-proposal site (Purged old) d n w q own ruled member) (λ q. tt)
 
-fits-proposes : (here c : Node) (d : Definition) (k : Cell) (o : Option ℕ) → IsNamed here c → IsTrue (form.definition.fits d) → bytes_eq d.id c ≡ true → broken d ≡ o → FitsDeed here c k (proposes here d k o)
-fits-proposes here c d k (Some rule) n w own ruled = tt
-fits-proposes here c d k None n w own ruled = if_holds (FitsDeed here c k) _ _ _ (λ q. fits-proposes_at here c d k n w own ruled q) (λ q. tt)
+fits-proposes : (site : Site) (d : Definition) (k : Cell) (o : Option ℕ) → IsNamed site → IsTrue (form.definition.fits d) → bytes_eq d.id site.circuit ≡ true → broken d ≡ o → FitsDeed site k (proposes site d k o)
+fits-proposes site d k (Some rule) n w own ruled = tt
+fits-proposes site d k None n w own ruled = if_holds (FitsDeed site k) _ _ _ (λ q. fits-proposes_at site d k n w own ruled q) (λ q. tt)
 
 -- ---- messages
 
 -- what the test for binding says
-record IsBindable (here c : Node) (k : Cell) (gen : ℕ) (d : Definition) : Type 0 where
-  free : fits_free here c k (durable.Bind d) ≡ true
+record IsBindable (site : Site) (k : Cell) (gen : ℕ) (d : Definition) : Type 0 where
+  free : fits_free site k (durable.Bind d) ≡ true
   same : gen ≡ d.generation
   ruled : broken d ≡ None
-  member : is_member d here ≡ true
+  member : is_member d site.here ≡ true
 
-bindable : (here c : Node) (k : Cell) (gen : ℕ) (d : Definition) → can_bind here c k gen d ≡ true → IsBindable here c k gen d
-bindable here c k gen d h =
-    let own : bytes_eq d.id c ≡ true = and_left (bytes_eq d.id c) _ h in
-    let behind_id : _ ≡ true = and_right (bytes_eq d.id c) _ h in
+bindable : (site : Site) (k : Cell) (gen : ℕ) (d : Definition) → can_bind site k gen d ≡ true → IsBindable site k gen d
+bindable site k gen d h =
+    let own : bytes_eq d.id site.circuit ≡ true = and_left (bytes_eq d.id site.circuit) _ h in
+    let behind_id : _ ≡ true = and_right (bytes_eq d.id site.circuit) _ h in
     let same : gen ≡ d.generation = sym (eqb_is d.generation gen (and_left (d.generation == gen) _ behind_id)) in
     let behind_generation : _ ≡ true = and_right (d.generation == gen) _ behind_id in
     let ruled : broken d ≡ None = is_none_is (broken d) (and_left (is_none (broken d)) _ behind_generation) in
     let behind_rules : _ ≡ true = and_right (is_none (broken d)) _ behind_generation in
-    let member : is_member d here ≡ true = and_left (is_member d here) _ behind_rules in
-    let free : is_free k d.generation ≡ true = subst (λ (g : ℕ). is_free k g ≡ true) same (and_right (is_member d here) _ behind_rules) in
+    let member : is_member d site.here ≡ true = and_left (is_member d site.here) _ behind_rules in
+    let free : is_free k d.generation ≡ true = subst (λ (g : ℕ). is_free k g ≡ true) same (and_right (is_member d site.here) _ behind_rules) in
     record { free = rw (free, own, ruled, member); same = same; ruled = ruled; member = member }
 
 -- the ids of a cell are short
-pub short-circuit : (here c : Node) → IsNamed here c → nat_le (length c) 11 ≡ true
-short-circuit here c n = and_right (nat_le 11 (length c)) (nat_le (length c) 11) (and_left (nat_le 11 (length c) && nat_le (length c) 11) _ n.circuit)
+pub short-circuit : (site : Site) → IsNamed site → nat_le (length site.circuit) 11 ≡ true
+short-circuit site n = and_right (nat_le 11 (length site.circuit)) (nat_le (length site.circuit) 11) (and_left (nat_le 11 (length site.circuit) && nat_le (length site.circuit) 11) _ n.circuit)
 
-fits-declines : (here c : Node) (k : Cell) (from : Node) (gen r : ℕ) → IsNamed here c → FitsDeed here c k (declines c from gen r)
-fits-declines here c k from gen r n = rw (short-circuit here c n)
+fits-declines : (site : Site) (k : Cell) (from : NodeId) (gen r : ℕ) → IsNamed site → FitsDeed site k (declines site from gen r)
+fits-declines site k from gen r n = rw (short-circuit site n)
 
-fits-asked : (here c : Node) (k : Cell) (from : Node) (gen r place : ℕ) (v : Act) (w : ActKind) → IsNamed here c → has_form v ≡ true → IsTrue (form.kind.fits w) → bytes_eq from here ≡ false → FitsDeed here c k (asked_first here c k from gen r place v w)
-fits-asked here c k from gen r place v (kind.Propose d) n h f apart =
-    if_holds (FitsDeed here c k) _ _ _
-    (λ q. bound (bindable here c k gen d (and_left (can_bind here c k gen d) (bytes_eq (admin d) from) (and_right (place == 0) _ q))))
-    (λ q. fits-declines here c k from gen r n)
+fits-asked : (site : Site) (k : Cell) (from : NodeId) (gen r place : ℕ) (v : Act) (w : ActKind) → IsNamed site → has_form v ≡ true → IsTrue (form.kind.fits w) → bytes_eq from site.here ≡ false → FitsDeed site k (asked_first site k from gen r place v w)
+fits-asked site k from gen r place v (kind.Propose d) n h f apart =
+    if_holds (FitsDeed site k) _ _ _
+    (λ q. bound (bindable site k gen d (and_left (can_bind site k gen d) (bytes_eq (admin d) from) (and_right (place == 0) _ q))))
+    (λ q. fits-declines site k from gen r n)
   where
-    bound : IsBindable here c k gen d → BindsAt here c k d (group.From (position d.members from) (msg.VoteRequest gen r place v))
-    bound b = record { free = b.free; defined = f; fit = fits-message here d 0 new_member from (msg.VoteRequest gen r place v) b.ruled b.member b.same apart; brings = h }
-fits-asked here c k from gen r place v kind.Accept n h f apart = fits-declines here c k from gen r n
-fits-asked here c k from gen r place v kind.Reject n h f apart = fits-declines here c k from gen r n
-fits-asked here c k from gen r place v kind.Remove n h f apart = fits-declines here c k from gen r n
+    bound : IsBindable site k gen d → BindsAt site k d (group.From (position d.members from) (msg.VoteRequest gen r place v))
+    bound b = record { free = b.free; defined = f; fit = fits-message site (fresh d) from (msg.VoteRequest gen r place v) b.ruled b.member b.same apart; brings = h }
+fits-asked site k from gen r place v _ n h f apart = fits-declines site k from gen r n
 
-fits-forwarded : (here c : Node) (k : Cell) (from : Node) (gen : ℕ) (v : Act) (w : ActKind) → IsNamed here c → has_form v ≡ true → IsTrue (form.kind.fits w) → bytes_eq from here ≡ false → FitsDeed here c k (forwarded_first here c k from gen v w)
-fits-forwarded here c k from gen v (kind.Propose d) n h f apart =
-    if_holds (FitsDeed here c k) _ _ _
-    (λ q. bound (bindable here c k gen d (and_left (can_bind here c k gen d) _ q)) (sender (and_right (can_bind here c k gen d) _ q)))
-    (λ q. rw (short-circuit here c n, h))
+fits-forwarded : (site : Site) (k : Cell) (from : NodeId) (gen : ℕ) (v : Act) (w : ActKind) → IsNamed site → has_form v ≡ true → IsTrue (form.kind.fits w) → bytes_eq from site.here ≡ false → FitsDeed site k (forwarded_first site k from gen v w)
+fits-forwarded site k from gen v (kind.Propose d) n h f apart =
+    if_holds (FitsDeed site k) _ _ _
+    (λ q. bound (bindable site k gen d (and_left (can_bind site k gen d) _ q)) (sender (and_right (can_bind site k gen d) _ q)))
+    (λ q. rw (short-circuit site n, h))
   where
-    sender : (bytes_eq (admin d) here && (bytes_eq v.node from && (is_member d from && not (bytes_eq from here)))) ≡ true → v.node ≡ from
-    sender q = node_is v.node from (and_left (bytes_eq v.node from) _ (and_right (bytes_eq (admin d) here) _ q))
+    sender : (bytes_eq (admin d) site.here && (bytes_eq v.node from && (is_member d from && not (bytes_eq from site.here)))) ≡ true → v.node ≡ from
+    sender q = node_is v.node from (and_left (bytes_eq v.node from) _ (and_right (bytes_eq (admin d) site.here) _ q))
 
-    bound : IsBindable here c k gen d → v.node ≡ from → BindsAt here c k d (group.Submit v)
-    bound b e = record { free = b.free; defined = f; fit = fits-first here d v (may-other here 0 [] v (rw e apart)); brings = h }
-fits-forwarded here c k from gen v kind.Accept n h f apart = tt
-fits-forwarded here c k from gen v kind.Reject n h f apart = tt
-fits-forwarded here c k from gen v kind.Remove n h f apart = tt
+    bound : IsBindable site k gen d → v.node ≡ from → BindsAt site k d (group.Submit v)
+    bound b e = record { free = b.free; defined = f; fit = fits-first site d v (may-other site.here 0 [] v (rw e apart)); brings = h }
+fits-forwarded site k from gen v _ n h f apart = tt
 
 does-form : (v : Act) → has_form v ≡ true → IsTrue (form.kind.fits v.kind)
 does-form v h = and_right (form.node_id.fits v.node) (form.kind.fits v.kind) h
 
-fits-hears_first : (here c : Node) (k : Cell) (from : Node) (x : CommitMsg Act) → IsNamed here c → carries has_form x ≡ true → bytes_eq from here ≡ false → FitsDeed here c k (hears_first here c k from x)
-fits-hears_first here c k from (msg.VoteRequest gen r place v) n h apart = fits-asked here c k from gen r place v v.kind n h (does-form v h) apart
-fits-hears_first here c k from (msg.Vote gen r aye) n h apart = tt
-fits-hears_first here c k from (msg.Decision gen r commit) n h apart = tt
-fits-hears_first here c k from (msg.DecisionRequest gen r) n h apart = tt
-fits-hears_first here c k from (msg.Forward gen v) n h apart = fits-forwarded here c k from gen v v.kind n h (does-form v h) apart
-fits-hears_first here c k from (msg.Refused gen v why) n h apart = tt
+fits-hears_first : (site : Site) (k : Cell) (from : NodeId) (x : CommitMsg Act) → IsNamed site → carries has_form x ≡ true → bytes_eq from site.here ≡ false → FitsDeed site k (hears_first site k from x)
+fits-hears_first site k from (msg.VoteRequest gen r place v) n h apart = fits-asked site k from gen r place v v.kind n h (does-form v h) apart
+fits-hears_first site k from (msg.Forward gen v) n h apart = fits-forwarded site k from gen v v.kind n h (does-form v h) apart
+fits-hears_first site k from _ n h apart = tt
 
 -- ---- messages of acts at a bound cell
 
-fits-admin : (here c : Node) (d : Definition) (m : Mark) (turn : ℕ) (a : Member Act) (b : Member Batch) (from : Node) (x : CommitMsg Act) → IsNamed here c → carries has_form x ≡ true → IsHeld here c d m a b → bytes_eq from here ≡ false → FitsDeed here c (Held d m turn a b) (hears_admin here c d m turn a b from x)
-fits-admin here c d m turn a b from x n h s apart =
-    if_holds (FitsDeed here c (Held d m turn a b)) _ _ _
-    (λ q. acts-at here d m turn a b _ (and_left _ _ q) (fits-message here d turn a from x s.ruled s.member (eqb_is _ _ (and_right (is_open m) _ q)) apart) h)
-    (λ q. fits-hears_first here c (Held d m turn a b) from x n h apart)
+fits-admin : (site : Site) (h : Bound) (from : NodeId) (x : CommitMsg Act) → IsNamed site → carries has_form x ≡ true → IsHeld site h → bytes_eq from site.here ≡ false → FitsDeed site (Held h) (hears_admin site h from x)
+fits-admin site h from x n w s apart =
+    if_holds (FitsDeed site (Held h)) _ _ _
+    (λ q. acts-at site h _ (and_left _ _ q) (fits-message site h from x s.ruled s.member (eqb_is _ _ (and_right (is_open h.mark) _ q)) apart) w)
+    (λ q. fits-hears_first site (Held h) from x n w apart)
 
 -- ---- batches
 
 -- a batch that breaks no rule and isn't known, where there is space
-fits-batch : (here : Node) (d : Definition) (b : Member Batch) (v : Batch) → IsRoomy b → length b.pending ≢ 64 → known batch_rules b v ≡ None → may_serve v ≡ true → FitsServed here d b (group.Submit v)
-fits-batch here d b v roomy space unknown may = record { due = (unknown, let few : length b.pending ≤ 64 = roomy.few in omega (arith, few, space)); queues = inl may }
+fits-batch : (site : Site) (h : Bound) (v : Batch) → IsRoomy h.batches → length h.batches.pending ≢ 64 → known batch_rules h.batches v ≡ None → may_serve v ≡ true → FitsServed site h (group.Submit v)
+fits-batch site h v roomy space unknown may = record { due = (unknown, let few : length h.batches.pending ≤ 64 = roomy.few in omega (arith, few, space)); queues = inl may }
 
 none_may : (v : Batch) → broken_batch v ≡ None → may_serve v ≡ true
 none_may v h = rw h
 
-fits-submits_known : (here c : Node) (d : Definition) (m : Mark) (turn : ℕ) (a : Member Act) (b : Member Batch) (v : Batch) (o : Option Batch) → IsHeld here c d m a b → is_open m ≡ true → runs d a ≡ true → broken_batch v ≡ None → known batch_rules b v ≡ o → FitsDeed here c (Held d m turn a b) (submits_known here d b v o)
-fits-submits_known here c d m turn a b v None s unclosed active ruled unknown =
-    if_holds (FitsDeed here c (Held d m turn a b)) (length b.pending == 64) _ _ (λ q. tt) (λ q.
-    serves-at here d m turn a b (group.Submit v) unclosed active (fits-batch here d b v s.batches.roomy (eqb_not (length b.pending) 64 q) unknown (none_may v ruled)) (none_may v ruled))
-fits-submits_known here c d m turn a b v (Some u) s unclosed active ruled unknown = if_holds (FitsDeed here c (Held d m turn a b)) (same_batch u v) _ _ (λ q. tt) (λ q. tt)
+fits-submits_known : (site : Site) (h : Bound) (v : Batch) (o : Option Batch) → IsHeld site h → is_open h.mark ≡ true → is_active_here h ≡ true → broken_batch v ≡ None → known batch_rules h.batches v ≡ o → FitsDeed site (Held h) (submits_known site h v o)
+fits-submits_known site h v None s unclosed active ruled unknown =
+    if_holds (FitsDeed site (Held h)) (length h.batches.pending == 64) _ _ (λ q. tt) (λ q.
+    serves-at site h (group.Submit v) unclosed active (fits-batch site h v s.batches.roomy (eqb_not (length h.batches.pending) 64 q) unknown (none_may v ruled)) (none_may v ruled))
+fits-submits_known site h v (Some u) s unclosed active ruled unknown = if_holds (FitsDeed site (Held h)) (same_batch u v) _ _ (λ q. tt) (λ q. tt)
 
-fits-submits_ruled : (here c : Node) (d : Definition) (m : Mark) (turn : ℕ) (a : Member Act) (b : Member Batch) (v : Batch) (o : Option ℕ) → IsHeld here c d m a b → is_open m ≡ true → runs d a ≡ true → broken_batch v ≡ o → FitsDeed here c (Held d m turn a b) (submits_ruled here d b v o)
-fits-submits_ruled here c d m turn a b v (Some rule) s unclosed active ruled = tt
-fits-submits_ruled here c d m turn a b v None s unclosed active ruled = fits-submits_known here c d m turn a b v (known batch_rules b v) s unclosed active ruled refl
+fits-submits_ruled : (site : Site) (h : Bound) (v : Batch) (o : Option ℕ) → IsHeld site h → is_open h.mark ≡ true → is_active_here h ≡ true → broken_batch v ≡ o → FitsDeed site (Held h) (submits_ruled site h v o)
+fits-submits_ruled site h v (Some rule) s unclosed active ruled = tt
+fits-submits_ruled site h v None s unclosed active ruled = fits-submits_known site h v (known batch_rules h.batches v) s unclosed active ruled refl
 
-fits-submits : (here c : Node) (d : Definition) (m : Mark) (turn : ℕ) (a : Member Act) (b : Member Batch) (v : Batch) → IsHeld here c d m a b → FitsDeed here c (Held d m turn a b) (submits here d m a b v)
-fits-submits here c d m turn a b v s =
-    if_holds (FitsDeed here c (Held d m turn a b)) (not (runs d a)) _ _ (λ q. tt) (λ active.
-    if_holds (FitsDeed here c (Held d m turn a b)) (not (is_open m)) _ _ (λ q. tt) (λ unclosed.
-    fits-submits_ruled here c d m turn a b v (broken_batch v) s (not_false _ unclosed) (not_false _ active) refl))
+fits-submits : (site : Site) (h : Bound) (v : Batch) → IsHeld site h → FitsDeed site (Held h) (submits site h v)
+fits-submits site h v s =
+    if_holds (FitsDeed site (Held h)) (not (is_active_here h)) _ _ (λ q. tt) (λ active.
+    if_holds (FitsDeed site (Held h)) (not (is_open h.mark)) _ _ (λ q. tt) (λ unclosed.
+    fits-submits_ruled site h v (broken_batch v) s (not_false _ unclosed) (not_false _ active) refl))
 
 -- what is told changes nothing
-fits-active : (here c : Node) (k : Cell) (d : Definition) (a : Member Act) (deed : Deed) → FitsDeed here c k deed → FitsDeed here c k (when_active d a deed)
-fits-active here c k d a deed h = if_holds (FitsDeed here c k) (runs d a) _ _ (λ q. h) (λ q. tt)
+fits-active : (site : Site) (k : Cell) (h : Bound) (deed : Deed) → FitsDeed site k deed → FitsDeed site k (when_active h deed)
+fits-active site k h deed w = if_holds (FitsDeed site k) (is_active_here h) _ _ (λ q. w) (λ q. tt)
 
-fits-status : (here c : Node) (k : Cell) (b : Member Batch) (i : ℕ) (o : Option ℕ) → FitsDeed here c k (status_kept b i o)
-fits-status here c k b i (Some place) = tt
-fits-status here c k b i None = if_holds (FitsDeed here c k) (is_some (found (has_the_id i) b.pending)) _ _ (λ q. tt) (λ q. refused (found_refused (has_the_id i) b.refused))
+fits-status : (site : Site) (k : Cell) (b : Member Batch) (i : ℕ) (o : Option ℕ) → FitsDeed site k (status_kept b i o)
+fits-status site k b i (Some place) = tt
+fits-status site k b i None = if_holds (FitsDeed site k) (is_some (found (has_the_id i) b.pending)) _ _ (λ q. tt) (λ q. refused (found_refused (has_the_id i) b.refused))
   where
-    refused : (o : Option (Batch × Reason)) → FitsDeed here c k (status_refused o)
+    refused : (o : Option (Batch × Reason)) → FitsDeed site k (status_refused o)
     refused None = tt
     refused (Some u) = tt
 
-fits-receipt : (here c : Node) (k : Cell) (i : ℕ) (o : Option ℕ) (rs : Option (List Receipt)) → FitsDeed here c k (receipt_kept i o rs)
-fits-receipt here c k i None rs = tt
-fits-receipt here c k i (Some place) None = tt
-fits-receipt here c k i (Some place) (Some rs) = tt
+fits-receipt : (site : Site) (k : Cell) (i : ℕ) (o : Option ℕ) (rs : Option (List Receipt)) → FitsDeed site k (receipt_kept i o rs)
+fits-receipt site k i (Some place) (Some rs) = tt
+fits-receipt site k i _ _ = tt
 
-fits-routes : (here c : Node) (k : Cell) (w : Way) → FitsDeed here c k (routed w (Tells answer.Routed))
-fits-routes here c k (Ok x) = tt
-fits-routes here c k (Err f) = tt
+fits-routes : (site : Site) (k : Cell) (w : Way) → FitsDeed site k (routed w (Tells answer.Routed))
+fits-routes site k (Ok x) = tt
+fits-routes site k (Err f) = tt
 
 -- a routed message finds the circuit active and open
-way-runs : (here : Node) (d : Definition) (m : Mark) (a : Member Act) (from s t : Node) (x : Unit {0}) → way here d m a from s t ≡ Ok x → (is_open m && runs d a) ≡ true
-way-runs here d m a from s t x h = go (bool_cases (is_open m && runs d a))
+way-runs : (site : Site) (h : Bound) (from : NodeId) (s t : ServiceId) (x : Unit {0}) → way site h from s t ≡ Ok x → (is_open h.mark && is_active_here h) ≡ true
+way-runs site h from s t x w = go (bool_cases (is_open h.mark && is_active_here h))
   where
-    go : ((is_open m && runs d a) ≡ true) ⊎ ((is_open m && runs d a) ≡ false) → (is_open m && runs d a) ≡ true
+    go : ((is_open h.mark && is_active_here h) ≡ true) ⊎ ((is_open h.mark && is_active_here h) ≡ false) → (is_open h.mark && is_active_here h) ≡ true
     go (inl q) = q
-    go (inr q) = absurd (let z : Err fault.CircuitDoesNotExist ≡ Ok x = rw q at h in cc)
+    go (inr q) = absurd (let z : Err fault.CircuitDoesNotExist ≡ Ok x = rw q at w in cc)
 
-fits-serves_other : (here c : Node) (k : Cell) (from s t : Node) (x : CommitMsg Batch) → IsNamed here c → nat_le (length s) 4 ≡ true → nat_le (length t) 4 ≡ true → FitsDeed here c k (serves_other c from s t x)
-fits-serves_other here c k from s t (msg.VoteRequest gen r place v) n g h = rw (short-circuit here c n, g, h)
-fits-serves_other here c k from s t (msg.Vote gen r aye) n g h = tt
-fits-serves_other here c k from s t (msg.Decision gen r commit) n g h = tt
-fits-serves_other here c k from s t (msg.DecisionRequest gen r) n g h = tt
-fits-serves_other here c k from s t (msg.Forward gen v) n g h = tt
-fits-serves_other here c k from s t (msg.Refused gen v why) n g h = tt
+fits-serves_other : (site : Site) (k : Cell) (from : NodeId) (s t : ServiceId) (x : CommitMsg Batch) → IsNamed site → nat_le (length s) 4 ≡ true → nat_le (length t) 4 ≡ true → FitsDeed site k (serves_other site from s t x)
+fits-serves_other site k from s t (msg.VoteRequest gen r place v) n g h = rw (short-circuit site n, g, h)
+fits-serves_other site k from s t _ n g h = tt
 
-fits-routed : (here c : Node) (d : Definition) (m : Mark) (turn : ℕ) (a : Member Act) (b : Member Batch) (from s t : Node) (x : CommitMsg Batch) (w : Way) → IsNamed here c → nat_le (length s) 4 ≡ true → nat_le (length t) 4 ≡ true → IsHeld here c d m a b → bytes_eq from here ≡ false → carries may_serve x ≡ true → way here d m a from s t ≡ w → FitsDeed here c (Held d m turn a b) (routed w (hears_routed c d b from s t x))
-fits-routed here c d m turn a b from s t x (Err f) n g h held apart legal w = tt
-fits-routed here c d m turn a b from s t x (Ok u) n g h held apart legal w =
-    let both : (is_open m && runs d a) ≡ true = way-runs here d m a from s t u w in
-    if_holds (FitsDeed here c (Held d m turn a b)) (generation_of x == d.generation) _ _
-    (λ q. serves-at here d m turn a b (group.From (position d.members from) x) (and_left (is_open m) (runs d a) both) (and_right (is_open m) (runs d a) both) (fits-served here d b from x held.ruled held.member (eqb_is _ _ q) apart legal) legal)
-    (λ q. fits-serves_other here c (Held d m turn a b) from s t x n g h)
+fits-routed : (site : Site) (h : Bound) (from : NodeId) (s t : ServiceId) (x : CommitMsg Batch) (w : Way) → IsNamed site → nat_le (length s) 4 ≡ true → nat_le (length t) 4 ≡ true → IsHeld site h → bytes_eq from site.here ≡ false → carries may_serve x ≡ true → way site h from s t ≡ w → FitsDeed site (Held h) (routed w (hears_routed site h from s t x))
+fits-routed site h from s t x (Err f) n g e held apart legal w = tt
+fits-routed site h from s t x (Ok u) n g e held apart legal w =
+    let both : (is_open h.mark && is_active_here h) ≡ true = way-runs site h from s t u w in
+    if_holds (FitsDeed site (Held h)) (generation_of x == h.definition.generation) _ _
+    (λ q. serves-at site h (group.From (position h.definition.members from) x) (and_left (is_open h.mark) (is_active_here h) both) (and_right (is_open h.mark) (is_active_here h) both) (fits-served site h from x held.ruled held.member (eqb_is _ _ q) apart legal) legal)
+    (λ q. fits-serves_other site (Held h) from s t x n g e)
 
 -- ---- the other events
 
-turning : (here c : Node) (d : Definition) (m : Mark) (turn : ℕ) (a : Member Act) (b : Member Batch) (x : GroupEvent Act) (y : GroupEvent Batch) → FitsEvent here d turn a x → (changed_by (act_rules d) a (admin_row here d a x).changes).history ≡ a.history → Brings has_form x → FitsServed here d b y → Brings may_serve y → FitsDeed here c (Held d m turn a b) (turns here d m a b x y)
-turning here c d m turn a b x y fit still asks serves brings =
-    if_holds (FitsDeed here c (Held d m turn a b)) (is_open m) _ _
-    (λ unclosed. if_holds (FitsDeed here c (Held d m turn a b)) (runs d a) _ _
-    (λ active. record { mark = m; turn = turn; held = refl; unclosed = unclosed; active = active; fit = fit; still = still; asks = asks; serves = serves; brings = brings })
-    (λ q. acts-at here d m turn a b x unclosed fit asks))
+turning : (site : Site) (h : Bound) (x : GroupEvent Act) (y : GroupEvent Batch) → FitsEvent site h x → (changed_by (act_rules h.definition) h.acts (group_row (admin_lane site h.definition) h.acts x).changes).history ≡ h.acts.history → Brings has_form x → FitsServed site h y → Brings may_serve y → FitsDeed site (Held h) (turns site h x y)
+turning site h x y fit still asks serves brings =
+    if_holds (FitsDeed site (Held h)) (is_open h.mark) _ _
+    (λ unclosed. if_holds (FitsDeed site (Held h)) (is_active_here h) _ _
+    (λ active. record { held = refl; unclosed = unclosed; active = active; fit = fit; still = still; asks = asks; serves = serves; brings = brings })
+    (λ q. acts-at site h x unclosed fit asks))
     (λ q. tt)
 
-fits-tick : (here c : Node) (d : Definition) (m : Mark) (turn : ℕ) (a : Member Act) (b : Member Batch) → FitsDeed here c (Held d m turn a b) (turns here d m a b group.Tick group.Tick)
-fits-tick here c d m turn a b = turning here c d m turn a b group.Tick group.Tick (record { due = tt; queues = inl tt }) (still-tick (admin_group d) (position d.members here) a) tt (record { due = tt; queues = inl tt }) tt
+fits-tick : (site : Site) (h : Bound) → FitsDeed site (Held h) (turns site h group.Tick group.Tick)
+fits-tick site h = turning site h group.Tick group.Tick (record { due = tt; queues = inl tt }) (still-tick (admin_group h.definition) (position h.definition.members site.here) h.acts) tt (record { due = tt; queues = inl tt }) tt
 
-fits-expire : (here c : Node) (d : Definition) (m : Mark) (turn : ℕ) (a : Member Act) (b : Member Batch) → FitsDeed here c (Held d m turn a b) (turns here d m a b group.Expire group.Expire)
-fits-expire here c d m turn a b = turning here c d m turn a b group.Expire group.Expire (record { due = tt; queues = inl tt }) (still-expire (admin_group d) (position d.members here) a) tt (record { due = tt; queues = inl tt }) tt
+fits-expire : (site : Site) (h : Bound) → FitsDeed site (Held h) (turns site h group.Expire group.Expire)
+fits-expire site h = turning site h group.Expire group.Expire (record { due = tt; queues = inl tt }) (still-expire (admin_group h.definition) (position h.definition.members site.here) h.acts) tt (record { due = tt; queues = inl tt }) tt
 
-fits-abandons : (here c : Node) (d : Definition) (m : Mark) (turn : ℕ) (a : Member Act) (b : Member Batch) → FitsDeed here c (Held d m turn a b) (abandons d m a)
-fits-abandons here c d m turn a b =
-    if_holds (FitsDeed here c (Held d m turn a b)) _ _ _ (λ q. tt) (λ active.
-    if_holds (FitsDeed here c (Held d m turn a b)) (is_open m) _ _ (λ q. abandons-at d m turn a b q (not_false _ active)) (λ q. tt))
+fits-abandons : (site : Site) (h : Bound) → FitsDeed site (Held h) (abandons h)
+fits-abandons site h =
+    if_holds (FitsDeed site (Held h)) _ _ _ (λ q. tt) (λ active.
+    if_holds (FitsDeed site (Held h)) (is_open h.mark) _ _ (λ q. abandons-at h q (not_false _ active)) (λ q. tt))
 
-fits-purges : (here c : Node) (d : Definition) (m : Mark) (turn : ℕ) (a : Member Act) (b : Member Batch) → FitsDeed here c (Held d m turn a b) (purges d m a)
-fits-purges here c d m turn a b = if_holds (FitsDeed here c (Held d m turn a b)) (is_open m && is_waiting (own_life d a).state a) _ _ (λ q. tt) (λ q. purges-at d m turn a b)
+fits-purges : (site : Site) (h : Bound) → FitsDeed site (Held h) (purges h)
+fits-purges site h = if_holds (FitsDeed site (Held h)) (is_open h.mark && is_waiting (own_life h).state h.acts) _ _ (λ q. tt) (λ q. purges-at h)
 
-fits-held_hears : (here c : Node) (d : Definition) (m : Mark) (turn : ℕ) (a : Member Act) (b : Member Batch) (from : Node) (x : Message) → IsNamed here c → IsHeld here c d m a b → bytes_eq from here ≡ false → is_legal x ≡ true → FitsDeed here c (Held d m turn a b) (held_hears here c d m turn a b from x)
-fits-held_hears here c d m turn a b from (message.Admin i x) n s apart legal = fits-admin here c d m turn a b from x n (and_right (nat_le (length i) 11) (carries has_form x) legal) s apart
-fits-held_hears here c d m turn a b from (message.Scabbard i s t x) n held apart legal =
+fits-held_hears : (site : Site) (h : Bound) (from : NodeId) (x : Message) → IsNamed site → IsHeld site h → bytes_eq from site.here ≡ false → is_legal x ≡ true → FitsDeed site (Held h) (held_hears site h from x)
+fits-held_hears site h from (message.Admin i x) n s apart legal = fits-admin site h from x n (and_right (nat_le (length i) 11) (carries has_form x) legal) s apart
+fits-held_hears site h from (message.Scabbard i s t x) n held apart legal =
     let ends : (nat_le (length s) 4 && (nat_le (length t) 4 && carries may_serve x)) ≡ true = and_right (nat_le (length i) 11) _ legal in
     let more : (nat_le (length t) 4 && carries may_serve x) ≡ true = and_right (nat_le (length s) 4) _ ends in
-    fits-routed here c d m turn a b from s t x (way here d m a from s t) n (and_left (nat_le (length s) 4) _ ends) (and_left (nat_le (length t) 4) _ more) held apart (and_right (nat_le (length t) 4) _ more) refl
+    fits-routed site h from s t x (way site h from s t) n (and_left (nat_le (length s) 4) _ ends) (and_left (nat_le (length t) 4) _ more) held apart (and_right (nat_le (length t) 4) _ more) refl
 
-fits-other_hears : (here c : Node) (k : Cell) (from : Node) (x : Message) → IsNamed here c → bytes_eq from here ≡ false → is_legal x ≡ true → FitsDeed here c k (other_hears here c k from x)
-fits-other_hears here c k from (message.Admin i x) n apart legal = fits-hears_first here c k from x n (and_right (nat_le (length i) 11) (carries has_form x) legal) apart
-fits-other_hears here c k from (message.Scabbard i s t x) n apart legal = tt
+fits-other_hears : (site : Site) (k : Cell) (from : NodeId) (x : Message) → IsNamed site → bytes_eq from site.here ≡ false → is_legal x ≡ true → FitsDeed site k (other_hears site k from x)
+fits-other_hears site k from (message.Admin i x) n apart legal = fits-hears_first site k from x n (and_right (nat_le (length i) 11) (carries has_form x) legal) apart
+fits-other_hears site k from (message.Scabbard i s t x) n apart legal = tt
 
-fits-held : (here c : Node) (d : Definition) (m : Mark) (turn : ℕ) (a : Member Act) (b : Member Batch) (e : Event) → IsNamed here c → IsFor here c e → IsHeld here c d m a b → FitsDeed here c (Held d m turn a b) (held_does here c d m turn a b e)
-fits-held here c d m turn a b (event.Propose p) n own s = fits-proposes here c p (Held d m turn a b) (broken p) n own.1 own.0 refl
-fits-held here c d m turn a b (event.Vote accept) n own s = fits-votes here c d m turn a b (if accept then kind.Accept else kind.Reject) n (if_holds (λ (w : ActKind). IsTrue (form.kind.fits w)) accept kind.Accept kind.Reject (λ q. refl) (λ q. refl)) s
-fits-held here c d m turn a b event.Remove n own s = fits-removes here c d m turn a b n s
-fits-held here c d m turn a b event.Abandon n own s = fits-abandons here c d m turn a b
-fits-held here c d m turn a b event.Purge n own s = fits-purges here c d m turn a b
-fits-held here c d m turn a b (event.Submit v) n own s = fits-submits here c d m turn a b v s
-fits-held here c d m turn a b event.Show n own s = tt
-fits-held here c d m turn a b event.Detail n own s = tt
-fits-held here c d m turn a b event.Root n own s = fits-active here c (Held d m turn a b) d a (Tells (root_told b)) tt
-fits-held here c d m turn a b event.History n own s = fits-active here c (Held d m turn a b) d a (Tells (history_told b)) tt
-fits-held here c d m turn a b (event.Get address) n own s = fits-active here c (Held d m turn a b) d a (Tells (value_told b address)) tt
-fits-held here c d m turn a b (event.List prefix) n own s = fits-active here c (Held d m turn a b) d a (Tells (listed b prefix)) tt
-fits-held here c d m turn a b (event.Status i) n own s = fits-active here c (Held d m turn a b) d a (status_told b i) (fits-status here c (Held d m turn a b) b i (place_of (values b.history) i))
-fits-held here c d m turn a b (event.Receipt i) n own s = fits-active here c (Held d m turn a b) d a (receipt_told b i) (fits-receipt here c (Held d m turn a b) i (place_of (values b.history) i) (receipts_of (values b.history) i))
-fits-held here c d m turn a b (event.Route from x y) n own s = fits-routes here c (Held d m turn a b) (way here d m a from x y)
-fits-held here c d m turn a b event.Tick n own s = fits-tick here c d m turn a b
-fits-held here c d m turn a b event.Expire n own s = fits-expire here c d m turn a b
-fits-held here c d m turn a b (event.Deliver from x) n own s = fits-held_hears here c d m turn a b from x n s own.1 own.2
+fits-held : (site : Site) (h : Bound) (e : Event) → IsNamed site → IsFor site e → IsHeld site h → FitsDeed site (Held h) (held_does site h e)
+fits-held site h (event.Propose p) n own s = fits-proposes site p (Held h) (broken p) n own.1 own.0 refl
+fits-held site h (event.Vote accept) n own s = fits-votes site h (if accept then kind.Accept else kind.Reject) n (if_holds (λ (w : ActKind). IsTrue (form.kind.fits w)) accept kind.Accept kind.Reject (λ q. refl) (λ q. refl)) s
+fits-held site h event.Remove n own s = fits-removes site h n s
+fits-held site h event.Abandon n own s = fits-abandons site h
+fits-held site h event.Purge n own s = fits-purges site h
+fits-held site h (event.Submit v) n own s = fits-submits site h v s
+fits-held site h event.Show n own s = tt
+fits-held site h event.Detail n own s = tt
+fits-held site h event.Root n own s = fits-active site (Held h) h (Tells (root_told h.batches)) tt
+fits-held site h event.History n own s = fits-active site (Held h) h (Tells (history_told h.batches)) tt
+fits-held site h (event.Get address) n own s = fits-active site (Held h) h (Tells (value_told h.batches address)) tt
+fits-held site h (event.List prefix) n own s = fits-active site (Held h) h (Tells (listed h.batches prefix)) tt
+fits-held site h (event.Status i) n own s = fits-active site (Held h) h (status_told h.batches i) (fits-status site (Held h) h.batches i (place_of (values h.batches.history) i))
+fits-held site h (event.Receipt i) n own s = fits-active site (Held h) h (receipt_told h.batches i) (fits-receipt site (Held h) i (place_of (values h.batches.history) i) (receipts_of (values h.batches.history) i))
+fits-held site h (event.Route from x y) n own s = fits-routes site (Held h) (way site h from x y)
+fits-held site h event.Tick n own s = fits-tick site h
+fits-held site h event.Expire n own s = fits-expire site h
+fits-held site h (event.Deliver from x) n own s = fits-held_hears site h from x n s own.1 own.2
 
-fits-other : (here c : Node) (k : Cell) (e : Event) → IsNamed here c → IsFor here c e → FitsDeed here c k (other_does here c k e)
-fits-other here c k (event.Propose p) n own = fits-proposes here c p k (broken p) n own.1 own.0 refl
-fits-other here c k (event.Vote accept) n own = tt
-fits-other here c k event.Remove n own = tt
-fits-other here c k event.Abandon n own = tt
-fits-other here c k event.Purge n own = tt
-fits-other here c k (event.Submit v) n own = tt
-fits-other here c k event.Show n own = tt
-fits-other here c k event.Detail n own = tt
-fits-other here c k event.Root n own = tt
-fits-other here c k event.History n own = tt
-fits-other here c k (event.Get address) n own = tt
-fits-other here c k (event.List prefix) n own = tt
-fits-other here c k (event.Status i) n own = tt
-fits-other here c k (event.Receipt i) n own = tt
-fits-other here c k (event.Route from x y) n own = tt
-fits-other here c k event.Tick n own = tt
-fits-other here c k event.Expire n own = tt
-fits-other here c k (event.Deliver from x) n own = fits-other_hears here c k from x n own.1 own.2
+fits-other : (site : Site) (k : Cell) (e : Event) → IsNamed site → IsFor site e → FitsDeed site k (other_does site k e)
+fits-other site k (event.Propose p) n own = fits-proposes site p k (broken p) n own.1 own.0 refl
+fits-other site k (event.Deliver from x) n own = fits-other_hears site k from x n own.1 own.2
+fits-other site k _ n own = tt
 
-pub fits-does : (here c : Node) (k : Cell) (e : Event) → IsNamed here c → IsFor here c e → IsKept here c k → FitsDeed here c k (does here c k e)
-fits-does here c Empty e n own s = fits-other here c Empty e n own
-fits-does here c (Purged old) e n own s = fits-other here c (Purged old) e n own
-fits-does here c (Held d m turn a b) e n own s = fits-held here c d m turn a b e n own s
+pub fits-does : (site : Site) (k : Cell) (e : Event) → IsNamed site → IsFor site e → IsKept site k → FitsDeed site k (does site k e)
+fits-does site (Held h) e n own s = fits-held site h e n own s
+fits-does site k e n own s = fits-other site k e n own

@@ -4,7 +4,7 @@ use Rattle.std.specs.Prelude.{None, Some, nat_lt, is_none}
 use Rattle.spl_agree.specs.declared.reason.Reason.{Reason}
 use Rattle.spl_agree.specs.declared.event.GroupChange.{GroupChange}
 use Rattle.spl_agree.specs.declared.event.GroupChange.TheVariants as change
-use Rattle.spl_agree.specs.Member.{Member, values, changed}
+use Rattle.spl_agree.specs.Member.{values, changed}
 use Rattle.spl_agree.specs.Fits.{fits as fits_group}
 use Rattle.spl_agree.proofs.Tests.{bool_cases, and_right}
 use Rattle.spl_group.proofs.Sound.{is_none_is}
@@ -19,7 +19,7 @@ use Rattle.spl_circuit.specs.Rules.{is_member}
 use Rattle.spl_circuit.specs.Equality.{same_definition}
 use Rattle.spl_circuit.specs.Lifecycle.{life, is_proposed, is_active}
 use Rattle.spl_circuit.specs.Acts.{reason, is_first, misfit_kind, misfit, act_rules}
-use Rattle.spl_rules.specs.Cells.{runs}
+use Rattle.spl_rules.specs.Cells.{Bound, is_active_here}
 
 active-proposed : (l : Lifecycle) → is_active l ≡ true → is_proposed l ≡ false
 active-proposed lifecycle.None h = refl
@@ -53,13 +53,6 @@ final d acts v h m = go (bool_cases (is_member d v.node))
     go (inr q) = some_not (reason 1) (rw q at m)
 
 -- a change that fits leaves an active circuit active
-pub runs-changed : (d : Definition) (may : Act → Bool) (a : Member Act) (x : GroupChange Act) → runs d a ≡ true → fits_group (act_rules d) may a x ≡ true → runs d (changed (act_rules d) a x) ≡ true
-runs-changed d may a (change.Queue v) h f = h
-runs-changed d may a (change.Refuse v why) h f = h
-runs-changed d may a (change.Begin r) h f = h
-runs-changed d may a (change.Seen r) h f = h
-runs-changed d may a (change.Promise r v) h f = h
-runs-changed d may a change.Abort h f = h
-runs-changed d may a (change.Commit r v) h f = absurd (final d (values a.history) v h (is_none_is (misfit d (values a.history) v) (and_right (nat_lt (length a.history) (2 ^ 32 - 1)) (is_none (misfit d (values a.history) v)) f)))
-runs-changed d may a (change.Restore next seen) h f = h
-runs-changed d may a (change.Kept v why) h f = h
+pub runs-changed : (h : Bound) (may : Act → Bool) (x : GroupChange Act) → is_active_here h ≡ true → fits_group (act_rules h.definition) may h.acts x ≡ true → is_active_here (record h { acts = changed (act_rules h.definition) h.acts x }) ≡ true
+runs-changed h may (change.Commit r v) a f = absurd (final h.definition (values h.acts.history) v a (is_none_is (misfit h.definition (values h.acts.history) v) (and_right (nat_lt (length h.acts.history) (2 ^ 32 - 1)) (is_none (misfit h.definition (values h.acts.history) v)) f)))
+runs-changed h may _ a f = a

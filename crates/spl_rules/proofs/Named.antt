@@ -9,6 +9,7 @@ use Rattle.spl_circuit.specs.declared.act.Act.{Act}
 use Rattle.spl_circuit.specs.Forms.{node_id, circuit_id, service_id, kind}
 use Rattle.spl_circuit.specs.Nodes.{Node}
 use Rattle.spl_wire.specs.Bounds.{has_form}
+use Rattle.spl_rules.specs.Cells.{Site}
 use Rattle.spl_rules.specs.Valid.{IsNamed}
 
 pub named_node : (n : Node) → IsTrue (is_node_id n) → IsTrue (node_id.fits n)
@@ -30,8 +31,8 @@ named_service s h =
     let b = both_true (length s == 4) _ h in
     and_true (nat_le 4 (length s) && nat_le (length s) 4) (is_service_id s) (same_le (length s) 4 (eqb_is (length s) 4 b.0)) h
 
-pub named_by : (here c : Node) → IsTrue (is_node_id here) → IsTrue (is_circuit_id c) → IsNamed here c
-named_by here c h k = record { node = named_node here h; circuit = named_circuit c k }
+pub named_by : (site : Site) → IsTrue (is_node_id site.here) → IsTrue (is_circuit_id site.circuit) → IsNamed site
+named_by site h k = record { node = named_node site.here h; circuit = named_circuit site.circuit k }
 
 pub formed_act : (v : Act) → IsTrue (is_node_id v.node) → IsTrue (kind.fits v.kind) → has_form v ≡ true
 formed_act v h k = and_true (node_id.fits v.node) (kind.fits v.kind) (named_node v.node h) k

@@ -1,6 +1,6 @@
 -- The packed form of a cell that changes have made of an empty one makes that cell again.
 use Rattle.std.proofs.Common.{◌≡◌, ◌⊎◌, ℕ, ◌<◌, true, false, ◌&&◌, List, [], ◌∷◌, ◌++◌, refl, sym, ap, subst, ◌∙◌, inl, inr, arith}
-use Rattle.std.specs.Prelude.{Option, Some, None, nat_lt, nat_le, is_none, ◌==◌}
+use Rattle.std.specs.Prelude.{map, Option, Some, None, nat_lt, nat_le, is_none, ◌==◌}
 use Rattle.std.specs.List.{list_all}
 use Rattle.std.specs.Str.{bytes_eq}
 use Rattle.std.proofs.lemmas.Bool.Decides.{nat_tests}
@@ -16,7 +16,7 @@ use Rattle.spl_circuit.specs.declared.definition.Definition.{Definition}
 use Rattle.spl_circuit.specs.declared.act.Act.{Act}
 use Rattle.spl_circuit.specs.declared.lifecycle.Mark.{Mark}
 use Rattle.spl_circuit.specs.declared.lifecycle.Mark.TheVariants as mark
-use Rattle.spl_circuit.specs.Nodes.{Node}
+use Rattle.spl_circuit.specs.Nodes.{NodeId}
 use Rattle.spl_circuit.specs.Rules.{broken, is_member}
 use Rattle.spl_circuit.specs.Acts.{act_rules}
 use Rattle.spl_circuit.specs.Equality.{same_act_key, same_kind}
@@ -25,8 +25,7 @@ use Rattle.spl_command.specs.Equality.{same_list, same_transaction}
 use Rattle.spl_scabbard.specs.Checks.{batch_rules}
 use Rattle.spl_wire.specs.declared.change.Change.{Change}
 use Rattle.spl_wire.specs.declared.change.Change.TheVariants as durable
-use Rattle.spl_rules.specs.Cells.{Cell, Empty, Held, Purged, is_open, is_free, runs}
-use Rattle.spl_rules.specs.Plans.{admin_changes, service_changes}
+use Rattle.spl_rules.specs.Cells.{Bound, Cell, Empty, Held, Purged, Site, fresh, is_open, is_free, is_active_here}
 use Rattle.spl_rules.specs.Changes.{turn_after, may_queue, may_serve, may_keep, fits_free, applied_one, applied, stopped_cell}
 use Rattle.spl_rules.specs.Pack.{packed_batches, packed_mark, packed}
 use Rattle.spl_rules.proofs.Positions.{node_is, node_same}
@@ -34,7 +33,7 @@ use Rattle.spl_rules.proofs.Members.{pending-changed}
 use Rattle.spl_rules.proofs.Lawful.{pending-lawful}
 use Rattle.spl_rules.proofs.Plans.{applied-append}
 use Rattle.spl_rules.proofs.Keys.{Each, each-more, HasKeys}
-use Rattle.spl_rules.proofs.Built.{IsBuilt, built-new, built-changed, fresh}
+use Rattle.spl_rules.proofs.Built.{IsBuilt, built-new, built-changed, is-fresh}
 use Rattle.spl_rules.proofs.Rebuilt.{FitInTurn, MayInTurn, Leads, rebuilt}
 use Rattle.spl_rules.proofs.Owns.{Mine, mine-changed, mine-may}
 use Rattle.spl_rules.proofs.Final.{runs-changed}
@@ -69,25 +68,25 @@ batch-keys = record {
 abbrev Lawful : Batch × Reason → Type 0
 Lawful u = may_serve u.0 ≡ true
 
-pub record IsMade (here c : Node) (d : Definition) (m : Mark) (turn : ℕ) (a : Member Act) (b : Member Batch) : Type 0 where
-  pub ruled : broken d ≡ None
-  pub own : bytes_eq d.id c ≡ true
-  pub member : is_member d here ≡ true
+pub record IsMade (site : Site) (h : Bound) : Type 0 where
+  pub ruled : broken h.definition ≡ None
+  pub own : bytes_eq h.definition.id site.circuit ≡ true
+  pub member : is_member h.definition site.here ≡ true
   -- it is open or abandoned, and what is abandoned is active
-  pub marked : is_open m ≡ false → m ≡ mark.Abandoned
-  pub closed : is_open m ≡ false → runs d a ≡ true
-  pub acts : IsBuilt (act_rules d) a
-  pub batches : IsBuilt batch_rules b
-  pub mine : Mine here turn [] a.pending
-  pub pending_lawful : list_all may_serve b.pending ≡ true
-  pub refused_lawful : Each Lawful b.refused
+  pub marked : is_open h.mark ≡ false → h.mark ≡ mark.Abandoned
+  pub closed : is_open h.mark ≡ false → is_active_here h ≡ true
+  pub acts : IsBuilt (act_rules h.definition) h.acts
+  pub batches : IsBuilt batch_rules h.batches
+  pub mine : Mine site.here h.turn [] h.acts.pending
+  pub pending_lawful : list_all may_serve h.batches.pending ≡ true
+  pub refused_lawful : Each Lawful h.batches.refused
   -- there are batches only where the circuit is active
-  pub idle : runs d a ≡ false → b ≡ new_member
+  pub idle : is_active_here h ≡ false → h.batches ≡ new_member
 
-abbrev pub Made : Node → Node → Cell → Type 0
-Made here c Empty = Unit {0}
-Made here c (Held d m turn a b) = IsMade here c d m turn a b
-Made here c (Purged old) = 0 < old
+abbrev pub Made : Site → Cell → Type 0
+Made site Empty = Unit {0}
+Made site (Held h) = IsMade site h
+Made site (Purged old) = 0 < old
 
 -- ---- each change leaves it so
 
@@ -100,14 +99,14 @@ first_generation d h = go (bool_cases (d.version == 1)) (bool_cases (nat_le 1 d.
     go (inl p) (inr q) = absurd (let z : Some 2 ≡ None = rw (p, q) at h in cc)
     go (inl p) (inl q) = grind (arith, nat_tests)
 
-made-bound : (here c : Node) (k : Cell) (d : Definition) → fits_free here c k (durable.Bind d) ≡ true → IsMade here c d mark.Open 0 new_member new_member
-made-bound here c k d h =
-    let own : (bytes_eq d.id c && (is_none (broken d) && is_member d here)) ≡ true = and_right (is_free k d.generation) _ h in
-    let ruled : (is_none (broken d) && is_member d here) ≡ true = and_right (bytes_eq d.id c) _ own in
+made-bound : (site : Site) (k : Cell) (d : Definition) → fits_free site k (durable.Bind d) ≡ true → IsMade site (fresh d)
+made-bound site k d h =
+    let own : (bytes_eq d.id site.circuit && (is_none (broken d) && is_member d site.here)) ≡ true = and_right (is_free k d.generation) _ h in
+    let ruled : (is_none (broken d) && is_member d site.here) ≡ true = and_right (bytes_eq d.id site.circuit) _ own in
     record {
-      ruled = is_none_is (broken d) (and_left (is_none (broken d)) (is_member d here) ruled);
-      own = and_left (bytes_eq d.id c) _ own;
-      member = and_right (is_none (broken d)) (is_member d here) ruled;
+      ruled = is_none_is (broken d) (and_left (is_none (broken d)) (is_member d site.here) ruled);
+      own = and_left (bytes_eq d.id site.circuit) _ own;
+      member = and_right (is_none (broken d)) (is_member d site.here) ruled;
       marked = λ e. cc;
       closed = λ e. cc;
       acts = built-new (act_rules d);
@@ -118,45 +117,39 @@ made-bound here c k d h =
       idle = λ e. refl;
     }
 
-made-admin : (here c : Node) (d : Definition) (m : Mark) (turn : ℕ) (a : Member Act) (b : Member Batch) (x : GroupChange Act) → (is_open m && fits_group (act_rules d) (may_queue here turn a.pending) a x) ≡ true → IsMade here c d m turn a b → IsMade here c d m (turn_after here turn x) (changed (act_rules d) a x) b
-made-admin here c d m turn a b x h s =
-    let unclosed : is_open m ≡ true = and_left (is_open m) _ h in
-    let fit : fits_group (act_rules d) (may_queue here turn a.pending) a x ≡ true = and_right (is_open m) _ h in
+made-admin : (site : Site) (h : Bound) (x : GroupChange Act) → (is_open h.mark && fits_group (act_rules h.definition) (may_queue site.here h.turn h.acts.pending) h.acts x) ≡ true → IsMade site h → IsMade site (record h { turn = turn_after site.here h.turn x; acts = changed (act_rules h.definition) h.acts x })
+made-admin site h x w s =
+    let unclosed : is_open h.mark ≡ true = and_left (is_open h.mark) _ w in
+    let fit : fits_group (act_rules h.definition) (may_queue site.here h.turn h.acts.pending) h.acts x ≡ true = and_right (is_open h.mark) _ w in
     record {
       ruled = s.ruled;
       own = s.own;
       member = s.member;
       marked = s.marked;
       closed = λ e. cc;
-      acts = built-changed (act_rules d) (may_queue here turn a.pending) a (act-keys d) x fit s.acts;
+      acts = built-changed (act_rules h.definition) (may_queue site.here h.turn h.acts.pending) h.acts (act-keys h.definition) x fit s.acts;
       batches = s.batches;
-      mine = mine-changed here d turn a x fit s.mine;
+      mine = mine-changed site.here h.definition h.turn h.acts x fit s.mine;
       pending_lawful = s.pending_lawful;
       refused_lawful = s.refused_lawful;
-      idle = λ e. go fit e (bool_cases (runs d a));
+      idle = λ e. go fit e (bool_cases (is_active_here h));
     }
   where
-    go : fits_group (act_rules d) (may_queue here turn a.pending) a x ≡ true → runs d (changed (act_rules d) a x) ≡ false → (runs d a ≡ true) ⊎ (runs d a ≡ false) → b ≡ new_member
-    go fit e (inl q) = absurd (let z : runs d (changed (act_rules d) a x) ≡ true = runs-changed d (may_queue here turn a.pending) a x q fit in cc)
+    go : fits_group (act_rules h.definition) (may_queue site.here h.turn h.acts.pending) h.acts x ≡ true → is_active_here (record h { acts = changed (act_rules h.definition) h.acts x }) ≡ false → (is_active_here h ≡ true) ⊎ (is_active_here h ≡ false) → h.batches ≡ new_member
+    go fit e (inl q) = absurd (let z : is_active_here (record h { acts = changed (act_rules h.definition) h.acts x }) ≡ true = runs-changed h (may_queue site.here h.turn h.acts.pending) x q fit in cc)
     go fit e (inr q) = s.idle q
 
 refused-lawful : (b : Member Batch) (x : GroupChange Batch) → may_keep x ≡ true → fits_group batch_rules may_serve b x ≡ true → list_all may_serve b.pending ≡ true → Each Lawful b.refused → Each Lawful (changed batch_rules b x).refused
-refused-lawful b (change.Queue v) k h p r = r
 refused-lawful b (change.Refuse v why) k h p r = each-more Lawful b.refused (v, why) r (pending-lawful v b.pending h p)
-refused-lawful b (change.Begin n) k h p r = r
-refused-lawful b (change.Seen n) k h p r = r
-refused-lawful b (change.Promise n v) k h p r = r
-refused-lawful b change.Abort k h p r = r
-refused-lawful b (change.Commit n v) k h p r = r
-refused-lawful b (change.Restore next seen) k h p r = r
 refused-lawful b (change.Kept v why) k h p r = each-more Lawful b.refused (v, why) r k
+refused-lawful b _ k h p r = r
 
-made-service : (here c : Node) (d : Definition) (m : Mark) (turn : ℕ) (a : Member Act) (b : Member Batch) (x : GroupChange Batch) → (is_open m && (runs d a && (may_keep x && fits_group batch_rules may_serve b x))) ≡ true → IsMade here c d m turn a b → IsMade here c d m turn a (changed batch_rules b x)
-made-service here c d m turn a b x h s =
-    let active : (runs d a && (may_keep x && fits_group batch_rules may_serve b x)) ≡ true = and_right (is_open m) _ h in
-    let running : runs d a ≡ true = and_left (runs d a) _ active in
-    let both : (may_keep x && fits_group batch_rules may_serve b x) ≡ true = and_right (runs d a) _ active in
-    let fit : fits_group batch_rules may_serve b x ≡ true = and_right (may_keep x) _ both in
+made-service : (site : Site) (h : Bound) (x : GroupChange Batch) → (is_open h.mark && (is_active_here h && (may_keep x && fits_group batch_rules may_serve h.batches x))) ≡ true → IsMade site h → IsMade site (record h { batches = changed batch_rules h.batches x })
+made-service site h x w s =
+    let active : (is_active_here h && (may_keep x && fits_group batch_rules may_serve h.batches x)) ≡ true = and_right (is_open h.mark) _ w in
+    let running : is_active_here h ≡ true = and_left (is_active_here h) _ active in
+    let both : (may_keep x && fits_group batch_rules may_serve h.batches x) ≡ true = and_right (is_active_here h) _ active in
+    let fit : fits_group batch_rules may_serve h.batches x ≡ true = and_right (may_keep x) _ both in
     record {
       ruled = s.ruled;
       own = s.own;
@@ -164,20 +157,20 @@ made-service here c d m turn a b x h s =
       marked = s.marked;
       closed = s.closed;
       acts = s.acts;
-      batches = built-changed batch_rules may_serve b batch-keys x fit s.batches;
+      batches = built-changed batch_rules may_serve h.batches batch-keys x fit s.batches;
       mine = s.mine;
-      pending_lawful = pending-changed batch_rules may_serve b x fit s.pending_lawful;
-      refused_lawful = refused-lawful b x (and_left (may_keep x) _ both) fit s.pending_lawful s.refused_lawful;
+      pending_lawful = pending-changed batch_rules may_serve h.batches x fit s.pending_lawful;
+      refused_lawful = refused-lawful h.batches x (and_left (may_keep x) _ both) fit s.pending_lawful s.refused_lawful;
       idle = λ e. cc;
     }
 
-made-abandon : (here c : Node) (d : Definition) (m : Mark) (turn : ℕ) (a : Member Act) (b : Member Batch) → (is_open m && runs d a) ≡ true → IsMade here c d m turn a b → IsMade here c d mark.Abandoned turn a b
-made-abandon here c d m turn a b h s = record {
+made-abandon : (site : Site) (h : Bound) → (is_open h.mark && is_active_here h) ≡ true → IsMade site h → IsMade site (record h { mark = mark.Abandoned })
+made-abandon site h w s = record {
   ruled = s.ruled;
   own = s.own;
   member = s.member;
   marked = λ e. refl;
-  closed = λ e. and_right (is_open m) (runs d a) h;
+  closed = λ e. and_right (is_open h.mark) (is_active_here h) w;
   acts = s.acts;
   batches = s.batches;
   mine = s.mine;
@@ -187,8 +180,8 @@ made-abandon here c d m turn a b h s = record {
 }
 
 -- the admin group is as it was made, so that any turn will do
-made-turn : (here c : Node) (d : Definition) (m : Mark) (turn t : ℕ) (a : Member Act) (b : Member Batch) → is_new a ≡ true → IsMade here c d m turn a b → IsMade here c d m t a b
-made-turn here c d m turn t a b h s = record {
+made-turn : (site : Site) (h : Bound) (t : ℕ) → is_new h.acts ≡ true → IsMade site h → IsMade site (record h { turn = t })
+made-turn site h t w s = record {
   ruled = s.ruled;
   own = s.own;
   member = s.member;
@@ -196,41 +189,31 @@ made-turn here c d m turn t a b h s = record {
   closed = s.closed;
   acts = s.acts;
   batches = s.batches;
-  mine = subst (λ (us : List Act). Mine here t [] us) (sym (fresh a h).bare.pending) tt;
+  mine = subst (λ (us : List Act). Mine site.here t [] us) (sym (is-fresh h.acts w).bare.pending) tt;
   pending_lawful = s.pending_lawful;
   refused_lawful = s.refused_lawful;
   idle = s.idle;
 }
 
-made-held : (here c : Node) (d : Definition) (m : Mark) (turn : ℕ) (a : Member Act) (b : Member Batch) (x : Change) → IsMade here c d m turn a b → Made here c (applied_one here c (Held d m turn a b) x)
-made-held here c d m turn a b (durable.Bind e) s = s
-made-held here c d m turn a b (durable.Admin x) s = if_holds (Made here c) _ _ _ (λ h. made-admin here c d m turn a b x h s) (λ h. s)
-made-held here c d m turn a b (durable.Service x) s = if_holds (Made here c) _ _ _ (λ h. made-service here c d m turn a b x h s) (λ h. s)
-made-held here c d m turn a b durable.Abandon s = if_holds (Made here c) _ _ _ (λ h. made-abandon here c d m turn a b h s) (λ h. s)
-made-held here c d m turn a b durable.Purge s = first_generation d s.ruled
-made-held here c d m turn a b (durable.Turn t) s = if_holds (Made here c) (is_new a) (Held d m t a b) (Held d m turn a b) (λ h. made-turn here c d m turn t a b h s) (λ h. s)
-made-held here c d m turn a b (durable.Gone old) s = s
+made-held : (site : Site) (h : Bound) (x : Change) → IsMade site h → Made site (applied_one site (Held h) x)
+made-held site h (durable.Bind e) s = s
+made-held site h (durable.Admin x) s = if_holds (Made site) _ _ _ (λ w. made-admin site h x w s) (λ w. s)
+made-held site h (durable.Service x) s = if_holds (Made site) _ _ _ (λ w. made-service site h x w s) (λ w. s)
+made-held site h durable.Abandon s = if_holds (Made site) _ _ _ (λ w. made-abandon site h w s) (λ w. s)
+made-held site h durable.Purge s = first_generation h.definition s.ruled
+made-held site h (durable.Turn t) s = if_holds (Made site) (is_new h.acts) (Held (record h { turn = t })) (Held h) (λ w. made-turn site h t w s) (λ w. s)
+made-held site h (durable.Gone old) s = s
 
-pub made-one : (here c : Node) (k : Cell) (x : Change) → Made here c k → Made here c (applied_one here c k x)
-made-one here c Empty (durable.Bind d) s = if_holds (Made here c) _ _ _ (λ h. made-bound here c Empty d h) (λ h. tt)
-made-one here c Empty (durable.Admin x) s = tt
-made-one here c Empty (durable.Service x) s = tt
-made-one here c Empty durable.Abandon s = tt
-made-one here c Empty durable.Purge s = tt
-made-one here c Empty (durable.Turn t) s = tt
-made-one here c Empty (durable.Gone old) s = if_holds (Made here c) (nat_lt 0 old) (Purged old) Empty (λ h. ltb_is 0 old h) (λ h. tt)
-made-one here c (Purged old) (durable.Bind d) s = if_holds (Made here c) _ _ _ (λ h. made-bound here c (Purged old) d h) (λ h. s)
-made-one here c (Purged old) (durable.Admin x) s = s
-made-one here c (Purged old) (durable.Service x) s = s
-made-one here c (Purged old) durable.Abandon s = s
-made-one here c (Purged old) durable.Purge s = s
-made-one here c (Purged old) (durable.Turn t) s = s
-made-one here c (Purged old) (durable.Gone new) s = s
-made-one here c (Held d m turn a b) x s = made-held here c d m turn a b x s
+pub made-one : (site : Site) (k : Cell) (x : Change) → Made site k → Made site (applied_one site k x)
+made-one site (Held h) x s = made-held site h x s
+made-one site Empty (durable.Bind d) s = if_holds (Made site) _ _ _ (λ w. made-bound site Empty d w) (λ w. tt)
+made-one site Empty (durable.Gone old) s = if_holds (Made site) (nat_lt 0 old) (Purged old) Empty (λ w. ltb_is 0 old w) (λ w. tt)
+made-one site (Purged old) (durable.Bind d) s = if_holds (Made site) _ _ _ (λ w. made-bound site (Purged old) d w) (λ w. s)
+made-one site k x s = s
 
-pub made-applied : (here c : Node) (k : Cell) (xs : List Change) → Made here c k → Made here c (applied here c k xs)
-made-applied here c k [] s = s
-made-applied here c k (x ∷ xs) s = made-applied here c (applied_one here c k x) xs (made-one here c k x s)
+pub made-applied : (site : Site) (k : Cell) (xs : List Change) → Made site k → Made site (applied site k xs)
+made-applied site k [] s = s
+made-applied site k (x ∷ xs) s = made-applied site (applied_one site k x) xs (made-one site k x s)
 
 -- ---- the packed form makes it
 
@@ -263,10 +246,10 @@ module _ {V : Type 0} (P : GroupChange V → Type 0) where
   each-packed m f k g q p = (f _ _, each-append P (kept_each m.refused) _ (each-kept m.refused k) (each-append P (committed_each m.history) _ (each-committed m.history g) (each-append P (queued_each m.pending) _ (each-queued m.pending q) (each-promised m.promise p))))
 
 -- the turn stays behind each change of the packed form
-abbrev Stays : Node → ℕ → GroupChange Act → Type 0
+abbrev Stays : NodeId → ℕ → GroupChange Act → Type 0
 Stays here turn x = turn_after here turn x ≡ turn
 
-stays-queued : (here : Node) (turn : ℕ) (before us : List Act) → Mine here turn before us → Each (λ v. Stays here turn (change.Queue v)) us
+stays-queued : (here : NodeId) (turn : ℕ) (before us : List Act) → Mine here turn before us → Each (λ v. Stays here turn (change.Queue v)) us
 stays-queued here turn before [] m = tt
 stays-queued here turn before (v ∷ vs) m = (go (bool_cases (bytes_eq v.node here)), stays-queued here turn (before ++ v ∷ []) vs m.1)
   where
@@ -274,7 +257,7 @@ stays-queued here turn before (v ∷ vs) m = (go (bool_cases (bytes_eq v.node he
     go (inl q) = rw q (m.0 q).1
     go (inr q) = rw q
 
-stays-packed : (here : Node) (turn : ℕ) (a : Member Act) → Mine here turn [] a.pending → Each (Stays here turn) (packed_member a)
+stays-packed : (here : NodeId) (turn : ℕ) (a : Member Act) → Mine here turn [] a.pending → Each (Stays here turn) (packed_member a)
 stays-packed here turn a m = each-packed (Stays here turn) a (λ n s. refl) (each-all (λ (u : Act × Reason). Stays here turn (change.Kept u.0 u.1)) a.refused (λ u. refl)) (λ r v. refl) (stays-queued here turn [] a.pending m) (λ r v. refl)
 
 abbrev MayKeep : GroupChange Batch → Type 0
@@ -283,60 +266,72 @@ MayKeep x = may_keep x ≡ true
 keeps-packed : (b : Member Batch) → Each Lawful b.refused → Each MayKeep (packed_member b)
 keeps-packed b r = each-packed MayKeep b (λ n s. refl) r (λ n v. refl) (each-all (λ v. MayKeep (change.Queue v)) b.pending (λ v. refl)) (λ n v. refl)
 
-admin-leads : (here c : Node) (d : Definition) (turn : ℕ) (a : Member Act) (b : Member Batch) (xs : List (GroupChange Act)) → FitInTurn (act_rules d) (may_queue here turn) a xs → Each (Stays here turn) xs → applied here c (Held d mark.Open turn a b) (admin_changes xs) ≡ Held d mark.Open turn (changed_by (act_rules d) a xs) b
-admin-leads here c d turn a b [] f t = refl
-admin-leads here c d turn a b (x ∷ xs) f t =
-    let one : applied_one here c (Held d mark.Open turn a b) (durable.Admin x) ≡ Held d mark.Open turn (changed (act_rules d) a x) b = rw (f.0, t.0) in
-    ap (λ (k : Cell). applied here c k (admin_changes xs)) one ∙ admin-leads here c d turn (changed (act_rules d) a x) b xs f.1 t.1
+admin-leads : (site : Site) (h : Bound) (xs : List (GroupChange Act)) → h.mark ≡ mark.Open → FitInTurn (act_rules h.definition) (may_queue site.here h.turn) h.acts xs → Each (Stays site.here h.turn) xs → applied site (Held h) (map durable.Admin xs) ≡ Held (record h { acts = changed_by (act_rules h.definition) h.acts xs })
+admin-leads site h [] o f t = refl
+admin-leads site h (x ∷ xs) o f t =
+    let one : applied_one site (Held h) (durable.Admin x) ≡ Held (record h { acts = changed (act_rules h.definition) h.acts x }) = rw (o, f.0, t.0) in
+    ap (λ (k : Cell). applied site k (map durable.Admin xs)) one ∙ admin-leads site (record h { acts = changed (act_rules h.definition) h.acts x }) xs o f.1 t.1
 
-service-leads : (here c : Node) (d : Definition) (turn : ℕ) (a : Member Act) (b : Member Batch) (xs : List (GroupChange Batch)) → runs d a ≡ true → FitInTurn batch_rules (λ us. may_serve) b xs → Each MayKeep xs → applied here c (Held d mark.Open turn a b) (service_changes xs) ≡ Held d mark.Open turn a (changed_by batch_rules b xs)
-service-leads here c d turn a b [] active f t = refl
-service-leads here c d turn a b (x ∷ xs) active f t =
-    let one : applied_one here c (Held d mark.Open turn a b) (durable.Service x) ≡ Held d mark.Open turn a (changed batch_rules b x) = rw (active, t.0, f.0) in
-    ap (λ (k : Cell). applied here c k (service_changes xs)) one ∙ service-leads here c d turn a (changed batch_rules b x) xs active f.1 t.1
+service-leads : (site : Site) (h : Bound) (xs : List (GroupChange Batch)) → h.mark ≡ mark.Open → is_active_here h ≡ true → FitInTurn batch_rules (λ us. may_serve) h.batches xs → Each MayKeep xs → applied site (Held h) (map durable.Service xs) ≡ Held (record h { batches = changed_by batch_rules h.batches xs })
+service-leads site h [] o active f t = refl
+service-leads site h (x ∷ xs) o active f t =
+    let one : applied_one site (Held h) (durable.Service x) ≡ Held (record h { batches = changed batch_rules h.batches x }) = rw (o, active, t.0, f.0) in
+    ap (λ (k : Cell). applied site k (map durable.Service xs)) one ∙ service-leads site (record h { batches = changed batch_rules h.batches x }) xs o active f.1 t.1
 
 any-may : (before us : List Batch) → list_all may_serve us ≡ true → MayInTurn (λ vs. may_serve) before us
 any-may before [] h = tt
 any-may before (v ∷ vs) h = (and_left (may_serve v) (list_all may_serve vs) h, any-may (before ++ v ∷ []) vs (and_right (may_serve v) (list_all may_serve vs) h))
 
-module _ (here c : Node) (d : Definition) (m : Mark) (turn : ℕ) (a : Member Act) (b : Member Batch) (s : IsMade here c d m turn a b) where
-  leads-bound : (rest : List Change) → applied here c Empty (durable.Bind d ∷ durable.Turn turn ∷ rest) ≡ applied here c (Held d mark.Open turn new_member new_member) rest
+module _ (site : Site) (h : Bound) (s : IsMade site h) where
+  -- the cell behind the first two changes, behind the acts, and behind the batches
+  abbrev begun : Bound
+  begun = record h { mark = mark.Open; acts = new_member; batches = new_member }
+
+  abbrev acted : Bound
+  acted = record h { mark = mark.Open; batches = new_member }
+
+  abbrev served : Bound
+  served = record h { mark = mark.Open }
+
+  leads-bound : (rest : List Change) → applied site Empty (durable.Bind h.definition ∷ durable.Turn h.turn ∷ rest) ≡ applied site (Held begun) rest
   leads-bound rest = rw (s.own, s.ruled, s.member)
 
-  leads-acts : applied here c (Held d mark.Open turn new_member new_member) (admin_changes (packed_member a)) ≡ Held d mark.Open turn a new_member
+  leads-acts : applied site (Held begun) (map durable.Admin (packed_member h.acts)) ≡ Held acted
   leads-acts =
-      let l : Leads (act_rules d) (may_queue here turn) new_member a (packed_member a) = rebuilt (act_rules d) (may_queue here turn) a s.acts (mine-may here turn [] a.pending s.mine) in
-      admin-leads here c d turn new_member new_member (packed_member a) l.fit (stays-packed here turn a s.mine) ∙ ap (λ (z : Member Act). Held d mark.Open turn z new_member) l.gives
+      let l : Leads (act_rules h.definition) (may_queue site.here h.turn) new_member h.acts (packed_member h.acts) = rebuilt (act_rules h.definition) (may_queue site.here h.turn) h.acts s.acts (mine-may site.here h.turn [] h.acts.pending s.mine) in
+      admin-leads site begun (packed_member h.acts) refl l.fit (stays-packed site.here h.turn h.acts s.mine) ∙ ap (λ (z : Member Act). Held (record acted { acts = z })) l.gives
 
-  leads-batches : applied here c (Held d mark.Open turn a new_member) (packed_batches d a b) ≡ Held d mark.Open turn a b
-  leads-batches = go (bool_cases (runs d a))
+  leads-batches : applied site (Held acted) (packed_batches h) ≡ Held served
+  leads-batches = go (bool_cases (is_active_here h))
     where
-      go : (runs d a ≡ true) ⊎ (runs d a ≡ false) → applied here c (Held d mark.Open turn a new_member) (packed_batches d a b) ≡ Held d mark.Open turn a b
+      go : (is_active_here h ≡ true) ⊎ (is_active_here h ≡ false) → applied site (Held acted) (packed_batches h) ≡ Held served
       go (inl q) =
-          let l : Leads batch_rules (λ us. may_serve) new_member b (packed_member b) = rebuilt batch_rules (λ us. may_serve) b s.batches (any-may [] b.pending s.pending_lawful) in
-          rw q (service-leads here c d turn a new_member (packed_member b) q l.fit (keeps-packed b s.refused_lawful) ∙ ap (λ (z : Member Batch). Held d mark.Open turn a z) l.gives)
-      go (inr q) = rw q (ap (λ (z : Member Batch). Held d mark.Open turn a z) (sym (s.idle q)))
+          let l : Leads batch_rules (λ us. may_serve) new_member h.batches (packed_member h.batches) = rebuilt batch_rules (λ us. may_serve) h.batches s.batches (any-may [] h.batches.pending s.pending_lawful) in
+          rw q (service-leads site acted (packed_member h.batches) refl q l.fit (keeps-packed h.batches s.refused_lawful) ∙ ap (λ (z : Member Batch). Held (record served { batches = z })) l.gives)
+      go (inr q) = rw q (ap (λ (z : Member Batch). Held (record served { batches = z })) (sym (s.idle q)))
 
-leads-mark : (here c : Node) (d : Definition) (m : Mark) (turn : ℕ) (a : Member Act) (b : Member Batch) → IsMade here c d m turn a b → applied here c (Held d mark.Open turn a b) (packed_mark m) ≡ Held d m turn a b
-leads-mark here c d mark.Open turn a b s = refl
-leads-mark here c d mark.Abandoned turn a b s = rw (s.closed refl)
-leads-mark here c d mark.Purged turn a b s = absurd (let z : mark.Purged ≡ mark.Abandoned = s.marked refl in cc)
+  leads-mark : applied site (Held served) (packed_mark h.mark) ≡ Held h
+  leads-mark = go h.mark s.marked s.closed
+    where
+      go : (m : Mark) → (is_open m ≡ false → m ≡ mark.Abandoned) → (is_open m ≡ false → is_active_here h ≡ true) → applied site (Held served) (packed_mark m) ≡ Held (record h { mark = m })
+      go mark.Open marked closed = refl
+      go mark.Abandoned marked closed = rw (closed refl)
+      go mark.Purged marked closed = absurd (let z : mark.Purged ≡ mark.Abandoned = marked refl in cc)
 
-pub packed-leads : (here c : Node) (k : Cell) → Made here c k → applied here c Empty (packed k) ≡ k
-packed-leads here c Empty s = refl
-packed-leads here c (Purged old) s = rw (lt_is 0 old s)
-packed-leads here c (Held d m turn a b) s =
-    let xs : List Change = admin_changes (packed_member a) in
-    let ys : List Change = packed_batches d a b in
-    leads-bound here c d m turn a b s (xs ++ (ys ++ packed_mark m))
-    ∙ (applied-append here c (Held d mark.Open turn new_member new_member) xs (ys ++ packed_mark m)
-    ∙ (ap (λ (k : Cell). applied here c k (ys ++ packed_mark m)) (leads-acts here c d m turn a b s)
-    ∙ (applied-append here c (Held d mark.Open turn a new_member) ys (packed_mark m)
-    ∙ (ap (λ (k : Cell). applied here c k (packed_mark m)) (leads-batches here c d m turn a b s)
-    ∙ leads-mark here c d m turn a b s))))
+pub packed-leads : (site : Site) (k : Cell) → Made site k → applied site Empty (packed k) ≡ k
+packed-leads site Empty s = refl
+packed-leads site (Purged old) s = rw (lt_is 0 old s)
+packed-leads site (Held h) s =
+    let xs : List Change = map durable.Admin (packed_member h.acts) in
+    let ys : List Change = packed_batches h in
+    leads-bound site h s (xs ++ (ys ++ packed_mark h.mark))
+    ∙ (applied-append site (Held (begun site h s)) xs (ys ++ packed_mark h.mark)
+    ∙ (ap (λ (k : Cell). applied site k (ys ++ packed_mark h.mark)) (leads-acts site h s)
+    ∙ (applied-append site (Held (acted site h s)) ys (packed_mark h.mark)
+    ∙ (ap (λ (k : Cell). applied site k (packed_mark h.mark)) (leads-batches site h s)
+    ∙ leads-mark site h s))))
 
 -- open rounds aren't packed
 pub packed-stopped : (k : Cell) → packed (stopped_cell k) ≡ packed k
-packed-stopped Empty = refl
-packed-stopped (Purged old) = refl
-packed-stopped (Held d m turn a b) = refl
+packed-stopped (Held h) = refl
+packed-stopped _ = refl

@@ -1,6 +1,6 @@
 -- The plan of a deed that fits.
-use Rattle.std.proofs.Common.{◌≡◌, ◌⊎◌, ℕ, Bool, true, IsTrue, List, [], ◌∷◌, ◌++◌, length, refl, sym, ap, subst, ◌∙◌, inl, inr}
-use Rattle.std.specs.Prelude.{nat_le}
+use Rattle.std.proofs.Common.{◌≡◌, ◌⊎◌, ℕ, Bool, true, List, [], ◌∷◌, ◌++◌, refl, sym, ap, subst, ◌∙◌, inl, inr}
+use Rattle.std.specs.Prelude.{map}
 use Rattle.std.specs.List.{list_all}
 use Rattle.spl_agree.specs.Member.{Group, Member, new_member, values, changed, changed_by}
 use Rattle.spl_agree.specs.Rows.{row}
@@ -16,10 +16,7 @@ use Rattle.spl_group.proofs.Sound.{sound-row}
 use Rattle.spl_group.proofs.Singles.{IsPlanned, IsSingle, single-row}
 use Rattle.spl_circuit.specs.declared.definition.Definition.{Definition}
 use Rattle.spl_circuit.specs.declared.act.Act.{Act}
-use Rattle.spl_circuit.specs.declared.lifecycle.Mark.{Mark}
-use Rattle.spl_circuit.specs.declared.lifecycle.Mark.TheVariants as mark
-use Rattle.spl_circuit.specs.Forms.{definition}
-use Rattle.spl_circuit.specs.Nodes.{Node, position, node_or}
+use Rattle.spl_circuit.specs.Nodes.{NodeId, position, node_or}
 use Rattle.spl_agree.specs.declared.message.CommitMsg.{CommitMsg}
 use Rattle.spl_circuit.specs.Acts.{act_rules}
 use Rattle.spl_circuit.specs.Lifecycle.{life, is_active}
@@ -29,11 +26,11 @@ use Rattle.spl_scabbard.specs.Same.{same_batches}
 use Rattle.spl_wire.specs.declared.plan.Outgoing.{Outgoing}
 use Rattle.spl_wire.specs.declared.change.Change.{Change}
 use Rattle.spl_wire.specs.declared.change.Change.TheVariants as durable
-use Rattle.spl_rules.specs.Cells.{Cell, Empty, Held, Purged, Deed, Refuses, Tells, Replies, Binds, Acts, Serves, Turns, Abandons, Purges, admin_group, service_group, is_open, runs}
-use Rattle.spl_rules.specs.Plans.{admin_changes, admin_sends, admin_row, service_changes, service_sends, service_row, planned}
-use Rattle.spl_rules.specs.Changes.{may_queue, may_serve, may_keep, fits_free, made_one, made, applied_one, applied}
+use Rattle.spl_rules.specs.Cells.{Bound, Cell, Held, Site, Deed, Replies, Binds, Acts, Serves, Turns, Abandons, Purges, fresh, admin_group, service_group, is_open, is_active_here}
+use Rattle.spl_rules.specs.Plans.{Lane, admin_lane, service_lane, group_row, group_changes, group_sends, both_plans, planned}
+use Rattle.spl_rules.specs.Changes.{turn_after, may_queue, may_serve, may_keep, fits_free, made_one, made, applied_one, applied}
 use Rattle.spl_wire.specs.Bounds.{has_form}
-use Rattle.spl_rules.specs.Valid.{IsKeptMember, AllMeet, IsNamed, IsValid, FitsMoveAt, is_legal, are_legal}
+use Rattle.spl_rules.specs.Valid.{IsKeptMember, AllMeet, IsHeld, IsNamed, IsSettledCell, IsValid, FitsMoveAt, carries, is_legal, are_legal}
 use Rattle.spl_rules.proofs.SameActs.{act_same}
 use Rattle.spl_rules.proofs.Members.{checked-new, meets-new}
 use Rattle.spl_rules.proofs.Services.{short-service_on}
@@ -42,9 +39,9 @@ use Rattle.spl_rules.proofs.Carried.{AllCarry, Brings, send_carries, carry-row}
 use Rattle.spl_rules.proofs.Deeds.{FitsRow, FitsEvent, FitsServed, ActsAt, ServesAt, TurnsAt, AbandonsAt, PurgesAt, FitsDeed}
 
 -- each change of a plan fits behind those before it, and the moves fit behind them
-pub record PlanFits (here c : Node) (k : Cell) (xs : List Change) (x y : OpenMove) : Type 0 where
-  pub changes : applied here c k xs ≡ made here k xs
-  pub moves : FitsMoveAt here (made here k xs) x y
+pub record PlanFits (site : Site) (k : Cell) (xs : List Change) (x y : OpenMove) : Type 0 where
+  pub changes : applied site k xs ≡ made site.here k xs
+  pub moves : FitsMoveAt site.here (made site.here k xs) x y
 
 -- ---- a row at a member of any group
 
@@ -73,175 +70,165 @@ batch_same v = (same_batches v v).1 refl
 
 -- ---- changes of the two groups at a cell
 
-admin-made : (here : Node) (d : Definition) (m : Mark) (b : Member Batch) (xs : List (GroupChange Act)) (turn : ℕ) (a : Member Act) → (t : ℕ) × (made here (Held d m turn a b) (admin_changes xs) ≡ Held d m t (changed_by (act_rules d) a xs) b)
-admin-made here d m b [] turn a = (turn, refl)
-admin-made here d m b (x ∷ xs) turn a = admin-made here d m b xs _ _
+admin-made : (site : Site) (xs : List (GroupChange Act)) (h : Bound) → (t : ℕ) × (made site.here (Held h) (map durable.Admin xs) ≡ Held (record h { turn = t; acts = changed_by (act_rules h.definition) h.acts xs }))
+admin-made site [] h = (h.turn, refl)
+admin-made site (x ∷ xs) h = admin-made site xs (record h { turn = turn_after site.here h.turn x; acts = changed (act_rules h.definition) h.acts x })
 
-service-made : (here : Node) (d : Definition) (m : Mark) (turn : ℕ) (a : Member Act) (xs : List (GroupChange Batch)) (b : Member Batch) → made here (Held d m turn a b) (service_changes xs) ≡ Held d m turn a (changed_by batch_rules b xs)
-service-made here d m turn a [] b = refl
-service-made here d m turn a (x ∷ xs) b = service-made here d m turn a xs (changed batch_rules b x)
+service-made : (site : Site) (xs : List (GroupChange Batch)) (h : Bound) → made site.here (Held h) (map durable.Service xs) ≡ Held (record h { batches = changed_by batch_rules h.batches xs })
+service-made site [] h = refl
+service-made site (x ∷ xs) h = service-made site xs (record h { batches = changed batch_rules h.batches x })
 
-made-append : (here : Node) (k : Cell) (xs ys : List Change) → made here k (xs ++ ys) ≡ made here (made here k xs) ys
-made-append here k [] ys = refl
-made-append here k (x ∷ xs) ys = made-append here (made_one here k x) xs ys
+made-append : (site : Site) (k : Cell) (xs ys : List Change) → made site.here k (xs ++ ys) ≡ made site.here (made site.here k xs) ys
+made-append site k [] ys = refl
+made-append site k (x ∷ xs) ys = made-append site (made_one site.here k x) xs ys
 
-pub applied-append : (here c : Node) (k : Cell) (xs ys : List Change) → applied here c k (xs ++ ys) ≡ applied here c (applied here c k xs) ys
-applied-append here c k [] ys = refl
-applied-append here c k (x ∷ xs) ys = applied-append here c (applied_one here c k x) xs ys
+pub applied-append : (site : Site) (k : Cell) (xs ys : List Change) → applied site k (xs ++ ys) ≡ applied site (applied site k xs) ys
+applied-append site k [] ys = refl
+applied-append site k (x ∷ xs) ys = applied-append site (applied_one site k x) xs ys
 
-admin-applied : (here c : Node) (d : Definition) (m : Mark) (turn : ℕ) (a : Member Act) (b : Member Batch) (xs : List (GroupChange Act)) → IsSingle xs → is_open m ≡ true → AllFit (act_rules d) (may_queue here turn a.pending) a xs → applied here c (Held d m turn a b) (admin_changes xs) ≡ made here (Held d m turn a b) (admin_changes xs)
-admin-applied here c d m turn a b [] single unclosed fit = refl
-admin-applied here c d m turn a b (x ∷ []) single unclosed fit = rw (unclosed, fit.0)
-admin-applied here c d m turn a b (x ∷ y ∷ zs) single unclosed fit = absurd single
+admin-applied : (site : Site) (h : Bound) (xs : List (GroupChange Act)) → IsSingle xs → is_open h.mark ≡ true → AllFit (act_rules h.definition) (may_queue site.here h.turn h.acts.pending) h.acts xs → applied site (Held h) (map durable.Admin xs) ≡ made site.here (Held h) (map durable.Admin xs)
+admin-applied site h [] single unclosed fit = refl
+admin-applied site h (x ∷ []) single unclosed fit = rw (unclosed, fit.0)
+admin-applied site h (x ∷ y ∷ zs) single unclosed fit = absurd single
 
 -- no row keeps a refused batch
 keep-planned : (x : GroupChange Batch) → IsPlanned x → may_keep x ≡ true
-keep-planned (change.Queue v) p = refl
-keep-planned (change.Refuse v why) p = refl
-keep-planned (change.Begin r) p = refl
-keep-planned (change.Seen r) p = refl
-keep-planned (change.Promise r v) p = refl
-keep-planned change.Abort p = refl
-keep-planned (change.Commit r v) p = refl
-keep-planned (change.Restore next seen) p = refl
 keep-planned (change.Kept v why) p = absurd p
+keep-planned _ p = refl
 
-service-applied : (here c : Node) (d : Definition) (m : Mark) (turn : ℕ) (a : Member Act) (xs : List (GroupChange Batch)) (b : Member Batch) → IsSingle xs → is_open m ≡ true → runs d a ≡ true → AllFit batch_rules may_serve b xs → applied here c (Held d m turn a b) (service_changes xs) ≡ made here (Held d m turn a b) (service_changes xs)
-service-applied here c d m turn a [] b single unclosed active fit = refl
-service-applied here c d m turn a (x ∷ []) b single unclosed active fit = rw (unclosed, active, keep-planned x single, fit.0)
-service-applied here c d m turn a (x ∷ y ∷ zs) b single unclosed active fit = absurd single
+service-applied : (site : Site) (h : Bound) (xs : List (GroupChange Batch)) → IsSingle xs → is_open h.mark ≡ true → is_active_here h ≡ true → AllFit batch_rules may_serve h.batches xs → applied site (Held h) (map durable.Service xs) ≡ made site.here (Held h) (map durable.Service xs)
+service-applied site h [] single unclosed active fit = refl
+service-applied site h (x ∷ []) single unclosed active fit = rw (unclosed, active, keep-planned x single, fit.0)
+service-applied site h (x ∷ y ∷ zs) single unclosed active fit = absurd single
 
 -- ---- rows at a cell
 
-module _ (here c : Node) (d : Definition) (m : Mark) (turn : ℕ) (a : Member Act) (b : Member Batch) where
+module _ (site : Site) (h : Bound) where
   abbrev spot : ℕ
-  spot = position d.members here
+  spot = position h.definition.members site.here
 
-  abbrev cell : Cell
-  cell = Held d m turn a b
+  abbrev act_changes : GroupEvent Act → List (GroupChange Act)
+  act_changes e = (group_row (admin_lane site h.definition) h.acts e).changes
 
-  acts-fit : IsKeptMember (act_rules d) a → IsSettled (admin_group d) spot a → IsSettled (service_group d) spot b → is_open m ≡ true → (e : GroupEvent Act) → FitsEvent here d turn a e → PlanFits here c cell (admin_changes (admin_row here d a e).changes) (admin_row here d a e).opening move.Keep
-  acts-fit k s t unclosed e f = record {
-    changes = admin-applied here c d m turn a b (admin_row here d a e).changes (single-row (admin_group d) spot a e) unclosed (row-fits (admin_group d) (may_queue here turn a.pending) spot a e act_same (sound (admin_group d) spot a k s) k.roomy f);
-    moves = let behind = admin-made here d m b (admin_row here d a e).changes turn a in
-        subst (λ (z : Cell). FitsMoveAt here z (admin_row here d a e).opening move.Keep) (sym behind.1)
-        (row-moves (admin_group d) (may_queue here turn a.pending) spot a e act_same (sound (admin_group d) spot a k s) k.roomy f, kept-settled (service_group d) spot b t);
+  abbrev batch_changes : GroupEvent Batch → List (GroupChange Batch)
+  batch_changes e = (group_row (service_lane site h.definition) h.batches e).changes
+
+  -- the cell behind changes of acts
+  abbrev with_acts : List (GroupChange Act) → ℕ → Bound
+  with_acts xs t = record h { turn = t; acts = changed_by (act_rules h.definition) h.acts xs }
+
+  acts-fit : IsKeptMember (act_rules h.definition) h.acts → IsSettledCell site.here (Held h) → is_open h.mark ≡ true → (e : GroupEvent Act) → FitsEvent site h e → PlanFits site (Held h) (map durable.Admin (act_changes e)) (group_row (admin_lane site h.definition) h.acts e).opening move.Keep
+  acts-fit k s unclosed e f = record {
+    changes = admin-applied site h (act_changes e) (single-row (admin_group h.definition) spot h.acts e) unclosed (row-fits (admin_group h.definition) (may_queue site.here h.turn h.acts.pending) spot h.acts e act_same (sound (admin_group h.definition) spot h.acts k s.0) k.roomy f);
+    moves = subst (λ (z : Cell). FitsMoveAt site.here z (group_row (admin_lane site h.definition) h.acts e).opening move.Keep) (sym (admin-made site (act_changes e) h).1)
+        (row-moves (admin_group h.definition) (may_queue site.here h.turn h.acts.pending) spot h.acts e act_same (sound (admin_group h.definition) spot h.acts k s.0) k.roomy f, kept-settled (service_group h.definition) spot h.batches s.1);
   }
 
-  serves-fit : IsKeptMember batch_rules b → IsSettled (admin_group d) spot a → IsSettled (service_group d) spot b → is_open m ≡ true → runs d a ≡ true → (e : GroupEvent Batch) → FitsServed here d b e → PlanFits here c cell (service_changes (service_row here d b e).changes) move.Keep (service_row here d b e).opening
-  serves-fit k s t unclosed active e f = record {
-    changes = service-applied here c d m turn a (service_row here d b e).changes b (single-row (service_group d) spot b e) unclosed active (row-fits (service_group d) may_serve spot b e batch_same (sound (service_group d) spot b k t) k.roomy f);
-    moves = subst (λ (z : Cell). FitsMoveAt here z move.Keep (service_row here d b e).opening) (sym (service-made here d m turn a (service_row here d b e).changes b))
-        (kept-settled (admin_group d) spot a s, row-moves (service_group d) may_serve spot b e batch_same (sound (service_group d) spot b k t) k.roomy f);
+  serves-fit : IsKeptMember batch_rules h.batches → IsSettledCell site.here (Held h) → is_open h.mark ≡ true → is_active_here h ≡ true → (e : GroupEvent Batch) → FitsServed site h e → PlanFits site (Held h) (map durable.Service (batch_changes e)) move.Keep (group_row (service_lane site h.definition) h.batches e).opening
+  serves-fit k s unclosed active e f = record {
+    changes = service-applied site h (batch_changes e) (single-row (service_group h.definition) spot h.batches e) unclosed active (row-fits (service_group h.definition) may_serve spot h.batches e batch_same (sound (service_group h.definition) spot h.batches k s.1) k.roomy f);
+    moves = subst (λ (z : Cell). FitsMoveAt site.here z move.Keep (group_row (service_lane site h.definition) h.batches e).opening) (sym (service-made site (batch_changes e) h))
+        (kept-settled (admin_group h.definition) spot h.acts s.0, row-moves (service_group h.definition) may_serve spot h.batches e batch_same (sound (service_group h.definition) spot h.batches k s.1) k.roomy f);
   }
 
--- the admin group goes first, and leaves the circuit active
-turns-fit : (here c : Node) (d : Definition) (m : Mark) (turn : ℕ) (a : Member Act) (b : Member Batch) (x : GroupEvent Act) (y : GroupEvent Batch) → IsValid here c (Held d m turn a b) → is_open m ≡ true → runs d a ≡ true → FitsEvent here d turn a x → (changed_by (act_rules d) a (admin_row here d a x).changes).history ≡ a.history → FitsServed here d b y → PlanFits here c (Held d m turn a b) (admin_changes (admin_row here d a x).changes ++ service_changes (service_row here d b y).changes) (admin_row here d a x).opening (service_row here d b y).opening
-turns-fit here c d m turn a b x y v unclosed active f still g =
-    let spot : ℕ = position d.members here in
-    let xs : List (GroupChange Act) = (admin_row here d a x).changes in
-    let ys : List (GroupChange Batch) = (service_row here d b y).changes in
-    let first : PlanFits here c (Held d m turn a b) (admin_changes xs) (admin_row here d a x).opening move.Keep = acts-fit here c d m turn a b v.kept.acts v.settled.0 v.settled.1 unclosed x f in
-    let behind : (t : ℕ) × (made here (Held d m turn a b) (admin_changes xs) ≡ Held d m t (changed_by (act_rules d) a xs) b) = admin-made here d m b xs turn a in
-    let runs_still : runs d (changed_by (act_rules d) a xs) ≡ true = subst (λ (h : List (ℕ × Act)). is_active (life d (values h)).state ≡ true) (sym still) active in
-    let ready : IsSound (service_group d) spot b = sound (service_group d) spot b v.kept.batches v.settled.1 in
-    let all : AllFit batch_rules may_serve b ys = row-fits (service_group d) may_serve spot b y batch_same ready v.kept.batches.roomy g in
-    let last : applied here c (Held d m behind.0 (changed_by (act_rules d) a xs) b) (service_changes ys) ≡ made here (Held d m behind.0 (changed_by (act_rules d) a xs) b) (service_changes ys) = service-applied here c d m behind.0 (changed_by (act_rules d) a xs) ys b (single-row (service_group d) spot b y) unclosed runs_still all in
-    let final : made here (Held d m turn a b) (admin_changes xs ++ service_changes ys) ≡ Held d m behind.0 (changed_by (act_rules d) a xs) (changed_by batch_rules b ys)
-    = made-append here (Held d m turn a b) (admin_changes xs) (service_changes ys) ∙ (ap (λ (k : Cell). made here k (service_changes ys)) behind.1 ∙ service-made here d m behind.0 (changed_by (act_rules d) a xs) ys b) in
-    record {
-      changes = applied-append here c (Held d m turn a b) (admin_changes xs) (service_changes ys)
-          ∙ (ap (λ (k : Cell). applied here c k (service_changes ys)) (first.changes ∙ behind.1) ∙ (last ∙ (service-made here d m behind.0 (changed_by (act_rules d) a xs) ys b ∙ sym final)));
-      moves = subst (λ (k : Cell). FitsMoveAt here k (admin_row here d a x).opening (service_row here d b y).opening) (sym final) (
-        row-moves (admin_group d) (may_queue here turn a.pending) spot a x act_same (sound (admin_group d) spot a v.kept.acts v.settled.0) v.kept.acts.roomy f,
-        row-moves (service_group d) may_serve spot b y batch_same ready v.kept.batches.roomy g,
-      );
-    }
+  -- the admin group goes first, and leaves the circuit active
+  turns-fit : (x : GroupEvent Act) (y : GroupEvent Batch) → IsValid site (Held h) → TurnsAt site (Held h) h x y → PlanFits site (Held h) (map durable.Admin (act_changes x) ++ map durable.Service (batch_changes y)) (group_row (admin_lane site h.definition) h.acts x).opening (group_row (service_lane site h.definition) h.batches y).opening
+  turns-fit x y v f =
+      let xs : List (GroupChange Act) = act_changes x in
+      let ys : List (GroupChange Batch) = batch_changes y in
+      let first : PlanFits site (Held h) (map durable.Admin xs) (group_row (admin_lane site h.definition) h.acts x).opening move.Keep = acts-fit v.kept.acts v.settled f.unclosed x f.fit in
+      let behind : (t : ℕ) × (made site.here (Held h) (map durable.Admin xs) ≡ Held (with_acts xs t)) = admin-made site xs h in
+      let still_active : is_active_here (with_acts xs behind.0) ≡ true = subst (λ (z : List (ℕ × Act)). is_active (life h.definition (values z)).state ≡ true) (sym f.still) f.active in
+      let ready : IsSound (service_group h.definition) spot h.batches = sound (service_group h.definition) spot h.batches v.kept.batches v.settled.1 in
+      let all : AllFit batch_rules may_serve h.batches ys = row-fits (service_group h.definition) may_serve spot h.batches y batch_same ready v.kept.batches.roomy f.serves in
+      let last : applied site (Held (with_acts xs behind.0)) (map durable.Service ys) ≡ made site.here (Held (with_acts xs behind.0)) (map durable.Service ys)
+      = service-applied site (with_acts xs behind.0) ys (single-row (service_group h.definition) spot h.batches y) f.unclosed still_active all in
+      let final : made site.here (Held h) (map durable.Admin xs ++ map durable.Service ys) ≡ Held (record h { turn = behind.0; acts = changed_by (act_rules h.definition) h.acts xs; batches = changed_by batch_rules h.batches ys })
+      = made-append site (Held h) (map durable.Admin xs) (map durable.Service ys) ∙ (ap (λ (k : Cell). made site.here k (map durable.Service ys)) behind.1 ∙ service-made site ys (with_acts xs behind.0)) in
+      record {
+        changes = applied-append site (Held h) (map durable.Admin xs) (map durable.Service ys)
+            ∙ (ap (λ (k : Cell). applied site k (map durable.Service ys)) (first.changes ∙ behind.1) ∙ (last ∙ (service-made site ys (with_acts xs behind.0) ∙ sym final)));
+        moves = subst (λ (k : Cell). FitsMoveAt site.here k (group_row (admin_lane site h.definition) h.acts x).opening (group_row (service_lane site h.definition) h.batches y).opening) (sym final) (
+          row-moves (admin_group h.definition) (may_queue site.here h.turn h.acts.pending) spot h.acts x act_same (sound (admin_group h.definition) spot h.acts v.kept.acts v.settled.0) v.kept.acts.roomy f.fit,
+          row-moves (service_group h.definition) may_serve spot h.batches y batch_same ready v.kept.batches.roomy f.serves,
+        );
+      }
 
 -- ---- one deed
 
 -- the cell is bound, and the rest fits the cell that is bound
-fitting-bound : (here c : Node) (k : Cell) (d : Definition) (xs : List Change) (x y : OpenMove) → fits_free here c k (durable.Bind d) ≡ true → PlanFits here c (Held d mark.Open 0 new_member new_member) xs x y → PlanFits here c k (durable.Bind d ∷ xs) x y
-fitting-bound here c Empty d xs x y h f = record { changes = rw h f.changes; moves = f.moves }
-fitting-bound here c (Purged old) d xs x y h f = record { changes = rw h f.changes; moves = f.moves }
-fitting-bound here c (Held e m turn a b) d xs x y h f = cc
+fitting-bound : (site : Site) (k : Cell) (d : Definition) (xs : List Change) (x y : OpenMove) → fits_free site k (durable.Bind d) ≡ true → PlanFits site (Held (fresh d)) xs x y → PlanFits site k (durable.Bind d ∷ xs) x y
+fitting-bound site (Held e) d xs x y h f = cc
+fitting-bound site k d xs x y h f = record { changes = rw h f.changes; moves = f.moves }
 
-fitting-new : (here c : Node) (d : Definition) (e : GroupEvent Act) → FitsEvent here d 0 new_member e → PlanFits here c (Held d mark.Open 0 new_member new_member) (admin_changes (admin_row here d new_member e).changes) (admin_row here d new_member e).opening move.Keep
-fitting-new here c d e t = acts-fit here c d mark.Open 0 new_member new_member (checked-new (act_rules d)) (λ o p. cc) (λ o p. cc) refl e t
+fitting-new : (site : Site) (d : Definition) (e : GroupEvent Act) → FitsEvent site (fresh d) e → PlanFits site (Held (fresh d)) (group_changes (admin_lane site d) (group_row (admin_lane site d) new_member e).changes) (group_row (admin_lane site d) new_member e).opening move.Keep
+fitting-new site d e t = acts-fit site (fresh d) (checked-new (act_rules d)) ((λ o p. cc), (λ o p. cc)) refl e t
 
 -- nothing changes, and nothing moves
-fitting-none : (here c : Node) (k : Cell) → IsValid here c k → PlanFits here c k [] move.Keep move.Keep
-fitting-none here c Empty s = record { changes = refl; moves = (refl, refl) }
-fitting-none here c (Purged old) s = record { changes = refl; moves = (refl, refl) }
-fitting-none here c (Held d m turn a b) s = record { changes = refl; moves = (record { can = tt; settled = s.settled.0 }, record { can = tt; settled = s.settled.1 }) }
+fitting-none : (site : Site) (k : Cell) → IsValid site k → PlanFits site k [] move.Keep move.Keep
+fitting-none site (Held h) s = record { changes = refl; moves = (record { can = tt; settled = s.settled.0 }, record { can = tt; settled = s.settled.1 }) }
+fitting-none site k s = record { changes = refl; moves = (refl, refl) }
 
-fitting-acts : (here c : Node) (k : Cell) (d : Definition) (a : Member Act) (e : GroupEvent Act) → IsValid here c k → ActsAt here k d a e → PlanFits here c k (admin_changes (admin_row here d a e).changes) (admin_row here d a e).opening move.Keep
-fitting-acts here c k d a e s f =
-    let v : IsValid here c (Held d f.mark f.turn a f.batches) = subst (IsValid here c) f.held s in
-    subst (λ (z : Cell). PlanFits here c z (admin_changes (admin_row here d a e).changes) (admin_row here d a e).opening move.Keep) (sym f.held)
-    (acts-fit here c d f.mark f.turn a f.batches v.kept.acts v.settled.0 v.settled.1 f.unclosed e f.fit)
+-- a plan for the bound cell fits the cell, which is that one
+at-held : (site : Site) (k : Cell) (h : Bound) (xs : List Change) (x y : OpenMove) → k ≡ Held h → PlanFits site (Held h) xs x y → PlanFits site k xs x y
+at-held site k h xs x y held f = subst (λ (z : Cell). PlanFits site z xs x y) (sym held) f
 
-fitting-serves : (here c : Node) (k : Cell) (d : Definition) (b : Member Batch) (e : GroupEvent Batch) → IsValid here c k → ServesAt here k d b e → PlanFits here c k (service_changes (service_row here d b e).changes) move.Keep (service_row here d b e).opening
-fitting-serves here c k d b e s f =
-    let v : IsValid here c (Held d f.mark f.turn f.acts b) = subst (IsValid here c) f.held s in
-    subst (λ (z : Cell). PlanFits here c z (service_changes (service_row here d b e).changes) move.Keep (service_row here d b e).opening) (sym f.held)
-    (serves-fit here c d f.mark f.turn f.acts b v.kept.batches v.settled.0 v.settled.1 f.unclosed f.active e f.fit)
+fitting-acts : (site : Site) (k : Cell) (h : Bound) (e : GroupEvent Act) → IsValid site k → ActsAt site k h e → PlanFits site k (group_changes (admin_lane site h.definition) (group_row (admin_lane site h.definition) h.acts e).changes) (group_row (admin_lane site h.definition) h.acts e).opening move.Keep
+fitting-acts site k h e s f =
+    let v : IsValid site (Held h) = subst (IsValid site) f.held s in
+    at-held site k h _ _ _ f.held (acts-fit site h v.kept.acts v.settled f.unclosed e f.fit)
 
-fitting-turns : (here c : Node) (k : Cell) (d : Definition) (a : Member Act) (b : Member Batch) (x : GroupEvent Act) (y : GroupEvent Batch) → IsValid here c k → TurnsAt here k d a b x y → PlanFits here c k (admin_changes (admin_row here d a x).changes ++ service_changes (service_row here d b y).changes) (admin_row here d a x).opening (service_row here d b y).opening
-fitting-turns here c k d a b x y s f =
-    subst (λ (z : Cell). PlanFits here c z (admin_changes (admin_row here d a x).changes ++ service_changes (service_row here d b y).changes) (admin_row here d a x).opening (service_row here d b y).opening) (sym f.held)
-    (turns-fit here c d f.mark f.turn a b x y (subst (IsValid here c) f.held s) f.unclosed f.active f.fit f.still f.serves)
+fitting-serves : (site : Site) (k : Cell) (h : Bound) (e : GroupEvent Batch) → IsValid site k → ServesAt site k h e → PlanFits site k (group_changes (service_lane site h.definition) (group_row (service_lane site h.definition) h.batches e).changes) move.Keep (group_row (service_lane site h.definition) h.batches e).opening
+fitting-serves site k h e s f =
+    let v : IsValid site (Held h) = subst (IsValid site) f.held s in
+    at-held site k h _ _ _ f.held (serves-fit site h v.kept.batches v.settled f.unclosed f.active e f.fit)
 
-fitting-abandons : (here c : Node) (k : Cell) → AbandonsAt k → PlanFits here c k (durable.Abandon ∷ []) move.Close move.Close
-fitting-abandons here c k f =
-    subst (λ (z : Cell). PlanFits here c z (durable.Abandon ∷ []) move.Close move.Close) (sym f.held)
-    (record { changes = rw f.active; moves = (record { can = tt; settled = λ o e. cc }, record { can = tt; settled = λ o e. cc }) })
+fitting-turns : (site : Site) (k : Cell) (h : Bound) (x : GroupEvent Act) (y : GroupEvent Batch) → IsValid site k → TurnsAt site k h x y → PlanFits site k (both_plans site h.definition (group_row (admin_lane site h.definition) h.acts x) (group_row (service_lane site h.definition) h.batches y)).changes (group_row (admin_lane site h.definition) h.acts x).opening (group_row (service_lane site h.definition) h.batches y).opening
+fitting-turns site k h x y s f = at-held site k h _ _ _ f.held (turns-fit site h x y (subst (IsValid site) f.held s) (subst (λ (z : Cell). TurnsAt site z h x y) f.held f))
 
-fitting-purges : (here c : Node) (k : Cell) → PurgesAt k → PlanFits here c k (durable.Purge ∷ []) move.Keep move.Keep
-fitting-purges here c k f = subst (λ (z : Cell). PlanFits here c z (durable.Purge ∷ []) move.Keep move.Keep) (sym f.held) (record { changes = refl; moves = (refl, refl) })
+fitting-abandons : (site : Site) (k : Cell) → AbandonsAt k → PlanFits site k (durable.Abandon ∷ []) move.Close move.Close
+fitting-abandons site k f = at-held site k f.bound _ _ _ f.held (record { changes = rw f.active; moves = (record { can = tt; settled = λ o e. cc }, record { can = tt; settled = λ o e. cc }) })
 
-pub fitting-planned : (here c : Node) (k : Cell) (deed : Deed) → IsValid here c k → FitsDeed here c k deed → PlanFits here c k (planned here c deed).changes (planned here c deed).admin (planned here c deed).service
-fitting-planned here c k (Refuses r) s f = fitting-none here c k s
-fitting-planned here c k (Tells a) s f = fitting-none here c k s
-fitting-planned here c k (Replies n to m) s f = fitting-none here c k s
-fitting-planned here c k (Binds say d back e) s f = fitting-bound here c k d _ _ _ f.free (fitting-new here c d e f.fit)
-fitting-planned here c k (Acts say d a back e) s f = fitting-acts here c k d a e s f
-fitting-planned here c k (Serves say d b back e) s f = fitting-serves here c k d b e s f
-fitting-planned here c k (Turns d a b x y) s f = fitting-turns here c k d a b x y s f
-fitting-planned here c k Abandons s f = fitting-abandons here c k f
-fitting-planned here c k Purges s f = fitting-purges here c k f
+fitting-purges : (site : Site) (k : Cell) → PurgesAt k → PlanFits site k (durable.Purge ∷ []) move.Keep move.Keep
+fitting-purges site k f = at-held site k f.bound _ _ _ f.held (record { changes = refl; moves = (refl, refl) })
+
+pub fitting-planned : (site : Site) (k : Cell) (deed : Deed) → IsValid site k → FitsDeed site k deed → PlanFits site k (planned site deed).changes (planned site deed).admin (planned site deed).service
+fitting-planned site k (Binds say d back e) s f = fitting-bound site k d _ _ _ f.free (fitting-new site d e f.fit)
+fitting-planned site k (Acts say h back e) s f = fitting-acts site k h e s f
+fitting-planned site k (Serves say h back e) s f = fitting-serves site k h e s f
+fitting-planned site k (Turns h x y) s f = fitting-turns site k h x y s f
+fitting-planned site k Abandons s f = fitting-abandons site k f
+fitting-planned site k Purges s f = fitting-purges site k f
+fitting-planned site k _ s f = fitting-none site k s
 
 -- ---- what a plan sends
 
-legal-admin : (c : Node) (d : Definition) (back : Node) (ss : List (ℕ × CommitMsg Act)) → nat_le (length c) 11 ≡ true → AllCarry has_form ss → are_legal (admin_sends c d back ss) ≡ true
-legal-admin c d back [] l h = refl
-legal-admin c d back (s ∷ ss) l h =
-    rw (l, and_left (send_carries has_form s) (list_all (send_carries has_form) ss) h, legal-admin c d back ss l (and_right (send_carries has_form s) (list_all (send_carries has_form) ss) h))
-
-legal-service : (here c : Node) (d : Definition) (back : Node) (ss : List (ℕ × CommitMsg Batch)) → nat_le (length c) 11 ≡ true → IsTrue (definition.fits d) → AllCarry may_serve ss → are_legal (service_sends here c d back ss) ≡ true
-legal-service here c d back [] l w h = refl
-legal-service here c d back (s ∷ ss) l w h =
-    rw (l, short-service_on d here w, short-service_on d (node_or d.members back s.0) w, and_left (send_carries may_serve s) (list_all (send_carries may_serve) ss) h, legal-service here c d back ss l w (and_right (send_carries may_serve s) (list_all (send_carries may_serve) ss) h))
+-- the messages of a group are legal where those of the values that may go out are
+legal-group : {V : Type 0} (lane : Lane V) (may : V → Bool) (back : NodeId) (ss : List (ℕ × CommitMsg V)) → ((to : NodeId) (x : CommitMsg V) → carries may x ≡ true → is_legal (lane.message to x) ≡ true) → AllCarry may ss → are_legal (group_sends lane back ss) ≡ true
+legal-group lane may back [] f h = refl
+legal-group lane may back (s ∷ ss) f h =
+    rw (f (node_or lane.members back s.0) s.1 (and_left (send_carries may s) (list_all (send_carries may) ss) h), legal-group lane may back ss f (and_right (send_carries may s) (list_all (send_carries may) ss) h))
 
 legal-append : (xs ys : List Outgoing) → are_legal xs ≡ true → are_legal ys ≡ true → are_legal (xs ++ ys) ≡ true
 legal-append [] ys h k = k
 legal-append (x ∷ xs) ys h k = rw (and_left (is_legal x.message) (are_legal xs) h, legal-append xs ys (and_right (is_legal x.message) (are_legal xs) h) k)
 
-acted-legal : (here c : Node) (d : Definition) (a : Member Act) (back : Node) (e : GroupEvent Act) → IsNamed here c → AllMeet has_form a → Brings has_form e → are_legal (admin_sends c d back (admin_row here d a e).sends) ≡ true
-acted-legal here c d a back e n f brings = legal-admin c d back (admin_row here d a e).sends (short-circuit here c n) (carry-row has_form (admin_group d) (position d.members here) a e f.pending brings)
+acted-legal : (site : Site) (h : Bound) (back : NodeId) (e : GroupEvent Act) → IsNamed site → AllMeet has_form h.acts → Brings has_form e → are_legal (group_sends (admin_lane site h.definition) back (group_row (admin_lane site h.definition) h.acts e).sends) ≡ true
+acted-legal site h back e n f brings = legal-group (admin_lane site h.definition) has_form back (group_row (admin_lane site h.definition) h.acts e).sends
+    (λ to x c. rw (short-circuit site n, c))
+    (carry-row has_form (admin_group h.definition) (position h.definition.members site.here) h.acts e f.pending brings)
 
-served-legal : (here c : Node) (d : Definition) (m : Mark) (turn : ℕ) (a : Member Act) (b : Member Batch) (back : Node) (e : GroupEvent Batch) → IsNamed here c → IsValid here c (Held d m turn a b) → Brings may_serve e → are_legal (service_sends here c d back (service_row here d b e).sends) ≡ true
-served-legal here c d m turn a b back e n v brings = legal-service here c d back (service_row here d b e).sends (short-circuit here c n) v.kept.defined (carry-row may_serve (service_group d) (position d.members here) b e v.kept.lawful.pending brings)
+served-legal : (site : Site) (h : Bound) (back : NodeId) (e : GroupEvent Batch) → IsNamed site → IsHeld site h → Brings may_serve e → are_legal (group_sends (service_lane site h.definition) back (group_row (service_lane site h.definition) h.batches e).sends) ≡ true
+served-legal site h back e n v brings = legal-group (service_lane site h.definition) may_serve back (group_row (service_lane site h.definition) h.batches e).sends
+    (λ to x c. rw (short-circuit site n, short-service_on h.definition site.here v.defined, short-service_on h.definition to v.defined, c))
+    (carry-row may_serve (service_group h.definition) (position h.definition.members site.here) h.batches e v.lawful.pending brings)
 
-pub legal-planned : (here c : Node) (k : Cell) (deed : Deed) → IsNamed here c → IsValid here c k → FitsDeed here c k deed → are_legal (planned here c deed).sends ≡ true
-legal-planned here c k (Refuses r) n s f = refl
-legal-planned here c k (Tells a) n s f = refl
-legal-planned here c k (Replies note to m) n s f = rw f
-legal-planned here c k (Binds say d back e) n s f = acted-legal here c d new_member back e n (meets-new has_form) f.brings
-legal-planned here c k (Acts say d a back e) n s f = acted-legal here c d a back e n (subst (IsValid here c) f.held s).kept.formed f.brings
-legal-planned here c k (Serves say d b back e) n s f = served-legal here c d f.mark f.turn f.acts b back e n (subst (IsValid here c) f.held s) f.brings
-legal-planned here c k (Turns d a b x y) n s f =
-    let v : IsValid here c (Held d f.mark f.turn a b) = subst (IsValid here c) f.held s in
-    legal-append (admin_sends c d here (admin_row here d a x).sends) (service_sends here c d here (service_row here d b y).sends) (acted-legal here c d a here x n v.kept.formed f.asks) (served-legal here c d f.mark f.turn a b here y n v f.brings)
-legal-planned here c k Abandons n s f = refl
-legal-planned here c k Purges n s f = refl
+pub legal-planned : (site : Site) (k : Cell) (deed : Deed) → IsNamed site → IsValid site k → FitsDeed site k deed → are_legal (planned site deed).sends ≡ true
+legal-planned site k (Replies note to m) n s f = rw f
+legal-planned site k (Binds say d back e) n s f = acted-legal site (fresh d) back e n (meets-new has_form) f.brings
+legal-planned site k (Acts say h back e) n s f = acted-legal site h back e n (subst (IsValid site) f.held s).kept.formed f.brings
+legal-planned site k (Serves say h back e) n s f = served-legal site h back e n (subst (IsValid site) f.held s).kept f.brings
+legal-planned site k (Turns h x y) n s f =
+    let v : IsHeld site h = (subst (IsValid site) f.held s).kept in
+    legal-append (group_sends (admin_lane site h.definition) site.here (group_row (admin_lane site h.definition) h.acts x).sends) _ (acted-legal site h site.here x n v.formed f.asks) (served-legal site h site.here y n v f.brings)
+legal-planned site k _ n s f = refl

@@ -1,6 +1,6 @@
 -- What is read from bytes leaves a cell whose packed form has bytes.
 use Rattle.std.proofs.Common.{◌≡◌, ◌⊎◌, ℕ, ◌+◌, ◌-◌, ◌^◌, ◌<◌, Bool, true, false, ◌&&◌, IsTrue, List, [], ◌∷◌, ◌++◌, refl, subst, inl, inr, arith}
-use Rattle.std.specs.Prelude.{Option, Some, None, nat_lt, ◌==◌}
+use Rattle.std.specs.Prelude.{map, Option, Some, None, nat_lt, ◌==◌}
 use Rattle.std.specs.List.{list_all}
 use Rattle.std.specs.Str.{bytes_eq}
 use Rattle.spl_base.specs.Form.{Form, ◌&◌}
@@ -16,7 +16,7 @@ use Rattle.spl_circuit.specs.declared.definition.Definition.{Definition}
 use Rattle.spl_circuit.specs.declared.act.Act.{Act}
 use Rattle.spl_circuit.specs.declared.lifecycle.Mark.{Mark}
 use Rattle.spl_circuit.specs.declared.lifecycle.Mark.TheVariants as mark
-use Rattle.spl_circuit.specs.Nodes.{Node}
+use Rattle.spl_circuit.specs.Nodes.{NodeId}
 use Rattle.spl_circuit.specs.Forms.{node_id, circuit_id, word, definition, act}
 use Rattle.spl_circuit.specs.Acts.{act_rules}
 use Rattle.spl_command.specs.declared.batch.Batch.{Batch}
@@ -26,9 +26,8 @@ use Rattle.spl_wire.specs.Bodies.{long, reason}
 use Rattle.spl_wire.specs.Changes.{fits_change, change_form}
 use Rattle.spl_wire.specs.declared.change.Change.{Change}
 use Rattle.spl_wire.specs.declared.change.Change.TheVariants as durable
-use Rattle.spl_rules.specs.Cells.{Cell, Empty, Held, Purged, is_open, runs}
-use Rattle.spl_rules.specs.Plans.{admin_changes, service_changes}
-use Rattle.spl_rules.specs.Changes.{turn_after, may_queue, may_serve, may_keep, applied_one, applied}
+use Rattle.spl_rules.specs.Cells.{Bound, Cell, Empty, Held, Purged, Site, fresh, is_open, is_active_here}
+use Rattle.spl_rules.specs.Changes.{turn_after, held_after, may_queue, may_serve, may_keep, applied_one, applied}
 use Rattle.spl_rules.specs.Pack.{packed_batches, packed_mark, packed}
 use Rattle.spl_rules.proofs.Keys.{Each, each-more, each-without}
 
@@ -105,15 +104,15 @@ module _ {V : Type 0} (f : Form V) where
 
 -- ---- a cell
 
-pub record IsWrittenHeld (d : Definition) (turn : ℕ) (a : Member Act) (b : Member Batch) : Type 0 where
-  pub defined : IsTrue (definition.fits d)
-  pub turned : IsTrue (word.fits turn)
-  pub acts : IsWrittenMember act a
-  pub batches : IsWrittenMember batch b
+pub record IsWrittenHeld (h : Bound) : Type 0 where
+  pub defined : IsTrue (definition.fits h.definition)
+  pub turned : IsTrue (word.fits h.turn)
+  pub acts : IsWrittenMember act h.acts
+  pub batches : IsWrittenMember batch h.batches
 
 abbrev pub IsWritten : Cell → Type 0
 IsWritten Empty = Unit {0}
-IsWritten (Held d m turn a b) = IsWrittenHeld d turn a b
+IsWritten (Held h) = IsWrittenHeld h
 IsWritten (Purged old) = IsTrue (word.fits old)
 
 -- a change of a group has a byte form where its fields have
@@ -168,49 +167,32 @@ generation-fits : (d : Definition) → IsTrue (definition.fits d) → IsTrue (wo
 generation-fits d h = (both_true (word.fits d.generation) _ (both_true (circuit_id.fits d.id) _ h).1).0
 
 -- the turn behind it
-written-turn : (here : Node) (turn : ℕ) (x : GroupChange Act) → IsTrue (fits_change act x) → IsTrue (word.fits turn) → IsTrue (word.fits (turn_after here turn x))
+written-turn : (here : NodeId) (turn : ℕ) (x : GroupChange Act) → IsTrue (fits_change act x) → IsTrue (word.fits turn) → IsTrue (word.fits (turn_after here turn x))
 written-turn here turn (change.Queue v) w h = if_holds (λ (n : ℕ). IsTrue (word.fits n)) (bytes_eq v.node here) v.turn turn (λ q. act-turn v w) (λ q. h)
-written-turn here turn (change.Refuse v why) w h = h
-written-turn here turn (change.Begin r) w h = h
-written-turn here turn (change.Seen r) w h = h
-written-turn here turn (change.Promise r v) w h = h
-written-turn here turn change.Abort w h = h
-written-turn here turn (change.Commit r v) w h = h
-written-turn here turn (change.Restore next seen) w h = h
-written-turn here turn (change.Kept v why) w h = h
+written-turn here turn _ w h = h
 
-written-held : (here c : Node) (d : Definition) (m : Mark) (turn : ℕ) (a : Member Act) (b : Member Batch) (x : Change) → IsTrue (change_form.fits x) → IsWrittenHeld d turn a b → IsWritten (applied_one here c (Held d m turn a b) x)
-written-held here c d m turn a b (durable.Bind e) w s = s
-written-held here c d m turn a b (durable.Admin x) w s = if_holds IsWritten _ (Held d m (turn_after here turn x) (changed (act_rules d) a x) b) (Held d m turn a b) (λ h. record { defined = s.defined; turned = written-turn here turn x (fits-admin x w) s.turned; acts = written-changed act (act_rules d) (may_queue here turn a.pending) a x (and_right (is_open m) _ h) (fits-admin x w) s.acts; batches = s.batches }) (λ h. s)
-written-held here c d m turn a b (durable.Service x) w s = if_holds IsWritten _ (Held d m turn a (changed batch_rules b x)) (Held d m turn a b) (λ h. record { defined = s.defined; turned = s.turned; acts = s.acts; batches = written-changed batch batch_rules may_serve b x (and_right (may_keep x) _ (and_right (runs d a) _ (and_right (is_open m) _ h))) (fits-service x w) s.batches }) (λ h. s)
-written-held here c d m turn a b durable.Abandon w s = if_holds IsWritten (is_open m && runs d a) (Held d mark.Abandoned turn a b) (Held d m turn a b) (λ h. s) (λ h. s)
-written-held here c d m turn a b durable.Purge w s = generation-fits d s.defined
-written-held here c d m turn a b (durable.Turn t) w s = if_holds IsWritten (is_new a) (Held d m t a b) (Held d m turn a b) (λ h. record { defined = s.defined; turned = w; acts = s.acts; batches = s.batches }) (λ h. s)
-written-held here c d m turn a b (durable.Gone old) w s = s
+written-held : (site : Site) (h : Bound) (x : Change) → IsTrue (change_form.fits x) → IsWrittenHeld h → IsWritten (applied_one site (Held h) x)
+written-held site h (durable.Bind e) w s = s
+written-held site h (durable.Admin x) w s = if_holds IsWritten _ (held_after site.here h (durable.Admin x)) (Held h) (λ q. record { defined = s.defined; turned = written-turn site.here h.turn x (fits-admin x w) s.turned; acts = written-changed act (act_rules h.definition) (may_queue site.here h.turn h.acts.pending) h.acts x (and_right (is_open h.mark) _ q) (fits-admin x w) s.acts; batches = s.batches }) (λ q. s)
+written-held site h (durable.Service x) w s = if_holds IsWritten _ (held_after site.here h (durable.Service x)) (Held h) (λ q. record { defined = s.defined; turned = s.turned; acts = s.acts; batches = written-changed batch batch_rules may_serve h.batches x (and_right (may_keep x) _ (and_right (is_active_here h) _ (and_right (is_open h.mark) _ q))) (fits-service x w) s.batches }) (λ q. s)
+written-held site h durable.Abandon w s = if_holds IsWritten (is_open h.mark && is_active_here h) (held_after site.here h durable.Abandon) (Held h) (λ q. record { defined = s.defined; turned = s.turned; acts = s.acts; batches = s.batches }) (λ q. s)
+written-held site h durable.Purge w s = generation-fits h.definition s.defined
+written-held site h (durable.Turn t) w s = if_holds IsWritten (is_new h.acts) (held_after site.here h (durable.Turn t)) (Held h) (λ q. record { defined = s.defined; turned = w; acts = s.acts; batches = s.batches }) (λ q. s)
+written-held site h (durable.Gone old) w s = s
 
-bound-written : (d : Definition) → IsTrue (definition.fits d) → IsWrittenHeld d 0 new_member new_member
+bound-written : (d : Definition) → IsTrue (definition.fits d) → IsWrittenHeld (fresh d)
 bound-written d h = record { defined = h; turned = refl; acts = written-new act; batches = written-new batch }
 
-written-one : (here c : Node) (k : Cell) (x : Change) → IsTrue (change_form.fits x) → IsWritten k → IsWritten (applied_one here c k x)
-written-one here c Empty (durable.Bind d) w s = if_holds IsWritten _ (Held d mark.Open 0 new_member new_member) Empty (λ h. bound-written d w) (λ h. tt)
-written-one here c Empty (durable.Admin x) w s = tt
-written-one here c Empty (durable.Service x) w s = tt
-written-one here c Empty durable.Abandon w s = tt
-written-one here c Empty durable.Purge w s = tt
-written-one here c Empty (durable.Turn t) w s = tt
-written-one here c Empty (durable.Gone old) w s = if_holds IsWritten (nat_lt 0 old) (Purged old) Empty (λ h. w) (λ h. tt)
-written-one here c (Purged old) (durable.Bind d) w s = if_holds IsWritten _ (Held d mark.Open 0 new_member new_member) (Purged old) (λ h. bound-written d w) (λ h. s)
-written-one here c (Purged old) (durable.Admin x) w s = s
-written-one here c (Purged old) (durable.Service x) w s = s
-written-one here c (Purged old) durable.Abandon w s = s
-written-one here c (Purged old) durable.Purge w s = s
-written-one here c (Purged old) (durable.Turn t) w s = s
-written-one here c (Purged old) (durable.Gone new) w s = s
-written-one here c (Held d m turn a b) x w s = written-held here c d m turn a b x w s
+written-one : (site : Site) (k : Cell) (x : Change) → IsTrue (change_form.fits x) → IsWritten k → IsWritten (applied_one site k x)
+written-one site (Held h) x w s = written-held site h x w s
+written-one site Empty (durable.Bind d) w s = if_holds IsWritten _ (Held (fresh d)) Empty (λ q. bound-written d w) (λ q. tt)
+written-one site Empty (durable.Gone old) w s = if_holds IsWritten (nat_lt 0 old) (Purged old) Empty (λ q. w) (λ q. tt)
+written-one site (Purged old) (durable.Bind d) w s = if_holds IsWritten _ (Held (fresh d)) (Purged old) (λ q. bound-written d w) (λ q. s)
+written-one site k x w s = s
 
-pub written-applied : (here c : Node) (k : Cell) (xs : List Change) → IsTrue (list_all change_form.fits xs) → IsWritten k → IsWritten (applied here c k xs)
-written-applied here c k [] w s = s
-written-applied here c k (x ∷ xs) w s = let h = both_true (change_form.fits x) (list_all change_form.fits xs) w in written-applied here c (applied_one here c k x) xs h.1 (written-one here c k x h.0 s)
+pub written-applied : (site : Site) (k : Cell) (xs : List Change) → IsTrue (list_all change_form.fits xs) → IsWritten k → IsWritten (applied site k xs)
+written-applied site k [] w s = s
+written-applied site k (x ∷ xs) w s = let h = both_true (change_form.fits x) (list_all change_form.fits xs) w in written-applied site (applied_one site k x) xs h.1 (written-one site k x h.0 s)
 
 -- ---- its packed form
 
@@ -221,27 +203,26 @@ all-append : (xs ys : List Change) → AllWritten xs → AllWritten ys → AllWr
 all-append [] ys h k = k
 all-append (x ∷ xs) ys h k = let b = both_true (change_form.fits x) (list_all change_form.fits xs) h in and_true (change_form.fits x) (list_all change_form.fits (xs ++ ys)) b.0 (all-append xs ys b.1 k)
 
-all-admin : (xs : List (GroupChange Act)) → Each (λ x. IsTrue (fits_change act x)) xs → AllWritten (admin_changes xs)
+all-admin : (xs : List (GroupChange Act)) → Each (λ x. IsTrue (fits_change act x)) xs → AllWritten (map durable.Admin xs)
 all-admin [] h = refl
-all-admin (x ∷ xs) h = and_true (change_form.fits (durable.Admin x)) (list_all change_form.fits (admin_changes xs)) (admin-fits x h.0) (all-admin xs h.1)
+all-admin (x ∷ xs) h = and_true (change_form.fits (durable.Admin x)) (list_all change_form.fits (map durable.Admin xs)) (admin-fits x h.0) (all-admin xs h.1)
 
-all-service : (xs : List (GroupChange Batch)) → Each (λ x. IsTrue (fits_change batch x)) xs → AllWritten (service_changes xs)
+all-service : (xs : List (GroupChange Batch)) → Each (λ x. IsTrue (fits_change batch x)) xs → AllWritten (map durable.Service xs)
 all-service [] h = refl
-all-service (x ∷ xs) h = and_true (change_form.fits (durable.Service x)) (list_all change_form.fits (service_changes xs)) (service-fits x h.0) (all-service xs h.1)
+all-service (x ∷ xs) h = and_true (change_form.fits (durable.Service x)) (list_all change_form.fits (map durable.Service xs)) (service-fits x h.0) (all-service xs h.1)
 
 all-mark : (m : Mark) → AllWritten (packed_mark m)
-all-mark mark.Open = refl
 all-mark mark.Abandoned = refl
-all-mark mark.Purged = refl
+all-mark _ = refl
 
 pub written-packed : (k : Cell) → IsWritten k → AllWritten (packed k)
 written-packed Empty s = refl
 written-packed (Purged old) s = and_true (word.fits old) true s refl
-written-packed (Held d m turn a b) s =
-    and_true (definition.fits d) _ s.defined (and_true (word.fits turn) _ s.turned
-    (all-append (admin_changes (packed_member a)) _ (all-admin (packed_member a) (writes-packed act a s.acts))
-    (all-append (packed_batches d a b) (packed_mark m) (go (bool_cases (runs d a))) (all-mark m))))
+written-packed (Held h) s =
+    and_true (definition.fits h.definition) _ s.defined (and_true (word.fits h.turn) _ s.turned
+    (all-append (map durable.Admin (packed_member h.acts)) _ (all-admin (packed_member h.acts) (writes-packed act h.acts s.acts))
+    (all-append (packed_batches h) (packed_mark h.mark) (go (bool_cases (is_active_here h))) (all-mark h.mark))))
   where
-    go : (runs d a ≡ true) ⊎ (runs d a ≡ false) → AllWritten (packed_batches d a b)
-    go (inl q) = rw q (all-service (packed_member b) (writes-packed batch b s.batches))
+    go : (is_active_here h ≡ true) ⊎ (is_active_here h ≡ false) → AllWritten (packed_batches h)
+    go (inl q) = rw q (all-service (packed_member h.batches) (writes-packed batch h.batches s.batches))
     go (inr q) = rw q

@@ -20,10 +20,7 @@ use Rattle.spl_command.specs.Equality.{same_batch}
 use Rattle.spl_command.specs.Lists.{state_of}
 use Rattle.spl_scabbard.specs.Checks.{batch_rules}
 use Rattle.spl_scabbard.specs.Readers.{ids_of, place_of, receipts_of}
-use Rattle.spl_circuit.specs.declared.definition.Definition.{Definition}
-use Rattle.spl_circuit.specs.declared.act.Act.{Act}
-use Rattle.spl_circuit.specs.declared.lifecycle.Mark.{Mark}
-use Rattle.spl_circuit.specs.Nodes.{Node, position}
+use Rattle.spl_circuit.specs.Nodes.{NodeId, ServiceId, position}
 use Rattle.spl_circuit.specs.Routing.{Way, route}
 use Rattle.spl_wire.specs.declared.message.Message.TheVariants as message
 use Rattle.spl_wire.specs.declared.answer.Entry.{Entry as Told}
@@ -31,34 +28,34 @@ use Rattle.spl_wire.specs.declared.answer.BatchStatus.TheVariants as status
 use Rattle.spl_wire.specs.declared.answer.Refusal.TheVariants as refusal
 use Rattle.spl_wire.specs.declared.answer.Answer.{Answer}
 use Rattle.spl_wire.specs.declared.answer.Answer.TheVariants as answer
-use Rattle.spl_rules.specs.Cells.{Deed, Refuses, Tells, Replies, Serves, submitted, ignores, is_open, runs}
+use Rattle.spl_rules.specs.Cells.{Bound, Site, Deed, Refuses, Tells, Replies, Serves, Submitted, Delivered, ignores, is_open, is_active_here, runs}
 
 -- ---- submit
 
-abbrev pub submits_new : Node → Definition → Member Batch → Batch → Deed
-submits_new here d b v = if length b.pending == 64 then Refuses refusal.QueueFull else Serves submitted d b here (group.Submit v)
+abbrev pub submits_new : Site → Bound → Batch → Deed
+submits_new site h v = if length h.batches.pending == 64 then Refuses refusal.QueueFull else Serves Submitted h site.here (group.Submit v)
 
 -- by what is known of the id here
-abbrev pub submits_known : Node → Definition → Member Batch → Batch → Option Batch → Deed
-submits_known here d b v None = submits_new here d b v
-submits_known here d b v (Some u) = if same_batch u v then Tells (answer.Submitted true) else Refuses refusal.IdTaken
+abbrev pub submits_known : Site → Bound → Batch → Option Batch → Deed
+submits_known site h v None = submits_new site h v
+submits_known site h v (Some u) = if same_batch u v then Tells (answer.Submitted true) else Refuses refusal.IdTaken
 
 -- by the first rule that the batch breaks
-abbrev pub submits_ruled : Node → Definition → Member Batch → Batch → Option ℕ → Deed
-submits_ruled here d b v (Some rule) = Refuses (refusal.BadBatch rule)
-submits_ruled here d b v None = submits_known here d b v (known batch_rules b v)
+abbrev pub submits_ruled : Site → Bound → Batch → Option ℕ → Deed
+submits_ruled site h v (Some rule) = Refuses (refusal.BadBatch rule)
+submits_ruled site h v None = submits_known site h v (known batch_rules h.batches v)
 
-abbrev pub submits : Node → Definition → Mark → Member Act → Member Batch → Batch → Deed
-submits here d m a b v =
-    if not (runs d a) then Refuses refusal.NotActive
-    else (if not (is_open m) then Refuses refusal.Closed
-    else submits_ruled here d b v (broken_batch v))
+abbrev pub submits : Site → Bound → Batch → Deed
+submits site h v =
+    if not (is_active_here h) then Refuses refusal.NotActive
+    else (if not (is_open h.mark) then Refuses refusal.Closed
+    else submits_ruled site h v (broken_batch v))
 
 -- ---- what is told of the batches that are committed here
 
 -- only of an active circuit
-abbrev pub when_active : Definition → Member Act → Deed → Deed
-when_active d a deed = if runs d a then deed else Refuses refusal.NotActive
+abbrev pub when_active : Bound → Deed → Deed
+when_active h deed = if is_active_here h then deed else Refuses refusal.NotActive
 
 abbrev pub state_here : Member Batch → List Entry
 state_here b = state_of (values b.history)
@@ -101,8 +98,7 @@ status_told b i = status_kept b i (place_of (values b.history) i)
 
 abbrev pub receipt_kept : ℕ → Option ℕ → Option (List Receipt) → Deed
 receipt_kept i (Some place) (Some receipts) = Tells (answer.Receipt i place receipts)
-receipt_kept i (Some place) None = Refuses refusal.UnknownId
-receipt_kept i None receipts = Refuses refusal.UnknownId
+receipt_kept i _ _ = Refuses refusal.UnknownId
 
 abbrev pub receipt_told : Member Batch → ℕ → Deed
 receipt_told b i = receipt_kept i (place_of (values b.history) i) (receipts_of (values b.history) i)
@@ -114,24 +110,20 @@ routed (Ok x) deed = deed
 routed (Err f) deed = Refuses (refusal.NotRouted f)
 
 -- the way of a message at a bound cell
-abbrev pub way : Node → Definition → Mark → Member Act → Node → Node → Node → Way
-way here d m a from_node from to = route (Some d) (is_open m && runs d a) from_node from to here
+abbrev pub way : Site → Bound → NodeId → ServiceId → ServiceId → Way
+way site h from_node from to = route (Some h.definition) (is_open h.mark && runs h) from_node from to site.here
 
 -- a message of another generation: a request is declined, and the answer swaps the services
-abbrev pub serves_other : Node → Node → Node → Node → CommitMsg Batch → Deed
-serves_other c from_node from to (msg.VoteRequest gen r place v) = Replies (note.Declined r) from_node (message.Scabbard c to from (msg.Vote gen r false))
-serves_other c from_node from to (msg.Vote gen r aye) = ignores
-serves_other c from_node from to (msg.Decision gen r commit) = ignores
-serves_other c from_node from to (msg.DecisionRequest gen r) = ignores
-serves_other c from_node from to (msg.Forward gen v) = ignores
-serves_other c from_node from to (msg.Refused gen v why) = ignores
+abbrev pub serves_other : Site → NodeId → ServiceId → ServiceId → CommitMsg Batch → Deed
+serves_other site from_node from to (msg.VoteRequest gen r place v) = Replies (note.Declined r) from_node (message.Scabbard site.circuit to from (msg.Vote gen r false))
+serves_other site from_node from to _ = ignores
 
 -- a message that is routed
-abbrev pub hears_routed : Node → Definition → Member Batch → Node → Node → Node → CommitMsg Batch → Deed
-hears_routed c d b from_node from to x =
-    if generation_of x == d.generation
-    then Serves answer.Delivered d b from_node (group.From (position d.members from_node) x)
-    else serves_other c from_node from to x
+abbrev pub hears_routed : Site → Bound → NodeId → ServiceId → ServiceId → CommitMsg Batch → Deed
+hears_routed site h from_node from to x =
+    if generation_of x == h.definition.generation
+    then Serves Delivered h from_node (group.From (position h.definition.members from_node) x)
+    else serves_other site from_node from to x
 
-abbrev pub hears_service : Node → Node → Definition → Mark → Member Act → Member Batch → Node → Node → Node → CommitMsg Batch → Deed
-hears_service here c d m a b from_node from to x = routed (way here d m a from_node from to) (hears_routed c d b from_node from to x)
+abbrev pub hears_service : Site → Bound → NodeId → ServiceId → ServiceId → CommitMsg Batch → Deed
+hears_service site h from_node from to x = routed (way site h from_node from to) (hears_routed site h from_node from to x)

@@ -9,7 +9,7 @@ use Rattle.spl_agree.specs.declared.message.CommitMsg.{CommitMsg}
 use Rattle.spl_agree.specs.declared.message.CommitMsg.TheVariants as msg
 use Rattle.spl_agree.specs.declared.event.GroupEvent.{GroupEvent}
 use Rattle.spl_agree.specs.declared.event.GroupEvent.TheVariants as group
-use Rattle.spl_agree.specs.Member.{Group, Member, values, known}
+use Rattle.spl_agree.specs.Member.{Group, Member, new_member, values, known}
 use Rattle.spl_circuit.specs.declared.definition.Definition.{Definition}
 use Rattle.spl_circuit.specs.declared.act.ActKind.{ActKind}
 use Rattle.spl_circuit.specs.declared.act.ActKind.TheVariants as kind
@@ -19,7 +19,7 @@ use Rattle.spl_circuit.specs.declared.lifecycle.Mark.TheVariants as mark
 use Rattle.spl_circuit.specs.declared.lifecycle.Lifecycle.{Lifecycle}
 use Rattle.spl_circuit.specs.declared.lifecycle.Lifecycle.TheVariants as lifecycle
 use Rattle.spl_circuit.specs.Forms.{definition}
-use Rattle.spl_circuit.specs.Nodes.{Node, has_node, position}
+use Rattle.spl_circuit.specs.Nodes.{NodeId, CircuitId, has_node, position}
 use Rattle.spl_circuit.specs.Rules.{broken, admin, service, is_member}
 use Rattle.spl_circuit.specs.Lifecycle.{Life, life, is_proposed, is_active}
 use Rattle.spl_circuit.specs.Acts.{reason, is_node, act_rules}
@@ -32,23 +32,38 @@ use Rattle.spl_wire.specs.declared.answer.Refusal.TheVariants as refusal
 use Rattle.spl_wire.specs.declared.answer.Answer.{Answer}
 use Rattle.spl_wire.specs.declared.answer.Answer.TheVariants as answer
 
--- a cell is empty; or bound to a definition, with its mark, the turn of the node, and what the node keeps in the admin
--- group and in the service group; or purged with the generation that it last had
+-- what a node keeps of a circuit that it is bound to: the definition, its mark, the turn of the node, and what it keeps in
+-- the admin group and in the service group
+pub record Bound : Type 0 where
+  pub definition : Definition
+  pub mark : Mark
+  pub turn : ℕ
+  pub acts : Member Act
+  pub batches : Member Batch
+
+-- a cell is empty; or bound; or purged with the generation that it last had
 pub data Cell : Type 0 where
   Empty : Cell
-  Held : (definition : Definition) → (mark : Mark) → (turn : ℕ) → (acts : Member Act) → (batches : Member Batch) → Cell
+  Held : (bound : Bound) → Cell
   Purged : (generation : ℕ) → Cell
 
+-- a circuit at a node
+pub record Site : Type 0 where
+  pub here : NodeId
+  pub circuit : CircuitId
+
 abbrev pub is_bound : Cell → Bool
-is_bound Empty = false
-is_bound (Held d m turn a b) = true
-is_bound (Purged old) = false
+is_bound (Held h) = true
+is_bound _ = false
 
 -- nothing is kept
 abbrev pub is_empty_cell : Cell → Bool
 is_empty_cell Empty = true
-is_empty_cell (Held d m turn a b) = false
-is_empty_cell (Purged old) = false
+is_empty_cell _ = false
+
+-- what is kept of a definition that was bound just now
+abbrev pub fresh : Definition → Bound
+fresh d = record { definition = d; mark = mark.Open; turn = 0; acts = new_member; batches = new_member }
 
 -- the admin group of a definition
 abbrev pub admin_group : Definition → Group Act
@@ -60,22 +75,40 @@ service_group d = record { rules = batch_rules; generation = d.generation; membe
 
 abbrev pub is_open : Mark → Bool
 is_open mark.Open = true
-is_open mark.Abandoned = false
-is_open mark.Purged = false
+is_open _ = false
 
 -- bound, and the node takes part
 abbrev pub is_open_cell : Cell → Bool
-is_open_cell Empty = false
-is_open_cell (Held d m turn a b) = is_open m
-is_open_cell (Purged old) = false
+is_open_cell (Held h) = is_open h.mark
+is_open_cell _ = false
 
 -- the lifecycle of the acts in its own history
-abbrev pub own_life : Definition → Member Act → Life
-own_life d a = life d (values a.history)
+abbrev pub own_life : Bound → Life
+own_life h = life h.definition (values h.acts.history)
 
 -- the circuit is active here
-abbrev pub runs : Definition → Member Act → Bool
-runs d a = is_active (own_life d a).state
+abbrev pub is_active_here : Bound → Bool
+is_active_here h = is_active (own_life h).state
+
+-- its service group runs: messages are routed, and the group is ticked
+abbrev pub runs : Bound → Bool
+runs h = is_active_here h
+
+-- durable changes of its service group fit
+abbrev pub keeps_batches : Bound → Bool
+keeps_batches h = is_active_here h
+
+-- how a note of a group is answered: what was queued, what a message did, and what the admin group did where no service
+-- group runs
+pub data Say : Type 0 where
+  Submitted : Say
+  Delivered : Say
+  Alone : Say
+
+abbrev pub said : Say → Note → Answer
+said Submitted n = answer.Submitted false
+said Delivered n = answer.Delivered n
+said Alone n = answer.Notes n note.Off
 
 -- what an event does at a cell
 pub data Deed : Type 0 where
@@ -84,39 +117,32 @@ pub data Deed : Type 0 where
   -- it is answered, and changes nothing
   Tells : Answer → Deed
   -- a message goes to one node, and nothing changes
-  Replies : Note → Node → Message → Deed
+  Replies : Note → NodeId → Message → Deed
   -- the cell is bound, and its admin group does this; a message came from `back`
-  Binds : (Note → Answer) → (d : Definition) → (back : Node) → GroupEvent Act → Deed
+  Binds : Say → Definition → (back : NodeId) → GroupEvent Act → Deed
   -- the admin group does this
-  Acts : (Note → Answer) → (d : Definition) → (acts : Member Act) → (back : Node) → GroupEvent Act → Deed
+  Acts : Say → Bound → (back : NodeId) → GroupEvent Act → Deed
   -- the service group does this
-  Serves : (Note → Answer) → (d : Definition) → (batches : Member Batch) → (back : Node) → GroupEvent Batch → Deed
+  Serves : Say → Bound → (back : NodeId) → GroupEvent Batch → Deed
   -- each group does its part, the admin group first
-  Turns : (d : Definition) → (acts : Member Act) → (batches : Member Batch) → GroupEvent Act → GroupEvent Batch → Deed
+  Turns : Bound → GroupEvent Act → GroupEvent Batch → Deed
   Abandons : Deed
   Purges : Deed
-
--- how a note is answered: what is queued, and what the admin group did where no service group runs
-abbrev pub submitted : Note → Answer
-submitted n = answer.Submitted false
-
-abbrev pub alone : Note → Answer
-alone n = answer.Notes n note.Off
 
 -- ---- binding
 
 -- the cell may be bound to a definition of this generation
 abbrev pub is_free : Cell → ℕ → Bool
 is_free Empty generation = true
-is_free (Held d m turn a b) generation = false
+is_free (Held h) generation = false
 is_free (Purged old) generation = nat_lt old generation
 
 -- a message of this generation can bind the definition
-abbrev pub can_bind : Node → Node → Cell → ℕ → Definition → Bool
-can_bind here c k generation d = bytes_eq d.id c && (d.generation == generation && (is_none (broken d) && (is_member d here && is_free k generation)))
+abbrev pub can_bind : Site → Cell → ℕ → Definition → Bool
+can_bind site k generation d = bytes_eq d.id site.circuit && (d.generation == generation && (is_none (broken d) && (is_member d site.here && is_free k generation)))
 
 -- the proposal of a definition: the first act of its node
-abbrev pub proposal : Node → Definition → Act
+abbrev pub proposal : NodeId → Definition → Act
 proposal here d = record { node = here; turn = 1; kind = kind.Propose d }
 
 -- ---- propose
@@ -125,109 +151,101 @@ abbrev pub stale_or_held : ℕ → Definition → Refusal
 stale_or_held bound d = if nat_lt bound d.generation then refusal.CircuitHeld else refusal.StaleGeneration bound
 
 -- a definition that breaks no rule, at one of its members
-abbrev pub proposes_at : Node → Definition → Cell → Deed
-proposes_at here d Empty = Binds submitted d here (group.Submit (proposal here d))
-proposes_at here d (Held e m turn a b) = Refuses (stale_or_held e.generation d)
-proposes_at here d (Purged old) = if nat_lt old d.generation then Binds submitted d here (group.Submit (proposal here d)) else Refuses (refusal.StaleGeneration old)
+abbrev pub proposes_at : Site → Definition → Cell → Deed
+proposes_at site d Empty = Binds Submitted d site.here (group.Submit (proposal site.here d))
+proposes_at site d (Held h) = Refuses (stale_or_held h.definition.generation d)
+proposes_at site d (Purged old) = if nat_lt old d.generation then Binds Submitted d site.here (group.Submit (proposal site.here d)) else Refuses (refusal.StaleGeneration old)
 
 -- a proposal, by the first rule that its definition breaks
-abbrev pub proposes : Node → Definition → Cell → Option ℕ → Deed
-proposes here d k (Some rule) = Refuses (refusal.BadDefinition rule)
-proposes here d k None = if is_member d here then proposes_at here d k else Refuses refusal.NotMember
+abbrev pub proposes : Site → Definition → Cell → Option ℕ → Deed
+proposes site d k (Some rule) = Refuses (refusal.BadDefinition rule)
+proposes site d k None = if is_member d site.here then proposes_at site d k else Refuses refusal.NotMember
 
 -- ---- vote, remove
 
 -- the next act of this node
-abbrev pub next_act : Node → ℕ → ActKind → Act
+abbrev pub next_act : NodeId → ℕ → ActKind → Act
 next_act here turn k = record { node = here; turn = turn + 1; kind = k }
 
 -- no further act of this node may be pending here
-abbrev pub is_act_pending : Definition → Node → ℕ → Member Act → Bool
-is_act_pending d here turn a =
-    list_any (λ v. bytes_eq v.node here) a.pending || (length a.pending == 64
-    || (is_some (known (act_rules d) a (next_act here turn kind.Accept)) || turn == 2 ^ 32 - 1))
+abbrev pub is_act_pending : Site → Bound → Bool
+is_act_pending site h =
+    list_any (λ v. bytes_eq v.node site.here) h.acts.pending || (length h.acts.pending == 64
+    || (is_some (known (act_rules h.definition) h.acts (next_act site.here h.turn kind.Accept)) || h.turn == 2 ^ 32 - 1))
 
-abbrev pub votes : Node → Definition → ℕ → Member Act → ActKind → Deed
-votes here d turn a k =
-    if is_act_pending d here turn a then Refuses refusal.ActPending
-    else (if not (is_proposed (own_life d a).state) then Refuses refusal.NoProposal
-    else (if has_node (own_life d a).accepted here then Refuses refusal.AlreadyVoted
-    else Acts submitted d a here (group.Submit (next_act here turn k))))
+abbrev pub votes : Site → Bound → ActKind → Deed
+votes site h k =
+    if is_act_pending site h then Refuses refusal.ActPending
+    else (if not (is_proposed (own_life h).state) then Refuses refusal.NoProposal
+    else (if has_node (own_life h).accepted site.here then Refuses refusal.AlreadyVoted
+    else Acts Submitted h site.here (group.Submit (next_act site.here h.turn k))))
 
-abbrev pub removes : Node → Definition → ℕ → Member Act → Deed
-removes here d turn a =
-    if is_act_pending d here turn a then Refuses refusal.ActPending
-    else (if not (is_proposed (own_life d a).state) then Refuses refusal.NoProposal
-    else (if not (is_node (own_life d a).requester here) then Refuses refusal.NotRequester
-    else Acts submitted d a here (group.Submit (next_act here turn kind.Remove))))
+abbrev pub removes : Site → Bound → Deed
+removes site h =
+    if is_act_pending site h then Refuses refusal.ActPending
+    else (if not (is_proposed (own_life h).state) then Refuses refusal.NoProposal
+    else (if not (is_node (own_life h).requester site.here) then Refuses refusal.NotRequester
+    else Acts Submitted h site.here (group.Submit (next_act site.here h.turn kind.Remove))))
 
 -- ---- abandon, purge
 
-abbrev pub abandons : Definition → Mark → Member Act → Deed
-abandons d m a =
-    if not (runs d a) then Refuses refusal.NotActive
-    else (if is_open m then Abandons else Refuses refusal.Closed)
+abbrev pub abandons : Bound → Deed
+abandons h =
+    if not (is_active_here h) then Refuses refusal.NotActive
+    else (if is_open h.mark then Abandons else Refuses refusal.Closed)
 
 -- what keeps an open cell from being purged
 abbrev pub is_waiting : Lifecycle → Member Act → Bool
 is_waiting lifecycle.None a = nat_lt 0 (length a.pending) || is_some a.promise
-is_waiting lifecycle.Proposed a = true
-is_waiting lifecycle.Active a = true
 is_waiting lifecycle.Rejected a = false
 is_waiting lifecycle.Removed a = false
+is_waiting _ a = true
 
-abbrev pub purges : Definition → Mark → Member Act → Deed
-purges d m a = if is_open m && is_waiting (own_life d a).state a then Refuses refusal.NotPurgeable else Purges
+abbrev pub purges : Bound → Deed
+purges h = if is_open h.mark && is_waiting (own_life h).state h.acts then Refuses refusal.NotPurgeable else Purges
 
 -- ---- show, detail
 
 -- the members that have accepted, in member order
-abbrev pub accepted_in_order : Definition → Member Act → List Node
-accepted_in_order d a = filter (λ m. has_node (own_life d a).accepted m) d.members
+abbrev pub accepted_in_order : Bound → List NodeId
+accepted_in_order h = filter (λ m. has_node (own_life h).accepted m) h.definition.members
 
-abbrev pub shows : Definition → Mark → Member Act → Member Batch → Answer
-shows d m a b = answer.Show d.generation (own_life d a).state m (accepted_in_order d a) (length a.history) (length a.pending) (length b.history) (length b.pending)
+abbrev pub shows : Bound → Answer
+shows h = answer.Show h.definition.generation (own_life h).state h.mark (accepted_in_order h) (length h.acts.history) (length h.acts.pending) (length h.batches.history) (length h.batches.pending)
 
-abbrev pub details : Definition → Mark → Member Act → Answer
-details d m a = answer.Detail d (sha256 (definition.spell d)) (own_life d a).state m (accepted_in_order d a) (own_life d a).requester
+abbrev pub details : Bound → Answer
+details h = answer.Detail h.definition (sha256 (definition.spell h.definition)) (own_life h).state h.mark (accepted_in_order h) (own_life h).requester
 
 -- ---- messages
 
 abbrev pub ignores : Deed
 ignores = Tells (answer.Delivered note.Ignored)
 
-abbrev pub declines : Node → Node → ℕ → ℕ → Deed
-declines c from gen r = Replies (note.Declined r) from (message.Admin c (msg.Vote gen r false))
+abbrev pub declines : Site → NodeId → ℕ → ℕ → Deed
+declines site from gen r = Replies (note.Declined r) from (message.Admin site.circuit (msg.Vote gen r false))
 
 -- the coordinator can't bind the definition
-abbrev pub returns_unbound : Node → Node → ℕ → Act → Deed
-returns_unbound c from gen v = Replies (note.Returned (reason 6)) from (message.Admin c (msg.Refused gen v (reason 6)))
+abbrev pub returns_unbound : Site → NodeId → ℕ → Act → Deed
+returns_unbound site from gen v = Replies (note.Returned (reason 6)) from (message.Admin site.circuit (msg.Refused gen v (reason 6)))
 
 -- a request at a cell that is not bound to its generation, or not open
-abbrev pub asked_first : Node → Node → Cell → Node → ℕ → ℕ → ℕ → Act → ActKind → Deed
-asked_first here c k from gen r place v (kind.Propose d) =
-    if place == 0 && (can_bind here c k gen d && bytes_eq (admin d) from)
-    then Binds answer.Delivered d from (group.From (position d.members from) (msg.VoteRequest gen r place v))
-    else declines c from gen r
-asked_first here c k from gen r place v kind.Accept = declines c from gen r
-asked_first here c k from gen r place v kind.Reject = declines c from gen r
-asked_first here c k from gen r place v kind.Remove = declines c from gen r
+abbrev pub asked_first : Site → Cell → NodeId → ℕ → ℕ → ℕ → Act → ActKind → Deed
+asked_first site k from gen r place v (kind.Propose d) =
+    if place == 0 && (can_bind site k gen d && bytes_eq (admin d) from)
+    then Binds Delivered d from (group.From (position d.members from) (msg.VoteRequest gen r place v))
+    else declines site from gen r
+asked_first site k from gen r place v _ = declines site from gen r
 
 -- a forwarded act there
-abbrev pub forwarded_first : Node → Node → Cell → Node → ℕ → Act → ActKind → Deed
-forwarded_first here c k from gen v (kind.Propose d) =
-    if can_bind here c k gen d && (bytes_eq (admin d) here && (bytes_eq v.node from && (is_member d from && not (bytes_eq from here))))
-    then Binds answer.Delivered d from (group.Submit v)
-    else returns_unbound c from gen v
-forwarded_first here c k from gen v kind.Accept = ignores
-forwarded_first here c k from gen v kind.Reject = ignores
-forwarded_first here c k from gen v kind.Remove = ignores
+abbrev pub forwarded_first : Site → Cell → NodeId → ℕ → Act → ActKind → Deed
+forwarded_first site k from gen v (kind.Propose d) =
+    if can_bind site k gen d && (bytes_eq (admin d) site.here && (bytes_eq v.node from && (is_member d from && not (bytes_eq from site.here))))
+    then Binds Delivered d from (group.Submit v)
+    else returns_unbound site from gen v
+forwarded_first site k from gen v _ = ignores
 
 -- a message of the admin group there
-abbrev pub hears_first : Node → Node → Cell → Node → CommitMsg Act → Deed
-hears_first here c k from (msg.VoteRequest gen r place v) = asked_first here c k from gen r place v v.kind
-hears_first here c k from (msg.Vote gen r aye) = ignores
-hears_first here c k from (msg.Decision gen r commit) = ignores
-hears_first here c k from (msg.DecisionRequest gen r) = ignores
-hears_first here c k from (msg.Forward gen v) = forwarded_first here c k from gen v v.kind
-hears_first here c k from (msg.Refused gen v why) = ignores
+abbrev pub hears_first : Site → Cell → NodeId → CommitMsg Act → Deed
+hears_first site k from (msg.VoteRequest gen r place v) = asked_first site k from gen r place v v.kind
+hears_first site k from (msg.Forward gen v) = forwarded_first site k from gen v v.kind
+hears_first site k from _ = ignores

@@ -1,19 +1,20 @@
 -- What an event gives at a cell: an answer, durable changes, a move of the open round of each group, and messages
 -- (docs/RULES.md, Cells).
-use Rattle.std.specs.Prelude.{ℕ, true, false, List, [], ◌∷◌, ◌++◌, Option, Some, None}
-use Rattle.spl_agree.specs.declared.event.Note.{Note}
+use Rattle.std.specs.Prelude.{ℕ, true, false, List, [], ◌∷◌, ◌++◌, map, Option, Some, None}
 use Rattle.spl_agree.specs.declared.message.CommitMsg.{CommitMsg}
 use Rattle.spl_agree.specs.declared.event.GroupEvent.{GroupEvent}
 use Rattle.spl_agree.specs.declared.event.GroupChange.{GroupChange}
+use Rattle.spl_agree.specs.declared.event.OpenMove.{OpenMove}
 use Rattle.spl_agree.specs.declared.event.OpenMove.TheVariants as move
 use Rattle.spl_agree.specs.declared.plan.GroupPlan.{GroupPlan}
-use Rattle.spl_agree.specs.Member.{Member, new_member}
+use Rattle.spl_agree.specs.Member.{Group, Member, new_member}
 use Rattle.spl_agree.specs.Rows.{row}
 use Rattle.spl_circuit.specs.declared.definition.Definition.{Definition}
 use Rattle.spl_circuit.specs.declared.act.Act.{Act}
-use Rattle.spl_circuit.specs.Nodes.{Node, position, node_or}
+use Rattle.spl_circuit.specs.Nodes.{NodeId, ServiceId, position, node_or}
 use Rattle.spl_circuit.specs.Rules.{service_of_node}
 use Rattle.spl_command.specs.declared.batch.Batch.{Batch}
+use Rattle.spl_wire.specs.declared.message.Message.{Message}
 use Rattle.spl_wire.specs.declared.message.Message.TheVariants as message
 use Rattle.spl_wire.specs.declared.change.Change.{Change}
 use Rattle.spl_wire.specs.declared.change.Change.TheVariants as durable
@@ -22,84 +23,101 @@ use Rattle.spl_wire.specs.declared.answer.Answer.{Answer}
 use Rattle.spl_wire.specs.declared.answer.Answer.TheVariants as answer
 use Rattle.spl_wire.specs.declared.plan.Outgoing.{Outgoing}
 use Rattle.spl_wire.specs.declared.plan.Plan.{Plan}
-use Rattle.spl_rules.specs.Cells.{Cell, Deed, Refuses, Tells, Replies, Binds, Acts, Serves, Turns, Abandons, Purges, admin_group, service_group}
+use Rattle.spl_rules.specs.Cells.{Cell, Site, Deed, Refuses, Tells, Replies, Binds, Acts, Serves, Turns, Abandons, Purges, Say, said, admin_group, service_group}
 use Rattle.spl_rules.specs.Events.{does}
 
 -- an answer alone
 abbrev pub tells_only : Answer → Plan
 tells_only a = record { answer = a; changes = []; admin = move.Keep; service = move.Keep; sends = [] }
 
--- a group's message goes to the node at its position, or back to where the event's message came from
-abbrev pub outgoing : Node → Definition → Node → ℕ × CommitMsg Act → Outgoing
-outgoing c d back s = record { to = node_or d.members back s.0; message = message.Admin c s.1 }
+-- ---- the two groups of a cell
 
-abbrev pub admin_sends : Node → Definition → Node → List (ℕ × CommitMsg Act) → List Outgoing
-admin_sends c d back [] = []
-admin_sends c d back (s ∷ ss) = outgoing c d back s ∷ admin_sends c d back ss
+-- one of them, at a site: the group, the position of the node and the members, how a change and a message to a node go out,
+-- and its move among those of the admin group and of the service group
+pub record Lane (V : Type 0) : Type 0 where
+  pub group : Group V
+  pub here : ℕ
+  pub members : List NodeId
+  pub change : GroupChange V → Change
+  pub message : NodeId → CommitMsg V → Message
+  pub moves : OpenMove → OpenMove × OpenMove
 
-abbrev pub admin_changes : List (GroupChange Act) → List Change
-admin_changes [] = []
-admin_changes (x ∷ xs) = durable.Admin x ∷ admin_changes xs
-
--- what the admin group gives, behind a first change
-abbrev pub admin_plan : Node → (Note → Answer) → List Change → Definition → Node → GroupPlan Act → Plan
-admin_plan c say first d back p = record { answer = say p.note; changes = first ++ admin_changes p.changes; admin = p.opening; service = move.Keep; sends = admin_sends c d back p.sends }
-
--- what happens in the admin group at this node
-abbrev pub admin_row : Node → Definition → Member Act → GroupEvent Act → GroupPlan Act
-admin_row here d a e = row (admin_group d) (position d.members here) a e
-
--- ---- the service group
+abbrev pub admin_lane : Site → Definition → Lane Act
+admin_lane site d = record {
+  group = admin_group d;
+  here = position d.members site.here;
+  members = d.members;
+  change = durable.Admin;
+  message = λ to x. message.Admin site.circuit x;
+  moves = λ x. (x, move.Keep);
+}
 
 -- the service on a node; every member has one
-abbrev pub or_none : Option Node → Node
+abbrev pub or_none : Option ServiceId → ServiceId
 or_none None = []
 or_none (Some s) = s
 
-abbrev pub service_on : Definition → Node → Node
+abbrev pub service_on : Definition → NodeId → ServiceId
 service_on d n = or_none (service_of_node d.services n)
 
--- from the service here to that on a node
-abbrev pub service_message : Node → Node → Definition → Node → CommitMsg Batch → Outgoing
-service_message here c d to x = record { to = to; message = message.Scabbard c (service_on d here) (service_on d to) x }
+-- its messages go from the service here to that on the other node
+abbrev pub service_lane : Site → Definition → Lane Batch
+service_lane site d = record {
+  group = service_group d;
+  here = position d.members site.here;
+  members = d.members;
+  change = durable.Service;
+  message = λ to x. message.Scabbard site.circuit (service_on d site.here) (service_on d to) x;
+  moves = λ x. (move.Keep, x);
+}
 
-abbrev pub service_sends : Node → Node → Definition → Node → List (ℕ × CommitMsg Batch) → List Outgoing
-service_sends here c d back [] = []
-service_sends here c d back (s ∷ ss) = service_message here c d (node_or d.members back s.0) s.1 ∷ service_sends here c d back ss
+-- what an event gives in a group
+abbrev pub group_row : {V : Type 0} → Lane V → Member V → GroupEvent V → GroupPlan V
+group_row lane m e = row lane.group lane.here m e
 
-abbrev pub service_changes : List (GroupChange Batch) → List Change
-service_changes [] = []
-service_changes (x ∷ xs) = durable.Service x ∷ service_changes xs
+abbrev pub group_changes : {V : Type 0} → Lane V → List (GroupChange V) → List Change
+group_changes lane xs = map lane.change xs
 
-abbrev pub service_plan : Node → Node → (Note → Answer) → Definition → Node → GroupPlan Batch → Plan
-service_plan here c say d back p = record { answer = say p.note; changes = service_changes p.changes; admin = move.Keep; service = p.opening; sends = service_sends here c d back p.sends }
+-- a message of a group goes to the node at its position, or back to where the event's message came from
+abbrev pub outgoing : {V : Type 0} → Lane V → NodeId → ℕ × CommitMsg V → Outgoing
+outgoing lane back s = record { to = node_or lane.members back s.0; message = lane.message (node_or lane.members back s.0) s.1 }
 
-abbrev pub service_row : Node → Definition → Member Batch → GroupEvent Batch → GroupPlan Batch
-service_row here d b e = row (service_group d) (position d.members here) b e
+abbrev pub group_sends : {V : Type 0} → Lane V → NodeId → List (ℕ × CommitMsg V) → List Outgoing
+group_sends lane back ss = map (outgoing lane back) ss
+
+-- what a group gives, behind first changes
+abbrev pub group_plan : {V : Type 0} → Lane V → Say → List Change → NodeId → GroupPlan V → Plan
+group_plan lane say first back p = record {
+  answer = said say p.note;
+  changes = first ++ group_changes lane p.changes;
+  admin = (lane.moves p.opening).0;
+  service = (lane.moves p.opening).1;
+  sends = group_sends lane back p.sends;
+}
 
 -- what both groups give, the admin group first
-abbrev pub both_plans : Node → Node → Definition → GroupPlan Act → GroupPlan Batch → Plan
-both_plans here c d p q = record {
+abbrev pub both_plans : Site → Definition → GroupPlan Act → GroupPlan Batch → Plan
+both_plans site d p q = record {
   answer = answer.Notes p.note q.note;
-  changes = admin_changes p.changes ++ service_changes q.changes;
+  changes = group_changes (admin_lane site d) p.changes ++ group_changes (service_lane site d) q.changes;
   admin = p.opening;
   service = q.opening;
-  sends = admin_sends c d here p.sends ++ service_sends here c d here q.sends;
+  sends = group_sends (admin_lane site d) site.here p.sends ++ group_sends (service_lane site d) site.here q.sends;
 }
 
 -- ---- any deed
 
-abbrev pub planned : Node → Node → Deed → Plan
-planned here c (Refuses r) = tells_only (answer.Refused r)
-planned here c (Tells a) = tells_only a
-planned here c (Replies n to m) = record { answer = answer.Delivered n; changes = []; admin = move.Keep; service = move.Keep; sends = record { to = to; message = m } ∷ [] }
-planned here c (Binds say d back e) = admin_plan c say (durable.Bind d ∷ []) d back (admin_row here d new_member e)
-planned here c (Acts say d a back e) = admin_plan c say [] d back (admin_row here d a e)
-planned here c (Serves say d b back e) = service_plan here c say d back (service_row here d b e)
-planned here c (Turns d a b x y) = both_plans here c d (admin_row here d a x) (service_row here d b y)
-planned here c Abandons = record { answer = answer.Left false; changes = durable.Abandon ∷ []; admin = move.Close; service = move.Close; sends = [] }
-planned here c Purges = record { answer = answer.Left true; changes = durable.Purge ∷ []; admin = move.Keep; service = move.Keep; sends = [] }
+abbrev pub planned : Site → Deed → Plan
+planned site (Refuses r) = tells_only (answer.Refused r)
+planned site (Tells a) = tells_only a
+planned site (Replies n to m) = record { answer = answer.Delivered n; changes = []; admin = move.Keep; service = move.Keep; sends = record { to = to; message = m } ∷ [] }
+planned site (Binds say d back e) = group_plan (admin_lane site d) say (durable.Bind d ∷ []) back (group_row (admin_lane site d) new_member e)
+planned site (Acts say h back e) = group_plan (admin_lane site h.definition) say [] back (group_row (admin_lane site h.definition) h.acts e)
+planned site (Serves say h back e) = group_plan (service_lane site h.definition) say [] back (group_row (service_lane site h.definition) h.batches e)
+planned site (Turns h x y) = both_plans site h.definition (group_row (admin_lane site h.definition) h.acts x) (group_row (service_lane site h.definition) h.batches y)
+planned site Abandons = record { answer = answer.Left false; changes = durable.Abandon ∷ []; admin = move.Close; service = move.Close; sends = [] }
+planned site Purges = record { answer = answer.Left true; changes = durable.Purge ∷ []; admin = move.Keep; service = move.Keep; sends = [] }
 
--- an event at a cell of the circuit c at the node here
-abbrev pub plan_of : Node → Node → Cell → Event → Plan
-plan_of here c k e = planned here c (does here c k e)
+-- what an event gives at a cell
+abbrev pub plan_of : Site → Cell → Event → Plan
+plan_of site k e = planned site (does site k e)

@@ -8,14 +8,10 @@ use Rattle.spl_agree.specs.declared.message.CommitMsg.{CommitMsg}
 use Rattle.spl_agree.specs.declared.message.CommitMsg.TheVariants as msg
 use Rattle.spl_agree.specs.Member.{Rules, Member, values}
 use Rattle.spl_agree.specs.Fits.{AllGood, IsRoomy, IsSettled, FitsMove}
-use Rattle.spl_circuit.specs.declared.definition.Definition.{Definition}
-use Rattle.spl_circuit.specs.declared.act.Act.{Act}
-use Rattle.spl_circuit.specs.declared.lifecycle.Mark.{Mark}
 use Rattle.spl_circuit.specs.Forms.{node_id, circuit_id, definition}
-use Rattle.spl_circuit.specs.Nodes.{Node, position}
+use Rattle.spl_circuit.specs.Nodes.{NodeId, position}
 use Rattle.spl_circuit.specs.Rules.{broken, is_member}
 use Rattle.spl_circuit.specs.Acts.{act_rules}
-use Rattle.spl_command.specs.declared.batch.Batch.{Batch}
 use Rattle.spl_scabbard.specs.Checks.{batch_rules}
 use Rattle.spl_wire.specs.declared.message.Message.{Message}
 use Rattle.spl_wire.specs.declared.message.Message.TheVariants as message
@@ -25,7 +21,7 @@ use Rattle.spl_wire.specs.declared.event.Event.TheVariants as event
 use Rattle.spl_wire.specs.declared.change.Change.{Change}
 use Rattle.spl_wire.specs.Messages.{circuit_of}
 use Rattle.spl_wire.specs.Bounds.{has_form, is_formed}
-use Rattle.spl_rules.specs.Cells.{Cell, Empty, Held, Purged, admin_group, service_group, is_open, runs}
+use Rattle.spl_rules.specs.Cells.{Bound, Cell, Held, Site, admin_group, service_group, is_open, is_active_here}
 use Rattle.spl_rules.specs.Changes.{may_serve}
 
 -- what a cell keeps of a group: each committed and promised value had a good check, and the numbers are in their bounds
@@ -43,55 +39,49 @@ pub record AllMeet {V : Type 0} (may : V → Bool) (a : Member V) : Type 0 where
 
 -- a bound cell: its definition is valid, has a byte form and is the circuit's own, and the node is a member; what it keeps
 -- of each group; its acts have byte forms, and its batches break no rule; what was abandoned is active
-pub record IsHeld (here c : Node) (d : Definition) (m : Mark) (a : Member Act) (b : Member Batch) : Type 0 where
-  pub ruled : broken d ≡ None
-  pub defined : IsTrue (definition.fits d)
-  pub own : bytes_eq d.id c ≡ true
-  pub member : is_member d here ≡ true
-  pub acts : IsKeptMember (act_rules d) a
-  pub batches : IsKeptMember batch_rules b
-  pub formed : AllMeet has_form a
-  pub lawful : AllMeet may_serve b
-  pub closed : is_open m ≡ false → runs d a ≡ true
+pub record IsHeld (site : Site) (h : Bound) : Type 0 where
+  pub ruled : broken h.definition ≡ None
+  pub defined : IsTrue (definition.fits h.definition)
+  pub own : bytes_eq h.definition.id site.circuit ≡ true
+  pub member : is_member h.definition site.here ≡ true
+  pub acts : IsKeptMember (act_rules h.definition) h.acts
+  pub batches : IsKeptMember batch_rules h.batches
+  pub formed : AllMeet has_form h.acts
+  pub lawful : AllMeet may_serve h.batches
+  pub closed : is_open h.mark ≡ false → is_active_here h ≡ true
 
-abbrev pub IsKept : Node → Node → Cell → Type 0
-IsKept here c Empty = Unit {0}
-IsKept here c (Purged old) = Unit {0}
-IsKept here c (Held d m turn a b) = IsHeld here c d m a b
+abbrev pub IsKept : Site → Cell → Type 0
+IsKept site (Held h) = IsHeld site h
+IsKept site _ = Unit {0}
 
 -- in each group no round is open, or one is as it has to be
-abbrev pub IsSettledCell : Node → Cell → Type 0
-IsSettledCell here Empty = Unit {0}
-IsSettledCell here (Purged old) = Unit {0}
-IsSettledCell here (Held d m turn a b) = IsSettled (admin_group d) (position d.members here) a × IsSettled (service_group d) (position d.members here) b
+abbrev pub IsSettledCell : NodeId → Cell → Type 0
+IsSettledCell here (Held h) = IsSettled (admin_group h.definition) (position h.definition.members here) h.acts × IsSettled (service_group h.definition) (position h.definition.members here) h.batches
+IsSettledCell here _ = Unit {0}
 
-pub record IsValid (here c : Node) (k : Cell) : Type 0 where
-  pub kept : IsKept here c k
-  pub settled : IsSettledCell here k
+pub record IsValid (site : Site) (k : Cell) : Type 0 where
+  pub kept : IsKept site k
+  pub settled : IsSettledCell site.here k
 
 -- a move where there is no group
 abbrev pub is_no_move : OpenMove → Bool
 is_no_move move.Keep = true
-is_no_move (move.Begin r) = false
-is_no_move (move.Yes i) = false
 is_no_move move.Close = true
+is_no_move _ = false
 
 -- the moves of the two groups fit where they can be made and leave the cell settled
-abbrev pub FitsMoveAt : Node → Cell → OpenMove → OpenMove → Type 0
-FitsMoveAt here Empty x y = (is_no_move x ≡ true) × (is_no_move y ≡ true)
-FitsMoveAt here (Purged old) x y = (is_no_move x ≡ true) × (is_no_move y ≡ true)
-FitsMoveAt here (Held d m turn a b) x y = FitsMove (admin_group d) (position d.members here) a x × FitsMove (service_group d) (position d.members here) b y
+abbrev pub FitsMoveAt : NodeId → Cell → OpenMove → OpenMove → Type 0
+FitsMoveAt here (Held h) x y = FitsMove (admin_group h.definition) (position h.definition.members here) h.acts x × FitsMove (service_group h.definition) (position h.definition.members here) h.batches y
+FitsMoveAt here _ x y = (is_no_move x ≡ true) × (is_no_move y ≡ true)
 
 -- ---- what comes and goes
 
 -- the value in the body, if there is one, meets a test
 abbrev pub carries : {V : Type 0} → (V → Bool) → CommitMsg V → Bool
 carries may (msg.VoteRequest gen r place v) = may v
-carries may (msg.Vote gen r aye) = true
-carries may (msg.Decision gen r commit) = true
-carries may (msg.DecisionRequest gen r) = true
 carries may (msg.Forward gen v) = may v
 carries may (msg.Refused gen v why) = may v
+carries may _ = true
 
 -- a message that a cell may hear: its ids aren't longer than a byte form has them, and the act in it has a byte form, or
 -- the batch in it breaks no rule
@@ -108,28 +98,13 @@ abbrev pub are_formed : List Change → Bool
 are_formed xs = list_all is_formed xs
 
 -- the ids of the node and of the circuit have byte forms
-pub record IsNamed (here c : Node) : Type 0 where
-  pub node : IsTrue (node_id.fits here)
-  pub circuit : IsTrue (circuit_id.fits c)
+pub record IsNamed (site : Site) : Type 0 where
+  pub node : IsTrue (node_id.fits site.here)
+  pub circuit : IsTrue (circuit_id.fits site.circuit)
 
 -- an event at the circuit's cell: what is proposed has its id, and a byte form; a message is about it, comes from another
 -- node, and is one that a cell may hear
-abbrev pub IsFor : Node → Node → Event → Type 0
-IsFor here c (event.Propose d) = (bytes_eq d.id c ≡ true) × IsTrue (definition.fits d)
-IsFor here c (event.Vote accept) = Unit {0}
-IsFor here c event.Remove = Unit {0}
-IsFor here c event.Abandon = Unit {0}
-IsFor here c event.Purge = Unit {0}
-IsFor here c (event.Submit v) = Unit {0}
-IsFor here c event.Show = Unit {0}
-IsFor here c event.Detail = Unit {0}
-IsFor here c event.Root = Unit {0}
-IsFor here c event.History = Unit {0}
-IsFor here c (event.Get address) = Unit {0}
-IsFor here c (event.List prefix) = Unit {0}
-IsFor here c (event.Status i) = Unit {0}
-IsFor here c (event.Receipt i) = Unit {0}
-IsFor here c (event.Route from s t) = Unit {0}
-IsFor here c event.Tick = Unit {0}
-IsFor here c event.Expire = Unit {0}
-IsFor here c (event.Deliver from x) = (bytes_eq (circuit_of x) c ≡ true) × (bytes_eq from here ≡ false) × (is_legal x ≡ true)
+abbrev pub IsFor : Site → Event → Type 0
+IsFor site (event.Propose d) = (bytes_eq d.id site.circuit ≡ true) × IsTrue (definition.fits d)
+IsFor site (event.Deliver from x) = (bytes_eq (circuit_of x) site.circuit ≡ true) × (bytes_eq from site.here ≡ false) × (is_legal x ≡ true)
+IsFor site _ = Unit {0}

@@ -8,12 +8,11 @@ ghost use Rattle.spl_wire.specs.Changes.{change_form};
 ghost use Rattle.spl_wire.specs.Forms.{record_form};
 ghost use Rattle.spl_wire.specs.Bounds.{IsWritable, IsSendable, AllSendable, is_formed};
 ghost use Rattle.spl_wire.specs.Grouping.{grouped, is_sized};
-ghost use Rattle.spl_circuit.specs.Nodes.{Node};
 ghost use Rattle.spl_wire.specs.declared.event.Event.{Event};
 ghost use Rattle.spl_wire.specs.declared.answer.Refusal.{Refusal};
 ghost use Rattle.spl_wire.specs.declared.answer.Answer.{Answer as Told};
 ghost use Rattle.spl_wire.specs.declared.answer.Answer.TheVariants as answer;
-ghost use Rattle.spl_rules.specs.Cells.{Cell, Empty, Refuses, Tells};
+ghost use Rattle.spl_rules.specs.Cells.{Cell, Empty, Site, Refuses, Tells};
 ghost use Rattle.spl_rules.specs.Events.{does};
 ghost use Rattle.spl_rules.specs.Plans.{plan_of};
 ghost use Rattle.spl_rules.specs.Changes.{made, applied, applied_one, moved_cell, stopped_cell, after_plan};
@@ -27,18 +26,18 @@ ghost use Rattle.spl_agree.specs.declared.event.OpenMove.{OpenMove};
 /// An event that is refused changes nothing and sends nothing; one that only tells something does
 /// neither.
 pub fn refusals_change_nothing()
-    ensures refused { (here c : Node) (k : Cell) (e : Event) (r : Refusal) → does here c k e ≡ Refuses r → ((plan_of here c k e).answer ≡ answer.Refused r) × (after_plan here k (plan_of here c k e) ≡ k) × ((plan_of here c k e).sends ≡ []) }
-    ensures told { (here c : Node) (k : Cell) (e : Event) (a : Told) → does here c k e ≡ Tells a → (after_plan here k (plan_of here c k e) ≡ k) × ((plan_of here c k e).sends ≡ []) }
+    ensures refused { (site : Site) (k : Cell) (e : Event) (r : Refusal) → does site k e ≡ Refuses r → ((plan_of site k e).answer ≡ answer.Refused r) × (after_plan site.here k (plan_of site k e) ≡ k) × ((plan_of site k e).sends ≡ []) }
+    ensures told { (site : Site) (k : Cell) (e : Event) (a : Told) → does site k e ≡ Tells a → (after_plan site.here k (plan_of site k e) ≡ k) × ((plan_of site k e).sends ≡ []) }
 {}
 
 /// What a cell keeps: it is valid at first; a change whose definition or act has a byte form keeps
 /// what a cell keeps, whether it fits or not, and moves that fit leave the cell valid; a stop leaves
 /// it valid.
 pub fn cells_stay_valid()
-    ensures empty { (here c : Node) → IsValid here c Empty }
-    ensures change { (here c : Node) (k : Cell) (x : Change) → is_formed x ≡ true → IsKept here c k → IsKept here c (applied_one here c k x) }
-    ensures moves { (here c : Node) (k : Cell) (x y : OpenMove) → IsKept here c k → FitsMoveAt here k x y → IsValid here c (moved_cell here k x y) }
-    ensures stop { (here c : Node) (k : Cell) → IsKept here c k → IsValid here c (stopped_cell k) }
+    ensures empty { (site : Site) → IsValid site Empty }
+    ensures change { (site : Site) (k : Cell) (x : Change) → is_formed x ≡ true → IsKept site k → IsKept site (applied_one site k x) }
+    ensures moves { (site : Site) (k : Cell) (x y : OpenMove) → IsKept site k → FitsMoveAt site.here k x y → IsValid site (moved_cell site.here k x y) }
+    ensures stop { (site : Site) (k : Cell) → IsKept site k → IsValid site (stopped_cell k) }
 {}
 
 /// The definitions and the acts of a record that has a byte form, as each does that is read, have
@@ -50,37 +49,37 @@ pub fn records_are_formed()
 /// At a valid cell each change of a plan fits behind those before it, and the moves fit behind
 /// them; so the cell behind a plan is valid. Each message of a plan is one that a cell may hear.
 pub fn plans_fit_cells()
-    ensures changes { (here c : Node) (k : Cell) (e : Event) → IsNamed here c → IsFor here c e → IsValid here c k → applied here c k (plan_of here c k e).changes ≡ made here k (plan_of here c k e).changes }
-    ensures moves { (here c : Node) (k : Cell) (e : Event) → IsNamed here c → IsFor here c e → IsValid here c k → FitsMoveAt here (made here k (plan_of here c k e).changes) (plan_of here c k e).admin (plan_of here c k e).service }
-    ensures valid { (here c : Node) (k : Cell) (e : Event) → IsNamed here c → IsFor here c e → IsValid here c k → IsValid here c (after_plan here k (plan_of here c k e)) }
-    ensures legal { (here c : Node) (k : Cell) (e : Event) → IsNamed here c → IsFor here c e → IsValid here c k → are_legal (plan_of here c k e).sends ≡ true }
+    ensures changes { (site : Site) (k : Cell) (e : Event) → IsNamed site → IsFor site e → IsValid site k → applied site k (plan_of site k e).changes ≡ made site.here k (plan_of site k e).changes }
+    ensures moves { (site : Site) (k : Cell) (e : Event) → IsNamed site → IsFor site e → IsValid site k → FitsMoveAt site.here (made site.here k (plan_of site k e).changes) (plan_of site k e).admin (plan_of site k e).service }
+    ensures valid { (site : Site) (k : Cell) (e : Event) → IsNamed site → IsFor site e → IsValid site k → IsValid site (after_plan site.here k (plan_of site k e)) }
+    ensures legal { (site : Site) (k : Cell) (e : Event) → IsNamed site → IsFor site e → IsValid site k → are_legal (plan_of site k e).sends ≡ true }
 {}
 
 /// At a valid cell the changes of a plan make a record that can be written, of at most 64 changes
 /// and of 1 to 16,384 bytes. Each message of a plan can be written, and has at most 16,384 bytes;
 /// so has every message that a cell may hear.
 pub fn plans_have_bounds()
-    ensures writable { (here c : Node) (k : Cell) (e : Event) → IsNamed here c → IsFor here c e → IsValid here c k → IsWritable c (plan_of here c k e).changes }
-    ensures formed { (here c : Node) (k : Cell) (e : Event) → IsNamed here c → IsFor here c e → IsValid here c k → are_formed (plan_of here c k e).changes ≡ true }
-    ensures sends { (here c : Node) (k : Cell) (e : Event) → IsNamed here c → IsFor here c e → IsValid here c k → AllSendable (plan_of here c k e).sends }
+    ensures writable { (site : Site) (k : Cell) (e : Event) → IsNamed site → IsFor site e → IsValid site k → IsWritable site.circuit (plan_of site k e).changes }
+    ensures formed { (site : Site) (k : Cell) (e : Event) → IsNamed site → IsFor site e → IsValid site k → are_formed (plan_of site k e).changes ≡ true }
+    ensures sends { (site : Site) (k : Cell) (e : Event) → IsNamed site → IsFor site e → IsValid site k → AllSendable (plan_of site k e).sends }
     ensures message { (m : Message) → is_legal m ≡ true → IsSendable m }
 {}
 
 /// The changes of the packed form of a valid cell can be written.
 pub fn packed_cells_have_a_form()
-    ensures { (here c : Node) (k : Cell) → IsKept here c k → IsTrue (list_all change_form.bounded (packed k)) }
+    ensures { (site : Site) (k : Cell) → IsKept site k → IsTrue (list_all change_form.bounded (packed k)) }
 {}
 
 /// The packed form of a cell makes that cell of an empty one, for every cell that changes have made
 /// of an empty one, whoever wrote them. Open rounds aren't packed.
 pub fn packed_cells_are_made_again()
-    ensures again { (here c : Node) (xs : List Change) → applied here c Empty (packed (applied here c Empty xs)) ≡ applied here c Empty xs }
+    ensures again { (site : Site) (xs : List Change) → applied site Empty (packed (applied site Empty xs)) ≡ applied site Empty xs }
     ensures stopped { (k : Cell) → packed (stopped_cell k) ≡ packed k }
 {}
 
 /// Where the changes have byte forms, so have those of the packed form of the cell that they make,
 /// and each of its records has at most 64 changes and 16,384 bytes.
 pub fn packed_records_are_bounded()
-    ensures written { (here c : Node) (xs : List Change) → IsTrue (list_all change_form.fits xs) → IsTrue (list_all change_form.fits (packed (applied here c Empty xs))) }
-    ensures sized { (here c : Node) (xs : List Change) → IsTrue (circuit_id.fits c) → IsTrue (list_all change_form.fits xs) → list_all (is_sized c) (grouped c (packed (applied here c Empty xs))) ≡ true }
+    ensures written { (site : Site) (xs : List Change) → IsTrue (list_all change_form.fits xs) → IsTrue (list_all change_form.fits (packed (applied site Empty xs))) }
+    ensures sized { (site : Site) (xs : List Change) → IsTrue (circuit_id.fits site.circuit) → IsTrue (list_all change_form.fits xs) → list_all (is_sized site.circuit) (grouped site.circuit (packed (applied site Empty xs))) ≡ true }
 {}

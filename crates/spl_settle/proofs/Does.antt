@@ -19,8 +19,7 @@ use Rattle.spl_group.proofs.Sends.{AllSends}
 abbrev pub IsCalmEvent : {V : Type 0} → ℕ → GroupEvent V → Type 0
 IsCalmEvent here event.Tick = Unit {0}
 IsCalmEvent here (event.From a m) = a ≢ here
-IsCalmEvent here event.Expire = ⊥
-IsCalmEvent here (event.Submit v) = ⊥
+IsCalmEvent here _ = ⊥
 
 -- at a member that is not the coordinator
 pub data SeatDoes {V : Type 0} (g : Group V) (here : ℕ) (m : Member V) (e : GroupEvent V) (p : GroupPlan V) : Type 0 where
@@ -83,17 +82,13 @@ seat-message g here m a (msg.Refused gen v reason) d = if_holds (SeatDoes g here
 pub seat-does : {V : Type 0} (g : Group V) (here : ℕ) (m : Member V) (e : GroupEvent V) → here ≢ g.coordinator → IsCalmEvent here e → SeatDoes g here m e (row g here m e)
 seat-does g here m event.Tick d q = if_holds (SeatDoes g here m event.Tick) (here == g.coordinator) _ _ (λ p. absurd (d (eqb_is here g.coordinator p))) (λ p. seat-tick g here m event.Tick m.promise)
 seat-does g here m (event.From a x) d q = seat-message g here m a x d
-seat-does g here m event.Expire d q = absurd q
-seat-does g here m (event.Submit v) d q = absurd q
+seat-does g here m _ d q = absurd q
 
 -- a request is about the open round
 abbrev pub IsAsked : {V : Type 0} → Option (ℕ × List ℕ) → CommitMsg V → Type 0
 IsAsked o (msg.VoteRequest gen r place v) = (missing : List ℕ) × (o ≡ Some (r, missing))
-IsAsked o (msg.Vote gen r aye) = Unit {0}
-IsAsked o (msg.Decision gen r commit) = Unit {0}
-IsAsked o (msg.DecisionRequest gen r) = Unit {0}
 IsAsked o (msg.Forward gen v) = ⊥
-IsAsked o (msg.Refused gen v reason) = Unit {0}
+IsAsked o _ = Unit {0}
 
 -- at the coordinator
 pub data LeadDoes {V : Type 0} (g : Group V) (m : Member V) (e : GroupEvent V) (p : GroupPlan V) : Type 0 where
@@ -185,5 +180,4 @@ lead-message g m a (msg.Refused gen v reason) d = if_holds (LeadDoes g m (event.
 pub lead-does : {V : Type 0} (g : Group V) (m : Member V) (e : GroupEvent V) → IsCalmEvent g.coordinator e → LeadDoes g m e (row g g.coordinator m e)
 lead-does g m event.Tick q = if_holds (LeadDoes g m event.Tick) (g.coordinator == g.coordinator) _ _ (λ p. lead-tick g m event.Tick m.opened refl) (λ p. absurd (eqb_not g.coordinator g.coordinator p refl))
 lead-does g m (event.From a x) q = lead-message g m a x q
-lead-does g m event.Expire q = absurd q
-lead-does g m (event.Submit v) q = absurd q
+lead-does g m _ q = absurd q

@@ -66,11 +66,7 @@ early-seat {V} g v k here e d ready n early = record {
 
 pub asked-none : {V : Type 0} (o : Option (ℕ × List ℕ)) (r : ℕ) → o ≡ None → (m : CommitMsg V) → IsAsked o m → IsOther r m → ⊥
 asked-none o r e (msg.VoteRequest gen q place v) a n = let z : ◌≡◌ {A = Option (ℕ × List ℕ)} None (Some (q, a.0)) = sym e ∙ a.1 in cc
-asked-none o r e (msg.Vote gen q aye) a n = n
-asked-none o r e (msg.Decision gen q commit) a n = n
-asked-none o r e (msg.DecisionRequest gen q) a n = n
-asked-none o r e (msg.Forward gen v) a n = n
-asked-none o r e (msg.Refused gen v reason) a n = n
+asked-none o r e _ a n = n
 
 pub none_left-below_but : {V : Type 0} (g : Group V) → 2 ≤ g.members → none_left (others g g.coordinator) ≡ false
 none_left-below_but {V} g two = go (others g g.coordinator) (pick (bool_cases (eqb g.coordinator 0)))

@@ -22,11 +22,7 @@ use Rattle.spl_settle.proofs.Leading.{sends-more}
 
 abbrev pub IsForward : {V : Type 0} → CommitMsg V → Type 0
 IsForward (msg.Forward gen v) = Unit {0}
-IsForward (msg.VoteRequest gen r place v) = ⊥
-IsForward (msg.Vote gen r aye) = ⊥
-IsForward (msg.Decision gen r commit) = ⊥
-IsForward (msg.DecisionRequest gen r) = ⊥
-IsForward (msg.Refused gen v reason) = ⊥
+IsForward _ = ⊥
 
 -- no forward among the sends
 abbrev pub ForwardsNone : {V : Type 0} → GroupPlan V → Type 0
@@ -72,8 +68,7 @@ none-message g here m a (msg.Refused gen v reason) d = if_holds ForwardsNone (a 
 pub none-row : {V : Type 0} (g : Group V) (here : ℕ) (m : Member V) (e : GroupEvent V) → here ≢ g.coordinator → IsCalmEvent here e → m.pending ≡ [] → ForwardsNone (row g here m e)
 none-row g here m event.Tick d c e = if_holds ForwardsNone (here == g.coordinator) _ _ (λ q. absurd (d (eqb_is here g.coordinator q))) (λ q. none-tick g m m.promise m.pending refl e)
 none-row g here m (event.From a x) d c e = none-message g here m a x d
-none-row g here m event.Expire d c e = absurd c
-none-row g here m (event.Submit v) d c e = absurd c
+none-row g here m _ d c e = absurd c
 
 -- nothing is pending, no round is open, and no forward is on its way
 pub record Idle {V : Type 0} (g : Group V) (h : List (ℕ × V)) (k : Calm V) : Type 0 where
@@ -84,11 +79,7 @@ pub record Idle {V : Type 0} (g : Group V) (h : List (ℕ × V)) (k : Calm V) : 
 
 pub asked-forward : {V : Type 0} (o : Option (ℕ × List ℕ)) (m : CommitMsg V) → IsAsked o m → IsForward m → ⊥
 asked-forward o (msg.Forward gen v) a f = a
-asked-forward o (msg.VoteRequest gen r place v) a f = f
-asked-forward o (msg.Vote gen r aye) a f = f
-asked-forward o (msg.Decision gen r commit) a f = f
-asked-forward o (msg.DecisionRequest gen r) a f = f
-asked-forward o (msg.Refused gen v reason) a f = f
+asked-forward o _ a f = f
 
 pub none-due : {V : Type 0} (g : Group V) (k : Calm V) (here : ℕ) (e : GroupEvent V) (d : ℕ → ℕ → List (CommitMsg V)) → MayMove g k here e d → ((a b : ℕ) → AnyOf IsForward (k.due a b) → ⊥) → ForwardsNone (row g here (k.world.at here) e) → (a b : ℕ) → AnyOf IsForward ((move g k here e d).due a b) → ⊥
 none-due {V} g k here e d may none all a b h = go (mailed-cases IsForward d here (row g here (k.world.at here) e).sends a b h)

@@ -31,8 +31,7 @@ pub record Base {V : Type 0} (g : Group V) (v : V) (k : Calm V) : Type 0 where
 pub ready-event : {V : Type 0} (g : Group V) (k : Calm V) (here : ℕ) (e : GroupEvent V) (d : ℕ → ℕ → List (CommitMsg V)) → MayMove g k here e d → IsCalmEvent here e
 ready-event g k here event.Tick d may = tt
 ready-event g k here (event.From a m) d may = may.1
-ready-event g k here event.Expire d may = may
-ready-event g k here (event.Submit v) d may = may
+ready-event g k here _ d may = may
 
 -- the message of a move was sent
 pub came-was : {V : Type 0} (g : Group V) (v : V) (k : Calm V) (a here : ℕ) (m : CommitMsg V) (d : ℕ → ℕ → List (CommitMsg V)) → Ready g k here (event.From a m) d → Base g v k → Was (record { from = a; to = here; message = m }) k.world.sent
@@ -42,10 +41,8 @@ pub ready-may : {V : Type 0} (g : Group V) (v : V) (k : Calm V) (here : ℕ) (e 
 ready-may {V} g v k here e d ready b = go e ready.may
   where
     go : (x : GroupEvent V) → MayMove g k here x d → MayHappen g k.world here x
-    go event.Tick may = tt
     go (event.From a m) may = may_come-sent g k.world (record { from = a; to = here; message = m }) may.1 (came-was g v k a here m d (record { member = ready.member; may = may }) b) b.agrees
-    go event.Expire may = tt
-    go (event.Submit u) may = tt
+    go _ may = tt
 
 -- nothing new stands on a pair before the sends
 pub due-old : {V : Type 0} (g : Group V) (k : Calm V) (here : ℕ) (e : GroupEvent V) (d : ℕ → ℕ → List (CommitMsg V)) (P : CommitMsg V → Type 0) (a b : ℕ) → MayMove g k here e d → AnyOf P (d a b) → AnyOf P (k.due a b)

@@ -26,11 +26,7 @@ none-other r m h = h.0 h.1
 
 pub asked-other : {V : Type 0} (o : Option (ℕ × List ℕ)) (r : ℕ) (missing : List ℕ) → o ≡ Some (r, missing) → (m : CommitMsg V) → IsAsked o m → IsOther r m → ⊥
 asked-other o r missing e (msg.VoteRequest gen q place v) a n = n (same_pair q r a.0 missing (sym a.1 ∙ e)).0
-asked-other o r missing e (msg.Vote gen q aye) a n = n
-asked-other o r missing e (msg.Decision gen q commit) a n = n
-asked-other o r missing e (msg.DecisionRequest gen q) a n = n
-asked-other o r missing e (msg.Forward gen v) a n = n
-asked-other o r missing e (msg.Refused gen v reason) a n = n
+asked-other o r missing e _ a n = n
 
 pub sends-more : {V : Type 0} (P Q : CommitMsg V → Type 0) → ((m : CommitMsg V) → P m → Q m) → (ss : List (ℕ × CommitMsg V)) → AllSends P ss → AllSends Q ss
 sends-more P Q f [] a = tt

@@ -20,11 +20,7 @@ use Rattle.spl_settle.proofs.Moves.{MayMove, Ready, IsKept, mailed-cases}
 -- a request about another round than this one
 abbrev pub IsOther : {V : Type 0} → ℕ → CommitMsg V → Type 0
 IsOther r (msg.VoteRequest gen q place v) = q ≢ r
-IsOther r (msg.Vote gen q aye) = ⊥
-IsOther r (msg.Decision gen q commit) = ⊥
-IsOther r (msg.DecisionRequest gen q) = ⊥
-IsOther r (msg.Forward gen v) = ⊥
-IsOther r (msg.Refused gen v reason) = ⊥
+IsOther r _ = ⊥
 
 abbrev pub missing_of : Option (ℕ × List ℕ) → List ℕ
 missing_of None = []

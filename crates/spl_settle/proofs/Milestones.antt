@@ -1,5 +1,5 @@
 -- One milestone a pass, until the value is settled.
-use Rattle.std.proofs.Common.{◌≡◌, ◌≢◌, ℕ, suc, ◌-◌, ◌^◌, ◌<◌, ◌≤◌, ◌⊎◌, true, false, ◌||◌, eqb, List, [], ◌∷◌, length, refl, sym, subst, inl, inr, arith}
+use Rattle.std.proofs.Common.{◌≡◌, ◌≢◌, ℕ, suc, ◌-◌, ◌^◌, ◌<◌, ◌≤◌, ◌⊎◌, true, false, ◌||◌, eqb, List, ◌∷◌, length, refl, sym, subst, inl, inr, arith}
 use Rattle.std.specs.Prelude.{Option, Some, None}
 use Rattle.spl_agree.specs.Member.{Group, has_round, found, is_spent}
 use Rattle.spl_agree.specs.World.{World}
@@ -121,9 +121,4 @@ pub orders-settle : {V : Type 0} (g : Group V) (w : World V) (v : V) (rest : Lis
 orders-settle g w v rest (o1 ∷ o2 ∷ o3 ∷ o4 ∷ o5 ∷ o6 ∷ os) f l fit first =
     settled-is g v (passes g (o1 ∷ o2 ∷ o3 ∷ o4 ∷ o5 ∷ o6 ∷ os) (begins w)) (kept-passes g (IsSettled g v) (kept-settled g fit.keyed v) os f.1.1.1.1.1.1 (pass g o6 (pass g o5 (pass g o4 (pass g o3 (pass g o2 (pass g o1 (begins w)))))))
     (six-settle g fit.keyed fit.two fit.leads v (begins w) o1 o2 o3 o4 o5 o6 f.0 f.1.0 f.1.1.0 f.1.1.1.0 f.1.1.1.1.0 f.1.1.1.1.1.0 (fit-starts g w v rest fit first)))
-orders-settle g w v rest [] f l fit first = absurd (omega (arith, l))
-orders-settle g w v rest (o1 ∷ []) f l fit first = absurd (omega (arith, l))
-orders-settle g w v rest (o1 ∷ o2 ∷ []) f l fit first = absurd (omega (arith, l))
-orders-settle g w v rest (o1 ∷ o2 ∷ o3 ∷ []) f l fit first = absurd (omega (arith, l))
-orders-settle g w v rest (o1 ∷ o2 ∷ o3 ∷ o4 ∷ []) f l fit first = absurd (omega (arith, l))
-orders-settle g w v rest (o1 ∷ o2 ∷ o3 ∷ o4 ∷ o5 ∷ []) f l fit first = absurd (omega (arith, l))
+orders-settle g w v rest _ f l fit first = absurd (omega (arith, l))

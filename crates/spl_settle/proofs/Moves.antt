@@ -118,8 +118,7 @@ wanted-kept {V} g P a b k here e d ready h = go e ready.may (λ x. mailed-keeps 
     go : (x : GroupEvent V) → MayMove g k here x d → (AnyOf P (d a b) → AnyOf P ((move g k here e d).due a b)) → AnyOf P ((move g k here e d).due a b) ⊎ ((m : CommitMsg V) × (P m × ((here ≡ b) × (x ≡ event.From a m))))
     go event.Tick y f = inl (f (subst (λ (z : ℕ → ℕ → List (CommitMsg V)). AnyOf P (z a b)) (sym y) h))
     go (event.From s m) y f = sum (event.From s m) _ f (subst (λ (z : ℕ → ℕ → List (CommitMsg V)). AnyOf P (z a b) ⊎ ((x : CommitMsg V) × (P x × ((here ≡ b) × (event.From s m ≡ event.From a x))))) (sym y.4) (fresh s m y.2 y.3 (left-cases k.due s here y.2 a b)))
-    go event.Expire y f = absurd y
-    go (event.Submit v) y f = absurd y
+    go _ y f = absurd y
 
 -- a fact that is kept holds after each part of a pass
 pub kept-deliver : {V : Type 0} (g : Group V) (P : Calm V → Type 0) → IsKept g P → (a b : ℕ) → a < g.members → b < g.members → a ≢ b → (ds : List (CommitMsg V)) (k : Calm V) → k.due a b ≡ ds → P k → P (delivered g k a b ds)

@@ -26,16 +26,13 @@ reached-more g n at r = record { steady = λ i. steady-more g n (at i) (r.steady
 
 -- what may happen here is fair, where what is submitted is guarded
 abbrev pub IsNew : {V : Type 0} → Group V → Member V → GroupEvent V → Type 0
-IsNew g m event.Tick = Unit {0}
-IsNew g m event.Expire = Unit {0}
 IsNew g m (event.Submit v) = IsFair g 0 m (event.Submit v)
-IsNew g m (event.From a x) = Unit {0}
+IsNew g m _ = Unit {0}
 
 pub fair-event : {V : Type 0} (g : Group V) (w : World V) (here : ℕ) (e : GroupEvent V) → MayHappen g w here e → IsNew g (w.at here) e → IsFair g here (w.at here) e
-fair-event g w here event.Tick may new = tt
-fair-event g w here event.Expire may new = tt
 fair-event g w here (event.Submit v) may new = new
 fair-event g w here (event.From a x) may new = may.other
+fair-event g w here _ may new = tt
 
 -- a request that may come is of a round that was begun
 pub asked-begun : {V : Type 0} (g : Group V) (w : World V) (here r : ℕ) (e : GroupEvent V) → MayHappen g w here e → Asks g r e → r < (w.at g.coordinator).next

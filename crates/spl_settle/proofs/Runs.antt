@@ -51,8 +51,7 @@ kept-ran {V} g w k here e d ready r = record {
     go event.Tick may = runs-more g w k.world (carried_out g k.world here (row g here (k.world.at here) event.Tick)) (Ticks here) tt (acted event.Tick) r.ran
     go (event.From a m) may = let i : (which : ℕ) × (slice_get k.world.sent which ≡ Some (record { from = a; to = here; message = m })) = was-index (record { from = a; to = here; message = m }) k.world.sent (r.was a here m (subst (λ (l : List (CommitMsg V)). AnyOf (λ y. y ≡ m) l) (sym may.3) (inl refl))) in
         runs-more g w k.world (carried_out g k.world here (row g here (k.world.at here) (event.From a m))) (Delivers i.0) tt (ap (λ (o : Option (Sent V)). comes g k.world o) i.1 ∙ came a m may.1) r.ran
-    go event.Expire may = absurd may
-    go (event.Submit v) may = absurd may
+    go _ may = absurd may
 
     sent : (a t : ℕ) (m : CommitMsg V) → AnyOf (λ x. x ≡ m) (d a t) ⊎ ((a ≡ here) × AnyOf (λ x. x ≡ m) (mail t (row g here (k.world.at here) e).sends)) → Was (record { from = a; to = t; message = m }) (posted here (row g here (k.world.at here) e).sends ++ k.world.sent)
     sent a t m (inl x) = was-right (record { from = a; to = t; message = m }) (posted here (row g here (k.world.at here) e).sends) k.world.sent (r.was a t m (due-old g k here e d (λ y. y ≡ m) a t ready.may x))

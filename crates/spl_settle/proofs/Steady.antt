@@ -26,10 +26,9 @@ pub record IsSteady {V : Type 0} (g : Group V) (n : ℕ) (m : Member V) : Type 0
 
 -- what is submitted isn't pending, and a message comes from elsewhere
 abbrev pub IsFair : {V : Type 0} → Group V → ℕ → Member V → GroupEvent V → Type 0
-IsFair g here m event.Tick = Unit {0}
-IsFair g here m event.Expire = Unit {0}
 IsFair g here m (event.Submit v) = found (g.rules.same_key v) m.pending ≡ None
 IsFair g here m (event.From a x) = a ≢ here
+IsFair g here m _ = Unit {0}
 
 -- no round is open
 pub not_open : (o : ℕ × List ℕ) → ◌≡◌ {A = Option (ℕ × List ℕ)} None (Some o) → ⊥

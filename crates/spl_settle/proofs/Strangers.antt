@@ -50,7 +50,6 @@ stranger-leaves {V} g here m a x lc l = go x
     go : (y : CommitMsg V) → LeavesBe g here m a (row g here m (event.From a y))
     go (msg.VoteRequest gen r place v) = if_false (LeavesBe g here m a) (a == g.coordinator) _ _ other (record { same = refl; back = (refl, tt) })
     go (msg.Vote gen r aye) = be-vote g here m a r m.opened aye none
-    go (msg.Decision gen r commit) = if_false (LeavesBe g here m a) (a == g.coordinator) _ _ other (record { same = refl; back = tt })
     go (msg.DecisionRequest gen r) = if_holds (LeavesBe g here m a) (here == g.coordinator && has a (others g here)) _ _ (λ q. absurd (let z : has a (others g here) ≡ true = and_right (here == g.coordinator) (has a (others g here)) q in let y : has a (others g here) ≡ false = none in cc)) (λ q. record { same = refl; back = tt })
     go (msg.Forward gen v) = if_holds (LeavesBe g here m a) (here == g.coordinator) _ _ (λ q. if_false (LeavesBe g here m a) (has a (others g here)) _ _ none (record { same = refl; back = tt })) (λ q. be-strayed g here m a v (g.rules.stray v))
-    go (msg.Refused gen v reason) = if_false (LeavesBe g here m a) (a == g.coordinator) _ _ other (record { same = refl; back = tt })
+    go _ = if_false (LeavesBe g here m a) (a == g.coordinator) _ _ other (record { same = refl; back = tt })

@@ -1,7 +1,7 @@
 -- What a calm gives, and what it needs.
 use Rattle.std.specs.Prelude.{◌≡◌, ◌≢◌, ℕ, ◌-◌, ◌^◌, ◌<◌, ◌≤◌, ◌⊎◌, true, false, List, [], ◌∷◌, length, Some, None}
 use Rattle.spl_agree.specs.Member.{Rules, Group, Member, values, has, found, none_left}
-use Rattle.spl_agree.specs.World.{World, Happening, Ticks, Expires, Submits, Delivers, Strays, Restarts, happens, run}
+use Rattle.spl_agree.specs.World.{World, Happening, Ticks, Submits, Delivers, happens, run}
 use Rattle.spl_agree.specs.Agreement.{Agrees}
 
 -- one of them is such
@@ -56,11 +56,7 @@ pub record IsFit {V : Type 0} (g : Group V) (w : World V) : Type 0 where
 -- what is submitted has a key that isn't pending there
 abbrev pub IsGuarded : {V : Type 0} → Group V → World V → Happening V → Type 0
 IsGuarded g w (Submits here v) = found (g.rules.same_key v) (w.at here).pending ≡ None
-IsGuarded g w (Ticks here) = Unit {0}
-IsGuarded g w (Expires here) = Unit {0}
-IsGuarded g w (Delivers which) = Unit {0}
-IsGuarded g w (Strays here sender m) = Unit {0}
-IsGuarded g w (Restarts here) = Unit {0}
+IsGuarded g w _ = Unit {0}
 
 abbrev pub AllGuarded : {V : Type 0} → Group V → World V → List (Happening V) → Type 0
 AllGuarded g w [] = Unit {0}
@@ -70,10 +66,7 @@ AllGuarded g w (e ∷ es) = IsGuarded g w e × AllGuarded g (happens g w e) es
 abbrev pub IsQuiet : {V : Type 0} → Happening V → Type 0
 IsQuiet (Ticks here) = Unit {0}
 IsQuiet (Delivers which) = Unit {0}
-IsQuiet (Submits here v) = ⊥
-IsQuiet (Expires here) = ⊥
-IsQuiet (Strays here sender m) = ⊥
-IsQuiet (Restarts here) = ⊥
+IsQuiet _ = ⊥
 
 abbrev pub AllQuiet : {V : Type 0} → List (Happening V) → Type 0
 AllQuiet [] = Unit {0}

@@ -13,7 +13,7 @@ use Rattle.spl_model.specs.Worlds.{World as CircuitWorld, Sent, on_pair, step_pl
 use Rattle.spl_model.specs.Puts.{put_at-here, put_at-other}
 use Rattle.spl_model.specs.Projection.{Ran, lines_fit, names, names_circuit}
 use Rattle.spl_model.specs.Answers.{line_world}
-use Rattle.spl_model.proofs.Lines.{fit-append}
+use Rattle.spl_model.proofs.LinesAsOccurrences.{fit-append}
 use Rattle.spl_projection.specs.Whole.{world_beside, whole_world}
 use Rattle.spl_projection.specs.Apart.{moves-own, moves-beside}
 use Rattle.spl_world.specs.Kept.{NodeView, place_of, sent_to}

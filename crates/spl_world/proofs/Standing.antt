@@ -12,7 +12,7 @@ use Rattle.spl_model.specs.Worlds.{World as CircuitWorld, step_plan}
 use Rattle.spl_model.specs.Projection.{Ran, lines_fit, names, names_circuit}
 use Rattle.spl_model.specs.Outcomes.{by_rule, keeps_record}
 use Rattle.spl_model.specs.Answers.{line_world, answer_to}
-use Rattle.spl_model.proofs.Lines.{fit-append}
+use Rattle.spl_model.proofs.LinesAsOccurrences.{fit-append}
 use Rattle.spl_projection.specs.Whole.{world_beside, whole_world}
 use Rattle.spl_projection.specs.Apart.{moves-own, moves-beside}
 use Rattle.spl_projection.proofs.Owns.{answer-whole}

@@ -10,12 +10,12 @@ use Rattle.spl_rules.proofs.plans_fit_cells.Goals as goal
 
 pub returns : goal.returns
 returns g = record {
-  changes = λ here c k e n own s. (fitting-planned here c k (does here c k e) s (fits-does here c k e n own s.kept)).changes;
-  moves = λ here c k e n own s. (fitting-planned here c k (does here c k e) s (fits-does here c k e n own s.kept)).moves;
-  valid = λ here c k e n own s.
-      let deed = fits-does here c k e n own s.kept in
-      let fit = fitting-planned here c k (does here c k e) s deed in
-      let formed = (limited-planned here c k (does here c k e) n s deed).formed in
-      valid-moved here c _ (plan_of here c k e).admin (plan_of here c k e).service (subst (IsKept here c) fit.changes (kept-applied here c k (plan_of here c k e).changes formed s.kept)) fit.moves;
-  legal = λ here c k e n own s. legal-planned here c k (does here c k e) n s (fits-does here c k e n own s.kept);
+  changes = λ site k e n own s. (fitting-planned site k (does site k e) s (fits-does site k e n own s.kept)).changes;
+  moves = λ site k e n own s. (fitting-planned site k (does site k e) s (fits-does site k e n own s.kept)).moves;
+  valid = λ site k e n own s.
+      let deed = fits-does site k e n own s.kept in
+      let fit = fitting-planned site k (does site k e) s deed in
+      let formed = (limited-planned site k (does site k e) n s deed).formed in
+      valid-moved site _ (plan_of site k e).admin (plan_of site k e).service (subst (IsKept site) fit.changes (kept-applied site k (plan_of site k e).changes formed s.kept)) fit.moves;
+  legal = λ site k e n own s. legal-planned site k (does site k e) n s (fits-does site k e n own s.kept);
 }

@@ -8,8 +8,8 @@ use Rattle.spl_rules.proofs.plans_have_bounds.Goals as goal
 
 pub returns : goal.returns
 returns g = record {
-  writable = λ here c k e n own s. (limited-planned here c k (does here c k e) n s (fits-does here c k e n own s.kept)).writable;
-  formed = λ here c k e n own s. (limited-planned here c k (does here c k e) n s (fits-does here c k e n own s.kept)).formed;
-  sends = λ here c k e n own s. sendable-all (plan_of here c k e).sends (legal-planned here c k (does here c k e) n s (fits-does here c k e n own s.kept));
+  writable = λ site k e n own s. (limited-planned site k (does site k e) n s (fits-does site k e n own s.kept)).writable;
+  formed = λ site k e n own s. (limited-planned site k (does site k e) n s (fits-does site k e n own s.kept)).formed;
+  sends = λ site k e n own s. sendable-all (plan_of site k e).sends (legal-planned site k (does site k e) n s (fits-does site k e n own s.kept));
   message = sendable-legal;
 }

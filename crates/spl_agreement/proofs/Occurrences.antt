@@ -1,0 +1,236 @@
+-- Whole runs: the coupling holds after each event, and gives the agreement of circuits.
+use Rattle.std.proofs.Common.{◌≡◌, ◌≢◌, ℕ, zero, suc, ◌-◌, ◌⊎◌, Bool, true, false, ◌&&◌, List, [], ◌∷◌, ◌++◌, append-nil, append_assoc, refl, sym, ap, subst, ◌∙◌, inl, inr}
+use Rattle.std.specs.Prelude.{Option, Some, None, if◌then◌else◌, slice_get}
+use Rattle.std.specs.Str.{bytes_eq}
+use Rattle.spl_agree.specs.Member.{Member, values}
+use Rattle.spl_agree.specs.World.{IsPrefixOf}
+use Rattle.spl_agree.proofs.Tests.{if_holds, bool_cases, and_left, and_right}
+use Rattle.spl_agree.specs.Fits.{AllGood}
+use Rattle.spl_circuit.specs.declared.definition.Definition.{Definition}
+use Rattle.spl_circuit.specs.declared.act.Act.{Act}
+use Rattle.spl_circuit.specs.Nodes.{Node, position}
+use Rattle.spl_circuit.specs.Rules.{admin, service}
+use Rattle.spl_circuit.specs.Acts.{act_rules}
+use Rattle.spl_circuit.specs.declared.act.ActKind.TheVariants as kind
+use Rattle.spl_command.specs.declared.batch.Batch.{Batch}
+use Rattle.spl_wire.specs.declared.message.Message.{Message}
+use Rattle.spl_wire.specs.declared.event.Event.{Event}
+use Rattle.spl_wire.specs.declared.event.Event.TheVariants as event
+use Rattle.spl_wire.specs.declared.answer.Refusal.TheVariants as refusal
+use Rattle.spl_wire.specs.declared.plan.Plan.{Plan}
+use Rattle.spl_group.proofs.Agreement.{prefix-agrees}
+use Rattle.spl_rules.specs.Cells.{Cell, Empty, Deed, Refuses}
+use Rattle.spl_rules.specs.Changes.{made, stopped_cell, after_plan}
+use Rattle.spl_rules.specs.Events.{does}
+use Rattle.spl_rules.specs.Plans.{planned}
+use Rattle.spl_sched.specs.declared.line.Step.{Step}
+use Rattle.spl_sched.specs.declared.line.Step.TheVariants as step
+use Rattle.spl_sched.specs.Grammar.{step_node}
+use Rattle.spl_model.proofs.Nodes.{node_is, node_not}
+use Rattle.spl_model.specs.Worlds.{Sent, World, first_world, put_at, on_pair, messages, posted, delivery, step_plan, stopped, started, halted, Occurrence, Steps, Stops, Starts, Halts, happens, occur, world_behind}
+use Rattle.spl_agreement.specs.Lists.{acts_in, batches_in, adds, acts_from, batches_from, act_list, batch_list}
+use Rattle.spl_agreement.proofs.GroupOfDefinition.{GroupMessage, Presence, Away, There, Ever, IsQuiet, SomeWorld, InLane, Lane, group_of}
+use Rattle.spl_agreement.proofs.GroupWorlds.{admin_said, service_said, admin_presence, service_presence, WasSent, IsValid, IsValidCell, InWorld, Others, was-left, admin_lane, service_lane, first_act}
+use Rattle.spl_agreement.proofs.CoupledSteps.{Past, world-messages, world-stop}
+use Rattle.spl_agreement.proofs.DeedsAreSteps.{IsStepOf, IsDue, steps-does}
+use Rattle.spl_agreement.proofs.PendingActsDue.{Apt, apt-does}
+use Rattle.spl_agreement.specs.Agreement.{AtEach, FirstIsProposal, IsPast}
+use Rattle.spl_model.specs.Plain.{IsPlainEvent, IsPlain, IsPlainStep, AllPlain}
+use Rattle.spl_model.proofs.Puts.{put_at-same, put_at-other}
+use Rattle.spl_agreement.proofs.CoupledDeeds.{stopped-moved, added, added-none, world-lists, SomePast, Planned, none-more, put-others, planned-deed}
+
+-- what is on a pair was sent
+pub pair-was : (from to : Node) (ss : List Sent) (k : ℕ) (m : Message) → slice_get (on_pair from to ss) k ≡ Some m → WasSent (record { from = from; to = to; message = m }) ss
+pair-was from to [] k m h = cc
+pair-was from to (s ∷ ss) k m h = go (bool_cases (bytes_eq s.from from && bytes_eq s.to to)) (λ j x. pair-was from to ss j m x)
+  where
+    built : Node → Node → Message → Sent
+    built x y z = record { from = x; to = y; message = z }
+
+    built_is : (x x2 y y2 : Node) (z z2 : Message) → x ≡ x2 → y ≡ y2 → z ≡ z2 → built x y z ≡ built x2 y2 z2
+    built_is x x2 y y2 z z2 p q r = cc
+
+    some_same : (x y : Message) → Some x ≡ Some y → x ≡ y
+    some_same x y e = cc
+
+    first : (j : ℕ) → (bytes_eq s.from from && bytes_eq s.to to) ≡ true → ((i : ℕ) → slice_get (on_pair from to ss) i ≡ Some m → WasSent (record { from = from; to = to; message = m }) ss) → slice_get (s.message ∷ on_pair from to ss) j ≡ Some m → WasSent (record { from = from; to = to; message = m }) (s ∷ ss)
+    first zero q hyp x = inl (built_is from s.from to s.to m s.message (sym (node_is s.from from (and_left (bytes_eq s.from from) (bytes_eq s.to to) q))) (sym (node_is s.to to (and_right (bytes_eq s.from from) (bytes_eq s.to to) q))) (sym (some_same s.message m x)))
+    first (suc j) q hyp x = inr (hyp j x)
+
+    go : ((bytes_eq s.from from && bytes_eq s.to to) ≡ true) ⊎ ((bytes_eq s.from from && bytes_eq s.to to) ≡ false) → ((i : ℕ) → slice_get (on_pair from to ss) i ≡ Some m → WasSent (record { from = from; to = to; message = m }) ss) → WasSent (record { from = from; to = to; message = m }) (s ∷ ss)
+    go (inl q) hyp = first k q hyp (rw q at h)
+    go (inr q) hyp = inr (hyp k (rw q at h))
+
+-- a step is what some fair deed gives
+abbrev pub IsDeed : World → Node → Plan → Type 0
+IsDeed w n p = (deed : Deed) × IsStepOf n w.sent (w.at n) deed × (c : Node) × (p ≡ planned n c deed) × Apt (admin_said w.sent) n deed
+
+-- an event at a node is a fair deed
+pub due-at : (c : Node) (w : World) (n : Node) (e : Event) → IsDue w.sent n e → IsDeed w n (planned n c (does n c (w.at n) e))
+due-at c w n e due = (does n c (w.at n) e, steps-does n c w.sent (w.at n) e due, c, refl, apt-does n c w.sent (w.at n) e due)
+
+-- an event that is no delivery is due
+pub plain-due : (sent : List Sent) (n : Node) (e : Event) → IsPlainEvent e → IsDue sent n e
+plain-due sent n (event.Deliver from m) h = absurd h
+plain-due sent n _ h = tt
+
+-- a delivery is a fair deed
+pub delivery-deed : (c : Node) (w : World) (from to : Node) (k : ℕ) (o : Option Message) → slice_get (messages w from to) k ≡ o → IsDeed w to (delivery c w from to o)
+delivery-deed c w from to k None h = (Refuses refusal.NoMessage, tt, c, refl, tt)
+delivery-deed c w from to k (Some m) h = due-at c w to (event.Deliver from m) (go (bool_cases (bytes_eq from to)))
+  where
+    none_there : (xs : List Message) (j : ℕ) → xs ≡ [] → slice_get xs j ≡ Some m → ⊥
+    none_there [] j e x = cc
+    none_there (y ∷ ys) j e x = cc
+
+    empty : bytes_eq from to ≡ true → messages w from to ≡ []
+    empty q = rw q
+
+    go : (bytes_eq from to ≡ true) ⊎ (bytes_eq from to ≡ false) → WasSent (record { from = from; to = to; message = m }) w.sent × (from ≢ to)
+    go (inl q) = absurd (none_there (messages w from to) k (empty q) h)
+    go (inr q) = (pair-was from to w.sent k m (rw q at h), node_not from to q)
+
+-- a step is a fair deed
+pub step-deed : (w : World) (s : Step) → IsPlainStep s → IsDeed w (step_node s) (step_plan w s)
+step-deed w (step.At n c e) h = if_holds (IsDeed w n) (w.up n) _ _ (λ q. due-at c w n e (plain-due w.sent n e h)) (λ q. (Refuses refusal.Down, tt, c, refl, tt))
+step-deed w (step.Deliver from to c k) h = if_holds (IsDeed w to) (w.up to) _ _ (λ q. delivery-deed c w from to (k - 1) (slice_get (messages w from to) (k - 1)) refl) (λ q. (Refuses refusal.Down, tt, c, refl, tt))
+
+-- a step keeps the coupling
+pub step-planned : (base : Past) (w : World) (s : Step) (acts : Definition → List Act) (batches : Definition → List Batch) → IsPlainStep s → SomePast base w.at w.sent acts batches → Planned base w.nodes (step_node s) w.at w.sent acts batches (step_plan w s)
+step-planned base w s acts batches h v =
+    let d : IsDeed w (step_node s) (step_plan w s) = step-deed w s h in
+    subst (λ (p : Plan). Planned base w.nodes (step_node s) w.at w.sent acts batches p) (sym d.3) (planned-deed base w.nodes d.2 (step_node s) w.at w.sent acts batches d.0 d.1 v)
+
+-- nothing is added
+pub unadded : (base : Past) (n : Node) (old at : Node → Cell) (sent : List Sent) (acts : Definition → List Act) (batches : Definition → List Batch) → SomePast base at sent acts batches → SomePast base at sent (λ f. acts f ++ added n (admin f) f old []) (λ f. batches f ++ added n (service f) f old [])
+unadded base n old at sent acts batches v = (v.0, v.1, world-lists v.0 at sent acts (λ f. acts f ++ added n (admin f) f old []) batches (λ f. batches f ++ added n (service f) f old []) (λ f. none-more (acts f) _ (added-none n (admin f) f old [] refl)) (λ f. none-more (batches f) _ (added-none n (service f) f old [] refl)) v.2)
+
+-- a stop
+pub stops-keeps : (base : Past) (n : Node) (w : World) (acts : Definition → List Act) (batches : Definition → List Batch) (u : Bool) → SomePast base w.at w.sent acts batches → SomePast base (if u then stopped w n else w).at (if u then stopped w n else w).sent acts batches
+stops-keeps base n w acts batches false v = v
+stops-keeps base n w acts batches true v = (v.0, v.1, world-stop v.0 w.at (put_at w.at n (stopped_cell (w.at n))) w.sent acts batches n (w.at n) refl (put_at-same w.at n (stopped_cell (w.at n))) (put-others w.at n (stopped_cell (w.at n))) v.2)
+
+-- a start
+pub starts-keeps : (base : Past) (n : Node) (w : World) (acts : Definition → List Act) (batches : Definition → List Batch) (u : Bool) → SomePast base w.at w.sent acts batches → SomePast base (if u then w else started w n).at (if u then w else started w n).sent acts batches
+starts-keeps base n w acts batches true v = v
+starts-keeps base n w acts batches false v = v
+
+-- a stop in a step, with its record or without
+pub halts-keeps : (base : Past) (n : Node) (w : World) (p : Plan) (acts : Definition → List Act) (batches : Definition → List Batch) (kept u : Bool) → Planned base w.nodes n w.at w.sent acts batches p → SomePast base w.at w.sent acts batches → SomePast base (if u then halted w n kept p else w).at (if u then halted w n kept p else w).sent
+    (λ f. acts f ++ added n (admin f) f w.at (acts_in (if u then (if kept then p.changes else []) else []))) (λ f. batches f ++ added n (service f) f w.at (batches_in (if u then (if kept then p.changes else []) else [])))
+halts-keeps base n w p acts batches kept false q v = unadded base n w.at w.at w.sent acts batches v
+halts-keeps base n w p acts batches false true q v = unadded base n w.at (put_at w.at n (stopped_cell (w.at n))) w.sent acts batches (stops-keeps base n w acts batches true v)
+halts-keeps base n w p acts batches true true q v = (
+  q.0,
+  q.1,
+  world-stop q.0 at1 at2 w.sent acts2 batches2 n (at1 n) refl now others
+      (world-messages q.0 at1 at1 (w.sent ++ posted w.nodes n p.sends) w.sent acts2 batches2 (λ k. refl) (λ x h. inl (was-left x w.sent (posted w.nodes n p.sends) h)) q.2),
+)
+  where
+    acts2 : Definition → List Act
+    acts2 f = acts f ++ added n (admin f) f w.at (acts_in p.changes)
+
+    batches2 : Definition → List Batch
+    batches2 f = batches f ++ added n (service f) f w.at (batches_in p.changes)
+
+    at1 : Node → Cell
+    at1 = put_at w.at n (after_plan n (w.at n) p)
+
+    at2 : Node → Cell
+    at2 = put_at w.at n (stopped_cell (made n (w.at n) p.changes))
+
+    now : at2 n ≡ stopped_cell (at1 n)
+    now = put_at-same w.at n _ ∙ (sym (stopped-moved n (made n (w.at n) p.changes) p.admin p.service) ∙ ap stopped_cell (sym (put_at-same w.at n (after_plan n (w.at n) p))))
+
+    others : Others n at1 at2
+    others j r = put_at-other w.at n _ j r ∙ sym (put_at-other w.at n _ j r)
+
+-- any event
+pub happens-keeps : (base : Past) (w : World) (e : Occurrence) (acts : Definition → List Act) (batches : Definition → List Batch) → IsPlain e → SomePast base w.at w.sent acts batches → SomePast base (happens w e).at (happens w e).sent (λ f. acts f ++ adds acts_in (admin f) f w e) (λ f. batches f ++ adds batches_in (service f) f w e)
+happens-keeps base w (Steps s) acts batches h v = step-planned base w s acts batches h v
+happens-keeps base w (Stops n) acts batches h v = unadded base n w.at (if w.up n then stopped w n else w).at (if w.up n then stopped w n else w).sent acts batches (stops-keeps base n w acts batches (w.up n) v)
+happens-keeps base w (Starts n) acts batches h v = unadded base n w.at (if w.up n then w else started w n).at (if w.up n then w else started w n).sent acts batches (starts-keeps base n w acts batches (w.up n) v)
+happens-keeps base w (Halts kept s) acts batches h v = halts-keeps base (step_node s) w (step_plan w s) acts batches kept (w.up (step_node s)) (step-planned base w s acts batches h v) v
+
+-- any run
+pub run-keeps : (base : Past) (w : World) (es : List Occurrence) (acts : Definition → List Act) (batches : Definition → List Batch) → AllPlain es → SomePast base w.at w.sent acts batches → SomePast base (occur w es).at (occur w es).sent (λ f. acts f ++ acts_from f w es) (λ f. batches f ++ batches_from f w es)
+run-keeps base w [] acts batches h v = (v.0, v.1, world-lists v.0 w.at w.sent acts (λ f. acts f ++ []) batches (λ f. batches f ++ []) (λ f. sym (append-nil _)) (λ f. sym (append-nil _)) v.2)
+run-keeps base w (e ∷ es) acts batches h v =
+    let u : SomePast base (occur (happens w e) es).at (occur (happens w e) es).sent (λ f. (acts f ++ adds acts_in (admin f) f w e) ++ acts_from f (happens w e) es) (λ f. (batches f ++ adds batches_in (service f) f w e) ++ batches_from f (happens w e) es)
+    = run-keeps base (happens w e) es (λ f. acts f ++ adds acts_in (admin f) f w e) (λ f. batches f ++ adds batches_in (service f) f w e) h.1 (happens-keeps base w e acts batches h.0 v) in (
+      u.0,
+      u.1,
+      world-lists u.0 (occur (happens w e) es).at (occur (happens w e) es).sent (λ f. (acts f ++ adds acts_in (admin f) f w e) ++ acts_from f (happens w e) es) (λ f. acts f ++ (adds acts_in (admin f) f w e ++ acts_from f (happens w e) es)) (λ f. (batches f ++ adds batches_in (service f) f w e) ++ batches_from f (happens w e) es) (λ f. batches f ++ (adds batches_in (service f) f w e ++ batches_from f (happens w e) es))
+          (λ f. append_assoc (acts f) (adds acts_in (admin f) f w e) (acts_from f (happens w e) es)) (λ f. append_assoc (batches f) (adds batches_in (service f) f w e) (batches_from f (happens w e) es)) u.2,
+    )
+
+-- at first
+pub lane-start : {V : Type 0} (lane : Lane V) (d : Definition) (said : GroupMessage V → Type 0) → ((l : GroupMessage V) → said l → ⊥) → InLane lane d [] (λ n. Away) said []
+lane-start {V} lane d said none = record {
+  ever = λ n e m h. cc;
+  quiet = λ n e m h. cc;
+  placed = λ n e m h. cc;
+  shows = λ l s. absurd (none l s);
+  coupled = λ h. absurd h;
+  empty = inl refl;
+}
+
+-- nothing is bound and nothing was sent
+pub world-start : InWorld [] (λ n. Empty) [] (λ f. []) (λ f. [])
+world-start = record {
+  law = λ n d e h k g. absurd h;
+  ruled = λ n e h. absurd h;
+  since = λ n e h. h;
+  valid = λ n. tt;
+  admins = λ d. lane-start admin_lane d (admin_said []) (λ l s. s.1);
+  services = λ d. lane-start service_lane d (service_said []) (λ l s. s.3);
+}
+
+-- behind anything that happened
+pub run-past : (ns : List Node) (es : List Occurrence) → AllPlain es → SomePast [] (occur (first_world ns) es).at (occur (first_world ns) es).sent (λ f. act_list ns f es) (λ f. batch_list ns f es)
+run-past ns es h = run-keeps [] (first_world ns) es (λ f. []) (λ f. []) h ([], (λ k f x. x), world-start)
+
+-- a history is a beginning of the list
+pub lane-prefix : {V : Type 0} (lane : Lane V) (d : Definition) (past : Past) (at : Node → Presence V) (said : GroupMessage V → Type 0) (list : List V) (n : Node) (m : Member V) → at n ≡ There d m → InLane lane d past at said list → IsPrefixOf (values m.history) list
+lane-prefix {V} lane d past at said list n m is c = go (c.quiet n d m is)
+  where
+    values-append : (xs ys : List (ℕ × V)) → values (xs ++ ys) ≡ values xs ++ values ys
+    values-append [] ys = refl
+    values-append (x ∷ xs) ys = ap (λ z. x.1 ∷ z) (values-append xs ys)
+
+    by_world : SomeWorld lane d past at said list → IsPrefixOf (values m.history) list
+    by_world w =
+        let p : IsPrefixOf (w.0.at (position d.members n)).history (w.0.at (position d.members (lane.leader d))).history = prefix-agrees (group_of lane d) w.0 (position d.members n) (c.placed n d m is).here w.1.agrees in
+        (values p.0, subst (λ (x : Member V). values x.history ++ values p.0 ≡ list) (w.1.there n m is) (sym (values-append (w.0.at (position d.members n)).history p.0) ∙ (ap (λ z. values z) p.1 ∙ w.1.listed)))
+
+    go : IsQuiet m ⊎ Ever (lane.leader d) d past → IsPrefixOf (values m.history) list
+    go (inl q) = (list, ap (λ z. values z ++ list) q.0)
+    go (inr q) = by_world (c.coupled q)
+
+-- the histories begin the circuit's lists
+pub begins-acts : (ns : List Node) (es : List Occurrence) (d : Definition) → AllPlain es → AtEach (world_behind ns es) d (λ n m turn a b. IsPrefixOf (values a.history) (act_list ns d es))
+begins-acts ns es d h n m t a b is =
+    let v : SomePast [] (world_behind ns es).at (world_behind ns es).sent (λ f. act_list ns f es) (λ f. batch_list ns f es) = run-past ns es h in
+    lane-prefix admin_lane d v.0 (λ k. admin_presence ((world_behind ns es).at k)) (admin_said (world_behind ns es).sent) (act_list ns d es) n a (ap admin_presence is) (v.2.admins d)
+
+pub begins-batches : (ns : List Node) (es : List Occurrence) (d : Definition) → AllPlain es → AtEach (world_behind ns es) d (λ n m turn a b. IsPrefixOf (values b.history) (batch_list ns d es))
+begins-batches ns es d h n m t a b is =
+    let v : SomePast [] (world_behind ns es).at (world_behind ns es).sent (λ f. act_list ns f es) (λ f. batch_list ns f es) = run-past ns es h in
+    lane-prefix service_lane d v.0 (λ k. service_presence ((world_behind ns es).at k)) (service_said (world_behind ns es).sent) (batch_list ns d es) n b (ap service_presence is) (v.2.services d)
+
+-- what a cell was bound to is behind it
+pub stays-behind : (ns : List Node) (es fs : List Occurrence) (d : Definition) → AllPlain es → AllPlain fs → AtEach (world_behind ns es) d (λ n m turn a b. IsPast d ((occur (world_behind ns es) fs).at n))
+stays-behind ns es fs d h k n m t a b is =
+    let w1 : World = world_behind ns es in
+    let v : SomePast [] w1.at w1.sent (λ f. act_list ns f es) (λ f. batch_list ns f es) = run-past ns es h in
+    let u : SomePast v.0 (occur w1 fs).at (occur w1 fs).sent (λ f. act_list ns f es ++ acts_from f w1 fs) (λ f. batch_list ns f es ++ batches_from f w1 fs) = run-keeps v.0 w1 fs (λ f. act_list ns f es) (λ f. batch_list ns f es) k (v.0, (λ k f x. x), v.2) in
+    u.2.since n d (u.1 n d ((v.2.admins d).ever n d a (ap admin_presence is)))
+
+-- the first act is the proposal of the bound definition
+pub first-proposal : (ns : List Node) (es : List Occurrence) (d : Definition) → AllPlain es → AtEach (world_behind ns es) d (λ n m turn a b. FirstIsProposal d a)
+first-proposal ns es d h n m t a b is e rest first =
+    let v : SomePast [] (world_behind ns es).at (world_behind ns es).sent (λ f. act_list ns f es) (λ f. batch_list ns f es) = run-past ns es h in
+    let x : IsValid d n a b = subst (λ (z : Cell). IsValidCell n z) is (v.2.valid n) in
+    let y : AllGood (act_rules d) [] (e.1 ∷ values rest) = subst (λ (z : List (ℕ × Act)). AllGood (act_rules d) [] (values z)) first x.acts.good in
+    let z : (x : Definition) × (e.1.kind ≡ kind.Propose x) × (x ≡ d) = first_act d e.1 y.0 in
+    z.1 ∙ ap (λ (u : Definition). kind.Propose u) z.2

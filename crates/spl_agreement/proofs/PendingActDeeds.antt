@@ -1,0 +1,229 @@
+-- A planned deed is a step of the acts that the cells keep.
+use Rattle.std.proofs.Common.{◌≡◌, ◌≢◌, ℕ, ◌<◌, ◌⊎◌, true, false, List, [], ◌∷◌, ◌++◌, refl, sym, ap, subst, ◌∙◌, inl, inr, arith}
+use Rattle.spl_agree.specs.declared.message.CommitMsg.{CommitMsg}
+use Rattle.spl_agree.specs.declared.message.CommitMsg.TheVariants as msg
+use Rattle.spl_agree.specs.declared.event.GroupChange.{GroupChange}
+use Rattle.spl_agree.specs.declared.event.GroupEvent.{GroupEvent}
+use Rattle.spl_agree.specs.declared.event.GroupEvent.TheVariants as group
+use Rattle.spl_agree.specs.declared.plan.GroupPlan.{GroupPlan}
+use Rattle.spl_agree.specs.Member.{Member, new_member, changed_by}
+use Rattle.spl_agree.proofs.Tests.{if_holds, bool_cases}
+use Rattle.spl_circuit.specs.declared.definition.Definition.{Definition}
+use Rattle.spl_circuit.specs.declared.act.Act.{Act}
+use Rattle.spl_circuit.specs.declared.lifecycle.Mark.{Mark}
+use Rattle.spl_circuit.specs.declared.lifecycle.Mark.TheVariants as mark
+use Rattle.spl_circuit.specs.Nodes.{Node, has_node}
+use Rattle.spl_circuit.specs.Rules.{admin}
+use Rattle.spl_circuit.specs.Acts.{act_rules}
+use Rattle.spl_command.specs.declared.batch.Batch.{Batch}
+use Rattle.spl_wire.specs.declared.message.Message.{Message}
+use Rattle.spl_wire.specs.declared.message.Message.TheVariants as message
+use Rattle.spl_wire.specs.declared.change.Change.TheVariants as durable
+use Rattle.spl_wire.specs.declared.plan.Outgoing.{Outgoing}
+use Rattle.spl_rules.specs.Cells.{Cell, Held, Deed, Refuses, Tells, Replies, Binds, Acts, Serves, Turns, Abandons, Purges}
+use Rattle.spl_rules.specs.Changes.{made, made_one}
+use Rattle.spl_rules.specs.Plans.{planned, admin_sends, service_sends, admin_changes, service_changes}
+use Rattle.spl_agreement.specs.Agreement.{is_proposal}
+use Rattle.spl_model.specs.Worlds.{Sent, posted}
+use Rattle.spl_agreement.proofs.GroupOfDefinition.{GroupMessage, Ever, IsMessageOf, MayHear, IsQuiet, plan_row}
+use Rattle.spl_agreement.proofs.GroupWorlds.{admin_lane, service_lane, admin_said, admin_presence, InWorld, Others, WasSent, placed-admin, posted-admin, posted-no_admin, was-split}
+use Rattle.spl_agreement.proofs.CoupledSteps.{Past, IsNew, free-past}
+use Rattle.spl_agreement.proofs.DeedsAreSteps.{IsStepOf}
+use Rattle.spl_agreement.proofs.CoupledDeeds.{made-bind, made-admin, made-service, made-append}
+use Rattle.spl_agreement.proofs.PendingActLists.{both-not}
+use Rattle.spl_agreement.proofs.PendingActCells.{View, Sight, Sees, Nowhere, view, no_view, sight, view-by, MayJoin, tidy-new, tidy-more, shifted_by}
+use Rattle.spl_agreement.proofs.PendingActMessages.{IsFew, IsNews}
+use Rattle.spl_agreement.proofs.PendingActRows.{IsReady, unknown-is}
+use Rattle.spl_agreement.proofs.PendingActSteps.{sights, step-still, step-drop, step-row}
+use Rattle.spl_agreement.proofs.PendingActsDue.{Forwards, Apt, IsReply, IsReplyOf, IsNextAct, IsFirstAct}
+
+-- the acts behind changes of the admin group, and behind changes of the service group
+pub sight-admin : (n : Node) (d : Definition) (m : Mark) (t : ℕ) (a : Member Act) (b : Member Batch) (xs : List (GroupChange Act)) → sight (made n (Held d m t a b) (admin_changes xs)) ≡ Sees d (shifted_by (view a) xs)
+sight-admin n d m t a b xs =
+    let k : (t2 : ℕ) × (made n (Held d m t a b) (admin_changes xs) ≡ Held d m t2 (changed_by (act_rules d) a xs) b) = made-admin n d m t a b xs in
+    ap sight k.1 ∙ ap (λ (w : View). Sees d w) (view-by d a xs)
+
+pub sight-both : (n : Node) (d : Definition) (m : Mark) (t : ℕ) (a : Member Act) (b : Member Batch) (xs : List (GroupChange Act)) (ys : List (GroupChange Batch)) → sight (made n (Held d m t a b) (admin_changes xs ++ service_changes ys)) ≡ Sees d (shifted_by (view a) xs)
+sight-both n d m t a b xs ys =
+    let k : (t2 : ℕ) × (made n (Held d m t a b) (admin_changes xs) ≡ Held d m t2 (changed_by (act_rules d) a xs) b) = made-admin n d m t a b xs in
+    ap sight (made-append n (Held d m t a b) (admin_changes xs) (service_changes ys) ∙ (ap (λ (z : Cell). made n z (service_changes ys)) k.1 ∙ made-service n d m k.0 (changed_by (act_rules d) a xs) b ys))
+    ∙ ap (λ (w : View). Sees d w) (view-by d a xs)
+
+-- what an event asks of the acts of a bound cell
+pub ready-next : (past : Past) (said : GroupMessage Act → Type 0) (n back : Node) (d : Definition) (a : Member Act) (e : GroupEvent Act) → MayHear d said n back e → IsNew (act_rules d) a e → IsNextAct n a e → (IsQuiet a ⊎ Ever (admin d) d past) → IsReady past said n back d a e
+ready-next past said n back d a (group.From s x) h new next quiet = h
+ready-next past said n back d a (group.Submit v) h new next quiet = (
+  record {
+    first = λ p. absurd (both-not (is_proposal v.kind) p next.0);
+    own = λ o. next.1;
+    alone = λ o. next.2;
+    lively = λ o. led quiet;
+    came = λ o. inl next.1;
+  },
+  unknown-is d a v new.0,
+)
+  where
+    led : IsQuiet a ⊎ Ever (admin d) d past → Ever (admin d) d past
+    led (inl q) = absurd (next.3 q.0)
+    led (inr q) = q
+ready-next past said n back d a _ h new next quiet = tt
+
+-- and where a cell is bound
+pub ready-first : (past : Past) (see : Node → Sight) (said : GroupMessage Act → Type 0) (n back : Node) (d : Definition) (past2 : Past) (e : GroupEvent Act) → IsFew past see said → MayHear d said n back e → IsFirstAct said n d e → IsReady past2 said n back d new_member e
+ready-first past see said n back d past2 group.Tick f h first = tt
+ready-first past see said n back d past2 group.Expire f h first = tt
+ready-first past see said n back d past2 (group.From s x) f h first = h
+ready-first past see said n back d past2 (group.Submit v) f h first = (join first.1, (refl, refl, refl))
+  where
+    join : ((v.node ≡ n) × (v.turn ≡ 1)) ⊎ ((n ≡ admin d) × (v.node ≢ n) × Forwards said v.node n d.generation v) → MayJoin past2 said n d no_view v
+    join (inl x) = record {
+      first = λ p. x.1;
+      own = λ o. x.0;
+      alone = λ o y k. absurd k;
+      lively = λ o. absurd (both-not (is_proposal v.kind) first.0 o);
+      came = λ o. inl x.0;
+    }
+    join (inr x) = record {
+      first = λ p. f.first v.node n d.generation v x.2 p;
+      own = λ o. absurd (o x.0);
+      alone = λ o y k. absurd k;
+      lively = λ o. absurd (both-not (is_proposal v.kind) first.0 o);
+      came = λ o. inr x.2;
+    }
+
+-- what is posted in two lists
+pub posted-both : (ns : List Node) (n : Node) (xs ys : List Outgoing) → posted ns n (xs ++ ys) ≡ posted ns n xs ++ posted ns n ys
+posted-both ns n [] ys = refl
+posted-both ns n (z ∷ zs) ys = go (bool_cases (has_node ns z.to)) (posted-both ns n zs ys)
+  where
+    go : (has_node ns z.to ≡ true) ⊎ (has_node ns z.to ≡ false) → posted ns n (zs ++ ys) ≡ posted ns n zs ++ posted ns n ys → posted ns n ((z ∷ zs) ++ ys) ≡ posted ns n (z ∷ zs) ++ posted ns n ys
+    go (inl r) hyp = rw (r, hyp)
+    go (inr r) hyp = rw (r, hyp)
+
+-- a reply is no news
+pub reply-news : (see : Node → Sight) (from to : Node) (x : CommitMsg Act) → IsReplyOf x → IsNews see from to x
+reply-news see from to (msg.Forward g u) h = absurd h
+reply-news see from to (msg.Refused g u why) h = inl h
+reply-news see from to _ h = tt
+
+-- what a deed posts
+pub reply-message : (ns : List Node) (n to : Node) (m : Message) (i : Node) (l : GroupMessage Act) → IsReply m → WasSent (record { from = l.from; to = l.to; message = message.Admin i l.body }) (posted ns n (record { to = to; message = m } ∷ [])) → IsReplyOf l.body
+reply-message ns n to m i l h was = if_holds (λ (ps : List Sent). WasSent (record { from = l.from; to = l.to; message = message.Admin i l.body }) ps → IsReplyOf l.body) (has_node ns to) _ _ (λ q. one_of) (λ q y. absurd y) was
+  where
+    one_of : WasSent (record { from = l.from; to = l.to; message = message.Admin i l.body }) (record { from = n; to = to; message = m } ∷ []) → IsReplyOf l.body
+    one_of (inl e) = subst (λ (z : Message). IsReply z) (sym (ap (λ (s : Sent). s.message) e)) h
+    one_of (inr y) = absurd y
+
+-- where nothing is sent
+pub no-news : (sent sent2 : List Sent) (see : Node → Sight) → ((x : Sent) → WasSent x sent2 → WasSent x sent ⊎ ⊥) → (l : GroupMessage Act) → admin_said sent2 l → admin_said sent l ⊎ IsNews see l.from l.to l.body
+no-news sent sent2 see messages l s = go (messages _ s.1)
+  where
+    go : WasSent (record { from = l.from; to = l.to; message = message.Admin s.0 l.body }) sent ⊎ ⊥ → admin_said sent l ⊎ IsNews see l.from l.to l.body
+    go (inl x) = inl (s.0, x)
+    go (inr x) = absurd x
+
+-- any deed, by its kind
+pub few-deed : (past past2 : Past) (ns : List Node) (c n : Node) (at at2 : Node → Cell) (sent sent2 : List Sent) (acts acts2 : Definition → List Act) (batches batches2 : Definition → List Batch) (deed : Deed)
+    → ((k : Node) (f : Definition) → Ever k f past → Ever k f past2) → Others n at at2 → ((x : Sent) → WasSent x sent → WasSent x sent2)
+    → ((x : Sent) → WasSent x sent2 → WasSent x sent ⊎ WasSent x (posted ns n (planned n c deed).sends))
+    → sights at2 n ≡ sight (made n (at n) (planned n c deed).changes)
+    → IsStepOf n sent (at n) deed → Apt (admin_said sent) n deed
+    → InWorld past at sent acts batches → InWorld past2 at2 sent2 acts2 batches2 → IsFew past (sights at) (admin_said sent)
+    → IsFew past2 (sights at2) (admin_said sent2)
+few-deed past past2 ns c n at at2 sent sent2 acts acts2 batches batches2 (Refuses r) ever others olds messages is fair apt w v f = step-still past past2 at at2 sent sent2 acts acts2 batches batches2 n ever others olds v f is (no-news sent sent2 (sights at2) messages)
+few-deed past past2 ns c n at at2 sent sent2 acts acts2 batches batches2 (Tells r) ever others olds messages is fair apt w v f = step-still past past2 at at2 sent sent2 acts acts2 batches batches2 n ever others olds v f is (no-news sent sent2 (sights at2) messages)
+few-deed past past2 ns c n at at2 sent sent2 acts acts2 batches batches2 (Replies note to m) ever others olds messages is fair apt w v f = step-still past past2 at at2 sent sent2 acts acts2 batches batches2 n ever others olds v f is news
+  where
+    news : (l : GroupMessage Act) → admin_said sent2 l → admin_said sent l ⊎ IsNews (sights at2) l.from l.to l.body
+    news l s = go (messages _ s.1)
+      where
+        go : WasSent (record { from = l.from; to = l.to; message = message.Admin s.0 l.body }) sent ⊎ WasSent (record { from = l.from; to = l.to; message = message.Admin s.0 l.body }) (posted ns n (record { to = to; message = m } ∷ [])) → admin_said sent l ⊎ IsNews (sights at2) l.from l.to l.body
+        go (inl x) = inl (s.0, x)
+        go (inr x) = inr (reply-news (sights at2) l.from l.to l.body (reply-message ns n to m s.0 l apt x))
+few-deed past past2 ns c n at at2 sent sent2 acts acts2 batches batches2 (Binds say d back e) ever others olds messages is fair apt w v f = step-row past past2 at at2 sent sent2 acts acts2 batches batches2 n back d new_member e ever others olds v f now news
+    (placed-admin d n fair.0 fair.1) (tidy-new past2 (admin_said sent) n d) (ready-first past (sights at) (admin_said sent) n back d past2 e f fair.3 apt) (inr fresh)
+  where
+    plan : GroupPlan Act
+    plan = plan_row admin_lane d n new_member e
+
+    now : sights at2 n ≡ Sees d (shifted_by no_view plan.changes)
+    now = is ∙ (ap (λ (z : Cell). sight (made n z (admin_changes plan.changes))) (made-bind n (at n) d) ∙ sight-admin n d mark.Open 0 new_member new_member plan.changes)
+
+    fresh : (g : Definition) → Ever n g past → g.generation ≢ d.generation
+    fresh g h q = let x : g.generation < d.generation = free-past g (at n) d.generation fair.2 (w.since n g h) in omega arith
+
+    news : (l : GroupMessage Act) → admin_said sent2 l → admin_said sent l ⊎ IsMessageOf n d back plan.sends l
+    news l s = go (messages _ s.1)
+      where
+        go : WasSent (record { from = l.from; to = l.to; message = message.Admin s.0 l.body }) sent ⊎ WasSent (record { from = l.from; to = l.to; message = message.Admin s.0 l.body }) (posted ns n (admin_sends c d back plan.sends)) → admin_said sent l ⊎ IsMessageOf n d back plan.sends l
+        go (inl x) = inl (s.0, x)
+        go (inr x) = inr (posted-admin ns n c d back plan.sends s.0 l x)
+few-deed past past2 ns c n at at2 sent sent2 acts acts2 batches batches2 (Acts say d a back e) ever others olds messages is fair apt w v f = step-row past past2 at at2 sent sent2 acts acts2 batches batches2 n back d a e ever others olds v f now news
+    ((w.admins d).placed n d a (ap admin_presence fair.3)) (tidy-more past past2 (admin_said sent) (admin_said sent) n d (view a) ever (λ l x. x) (f.tidy n d (view a) (ap sight fair.3)))
+    (ready-next past2 (admin_said sent) n back d a e fair.4 fair.5 apt (quiet ((w.admins d).quiet n d a (ap admin_presence fair.3)))) (inl (ap sight fair.3))
+  where
+    plan : GroupPlan Act
+    plan = plan_row admin_lane d n a e
+
+    now : sights at2 n ≡ Sees d (shifted_by (view a) plan.changes)
+    now = is ∙ (ap (λ (z : Cell). sight (made n z (admin_changes plan.changes))) fair.3 ∙ sight-admin n d fair.0 fair.1 a fair.2 plan.changes)
+
+    quiet : IsQuiet a ⊎ Ever (admin d) d past → IsQuiet a ⊎ Ever (admin d) d past2
+    quiet (inl q) = inl q
+    quiet (inr q) = inr (ever (admin d) d q)
+
+    news : (l : GroupMessage Act) → admin_said sent2 l → admin_said sent l ⊎ IsMessageOf n d back plan.sends l
+    news l s = go (messages _ s.1)
+      where
+        go : WasSent (record { from = l.from; to = l.to; message = message.Admin s.0 l.body }) sent ⊎ WasSent (record { from = l.from; to = l.to; message = message.Admin s.0 l.body }) (posted ns n (admin_sends c d back plan.sends)) → admin_said sent l ⊎ IsMessageOf n d back plan.sends l
+        go (inl x) = inl (s.0, x)
+        go (inr x) = inr (posted-admin ns n c d back plan.sends s.0 l x)
+few-deed past past2 ns c n at at2 sent sent2 acts acts2 batches batches2 (Serves say d b back e) ever others olds messages is fair apt w v f = step-still past past2 at at2 sent sent2 acts acts2 batches batches2 n ever others olds v f same news
+  where
+    plan : GroupPlan Batch
+    plan = plan_row service_lane d n b e
+
+    same : sights at2 n ≡ sights at n
+    same = is ∙ (ap (λ (z : Cell). sight (made n z (service_changes plan.changes))) fair.3 ∙ (ap sight (made-service n d fair.0 fair.1 fair.2 b plan.changes) ∙ sym (ap sight fair.3)))
+
+    news : (l : GroupMessage Act) → admin_said sent2 l → admin_said sent l ⊎ IsNews (sights at2) l.from l.to l.body
+    news l s = go (messages _ s.1)
+      where
+        go : WasSent (record { from = l.from; to = l.to; message = message.Admin s.0 l.body }) sent ⊎ WasSent (record { from = l.from; to = l.to; message = message.Admin s.0 l.body }) (posted ns n (service_sends n c d back plan.sends)) → admin_said sent l ⊎ IsNews (sights at2) l.from l.to l.body
+        go (inl x) = inl (s.0, x)
+        go (inr x) = absurd (posted-no_admin ns n c d back plan.sends l.from l.to s.0 l.body x)
+few-deed past past2 ns c n at at2 sent sent2 acts acts2 batches batches2 (Turns d a b x y) ever others olds messages is fair apt w v f = step-row past past2 at at2 sent sent2 acts acts2 batches batches2 n n d a x ever others olds v f now news
+    ((w.admins d).placed n d a (ap admin_presence fair.2)) (tidy-more past past2 (admin_said sent) (admin_said sent) n d (view a) ever (λ l z. z) (f.tidy n d (view a) (ap sight fair.2)))
+    (ready-next past2 (admin_said sent) n n d a x fair.4 fair.6 apt (quiet ((w.admins d).quiet n d a (ap admin_presence fair.2)))) (inl (ap sight fair.2))
+  where
+    p : GroupPlan Act
+    p = plan_row admin_lane d n a x
+
+    q : GroupPlan Batch
+    q = plan_row service_lane d n b y
+
+    now : sights at2 n ≡ Sees d (shifted_by (view a) p.changes)
+    now = is ∙ (ap (λ (z : Cell). sight (made n z (admin_changes p.changes ++ service_changes q.changes))) fair.2 ∙ sight-both n d fair.0 fair.1 a b p.changes q.changes)
+
+    quiet : IsQuiet a ⊎ Ever (admin d) d past → IsQuiet a ⊎ Ever (admin d) d past2
+    quiet (inl z) = inl z
+    quiet (inr z) = inr (ever (admin d) d z)
+
+    news : (l : GroupMessage Act) → admin_said sent2 l → admin_said sent l ⊎ IsMessageOf n d n p.sends l
+    news l s = go (messages _ s.1)
+      where
+        sub : WasSent (record { from = l.from; to = l.to; message = message.Admin s.0 l.body }) (posted ns n (admin_sends c d n p.sends)) ⊎ WasSent (record { from = l.from; to = l.to; message = message.Admin s.0 l.body }) (posted ns n (service_sends n c d n q.sends)) → admin_said sent l ⊎ IsMessageOf n d n p.sends l
+        sub (inl z) = inr (posted-admin ns n c d n p.sends s.0 l z)
+        sub (inr z) = absurd (posted-no_admin ns n c d n q.sends l.from l.to s.0 l.body z)
+
+        go : WasSent (record { from = l.from; to = l.to; message = message.Admin s.0 l.body }) sent ⊎ WasSent (record { from = l.from; to = l.to; message = message.Admin s.0 l.body }) (posted ns n (admin_sends c d n p.sends ++ service_sends n c d n q.sends)) → admin_said sent l ⊎ IsMessageOf n d n p.sends l
+        go (inl z) = inl (s.0, z)
+        go (inr z) = sub (was-split _ (posted ns n (admin_sends c d n p.sends)) (posted ns n (service_sends n c d n q.sends)) (subst (λ (ss : List Sent). WasSent (record { from = l.from; to = l.to; message = message.Admin s.0 l.body }) ss) (posted-both ns n (admin_sends c d n p.sends) (service_sends n c d n q.sends)) z))
+few-deed past past2 ns c n at at2 sent sent2 acts acts2 batches batches2 Abandons ever others olds messages is fair apt w v f = step-still past past2 at at2 sent sent2 acts acts2 batches batches2 n ever others olds v f same (no-news sent sent2 (sights at2) messages)
+  where
+    same : sights at2 n ≡ sights at n
+    same = is ∙ (ap (λ (z : Cell). sight (made_one n z durable.Abandon)) fair.5 ∙ sym (ap sight fair.5))
+few-deed past past2 ns c n at at2 sent sent2 acts acts2 batches batches2 Purges ever others olds messages is fair apt w v f = step-drop past past2 at at2 sent sent2 acts acts2 batches batches2 n ever others olds v f gone (no-news sent sent2 (sights at2) messages)
+  where
+    gone : sights at2 n ≡ Nowhere
+    gone = is ∙ ap (λ (z : Cell). sight (made_one n z durable.Purge)) fair.5

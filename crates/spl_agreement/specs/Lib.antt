@@ -1,0 +1,5 @@
+pub mod Lists
+pub mod Told
+pub mod Queued
+pub mod Agreement
+pub mod OneList

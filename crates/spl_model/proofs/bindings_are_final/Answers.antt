@@ -1,6 +1,0 @@
--- By the bindings that are behind a run.
-use Rattle.spl_model.proofs.Runs.{stays-behind, first-proposal}
-use Rattle.spl_model.proofs.bindings_are_final.Goals as goal
-
-pub returns : goal.returns
-returns c = record { past = stays-behind; first = first-proposal }
