@@ -7,7 +7,7 @@ use mir.Val.{bits}
 use Rattle.std.proofs.lemmas.Nat.Bits.{bit_at_clear_same, bit_at_clear_other, bit_at-zero, same_from_bits_below, bit_at-lt}
 use Rattle.spl_agree.specs.Member.{has, but}
 use Rattle.spl_agree.specs.Member.{none_left}
-use Rattle.spl_agree.proofs.Tests.{bool_cases, eqb_is, eqb_not, eqb_other, eqb_same}
+use Rattle.spl_agree.proofs.Tests.{has-none_left, bool_cases, eqb_is, eqb_not, eqb_other, eqb_same}
 use Rattle.spl_coord.specs.Positions.{positions}
 
 -- each is below eight
@@ -79,16 +79,12 @@ has-positions n i l = has-filter (λ j. bit_at n j == 1) i eight ∙ rw (has-eig
     and_one true = refl
     and_one false = refl
 
-pub has-nothing : (xs : List ℕ) (i : ℕ) → none_left xs ≡ true → has i xs ≡ false
-has-nothing [] i h = refl
-has-nothing (x ∷ xs) i h = cc
-
 -- a byte has no position exactly where it is 0
 pub empty_is : (n : ℕ) → n < 2 ^ 8 → eqb n 0 ≡ none_left (positions n)
 empty_is n l = go (bool_cases (eqb n 0)) (bool_cases (none_left (positions n)))
   where
     zero_bit : none_left (positions n) ≡ true → (i : ℕ) → i < 8 → bit_at n i ≡ bit_at 0 i
-    zero_bit h i m = let d : (bit_at n i == 1) ≡ false = sym (has-positions n i m) ∙ has-nothing (positions n) i h in
+    zero_bit h i m = let d : (bit_at n i == 1) ≡ false = sym (has-positions n i m) ∙ has-none_left (positions n) i h in
         let ne : bit_at n i ≢ 1 = eqb_not (bit_at n i) 1 d in let b : bit_at n i < 2 = bit_at-lt n i in let z : bit_at 0 i ≡ 0 = bit_at-zero i in omega arith
 
     go : (eqb n 0 ≡ true) ⊎ (eqb n 0 ≡ false) → (none_left (positions n) ≡ true) ⊎ (none_left (positions n) ≡ false) → eqb n 0 ≡ none_left (positions n)

@@ -6,7 +6,8 @@ ghost use Rattle.spl_coord.specs.Votes.{is_the_open};
 
 use spl_agree::Round;
 
-/// The decision of a round, where it is known: commit where the round is among those of the history, abort where it was begun and is not open.
+/// The decision of a round, where it is known: commit where the round is among those of the
+/// history, abort where it was begun and is not open.
 pub fn decision_of(
     rounds: &[Round],
     next: Round,

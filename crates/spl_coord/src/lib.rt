@@ -1,4 +1,5 @@
-//! The states of a coordinator: no round is open, or one is and votes are counted. Each call that changes the state consumes it.
+//! The states of a coordinator: no round is open, or one is and votes are counted. Each call that
+//! changes the state consumes it.
 #![tactic(auto)]
 
 mod decision;

@@ -63,7 +63,8 @@ impl Idle {
         Idle { _private: () }
     }
 
-    /// Opens a round about a value. `others` has the bits of the members that are to vote yes, one at least.
+    /// Opens a round about a value. `others` has the bits of the members that are to vote yes, one
+    /// at least.
     pub fn begin<V>(self, round: Round, value: V, others: u8) -> Voting<V>
         requires { none_left (positions others) ≡ false }
         ensures { result ≡ record { round = round; value = value; others = positions others; missing = positions others } }
@@ -74,7 +75,8 @@ impl Idle {
 }
 
 impl<V> Voting<V> {
-    /// A round that goes on: the bits of the members that it was opened for, and of those of them that have not voted yes, one at least.
+    /// A round that goes on: the bits of the members that it was opened for, and of those of them
+    /// that have not voted yes, one at least.
     pub fn kept(round: Round, value: V, others: u8, missing: u8) -> Voting<V>
         requires { none_left (positions missing) ≡ false }
         ensures { result ≡ record { round = round; value = value; others = positions others; missing = positions missing } }
@@ -101,7 +103,8 @@ impl<V> Voting<V> {
         self.missing
     }
 
-    /// A vote of the one at a position below 8. It is ignored where it is on another round, where the round was not opened for that member, and where it is a yes that is counted already.
+    /// A vote of the one at a position below 8. It is ignored where it is on another round, where
+    /// the round was not opened for that member, and where it is a yes that is counted already.
     pub fn on_vote(self, round: Round, member: u8, yes: bool) -> Voted<V>
         requires { member < 8 }
         ensures { result ≡ voted_on self round member yes }

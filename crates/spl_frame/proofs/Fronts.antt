@@ -6,6 +6,7 @@ use Rattle.std.proofs.lemmas.List.{take-append-drop, length-append, length-drop,
 use Rattle.std.proofs.lemmas.Nat.{be_bytes_2, be_bytes_4, from_be_bytes-to_be_bytes_2, from_be_bytes-to_be_bytes_4}
 use Rattle.spl_base.specs.Form.{IsBytes}
 use Rattle.spl_base.specs.FormLaws.{IsBytes-drop, IsBytes-take}
+use Rattle.spl_base.specs.declared.limit.TheConstants.{LONGEST_BODY}
 use Rattle.spl_frame.specs.declared.fault.FrameFault.{FrameFault}
 use Rattle.spl_frame.specs.declared.fault.FrameFault.TheVariants.{NoMemory, BadVersion, TooLong}
 use Rattle.spl_frame.specs.Frames.{frame, IsBody, version_of, length_of, front, Shows}
@@ -31,14 +32,14 @@ not_else false x y z e n = absurd (n e)
 pub record IsWhole (bytes : List ℕ) (n : ℕ) : Type 0 where
   pub version : version_of bytes ≡ 1
   pub size : n ≡ 6 + length_of bytes
-  pub short : length_of bytes ≤ 16384
+  pub short : length_of bytes ≤ LONGEST_BODY
   pub there : n ≤ length bytes
 
 pub whole_front : (bytes : List ℕ) (n : ℕ) → IsWhole bytes n → front bytes ≡ Ok (Some n)
 whole_front bytes n w =
     let l2 = le-ltb (length bytes) 2 (omega (arith, w.size, w.there)) in
     let l6 = le-ltb (length bytes) 6 (omega (arith, w.size, w.there)) in
-    let lm = le-ltb 16384 (length_of bytes) w.short in
+    let lm = le-ltb LONGEST_BODY (length_of bytes) w.short in
     let ln = le-ltb (length bytes) (6 + length_of bytes) (omega (arith, w.size, w.there)) in
     rw (l2, w.version, l6, lm, ln) (ap (λ k. Ok (Some k)) (sym w.size))
 
@@ -47,13 +48,13 @@ front_whole bytes n e =
     let a = not_then (ltb (length bytes) 2) _ _ (Ok (Some n)) e (λ h. absurd cc) in
     let b = not_else (version_of bytes == 1) _ _ (Ok (Some n)) a.1 (λ h. absurd cc) in
     let c = not_then (ltb (length bytes) 6) _ _ (Ok (Some n)) b.1 (λ h. absurd cc) in
-    let d = not_then (ltb 16384 (length_of bytes)) _ _ (Ok (Some n)) c.1 (λ h. absurd cc) in
+    let d = not_then (ltb LONGEST_BODY (length_of bytes)) _ _ (Ok (Some n)) c.1 (λ h. absurd cc) in
     let f = not_then (ltb (length bytes) (6 + length_of bytes)) _ _ (Ok (Some n)) d.1 (λ h. absurd cc) in
     let s : 6 + length_of bytes ≡ n = cc in
     record {
       version = eqb-true (version_of bytes) 1 b.0;
       size = sym s;
-      short = ltb-false 16384 (length_of bytes) d.0;
+      short = ltb-false LONGEST_BODY (length_of bytes) d.0;
       there = omega (arith, s, ltb-false (length bytes) (6 + length_of bytes) f.0);
     }
 
@@ -65,13 +66,13 @@ pub record IsBadVersion (bytes : List ℕ) : Type 0 where
 pub record IsTooLong (bytes : List ℕ) : Type 0 where
   pub version : version_of bytes ≡ 1
   pub there : 6 ≤ length bytes
-  pub long : 16384 < length_of bytes
+  pub long : LONGEST_BODY < length_of bytes
 
 pub bad_front : (bytes : List ℕ) → IsBadVersion bytes → front bytes ≡ Err (BadVersion (version_of bytes))
 bad_front bytes b = rw (le-ltb (length bytes) 2 b.there, ne_eqb (version_of bytes) 1 b.other) refl
 
 pub long_front : (bytes : List ℕ) → IsTooLong bytes → front bytes ≡ Err (TooLong (length_of bytes))
-long_front bytes b = rw (le-ltb (length bytes) 2 (omega (arith, b.there)), b.version, le-ltb (length bytes) 6 b.there, lt-ltb 16384 (length_of bytes) b.long) refl
+long_front bytes b = rw (le-ltb (length bytes) 2 (omega (arith, b.there)), b.version, le-ltb (length bytes) 6 b.there, lt-ltb LONGEST_BODY (length_of bytes) b.long) refl
 
 abbrev IsFaulty : FrameFault → List ℕ → Type 0
 IsFaulty NoMemory bytes = ⊥
@@ -81,16 +82,16 @@ IsFaulty (TooLong n) bytes = (length_of bytes ≡ n) × IsTooLong bytes
 is_err : (e f : FrameFault) → Err e ≡ failed f → e ≡ f
 is_err e f h = cc
 
-faulty_by : (bytes : List ℕ) (e : FrameFault) (a b c d f : Bool) → ltb (length bytes) 2 ≡ a → (version_of bytes == 1) ≡ b → ltb (length bytes) 6 ≡ c → ltb 16384 (length_of bytes) ≡ d → ltb (length bytes) (6 + length_of bytes) ≡ f → cond a (Ok None) (cond b (cond c (Ok None) (cond d (Err (TooLong (length_of bytes))) (cond f (Ok None) (Ok (Some (6 + length_of bytes)))))) (Err (BadVersion (version_of bytes)))) ≡ Err e → IsFaulty e bytes
+faulty_by : (bytes : List ℕ) (e : FrameFault) (a b c d f : Bool) → ltb (length bytes) 2 ≡ a → (version_of bytes == 1) ≡ b → ltb (length bytes) 6 ≡ c → ltb LONGEST_BODY (length_of bytes) ≡ d → ltb (length bytes) (6 + length_of bytes) ≡ f → cond a (Ok None) (cond b (cond c (Ok None) (cond d (Err (TooLong (length_of bytes))) (cond f (Ok None) (Ok (Some (6 + length_of bytes)))))) (Err (BadVersion (version_of bytes)))) ≡ Err e → IsFaulty e bytes
 faulty_by bytes e true b c d f p q r s t h = absurd cc
 faulty_by bytes e false false c d f p q r s t h = subst (λ v. IsFaulty v bytes) (is_err (BadVersion (version_of bytes)) e h) (refl, record { there = ltb-false (length bytes) 2 p; other = eqb-false (version_of bytes) 1 q })
 faulty_by bytes e false true true d f p q r s t h = absurd cc
-faulty_by bytes e false true false true f p q r s t h = subst (λ v. IsFaulty v bytes) (is_err (TooLong (length_of bytes)) e h) (refl, record { version = eqb-true (version_of bytes) 1 q; there = ltb-false (length bytes) 6 r; long = ltb-true 16384 (length_of bytes) s })
+faulty_by bytes e false true false true f p q r s t h = subst (λ v. IsFaulty v bytes) (is_err (TooLong (length_of bytes)) e h) (refl, record { version = eqb-true (version_of bytes) 1 q; there = ltb-false (length bytes) 6 r; long = ltb-true LONGEST_BODY (length_of bytes) s })
 faulty_by bytes e false true false false true p q r s t h = absurd cc
 faulty_by bytes e false true false false false p q r s t h = absurd cc
 
 pub front_faulty : (bytes : List ℕ) (e : FrameFault) → front bytes ≡ Err e → IsFaulty e bytes
-front_faulty bytes e = faulty_by bytes e (ltb (length bytes) 2) (version_of bytes == 1) (ltb (length bytes) 6) (ltb 16384 (length_of bytes)) (ltb (length bytes) (6 + length_of bytes)) refl refl refl refl refl
+front_faulty bytes e = faulty_by bytes e (ltb (length bytes) 2) (version_of bytes == 1) (ltb (length bytes) 6) (ltb LONGEST_BODY (length_of bytes)) (ltb (length bytes) (6 + length_of bytes)) refl refl refl refl refl
 
 pub faulty_front : (bytes : List ℕ) (e : FrameFault) → IsFaulty e bytes → front bytes ≡ Err e
 faulty_front bytes NoMemory f = absurd f

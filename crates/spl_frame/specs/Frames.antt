@@ -2,6 +2,7 @@
 use Rattle.std.specs.Prelude.{◌≡◌, ◌≢◌, ◌≤◌, ◌<◌, ◌^◌, ℕ, zero, suc, ◌+◌, ◌==◌, nat_lt, List, [], ◌∷◌, ◌++◌, length, take, drop, Option, Some, None, Result, Ok, Err, if◌then◌else◌}
 use Rattle.std.specs.List.{flat_map, All}
 use Rattle.std.specs.Int.{w16, w32, from_be_bytes, to_be_bytes}
+use Rattle.spl_base.specs.declared.limit.TheConstants.{LONGEST_BODY}
 use Rattle.spl_frame.specs.declared.fault.FrameFault.{FrameFault}
 use Rattle.spl_frame.specs.declared.fault.FrameFault.TheVariants.{NoMemory, BadVersion, TooLong}
 
@@ -10,7 +11,7 @@ abbrev pub frame : List ℕ → List ℕ
 frame body = to_be_bytes w16 1 ++ (to_be_bytes w32 (length body) ++ body)
 
 abbrev pub IsBody : List ℕ → Type 0
-IsBody body = length body ≤ 16384
+IsBody body = length body ≤ LONGEST_BODY
 
 -- the version in a header, and the length
 abbrev pub version_of : List ℕ → ℕ
@@ -25,7 +26,7 @@ front bytes =
     if nat_lt (length bytes) 2 then Ok None
     else if version_of bytes == 1 then
     (if nat_lt (length bytes) 6 then Ok None
-    else if nat_lt 16384 (length_of bytes) then Err (TooLong (length_of bytes))
+    else if nat_lt LONGEST_BODY (length_of bytes) then Err (TooLong (length_of bytes))
     else if nat_lt (length bytes) (6 + length_of bytes) then Ok None
     else Ok (Some (6 + length_of bytes)))
     else Err (BadVersion (version_of bytes))
@@ -66,7 +67,7 @@ fault_of bytes = (stream_of bytes).fault
 abbrev pub Shows : FrameFault → List ℕ → Type 0
 Shows NoMemory bytes = ⊥
 Shows (BadVersion v) bytes = (v ≢ 1) × (v < 2 ^ 16) × ((more : List ℕ) × (bytes ≡ to_be_bytes w16 v ++ more))
-Shows (TooLong n) bytes = (16384 < n) × (n < 2 ^ 32) × ((more : List ℕ) × (bytes ≡ to_be_bytes w16 1 ++ (to_be_bytes w32 n ++ more)))
+Shows (TooLong n) bytes = (LONGEST_BODY < n) × (n < 2 ^ 32) × ((more : List ℕ) × (bytes ≡ to_be_bytes w16 1 ++ (to_be_bytes w32 n ++ more)))
 
 -- no whole frame begins the bytes, and they show no fault
 pub record IsPart (bytes : List ℕ) : Type 0 where

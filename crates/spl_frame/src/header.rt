@@ -3,6 +3,7 @@ ghost use Rattle.std.specs.Prelude.{◌≡◌, ◌≤◌, length};
 ghost use Rattle.spl_frame.specs.Frames.{front, version_of, length_of};
 
 use crate::fault::FrameFault;
+use spl_base::LONGEST_BODY;
 
 fn version_of(bytes: &[u8]) -> u16
     requires { 2 ≤ length bytes.now }
@@ -36,7 +37,7 @@ pub(crate) fn front(bytes: &[u8]) -> Result<Option<usize>, FrameFault>
         return Ok(None);
     }
     let length = length_of(bytes);
-    if 16384 < length {
+    if LONGEST_BODY < length as usize {
         return Err(FrameFault::TooLong { length });
     }
     let size = 6 + length as usize;

@@ -1,4 +1,5 @@
-//! The states of a member that isn't the coordinator: nothing is promised, or the value of a round is. Each call that changes the state consumes it.
+//! The states of a member that isn't the coordinator: nothing is promised, or the value of a round
+//! is. Each call that changes the state consumes it.
 #![tactic(auto)]
 
 mod promise;

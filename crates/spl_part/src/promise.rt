@@ -71,7 +71,8 @@ impl Free {
         Free { _private: () }
     }
 
-    /// A request for a vote on a value: `seen` is the last round seen, `committed` says that the round is in the history, and `fits` that the place and the check are good.
+    /// A request for a vote on a value: `seen` is the last round seen, `committed` says that the
+    /// round is in the history, and `fits` that the place and the check are good.
     pub fn on_request<V>(
         self,
         seen: Round,

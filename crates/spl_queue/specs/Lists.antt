@@ -1,6 +1,7 @@
 -- A queue as two lists of entries, in the order in which they came (docs/RULES.md, "Groups"). `eq` tells which keys are equal.
 use Rattle.std.specs.Prelude.{◌≡◌, ◌≤◌, length, Bool, List, [], ◌∷◌, Option, None, Some}
 use Rattle.std.specs.Map.{lookup}
+use Rattle.spl_agree.specs.declared.limit.TheConstants.{MOST_PENDING}
 use Rattle.spl_agree.specs.declared.reason.Reason.{Reason}
 
 pub record Lists (K V : Type 0) : Type 0 where
@@ -24,7 +25,7 @@ abbrev pub refusal : {K V : Type 0} → (K → K → Bool) → Lists K V → K �
 refusal eq q k None = []
 refusal eq q k (Some r) = refused_entry k r (at eq q.pending k)
 
--- what the two lists keep: no key in both, and at most 64 pending
+-- what the two lists keep: no key in both, and few pending
 pub record IsQueue {K V : Type 0} (eq : K → K → Bool) (pending : List (K × V)) (refused : List (K × (V × Reason))) : Type 0 where
   pub apart : Apart eq pending refused
-  pub short : length pending ≤ 64
+  pub short : length pending ≤ MOST_PENDING

@@ -7,12 +7,13 @@ ghost use Rattle.spl_queue.specs.Status.{IsStatus};
 ghost use Rattle.spl_queue.specs.Lists.{at, refusal};
 
 use indexmap::IndexMap;
-use spl_agree::Reason;
+use spl_agree::{MOST_PENDING, Reason};
 use std::alloc::{AllocError, Global};
 use std::hash::Hash;
 use std::marker::Model;
 
-/// Values by their keys, in the order in which they came: at most 64 pending ones, and refused ones with their reasons.
+/// Values by their keys, in the order in which they came: at most
+/// `MOST_PENDING` pending ones, and refused ones with their reasons.
 #[derive(Drop)]
 pub struct Queue<K: Copy + Eq + Hash, V> {
     pending: IndexMap<K, V>,
@@ -39,7 +40,7 @@ pub enum Offered {
 /// Why a value was not taken.
 #[derive(Debug, Drop)]
 pub enum OfferFault<V> {
-    /// 64 values are pending. The value is given back.
+    /// `MOST_PENDING` values are pending. The value is given back.
     Full { value: V },
     /// Want of memory. The value is lost.
     NoMemory,
@@ -78,11 +79,12 @@ impl<K: Copy + Eq + Hash, V: Drop> Queue<K, V> {
         self.refused.len()
     }
 
-    /// No two keys of a list are equal, no key is in both, and at most 64 values are pending.
+    /// No two keys of a list are equal, no key is in both, and at most `MOST_PENDING` values are
+    /// pending.
     pub fn keys_differ(&self)
         ensures pending { IsDistinct K.eq (keys_of self.now.pending) }
         ensures refused { IsDistinct K.eq (keys_of self.now.refused) }
-        ensures few { length self.now.pending ≤ 64 }
+        ensures few { length self.now.pending ≤ MOST_PENDING }
     {
         let _ = self.pending.len();
         let _ = self.refused.len();
@@ -131,16 +133,18 @@ impl<K: Copy + Eq + Hash, V: Drop> Queue<K, V> {
         }
     }
 
-    /// A value whose key is not known here joins the pending ones. It is `Full` exactly where 64 are pending, and gives the value back then; after want of memory the value is lost. After either fault nothing is changed.
+    /// A value whose key is not known here joins the pending ones. It is `Full`
+    /// exactly where `MOST_PENDING` are pending, and gives the value back then; after want of memory
+    /// the value is lost. After either fault nothing is changed.
     pub fn offer(&mut self, key: K, value: V) -> Result<Offered, OfferFault<V>>
         requires not_pending { at K.eq self.old.pending key ≡ None }
         requires not_refused { at K.eq self.old.refused key ≡ None }
         ensures queued { OnOk result (self.new.pending ≡ self.old.pending ++ (key, value) ∷ []) }
         ensures others { self.new.refused ≡ self.old.refused }
-        ensures full { (v : V) → IsErrOf result (OfferFault.Full v) ↔ ((length self.old.pending ≡ 64) × (v ≡ value)) }
+        ensures full { (v : V) → IsErrOf result (OfferFault.Full v) ↔ ((length self.old.pending ≡ MOST_PENDING) × (v ≡ value)) }
         ensures unchanged { OnErr result (self.new ≡ self.old) }
     {
-        if self.pending.len() >= 64 {
+        if self.pending.len() >= MOST_PENDING {
             return Err(OfferFault::Full { value });
         }
         match self.pending.insert(key, value) {
@@ -149,7 +153,8 @@ impl<K: Copy + Eq + Hash, V: Drop> Queue<K, V> {
         }
     }
 
-    /// A value whose key is not refused joins the refused ones, where nothing is pending. After want of memory nothing is changed.
+    /// A value whose key is not refused joins the refused ones, where nothing is pending. After
+    /// want of memory nothing is changed.
     pub fn keep(&mut self, key: K, value: V, reason: Reason) -> Result<(), AllocError>
         requires nothing_pending { self.old.pending ≡ [] }
         requires not_refused { at K.eq self.old.refused key ≡ None }
@@ -163,7 +168,9 @@ impl<K: Copy + Eq + Hash, V: Drop> Queue<K, V> {
         }
     }
 
-    /// Takes the pending value of a key out; with a reason it joins the refused ones. Nothing happens where no value of the key is pending. After want of memory nothing is changed; without a reason there is none.
+    /// Takes the pending value of a key out; with a reason it joins the refused ones. Nothing
+    /// happens where no value of the key is pending. After want of memory nothing is changed;
+    /// without a reason there is none.
     pub fn settle(&mut self, key: &K, reason: Option<Reason>) -> Result<(), AllocError>
         ensures pending { OnOk result (self.new.pending ≡ remove_entry (K.eq key.now) self.old.pending) }
         ensures refused { OnOk result (self.new.refused ≡ self.old.refused ++ refusal K.eq self.old key.now reason) }

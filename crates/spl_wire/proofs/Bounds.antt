@@ -2,10 +2,11 @@
 use Rattle.std.proofs.Common.{◌≡◌, ℕ, ◌+◌, ◌≤◌, true, ◌&&◌, IsTrue, List, [], ◌∷◌, ◌++◌, length, length-append, Bool, refl, subst, arith}
 use Rattle.std.specs.Int.{w8}
 use Rattle.std.specs.Prelude.{Option, Some, None}
+use Rattle.std.proofs.lemmas.Bool.{and_parts, and_from}
 use Rattle.spl_base.specs.Form.{Form, number_bytes}
-use Rattle.spl_base.specs.FormLaws.{wide8, wide32, both_true, and_true}
+use Rattle.spl_base.specs.FormLaws.{wide8, wide32}
 use Rattle.spl_agree.specs.declared.event.GroupChange.{GroupChange}
-use Rattle.spl_agree.specs.declared.event.GroupChange.TheVariants.{Queue, Refuse, Begin, Seen, Promise, Abort, Commit, Restore, Kept}
+use Rattle.spl_agree.specs.declared.event.GroupChange.TheVariants.{Queue, Refuse, Promise, Commit, Kept}
 use Rattle.spl_circuit.specs.declared.definition.Definition.{Definition}
 use Rattle.spl_circuit.specs.declared.act.Act.{Act}
 use Rattle.spl_circuit.specs.Forms.{node_id, definition, kind, act, word, exact_definition, exact_kind}
@@ -14,22 +15,24 @@ use Rattle.spl_command.specs.Forms.{batch}
 use Rattle.spl_command.specs.Rules.{broken_batch}
 use Rattle.spl_command.proofs.Valid.{bounded_from_valid}
 use Rattle.spl_wire.specs.Changes.{tag_of, bounded_change, change_form}
+use Rattle.spl_base.specs.Booleans.{none_is}
+use Rattle.spl_command.specs.declared.rules.TheConstants.{LONGEST_BATCH}
 use Rattle.spl_wire.specs.declared.change.Change.{Change}
 use Rattle.spl_wire.specs.declared.change.Change.TheVariants.{Bind, Admin, Service, Abandon, Purge}
 use Rattle.spl_wire.specs.Grouping.{value_in, meets, breaks_no_rule}
 use Rattle.spl_wire.specs.Bounds.{IsWritable, has_form}
 use Rattle.spl_wire.proofs.Short.{short-definition, short-node_id, short-kind}
-use Rattle.spl_wire.proofs.Small.{short-group, short-batch, spelled-admin, spelled-service, none_is}
+use Rattle.spl_wire.proofs.Small.{short-group, short-batch, spelled-admin, spelled-service}
 use Rattle.spl_wire.proofs.Sizes.{size-of}
 
 -- ---- values
 
 pub bounded-act : (v : Act) → IsTrue (has_form v) → IsTrue (act.bounded v)
-bounded-act v h = let b = both_true (node_id.fits v.node) (kind.fits v.kind) h in exact_kind.bounds v.kind b.1
+bounded-act v h = let b = and_parts (node_id.fits v.node) (kind.fits v.kind) h in exact_kind.bounds v.kind b.1
 
 pub short-act_of : (v : Act) → IsTrue (has_form v) → length (act.spell v) ≤ 3551
 short-act_of v h =
-    let b = both_true (node_id.fits v.node) (kind.fits v.kind) h in
+    let b = and_parts (node_id.fits v.node) (kind.fits v.kind) h in
     omega (arith, short-node_id v.node b.0, wide32.len v.turn, short-kind v.kind b.1, length-append (node_id.spell v.node) (word.spell v.turn ++ kind.spell v.kind), length-append (word.spell v.turn) (kind.spell v.kind))
 
 pub bounded-batch : (v : Batch) → breaks_no_rule (Some v) ≡ true → IsTrue (batch.bounded v)
@@ -40,36 +43,19 @@ bounded-batch v h = bounded_from_valid v (none_is (broken_batch v) h)
 module _ {V : Type 0} (f : Form V) where
   bounded-fields : (x : GroupChange V) → ((v : V) → value_in x ≡ Some v → IsTrue (f.bounded v)) → IsTrue (bounded_change f x)
   bounded-fields (Queue v) h = h v refl
-  bounded-fields (Refuse v why) h = and_true (f.bounded v) true (h v refl) refl
-  bounded-fields (Begin r) h = refl
-  bounded-fields (Seen r) h = refl
+  bounded-fields (Refuse v why) h = and_from (f.bounded v) true (h v refl) refl
   bounded-fields (Promise r v) h = h v refl
-  bounded-fields Abort h = refl
   bounded-fields (Commit r v) h = h v refl
-  bounded-fields (Restore next seen) h = refl
-  bounded-fields (Kept v why) h = and_true (f.bounded v) true (h v refl) refl
+  bounded-fields (Kept v why) h = and_from (f.bounded v) true (h v refl) refl
+  bounded-fields x h = refl
 
 bounded-admin : (x : GroupChange Act) → IsTrue (bounded_change act x) → IsTrue (change_form.bounded (Admin x))
 bounded-admin (Queue v) h = h
-bounded-admin (Refuse v why) h = h
-bounded-admin (Begin r) h = h
-bounded-admin (Seen r) h = h
-bounded-admin (Promise r v) h = h
-bounded-admin Abort h = h
-bounded-admin (Commit r v) h = h
-bounded-admin (Restore next seen) h = h
-bounded-admin (Kept v why) h = h
+bounded-admin x h = h
 
 bounded-service : (x : GroupChange Batch) → IsTrue (bounded_change batch x) → IsTrue (change_form.bounded (Service x))
 bounded-service (Queue v) h = h
-bounded-service (Refuse v why) h = h
-bounded-service (Begin r) h = h
-bounded-service (Seen r) h = h
-bounded-service (Promise r v) h = h
-bounded-service Abort h = h
-bounded-service (Commit r v) h = h
-bounded-service (Restore next seen) h = h
-bounded-service (Kept v why) h = h
+bounded-service x h = h
 
 -- a change can be written, in at most so many bytes
 pub record IsBrief (most : ℕ) (x : Change) : Type 0 where
@@ -95,7 +81,7 @@ brief-admin x h = record {
 pub brief-service : (x : GroupChange Batch) → breaks_no_rule (value_in x) ≡ true → IsBrief 8210 (Service x)
 brief-service x h = record {
   bounded = bounded-service x (bounded-fields batch x (λ v e. bounded-batch v (met _ (value_in x) v h e)));
-  short = rw (spelled-service x) (short-group batch 8192 (tag_of x) 2 x (λ v e. short-batch v (met _ (value_in x) v h e)));
+  short = rw (spelled-service x) (short-group batch LONGEST_BATCH (tag_of x) 2 x (λ v e. short-batch v (met _ (value_in x) v h e)));
 }
 
 pub brief-abandon : IsBrief 1 Abandon
@@ -113,7 +99,7 @@ module _ (c : List ℕ) (l : length c ≤ 11) where
   pub writable-one : (most : ℕ) (x : Change) → IsBrief most x → most ≤ 16371 → IsWritable c (x ∷ [])
   writable-one most x b m = record {
     few = omega arith;
-    bounded = and_true (change_form.bounded x) true b.bounded refl;
+    bounded = and_from (change_form.bounded x) true b.bounded refl;
     some = omega (arith, size-of c (x ∷ []));
     short = omega (arith, b.short, size-of c (x ∷ []), length-append (change_form.spell x) []);
   }
@@ -121,7 +107,7 @@ module _ (c : List ℕ) (l : length c ≤ 11) where
   pub writable-two : (m n : ℕ) (x y : Change) → IsBrief m x → IsBrief n y → m + n ≤ 16371 → IsWritable c (x ∷ y ∷ [])
   writable-two m n x y b d s = record {
     few = omega arith;
-    bounded = and_true (change_form.bounded x) (change_form.bounded y && true) b.bounded (and_true (change_form.bounded y) true d.bounded refl);
+    bounded = and_from (change_form.bounded x) (change_form.bounded y && true) b.bounded (and_from (change_form.bounded y) true d.bounded refl);
     some = omega (arith, size-of c (x ∷ y ∷ []));
     short = omega (arith, b.short, d.short, size-of c (x ∷ y ∷ []), length-append (change_form.spell x) (change_form.spell y ++ []), length-append (change_form.spell y) []);
   }

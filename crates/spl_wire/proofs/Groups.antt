@@ -2,8 +2,9 @@
 use Rattle.std.proofs.Common.{◌≡◌, ◌⊎◌, ℕ, ◌+◌, ◌<◌, ◌≤◌, true, false, List, [], ◌∷◌, ◌++◌, append_assoc, length, length-append, refl, ap, ◌∙◌, inl, inr, arith}
 use Rattle.std.specs.Prelude.{nat_lt, nat_le}
 use Rattle.std.specs.List.{list_all}
-use Rattle.std.proofs.lemmas.Bool.Decides.{nat_tests}
+use Rattle.std.proofs.lemmas.Bool.{le-leb}
 use Rattle.spl_agree.proofs.Tests.{bool_cases, and_left, and_right, ltb_is}
+use Rattle.spl_wire.specs.declared.record.TheConstants.{MOST_CHANGES}
 use Rattle.spl_wire.specs.declared.change.Change.{Change}
 use Rattle.spl_wire.specs.Grouping.{most_bytes, record_size, has_place, grouped_behind, grouped, together, is_sized, is_small}
 
@@ -20,20 +21,17 @@ module _ (c : List ℕ) where
   together-grouped [] = refl
   together-grouped (x ∷ xs) = together-behind (x ∷ []) xs
 
-  le_is : (a b : ℕ) → a ≤ b → nat_le a b ≡ true
-  le_is a b h = grind (arith, nat_tests)
-
-  sized : (xs : List Change) → 1 ≤ length xs → length xs ≤ 64 → nat_le (record_size c xs) most_bytes ≡ true → is_sized c xs ≡ true
-  sized xs some few small = rw (le_is 1 (length xs) some, le_is (length xs) 64 few, small)
+  sized : (xs : List Change) → 1 ≤ length xs → length xs ≤ MOST_CHANGES → nat_le (record_size c xs) most_bytes ≡ true → is_sized c xs ≡ true
+  sized xs some few small = rw (le-leb 1 (length xs) some, le-leb (length xs) MOST_CHANGES few, small)
 
   sized-one : (x : Change) → is_small c x ≡ true → is_sized c (x ∷ []) ≡ true
   sized-one x h = sized (x ∷ []) (omega arith) (omega arith) h
 
   sized-more : (group : List Change) (x : Change) → has_place c group x ≡ true → is_sized c (group ++ x ∷ []) ≡ true
   sized-more group x h =
-      let l : length group < 64 = ltb_is (length group) 64 (and_left (nat_lt (length group) 64) _ h) in
+      let l : length group < MOST_CHANGES = ltb_is (length group) MOST_CHANGES (and_left (nat_lt (length group) MOST_CHANGES) _ h) in
       let one : length (group ++ x ∷ []) ≡ length group + 1 = length-append group (x ∷ []) in
-      sized (group ++ x ∷ []) (omega arith) (omega arith) (and_right (nat_lt (length group) 64) _ h)
+      sized (group ++ x ∷ []) (omega arith) (omega arith) (and_right (nat_lt (length group) MOST_CHANGES) _ h)
 
   sized-behind : (group xs : List Change) → is_sized c group ≡ true → list_all (is_small c) xs ≡ true → list_all (is_sized c) (grouped_behind c group xs) ≡ true
   sized-behind group [] h k = rw h

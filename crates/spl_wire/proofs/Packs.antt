@@ -1,8 +1,6 @@
 -- Changes that come one by one become the records of their groups.
-use Rattle.std.proofs.Common.{◌≡◌, ◌⊎◌, ℕ, Bool, true, false, IsTrue, List, [], ◌∷◌, ◌++◌, append_assoc, append-nil, length, refl, sym, ap, subst, ◌∙◌, inl, inr, arith}
+use Rattle.std.proofs.Common.{◌≡◌, ◌⊎◌, ℕ, true, false, List, [], ◌∷◌, ◌++◌, append_assoc, append-nil, length, refl, sym, ap, subst, ◌∙◌, inl, inr, arith}
 use Rattle.std.specs.Prelude.{nat_lt}
-use Rattle.std.specs.List.{list_all}
-use Rattle.spl_base.specs.FormLaws.{both_true, and_true}
 use Rattle.spl_agree.proofs.Tests.{bool_cases, lt_is}
 use Rattle.spl_wire.specs.declared.change.Change.{Change}
 use Rattle.spl_wire.specs.declared.record.Record.{Record}
@@ -70,8 +68,3 @@ pub packed_finished : (c : List ℕ) (came : List Change) (p : PackingView) → 
 packed_finished c came p h =
     subst (λ (z : List ℕ). finished (record { circuit = z; records = p.records; group = p.group }) ≡ records_of c (grouped c came)) (sym h.circuit)
     (packed_done c came p.records p.group h.records)
-
--- one more that passes a test
-pub all_more : {A : Type 0} (p : A → Bool) (xs : List A) (x : A) → IsTrue (list_all p xs) → IsTrue (p x) → IsTrue (list_all p (xs ++ x ∷ []))
-all_more p [] x h k = and_true (p x) true k refl
-all_more p (y ∷ ys) x h k = let b = both_true (p y) (list_all p ys) h in and_true (p y) (list_all p (ys ++ x ∷ [])) b.0 (all_more p ys x b.1 k)

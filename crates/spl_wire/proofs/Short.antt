@@ -4,9 +4,9 @@ use Rattle.std.proofs.Math.Nat.{mul-le-mul_left}
 use Rattle.std.specs.Int.{Width, w8, w16, w32, w64, byte_len}
 use Rattle.std.specs.List.{flat_map, list_all}
 use Rattle.std.specs.Prelude.{nat_lt, nat_le}
-use Rattle.std.proofs.lemmas.Bool.{leb-true}
+use Rattle.std.proofs.lemmas.Bool.{leb-true, and_parts}
 use Rattle.spl_base.specs.Form.{Form, number, number_bytes, raw, text, ◌&◌, list_of}
-use Rattle.spl_base.specs.FormLaws.{IsWide, wide8, wide16, wide32, wide64, both_true}
+use Rattle.spl_base.specs.FormLaws.{IsWide, wide8, wide16, wide32, wide64}
 use Rattle.spl_circuit.specs.Forms.{node_id, label, service_id, circuit_id, byte, word, service, lists, definition, kind, act}
 use Rattle.spl_circuit.specs.declared.act.ActKind.TheVariants.{Propose, Accept, Reject, Remove}
 use Rattle.spl_agree.specs.declared.reason.Reason.{Reason}
@@ -20,27 +20,27 @@ short-number : (w : Width) (limit : ℕ) → IsWide w limit → IsShort (number 
 short-number w limit wide x h = omega (arith, wide.len x)
 
 short-raw : (n : ℕ) (p : List ℕ → Bool) → IsShort (raw n p) n
-short-raw n p x h = let b = both_true (nat_le n (length x) && nat_le (length x) n) (p x) h in let c = both_true (nat_le n (length x)) (nat_le (length x) n) b.0 in leb-true (length x) n c.1
+short-raw n p x h = let b = and_parts (nat_le n (length x) && nat_le (length x) n) (p x) h in let c = and_parts (nat_le n (length x)) (nat_le (length x) n) b.0 in leb-true (length x) n c.1
 
 short-text : (most : ℕ) (p : List ℕ → Bool) → IsShort (text most p) (2 + most)
 short-text most p x h =
-    let b = both_true (nat_le (length x) most) (p x) h in
+    let b = and_parts (nat_le (length x) most) (p x) h in
     omega (arith, leb-true (length x) most b.0, wide16.len (length x), length-append (number_bytes w16 (length x)) x)
 
 short-and : {A B : Type 0} (f : Form A) (g : Form B) (m n : ℕ) → IsShort f m → IsShort g n → IsShort (f & g) (m + n)
 short-and f g m n s t x h =
-    let b = both_true (f.fits x.0) (g.fits x.1) h in
+    let b = and_parts (f.fits x.0) (g.fits x.1) h in
     omega (arith, s x.0 b.0, t x.1 b.1, length-append (f.spell x.0) (g.spell x.1))
 
 short-items : {A : Type 0} (f : Form A) (n : ℕ) → IsShort f n → (xs : List A) → IsTrue (list_all f.fits xs) → length (flat_map f.spell xs) ≤ length xs * n
 short-items f n s [] h = omega arith
 short-items f n s (x ∷ xs) h =
-    let b = both_true (f.fits x) (list_all f.fits xs) h in
+    let b = and_parts (f.fits x) (list_all f.fits xs) h in
     omega (arith, s x b.0, short-items f n s xs b.1, length-append (f.spell x) (flat_map f.spell xs))
 
 short-list : {A : Type 0} (most : ℕ) (f : Form A) (n : ℕ) → IsShort f n → IsShort (list_of most f) (2 + n * most)
 short-list most f n s xs h =
-    let b = both_true (nat_le (length xs) most) (list_all f.fits xs) h in
+    let b = and_parts (nat_le (length xs) most) (list_all f.fits xs) h in
     omega (arith, short-items f n s xs b.1, mul-le-mul_left n (leb-true (length xs) most b.0), wide16.len (length xs), length-append (number_bytes w16 (length xs)) (flat_map f.spell xs))
 
 pub short-byte : IsShort byte 1
@@ -73,7 +73,7 @@ short-definition x h =
 
 pub short-kind : IsShort kind 3513
 short-kind (Propose d) h =
-    let b = both_true (nat_lt 1 256) (definition.fits d) h in
+    let b = and_parts (nat_lt 1 256) (definition.fits d) h in
     omega (arith, short-definition d b.1, wide8.len 1, length-append (number_bytes w8 1) (definition.spell d))
 short-kind Accept h = omega (arith, wide8.len 2, length-append (number_bytes w8 2) [])
 short-kind Reject h = omega (arith, wide8.len 3, length-append (number_bytes w8 3) [])

@@ -2,45 +2,40 @@
 use Rattle.std.proofs.Common.{◌≡◌, ℕ, ◌+◌, ◌≤◌, true, IsTrue, List, [], ◌∷◌, ◌++◌, length, length-append, refl, subst, arith}
 use Rattle.std.specs.Int.{w8, w16, w64}
 use Rattle.std.specs.Prelude.{Option, Some, None, nat_le, is_none}
-use Rattle.std.proofs.lemmas.Bool.{leb-true}
-use Rattle.std.proofs.lemmas.Bool.Decides.{nat_tests}
+use Rattle.std.proofs.lemmas.Bool.{leb-true, le-leb, and_parts}
 use Rattle.spl_base.specs.Form.{Form, number_bytes}
-use Rattle.spl_base.specs.FormLaws.{wide8, wide16, both_true}
+use Rattle.spl_base.specs.FormLaws.{wide8, wide16}
 use Rattle.spl_base.specs.Rules.{test_at}
 use Rattle.spl_agree.specs.declared.event.GroupChange.{GroupChange}
 use Rattle.spl_agree.specs.declared.event.GroupChange.TheVariants.{Queue, Refuse, Begin, Seen, Promise, Abort, Commit, Restore, Kept}
 use Rattle.spl_circuit.specs.declared.act.Act.{Act}
 use Rattle.spl_circuit.specs.Forms.{circuit_id, definition, word, act}
 use Rattle.spl_command.specs.declared.batch.Batch.{Batch}
+use Rattle.spl_base.specs.Booleans.{none_is}
 use Rattle.spl_command.specs.Forms.{batch}
+use Rattle.spl_command.specs.declared.rules.TheConstants.{LONGEST_BATCH}
 use Rattle.spl_command.specs.Rules.{rules_of, size_of, broken_batch}
 use Rattle.spl_wire.specs.Bodies.{long, reason}
 use Rattle.spl_wire.specs.Changes.{fields_of, fields, tag_of, fits_change, change_form}
 use Rattle.spl_wire.specs.Forms.{record_form}
+use Rattle.spl_wire.specs.declared.record.TheConstants.{MOST_CHANGES}
 use Rattle.spl_wire.specs.declared.change.Change.{Change}
 use Rattle.spl_wire.specs.declared.change.Change.TheVariants.{Bind, Admin, Service, Abandon, Purge, Turn, Gone}
 use Rattle.spl_wire.specs.Grouping.{most_bytes, record_of, record_size, value_in, breaks_no_rule, is_lawful, is_small}
 use Rattle.spl_wire.proofs.Short.{short-word, short-long, short-definition, short-act, short-circuit_id, short-reason}
 
-pub none_is : {A : Type 0} (o : Option A) → is_none o ≡ true → o ≡ None
-none_is None h = refl
-none_is (Some x) h = cc
-
-pub short-batch : (b : Batch) → is_none (broken_batch b) ≡ true → length (batch.spell b) ≤ 8192
-short-batch b h = leb-true (size_of b) 8192 (test_at 5 1 (rules_of b) (none_is (broken_batch b) h))
+pub short-batch : (b : Batch) → is_none (broken_batch b) ≡ true → length (batch.spell b) ≤ LONGEST_BATCH
+short-batch b h = leb-true (size_of b) LONGEST_BATCH (test_at 5 1 (rules_of b) (none_is (broken_batch b) h))
 
 module _ {V : Type 0} (f : Form V) where
   -- its value has a spelling where it has one
   value-fits : (x : GroupChange V) (v : V) → IsTrue (fits_change f x) → value_in x ≡ Some v → IsTrue (f.fits v)
   value-fits (Queue u) v h e = let same : u ≡ v = cc in subst (λ z. IsTrue (f.fits z)) same h
-  value-fits (Refuse u why) v h e = let same : u ≡ v = cc in subst (λ z. IsTrue (f.fits z)) same (both_true (f.fits u) (reason.fits why) h).0
-  value-fits (Begin n) v h e = cc
-  value-fits (Seen n) v h e = cc
-  value-fits (Promise n u) v h e = let same : u ≡ v = cc in subst (λ z. IsTrue (f.fits z)) same (both_true (long.fits n) (f.fits u) h).1
-  value-fits Abort v h e = cc
-  value-fits (Commit n u) v h e = let same : u ≡ v = cc in subst (λ z. IsTrue (f.fits z)) same (both_true (long.fits n) (f.fits u) h).1
-  value-fits (Restore n s) v h e = cc
-  value-fits (Kept u why) v h e = let same : u ≡ v = cc in subst (λ z. IsTrue (f.fits z)) same (both_true (f.fits u) (reason.fits why) h).0
+  value-fits (Refuse u why) v h e = let same : u ≡ v = cc in subst (λ z. IsTrue (f.fits z)) same (and_parts (f.fits u) (reason.fits why) h).0
+  value-fits (Promise n u) v h e = let same : u ≡ v = cc in subst (λ z. IsTrue (f.fits z)) same (and_parts (long.fits n) (f.fits u) h).1
+  value-fits (Commit n u) v h e = let same : u ≡ v = cc in subst (λ z. IsTrue (f.fits z)) same (and_parts (long.fits n) (f.fits u) h).1
+  value-fits (Kept u why) v h e = let same : u ≡ v = cc in subst (λ z. IsTrue (f.fits z)) same (and_parts (f.fits u) (reason.fits why) h).0
+  value-fits x v h e = cc
 
   -- the fields are little longer than the value
   short-fields : (most : ℕ) (x : GroupChange V) → ((v : V) → value_in x ≡ Some v → length (f.spell v) ≤ most) → length ((fields f).spell (fields_of x)) ≤ most + 16
@@ -63,47 +58,19 @@ module _ {V : Type 0} (f : Form V) where
 
 pub spelled-admin : (x : GroupChange Act) → change_form.spell (Admin x) ≡ number_bytes w8 (tag_of x) ++ (number_bytes w8 1 ++ (fields act).spell (fields_of x))
 spelled-admin (Queue v) = refl
-spelled-admin (Refuse v why) = refl
-spelled-admin (Begin n) = refl
-spelled-admin (Seen n) = refl
-spelled-admin (Promise n v) = refl
-spelled-admin Abort = refl
-spelled-admin (Commit n v) = refl
-spelled-admin (Restore n s) = refl
-spelled-admin (Kept v why) = refl
+spelled-admin x = refl
 
 pub spelled-service : (x : GroupChange Batch) → change_form.spell (Service x) ≡ number_bytes w8 (tag_of x) ++ (number_bytes w8 2 ++ (fields batch).spell (fields_of x))
 spelled-service (Queue v) = refl
-spelled-service (Refuse v why) = refl
-spelled-service (Begin n) = refl
-spelled-service (Seen n) = refl
-spelled-service (Promise n v) = refl
-spelled-service Abort = refl
-spelled-service (Commit n v) = refl
-spelled-service (Restore n s) = refl
-spelled-service (Kept v why) = refl
+spelled-service x = refl
 
 fits-admin : (x : GroupChange Act) → IsTrue (change_form.fits (Admin x)) → IsTrue (fits_change act x)
 fits-admin (Queue v) h = h
-fits-admin (Refuse v why) h = h
-fits-admin (Begin n) h = h
-fits-admin (Seen n) h = h
-fits-admin (Promise n v) h = h
-fits-admin Abort h = h
-fits-admin (Commit n v) h = h
-fits-admin (Restore n s) h = h
-fits-admin (Kept v why) h = h
+fits-admin x h = h
 
 fits-service : (x : GroupChange Batch) → IsTrue (change_form.fits (Service x)) → IsTrue (fits_change batch x)
 fits-service (Queue v) h = h
-fits-service (Refuse v why) h = h
-fits-service (Begin n) h = h
-fits-service (Seen n) h = h
-fits-service (Promise n v) h = h
-fits-service Abort h = h
-fits-service (Commit n v) h = h
-fits-service (Restore n s) h = h
-fits-service (Kept v why) h = h
+fits-service x h = h
 
 pub lawful-value : (o : Option Batch) (b : Batch) → breaks_no_rule o ≡ true → o ≡ Some b → is_none (broken_batch b) ≡ true
 lawful-value (Some u) b h e = let same : u ≡ b = cc in subst (λ (z : Batch). is_none (broken_batch z) ≡ true) same h
@@ -112,19 +79,16 @@ lawful-value None b h e = cc
 short-change : (x : Change) → IsTrue (change_form.fits x) → is_lawful x ≡ true → length (change_form.spell x) ≤ 8210
 short-change (Bind d) h l = omega (arith, short-definition d h, wide8.len 1, length-append (number_bytes w8 1) (definition.spell d))
 short-change (Admin x) h l = rw (spelled-admin x) (omega (arith, short-group act 3551 (tag_of x) 1 x (λ v e. short-act v (value-fits act x v (fits-admin x h) e))))
-short-change (Service x) h l = rw (spelled-service x) (short-group batch 8192 (tag_of x) 2 x (λ v e. short-batch v (lawful-value (value_in x) v l e)))
+short-change (Service x) h l = rw (spelled-service x) (short-group batch LONGEST_BATCH (tag_of x) 2 x (λ v e. short-batch v (lawful-value (value_in x) v l e)))
 short-change Abandon h l = omega (arith, wide8.len 9, length-append (number_bytes w8 9) [])
 short-change Purge h l = omega (arith, wide8.len 10, length-append (number_bytes w8 10) [])
 short-change (Turn n) h l = omega (arith, short-word n h, wide8.len 13, length-append (number_bytes w8 13) (word.spell n))
 short-change (Gone n) h l = omega (arith, short-word n h, wide8.len 14, length-append (number_bytes w8 14) (word.spell n))
 
-pub le_is : (a b : ℕ) → a ≤ b → nat_le a b ≡ true
-le_is a b h = grind (arith, nat_tests)
-
 pub small-change : (c : List ℕ) (x : Change) → IsTrue (record_form.fits (record_of c (x ∷ []))) → is_lawful x ≡ true → is_small c x ≡ true
 small-change c x h l =
-    let b = both_true (circuit_id.fits c) _ h in
-    let own : IsTrue (change_form.fits x) = (both_true (change_form.fits x) true (both_true (nat_le 1 64) _ b.1).1).0 in
+    let b = and_parts (circuit_id.fits c) _ h in
+    let own : IsTrue (change_form.fits x) = (and_parts (change_form.fits x) true (and_parts (nat_le 1 MOST_CHANGES) _ b.1).1).0 in
     let all = number_bytes w16 1 ++ (change_form.spell x ++ []) in
-    le_is (record_size c (x ∷ [])) most_bytes
+    le-leb (record_size c (x ∷ [])) most_bytes
     (omega (arith, short-change x own l, short-circuit_id c b.0, wide16.len 1, length-append c all, length-append (number_bytes w16 1) (change_form.spell x ++ []), length-append (change_form.spell x) []))

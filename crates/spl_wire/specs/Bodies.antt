@@ -48,20 +48,11 @@ module _ {V : Type 0} where
 
   there : (k : CommitMsg V) → commit_of (body_of k) ≡ k
   there (commit.VoteRequest g r p v) = refl
-  there (commit.Vote g r y) = refl
-  there (commit.Decision g r c) = refl
-  there (commit.DecisionRequest g r) = refl
-  there (commit.Forward g v) = refl
-  there (commit.Refused g v r) = refl
+  there k = refl
 
   back : (x : Body V) → body_of (commit_of x) ≡ x
-  back (inl x) = refl
-  back (inr (inl x)) = refl
-  back (inr (inr (inl x))) = refl
-  back (inr (inr (inr (inl x)))) = refl
-  back (inr (inr (inr (inr (inl x))))) = refl
-  back (inr (inr (inr (inr (inr (inl x)))))) = refl
   back (inr (inr (inr (inr (inr (inr x)))))) = absurd x
+  back x = refl
 
   -- the generation, and then: round, place and value; round and yes; round and commit; round; value; value and reason
   abbrev pub bodies : Form V → Cases (Body V)

@@ -3,7 +3,8 @@ use Rattle.std.specs.Prelude.{ℕ, ◌≤◌, Bool, true, ◌&&◌, IsTrue, List
 use Rattle.spl_circuit.specs.declared.act.Act.{Act}
 use Rattle.spl_circuit.specs.Forms.{node_id, definition, kind}
 use Rattle.spl_wire.specs.declared.change.Change.{Change}
-use Rattle.spl_wire.specs.declared.change.Change.TheVariants.{Bind, Admin, Service, Abandon, Purge, Turn, Gone}
+use Rattle.spl_wire.specs.declared.change.Change.TheVariants.{Bind, Admin}
+use Rattle.spl_wire.specs.declared.record.TheConstants.{MOST_CHANGES}
 use Rattle.spl_wire.specs.declared.message.Message.{Message}
 use Rattle.spl_wire.specs.declared.plan.Outgoing.{Outgoing}
 use Rattle.spl_wire.specs.Forms.{message_form, record_form}
@@ -11,7 +12,7 @@ use Rattle.spl_wire.specs.Grouping.{most_bytes, record_of, meets, value_in}
 
 -- at most 64 changes, 1 to 16,384 bytes, and each change can be written
 pub record IsWritable (c : List ℕ) (xs : List Change) : Type 0 where
-  pub few : length xs ≤ 64
+  pub few : length xs ≤ MOST_CHANGES
   pub bounded : IsTrue (record_form.bounded (record_of c xs))
   pub some : 1 ≤ length (record_form.spell (record_of c xs))
   pub short : length (record_form.spell (record_of c xs)) ≤ most_bytes
@@ -33,8 +34,4 @@ has_form v = node_id.fits v.node && kind.fits v.kind
 abbrev pub is_formed : Change → Bool
 is_formed (Bind d) = definition.fits d
 is_formed (Admin x) = meets has_form (value_in x)
-is_formed (Service x) = true
-is_formed Abandon = true
-is_formed Purge = true
-is_formed (Turn n) = true
-is_formed (Gone n) = true
+is_formed _ = true

@@ -168,62 +168,21 @@ behind_tag n s = by_tag kinds n s.place s >>= λ x. Ok (change_of x.0, x.1)
 there : (c : Change) → change_of (kind_of c) ≡ c
 there (Bind d) = refl
 there (Admin (Queue v)) = refl
-there (Admin (Refuse v r)) = refl
-there (Admin (Begin n)) = refl
-there (Admin (Seen n)) = refl
-there (Admin (Promise n v)) = refl
-there (Admin Abort) = refl
-there (Admin (Commit n v)) = refl
 there (Service (Queue v)) = refl
-there (Service (Refuse v r)) = refl
-there (Service (Begin n)) = refl
-there (Service (Seen n)) = refl
-there (Service (Promise n v)) = refl
-there (Service Abort) = refl
-there (Service (Commit n v)) = refl
-there (Admin (Restore n s)) = refl
-there (Admin (Kept v r)) = refl
-there (Service (Restore n s)) = refl
-there (Service (Kept v r)) = refl
-there Abandon = refl
-there Purge = refl
-there (Turn n) = refl
-there (Gone n) = refl
+there c = refl
 
 back : (x : Kind) → kind_of (change_of x) ≡ x
-back (inl d) = refl
-back (inr (inl (inl v))) = refl
-back (inr (inl (inr (inl v)))) = refl
 back (inr (inl (inr (inr x)))) = absurd x
-back (inr (inr (inl (inl y)))) = refl
-back (inr (inr (inl (inr (inl y))))) = refl
 back (inr (inr (inl (inr (inr x))))) = absurd x
-back (inr (inr (inr (inl (inl n))))) = refl
-back (inr (inr (inr (inl (inr (inl n)))))) = refl
 back (inr (inr (inr (inl (inr (inr x)))))) = absurd x
-back (inr (inr (inr (inr (inl (inl n)))))) = refl
-back (inr (inr (inr (inr (inl (inr (inl n))))))) = refl
 back (inr (inr (inr (inr (inl (inr (inr x))))))) = absurd x
-back (inr (inr (inr (inr (inr (inl (inl y))))))) = refl
-back (inr (inr (inr (inr (inr (inl (inr (inl y)))))))) = refl
 back (inr (inr (inr (inr (inr (inl (inr (inr x)))))))) = absurd x
-back (inr (inr (inr (inr (inr (inr (inl (inl u)))))))) = refl
-back (inr (inr (inr (inr (inr (inr (inl (inr (inl u))))))))) = refl
 back (inr (inr (inr (inr (inr (inr (inl (inr (inr x))))))))) = absurd x
-back (inr (inr (inr (inr (inr (inr (inr (inl (inl y))))))))) = refl
-back (inr (inr (inr (inr (inr (inr (inr (inl (inr (inl y)))))))))) = refl
 back (inr (inr (inr (inr (inr (inr (inr (inl (inr (inr x)))))))))) = absurd x
-back (inr (inr (inr (inr (inr (inr (inr (inr (inl u))))))))) = refl
-back (inr (inr (inr (inr (inr (inr (inr (inr (inr (inl u)))))))))) = refl
-back (inr (inr (inr (inr (inr (inr (inr (inr (inr (inr (inl (inl y)))))))))))) = refl
-back (inr (inr (inr (inr (inr (inr (inr (inr (inr (inr (inl (inr (inl y))))))))))))) = refl
 back (inr (inr (inr (inr (inr (inr (inr (inr (inr (inr (inl (inr (inr x))))))))))))) = absurd x
-back (inr (inr (inr (inr (inr (inr (inr (inr (inr (inr (inr (inl (inl y))))))))))))) = refl
-back (inr (inr (inr (inr (inr (inr (inr (inr (inr (inr (inr (inl (inr (inl y)))))))))))))) = refl
 back (inr (inr (inr (inr (inr (inr (inr (inr (inr (inr (inr (inl (inr (inr x)))))))))))))) = absurd x
-back (inr (inr (inr (inr (inr (inr (inr (inr (inr (inr (inr (inr (inl n))))))))))))) = refl
-back (inr (inr (inr (inr (inr (inr (inr (inr (inr (inr (inr (inr (inr (inl n)))))))))))))) = refl
 back (inr (inr (inr (inr (inr (inr (inr (inr (inr (inr (inr (inr (inr (inr x)))))))))))))) = absurd x
+back x = refl
 
 exact_rounded : {V : Type 0} (value : Form V) → IsExact value → IsExact (long & value)
 exact_rounded value p = exact_and _ _ exact_long p

@@ -13,6 +13,7 @@ use Rattle.spl_wire.specs.Changes.{change_form, exact_change}
 use Rattle.spl_wire.specs.declared.message.Message.{Message}
 use Rattle.spl_wire.specs.declared.message.Message.TheVariants as message
 use Rattle.spl_wire.specs.declared.record.Record.{Record}
+use Rattle.spl_wire.specs.declared.record.TheConstants.{MOST_CHANGES}
 
 -- ---- messages
 
@@ -49,9 +50,9 @@ exact_message = exact_via message_of lane_of _ there back (exact_tagged _ (
 
 -- ---- records
 
--- circuit, and at most 64 changes
+-- circuit, and changes
 abbrev pub record_form : Form Record
-record_form = via (λ x. record { circuit = x.0; changes = x.1 }) (λ r. (r.circuit, r.changes)) (circuit_id & list_of 64 change_form)
+record_form = via (λ x. record { circuit = x.0; changes = x.1 }) (λ r. (r.circuit, r.changes)) (circuit_id & list_of MOST_CHANGES change_form)
 
 pub exact_record : IsExact record_form
-exact_record = exact_via _ _ _ (λ _. refl) (λ _. refl) (exact_and _ _ exact_circuit_id (exact_list _ exact_change 64 (lit< tt)))
+exact_record = exact_via _ _ _ (λ _. refl) (λ _. refl) (exact_and _ _ exact_circuit_id (exact_list _ exact_change MOST_CHANGES (lit< tt)))

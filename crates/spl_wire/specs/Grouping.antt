@@ -1,17 +1,19 @@
 -- The records of a packed cell (docs/RULES.md, Byte forms).
 use Rattle.std.specs.Prelude.{ℕ, Bool, true, ◌&&◌, nat_lt, nat_le, List, [], ◌∷◌, ◌++◌, length, if◌then◌else◌, Option, Some, None, is_none}
+use Rattle.spl_base.specs.declared.limit.TheConstants.{LONGEST_BODY}
 use Rattle.spl_agree.specs.declared.event.GroupChange.{GroupChange}
-use Rattle.spl_agree.specs.declared.event.GroupChange.TheVariants.{Queue, Refuse, Begin, Seen, Promise, Abort, Commit, Restore, Kept}
+use Rattle.spl_agree.specs.declared.event.GroupChange.TheVariants.{Queue, Refuse, Promise, Commit, Kept}
 use Rattle.spl_command.specs.declared.batch.Batch.{Batch}
 use Rattle.spl_command.specs.Rules.{broken_batch}
 use Rattle.spl_wire.specs.declared.change.Change.{Change}
-use Rattle.spl_wire.specs.declared.change.Change.TheVariants.{Bind, Admin, Service, Abandon, Purge, Turn, Gone}
+use Rattle.spl_wire.specs.declared.change.Change.TheVariants.{Service}
 use Rattle.spl_wire.specs.declared.record.Record.{Record}
+use Rattle.spl_wire.specs.declared.record.TheConstants.{MOST_CHANGES}
 use Rattle.spl_wire.specs.Forms.{record_form}
 
 -- how many bytes a record has at most
 abbrev pub most_bytes : ℕ
-most_bytes = 16384
+most_bytes = LONGEST_BODY
 
 abbrev pub record_of : List ℕ → List Change → Record
 record_of c xs = record { circuit = c; changes = xs }
@@ -22,7 +24,7 @@ record_size c xs = length (record_form.spell (record_of c xs))
 
 -- one more change has a place in the record of these
 abbrev pub has_place : List ℕ → List Change → Change → Bool
-has_place c xs x = nat_lt (length xs) 64 && nat_le (record_size c (xs ++ x ∷ [])) most_bytes
+has_place c xs x = nat_lt (length xs) MOST_CHANGES && nat_le (record_size c (xs ++ x ∷ [])) most_bytes
 
 -- the changes in groups, the first of which has some already: a new group begins where the next change has no place
 abbrev pub grouped_behind : List ℕ → List Change → List Change → List (List Change)
@@ -45,7 +47,7 @@ together (xs ∷ xss) = xs ++ together xss
 
 -- a group has a change, and its record is within the bounds
 abbrev pub is_sized : List ℕ → List Change → Bool
-is_sized c xs = nat_le 1 (length xs) && (nat_le (length xs) 64 && nat_le (record_size c xs) most_bytes)
+is_sized c xs = nat_le 1 (length xs) && (nat_le (length xs) MOST_CHANGES && nat_le (record_size c xs) most_bytes)
 
 -- a change by itself makes such a record
 abbrev pub is_small : List ℕ → Change → Bool
@@ -56,13 +58,10 @@ is_small c x = nat_le (record_size c (x ∷ [])) most_bytes
 abbrev pub value_in : {V : Type 0} → GroupChange V → Option V
 value_in (Queue v) = Some v
 value_in (Refuse v why) = Some v
-value_in (Begin r) = None
-value_in (Seen r) = None
 value_in (Promise r v) = Some v
-value_in Abort = None
 value_in (Commit r v) = Some v
-value_in (Restore next seen) = None
 value_in (Kept v why) = Some v
+value_in _ = None
 
 -- the value, if there is one, meets a test
 abbrev pub meets : {V : Type 0} → (V → Bool) → Option V → Bool
@@ -74,10 +73,5 @@ breaks_no_rule o = meets (λ b. is_none (broken_batch b)) o
 
 -- the batch in it, if there is one, breaks no rule
 abbrev pub is_lawful : Change → Bool
-is_lawful (Bind d) = true
-is_lawful (Admin x) = true
 is_lawful (Service x) = breaks_no_rule (value_in x)
-is_lawful Abandon = true
-is_lawful Purge = true
-is_lawful (Turn n) = true
-is_lawful (Gone n) = true
+is_lawful _ = true

@@ -6,17 +6,14 @@ ghost use Rattle.spl_wire.specs.Grouping.{most_bytes, record_size, grouped, reco
 ghost use Rattle.spl_wire.specs.Packing.{is_full, closed, added, taken, finished};
 
 use crate::change::Change;
-use crate::record::{ChangeList, Record};
-use spl_base::{CircuitId, Listing, spelled};
+use crate::record::{ChangeList, MOST_CHANGES, Record};
+use spl_base::{CircuitId, LONGEST_BODY, Listing, spelled};
 use std::alloc::{AllocError, Global};
 use std::marker::Model;
 use std::mem;
 
 /// The records of a packed cell, in order.
 pub type PackedRecords = Listing<Record>;
-
-/// How many bytes a record has at most.
-const MOST_BYTES: usize = 16_384;
 
 /// Records so far, and the changes of the one that is begun, with how many bytes it has left.
 #[derive(Drop)]
@@ -54,7 +51,7 @@ fn size_of(alloc: Global, change: &Change) -> Result<usize, AllocError>
 fn left_at_first(circuit: CircuitId) -> usize
     ensures { result ≡ most_bytes - record_size circuit [] }
 {
-    MOST_BYTES.saturating_sub(circuit.bytes().len() + 2)
+    LONGEST_BODY.saturating_sub(circuit.bytes().len() + 2)
 }
 
 impl Packing {
@@ -76,7 +73,8 @@ impl Packing {
         requires { bytes ≡ length (change_form.spell change.now) }
         ensures { result ≡ is_full self.now change.now }
     {
-        self.group.len() > 0 && !(self.group.len() < 64 && bytes <= self.left)
+        self.group.len() > 0
+            && !(self.group.len() < usize::from(MOST_CHANGES) && bytes <= self.left)
     }
 
     /// The record that is begun is the last one, and none is begun.
@@ -126,7 +124,7 @@ impl Packing {
 }
 
 /// The records of changes of a circuit, in order. A new record begins where the next change would
-/// make 65 changes or more than 16,384 bytes. An error comes for want of memory alone.
+/// make it too long. An error comes for want of memory alone.
 #[tactic(auto, using(crate::proofs::Packs::packed_none, crate::proofs::Packs::packed_finished))]
 pub fn packed_records(
     alloc: Global,

@@ -8,6 +8,9 @@ use spl_base::{
 };
 use std::alloc::{AllocError, Global};
 
+/// How many changes a record has at most.
+pub const MOST_CHANGES: u16 = 64;
+
 /// Changes in their order.
 pub type ChangeList = Listing<Change>;
 
@@ -30,7 +33,7 @@ impl Field for Record {
 
     fn take_parts(alloc: Global, r: &mut Reader) -> Result<Record, Malformed> {
         let circuit = CircuitId::take_parts(alloc, r)?;
-        let changes = take_list(alloc, r, 64)?;
+        let changes = take_list(alloc, r, MOST_CHANGES)?;
         Ok(Record { circuit, changes })
     }
 
@@ -43,7 +46,7 @@ impl Record {
     ghost use Rattle.spl_wire.specs.Forms.{record_form};
     ghost use Rattle.spl_wire.specs.declared.record.Record.{Record as Kept};
 
-    /// The byte form, which a record of at most 64 changes has where each definition in it has at
+    /// The byte form, which a record of at most `MOST_CHANGES` changes has where each definition in it has at
     /// most 16 members and at most 16 services, and each batch in it has lists of at most 1,024
     /// items and byte strings of at most 1,024 bytes. Fails only where memory runs out.
     pub fn write(&self, alloc: Global) -> Result<Piece, AllocError>

@@ -1,5 +1,6 @@
 use Rattle.spl_wire.specs.Changes.{change_form}
-use Rattle.spl_wire.proofs.Packs.{packed_taken, all_more}
+use Rattle.spl_base.specs.Booleans.{all_more}
+use Rattle.spl_wire.proofs.Packs.{packed_taken}
 use Rattle.spl_wire.proofs.packing.packed_records.Goals as goal
 
 pub loop-change-preserved : goal.loop-change-preserved
