@@ -18,8 +18,8 @@ use Rattle.spl_agreement.proofs.Positions.{position-apart, position-below}
 use Rattle.spl_agreement.proofs.Rosters.{IsRoster, roster}
 use Rattle.spl_model.specs.Worlds.{Occurrence, world_behind}
 use Rattle.spl_agreement.specs.Lists.{act_list, batch_list}
-use Rattle.spl_agreement.proofs.GroupOfDefinition.{GroupMessage, Presence, Ever, SomeWorld, InLane, Lane}
-use Rattle.spl_agreement.proofs.GroupWorlds.{admin_presence, service_presence, admin_said, service_said, admin_lane, service_lane}
+use Rattle.spl_agreement.proofs.GroupOfDefinition.{GroupMessage, Presence, Ever, SomeWorld, InGroups, Groups}
+use Rattle.spl_agreement.proofs.GroupWorlds.{admin_presence, service_presence, admin_said, service_said, admin_groups, service_groups}
 use Rattle.spl_agreement.proofs.CoupledSteps.{Past}
 use Rattle.spl_agreement.proofs.CoupledDeeds.{SomePast}
 use Rattle.spl_agreement.proofs.Occurrences.{run-past}
@@ -67,25 +67,25 @@ pub good-differ : (before bs : List Batch) → AllGood batch_rules before bs →
 good-differ before [] g = tt
 good-differ before (v ∷ vs) g = (fresh_in v.id (before ++ v ∷ []) vs (is_taken-last before v) g.1, good-differ (before ++ v ∷ []) vs g.1)
 
--- the list of a lane is good
-pub lane-good : {V : Type 0} (lane : Lane V) (d : Definition) (past : Past) (at : Node → Presence V) (said : GroupMessage V → Type 0) (list : List V) → InLane lane d past at said list → AllGood (lane.rules d) [] list
-lane-good {V} lane d past at said list c = go c.empty
+-- the list of such groups is good
+pub groups-good : {V : Type 0} (groups : Groups V) (d : Definition) (past : Past) (at : Node → Presence V) (said : GroupMessage V → Type 0) (list : List V) → InGroups groups d past at said list → AllGood (groups.rules d) [] list
+groups-good {V} groups d past at said list c = go c.empty
   where
-    go : (list ≡ []) ⊎ Ever (lane.leader d) d past → AllGood (lane.rules d) [] list
-    go (inl h) = subst (λ (z : List V). AllGood (lane.rules d) [] z) (sym h) tt
+    go : (list ≡ []) ⊎ Ever (groups.leader d) d past → AllGood (groups.rules d) [] list
+    go (inl h) = subst (λ (z : List V). AllGood (groups.rules d) [] z) (sym h) tt
     go (inr h) = (c.coupled h).1.good
 
 -- the ids of the circuit's list of batches differ
 pub ids-differ : (ns : List Node) (d : Definition) (es : List Occurrence) → AllPlain es → AllDiffer (batch_list ns d es)
 ids-differ ns d es h =
     let v : SomePast [] (world_behind ns es).at (world_behind ns es).sent (λ f. act_list ns f es) (λ f. batch_list ns f es) = run-past ns es h in
-    good-differ [] (batch_list ns d es) (lane-good service_lane d v.0 (λ k. service_presence ((world_behind ns es).at k)) (service_said (world_behind ns es).sent) (batch_list ns d es) (v.2.services d))
+    good-differ [] (batch_list ns d es) (groups-good service_groups d v.0 (λ k. service_presence ((world_behind ns es).at k)) (service_said (world_behind ns es).sent) (batch_list ns d es) (v.2.services d))
 
 -- where there are acts, every member was bound
-pub all-ever : (d : Definition) (past : Past) (at : Node → Presence Act) (said : GroupMessage Act → Type 0) (list : List Act) (n : Node) → ((k : Node) (e : Definition) → Ever k e past → broken e ≡ None) → list ≢ [] → has_node d.members n ≡ true → InLane admin_lane d past at said list → Ever n d past
+pub all-ever : (d : Definition) (past : Past) (at : Node → Presence Act) (said : GroupMessage Act → Type 0) (list : List Act) (n : Node) → ((k : Node) (e : Definition) → Ever k e past → broken e ≡ None) → list ≢ [] → has_node d.members n ≡ true → InGroups admin_groups d past at said list → Ever n d past
 all-ever d past at said list n ruled some mem c = go c.empty
   where
-    by_world : IsRoster d → SomeWorld admin_lane d past at said list → Ever n d past
+    by_world : IsRoster d → SomeWorld admin_groups d past at said list → Ever n d past
     by_world r w = pick (w.1.never n below) (node_cases n (admin d))
       where
         below : position d.members n < length d.members

@@ -40,7 +40,7 @@ abbrev pub no_view : View
 no_view = record { done = []; pending = []; refused = [] }
 
 abbrev pub sight : Cell → Sight
-sight (Held d m turn a b) = Sees d (view a)
+sight (Held h) = Sees h.definition (view h.acts)
 sight _ = Nowhere
 
 -- equal sights have equal parts

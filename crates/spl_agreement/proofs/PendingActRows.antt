@@ -29,7 +29,7 @@ use Rattle.spl_agreement.proofs.Same.{act_same}
 use Rattle.spl_agreement.proofs.Positions.{member_by, position-apart, position-or}
 use Rattle.spl_agreement.proofs.GroupOfDefinition.{GroupMessage, Ever, IsPlaced, AllPosts, group_of}
 use Rattle.spl_agreement.proofs.SentByRule.{posts-to_each, posts-abort_each}
-use Rattle.spl_agreement.proofs.GroupWorlds.{admin_lane}
+use Rattle.spl_agreement.proofs.GroupWorlds.{admin_groups}
 use Rattle.spl_agreement.proofs.CoupledSteps.{Past}
 use Rattle.spl_agreement.proofs.KnownStays.{refused-last}
 use Rattle.spl_agreement.proofs.PendingActLists.{Among, among-last, found-among, key-same, key-back, key-parts, act-is, both-not}
@@ -39,7 +39,7 @@ use Rattle.spl_agreement.proofs.PendingActMessages.{IsFew}
 
 -- the admin group of a definition
 abbrev pub group : Definition → Group Act
-group e = group_of admin_lane e
+group e = group_of admin_groups e
 
 -- what a cell sends with these acts: what it forwards is pending there, what it returns is settled there or a proposal
 abbrev pub IsMild : Node → Definition → View → ℕ → CommitMsg Act → Type 0
@@ -99,7 +99,7 @@ fit-commit past said n e a r [] = (tt, tt)
 fit-commit past said n e a r (v ∷ vs) = (tt, posts-to_each (IsMild n e (shifted (view a) (change.Commit r v))) (msg.Decision e.generation r true) (others (group e) (position e.members n)) (λ i. tt))
 
 -- any vote
-pub fit-vote : (past : Past) (said : GroupMessage Act → Type 0) (n : Node) (e : Definition) (a : Member Act) (o : Option (ℕ × List ℕ)) (sender r : ℕ) (aye : Bool) → IsPlaced admin_lane e n → Fit past said n e a (on_vote (group e) (position e.members n) a o sender r aye)
+pub fit-vote : (past : Past) (said : GroupMessage Act → Type 0) (n : Node) (e : Definition) (a : Member Act) (o : Option (ℕ × List ℕ)) (sender r : ℕ) (aye : Bool) → IsPlaced admin_groups e n → Fit past said n e a (on_vote (group e) (position e.members n) a o sender r aye)
 fit-vote past said n e a None sender r aye p = (tt, tt)
 fit-vote past said n e a (Some o) sender r aye p = if_holds (Fit past said n e a) (position e.members n == position e.members (admin e) && o.0 == r) _ _
     (λ q. counted (position-apart e.members n (admin e) p.few p.here (eqb_is (position e.members n) (position e.members (admin e)) (and_left (position e.members n == position e.members (admin e)) (o.0 == r) q))) aye) (λ q. (tt, tt))
@@ -183,7 +183,7 @@ fit-taken_back past said n e a None v why h was = (tt, tt)
 fit-taken_back past said n e a (Some u) v why h was = if_holds (Fit past said n e a) (same_act u v) _ _ (λ q. (inr (subst (λ (z : Act). Among z a.pending) (act-is u v q) (found-among (same_act_key v) u a.pending h).0, was), tt)) (λ q. (tt, tt))
 
 -- a forwarded act comes from the coordinator's group
-pub fit-forward : (past past2 : Past) (see : Node → Sight) (said : GroupMessage Act → Type 0) (n back : Node) (e : Definition) (a : Member Act) (sender gen : ℕ) (v : Act) → IsFew past see said → Ever n e past2 → IsPlaced admin_lane e n → IsTidy past2 said n e (view a) → n ≡ admin e → has sender (others (group e) (position e.members n)) ≡ true
+pub fit-forward : (past past2 : Past) (see : Node → Sight) (said : GroupMessage Act → Type 0) (n back : Node) (e : Definition) (a : Member Act) (sender gen : ℕ) (v : Act) → IsFew past see said → Ever n e past2 → IsPlaced admin_groups e n → IsTidy past2 said n e (view a) → n ≡ admin e → has sender (others (group e) (position e.members n)) ≡ true
     → IsReady past2 said n back e a (event.From sender (msg.Forward gen v)) → Fit past2 said n e a (admitted (group e) a sender v (admits_act e sender v))
 fit-forward past past2 see said n back e a sender gen v f ever p t lead member ready = fit-admitted past2 said n e a sender v (admits_act e sender v) refl one join
   where
@@ -219,7 +219,7 @@ fit-forward past past2 see said n back e a sender gen v f ever p t lead member r
     }
 
 -- any message
-pub fit-message : (past past2 : Past) (see : Node → Sight) (said : GroupMessage Act → Type 0) (n back : Node) (e : Definition) (a : Member Act) (sender : ℕ) (x : CommitMsg Act) → IsFew past see said → Ever n e past2 → IsPlaced admin_lane e n → IsTidy past2 said n e (view a)
+pub fit-message : (past past2 : Past) (see : Node → Sight) (said : GroupMessage Act → Type 0) (n back : Node) (e : Definition) (a : Member Act) (sender : ℕ) (x : CommitMsg Act) → IsFew past see said → Ever n e past2 → IsPlaced admin_groups e n → IsTidy past2 said n e (view a)
     → IsReady past2 said n back e a (event.From sender x) → Fit past2 said n e a (on_message (group e) (position e.members n) a sender x)
 fit-message past past2 see said n back e a sender (msg.VoteRequest gen r place v) f ever p t ready = if_holds (Fit past2 said n e a) (sender == position e.members (admin e)) _ _ (λ q. fit-requested past2 said n e a a.promise sender r place v) (λ q. (tt, (tt, tt)))
 fit-message past past2 see said n back e a sender (msg.Vote gen r aye) f ever p t ready = fit-vote past2 said n e a a.opened sender r aye p
@@ -269,7 +269,7 @@ fit-member_tick past said n e a None o = go a.pending refl
     go (v ∷ vs) h = (tt, ((refl, refl, o, subst (λ (us : List Act). Among v us) (sym h) (inl refl)), tt))
 
 -- any event
-pub fit-row : (past past2 : Past) (see : Node → Sight) (said : GroupMessage Act → Type 0) (n back : Node) (e : Definition) (a : Member Act) (ev : GroupEvent Act) → IsFew past see said → Ever n e past2 → IsPlaced admin_lane e n → IsTidy past2 said n e (view a)
+pub fit-row : (past past2 : Past) (see : Node → Sight) (said : GroupMessage Act → Type 0) (n back : Node) (e : Definition) (a : Member Act) (ev : GroupEvent Act) → IsFew past see said → Ever n e past2 → IsPlaced admin_groups e n → IsTidy past2 said n e (view a)
     → IsReady past2 said n back e a ev → Fit past2 said n e a (row (group e) (position e.members n) a ev)
 fit-row past past2 see said n back e a event.Tick f ever p t ready = if_holds (Fit past2 said n e a) (position e.members n == position e.members (admin e)) _ _
     (λ q. fit-tick past2 said n e a a.opened (position-apart e.members n (admin e) p.few p.here (eqb_is _ _ q)))

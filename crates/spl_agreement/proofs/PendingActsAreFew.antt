@@ -21,7 +21,7 @@ use Rattle.spl_agreement.specs.Agreement.{AtEach, AreFew, is_proposal, is_propos
 use Rattle.spl_model.specs.Plain.{AllPlain, IsPlain}
 use Rattle.spl_model.proofs.Nodes.{node_is, node_cases}
 use Rattle.spl_agreement.proofs.GroupOfDefinition.{GroupMessage, Ever, group_of}
-use Rattle.spl_agreement.proofs.GroupWorlds.{InWorld, Others, WasSent, admin_lane, admin_said, was-split, was-left}
+use Rattle.spl_agreement.proofs.GroupWorlds.{InWorld, Others, WasSent, admin_groups, admin_said, was-split, was-left}
 use Rattle.spl_agreement.proofs.CoupledSteps.{Past}
 use Rattle.spl_agreement.proofs.CoupledDeeds.{SomePast, put-others}
 use Rattle.spl_model.proofs.Puts.{put_at-same}
@@ -39,7 +39,7 @@ view-moved g i a move.Keep = refl
 view-moved g i a _ = refl
 
 pub sight-moved : (n : Node) (k : Cell) (x y : OpenMove) → sight (moved_cell n k x y) ≡ sight k
-sight-moved n (Held d m t a b) x y = ap (λ (w : View). Sees d w) (view-moved (group_of admin_lane d) (position d.members n) a x)
+sight-moved n (Held h) x y = ap (λ (w : View). Sees h.definition w) (view-moved (group_of admin_groups h.definition) (position h.definition.members n) h.acts x)
 sight-moved n _ x y = refl
 
 pub sight-stopped : (k : Cell) → sight (stopped_cell k) ≡ sight k
@@ -171,7 +171,7 @@ are-few past see said n d w f is lead = record {
         (other_kind q x a) (other_kind q y b) d w is refl lead)
 
 -- behind anything that happened
-pub few-behind : (ns : List Node) (es : List Occurrence) (d : Definition) → AllPlain es → AtEach (world_behind ns es) d (λ n m turn a b. n ≡ admin d → AreFew a.pending)
-few-behind ns es d h n m turn a b is lead =
+pub few-behind : (ns : List Node) (es : List Occurrence) (d : Definition) → AllPlain es → AtEach (world_behind ns es) d (λ n b. n ≡ admin d → AreFew b.acts.pending)
+few-behind ns es d h n b is same lead =
     let v : SomeFew (world_behind ns es).at (world_behind ns es).sent = few-run (first_world ns) es h ([], (λ f. []), (λ f. []), world-start, few-start) in
-    are-few v.0 (sights (world_behind ns es).at) (admin_said (world_behind ns es).sent) n d (view a) v.4 (ap sight is) lead
+    are-few v.0 (sights (world_behind ns es).at) (admin_said (world_behind ns es).sent) n d (view b.acts) v.4 (ap sight is ∙ ap (λ (z : Definition). Sees z (view b.acts)) same) lead

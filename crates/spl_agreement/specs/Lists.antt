@@ -51,7 +51,7 @@ batches_in (x ∷ xs) = batch_of x ++ batches_in xs
 
 -- the cell is bound to this definition
 abbrev pub is_bound_to : Definition → Cell → Bool
-is_bound_to d (Held e m turn a b) = same_definition e d
+is_bound_to d (Held h) = same_definition h.definition d
 is_bound_to d _ = false
 
 -- what is committed at the cell of a circuit's coordinator while it is bound to the circuit

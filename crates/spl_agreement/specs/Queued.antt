@@ -28,13 +28,13 @@ pub data Value : Type 0 where
 
 -- it is known at a cell
 abbrev pub knows : Value → Cell → Bool
-knows (OfActs v) (Held d m turn a b) = is_some (known (act_rules d) a v)
-knows (OfBatches v) (Held d m turn a b) = is_some (known batch_rules b v)
+knows (OfActs v) (Held h) = is_some (known (act_rules h.definition) h.acts v)
+knows (OfBatches v) (Held h) = is_some (known batch_rules h.batches v)
 knows v _ = false
 
 -- the turn of the node's last act
 abbrev pub turn_of : Cell → ℕ
-turn_of (Held d m turn a b) = turn
+turn_of (Held h) = h.turn
 turn_of _ = 0
 
 -- the value that a message hands on

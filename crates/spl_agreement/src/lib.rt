@@ -14,8 +14,8 @@ ghost use Rattle.spl_agreement.specs.OneList.{TellOneList};
 /// A cell that is bound to a definition stays bound to it, or is purged, or is bound to a later
 /// generation; and the first act that it commits is the proposal of that definition.
 pub fn bindings_are_final()
-    ensures past { (ns : List Node) (es fs : List Occurrence) (d : Definition) → AllPlain es → AllPlain fs → AtEach (world_behind ns es) d (λ n m turn a b. IsPast d ((occur (world_behind ns es) fs).at n)) }
-    ensures first { (ns : List Node) (es : List Occurrence) (d : Definition) → AllPlain es → AtEach (world_behind ns es) d (λ n m turn a b. FirstIsProposal d a) }
+    ensures past { (ns : List Node) (es fs : List Occurrence) (d : Definition) → AllPlain es → AllPlain fs → AtEach (world_behind ns es) d (λ n h. IsPast d ((occur (world_behind ns es) fs).at n)) }
+    ensures first { (ns : List Node) (es : List Occurrence) (d : Definition) → AllPlain es → AtEach (world_behind ns es) d (λ n h. FirstIsProposal d h.acts) }
 {}
 
 /// Whatever happens in the world of a circuit, its members agree; so they do at each moment of any
