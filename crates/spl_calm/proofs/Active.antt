@@ -20,7 +20,8 @@ use Rattle.spl_circuit.specs.Lifecycle.{Life, life, is_active, is_proposed}
 use Rattle.spl_circuit.specs.Acts.{reason, misfit, misfit_kind, misfit_vote, is_first, act_rules}
 use Rattle.spl_rules.specs.Cells.{runs}
 use Rattle.spl_agreement.proofs.GroupOfDefinition.{group_of, all_committed, history-after}
-use Rattle.spl_agreement.proofs.GroupWorlds.{admin_lane}
+use Rattle.spl_calm.specs.Settled.{is_active_by}
+use Rattle.spl_agreement.proofs.GroupWorlds.{admin_groups}
 
 some_none : (x : Reason) → Some x ≡ None → ⊥
 some_none x h = cc
@@ -52,9 +53,9 @@ good-behind {V} rules before [] ys a = subst (λ (z : List V). AllGood rules z y
 good-behind {V} rules before (x ∷ xs) ys a = subst (λ (z : List V). AllGood rules z ys) (append_assoc before (x ∷ []) xs) (good-behind rules (before ++ x ∷ []) xs ys a.1)
 
 -- so a row leaves an active circuit active
-pub active-after : (d : Definition) (i : ℕ) (a : Member Act) (p : GroupPlan Act) → runs d a ≡ true → AllGood (act_rules d) [] (values (after (group_of admin_lane d) i a p).history) → runs d (after (group_of admin_lane d) i a p) ≡ true
-active-after d i a p h good = go (all_committed p.changes) (history-after (group_of admin_lane d) i a p)
+pub active-after : (d : Definition) (i : ℕ) (a : Member Act) (p : GroupPlan Act) → is_active_by d a ≡ true → AllGood (act_rules d) [] (values (after (group_of admin_groups d) i a p).history) → is_active_by d (after (group_of admin_groups d) i a p) ≡ true
+active-after d i a p h good = go (all_committed p.changes) (history-after (group_of admin_groups d) i a p)
   where
-    go : (cs : List Act) → values (after (group_of admin_lane d) i a p).history ≡ values a.history ++ cs → runs d (after (group_of admin_lane d) i a p) ≡ true
+    go : (cs : List Act) → values (after (group_of admin_groups d) i a p).history ≡ values a.history ++ cs → is_active_by d (after (group_of admin_groups d) i a p) ≡ true
     go [] e = subst (λ (z : List Act). is_active (life d z).state ≡ true) (sym (e ∙ append-nil _)) h
     go (v ∷ vs) e = absurd (no-more d (values a.history) v h (good-behind (act_rules d) [] (values a.history) (v ∷ vs) (subst (λ (z : List Act). AllGood (act_rules d) [] z) e good)).0)

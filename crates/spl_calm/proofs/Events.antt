@@ -17,7 +17,7 @@ use Rattle.spl_rules.specs.Cells.{Cell, Refuses}
 use Rattle.spl_rules.specs.Plans.{plan_of}
 use Rattle.spl_settle.specs.Calm.{Calm, left, ticked, delivered, deliver, turn_by}
 use Rattle.spl_settle.proofs.Moves.{left-same, left-cases}
-use Rattle.spl_model.specs.Worlds.{World, messages, carried_out, delivery, step_plan, step_world}
+use Rattle.spl_model.specs.Worlds.{World, messages, carried_out, delivery, step_plan, step_world, site_at}
 use Rattle.spl_agreement.proofs.Positions.{position-apart, position-below}
 use Rattle.spl_agreement.proofs.GroupOfDefinition.{group_of}
 use Rattle.spl_calm.proofs.Shapes.{Shape, owned, owns, Gives, IsMet}
@@ -30,13 +30,13 @@ pub met-at : {V : Type 0} (s : Shape V) (IsOn : Definition → Cell → Type 0) 
 met-at s IsOn d Inv run w taken k n q h = record { member = h; on = run.on w taken q.inv n h; stands = q.same n h }
 
 -- a tick at a member
-pub sim-tick : {V : Type 0} (s : Shape V) (IsOn : Definition → Cell → Type 0) (d : Definition) (Inv : World → (Node → Node → ℕ) → Type 0) → IsCarried s IsOn d Inv → (c n : Node) (w : World) (taken : Node → Node → ℕ) (k : Calm V) → has_node d.members n ≡ true → Sim s d Inv w taken k → Sim s d Inv (step_world w (step.At n c event.Tick)) taken (ticked (group_of s.lane d) (position d.members n) k)
-sim-tick {V} s IsOn d Inv run c n w taken k h q = subst (λ (p : Plan). Inv (carried_out w n p) taken → Sim s d Inv (carried_out w n p) taken (ticked (group_of s.lane d) (position d.members n) k)) (sym same)
+pub sim-tick : {V : Type 0} (s : Shape V) (IsOn : Definition → Cell → Type 0) (d : Definition) (Inv : World → (Node → Node → ℕ) → Type 0) → IsCarried s IsOn d Inv → (c n : Node) (w : World) (taken : Node → Node → ℕ) (k : Calm V) → has_node d.members n ≡ true → Sim s d Inv w taken k → Sim s d Inv (step_world w (step.At n c event.Tick)) taken (ticked (group_of s.groups d) (position d.members n) k)
+sim-tick {V} s IsOn d Inv run c n w taken k h q = subst (λ (p : Plan). Inv (carried_out w n p) taken → Sim s d Inv (carried_out w n p) taken (ticked (group_of s.groups d) (position d.members n) k)) (sym same)
     (λ inv. sim-moves s d Inv w taken taken k n plan group.Tick k.due (few_members d run.ruled).1 h inv (run.shaped.ticks c n (w.at n) (k.world.at (position d.members n)) (met-at s IsOn d Inv run w taken k n q h)) (sim-stands s d Inv w taken k q) q)
     (run.lasts.ticks c n w taken q.inv)
   where
     plan : Plan
-    plan = plan_of n c (w.at n) event.Tick
+    plan = plan_of (site_at n c) (w.at n) event.Tick
 
     same : step_plan w (step.At n c event.Tick) ≡ plan
     same = if_true (λ (p : Plan). p ≡ plan) (w.up n) _ _ (q.up n h) refl
@@ -76,7 +76,7 @@ delivery-plan c from to w number t o e up get = if_true (λ (p : Plan). p ≡ de
 -- a delivery between members
 pub sim-deliver : {V : Type 0} (s : Shape V) (IsOn : Definition → Cell → Type 0) (d : Definition) (Inv : World → (Node → Node → ℕ) → Type 0) → IsCarried s IsOn d Inv → (c from to : Node) (w : World) (taken : Node → Node → ℕ) (k : Calm V) (number t : ℕ) (x : Message) → number ≡ suc t → taken from to ≡ t → t < length (messages w from to) → slice_get (messages w from to) t ≡ Some x → drop t (messages w from to) ≡ x ∷ drop (suc t) (messages w from to)
     → has_node d.members from ≡ true → has_node d.members to ≡ true → from ≢ to → (o : Option (CommitMsg V)) → s.own d from to x ≡ o → Sim s d Inv w taken k
-    → (k2 : Calm V) × Sim s d Inv (step_world w (step.Deliver from to c number)) (took taken from to (suc t)) k2 × ((ms : List (CommitMsg V)) → turn_by (group_of s.lane d) (position d.members from) (position d.members to) (owned o ms) k ≡ turn_by (group_of s.lane d) (position d.members from) (position d.members to) ms k2) × ((k2 ≡ k) ⊎ (k2 ≡ deliver (group_of s.lane d) (position d.members from) (position d.members to) k))
+    → (k2 : Calm V) × Sim s d Inv (step_world w (step.Deliver from to c number)) (took taken from to (suc t)) k2 × ((ms : List (CommitMsg V)) → turn_by (group_of s.groups d) (position d.members from) (position d.members to) (owned o ms) k ≡ turn_by (group_of s.groups d) (position d.members from) (position d.members to) ms k2) × ((k2 ≡ k) ⊎ (k2 ≡ deliver (group_of s.groups d) (position d.members from) (position d.members to) k))
 sim-deliver {V} s IsOn d Inv run c from to w taken k number t x e tk l get next hf ht dif o own q = go o own
   where
     a : ℕ
@@ -89,7 +89,7 @@ sim-deliver {V} s IsOn d Inv run c from to w taken k number t x e tk l get next 
     rest = owns (s.own d from to) (drop (suc t) (messages w from to))
 
     plan : Plan
-    plan = plan_of to c (w.at to) (event.Deliver from x)
+    plan = plan_of (site_at to c) (w.at to) (event.Deliver from x)
 
     same : step_plan w (step.Deliver from to c number) ≡ plan
     same = delivery-plan c from to w number t (Some x) e (q.up to ht) get
@@ -106,7 +106,7 @@ sim-deliver {V} s IsOn d Inv run c from to w taken k number t x e tk l get next 
     apart : (u v i : Node) → has_node d.members i ≡ true → position d.members u ≡ position d.members i → u ≡ i
     apart u v i h z = sym (position-apart d.members i u (few_members d run.ruled).1 (position-below d.members i h) (sym z))
 
-    go : (z : Option (CommitMsg V)) → s.own d from to x ≡ z → (k2 : Calm V) × Sim s d Inv (step_world w (step.Deliver from to c number)) (took taken from to (suc t)) k2 × ((ms : List (CommitMsg V)) → turn_by (group_of s.lane d) a b (owned z ms) k ≡ turn_by (group_of s.lane d) a b ms k2) × ((k2 ≡ k) ⊎ (k2 ≡ deliver (group_of s.lane d) a b k))
+    go : (z : Option (CommitMsg V)) → s.own d from to x ≡ z → (k2 : Calm V) × Sim s d Inv (step_world w (step.Deliver from to c number)) (took taken from to (suc t)) k2 × ((ms : List (CommitMsg V)) → turn_by (group_of s.groups d) a b (owned z ms) k ≡ turn_by (group_of s.groups d) a b ms k2) × ((k2 ≡ k) ⊎ (k2 ≡ deliver (group_of s.groups d) a b k))
     go None z = (
       k,
       subst (λ (p : Plan). Sim s d Inv (carried_out w to p) (took taken from to (suc t)) k) (sym same)
@@ -116,9 +116,9 @@ sim-deliver {V} s IsOn d Inv run c from to w taken k number t x e tk l get next 
       inl refl,
     )
     go (Some y) z = (
-      deliver (group_of s.lane d) a b k,
-      subst (λ (p : Plan). Sim s d Inv (carried_out w to p) (took taken from to (suc t)) (deliver (group_of s.lane d) a b k)) (sym same)
-          (subst (λ (ms : List (CommitMsg V)). Sim s d Inv (carried_out w to plan) (took taken from to (suc t)) (delivered (group_of s.lane d) k a b ms)) (sym (stood ∙ ap (λ (u : Option (CommitMsg V)). owned u rest) z))
+      deliver (group_of s.groups d) a b k,
+      subst (λ (p : Plan). Sim s d Inv (carried_out w to p) (took taken from to (suc t)) (deliver (group_of s.groups d) a b k)) (sym same)
+          (subst (λ (ms : List (CommitMsg V)). Sim s d Inv (carried_out w to plan) (took taken from to (suc t)) (delivered (group_of s.groups d) k a b ms)) (sym (stood ∙ ap (λ (u : Option (CommitMsg V)). owned u rest) z))
           (sim-moves s d Inv w taken (took taken from to (suc t)) k to plan (group.From a y) (left k.due a b rest) (few_members d run.ruled).1 ht inv (run.shaped.hears c to from (w.at to) (k.world.at b) x y dif hf z met)
           (stands-took s d Inv w taken k from to t (left k.due a b rest) l (sym (left-same k.due a b rest)) (λ u v h g. others u v (left-cases k.due a b rest (position d.members u) (position d.members v))) q) q)),
       λ ms. refl,

@@ -1,6 +1,7 @@
 -- Where the sends of a plan land, and the cell behind it.
+use Rattle.spl_wire.specs.declared.change.Change.TheVariants as durable
 use Rattle.std.proofs.Common.{◌≡◌, ◌≢◌, ℕ, ◌<◌, ◌≤◌, ◌⊎◌, true, false, List, [], ◌∷◌, ◌++◌, length, sym, ap, subst, ◌∙◌, inl, inr}
-use Rattle.std.specs.Prelude.{None, nat_lt}
+use Rattle.std.specs.Prelude.{None, nat_lt, map}
 use Rattle.std.specs.Str.{bytes_eq}
 use Rattle.spl_agree.specs.declared.message.CommitMsg.{CommitMsg}
 use Rattle.spl_agree.specs.declared.event.OpenMove.TheVariants as move
@@ -11,18 +12,18 @@ use Rattle.spl_agree.specs.World.{after}
 use Rattle.spl_agree.proofs.Tests.{bool_cases, ltb_is, ltb_not}
 use Rattle.spl_circuit.specs.declared.definition.Definition.{Definition}
 use Rattle.spl_circuit.specs.declared.act.Act.{Act}
-use Rattle.spl_circuit.specs.declared.lifecycle.Mark.{Mark}
+use Rattle.spl_circuit.specs.declared.lifecycle.Mark.TheVariants as mark
 use Rattle.spl_circuit.specs.Nodes.{Node, has_node, position, node_or}
 use Rattle.spl_circuit.specs.Rules.{broken}
 use Rattle.spl_circuit.specs.Acts.{act_rules}
 use Rattle.spl_command.specs.declared.batch.Batch.{Batch}
-use Rattle.spl_rules.specs.Cells.{Cell, Held}
+use Rattle.spl_rules.specs.Cells.{Cell, Held, Bound}
 use Rattle.spl_rules.specs.Changes.{made, moved_cell}
-use Rattle.spl_rules.specs.Plans.{admin_changes, service_changes}
+use Rattle.spl_rules.specs.Plans.{}
 use Rattle.spl_model.proofs.Nodes.{node_other}
 use Rattle.spl_agreement.proofs.Positions.{position-or}
 use Rattle.spl_agreement.proofs.GroupOfDefinition.{AllPosts, group_of}
-use Rattle.spl_agreement.proofs.GroupWorlds.{admin_lane, service_lane}
+use Rattle.spl_agreement.proofs.GroupWorlds.{admin_groups, service_groups}
 use Rattle.spl_agreement.proofs.CoupledDeeds.{made-admin, made-service, made-append}
 use Rattle.spl_calm.proofs.Places.{position-at, or-back}
 
@@ -55,15 +56,19 @@ lands-back d from y q l h none = node_other (node_or d.members from q) y (λ e. 
 
 -- ---- cells behind a plan of a group
 
-pub after-acts : (n : Node) (d : Definition) (m : Mark) (t : ℕ) (a : Member Act) (b : Member Batch) (p : GroupPlan Act) → (u : ℕ) × (moved_cell n (made n (Held d m t a b) (admin_changes p.changes)) p.opening move.Keep ≡ Held d m u (after (group_of admin_lane d) (position d.members n) a p) b)
-after-acts n d m t a b p =
-    let x : (u : ℕ) × (made n (Held d m t a b) (admin_changes p.changes) ≡ Held d m u (changed_by (act_rules d) a p.changes) b) = made-admin n d m t a b p.changes in
+-- what is kept at an open cell that is bound to the definition
+abbrev pub open_at : Definition → ℕ → Member Act → Member Batch → Bound
+open_at d t a b = record { definition = d; mark = mark.Open; turn = t; acts = a; batches = b }
+
+pub after-acts : (n : Node) (b : Bound) (p : GroupPlan Act) → (u : ℕ) × (moved_cell n (made n (Held b) (map durable.Admin p.changes)) p.opening move.Keep ≡ Held (record b { turn = u; acts = after (group_of admin_groups b.definition) (position b.definition.members n) b.acts p }))
+after-acts n b p =
+    let x : (u : ℕ) × (made n (Held b) (map durable.Admin p.changes) ≡ Held (record b { turn = u; acts = changed_by (act_rules b.definition) b.acts p.changes })) = made-admin n b p.changes in
     (x.0, ap (λ (z : Cell). moved_cell n z p.opening move.Keep) x.1)
 
-pub after-serves : (n : Node) (d : Definition) (m : Mark) (t : ℕ) (a : Member Act) (b : Member Batch) (p : GroupPlan Batch) → moved_cell n (made n (Held d m t a b) (service_changes p.changes)) move.Keep p.opening ≡ Held d m t a (after (group_of service_lane d) (position d.members n) b p)
-after-serves n d m t a b p = ap (λ (z : Cell). moved_cell n z move.Keep p.opening) (made-service n d m t a b p.changes)
+pub after-serves : (n : Node) (b : Bound) (p : GroupPlan Batch) → moved_cell n (made n (Held b) (map durable.Service p.changes)) move.Keep p.opening ≡ Held (record b { batches = after (group_of service_groups b.definition) (position b.definition.members n) b.batches p })
+after-serves n b p = ap (λ (z : Cell). moved_cell n z move.Keep p.opening) (made-service n b p.changes)
 
-pub after-both : (n : Node) (d : Definition) (m : Mark) (t : ℕ) (a : Member Act) (b : Member Batch) (p : GroupPlan Act) (q : GroupPlan Batch) → (u : ℕ) × (moved_cell n (made n (Held d m t a b) (admin_changes p.changes ++ service_changes q.changes)) p.opening q.opening ≡ Held d m u (after (group_of admin_lane d) (position d.members n) a p) (after (group_of service_lane d) (position d.members n) b q))
-after-both n d m t a b p q =
-    let x : (u : ℕ) × (made n (Held d m t a b) (admin_changes p.changes) ≡ Held d m u (changed_by (act_rules d) a p.changes) b) = made-admin n d m t a b p.changes in
-    (x.0, ap (λ (z : Cell). moved_cell n z p.opening q.opening) (made-append n (Held d m t a b) (admin_changes p.changes) (service_changes q.changes) ∙ (ap (λ (z : Cell). made n z (service_changes q.changes)) x.1 ∙ made-service n d m x.0 (changed_by (act_rules d) a p.changes) b q.changes)))
+pub after-both : (n : Node) (b : Bound) (p : GroupPlan Act) (q : GroupPlan Batch) → (u : ℕ) × (moved_cell n (made n (Held b) (map durable.Admin p.changes ++ map durable.Service q.changes)) p.opening q.opening ≡ Held (record b { turn = u; acts = after (group_of admin_groups b.definition) (position b.definition.members n) b.acts p; batches = after (group_of service_groups b.definition) (position b.definition.members n) b.batches q }))
+after-both n b p q =
+    let x : (u : ℕ) × (made n (Held b) (map durable.Admin p.changes) ≡ Held (record b { turn = u; acts = changed_by (act_rules b.definition) b.acts p.changes })) = made-admin n b p.changes in
+    (x.0, ap (λ (z : Cell). moved_cell n z p.opening q.opening) (made-append n (Held b) (map durable.Admin p.changes) (map durable.Service q.changes) ∙ (ap (λ (z : Cell). made n z (map durable.Service q.changes)) x.1 ∙ made-service n (record b { turn = x.0; acts = changed_by (act_rules b.definition) b.acts p.changes }) q.changes)))

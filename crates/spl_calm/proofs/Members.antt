@@ -18,12 +18,13 @@ use Rattle.spl_sched.specs.Grammar.{step_node}
 use Rattle.spl_rules.specs.Cells.{Cell, runs}
 use Rattle.spl_rules.specs.Changes.{after_plan}
 use Rattle.spl_rules.specs.Plans.{plan_of, tells_only}
-use Rattle.spl_model.specs.Worlds.{World, messages, delivery, step_plan, step_world, put_at}
+use Rattle.spl_model.specs.Worlds.{World, messages, delivery, step_plan, step_world, put_at, site_at}
 use Rattle.spl_model.specs.Plain.{IsPlainStep}
 use Rattle.spl_model.proofs.Nodes.{node_cases}
 use Rattle.spl_agreement.proofs.GroupWorlds.{IsValidCell}
 use Rattle.spl_model.proofs.Puts.{put_at-same, put_at-other}
 use Rattle.spl_model.proofs.Unmoved.{moved-keep}
+use Rattle.spl_calm.specs.Settled.{is_active_by}
 use Rattle.spl_calm.proofs.ActShape.{IsOpenTo}
 use Rattle.spl_calm.proofs.BatchShape.{IsActiveIn}
 use Rattle.spl_calm.proofs.Stays.{StaysOpen, stays-tick, stays-deliver, stays-active}
@@ -32,8 +33,8 @@ use Rattle.spl_calm.proofs.Lasting.{IsLasting}
 
 -- the events of a calm keep this of a cell that is valid behind them
 pub record KeepsCell (P : Cell → Type 0) : Type 0 where
-  pub ticks : (c n : Node) (k : Cell) → P k → IsValidCell n (after_plan n k (plan_of n c k event.Tick)) → P (after_plan n k (plan_of n c k event.Tick))
-  pub delivers : (c n from : Node) (x : Message) (k : Cell) → P k → IsValidCell n (after_plan n k (plan_of n c k (event.Deliver from x))) → P (after_plan n k (plan_of n c k (event.Deliver from x)))
+  pub ticks : (c n : Node) (k : Cell) → P k → IsValidCell n (after_plan n k (plan_of (site_at n c) k event.Tick)) → P (after_plan n k (plan_of (site_at n c) k event.Tick))
+  pub delivers : (c n from : Node) (x : Message) (k : Cell) → P k → IsValidCell n (after_plan n k (plan_of (site_at n c) k (event.Deliver from x))) → P (after_plan n k (plan_of (site_at n c) k (event.Deliver from x)))
 
 -- the coupling, and this of each member's cell
 abbrev pub CellsAre : Definition → (Cell → Type 0) → World → (Node → Node → ℕ) → Type 0
@@ -84,8 +85,8 @@ cells-last d P keeps = record {
 
 pub open-keeps : (d : Definition) → KeepsCell (IsOpenTo d)
 open-keeps d = record {
-  ticks = λ c n k o v. subst (λ (z : Cell). IsOpenTo d (after_plan n z (plan_of n c z event.Tick))) (sym o.3) (opened n o.1 _ (stays-tick c n d o.0 o.1 o.2));
-  delivers = λ c n from x k o v. subst (λ (z : Cell). IsOpenTo d (after_plan n z (plan_of n c z (event.Deliver from x)))) (sym o.3) (opened n o.1 _ (stays-deliver c n from d o.0 o.1 o.2 x));
+  ticks = λ c n k o v. subst (λ (z : Cell). IsOpenTo d (after_plan n z (plan_of (site_at n c) z event.Tick))) (sym o.3) (opened n o.1 _ (stays-tick c n d o.0 o.1 o.2));
+  delivers = λ c n from x k o v. subst (λ (z : Cell). IsOpenTo d (after_plan n z (plan_of (site_at n c) z (event.Deliver from x)))) (sym o.3) (opened n o.1 _ (stays-deliver c n from d o.0 o.1 o.2 x));
 }
   where
     opened : (n : Node) (a : Member Act) (k : Cell) → StaysOpen d n a k → IsOpenTo d k
@@ -93,9 +94,9 @@ open-keeps d = record {
 
 pub active-keeps : (d : Definition) → KeepsCell (IsActiveIn d)
 active-keeps d = record {
-  ticks = λ c n k o v. subst (λ (z : Cell). IsValidCell n (after_plan n z (plan_of n c z event.Tick)) → IsActiveIn d (after_plan n z (plan_of n c z event.Tick))) (sym o.3) (active n o.1 _ (stays-tick c n d o.0 o.1 o.2) o.4) v;
-  delivers = λ c n from x k o v. subst (λ (z : Cell). IsValidCell n (after_plan n z (plan_of n c z (event.Deliver from x))) → IsActiveIn d (after_plan n z (plan_of n c z (event.Deliver from x)))) (sym o.3) (active n o.1 _ (stays-deliver c n from d o.0 o.1 o.2 x) o.4) v;
+  ticks = λ c n k o v. subst (λ (z : Cell). IsValidCell n (after_plan n z (plan_of (site_at n c) z event.Tick)) → IsActiveIn d (after_plan n z (plan_of (site_at n c) z event.Tick))) (sym o.3) (active n o.1 _ (stays-tick c n d o.0 o.1 o.2) o.4) v;
+  delivers = λ c n from x k o v. subst (λ (z : Cell). IsValidCell n (after_plan n z (plan_of (site_at n c) z (event.Deliver from x))) → IsActiveIn d (after_plan n z (plan_of (site_at n c) z (event.Deliver from x)))) (sym o.3) (active n o.1 _ (stays-deliver c n from d o.0 o.1 o.2 x) o.4) v;
 }
   where
-    active : (n : Node) (a : Member Act) (k : Cell) → StaysOpen d n a k → runs d a ≡ true → IsValidCell n k → IsActiveIn d k
+    active : (n : Node) (a : Member Act) (k : Cell) → StaysOpen d n a k → is_active_by d a ≡ true → IsValidCell n k → IsActiveIn d k
     active n a k s h v = (s.turn, s.acts, s.batches, s.held, stays-active d n a k s v h)

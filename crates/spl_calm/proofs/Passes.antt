@@ -36,7 +36,7 @@ pub record Ticked {V : Type 0} (s : Shape V) (d : Definition) (Inv : World → (
   pub positions : List ℕ
   pub below : AllBelow (length d.members) positions
   pub each : (n : Node) → has_node ns n ≡ true → has_node d.members n ≡ true → has (position d.members n) positions ≡ true
-  pub sim : Beside s d Inv z (group.ticks (group_of s.lane d) positions k)
+  pub sim : Beside s d Inv z (group.ticks (group_of s.groups d) positions k)
 
 pub sim-ticks : {V : Type 0} (s : Shape V) (IsOn : Definition → Cell → Type 0) (d : Definition) (Inv : World → (Node → Node → ℕ) → Type 0) → IsCarried s IsOn d Inv → (c : Node) (ns : List Node) (z : Calming) (k : Calm V) → Beside s d Inv z k → Ticked s d Inv ns (ticks c z ns) k
 sim-ticks s IsOn d Inv run c [] z k q = record { positions = []; below = tt; each = λ n h g. cc; sim = q }
@@ -47,14 +47,14 @@ sim-ticks {V} s IsOn d Inv run c (n ∷ ns) z k q = go (bool_cases (has_node d.m
 
     go : (has_node d.members n ≡ true) ⊎ (has_node d.members n ≡ false) → ((l : Calm V) → Beside s d Inv z2 l → Ticked s d Inv ns (ticks c z2 ns) l) → Ticked s d Inv (n ∷ ns) (ticks c z2 ns) k
     go (inl h) hyp =
-        let r : Ticked s d Inv ns (ticks c z2 ns) (ticked (group_of s.lane d) (position d.members n) k) = hyp (ticked (group_of s.lane d) (position d.members n) k) (sim-tick s IsOn d Inv run c n z.world z.taken k h q) in record {
+        let r : Ticked s d Inv ns (ticks c z2 ns) (ticked (group_of s.groups d) (position d.members n) k) = hyp (ticked (group_of s.groups d) (position d.members n) k) (sim-tick s IsOn d Inv run c n z.world z.taken k h q) in record {
           positions = position d.members n ∷ r.positions;
           below = (position-below d.members n h, r.below);
           each = λ m x g. each r m g (or_cases (bytes_eq n m) (has_node ns m) x);
           sim = r.sim;
         }
       where
-        each : (r : Ticked s d Inv ns (ticks c z2 ns) (ticked (group_of s.lane d) (position d.members n) k)) → (m : Node) → has_node d.members m ≡ true → (bytes_eq n m ≡ true) ⊎ (has_node ns m ≡ true) → (eqb (position d.members n) (position d.members m) || has (position d.members m) r.positions) ≡ true
+        each : (r : Ticked s d Inv ns (ticks c z2 ns) (ticked (group_of s.groups d) (position d.members n) k)) → (m : Node) → has_node d.members m ≡ true → (bytes_eq n m ≡ true) ⊎ (has_node ns m ≡ true) → (eqb (position d.members n) (position d.members m) || has (position d.members m) r.positions) ≡ true
         each r m g (inl x) = let same : eqb (position d.members n) (position d.members m) ≡ true = subst (λ (u : Node). eqb (position d.members n) (position d.members u) ≡ true) (node_is n m x) (eqb_same (position d.members n)) in rw same
         each r m g (inr x) = rw (r.each m x g) (or_true _)
     go (inr h) hyp =
@@ -80,7 +80,7 @@ pub record Turned {V : Type 0} (s : Shape V) (d : Definition) (Inv : World → (
   pub pairs : List (ℕ × ℕ)
   pub among : AllPairs (length d.members) pairs
   pub every : (x y : Node) → IsIn x y → has_node d.members x ≡ true → has_node d.members y ≡ true → x ≢ y → HasPair (position d.members x) (position d.members y) pairs
-  pub sim : Beside s d Inv z (group.turns (group_of s.lane d) pairs k)
+  pub sim : Beside s d Inv z (group.turns (group_of s.groups d) pairs k)
 
 -- a pair is one of two members, or it isn't
 pub pair-kind : (d : Definition) (x y : Node) → (((has_node d.members x ≡ true) × (has_node d.members y ≡ true)) × (x ≢ y)) ⊎ IsLone d x y
@@ -108,14 +108,14 @@ sim-to_all {V} s IsOn d Inv run c from (n ∷ ns) z k q = go (pair-kind d from n
 
     go : (((has_node d.members from ≡ true) × (has_node d.members n ≡ true)) × (from ≢ n)) ⊎ IsLone d from n → ((l : Calm V) → Beside s d Inv z2 l → Rest l) → Turned s d Inv (ToThese from (n ∷ ns)) (to_all c z2 from ns) k
     go (inl h) hyp =
-        let r : Rest (turn (group_of s.lane d) (position d.members from) (position d.members n) k) = hyp (turn (group_of s.lane d) (position d.members from) (position d.members n) k) (sim-turn s IsOn d Inv run c from n z k h.0.0 h.0.1 h.1 q) in record {
+        let r : Rest (turn (group_of s.groups d) (position d.members from) (position d.members n) k) = hyp (turn (group_of s.groups d) (position d.members from) (position d.members n) k) (sim-turn s IsOn d Inv run c from n z k h.0.0 h.0.1 h.1 q) in record {
           pairs = (position d.members from, position d.members n) ∷ r.pairs;
           among = ((position-below d.members from h.0.0, position-below d.members n h.0.1, λ e. h.1 (position-apart d.members from n (few_members d run.ruled).1 (position-below d.members from h.0.0) e)), r.among);
           every = λ x y i hx hy off. every r x y i hx hy off (or_cases (bytes_eq n y) (has_node ns y) i.1);
           sim = r.sim;
         }
       where
-        every : (r : Rest (turn (group_of s.lane d) (position d.members from) (position d.members n) k)) → (x y : Node) → ToThese from (n ∷ ns) x y → has_node d.members x ≡ true → has_node d.members y ≡ true → x ≢ y → (bytes_eq n y ≡ true) ⊎ (has_node ns y ≡ true) → HasPair (position d.members x) (position d.members y) ((position d.members from, position d.members n) ∷ r.pairs)
+        every : (r : Rest (turn (group_of s.groups d) (position d.members from) (position d.members n) k)) → (x y : Node) → ToThese from (n ∷ ns) x y → has_node d.members x ≡ true → has_node d.members y ≡ true → x ≢ y → (bytes_eq n y ≡ true) ⊎ (has_node ns y ≡ true) → HasPair (position d.members x) (position d.members y) ((position d.members from, position d.members n) ∷ r.pairs)
         every r x y i hx hy off (inl e) = inl (ap (λ (u : Node). position d.members u) (sym i.0), ap (λ (u : Node). position d.members u) (node_is n y e))
         every r x y i hx hy off (inr e) = inr (r.every x y (i.0, e) hx hy off)
     go (inr h) hyp =
@@ -154,14 +154,14 @@ sim-from_all {V} s IsOn d Inv run c all (n ∷ ns) z k q = go (sim-to_all s IsOn
 
     go : First → ((l : Calm V) → Beside s d Inv z2 l → Rest l) → Turned s d Inv (FromThese (n ∷ ns) all) (from_all c z2 all ns) k
     go f hyp =
-        let r : Rest (group.turns (group_of s.lane d) f.pairs k) = hyp (group.turns (group_of s.lane d) f.pairs k) f.sim in record {
+        let r : Rest (group.turns (group_of s.groups d) f.pairs k) = hyp (group.turns (group_of s.groups d) f.pairs k) f.sim in record {
           pairs = f.pairs ++ r.pairs;
           among = pairs-more (length d.members) f.pairs r.pairs f.among r.among;
           every = λ x y i hx hy off. every r x y i hx hy off (or_cases (bytes_eq n x) (has_node ns x) i.0);
-          sim = subst (λ (g : Calm V). Beside s d Inv (from_all c z2 all ns) g) (sym (turns-append (group_of s.lane d) f.pairs r.pairs k)) r.sim;
+          sim = subst (λ (g : Calm V). Beside s d Inv (from_all c z2 all ns) g) (sym (turns-append (group_of s.groups d) f.pairs r.pairs k)) r.sim;
         }
       where
-        every : (r : Rest (group.turns (group_of s.lane d) f.pairs k)) → (x y : Node) → FromThese (n ∷ ns) all x y → has_node d.members x ≡ true → has_node d.members y ≡ true → x ≢ y → (bytes_eq n x ≡ true) ⊎ (has_node ns x ≡ true) → HasPair (position d.members x) (position d.members y) (f.pairs ++ r.pairs)
+        every : (r : Rest (group.turns (group_of s.groups d) f.pairs k)) → (x y : Node) → FromThese (n ∷ ns) all x y → has_node d.members x ≡ true → has_node d.members y ≡ true → x ≢ y → (bytes_eq n x ≡ true) ⊎ (has_node ns x ≡ true) → HasPair (position d.members x) (position d.members y) (f.pairs ++ r.pairs)
         every r x y i hx hy off (inl e) = pair-left (position d.members x) (position d.members y) f.pairs r.pairs (f.every x y (sym (node_is n x e), i.1) hx hy off)
         every r x y i hx hy off (inr e) = pair-right (position d.members x) (position d.members y) f.pairs r.pairs (r.every x y (e, i.1) hx hy off)
 
@@ -185,7 +185,7 @@ HasMembers d ns = (n : Node) → has_node d.members n ≡ true → has_node ns n
 pub record Passed {V : Type 0} (s : Shape V) (d : Definition) (Inv : World → (Node → Node → ℕ) → Type 0) (z : Calming) (k : Calm V) : Type 0 where
   pub order : Order
   pub full : IsFull (length d.members) order
-  pub sim : Beside s d Inv z (group.pass (group_of s.lane d) order k)
+  pub sim : Beside s d Inv z (group.pass (group_of s.groups d) order k)
 
 pub sim-pass : {V : Type 0} (s : Shape V) (IsOn : Definition → Cell → Type 0) (d : Definition) (Inv : World → (Node → Node → ℕ) → Type 0) → IsCarried s IsOn d Inv → (c : Node) (ns : List Node) (z : Calming) (k : Calm V) → HasMembers d ns → Beside s d Inv z k → Passed s d Inv (pass c ns z) k
 sim-pass {V} s IsOn d Inv run c ns z k all q = go (sim-ticks s IsOn d Inv run c (open_nodes z.world ns) z k q)
@@ -200,9 +200,9 @@ sim-pass {V} s IsOn d Inv run c ns z k all q = go (sim-ticks s IsOn d Inv run c 
     at i = node_or d.members [] i
 
     go : Ticked s d Inv (open_nodes z.world ns) z2 k → Passed s d Inv (pass c ns z) k
-    go t = turned (sim-from_all s IsOn d Inv run c ns ns z2 (group.ticks (group_of s.lane d) t.positions k) t.sim)
+    go t = turned (sim-from_all s IsOn d Inv run c ns ns z2 (group.ticks (group_of s.groups d) t.positions k) t.sim)
       where
-        turned : Turned s d Inv (FromThese ns ns) (from_all c z2 ns ns) (group.ticks (group_of s.lane d) t.positions k) → Passed s d Inv (pass c ns z) k
+        turned : Turned s d Inv (FromThese ns ns) (from_all c z2 ns ns) (group.ticks (group_of s.groups d) t.positions k) → Passed s d Inv (pass c ns z) k
         turned r = record {
           order = record { ticks = t.positions; pairs = r.pairs };
           full = record {
@@ -219,11 +219,11 @@ pub record AllPassed {V : Type 0} (s : Shape V) (d : Definition) (Inv : World �
   pub orders : List Order
   pub full : AllFull (length d.members) orders
   pub many : length orders ≡ count
-  pub sim : Beside s d Inv z (group.passes (group_of s.lane d) orders k)
+  pub sim : Beside s d Inv z (group.passes (group_of s.groups d) orders k)
 
 pub sim-passes : {V : Type 0} (s : Shape V) (IsOn : Definition → Cell → Type 0) (d : Definition) (Inv : World → (Node → Node → ℕ) → Type 0) → IsCarried s IsOn d Inv → (c : Node) (ns : List Node) (count : ℕ) (z : Calming) (k : Calm V) → HasMembers d ns → Beside s d Inv z k → AllPassed s d Inv count (passes c ns count z) k
 sim-passes s IsOn d Inv run c ns zero z k all q = record { orders = []; full = tt; many = refl; sim = q }
 sim-passes {V} s IsOn d Inv run c ns (suc count) z k all q =
     let p : Passed s d Inv (pass c ns z) k = sim-pass s IsOn d Inv run c ns z k all q in
-    let r : AllPassed s d Inv count (passes c ns count (pass c ns z)) (group.pass (group_of s.lane d) p.order k) = sim-passes s IsOn d Inv run c ns count (pass c ns z) (group.pass (group_of s.lane d) p.order k) all p.sim in
+    let r : AllPassed s d Inv count (passes c ns count (pass c ns z)) (group.pass (group_of s.groups d) p.order k) = sim-passes s IsOn d Inv run c ns count (pass c ns z) (group.pass (group_of s.groups d) p.order k) all p.sim in
     record { orders = p.order ∷ r.orders; full = (p.full, r.full); many = ap suc r.many; sim = r.sim }

@@ -1,4 +1,5 @@
 -- One of the two groups of a definition, as it shows in cells and messages, and what an event at a cell gives it.
+use Rattle.spl_model.specs.Worlds.{site_at}
 use Rattle.std.proofs.Common.{◌≡◌, ◌≢◌, ℕ, ◌⊎◌, true, false, List, [], ◌∷◌, ◌++◌, refl, ap}
 use Rattle.std.specs.Prelude.{Option, Some, None}
 use Rattle.spl_agree.specs.declared.message.CommitMsg.{CommitMsg}
@@ -13,12 +14,12 @@ use Rattle.spl_rules.specs.Cells.{Cell, is_open_cell}
 use Rattle.spl_rules.specs.Changes.{after_plan}
 use Rattle.spl_rules.specs.Plans.{plan_of}
 use Rattle.spl_settle.specs.Calm.{mail}
-use Rattle.spl_agreement.proofs.GroupOfDefinition.{Lane, Presence, There, after_row, plan_row}
+use Rattle.spl_agreement.proofs.GroupOfDefinition.{Groups, Presence, There, after_row, plan_row}
 use Rattle.spl_calm.proofs.Pairs.{to_node}
 
--- its lane, what it sees of a cell, and what a message from a node to another is to the group of a definition
+-- its group, what it sees of a cell, and what a message from a node to another is to the group of a definition
 pub record Shape (V : Type 0) : Type 0 where
-  pub lane : Lane V
+  pub groups : Groups V
   pub stand : Cell → Presence V
   pub own : Definition → Node → Node → Message → Option (CommitMsg V)
 
@@ -54,7 +55,7 @@ pub record IsMet {V : Type 0} (s : Shape V) (IsOn : Definition → Cell → Type
 -- any other message, or one from a node that is no member, leaves the group as it is
 pub record IsShaped {V : Type 0} (s : Shape V) (IsOn : Definition → Cell → Type 0) (d : Definition) : Type 0 where
   pub opens : (k : Cell) → IsOn d k → is_open_cell k ≡ true
-  pub ticks : (c n : Node) (k : Cell) (m : Member V) → IsMet s IsOn d n k m → Gives s d n k (plan_of n c k event.Tick) (after_row s.lane d n m group.Tick) (plan_row s.lane d n m group.Tick).sends
+  pub ticks : (c n : Node) (k : Cell) (m : Member V) → IsMet s IsOn d n k m → Gives s d n k (plan_of (site_at n c) k event.Tick) (after_row s.groups d n m group.Tick) (plan_row s.groups d n m group.Tick).sends
   pub hears : (c n from : Node) (k : Cell) (m : Member V) (x : Message) (y : CommitMsg V) → from ≢ n → has_node d.members from ≡ true → s.own d from n x ≡ Some y → IsMet s IsOn d n k m
-      → Gives s d n k (plan_of n c k (event.Deliver from x)) (after_row s.lane d n m (group.From (position d.members from) y)) (plan_row s.lane d n m (group.From (position d.members from) y)).sends
-  pub passes : (c n from : Node) (k : Cell) (m : Member V) (x : Message) → from ≢ n → (s.own d from n x ≡ None) ⊎ (has_node d.members from ≡ false) → IsMet s IsOn d n k m → Gives s d n k (plan_of n c k (event.Deliver from x)) m []
+      → Gives s d n k (plan_of (site_at n c) k (event.Deliver from x)) (after_row s.groups d n m (group.From (position d.members from) y)) (plan_row s.groups d n m (group.From (position d.members from) y)).sends
+  pub passes : (c n from : Node) (k : Cell) (m : Member V) (x : Message) → from ≢ n → (s.own d from n x ≡ None) ⊎ (has_node d.members from ≡ false) → IsMet s IsOn d n k m → Gives s d n k (plan_of (site_at n c) k (event.Deliver from x)) m []

@@ -98,8 +98,8 @@ sim-plan {V} s d Inv w taken taken2 k k2 n p due m ss inv gives stands comes q =
             ∙ sym (comes.mine y z g (λ r. off (sym r)))))))
 
 -- the group moves at a member
-pub sim-moves : {V : Type 0} (s : Shape V) (d : Definition) (Inv : World → (Node → Node → ℕ) → Type 0) (w : World) (taken taken2 : Node → Node → ℕ) (k : Calm V) (n : Node) (p : Plan) (e : GroupEvent V) (due : ℕ → ℕ → List (CommitMsg V)) → length d.members ≤ 8 → has_node d.members n ≡ true → Inv (carried_out w n p) taken2 → Gives s d n (w.at n) p (after_row s.lane d n (k.world.at (position d.members n)) e) (plan_row s.lane d n (k.world.at (position d.members n)) e).sends → Stands s d w taken2 due → Sim s d Inv w taken k → Sim s d Inv (carried_out w n p) taken2 (move (group_of s.lane d) k (position d.members n) e due)
-sim-moves {V} s d Inv w taken taken2 k n p e due eight member inv gives stands q = sim-plan s d Inv w taken taken2 k (move (group_of s.lane d) k i e due) n p due m2 ss inv (λ h. gives) stands (record {
+pub sim-moves : {V : Type 0} (s : Shape V) (d : Definition) (Inv : World → (Node → Node → ℕ) → Type 0) (w : World) (taken taken2 : Node → Node → ℕ) (k : Calm V) (n : Node) (p : Plan) (e : GroupEvent V) (due : ℕ → ℕ → List (CommitMsg V)) → length d.members ≤ 8 → has_node d.members n ≡ true → Inv (carried_out w n p) taken2 → Gives s d n (w.at n) p (after_row s.groups d n (k.world.at (position d.members n)) e) (plan_row s.groups d n (k.world.at (position d.members n)) e).sends → Stands s d w taken2 due → Sim s d Inv w taken k → Sim s d Inv (carried_out w n p) taken2 (move (group_of s.groups d) k (position d.members n) e due)
+sim-moves {V} s d Inv w taken taken2 k n p e due eight member inv gives stands q = sim-plan s d Inv w taken taken2 k (move (group_of s.groups d) k i e due) n p due m2 ss inv (λ h. gives) stands (record {
   here = λ h. put-same k.world.at i m2;
   others = λ x h g off. put-other k.world.at i m2 (position d.members x) (apart x off);
   still = λ x h. absurd (let z : has_node d.members n ≡ true = member in cc);
@@ -111,10 +111,10 @@ sim-moves {V} s d Inv w taken taken2 k n p e due eight member inv gives stands q
     i = position d.members n
 
     m2 : Member V
-    m2 = after_row s.lane d n (k.world.at (position d.members n)) e
+    m2 = after_row s.groups d n (k.world.at (position d.members n)) e
 
     ss : List (ℕ × CommitMsg V)
-    ss = (plan_row s.lane d n (k.world.at (position d.members n)) e).sends
+    ss = (plan_row s.groups d n (k.world.at (position d.members n)) e).sends
 
     apart : (x : Node) → x ≢ n → position d.members x ≢ i
     apart x off z = off (sym (position-apart d.members n x eight (position-below d.members n member) (sym z)))

@@ -39,20 +39,20 @@ took-again taken from to t u x y = go (took-cases taken from to u x y) (took-cas
 
 -- deliveries between members
 pub sim-delivers : {V : Type 0} (s : Shape V) (IsOn : Definition → Cell → Type 0) (d : Definition) (Inv : World → (Node → Node → ℕ) → Type 0) → IsCarried s IsOn d Inv → (c from to : Node) (taken : Node → Node → ℕ) → has_node d.members from ≡ true → has_node d.members to ≡ true → from ≢ to → (count number t : ℕ) (z : Calming) (k : Calm V) → number ≡ suc t → t + count ≡ length (messages z.world from to) → Sim s d Inv z.world (took taken from to t) k
-    → Sim s d Inv (delivers c z from to number count).world (took taken from to (t + count)) (turn_by (group_of s.lane d) (position d.members from) (position d.members to) (owns (s.own d from to) (drop t (messages z.world from to))) k)
+    → Sim s d Inv (delivers c z from to number count).world (took taken from to (t + count)) (turn_by (group_of s.groups d) (position d.members from) (position d.members to) (owns (s.own d from to) (drop t (messages z.world from to))) k)
 sim-delivers {V} s IsOn d Inv run c from to taken hf ht dif zero number t z k e l q =
-    subst (λ (ms : List Message). Sim s d Inv z.world (took taken from to (t + 0)) (turn_by (group_of s.lane d) (position d.members from) (position d.members to) (owns (s.own d from to) ms) k)) (sym empty)
+    subst (λ (ms : List Message). Sim s d Inv z.world (took taken from to (t + 0)) (turn_by (group_of s.groups d) (position d.members from) (position d.members to) (owns (s.own d from to) ms) k)) (sym empty)
     (subst (λ (i : ℕ). Sim s d Inv z.world (took taken from to i) k) (let y : t ≡ t + 0 = omega arith in y) q)
   where
     empty : drop t (messages z.world from to) ≡ []
     empty = subst (λ (i : ℕ). drop i (messages z.world from to) ≡ []) (let y : length (messages z.world from to) ≡ t = omega (arith, l) in y) (drop-all (messages z.world from to))
 sim-delivers {V} s IsOn d Inv run c from to taken hf ht dif (suc count) number t z k e l q =
-    subst (λ (i : ℕ). Sim s d Inv (delivers c z2 from to (number + 1) count).world (took taken from to i) (turn_by (group_of s.lane d) a b (owns (s.own d from to) (drop t (messages z.world from to))) k)) (let y : suc t + count ≡ t + suc count = omega arith in y)
+    subst (λ (i : ℕ). Sim s d Inv (delivers c z2 from to (number + 1) count).world (took taken from to i) (turn_by (group_of s.groups d) a b (owns (s.own d from to) (drop t (messages z.world from to))) k)) (let y : suc t + count ≡ t + suc count = omega arith in y)
     (subst (λ (g : Calm V). Sim s d Inv (delivers c z2 from to (number + 1) count).world (took taken from to (suc t + count)) g) (sym turned) (later (λ number t z k e l q. sim-delivers s IsOn d Inv run c from to taken hf ht dif count number t z k e l q)))
   where
     Rest : Type 0
     Rest = (number t : ℕ) (z : Calming) (k : Calm V) → number ≡ suc t → t + count ≡ length (messages z.world from to) → Sim s d Inv z.world (took taken from to t) k
-        → Sim s d Inv (delivers c z from to number count).world (took taken from to (t + count)) (turn_by (group_of s.lane d) (position d.members from) (position d.members to) (owns (s.own d from to) (drop t (messages z.world from to))) k)
+        → Sim s d Inv (delivers c z from to number count).world (took taken from to (t + count)) (turn_by (group_of s.groups d) (position d.members from) (position d.members to) (owns (s.own d from to) (drop t (messages z.world from to))) k)
 
     a : ℕ
     a = position d.members from
@@ -66,29 +66,29 @@ sim-delivers {V} s IsOn d Inv run c from to taken hf ht dif (suc count) number t
     next : (x : Message) × (slice_get (messages z.world from to) t ≡ Some x) × (drop t (messages z.world from to) ≡ x ∷ drop (suc t) (messages z.world from to))
     next = drop-next t (messages z.world from to) (omega (arith, l))
 
-    one : (k2 : Calm V) × Sim s d Inv (step_world z.world (step.Deliver from to c number)) (took (took taken from to t) from to (suc t)) k2 × ((ms : List (CommitMsg V)) → turn_by (group_of s.lane d) a b (owned (s.own d from to next.0) ms) k ≡ turn_by (group_of s.lane d) a b ms k2) × ((k2 ≡ k) ⊎ (k2 ≡ deliver (group_of s.lane d) a b k))
+    one : (k2 : Calm V) × Sim s d Inv (step_world z.world (step.Deliver from to c number)) (took (took taken from to t) from to (suc t)) k2 × ((ms : List (CommitMsg V)) → turn_by (group_of s.groups d) a b (owned (s.own d from to next.0) ms) k ≡ turn_by (group_of s.groups d) a b ms k2) × ((k2 ≡ k) ⊎ (k2 ≡ deliver (group_of s.groups d) a b k))
     one = sim-deliver s IsOn d Inv run c from to z.world (took taken from to t) k number t next.0 e (took-same taken from to t) (omega (arith, l)) next.1 next.2 hf ht dif (s.own d from to next.0) refl q
 
     kept : messages z2.world from to ≡ messages z.world from to
     kept = messages-other z.world to from to (step_plan z.world (step.Deliver from to c number)) dif
 
-    later : Rest → Sim s d Inv (delivers c z2 from to (number + 1) count).world (took taken from to (suc t + count)) (turn_by (group_of s.lane d) a b (owns (s.own d from to) (drop (suc t) (messages z2.world from to))) one.0)
+    later : Rest → Sim s d Inv (delivers c z2 from to (number + 1) count).world (took taken from to (suc t + count)) (turn_by (group_of s.groups d) a b (owns (s.own d from to) (drop (suc t) (messages z2.world from to))) one.0)
     later rest = rest (number + 1) (suc t) z2 one.0 (omega (arith, e)) (let y : suc t + count ≡ length (messages z.world from to) = omega (arith, l) in y ∙ ap (λ (ms : List Message). length ms) (sym kept))
         (sim-taken s d Inv run.lasts z2.world (took (took taken from to t) from to (suc t)) (took taken from to (suc t)) one.0 (λ x y h g off. took-again taken from to t (suc t) x y) one.1)
 
-    turned : turn_by (group_of s.lane d) a b (owns (s.own d from to) (drop t (messages z.world from to))) k ≡ turn_by (group_of s.lane d) a b (owns (s.own d from to) (drop (suc t) (messages z2.world from to))) one.0
+    turned : turn_by (group_of s.groups d) a b (owns (s.own d from to) (drop t (messages z.world from to))) k ≡ turn_by (group_of s.groups d) a b (owns (s.own d from to) (drop (suc t) (messages z2.world from to))) one.0
     turned =
-        ap (λ (ms : List Message). turn_by (group_of s.lane d) a b (owns (s.own d from to) ms) k) next.2
+        ap (λ (ms : List Message). turn_by (group_of s.groups d) a b (owns (s.own d from to) ms) k) next.2
         ∙ (one.2 (owns (s.own d from to) (drop (suc t) (messages z.world from to)))
-        ∙ ap (λ (ms : List Message). turn_by (group_of s.lane d) a b (owns (s.own d from to) (drop (suc t) ms)) one.0) (sym kept))
+        ∙ ap (λ (ms : List Message). turn_by (group_of s.groups d) a b (owns (s.own d from to) (drop (suc t) ms)) one.0) (sym kept))
 
 -- the turn of a pair of members
 pub sim-turn : {V : Type 0} (s : Shape V) (IsOn : Definition → Cell → Type 0) (d : Definition) (Inv : World → (Node → Node → ℕ) → Type 0) → IsCarried s IsOn d Inv → (c from to : Node) (z : Calming) (k : Calm V) → has_node d.members from ≡ true → has_node d.members to ≡ true → from ≢ to → Sim s d Inv z.world z.taken k
-    → Sim s d Inv (pair_turn c z from to).world (pair_turn c z from to).taken (turn (group_of s.lane d) (position d.members from) (position d.members to) k)
-sim-turn {V} s IsOn d Inv run c from to z k hf ht dif q = if_true (λ (y : Calming). Sim s d Inv y.world y.taken (turn (group_of s.lane d) (position d.members from) (position d.members to) k)) (z.world.up to) _ _ (q.up to ht)
-    (subst (λ (f : Node → Node → ℕ). Sim s d Inv (delivers c z from to (t + 1) (all - t)).world (took f from to all) (turn (group_of s.lane d) (position d.members from) (position d.members to) k)) (sym (delivers-taken c z from to (t + 1) (all - t)))
-    (subst (λ (i : ℕ). Sim s d Inv (delivers c z from to (t + 1) (all - t)).world (took z.taken from to i) (turn (group_of s.lane d) (position d.members from) (position d.members to) k)) whole
-    (subst (λ (ms : List (CommitMsg V)). Sim s d Inv (delivers c z from to (t + 1) (all - t)).world (took z.taken from to (t + (all - t))) (turn_by (group_of s.lane d) (position d.members from) (position d.members to) ms k)) (q.due from to hf ht dif)
+    → Sim s d Inv (pair_turn c z from to).world (pair_turn c z from to).taken (turn (group_of s.groups d) (position d.members from) (position d.members to) k)
+sim-turn {V} s IsOn d Inv run c from to z k hf ht dif q = if_true (λ (y : Calming). Sim s d Inv y.world y.taken (turn (group_of s.groups d) (position d.members from) (position d.members to) k)) (z.world.up to) _ _ (q.up to ht)
+    (subst (λ (f : Node → Node → ℕ). Sim s d Inv (delivers c z from to (t + 1) (all - t)).world (took f from to all) (turn (group_of s.groups d) (position d.members from) (position d.members to) k)) (sym (delivers-taken c z from to (t + 1) (all - t)))
+    (subst (λ (i : ℕ). Sim s d Inv (delivers c z from to (t + 1) (all - t)).world (took z.taken from to i) (turn (group_of s.groups d) (position d.members from) (position d.members to) k)) whole
+    (subst (λ (ms : List (CommitMsg V)). Sim s d Inv (delivers c z from to (t + 1) (all - t)).world (took z.taken from to (t + (all - t))) (turn_by (group_of s.groups d) (position d.members from) (position d.members to) ms k)) (q.due from to hf ht dif)
     (sim-delivers s IsOn d Inv run c from to z.taken hf ht dif (all - t) (t + 1) t z k (omega arith) whole
     (sim-taken s d Inv run.lasts z.world z.taken (took z.taken from to t) k (λ x y h g off. same x y (took-cases z.taken from to t x y)) q)))))
   where
