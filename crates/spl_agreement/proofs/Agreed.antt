@@ -1,7 +1,7 @@
 -- The agreement of a circuit behind what happened, and in lines.
 use Rattle.std.proofs.Common.{◌≡◌, true, List, sym, ◌∙◌}
 use Rattle.spl_circuit.specs.declared.definition.Definition.{Definition}
-use Rattle.spl_circuit.specs.Nodes.{Node}
+use Rattle.spl_circuit.specs.Nodes.{NodeId}
 use Rattle.spl_model.specs.Worlds.{Occurrence, first_world, world_behind, site_at}
 use Rattle.spl_model.specs.Projection.{Ran, own, lines_fit}
 use Rattle.spl_agreement.specs.Lists.{act_list, batch_list}
@@ -16,7 +16,7 @@ use Rattle.spl_agreement.proofs.QueuedIsKnown.{knows-queued}
 use Rattle.spl_agreement.proofs.PendingActsAreFew.{few-behind}
 
 -- each part of the agreement
-pub agreed-behind : (ns : List Node) (es : List Occurrence) (d : Definition) → AllPlain es → IsAgreed ns es d
+pub agreed-behind : (ns : List NodeId) (es : List Occurrence) (d : Definition) → AllPlain es → IsAgreed ns es d
 agreed-behind ns es d h = record {
   acts = begins-acts ns es d h;
   batches = begins-batches ns es d h;
@@ -30,7 +30,7 @@ agreed-behind ns es d h = record {
 }
 
 -- at each moment of each circuit's world
-pub lines-agree : (ns : List Node) (rs : List Ran) → lines_fit rs ≡ true → Agree ns rs
+pub lines-agree : (ns : List NodeId) (rs : List Ran) → lines_fit rs ≡ true → Agree ns rs
 lines-agree ns rs h = record {
   happened = λ c. lines-run (first_world ns) (own c rs);
   agreed = λ c d es fs e. agreed-behind ns es d (plain-moment ns c rs es fs h e);

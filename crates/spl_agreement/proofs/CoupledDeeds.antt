@@ -12,9 +12,8 @@ use Rattle.spl_agree.proofs.Tests.{if_holds, bool_cases}
 use Rattle.spl_agree.specs.declared.plan.GroupPlan.{GroupPlan}
 use Rattle.spl_circuit.specs.declared.definition.Definition.{Definition}
 use Rattle.spl_circuit.specs.declared.act.Act.{Act}
-use Rattle.spl_circuit.specs.declared.lifecycle.Mark.{Mark}
 use Rattle.spl_circuit.specs.declared.lifecycle.Mark.TheVariants as mark
-use Rattle.spl_circuit.specs.Nodes.{Node, has_node, position}
+use Rattle.spl_circuit.specs.Nodes.{NodeId, CircuitId, has_node, position}
 use Rattle.spl_circuit.specs.Rules.{admin, service}
 use Rattle.spl_circuit.specs.Acts.{act_rules}
 use Rattle.spl_circuit.specs.Equality.{same_definition}
@@ -40,22 +39,22 @@ use Rattle.spl_agreement.proofs.DeedsAreSteps.{IsStepOf}
 use Rattle.spl_agreement.proofs.Rosters.{roster}
 
 -- a cell is bound anew
-pub made-bind : (n : Node) (k : Cell) (d : Definition) → made_one n k (durable.Bind d) ≡ Held (fresh d)
+pub made-bind : (n : NodeId) (k : Cell) (d : Definition) → made_one n k (durable.Bind d) ≡ Held (fresh d)
 made-bind n Empty d = refl
 made-bind n _ d = refl
 
 -- changes of the admin group change the member of acts, and the turn
-pub made-admin : (n : Node) (b : Bound) (xs : List (GroupChange Act)) → (t2 : ℕ) × (made n (Held b) (map durable.Admin xs) ≡ Held (record b { turn = t2; acts = changed_by (act_rules b.definition) b.acts xs }))
+pub made-admin : (n : NodeId) (b : Bound) (xs : List (GroupChange Act)) → (t2 : ℕ) × (made n (Held b) (map durable.Admin xs) ≡ Held (record b { turn = t2; acts = changed_by (act_rules b.definition) b.acts xs }))
 made-admin n b [] = (b.turn, refl)
 made-admin n b (x ∷ xs) = made-admin n (record b { turn = turn_after n b.turn x; acts = changed (act_rules b.definition) b.acts x }) xs
 
 -- changes of the service group change the member of batches
-pub made-service : (n : Node) (b : Bound) (xs : List (GroupChange Batch)) → made n (Held b) (map durable.Service xs) ≡ Held (record b { batches = changed_by batch_rules b.batches xs })
+pub made-service : (n : NodeId) (b : Bound) (xs : List (GroupChange Batch)) → made n (Held b) (map durable.Service xs) ≡ Held (record b { batches = changed_by batch_rules b.batches xs })
 made-service n b [] = refl
 made-service n b (x ∷ xs) = made-service n (record b { batches = changed batch_rules b.batches x }) xs
 
 -- changes are made one list after the other
-pub made-append : (n : Node) (k : Cell) (xs ys : List Change) → made n k (xs ++ ys) ≡ made n (made n k xs) ys
+pub made-append : (n : NodeId) (k : Cell) (xs ys : List Change) → made n k (xs ++ ys) ≡ made n (made n k xs) ys
 made-append n k [] ys = refl
 made-append n k (x ∷ xs) ys = made-append n (made_one n k x) xs ys
 
@@ -65,7 +64,7 @@ restarted-moved g i m move.Keep = refl
 restarted-moved g i m _ = refl
 
 -- so does a stop of the cell
-pub stopped-moved : (n : Node) (k : Cell) (x y : OpenMove) → stopped_cell (moved_cell n k x y) ≡ stopped_cell k
+pub stopped-moved : (n : NodeId) (k : Cell) (x y : OpenMove) → stopped_cell (moved_cell n k x y) ≡ stopped_cell k
 stopped-moved n (Held h) x y =
     ap (λ (z : Member Act). Held (record h { acts = z; batches = restarted (moved (group_of service_groups h.definition) (position h.definition.members n) h.batches y) })) (restarted-moved (group_of admin_groups h.definition) (position h.definition.members n) h.acts x)
     ∙ ap (λ (z : Member Batch). Held (record h { acts = restarted h.acts; batches = z })) (restarted-moved (group_of service_groups h.definition) (position h.definition.members n) h.batches y)
@@ -102,30 +101,30 @@ batches-append [] ys = refl
 batches-append (x ∷ xs) ys = ap (λ z. batch_of x ++ z) (batches-append xs ys) ∙ sym (append_assoc (batch_of x) (batches_in xs) (batches_in ys))
 
 -- what is added, by the cell before and the values
-abbrev pub added : {V : Type 0} → Node → Node → Definition → (Node → Cell) → List V → List V
+abbrev pub added : {V : Type 0} → NodeId → NodeId → Definition → (NodeId → Cell) → List V → List V
 added n leader f at vs = if bytes_eq n leader then (if is_bound_to f (at leader) then vs else []) else []
 
 -- at the coordinator's cell that is bound to the definition, all is added
-pub added-mine : {V : Type 0} (n leader : Node) (f : Definition) (at : Node → Cell) (vs : List V) (b : Bound) → at n ≡ Held b → b.definition ≡ f → n ≡ leader → added n leader f at vs ≡ vs
+pub added-mine : {V : Type 0} (n leader : NodeId) (f : Definition) (at : NodeId → Cell) (vs : List V) (b : Bound) → at n ≡ Held b → b.definition ≡ f → n ≡ leader → added n leader f at vs ≡ vs
 added-mine {V} n leader f at vs b is same leads =
-    let bound : is_bound_to f (at leader) ≡ true = subst (λ (z : Node). is_bound_to f (at z) ≡ true) leads (subst (λ (k : Cell). is_bound_to f k ≡ true) (sym is) (subst (λ (g : Definition). same_definition b.definition g ≡ true) same (definition_same b.definition))) in
-    let here : bytes_eq n leader ≡ true = subst (λ (z : Node). bytes_eq n z ≡ true) leads (node_same n) in rw (here, bound)
+    let bound : is_bound_to f (at leader) ≡ true = subst (λ (z : NodeId). is_bound_to f (at z) ≡ true) leads (subst (λ (k : Cell). is_bound_to f k ≡ true) (sym is) (subst (λ (g : Definition). same_definition b.definition g ≡ true) same (definition_same b.definition))) in
+    let here : bytes_eq n leader ≡ true = subst (λ (z : NodeId). bytes_eq n z ≡ true) leads (node_same n) in rw (here, bound)
 
 -- at another cell, or one of another definition, nothing is
-pub added-other : {V : Type 0} (n leader : Node) (f : Definition) (at : Node → Cell) (vs : List V) (b : Bound) → at n ≡ Held b → (b.definition ≢ f) ⊎ (n ≢ leader) → added n leader f at vs ≡ []
+pub added-other : {V : Type 0} (n leader : NodeId) (f : Definition) (at : NodeId → Cell) (vs : List V) (b : Bound) → at n ≡ Held b → (b.definition ≢ f) ⊎ (n ≢ leader) → added n leader f at vs ≡ []
 added-other {V} n leader f at vs b is (inr q) = rw (node_other n leader q)
 added-other {V} n leader f at vs b is (inl q) = if_holds (λ (z : List V). z ≡ []) (bytes_eq n leader) _ _ (λ x. if_holds (λ (z : List V). z ≡ []) (is_bound_to f (at leader)) vs [] (λ y. absurd (q (definition_is b.definition f (bound (node_is n leader x) y)))) (λ y. refl)) (λ x. refl)
   where
     bound : n ≡ leader → is_bound_to f (at leader) ≡ true → same_definition b.definition f ≡ true
-    bound x y = subst (λ (k : Cell). is_bound_to f k ≡ true) is (subst (λ (z : Node). is_bound_to f (at z) ≡ true) (sym x) y)
+    bound x y = subst (λ (k : Cell). is_bound_to f k ≡ true) is (subst (λ (z : NodeId). is_bound_to f (at z) ≡ true) (sym x) y)
 
 -- where nothing is committed, nothing is added
-pub added-none : {V : Type 0} (n leader : Node) (f : Definition) (at : Node → Cell) (vs : List V) → vs ≡ [] → added n leader f at vs ≡ []
+pub added-none : {V : Type 0} (n leader : NodeId) (f : Definition) (at : NodeId → Cell) (vs : List V) → vs ≡ [] → added n leader f at vs ≡ []
 added-none {V} n leader f at vs h = if_holds (λ (z : List V). z ≡ []) (bytes_eq n leader) _ _ (λ x. if_holds (λ (z : List V). z ≡ []) (is_bound_to f (at leader)) vs [] (λ y. h) (λ y. refl)) (λ x. refl)
 
 -- at a free cell nothing is added
-pub added-free : {V : Type 0} (n leader : Node) (f : Definition) (at : Node → Cell) (vs : List V) (g : ℕ) → IsFree (at n) g → added n leader f at vs ≡ []
-added-free {V} n leader f at vs g h = if_holds (λ (z : List V). z ≡ []) (bytes_eq n leader) _ _ (λ x. unbound (subst (λ (z : Node). IsFree (at z) g) (node_is n leader x) h)) (λ x. refl)
+pub added-free : {V : Type 0} (n leader : NodeId) (f : Definition) (at : NodeId → Cell) (vs : List V) (g : ℕ) → IsFree (at n) g → added n leader f at vs ≡ []
+added-free {V} n leader f at vs g h = if_holds (λ (z : List V). z ≡ []) (bytes_eq n leader) _ _ (λ x. unbound (subst (λ (z : NodeId). IsFree (at z) g) (node_is n leader x) h)) (λ x. refl)
   where
     not_bound : (k : Cell) → IsFree k g → is_bound_to f k ≡ false
     not_bound (Held h) y = absurd y
@@ -135,7 +134,7 @@ added-free {V} n leader f at vs g h = if_holds (λ (z : List V). z ≡ []) (byte
     unbound y = rw (not_bound (at leader) y)
 
 -- the lists may be given as any functions with the same values
-pub world-lists : (past : Past) (at : Node → Cell) (sent : List Sent) (acts acts2 : Definition → List Act) (batches batches2 : Definition → List Batch) → ((f : Definition) → acts f ≡ acts2 f) → ((f : Definition) → batches f ≡ batches2 f) → InWorld past at sent acts batches → InWorld past at sent acts2 batches2
+pub world-lists : (past : Past) (at : NodeId → Cell) (sent : List Sent) (acts acts2 : Definition → List Act) (batches batches2 : Definition → List Batch) → ((f : Definition) → acts f ≡ acts2 f) → ((f : Definition) → batches f ≡ batches2 f) → InWorld past at sent acts batches → InWorld past at sent acts2 batches2
 world-lists past at sent acts acts2 batches batches2 p q w = record {
   law = w.law;
   ruled = w.ruled;
@@ -146,11 +145,11 @@ world-lists past at sent acts acts2 batches batches2 p q w = record {
 }
 
 -- there are bindings, among them these, with which the coupling holds
-abbrev pub SomePast : Past → (Node → Cell) → List Sent → (Definition → List Act) → (Definition → List Batch) → Type 0
-SomePast base at sent acts batches = (past : Past) × ((k : Node) (f : Definition) → Ever k f base → Ever k f past) × InWorld past at sent acts batches
+abbrev pub SomePast : Past → (NodeId → Cell) → List Sent → (Definition → List Act) → (Definition → List Batch) → Type 0
+SomePast base at sent acts batches = (past : Past) × ((k : NodeId) (f : Definition) → Ever k f base → Ever k f past) × InWorld past at sent acts batches
 
 -- after a plan at a cell
-abbrev pub Planned : Past → List Node → Node → (Node → Cell) → List Sent → (Definition → List Act) → (Definition → List Batch) → Plan → Type 0
+abbrev pub Planned : Past → List NodeId → NodeId → (NodeId → Cell) → List Sent → (Definition → List Act) → (Definition → List Batch) → Plan → Type 0
 Planned base ns n at sent acts batches p = SomePast base (put_at at n (after_plan n (at n) p)) (sent ++ posted ns n p.sends) (λ f. acts f ++ added n (admin f) f at (acts_in p.changes)) (λ f. batches f ++ added n (service f) f at (batches_in p.changes))
 
 -- a list with nothing added
@@ -158,7 +157,7 @@ pub none-more : {V : Type 0} (xs ys : List V) → ys ≡ [] → xs ≡ xs ++ ys
 none-more xs ys h = sym (append-nil xs) ∙ ap (λ z. xs ++ z) (sym h)
 
 -- no change, and messages that count in no group
-pub planned-messages : (base : Past) (ns : List Node) (n : Node) (at : Node → Cell) (sent news : List Sent) (acts : Definition → List Act) (batches : Definition → List Batch) (k : Cell) → k ≡ at n → ((x : Sent) → WasSent x news → IsIdle x.message) → SomePast base at sent acts batches → SomePast base (put_at at n k) (sent ++ news) (λ f. acts f ++ added n (admin f) f at []) (λ f. batches f ++ added n (service f) f at [])
+pub planned-messages : (base : Past) (ns : List NodeId) (n : NodeId) (at : NodeId → Cell) (sent news : List Sent) (acts : Definition → List Act) (batches : Definition → List Batch) (k : Cell) → k ≡ at n → ((x : Sent) → WasSent x news → IsIdle x.message) → SomePast base at sent acts batches → SomePast base (put_at at n k) (sent ++ news) (λ f. acts f ++ added n (admin f) f at []) (λ f. batches f ++ added n (service f) f at [])
 planned-messages base ns n at sent news acts batches k same idle w = (
   w.0,
   w.1,
@@ -172,11 +171,11 @@ planned-messages base ns n at sent news acts batches k same idle w = (
     go x (inr h) = inr (idle x h)
 
 -- putting a cell leaves the others
-pub put-others : (at : Node → Cell) (n : Node) (k : Cell) → Others n at (put_at at n k)
+pub put-others : (at : NodeId → Cell) (n : NodeId) (k : Cell) → Others n at (put_at at n k)
 put-others at n k = λ j q. put_at-other at n k j q
 
 -- any deed, by its kind
-pub planned-deed : (base : Past) (ns : List Node) (c n : Node) (at : Node → Cell) (sent : List Sent) (acts : Definition → List Act) (batches : Definition → List Batch) (deed : Deed) → IsStepOf n sent (at n) deed → SomePast base at sent acts batches → Planned base ns n at sent acts batches (planned (site_at n c) deed)
+pub planned-deed : (base : Past) (ns : List NodeId) (c : CircuitId) (n : NodeId) (at : NodeId → Cell) (sent : List Sent) (acts : Definition → List Act) (batches : Definition → List Batch) (deed : Deed) → IsStepOf n sent (at n) deed → SomePast base at sent acts batches → Planned base ns n at sent acts batches (planned (site_at n c) deed)
 planned-deed base ns c n at sent acts batches (Refuses r) fair w = planned-messages base ns n at sent [] acts batches (moved_cell n (at n) move.Keep move.Keep) (moved-keep n (at n)) (λ x h. absurd h) w
 planned-deed base ns c n at sent acts batches (Tells a) fair w = planned-messages base ns n at sent [] acts batches (moved_cell n (at n) move.Keep move.Keep) (moved-keep n (at n)) (λ x h. absurd h) w
 planned-deed base ns c n at sent acts batches (Replies note to m) fair w = planned-messages base ns n at sent (posted ns n (record { to = to; message = m } ∷ [])) acts batches (moved_cell n (at n) move.Keep move.Keep) (moved-keep n (at n)) idle w
@@ -207,10 +206,10 @@ planned-deed base ns c n at sent acts batches (Binds say d back e) fair w = (
     bound : Cell
     bound = Held (fresh d)
 
-    at1 : Node → Cell
+    at1 : NodeId → Cell
     at1 = put_at at n bound
 
-    at2 : Node → Cell
+    at2 : NodeId → Cell
     at2 = put_at at n (moved_cell n (made n (at n) changes) plan.opening move.Keep)
 
     turn : (t2 : ℕ) × (made n bound (map durable.Admin plan.changes) ≡ Held (record (fresh d) { turn = t2; acts = changed_by (act_rules d) new_member plan.changes }))
@@ -238,7 +237,7 @@ planned-deed base ns c n at sent acts batches (Acts say b back e) fair w = (
     changes : List Change
     changes = map durable.Admin plan.changes
 
-    at2 : Node → Cell
+    at2 : NodeId → Cell
     at2 = put_at at n (moved_cell n (made n (at n) changes) plan.opening move.Keep)
 
     sent2 : List Sent
@@ -266,7 +265,7 @@ planned-deed base ns c n at sent acts batches (Serves say b back e) fair w = (
     changes : List Change
     changes = map durable.Service plan.changes
 
-    at2 : Node → Cell
+    at2 : NodeId → Cell
     at2 = put_at at n (moved_cell n (made n (at n) changes) move.Keep plan.opening)
 
     sent2 : List Sent
@@ -311,13 +310,13 @@ planned-deed base ns c n at sent acts batches (Turns b x y) fair w = (
     mid : Bound
     mid = record b { turn = turn.0; acts = after_row admin_groups b.definition n b.acts x }
 
-    at1 : Node → Cell
+    at1 : NodeId → Cell
     at1 = put_at at n (Held mid)
 
     sent1 : List Sent
     sent1 = sent ++ posted ns n (group_sends (admin_lane (site_at n c) b.definition) n p.sends)
 
-    at2 : Node → Cell
+    at2 : NodeId → Cell
     at2 = put_at at n (moved_cell n (made n (at n) changes) p.opening q.opening)
 
     sent2 : List Sent
@@ -368,7 +367,7 @@ planned-deed base ns c n at sent acts batches Abandons fair w = (
       (subst (λ (s : List Sent). InWorld w.0 at2 s acts batches) (sym (append-nil sent)) (world-restart w.0 at at2 sent acts batches n fair.0 mark.Abandoned fair.0.turn fair.1 now (put-others at n _) w.2)),
 )
   where
-    at2 : Node → Cell
+    at2 : NodeId → Cell
     at2 = put_at at n (moved_cell n (made_one n (at n) durable.Abandon) move.Close move.Close)
 
     now : at2 n ≡ Held (record fair.0 { mark = mark.Abandoned; acts = restarted fair.0.acts; batches = restarted fair.0.batches })
@@ -380,7 +379,7 @@ planned-deed base ns c n at sent acts batches Purges fair w = (
       (subst (λ (s : List Sent). InWorld w.0 at2 s acts batches) (sym (append-nil sent)) (world-purge w.0 at at2 sent acts batches n fair.0 fair.1 now (put-others at n _) w.2)),
 )
   where
-    at2 : Node → Cell
+    at2 : NodeId → Cell
     at2 = put_at at n (moved_cell n (made_one n (at n) durable.Purge) move.Keep move.Keep)
 
     now : at2 n ≡ Purged fair.0.definition.generation

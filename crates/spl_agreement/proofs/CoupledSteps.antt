@@ -4,13 +4,12 @@ use Rattle.std.proofs.Common.{◌≡◌, ◌≢◌, ℕ, ◌<◌, ◌≤◌, ◌
 use Rattle.std.specs.Prelude.{None, ◌==◌}
 use Rattle.spl_agree.specs.declared.event.GroupEvent.{GroupEvent}
 use Rattle.spl_agree.specs.declared.event.GroupEvent.TheVariants as event
-use Rattle.spl_agree.specs.Member.{Rules, Group, Member, new_member, restarted, known}
+use Rattle.spl_agree.specs.Member.{Rules, Group, Member, restarted, known}
 use Rattle.spl_agree.specs.Fits.{IsSound, IsRoomy, IsDue, any_value}
 use Rattle.spl_circuit.specs.declared.definition.Definition.{Definition}
 use Rattle.spl_circuit.specs.declared.act.Act.{Act}
 use Rattle.spl_circuit.specs.declared.lifecycle.Mark.{Mark}
-use Rattle.spl_circuit.specs.declared.lifecycle.Mark.TheVariants as mark
-use Rattle.spl_circuit.specs.Nodes.{Node, has_node, position}
+use Rattle.spl_circuit.specs.Nodes.{NodeId, CircuitId, has_node, position}
 use Rattle.spl_circuit.specs.Rules.{broken, admin, service}
 use Rattle.spl_circuit.specs.Acts.{act_rules}
 use Rattle.spl_command.specs.declared.batch.Batch.{Batch}
@@ -26,14 +25,15 @@ use Rattle.spl_model.proofs.Nodes.{node_cases}
 use Rattle.spl_agreement.proofs.Positions.{position-apart}
 use Rattle.spl_agreement.proofs.Same.{act_same}
 use Rattle.spl_model.specs.Worlds.{Sent, posted, site_at}
-use Rattle.spl_agreement.proofs.GroupOfDefinition.{GroupMessage, Ever, IsOne, IsPlaced, IsMessageOf, MayHear, IsHarmless, all_committed, after_row, plan_row, groups-row, groups-messages, groups-drop, groups-restart, groups-fresh, Groups, group_of}
+use Rattle.spl_agreement.proofs.GroupOfDefinition.{GroupMessage, Ever, IsOne, IsPlaced, IsMessageOf, MayHear, all_committed, after_row, plan_row, groups-row, Groups, group_of}
+use Rattle.spl_agreement.proofs.GroupBindings.{IsHarmless, groups-messages, groups-drop, groups-restart, groups-fresh}
 use Rattle.spl_agreement.proofs.SentByRule.{fine-row}
 use Rattle.spl_agreement.proofs.GroupWorlds.{admin_presence, service_presence, WasSent, admin_said, service_said, IsValid, IsValidCell, InWorld, Others, placed-admin, placed-service, quiet-admin, posted-admin, posted-no_service, posted-service, posted-no_admin, admin_groups, service_groups}
 use Rattle.spl_agreement.specs.Agreement.{IsPast}
 
 -- all bindings that ever were
 abbrev pub Past : Type 0
-Past = List (Node × Definition)
+Past = List (NodeId × Definition)
 
 -- a value that is submitted isn't known yet, and there is room for it
 abbrev pub IsNew : {V : Type 0} → Rules V → Member V → GroupEvent V → Type 0
@@ -41,13 +41,13 @@ IsNew rules m (event.Submit v) = (known rules m v ≡ None) × ((length m.pendin
 IsNew rules m _ = Unit {0}
 
 -- an event that may happen here is due
-pub due-row : {V : Type 0} (groups : Groups V) (d : Definition) (n back : Node) (said : GroupMessage V → Type 0) (m : Member V) (e : GroupEvent V) → IsPlaced groups d n → MayHear d said n back e → IsNew (groups.rules d) m e → IsRoomy m → IsDue (group_of groups d) (position d.members n) m e
+pub due-row : {V : Type 0} (groups : Groups V) (d : Definition) (n back : NodeId) (said : GroupMessage V → Type 0) (m : Member V) (e : GroupEvent V) → IsPlaced groups d n → MayHear d said n back e → IsNew (groups.rules d) m e → IsRoomy m → IsDue (group_of groups d) (position d.members n) m e
 due-row groups d n back said m (event.Submit v) p h new room = (new.0, not-full m new.1 room)
 due-row groups d n back said m (event.From s x) p h new room = (h.2, λ q. h.3 (sym (position-apart d.members n back p.few p.here (sym q ∙ h.0))))
 due-row groups d n back said m _ p h new room = tt
 
 -- a member stays sound and roomy
-pub sound-after : {V : Type 0} (groups : Groups V) (d : Definition) (n back : Node) (said : GroupMessage V → Type 0) (m : Member V) (e : GroupEvent V) → ((x : V) → (groups.rules d).same x x ≡ true) → IsPlaced groups d n → MayHear d said n back e → IsNew (groups.rules d) m e → IsSound (group_of groups d) (position d.members n) m → IsRoomy m → IsSound (group_of groups d) (position d.members n) (after_row groups d n m e) × IsRoomy (after_row groups d n m e)
+pub sound-after : {V : Type 0} (groups : Groups V) (d : Definition) (n back : NodeId) (said : GroupMessage V → Type 0) (m : Member V) (e : GroupEvent V) → ((x : V) → (groups.rules d).same x x ≡ true) → IsPlaced groups d n → MayHear d said n back e → IsNew (groups.rules d) m e → IsSound (group_of groups d) (position d.members n) m → IsRoomy m → IsSound (group_of groups d) (position d.members n) (after_row groups d n m e) × IsRoomy (after_row groups d n m e)
 sound-after {V} groups d n back said m e same p h new sound room = (
   sound-row g (position d.members n) m e due room sound,
   (good-row g any_value (position d.members n) m e same due (may-any g e) sound room).1,
@@ -60,15 +60,15 @@ sound-after {V} groups d n back said m e same p h new sound room = (
     due = due-row groups d n back said m e p h new room
 
 -- facts of one cell, where one cell changes
-pub each_cell : (P : Node → Cell → Type 0) (at at2 : Node → Cell) (n : Node) (k : Cell) → at2 n ≡ k → Others n at at2 → P n k → ((j : Node) → j ≢ n → P j (at j)) → (j : Node) → P j (at2 j)
+pub each_cell : (P : NodeId → Cell → Type 0) (at at2 : NodeId → Cell) (n : NodeId) (k : Cell) → at2 n ≡ k → Others n at at2 → P n k → ((j : NodeId) → j ≢ n → P j (at j)) → (j : NodeId) → P j (at2 j)
 each_cell P at at2 n k is others new old j = go (node_cases j n)
   where
     go : (j ≡ n) ⊎ (j ≢ n) → P j (at2 j)
-    go (inl q) = subst (λ (z : Node). P z (at2 z)) (sym q) (subst (λ (c : Cell). P n c) (sym is) new)
+    go (inl q) = subst (λ (z : NodeId). P z (at2 z)) (sym q) (subst (λ (c : Cell). P n c) (sym is) new)
     go (inr q) = subst (λ (c : Cell). P j c) (sym (others j q)) (old j q)
 
 -- the admin group of a cell does something
-pub world-acts : (past : Past) (at at2 : Node → Cell) (sent sent2 : List Sent) (acts more : Definition → List Act) (batches : Definition → List Batch) (ns : List Node) (c n back : Node) (b : Bound) (m2 : Mark) (t2 : ℕ) (e : GroupEvent Act)
+pub world-acts : (past : Past) (at at2 : NodeId → Cell) (sent sent2 : List Sent) (acts more : Definition → List Act) (batches : Definition → List Batch) (ns : List NodeId) (c : CircuitId) (n back : NodeId) (b : Bound) (m2 : Mark) (t2 : ℕ) (e : GroupEvent Act)
     → at n ≡ Held b → at2 n ≡ Held (record b { mark = m2; turn = t2; acts = after_row admin_groups b.definition n b.acts e }) → Others n at at2
     → ((x : Sent) → WasSent x sent2 → WasSent x sent ⊎ WasSent x (posted ns n (group_sends (admin_lane (site_at n c) b.definition) back (plan_row admin_groups b.definition n b.acts e).sends)))
     → MayHear b.definition (admin_said sent) n back e → IsNew (act_rules b.definition) b.acts e
@@ -97,11 +97,11 @@ world-acts past at at2 sent sent2 acts more batches ns c n back b m2 t2 e is new
     valid : IsValid b.definition n (after_row admin_groups b.definition n b.acts e) b.batches
     valid = record { whole = before.whole; member = before.member; acts = kept.0; batches = before.batches; acts_room = kept.1; batches_room = before.batches_room }
 
-    still : (k : Node) → service_presence (at2 k) ≡ service_presence (at k)
+    still : (k : NodeId) → service_presence (at2 k) ≡ service_presence (at k)
     still k = go (node_cases k n)
       where
         go : (k ≡ n) ⊎ (k ≢ n) → service_presence (at2 k) ≡ service_presence (at k)
-        go (inl q) = subst (λ (z : Node). service_presence (at2 z) ≡ service_presence (at z)) (sym q) (ap service_presence new ∙ sym (ap service_presence is))
+        go (inl q) = subst (λ (z : NodeId). service_presence (at2 z) ≡ service_presence (at z)) (sym q) (ap service_presence new ∙ sym (ap service_presence is))
         go (inr q) = ap service_presence (others k q)
 
     admin_messages : (l : GroupMessage Act) → admin_said sent2 l → admin_said sent l ⊎ IsMessageOf n b.definition back (plan_row admin_groups b.definition n b.acts e).sends l
@@ -119,7 +119,7 @@ world-acts past at at2 sent sent2 acts more batches ns c n back b m2 t2 e is new
         go (inr x) = absurd (posted-no_service ns n c b.definition back (plan_row admin_groups b.definition n b.acts e).sends l.from l.to s.0 s.1 s.2 l.body x)
 
 -- the service group of a cell does something
-pub world-serves : (past : Past) (at at2 : Node → Cell) (sent sent2 : List Sent) (acts : Definition → List Act) (batches more : Definition → List Batch) (ns : List Node) (c n back : Node) (b : Bound) (m2 : Mark) (t2 : ℕ) (e : GroupEvent Batch)
+pub world-serves : (past : Past) (at at2 : NodeId → Cell) (sent sent2 : List Sent) (acts : Definition → List Act) (batches more : Definition → List Batch) (ns : List NodeId) (c : CircuitId) (n back : NodeId) (b : Bound) (m2 : Mark) (t2 : ℕ) (e : GroupEvent Batch)
     → at n ≡ Held b → at2 n ≡ Held (record b { mark = m2; turn = t2; batches = after_row service_groups b.definition n b.batches e }) → Others n at at2
     → ((x : Sent) → WasSent x sent2 → WasSent x sent ⊎ WasSent x (posted ns n (group_sends (service_lane (site_at n c) b.definition) back (plan_row service_groups b.definition n b.batches e).sends)))
     → Ever (service b.definition) b.definition past
@@ -149,11 +149,11 @@ world-serves past at at2 sent sent2 acts batches more ns c n back b m2 t2 e is n
     valid : IsValid b.definition n b.acts (after_row service_groups b.definition n b.batches e)
     valid = record { whole = before.whole; member = before.member; acts = before.acts; batches = kept.0; acts_room = before.acts_room; batches_room = kept.1 }
 
-    still : (k : Node) → admin_presence (at2 k) ≡ admin_presence (at k)
+    still : (k : NodeId) → admin_presence (at2 k) ≡ admin_presence (at k)
     still k = go (node_cases k n)
       where
         go : (k ≡ n) ⊎ (k ≢ n) → admin_presence (at2 k) ≡ admin_presence (at k)
-        go (inl q) = subst (λ (z : Node). admin_presence (at2 z) ≡ admin_presence (at z)) (sym q) (ap admin_presence new ∙ sym (ap admin_presence is))
+        go (inl q) = subst (λ (z : NodeId). admin_presence (at2 z) ≡ admin_presence (at z)) (sym q) (ap admin_presence new ∙ sym (ap admin_presence is))
         go (inr q) = ap admin_presence (others k q)
 
     service_messages : (l : GroupMessage Batch) → service_said sent2 l → service_said sent l ⊎ IsMessageOf n b.definition back (plan_row service_groups b.definition n b.batches e).sends l
@@ -176,7 +176,7 @@ IsIdle (message.Admin i x) = IsHarmless x
 IsIdle (message.Scabbard i s t x) = IsHarmless x
 
 -- no cell changes; there may be fewer messages, and new ones that count in no group
-pub world-messages : (past : Past) (at at2 : Node → Cell) (sent sent2 : List Sent) (acts : Definition → List Act) (batches : Definition → List Batch) → ((k : Node) → at2 k ≡ at k) → ((x : Sent) → WasSent x sent2 → WasSent x sent ⊎ IsIdle x.message) → InWorld past at sent acts batches → InWorld past at2 sent2 acts batches
+pub world-messages : (past : Past) (at at2 : NodeId → Cell) (sent sent2 : List Sent) (acts : Definition → List Act) (batches : Definition → List Batch) → ((k : NodeId) → at2 k ≡ at k) → ((x : Sent) → WasSent x sent2 → WasSent x sent ⊎ IsIdle x.message) → InWorld past at sent acts batches → InWorld past at2 sent2 acts batches
 world-messages past at at2 sent sent2 acts batches still messages w = record {
   law = w.law;
   ruled = w.ruled;
@@ -201,7 +201,7 @@ world-messages past at at2 sent sent2 acts batches still messages w = record {
         go (inr x) = inr x
 
 -- a bound cell forgets its open rounds, whatever its mark
-pub world-restart : (past : Past) (at at2 : Node → Cell) (sent : List Sent) (acts : Definition → List Act) (batches : Definition → List Batch) (n : Node) (b : Bound) (m2 : Mark) (t2 : ℕ)
+pub world-restart : (past : Past) (at at2 : NodeId → Cell) (sent : List Sent) (acts : Definition → List Act) (batches : Definition → List Batch) (n : NodeId) (b : Bound) (m2 : Mark) (t2 : ℕ)
     → at n ≡ Held b → at2 n ≡ Held (record b { mark = m2; turn = t2; acts = restarted b.acts; batches = restarted b.batches }) → Others n at at2 → InWorld past at sent acts batches → InWorld past at2 sent acts batches
 world-restart past at at2 sent acts batches n b m2 t2 is new others w = record {
   law = w.law;
@@ -216,21 +216,21 @@ world-restart past at at2 sent acts batches n b m2 t2 is new others w = record {
     before = subst (λ (z : Cell). IsValidCell n z) is (w.valid n)
 
 -- a node stops
-pub world-stop : (past : Past) (at at2 : Node → Cell) (sent : List Sent) (acts : Definition → List Act) (batches : Definition → List Batch) (n : Node) (k : Cell) → at n ≡ k → at2 n ≡ stopped_cell k → Others n at at2 → InWorld past at sent acts batches → InWorld past at2 sent acts batches
+pub world-stop : (past : Past) (at at2 : NodeId → Cell) (sent : List Sent) (acts : Definition → List Act) (batches : Definition → List Batch) (n : NodeId) (k : Cell) → at n ≡ k → at2 n ≡ stopped_cell k → Others n at at2 → InWorld past at sent acts batches → InWorld past at2 sent acts batches
 world-stop past at at2 sent acts batches n Empty is new others w = world-messages past at at2 sent sent acts batches (λ k. go k (node_cases k n)) (λ x s. inl s) w
   where
-    go : (k : Node) → (k ≡ n) ⊎ (k ≢ n) → at2 k ≡ at k
-    go k (inl q) = subst (λ (z : Node). at2 z ≡ at z) (sym q) (new ∙ sym is)
+    go : (k : NodeId) → (k ≡ n) ⊎ (k ≢ n) → at2 k ≡ at k
+    go k (inl q) = subst (λ (z : NodeId). at2 z ≡ at z) (sym q) (new ∙ sym is)
     go k (inr q) = others k q
 world-stop past at at2 sent acts batches n (Purged old) is new others w = world-messages past at at2 sent sent acts batches (λ k. go k (node_cases k n)) (λ x s. inl s) w
   where
-    go : (k : Node) → (k ≡ n) ⊎ (k ≢ n) → at2 k ≡ at k
-    go k (inl q) = subst (λ (z : Node). at2 z ≡ at z) (sym q) (new ∙ sym is)
+    go : (k : NodeId) → (k ≡ n) ⊎ (k ≢ n) → at2 k ≡ at k
+    go k (inl q) = subst (λ (z : NodeId). at2 z ≡ at z) (sym q) (new ∙ sym is)
     go k (inr q) = others k q
 world-stop past at at2 sent acts batches n (Held h) is new others w = world-restart past at at2 sent acts batches n h h.mark h.turn is new others w
 
 -- a bound cell is purged
-pub world-purge : (past : Past) (at at2 : Node → Cell) (sent : List Sent) (acts : Definition → List Act) (batches : Definition → List Batch) (n : Node) (b : Bound)
+pub world-purge : (past : Past) (at at2 : NodeId → Cell) (sent : List Sent) (acts : Definition → List Act) (batches : Definition → List Batch) (n : NodeId) (b : Bound)
     → at n ≡ Held b → at2 n ≡ Purged b.definition.generation → Others n at at2 → InWorld past at sent acts batches → InWorld past at2 sent acts batches
 world-purge past at at2 sent acts batches n b is new others w = record {
   law = w.law;
@@ -258,7 +258,7 @@ free-past f (Purged old) g h p = omega arith
 free-past f (Held k) g h p = absurd h
 
 -- a free cell is bound
-pub world-bind : (past : Past) (at at2 : Node → Cell) (sent : List Sent) (acts : Definition → List Act) (batches : Definition → List Batch) (n : Node) (d : Definition)
+pub world-bind : (past : Past) (at at2 : NodeId → Cell) (sent : List Sent) (acts : Definition → List Act) (batches : Definition → List Batch) (n : NodeId) (d : Definition)
     → IsFree (at n) d.generation → broken d ≡ None → has_node d.members n ≡ true → at2 n ≡ Held (fresh d) → Others n at at2 → InWorld past at sent acts batches → InWorld ((n, d) ∷ past) at2 sent acts batches
 world-bind past at at2 sent acts batches n d free whole member new others w = record {
   law = law;
@@ -275,20 +275,20 @@ world-bind past at at2 sent acts batches n d free whole member new others w = re
     higher : (f : Definition) → Ever n f past → f.generation ≢ d.generation
     higher f h e = let x : f.generation < d.generation = lower f h in omega arith
 
-    ruled : (k : Node) (e : Definition) → Ever k e ((n, d) ∷ past) → broken e ≡ None
+    ruled : (k : NodeId) (e : Definition) → Ever k e ((n, d) ∷ past) → broken e ≡ None
     ruled k e (inl x) = subst (λ (z : Definition). broken z ≡ None) (sym x.1) whole
     ruled k e (inr x) = w.ruled k e x
 
     law : IsOne ((n, d) ∷ past)
     law k e f (inl x) (inl y) g = x.1 ∙ sym y.1
-    law k e f (inl x) (inr y) g = absurd (higher f (subst (λ (z : Node). Ever z f past) x.0 y) (sym g ∙ ap (λ (z : Definition). z.generation) x.1))
-    law k e f (inr x) (inl y) g = absurd (higher e (subst (λ (z : Node). Ever z e past) y.0 x) (g ∙ ap (λ (z : Definition). z.generation) y.1))
+    law k e f (inl x) (inr y) g = absurd (higher f (subst (λ (z : NodeId). Ever z f past) x.0 y) (sym g ∙ ap (λ (z : Definition). z.generation) x.1))
+    law k e f (inr x) (inl y) g = absurd (higher e (subst (λ (z : NodeId). Ever z e past) y.0 x) (g ∙ ap (λ (z : Definition). z.generation) y.1))
     law k e f (inr x) (inr y) g = w.law k e f x y g
 
     mine : (f : Definition) → Ever n f ((n, d) ∷ past) → (d ≡ f) ⊎ (f.generation < d.generation)
     mine f (inl x) = inl (sym x.1)
     mine f (inr x) = inr (lower f x)
 
-    theirs : (k : Node) (f : Definition) → Ever k f ((n, d) ∷ past) → k ≢ n → IsPast f (at k)
+    theirs : (k : NodeId) (f : Definition) → Ever k f ((n, d) ∷ past) → k ≢ n → IsPast f (at k)
     theirs k f (inl x) q = absurd (q x.0)
     theirs k f (inr x) q = w.since k f x

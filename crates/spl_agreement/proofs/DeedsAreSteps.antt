@@ -17,8 +17,7 @@ use Rattle.spl_circuit.specs.declared.lifecycle.RouteFault.{RouteFault}
 use Rattle.spl_circuit.specs.declared.act.ActKind.{ActKind}
 use Rattle.spl_circuit.specs.declared.act.ActKind.TheVariants as kind
 use Rattle.spl_circuit.specs.declared.act.Act.{Act}
-use Rattle.spl_circuit.specs.declared.lifecycle.Mark.{Mark}
-use Rattle.spl_circuit.specs.Nodes.{Node, has_node, position}
+use Rattle.spl_circuit.specs.Nodes.{NodeId, CircuitId, ServiceId, has_node, position}
 use Rattle.spl_circuit.specs.Rules.{broken, admin, is_member}
 use Rattle.spl_circuit.specs.Acts.{is_node, act_rules}
 use Rattle.spl_circuit.specs.Lifecycle.{is_proposed}
@@ -44,7 +43,7 @@ use Rattle.spl_agreement.proofs.GroupWorlds.{WasSent, admin_said, service_said, 
 use Rattle.spl_agreement.proofs.CoupledSteps.{IsIdle, IsFree, IsNew}
 
 -- what holds of a deed wherever it is done: which cell is there, and what was sent to it
-abbrev pub IsStepOf : Node → List Sent → Cell → Deed → Type 0
+abbrev pub IsStepOf : NodeId → List Sent → Cell → Deed → Type 0
 IsStepOf n sent k (Replies note to m) = IsIdle m
 IsStepOf n sent k (Binds say d back e) = (broken d ≡ None) × (has_node d.members n ≡ true) × IsFree k d.generation × MayHear d (admin_said sent) n back e × IsNew (act_rules d) new_member e × (n ≡ admin d → all_committed (plan_row admin_groups d n new_member e).changes ≡ [])
 IsStepOf n sent k (Acts say h back e) = (k ≡ Held h) × MayHear h.definition (admin_said sent) n back e × IsNew (act_rules h.definition) h.acts e
@@ -55,7 +54,7 @@ IsStepOf n sent k Purges = (h : Bound) × (k ≡ Held h)
 IsStepOf n sent k _ = Unit {0}
 
 -- a message that is delivered was sent here by another node
-abbrev pub IsDue : List Sent → Node → Event → Type 0
+abbrev pub IsDue : List Sent → NodeId → Event → Type 0
 IsDue sent n (event.Deliver from m) = WasSent (record { from = from; to = n; message = m }) sent × (from ≢ n)
 IsDue sent n _ = Unit {0}
 
@@ -93,7 +92,7 @@ bind-facts site k gen d h =
     free_is (Purged old) g x = ltb_is old g x
 
 -- a request binds only where it comes from the coordinator
-pub steps-asked : (site : Site) (sent : List Sent) (k : Cell) (from c2 : Node) (gen r place : ℕ) (v : Act) (w : ActKind) → WasSent (record { from = from; to = site.here; message = message.Admin c2 (msg.VoteRequest gen r place v) }) sent → from ≢ site.here → IsStepOf site.here sent k (asked_first site k from gen r place v w)
+pub steps-asked : (site : Site) (sent : List Sent) (k : Cell) (from : NodeId) (c2 : CircuitId) (gen r place : ℕ) (v : Act) (w : ActKind) → WasSent (record { from = from; to = site.here; message = message.Admin c2 (msg.VoteRequest gen r place v) }) sent → from ≢ site.here → IsStepOf site.here sent k (asked_first site k from gen r place v w)
 steps-asked site sent k from c2 gen r place v (kind.Propose d) was other =
     if_holds (IsStepOf site.here sent k) (place == 0 && (can_bind site k gen d && bytes_eq (admin d) from)) _ _ (λ q. bound (and_right (place == 0) _ q)) (λ q. tt)
   where
@@ -106,7 +105,7 @@ steps-asked site sent k from c2 gen r place v kind.Accept was other = tt
 steps-asked site sent k from c2 gen r place v _ was other = tt
 
 -- a forwarded proposal binds only at the coordinator
-pub steps-forwarded : (site : Site) (sent : List Sent) (k : Cell) (from : Node) (gen : ℕ) (v : Act) (w : ActKind) → IsStepOf site.here sent k (forwarded_first site k from gen v w)
+pub steps-forwarded : (site : Site) (sent : List Sent) (k : Cell) (from : NodeId) (gen : ℕ) (v : Act) (w : ActKind) → IsStepOf site.here sent k (forwarded_first site k from gen v w)
 steps-forwarded site sent k from gen v (kind.Propose d) =
     if_holds (IsStepOf site.here sent k) (can_bind site k gen d && (bytes_eq (admin d) site.here && (bytes_eq v.node from && (is_member d from && not (bytes_eq from site.here))))) _ _
     (λ q. let f : (broken d ≡ None) × (has_node d.members site.here ≡ true) × IsFree k d.generation × (d.generation ≡ gen) = bind-facts site k gen d (and_left (can_bind site k gen d) _ q) in (f.0, f.1, f.2, tt, (refl, refl), λ x. submit-commits (admin_group d) (position d.members site.here) v))
@@ -114,25 +113,25 @@ steps-forwarded site sent k from gen v (kind.Propose d) =
 steps-forwarded site sent k from gen v _ = tt
 
 -- a message at a cell that takes no part in its generation
-pub steps-first : (site : Site) (sent : List Sent) (k : Cell) (from c2 : Node) (x : CommitMsg Act) → WasSent (record { from = from; to = site.here; message = message.Admin c2 x }) sent → from ≢ site.here → IsStepOf site.here sent k (hears_first site k from x)
+pub steps-first : (site : Site) (sent : List Sent) (k : Cell) (from : NodeId) (c2 : CircuitId) (x : CommitMsg Act) → WasSent (record { from = from; to = site.here; message = message.Admin c2 x }) sent → from ≢ site.here → IsStepOf site.here sent k (hears_first site k from x)
 steps-first site sent k from c2 (msg.VoteRequest gen r place v) was other = steps-asked site sent k from c2 gen r place v v.kind was other
 steps-first site sent k from c2 (msg.Forward gen v) was other = steps-forwarded site sent k from gen v v.kind
 steps-first site sent k from c2 _ was other = tt
 
 -- a message of acts at a bound cell
-pub steps-admin : (site : Site) (sent : List Sent) (b : Bound) (from c2 : Node) (x : CommitMsg Act) → WasSent (record { from = from; to = site.here; message = message.Admin c2 x }) sent → from ≢ site.here → IsStepOf site.here sent (Held b) (hears_admin site b from x)
+pub steps-admin : (site : Site) (sent : List Sent) (b : Bound) (from : NodeId) (c2 : CircuitId) (x : CommitMsg Act) → WasSent (record { from = from; to = site.here; message = message.Admin c2 x }) sent → from ≢ site.here → IsStepOf site.here sent (Held b) (hears_admin site b from x)
 steps-admin site sent b from c2 x was other =
     if_holds (IsStepOf site.here sent (Held b)) (is_open b.mark && generation_of x == b.definition.generation) _ _
     (λ q. (refl, (refl, (c2, was), eqb_is (generation_of x) b.definition.generation (and_right (is_open b.mark) _ q), other), tt))
     (λ q. steps-first site sent (Held b) from c2 x was other)
 
 -- a message of batches of another generation
-pub steps-other : (site : Site) (sent : List Sent) (k : Cell) (from s t : Node) (x : CommitMsg Batch) → IsStepOf site.here sent k (serves_other site from s t x)
+pub steps-other : (site : Site) (sent : List Sent) (k : Cell) (from : NodeId) (s t : ServiceId) (x : CommitMsg Batch) → IsStepOf site.here sent k (serves_other site from s t x)
 steps-other site sent k from s t (msg.VoteRequest gen r place v) = tt
 steps-other site sent k from s t _ = tt
 
 -- a message that is routed finds the circuit active
-pub routed-runs : (site : Site) (b : Bound) (from s t : Node) (u : Unit {0}) → way site b from s t ≡ Ok u → runs b ≡ true
+pub routed-runs : (site : Site) (b : Bound) (from : NodeId) (s t : ServiceId) (u : Unit {0}) → way site b from s t ≡ Ok u → runs b ≡ true
 routed-runs site b from s t u h = go (bool_cases (is_open b.mark && runs b))
   where
     go : ((is_open b.mark && runs b) ≡ true) ⊎ ((is_open b.mark && runs b) ≡ false) → runs b ≡ true
@@ -143,7 +142,7 @@ routed-runs site b from s t u h = go (bool_cases (is_open b.mark && runs b))
         not_ok z y = cc
 
 -- a message of batches, by its way
-pub steps-routed : (site : Site) (sent : List Sent) (b : Bound) (from c2 s t : Node) (x : CommitMsg Batch) (o : Way) → way site b from s t ≡ o → WasSent (record { from = from; to = site.here; message = message.Scabbard c2 s t x }) sent → from ≢ site.here → IsStepOf site.here sent (Held b) (routed o (hears_routed site b from s t x))
+pub steps-routed : (site : Site) (sent : List Sent) (b : Bound) (from : NodeId) (c2 : CircuitId) (s t : ServiceId) (x : CommitMsg Batch) (o : Way) → way site b from s t ≡ o → WasSent (record { from = from; to = site.here; message = message.Scabbard c2 s t x }) sent → from ≢ site.here → IsStepOf site.here sent (Held b) (routed o (hears_routed site b from s t x))
 steps-routed site sent b from c2 s t x (Err f) h was other = tt
 steps-routed site sent b from c2 s t x (Ok y) h was other =
     if_holds (IsStepOf site.here sent (Held b)) (generation_of x == b.definition.generation) _ _
@@ -151,7 +150,7 @@ steps-routed site sent b from c2 s t x (Ok y) h was other =
     (λ q. steps-other site sent (Held b) from s t x)
 
 -- any message at a bound cell
-pub steps-hears : (site : Site) (sent : List Sent) (b : Bound) (from : Node) (x : Message) → WasSent (record { from = from; to = site.here; message = x }) sent → from ≢ site.here → IsStepOf site.here sent (Held b) (held_hears site b from x)
+pub steps-hears : (site : Site) (sent : List Sent) (b : Bound) (from : NodeId) (x : Message) → WasSent (record { from = from; to = site.here; message = x }) sent → from ≢ site.here → IsStepOf site.here sent (Held b) (held_hears site b from x)
 steps-hears site sent b from (message.Admin c2 x) was other = steps-admin site sent b from c2 x was other
 steps-hears site sent b from (message.Scabbard c2 s t x) was other = steps-routed site sent b from c2 s t x (way site b from s t) refl was other
 

@@ -9,8 +9,7 @@ use Rattle.spl_agree.specs.Member.{Rules, Group, Member, new_member, changed, mo
 use Rattle.spl_agree.specs.World.{IsPrefixOf}
 use Rattle.spl_circuit.specs.declared.definition.Definition.{Definition}
 use Rattle.spl_circuit.specs.declared.act.Act.{Act}
-use Rattle.spl_circuit.specs.declared.lifecycle.Mark.{Mark}
-use Rattle.spl_circuit.specs.Nodes.{Node, position}
+use Rattle.spl_circuit.specs.Nodes.{NodeId, CircuitId, position}
 use Rattle.spl_circuit.specs.Acts.{act_rules}
 use Rattle.spl_command.specs.declared.batch.Batch.{Batch}
 use Rattle.spl_scabbard.specs.Checks.{batch_rules}
@@ -75,7 +74,7 @@ IsHigher d (durable.Gone old) = d.generation ≤ old
 IsHigher d _ = Unit {0}
 
 -- one change
-pub since-one : (d : Definition) (P : Member Act → Type 0) (Q : Member Batch → Type 0) (kept : Lasts P Q) (n : Node) (k : Cell) (x : Change) → IsHigher d x → Since d P Q k → Since d P Q (made_one n k x)
+pub since-one : (d : Definition) (P : Member Act → Type 0) (Q : Member Batch → Type 0) (kept : Lasts P Q) (n : NodeId) (k : Cell) (x : Change) → IsHigher d x → Since d P Q k → Since d P Q (made_one n k x)
 since-one d P Q kept n k (durable.Bind e) h s = subst (λ (z : Cell). Since d P Q z) (sym (made-bind n k e)) (inr h)
 since-one d P Q kept n (Held k) (durable.Admin x) h (inl s) = inl (s.0, kept.acts k.definition k.acts x s.1, s.2)
 since-one d P Q kept n (Held k) (durable.Admin x) h (inr s) = inr s
@@ -98,12 +97,12 @@ BindsHigher d [] = Unit {0}
 BindsHigher d (x ∷ xs) = IsHigher d x × BindsHigher d xs
 
 -- changes
-pub since-made : (d : Definition) (P : Member Act → Type 0) (Q : Member Batch → Type 0) (kept : Lasts P Q) (n : Node) (k : Cell) (xs : List Change) → BindsHigher d xs → Since d P Q k → Since d P Q (made n k xs)
+pub since-made : (d : Definition) (P : Member Act → Type 0) (Q : Member Batch → Type 0) (kept : Lasts P Q) (n : NodeId) (k : Cell) (xs : List Change) → BindsHigher d xs → Since d P Q k → Since d P Q (made n k xs)
 since-made d P Q kept n k [] h s = s
 since-made d P Q kept n k (x ∷ xs) h s = since-made d P Q kept n (made_one n k x) xs h.1 (since-one d P Q kept n k x h.0 s)
 
 -- moves
-pub since-moved : (d : Definition) (P : Member Act → Type 0) (Q : Member Batch → Type 0) (kept : Lasts P Q) (n : Node) (k : Cell) (x y : OpenMove) → Since d P Q k → Since d P Q (moved_cell n k x y)
+pub since-moved : (d : Definition) (P : Member Act → Type 0) (Q : Member Batch → Type 0) (kept : Lasts P Q) (n : NodeId) (k : Cell) (x y : OpenMove) → Since d P Q k → Since d P Q (moved_cell n k x y)
 since-moved d P Q kept n (Held h) x y (inl s) = inl (s.0, moves-acts P (group_of admin_groups h.definition) (position h.definition.members n) h.acts x (λ m o p. kept.opened_acts m o p) s.1, moves-acts Q (group_of service_groups h.definition) (position h.definition.members n) h.batches y (λ m o p. kept.opened_batches m o p) s.2)
 since-moved d P Q kept n (Held h) x y (inr s) = inr s
 since-moved d P Q kept n _ x y s = s
@@ -131,7 +130,7 @@ free-since d P Q kept (Purged old) g f s = omega arith
 free-since d P Q kept (Held h) g f s = absurd f
 
 -- a fair deed binds only later generations
-pub higher-deed : (d : Definition) (P : Member Act → Type 0) (Q : Member Batch → Type 0) (kept : Lasts P Q) (c n : Node) (sent : List Sent) (k : Cell) (deed : Deed) → IsStepOf n sent k deed → Since d P Q k → BindsHigher d (planned (site_at n c) deed).changes
+pub higher-deed : (d : Definition) (P : Member Act → Type 0) (Q : Member Batch → Type 0) (kept : Lasts P Q) (c : CircuitId) (n : NodeId) (sent : List Sent) (k : Cell) (deed : Deed) → IsStepOf n sent k deed → Since d P Q k → BindsHigher d (planned (site_at n c) deed).changes
 higher-deed d P Q kept c n sent k (Binds say g back e) f s = (free-since d P Q kept k g.generation f.2 s, subst (λ (xs : List Change). BindsHigher d xs) (append-nil _) (no_binds-admin d (plan_row admin_groups g n new_member e).changes [] tt))
 higher-deed d P Q kept c n sent k (Acts say b back e) f s = subst (λ (xs : List Change). BindsHigher d xs) (append-nil _) (no_binds-admin d (plan_row admin_groups b.definition n b.acts e).changes [] tt)
 higher-deed d P Q kept c n sent k (Serves say b back e) f s = no_binds-service d (plan_row service_groups b.definition n b.batches e).changes
@@ -141,35 +140,35 @@ higher-deed d P Q kept c n sent k Purges f s = (tt, tt)
 higher-deed d P Q kept c n sent k _ f s = tt
 
 -- one cell over an event
-pub since-put : (P : Cell → Type 0) (at : Node → Cell) (n k : Node) (new : Cell) → (P (at n) → P new) → P (at k) → P (put_at at n new k)
+pub since-put : (P : Cell → Type 0) (at : NodeId → Cell) (n k : NodeId) (new : Cell) → (P (at n) → P new) → P (at k) → P (put_at at n new k)
 since-put P at n k new h p = go (node_cases k n)
   where
     go : (k ≡ n) ⊎ (k ≢ n) → P (put_at at n new k)
-    go (inl q) = subst (λ (z : Node). P (put_at at n new z)) (sym q) (subst P (sym (put_at-same at n new)) (h (subst (λ (z : Node). P (at z)) q p)))
+    go (inl q) = subst (λ (z : NodeId). P (put_at at n new z)) (sym q) (subst P (sym (put_at-same at n new)) (h (subst (λ (z : NodeId). P (at z)) q p)))
     go (inr q) = subst P (sym (put_at-other at n new k q)) p
 
 -- so does a step
-pub higher-plan : (d : Definition) (P : Member Act → Type 0) (Q : Member Batch → Type 0) (kept : Lasts P Q) (w : World) (n : Node) (p : Plan) → IsDeed w n p → Since d P Q (w.at n) → BindsHigher d p.changes
+pub higher-plan : (d : Definition) (P : Member Act → Type 0) (Q : Member Batch → Type 0) (kept : Lasts P Q) (w : World) (n : NodeId) (p : Plan) → IsDeed w n p → Since d P Q (w.at n) → BindsHigher d p.changes
 higher-plan d P Q kept w n p i s = subst (λ (z : Plan). BindsHigher d z.changes) (sym i.3) (higher-deed d P Q kept i.2 n w.sent (w.at n) i.0 i.1 s)
 
 -- a stop in a step
-pub since-halts : (d : Definition) (P : Member Act → Type 0) (Q : Member Batch → Type 0) (kept : Lasts P Q) (n k : Node) (w : World) (p : Plan) (stays u : Bool) → IsDeed w n p → Since d P Q (w.at k) → Since d P Q ((if u then halted w n stays p else w).at k)
+pub since-halts : (d : Definition) (P : Member Act → Type 0) (Q : Member Batch → Type 0) (kept : Lasts P Q) (n k : NodeId) (w : World) (p : Plan) (stays u : Bool) → IsDeed w n p → Since d P Q (w.at k) → Since d P Q ((if u then halted w n stays p else w).at k)
 since-halts d P Q kept n k w p stays false i s = s
 since-halts d P Q kept n k w p false true i s = since-put (Since d P Q) w.at n k (stopped_cell (w.at n)) (λ x. since-stopped d P Q kept (w.at n) x) s
 since-halts d P Q kept n k w p true true i s = since-put (Since d P Q) w.at n k (stopped_cell (made n (w.at n) p.changes)) (λ x. since-stopped d P Q kept (made n (w.at n) p.changes) (since-made d P Q kept n (w.at n) p.changes (higher-plan d P Q kept w n p i x) x)) s
 
 -- a stop of the node
-pub since-stops : (d : Definition) (P : Member Act → Type 0) (Q : Member Batch → Type 0) (kept : Lasts P Q) (n k : Node) (w : World) (u : Bool) → Since d P Q (w.at k) → Since d P Q ((if u then stopped w n else w).at k)
+pub since-stops : (d : Definition) (P : Member Act → Type 0) (Q : Member Batch → Type 0) (kept : Lasts P Q) (n k : NodeId) (w : World) (u : Bool) → Since d P Q (w.at k) → Since d P Q ((if u then stopped w n else w).at k)
 since-stops d P Q kept n k w false s = s
 since-stops d P Q kept n k w true s = since-put (Since d P Q) w.at n k (stopped_cell (w.at n)) (λ x. since-stopped d P Q kept (w.at n) x) s
 
 -- a start of the node
-pub since-starts : (d : Definition) (P : Member Act → Type 0) (Q : Member Batch → Type 0) (kept : Lasts P Q) (n k : Node) (w : World) (u : Bool) → Since d P Q (w.at k) → Since d P Q ((if u then w else started w n).at k)
+pub since-starts : (d : Definition) (P : Member Act → Type 0) (Q : Member Batch → Type 0) (kept : Lasts P Q) (n k : NodeId) (w : World) (u : Bool) → Since d P Q (w.at k) → Since d P Q ((if u then w else started w n).at k)
 since-starts d P Q kept n k w true s = s
 since-starts d P Q kept n k w false s = s
 
 -- any occurrence
-pub since-happens : (d : Definition) (P : Member Act → Type 0) (Q : Member Batch → Type 0) (kept : Lasts P Q) (k : Node) (w : World) (e : Occurrence) → IsPlain e → Since d P Q (w.at k) → Since d P Q ((happens w e).at k)
+pub since-happens : (d : Definition) (P : Member Act → Type 0) (Q : Member Batch → Type 0) (kept : Lasts P Q) (k : NodeId) (w : World) (e : Occurrence) → IsPlain e → Since d P Q (w.at k) → Since d P Q ((happens w e).at k)
 since-happens d P Q kept k w (Steps x) h s =
     since-put (Since d P Q) w.at (step_node x) k (after_plan (step_node x) (w.at (step_node x)) (step_plan w x))
     (λ y. since-moved d P Q kept (step_node x) (made (step_node x) (w.at (step_node x)) (step_plan w x).changes) (step_plan w x).admin (step_plan w x).service
@@ -179,7 +178,7 @@ since-happens d P Q kept k w (Starts n) h s = since-starts d P Q kept n k w (w.u
 since-happens d P Q kept k w (Halts stays x) h s = since-halts d P Q kept (step_node x) k w (step_plan w x) stays (w.up (step_node x)) (step-deed w x h) s
 
 -- any run
-pub since-run : (d : Definition) (P : Member Act → Type 0) (Q : Member Batch → Type 0) (kept : Lasts P Q) (k : Node) (w : World) (es : List Occurrence) → AllPlain es → Since d P Q (w.at k) → Since d P Q ((occur w es).at k)
+pub since-run : (d : Definition) (P : Member Act → Type 0) (Q : Member Batch → Type 0) (kept : Lasts P Q) (k : NodeId) (w : World) (es : List Occurrence) → AllPlain es → Since d P Q (w.at k) → Since d P Q ((occur w es).at k)
 since-run d P Q kept k w [] h s = s
 since-run d P Q kept k w (e ∷ es) h s = since-run d P Q kept k (happens w e) es h.1 (since-happens d P Q kept k w e h.0 s)
 
@@ -193,7 +192,7 @@ kept-prefix ha hb = record {
 }
 
 -- a fact that changes keep holds as long as a cell stays bound
-pub stays-run : (P : Member Act → Type 0) (Q : Member Batch → Type 0) → Lasts P Q → (w : World) (fs : List Occurrence) (n : Node) (b later : Bound) → AllPlain fs → w.at n ≡ Held b → (occur w fs).at n ≡ Held later → later.definition ≡ b.definition → P b.acts → Q b.batches → P later.acts × Q later.batches
+pub stays-run : (P : Member Act → Type 0) (Q : Member Batch → Type 0) → Lasts P Q → (w : World) (fs : List Occurrence) (n : NodeId) (b later : Bound) → AllPlain fs → w.at n ≡ Held b → (occur w fs).at n ≡ Held later → later.definition ≡ b.definition → P b.acts → Q b.batches → P later.acts × Q later.batches
 stays-run P Q kept w fs n b later k is is2 same p q = go (subst (λ (z : Cell). Since b.definition P Q z) is2 (since-run b.definition P Q kept n w fs k (subst (λ (z : Cell). Since b.definition P Q z) (sym is) (inl (refl, p, q)))))
   where
     go : Since b.definition P Q (Held later) → P later.acts × Q later.batches

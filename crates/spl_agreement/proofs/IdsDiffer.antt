@@ -8,7 +8,7 @@ use Rattle.spl_agree.proofs.Tests.{bool_cases, eqb_is, eqb_same, or_true}
 use Rattle.spl_agree.specs.Fits.{AllGood}
 use Rattle.spl_circuit.specs.declared.definition.Definition.{Definition}
 use Rattle.spl_circuit.specs.declared.act.Act.{Act}
-use Rattle.spl_circuit.specs.Nodes.{Node, has_node, position}
+use Rattle.spl_circuit.specs.Nodes.{NodeId, has_node, position}
 use Rattle.spl_circuit.specs.Rules.{broken, admin}
 use Rattle.spl_command.specs.declared.batch.Batch.{Batch}
 use Rattle.spl_command.specs.Rules.{broken_batch}
@@ -68,7 +68,7 @@ good-differ before [] g = tt
 good-differ before (v ∷ vs) g = (fresh_in v.id (before ++ v ∷ []) vs (is_taken-last before v) g.1, good-differ (before ++ v ∷ []) vs g.1)
 
 -- the list of such groups is good
-pub groups-good : {V : Type 0} (groups : Groups V) (d : Definition) (past : Past) (at : Node → Presence V) (said : GroupMessage V → Type 0) (list : List V) → InGroups groups d past at said list → AllGood (groups.rules d) [] list
+pub groups-good : {V : Type 0} (groups : Groups V) (d : Definition) (past : Past) (at : NodeId → Presence V) (said : GroupMessage V → Type 0) (list : List V) → InGroups groups d past at said list → AllGood (groups.rules d) [] list
 groups-good {V} groups d past at said list c = go c.empty
   where
     go : (list ≡ []) ⊎ Ever (groups.leader d) d past → AllGood (groups.rules d) [] list
@@ -76,13 +76,13 @@ groups-good {V} groups d past at said list c = go c.empty
     go (inr h) = (c.coupled h).1.good
 
 -- the ids of the circuit's list of batches differ
-pub ids-differ : (ns : List Node) (d : Definition) (es : List Occurrence) → AllPlain es → AllDiffer (batch_list ns d es)
+pub ids-differ : (ns : List NodeId) (d : Definition) (es : List Occurrence) → AllPlain es → AllDiffer (batch_list ns d es)
 ids-differ ns d es h =
     let v : SomePast [] (world_behind ns es).at (world_behind ns es).sent (λ f. act_list ns f es) (λ f. batch_list ns f es) = run-past ns es h in
     good-differ [] (batch_list ns d es) (groups-good service_groups d v.0 (λ k. service_presence ((world_behind ns es).at k)) (service_said (world_behind ns es).sent) (batch_list ns d es) (v.2.services d))
 
 -- where there are acts, every member was bound
-pub all-ever : (d : Definition) (past : Past) (at : Node → Presence Act) (said : GroupMessage Act → Type 0) (list : List Act) (n : Node) → ((k : Node) (e : Definition) → Ever k e past → broken e ≡ None) → list ≢ [] → has_node d.members n ≡ true → InGroups admin_groups d past at said list → Ever n d past
+pub all-ever : (d : Definition) (past : Past) (at : NodeId → Presence Act) (said : GroupMessage Act → Type 0) (list : List Act) (n : NodeId) → ((k : NodeId) (e : Definition) → Ever k e past → broken e ≡ None) → list ≢ [] → has_node d.members n ≡ true → InGroups admin_groups d past at said list → Ever n d past
 all-ever d past at said list n ruled some mem c = go c.empty
   where
     by_world : IsRoster d → SomeWorld admin_groups d past at said list → Ever n d past
@@ -96,7 +96,7 @@ all-ever d past at said list n ruled some mem c = go c.empty
 
         pick : (w.0.at (position d.members n) ≡ new_member) ⊎ Ever n d past → (n ≡ admin d) ⊎ (n ≢ admin d) → Ever n d past
         pick (inr x) y = x
-        pick (inl x) (inl y) = absurd (lead_not (subst (λ (z : Node). (w.0.at (position d.members z)).history ≡ []) y (ap (λ (z : Member Act). z.history) x)))
+        pick (inl x) (inl y) = absurd (lead_not (subst (λ (z : NodeId). (w.0.at (position d.members z)).history ≡ []) y (ap (λ (z : Member Act). z.history) x)))
         pick (inl x) (inr y) = absurd (none f.behind)
           where
             f : Follows (lead (w.0.at (position d.members (admin d)))) (seat (w.0.at (position d.members n))) (position d.members n)
@@ -114,7 +114,7 @@ all-ever d past at said list n ruled some mem c = go c.empty
     go (inr h) = by_world (roster d (ruled (admin d) d h)) (c.coupled h)
 
 -- a member of two definitions of one generation that both have acts was bound to both
-pub share-nothing : (ns : List Node) (d e : Definition) (es : List Occurrence) → AllPlain es → ShareNothing ns es d e
+pub share-nothing : (ns : List NodeId) (d e : Definition) (es : List Occurrence) → AllPlain es → ShareNothing ns es d e
 share-nothing ns d e es h n p q same x y =
     let v : SomePast [] (world_behind ns es).at (world_behind ns es).sent (λ f. act_list ns f es) (λ f. batch_list ns f es) = run-past ns es h in
     v.2.law n d e

@@ -9,10 +9,9 @@ use Rattle.spl_agree.specs.Member.{Rules, Member, values, without, changed, foun
 use Rattle.spl_agree.proofs.Tests.{bool_cases, and_left, and_right, eqb_is}
 use Rattle.spl_agree.specs.World.{IsPrefixOf}
 use Rattle.spl_circuit.specs.declared.definition.Definition.{Definition}
-use Rattle.spl_circuit.specs.Nodes.{Node}
+use Rattle.spl_circuit.specs.Nodes.{NodeId}
 use Rattle.spl_circuit.specs.Acts.{act_rules}
 use Rattle.spl_circuit.specs.declared.act.Act.{Act}
-use Rattle.spl_circuit.specs.declared.lifecycle.Mark.{Mark}
 use Rattle.spl_command.specs.declared.batch.Batch.{Batch}
 use Rattle.spl_scabbard.specs.Checks.{batch_rules}
 use Rattle.spl_group.proofs.Sound.{values-more}
@@ -128,7 +127,7 @@ pub keyed-acts : (d : Definition) → IsKeyed (act_rules d)
 keyed-acts d x u v p q =
     let a : u.node ≡ x.node = node_is u.node x.node (and_left (bytes_eq u.node x.node) (eqb u.turn x.turn) p) in
     let b : u.turn ≡ x.turn = eqb_is u.turn x.turn (and_right (bytes_eq u.node x.node) (eqb u.turn x.turn) p) in
-    subst (λ (t : ℕ). (bytes_eq v.node u.node && eqb v.turn t) ≡ true) (sym b) (subst (λ (n : Node). (bytes_eq v.node n && eqb v.turn x.turn) ≡ true) (sym a) q)
+    subst (λ (t : ℕ). (bytes_eq v.node u.node && eqb v.turn t) ≡ true) (sym b) (subst (λ (n : NodeId). (bytes_eq v.node n && eqb v.turn x.turn) ≡ true) (sym a) q)
 
 -- the key of a batch is its id
 pub keyed-batches : IsKeyed batch_rules
@@ -152,7 +151,7 @@ lasting-batches v = record {
 }
 
 -- whatever happens, histories grow, and what is known stays known
-pub keeps-run : (w : World) (fs : List Occurrence) (n : Node) (b later : Bound) → AllPlain fs → w.at n ≡ Held b → (occur w fs).at n ≡ Held later → later.definition ≡ b.definition → Keeps b later
+pub keeps-run : (w : World) (fs : List Occurrence) (n : NodeId) (b later : Bound) → AllPlain fs → w.at n ≡ Held b → (occur w fs).at n ≡ Held later → later.definition ≡ b.definition → Keeps b later
 keeps-run w fs n b later k is is2 same = record {
   acts = grown.0;
   batches = grown.1;

@@ -11,9 +11,7 @@ use Rattle.spl_agree.specs.Member.{Member, new_member, changed_by}
 use Rattle.spl_agree.proofs.Tests.{if_holds, bool_cases}
 use Rattle.spl_circuit.specs.declared.definition.Definition.{Definition}
 use Rattle.spl_circuit.specs.declared.act.Act.{Act}
-use Rattle.spl_circuit.specs.declared.lifecycle.Mark.{Mark}
-use Rattle.spl_circuit.specs.declared.lifecycle.Mark.TheVariants as mark
-use Rattle.spl_circuit.specs.Nodes.{Node, has_node}
+use Rattle.spl_circuit.specs.Nodes.{NodeId, CircuitId, has_node}
 use Rattle.spl_circuit.specs.Rules.{admin}
 use Rattle.spl_circuit.specs.Acts.{act_rules}
 use Rattle.spl_command.specs.declared.batch.Batch.{Batch}
@@ -39,19 +37,19 @@ use Rattle.spl_agreement.proofs.PendingActSteps.{sights, step-still, step-drop, 
 use Rattle.spl_agreement.proofs.PendingActsDue.{Forwards, Apt, IsReply, IsReplyOf, IsNextAct, IsFirstAct}
 
 -- the acts behind changes of the admin group, and behind changes of the service group
-pub sight-admin : (n : Node) (b : Bound) (xs : List (GroupChange Act)) → sight (made n (Held b) (map durable.Admin xs)) ≡ Sees b.definition (shifted_by (view b.acts) xs)
+pub sight-admin : (n : NodeId) (b : Bound) (xs : List (GroupChange Act)) → sight (made n (Held b) (map durable.Admin xs)) ≡ Sees b.definition (shifted_by (view b.acts) xs)
 sight-admin n b xs =
     let k : (t2 : ℕ) × (made n (Held b) (map durable.Admin xs) ≡ Held (record b { turn = t2; acts = changed_by (act_rules b.definition) b.acts xs })) = made-admin n b xs in
     ap sight k.1 ∙ ap (λ (w : View). Sees b.definition w) (view-by b.definition b.acts xs)
 
-pub sight-both : (n : Node) (b : Bound) (xs : List (GroupChange Act)) (ys : List (GroupChange Batch)) → sight (made n (Held b) (map durable.Admin xs ++ map durable.Service ys)) ≡ Sees b.definition (shifted_by (view b.acts) xs)
+pub sight-both : (n : NodeId) (b : Bound) (xs : List (GroupChange Act)) (ys : List (GroupChange Batch)) → sight (made n (Held b) (map durable.Admin xs ++ map durable.Service ys)) ≡ Sees b.definition (shifted_by (view b.acts) xs)
 sight-both n b xs ys =
     let k : (t2 : ℕ) × (made n (Held b) (map durable.Admin xs) ≡ Held (record b { turn = t2; acts = changed_by (act_rules b.definition) b.acts xs })) = made-admin n b xs in
     ap sight (made-append n (Held b) (map durable.Admin xs) (map durable.Service ys) ∙ (ap (λ (z : Cell). made n z (map durable.Service ys)) k.1 ∙ made-service n (record b { turn = k.0; acts = changed_by (act_rules b.definition) b.acts xs }) ys))
     ∙ ap (λ (w : View). Sees b.definition w) (view-by b.definition b.acts xs)
 
 -- what an event asks of the acts of a bound cell
-pub ready-next : (past : Past) (said : GroupMessage Act → Type 0) (n back : Node) (d : Definition) (a : Member Act) (e : GroupEvent Act) → MayHear d said n back e → IsNew (act_rules d) a e → IsNextAct n a e → (IsQuiet a ⊎ Ever (admin d) d past) → IsReady past said n back d a e
+pub ready-next : (past : Past) (said : GroupMessage Act → Type 0) (n back : NodeId) (d : Definition) (a : Member Act) (e : GroupEvent Act) → MayHear d said n back e → IsNew (act_rules d) a e → IsNextAct n a e → (IsQuiet a ⊎ Ever (admin d) d past) → IsReady past said n back d a e
 ready-next past said n back d a (group.From s x) h new next quiet = h
 ready-next past said n back d a (group.Submit v) h new next quiet = (
   record {
@@ -70,7 +68,7 @@ ready-next past said n back d a (group.Submit v) h new next quiet = (
 ready-next past said n back d a _ h new next quiet = tt
 
 -- and where a cell is bound
-pub ready-first : (past : Past) (see : Node → Sight) (said : GroupMessage Act → Type 0) (n back : Node) (d : Definition) (past2 : Past) (e : GroupEvent Act) → IsFew past see said → MayHear d said n back e → IsFirstAct said n d e → IsReady past2 said n back d new_member e
+pub ready-first : (past : Past) (see : NodeId → Sight) (said : GroupMessage Act → Type 0) (n back : NodeId) (d : Definition) (past2 : Past) (e : GroupEvent Act) → IsFew past see said → MayHear d said n back e → IsFirstAct said n d e → IsReady past2 said n back d new_member e
 ready-first past see said n back d past2 group.Tick f h first = tt
 ready-first past see said n back d past2 group.Expire f h first = tt
 ready-first past see said n back d past2 (group.From s x) f h first = h
@@ -93,7 +91,7 @@ ready-first past see said n back d past2 (group.Submit v) f h first = (join firs
     }
 
 -- what is posted in two lists
-pub posted-both : (ns : List Node) (n : Node) (xs ys : List Outgoing) → posted ns n (xs ++ ys) ≡ posted ns n xs ++ posted ns n ys
+pub posted-both : (ns : List NodeId) (n : NodeId) (xs ys : List Outgoing) → posted ns n (xs ++ ys) ≡ posted ns n xs ++ posted ns n ys
 posted-both ns n [] ys = refl
 posted-both ns n (z ∷ zs) ys = go (bool_cases (has_node ns z.to)) (posted-both ns n zs ys)
   where
@@ -102,13 +100,13 @@ posted-both ns n (z ∷ zs) ys = go (bool_cases (has_node ns z.to)) (posted-both
     go (inr r) hyp = rw (r, hyp)
 
 -- a reply is no news
-pub reply-news : (see : Node → Sight) (from to : Node) (x : CommitMsg Act) → IsReplyOf x → IsNews see from to x
+pub reply-news : (see : NodeId → Sight) (from to : NodeId) (x : CommitMsg Act) → IsReplyOf x → IsNews see from to x
 reply-news see from to (msg.Forward g u) h = absurd h
 reply-news see from to (msg.Refused g u why) h = inl h
 reply-news see from to _ h = tt
 
 -- what a deed posts
-pub reply-message : (ns : List Node) (n to : Node) (m : Message) (i : Node) (l : GroupMessage Act) → IsReply m → WasSent (record { from = l.from; to = l.to; message = message.Admin i l.body }) (posted ns n (record { to = to; message = m } ∷ [])) → IsReplyOf l.body
+pub reply-message : (ns : List NodeId) (n to : NodeId) (m : Message) (i : CircuitId) (l : GroupMessage Act) → IsReply m → WasSent (record { from = l.from; to = l.to; message = message.Admin i l.body }) (posted ns n (record { to = to; message = m } ∷ [])) → IsReplyOf l.body
 reply-message ns n to m i l h was = if_holds (λ (ps : List Sent). WasSent (record { from = l.from; to = l.to; message = message.Admin i l.body }) ps → IsReplyOf l.body) (has_node ns to) _ _ (λ q. one_of) (λ q y. absurd y) was
   where
     one_of : WasSent (record { from = l.from; to = l.to; message = message.Admin i l.body }) (record { from = n; to = to; message = m } ∷ []) → IsReplyOf l.body
@@ -116,7 +114,7 @@ reply-message ns n to m i l h was = if_holds (λ (ps : List Sent). WasSent (reco
     one_of (inr y) = absurd y
 
 -- where nothing is sent
-pub no-news : (sent sent2 : List Sent) (see : Node → Sight) → ((x : Sent) → WasSent x sent2 → WasSent x sent ⊎ ⊥) → (l : GroupMessage Act) → admin_said sent2 l → admin_said sent l ⊎ IsNews see l.from l.to l.body
+pub no-news : (sent sent2 : List Sent) (see : NodeId → Sight) → ((x : Sent) → WasSent x sent2 → WasSent x sent ⊎ ⊥) → (l : GroupMessage Act) → admin_said sent2 l → admin_said sent l ⊎ IsNews see l.from l.to l.body
 no-news sent sent2 see messages l s = go (messages _ s.1)
   where
     go : WasSent (record { from = l.from; to = l.to; message = message.Admin s.0 l.body }) sent ⊎ ⊥ → admin_said sent l ⊎ IsNews see l.from l.to l.body
@@ -124,8 +122,8 @@ no-news sent sent2 see messages l s = go (messages _ s.1)
     go (inr x) = absurd x
 
 -- any deed, by its kind
-pub few-deed : (past past2 : Past) (ns : List Node) (c n : Node) (at at2 : Node → Cell) (sent sent2 : List Sent) (acts acts2 : Definition → List Act) (batches batches2 : Definition → List Batch) (deed : Deed)
-    → ((k : Node) (f : Definition) → Ever k f past → Ever k f past2) → Others n at at2 → ((x : Sent) → WasSent x sent → WasSent x sent2)
+pub few-deed : (past past2 : Past) (ns : List NodeId) (c : CircuitId) (n : NodeId) (at at2 : NodeId → Cell) (sent sent2 : List Sent) (acts acts2 : Definition → List Act) (batches batches2 : Definition → List Batch) (deed : Deed)
+    → ((k : NodeId) (f : Definition) → Ever k f past → Ever k f past2) → Others n at at2 → ((x : Sent) → WasSent x sent → WasSent x sent2)
     → ((x : Sent) → WasSent x sent2 → WasSent x sent ⊎ WasSent x (posted ns n (planned (site_at n c) deed).sends))
     → sights at2 n ≡ sight (made n (at n) (planned (site_at n c) deed).changes)
     → IsStepOf n sent (at n) deed → Apt (admin_said sent) n deed

@@ -15,8 +15,7 @@ use Rattle.spl_circuit.specs.declared.definition.Definition.{Definition}
 use Rattle.spl_circuit.specs.declared.act.ActKind.{ActKind}
 use Rattle.spl_circuit.specs.declared.act.ActKind.TheVariants as kind
 use Rattle.spl_circuit.specs.declared.act.Act.{Act}
-use Rattle.spl_circuit.specs.declared.lifecycle.Mark.{Mark}
-use Rattle.spl_circuit.specs.Nodes.{Node, has_node}
+use Rattle.spl_circuit.specs.Nodes.{NodeId, CircuitId, ServiceId, has_node}
 use Rattle.spl_circuit.specs.Rules.{broken, admin, is_member}
 use Rattle.spl_circuit.specs.Acts.{is_node}
 use Rattle.spl_circuit.specs.Lifecycle.{is_proposed, life}
@@ -48,7 +47,7 @@ abbrev pub IsOther : Act → Type 0
 IsOther v = is_proposal v.kind ≡ false
 
 -- an act was forwarded
-abbrev pub Forwards : (GroupMessage Act → Type 0) → Node → Node → ℕ → Act → Type 0
+abbrev pub Forwards : (GroupMessage Act → Type 0) → NodeId → NodeId → ℕ → Act → Type 0
 Forwards said n k g u = said (record { from = n; to = k; body = msg.Forward g u })
 
 -- a reply returns proposals alone, and forwards nothing
@@ -62,17 +61,17 @@ IsReply (message.Admin i x) = IsReplyOf x
 IsReply (message.Scabbard i s t x) = Unit {0}
 
 -- what is submitted where a cell is bound: the node's own proposal, or one that was forwarded to the coordinator
-abbrev pub IsFirstAct : (GroupMessage Act → Type 0) → Node → Definition → GroupEvent Act → Type 0
+abbrev pub IsFirstAct : (GroupMessage Act → Type 0) → NodeId → Definition → GroupEvent Act → Type 0
 IsFirstAct said n d (group.Submit v) = (is_proposal v.kind ≡ true) × (((v.node ≡ n) × (v.turn ≡ 1)) ⊎ ((n ≡ admin d) × (v.node ≢ n) × Forwards said v.node n d.generation v))
 IsFirstAct said n d _ = Unit {0}
 
 -- what is submitted at a bound cell: an act of the node, where no other one of it is pending and the circuit has acts
-abbrev pub IsNextAct : Node → Member Act → GroupEvent Act → Type 0
+abbrev pub IsNextAct : NodeId → Member Act → GroupEvent Act → Type 0
 IsNextAct n a (group.Submit v) = IsOther v × (v.node ≡ n) × ((x : Act) → Among x a.pending → x.node ≢ n) × (a.history ≡ [] → ⊥)
 IsNextAct n a _ = Unit {0}
 
 -- what holds of a deed
-abbrev pub Apt : (GroupMessage Act → Type 0) → Node → Deed → Type 0
+abbrev pub Apt : (GroupMessage Act → Type 0) → NodeId → Deed → Type 0
 Apt said n (Replies note to m) = IsReply m
 Apt said n (Binds say d back e) = IsFirstAct said n d e
 Apt said n (Acts say h back e) = IsNextAct n h.acts e
@@ -90,12 +89,12 @@ apt-proposes said site d k (Some rule) = tt
 apt-proposes said site d k None = if_holds (Apt said site.here) (is_member d site.here) _ _ (λ q. apt-proposes_at said site d k) (λ q. tt)
 
 -- a request
-pub apt-asked : (said : GroupMessage Act → Type 0) (site : Site) (k : Cell) (from : Node) (gen r place : ℕ) (v : Act) (w : ActKind) → Apt said site.here (asked_first site k from gen r place v w)
+pub apt-asked : (said : GroupMessage Act → Type 0) (site : Site) (k : Cell) (from : NodeId) (gen r place : ℕ) (v : Act) (w : ActKind) → Apt said site.here (asked_first site k from gen r place v w)
 apt-asked said site k from gen r place v (kind.Propose d) = if_holds (Apt said site.here) (place == 0 && (can_bind site k gen d && bytes_eq (admin d) from)) _ _ (λ q. tt) (λ q. tt)
 apt-asked said site k from gen r place v _ = tt
 
 -- a forwarded act
-pub apt-forwarded : (said : GroupMessage Act → Type 0) (site : Site) (k : Cell) (from : Node) (gen : ℕ) (v : Act) (w : ActKind) → v.kind ≡ w → Forwards said from site.here gen v → from ≢ site.here → Apt said site.here (forwarded_first site k from gen v w)
+pub apt-forwarded : (said : GroupMessage Act → Type 0) (site : Site) (k : Cell) (from : NodeId) (gen : ℕ) (v : Act) (w : ActKind) → v.kind ≡ w → Forwards said from site.here gen v → from ≢ site.here → Apt said site.here (forwarded_first site k from gen v w)
 apt-forwarded said site k from gen v (kind.Propose d) is sent other =
     if_holds (Apt said site.here) (can_bind site k gen d && (bytes_eq (admin d) site.here && (bytes_eq v.node from && (is_member d from && not (bytes_eq from site.here))))) _ _
     (λ q. bound (bind-facts site k gen d (and_left (can_bind site k gen d) _ q)).3 (and_right (can_bind site k gen d) _ q)) (λ q. ap is_proposal is)
@@ -104,36 +103,36 @@ apt-forwarded said site k from gen v (kind.Propose d) is sent other =
     bound same q =
         let leads : admin d ≡ site.here = node_is (admin d) site.here (and_left (bytes_eq (admin d) site.here) _ q) in
         let its : v.node ≡ from = node_is v.node from (and_left (bytes_eq v.node from) _ (and_right (bytes_eq (admin d) site.here) _ q)) in
-        (ap is_proposal is, inr (sym leads, (λ x. other (sym its ∙ x)), subst (λ (g : ℕ). Forwards said v.node site.here g v) (sym same) (subst (λ (z : Node). Forwards said z site.here gen v) (sym its) sent)))
+        (ap is_proposal is, inr (sym leads, (λ x. other (sym its ∙ x)), subst (λ (g : ℕ). Forwards said v.node site.here g v) (sym same) (subst (λ (z : NodeId). Forwards said z site.here gen v) (sym its) sent)))
 apt-forwarded said site k from gen v kind.Accept is sent other = tt
 apt-forwarded said site k from gen v _ is sent other = tt
 
 -- a message of acts at a cell that takes no part in its generation
-pub apt-first : (site : Site) (sent : List Sent) (k : Cell) (from c2 : Node) (x : CommitMsg Act) → WasSent (record { from = from; to = site.here; message = message.Admin c2 x }) sent → from ≢ site.here → Apt (admin_said sent) site.here (hears_first site k from x)
+pub apt-first : (site : Site) (sent : List Sent) (k : Cell) (from : NodeId) (c2 : CircuitId) (x : CommitMsg Act) → WasSent (record { from = from; to = site.here; message = message.Admin c2 x }) sent → from ≢ site.here → Apt (admin_said sent) site.here (hears_first site k from x)
 apt-first site sent k from c2 (msg.VoteRequest gen r place v) was other = apt-asked (admin_said sent) site k from gen r place v v.kind
 apt-first site sent k from c2 (msg.Forward gen v) was other = apt-forwarded (admin_said sent) site k from gen v v.kind refl (c2, was) other
 apt-first site sent k from c2 _ was other = tt
 
 -- a message of acts at a bound cell
-pub apt-admin : (site : Site) (sent : List Sent) (b : Bound) (from c2 : Node) (x : CommitMsg Act) → WasSent (record { from = from; to = site.here; message = message.Admin c2 x }) sent → from ≢ site.here → Apt (admin_said sent) site.here (hears_admin site b from x)
+pub apt-admin : (site : Site) (sent : List Sent) (b : Bound) (from : NodeId) (c2 : CircuitId) (x : CommitMsg Act) → WasSent (record { from = from; to = site.here; message = message.Admin c2 x }) sent → from ≢ site.here → Apt (admin_said sent) site.here (hears_admin site b from x)
 apt-admin site sent b from c2 x was other = if_holds (Apt (admin_said sent) site.here) (is_open b.mark && generation_of x == b.definition.generation) _ _ (λ q. tt) (λ q. apt-first site sent (Held b) from c2 x was other)
 
 -- a message of batches
-pub apt-other : (said : GroupMessage Act → Type 0) (site : Site) (from s t : Node) (x : CommitMsg Batch) → Apt said site.here (serves_other site from s t x)
+pub apt-other : (said : GroupMessage Act → Type 0) (site : Site) (from : NodeId) (s t : ServiceId) (x : CommitMsg Batch) → Apt said site.here (serves_other site from s t x)
 apt-other said site from s t (msg.VoteRequest gen r place v) = tt
 apt-other said site from s t _ = tt
 
-pub apt-routed : (said : GroupMessage Act → Type 0) (site : Site) (b : Bound) (from s t : Node) (x : CommitMsg Batch) (o : Way) → Apt said site.here (routed o (hears_routed site b from s t x))
+pub apt-routed : (said : GroupMessage Act → Type 0) (site : Site) (b : Bound) (from : NodeId) (s t : ServiceId) (x : CommitMsg Batch) (o : Way) → Apt said site.here (routed o (hears_routed site b from s t x))
 apt-routed said site b from s t x (Err f) = tt
 apt-routed said site b from s t x (Ok y) = if_holds (Apt said site.here) (generation_of x == b.definition.generation) _ _ (λ q. tt) (λ q. apt-other said site from s t x)
 
 -- any message at a bound cell
-pub apt-hears : (site : Site) (sent : List Sent) (b : Bound) (from : Node) (x : Message) → WasSent (record { from = from; to = site.here; message = x }) sent → from ≢ site.here → Apt (admin_said sent) site.here (held_hears site b from x)
+pub apt-hears : (site : Site) (sent : List Sent) (b : Bound) (from : NodeId) (x : Message) → WasSent (record { from = from; to = site.here; message = x }) sent → from ≢ site.here → Apt (admin_said sent) site.here (held_hears site b from x)
 apt-hears site sent b from (message.Admin c2 x) was other = apt-admin site sent b from c2 x was other
 apt-hears site sent b from (message.Scabbard c2 s t x) was other = apt-routed (admin_said sent) site b from s t x (way site b from s t)
 
 -- where none of the node is pending
-pub none-pending : (n : Node) (x : Act) (us : List Act) → list_any (λ v. bytes_eq v.node n) us ≡ false → Among x us → x.node ≢ n
+pub none-pending : (n : NodeId) (x : Act) (us : List Act) → list_any (λ v. bytes_eq v.node n) us ≡ false → Among x us → x.node ≢ n
 none-pending n x [] h k = absurd k
 none-pending n x (u ∷ us) h (inl e) = subst (λ (z : Act). z.node ≢ n) (sym e) (node_not u.node n (or_left (bytes_eq u.node n) _ h))
 none-pending n x (u ∷ us) h (inr k) = none-pending n x us (or_right (bytes_eq u.node n) _ h) k

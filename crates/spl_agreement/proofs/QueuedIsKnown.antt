@@ -17,11 +17,10 @@ use Rattle.spl_agree.specs.Fits.{generation_of}
 use Rattle.spl_agree.specs.Rows.{row}
 use Rattle.spl_agree.proofs.Tests.{if_holds, eqb_same}
 use Rattle.spl_circuit.specs.declared.definition.Definition.{Definition}
-use Rattle.spl_circuit.specs.declared.lifecycle.Mark.{Mark}
 use Rattle.spl_circuit.specs.declared.act.Act.{Act}
 use Rattle.spl_circuit.specs.declared.act.ActKind.{ActKind}
 use Rattle.spl_circuit.specs.declared.act.ActKind.TheVariants as kind
-use Rattle.spl_circuit.specs.Nodes.{Node, has_node, position}
+use Rattle.spl_circuit.specs.Nodes.{NodeId, CircuitId, ServiceId, has_node, position}
 use Rattle.spl_circuit.specs.Rules.{broken, admin, is_member}
 use Rattle.spl_circuit.specs.Routing.{Way, route}
 use Rattle.spl_circuit.specs.Equality.{same_act_key}
@@ -60,7 +59,7 @@ use Rattle.spl_agreement.proofs.KnownStays.{known-in, found-last}
 use Rattle.spl_agreement.proofs.NotedQueued.{handed, IsNoted, noted-message}
 
 -- the value that was brought is known behind the plan
-pub record IsKnown (n : Node) (k : Cell) (brings : Option Value) (p : Plan) : Type 0 where
+pub record IsKnown (n : NodeId) (k : Cell) (brings : Option Value) (p : Plan) : Type 0 where
   pub value : Value
   pub is : brings ≡ Some value
   pub there : knows value (after_plan n k p) ≡ true
@@ -78,11 +77,11 @@ batch-known : (b : Member Batch) (v : Batch) → is_some (known batch_rules (rec
 batch-known b v = known-in batch_rules v (record b { pending = b.pending ++ v ∷ [] }) (inr (inl (found-last (batch_rules.same_key v) v b.pending (eqb_same v.id))))
 
 -- which value of a group is handed on is the one that the message hands on
-act-handed : (c : Node) (x : CommitMsg Act) (v : Act) → handed x ≡ Some v → handed_on (message.Admin c x) ≡ Some (OfActs v)
+act-handed : (c : CircuitId) (x : CommitMsg Act) (v : Act) → handed x ≡ Some v → handed_on (message.Admin c x) ≡ Some (OfActs v)
 act-handed c (msg.Forward gen u) v h = cc
 act-handed c _ v h = cc
 
-batch-handed : (c s t : Node) (x : CommitMsg Batch) (v : Batch) → handed x ≡ Some v → handed_on (message.Scabbard c s t x) ≡ Some (OfBatches v)
+batch-handed : (c : CircuitId) (s t : ServiceId) (x : CommitMsg Batch) (v : Batch) → handed x ≡ Some v → handed_on (message.Scabbard c s t x) ≡ Some (OfBatches v)
 batch-handed c s t (msg.Forward gen u) v h = cc
 batch-handed c s t _ v h = cc
 
@@ -102,13 +101,13 @@ module _ (site : Site) where
   tells : (k : Cell) (o : Option Value) (a : Answer) → (a ≡ answer.Submitted false → ⊥) → (a ≡ answer.Delivered note.Queued → ⊥) → Knows k o (Tells a)
   tells k o a x y = record { known = λ q. absurd (other a x y q) }
 
-  replies : (k : Cell) (o : Option Value) (x : Note) (to : Node) (m : Message) → (x ≡ note.Queued → ⊥) → Knows k o (Replies x to m)
+  replies : (k : Cell) (o : Option Value) (x : Note) (to : NodeId) (m : Message) → (x ≡ note.Queued → ⊥) → Knows k o (Replies x to m)
   replies k o x to m h = record { known = λ q. absurd (other (answer.Delivered x) (λ z. cc) (λ z. h cc) q) }
 
   -- ---- the groups
 
   -- a cell is bound, and what its admin group is handed is pending
-  known-binds : (k : Cell) (o : Option Value) (say : Say) (d : Definition) (back : Node) (v : Act) → o ≡ Some (OfActs v) → Knows k o (Binds say d back (group.Submit v))
+  known-binds : (k : Cell) (o : Option Value) (say : Say) (d : Definition) (back : NodeId) (v : Act) → o ≡ Some (OfActs v) → Knows k o (Binds say d back (group.Submit v))
   known-binds k o say d back v e = record {
     known = if_holds (λ (p : GroupPlan Act). IsQueued (said say p.note) → IsKnown site.here k o (group_plan (admin_lane site d) say (durable.Bind d ∷ []) back p)) (position d.members site.here == (admin_group d).coordinator) _ _
         (λ q z. record { value = OfActs v; is = e; there = bound })
@@ -119,7 +118,7 @@ module _ (site : Site) where
       bound = subst (λ (z : Cell). knows (OfActs v) (moved_cell site.here (made_one site.here z (durable.Admin (change.Queue v))) move.Keep move.Keep) ≡ true) (sym (made-bind site.here k d)) (act-known d new_member v)
 
   -- a request binds it, and queues nothing
-  known-asked : (k : Cell) (o : Option Value) (d : Definition) (back : Node) (i gen r place : ℕ) (v : Act) → Knows k o (Binds Delivered d back (group.From i (msg.VoteRequest gen r place v)))
+  known-asked : (k : Cell) (o : Option Value) (d : Definition) (back : NodeId) (i gen r place : ℕ) (v : Act) → Knows k o (Binds Delivered d back (group.From i (msg.VoteRequest gen r place v)))
   known-asked k o d back i gen r place v = record { known = λ q. absurd (other _ (λ z. cc) (λ z. no (noted-message (admin_group d) (position d.members site.here) new_member i x cc)) q) }
     where
       x : CommitMsg Act
@@ -144,7 +143,7 @@ module _ (site : Site) where
   }
 
   -- a message of a group
-  known-heard : (b : Bound) (c2 back : Node) (i : ℕ) (x : CommitMsg Act) → Knows (Held b) (handed_on (message.Admin c2 x)) (Acts Delivered b back (group.From i x))
+  known-heard : (b : Bound) (c2 : CircuitId) (back : NodeId) (i : ℕ) (x : CommitMsg Act) → Knows (Held b) (handed_on (message.Admin c2 x)) (Acts Delivered b back (group.From i x))
   known-heard b c2 back i x = record { known = queued }
     where
       p : GroupPlan Act
@@ -161,7 +160,7 @@ module _ (site : Site) where
       queued (inl q) = cc
       queued (inr q) = found_it (noted-message (admin_group b.definition) (position b.definition.members site.here) b.acts i x cc)
 
-  known-served : (b : Bound) (c2 s u back : Node) (i : ℕ) (x : CommitMsg Batch) → Knows (Held b) (handed_on (message.Scabbard c2 s u x)) (Serves Delivered b back (group.From i x))
+  known-served : (b : Bound) (c2 : CircuitId) (s u : ServiceId) (back : NodeId) (i : ℕ) (x : CommitMsg Batch) → Knows (Held b) (handed_on (message.Scabbard c2 s u x)) (Serves Delivered b back (group.From i x))
   known-served b c2 s u back i x = record { known = queued }
     where
       p : GroupPlan Batch
@@ -256,7 +255,7 @@ module _ (site : Site) where
 
   -- ---- messages
 
-  known-first : (k : Cell) (from c2 : Node) (x : CommitMsg Act) → Knows k (handed_on (message.Admin c2 x)) (hears_first site k from x)
+  known-first : (k : Cell) (from : NodeId) (c2 : CircuitId) (x : CommitMsg Act) → Knows k (handed_on (message.Admin c2 x)) (hears_first site k from x)
   known-first k from c2 (msg.VoteRequest gen r place v) = asked v.kind
     where
       asked : (w : ActKind) → Knows k None (asked_first site k from gen r place v w)
@@ -270,16 +269,16 @@ module _ (site : Site) where
       given _ = tells k _ _ (λ z. cc) (λ z. cc)
   known-first k from c2 _ = tells k _ _ (λ z. cc) (λ z. cc)
 
-  known-other : (k : Cell) (o : Option Value) (from s t : Node) (x : CommitMsg Batch) → Knows k o (serves_other site from s t x)
+  known-other : (k : Cell) (o : Option Value) (from : NodeId) (s t : ServiceId) (x : CommitMsg Batch) → Knows k o (serves_other site from s t x)
   known-other k o from s t (msg.VoteRequest gen r place v) = replies k o _ _ _ (λ z. cc)
   known-other k o from s t _ = tells k o _ (λ z. cc) (λ z. cc)
 
-  known-service : (b : Bound) (from c2 s u : Node) (x : CommitMsg Batch) (w : Way) → Knows (Held b) (handed_on (message.Scabbard c2 s u x)) (routed w (hears_routed site b from s u x))
+  known-service : (b : Bound) (from : NodeId) (c2 : CircuitId) (s u : ServiceId) (x : CommitMsg Batch) (w : Way) → Knows (Held b) (handed_on (message.Scabbard c2 s u x)) (routed w (hears_routed site b from s u x))
   known-service b from c2 s u x (Err f) = refuses (Held b) _ _
   known-service b from c2 s u x (Ok y) = if_holds (Knows (Held b) (handed_on (message.Scabbard c2 s u x))) (generation_of x == b.definition.generation) _ _
       (λ q. known-served b c2 s u from (position b.definition.members from) x) (λ q. known-other (Held b) _ from s u x)
 
-  known-hears : (b : Bound) (from : Node) (x : Message) → Knows (Held b) (handed_on x) (held_hears site b from x)
+  known-hears : (b : Bound) (from : NodeId) (x : Message) → Knows (Held b) (handed_on x) (held_hears site b from x)
   known-hears b from (message.Admin c2 x) = if_holds (Knows (Held b) (handed_on (message.Admin c2 x))) (is_open b.mark && generation_of x == b.definition.generation) _ _
       (λ q. known-heard b c2 from (position b.definition.members from) x) (λ q. known-first (Held b) from c2 x)
   known-hears b from (message.Scabbard c2 s u x) = known-service b from c2 s u x (way site b from s u)
@@ -320,14 +319,14 @@ module _ (site : Site) where
 
 -- ---- steps
 
-abbrev KnowsPlan : Node → Cell → Option Value → Plan → Type 0
+abbrev KnowsPlan : NodeId → Cell → Option Value → Plan → Type 0
 KnowsPlan n k o p = IsQueued p.answer → IsKnown n k o p
 
 -- nothing is queued by a refusal
-known-refusal : (n : Node) (k : Cell) (o : Option Value) (why : Refusal) → KnowsPlan n k o (tells_only (answer.Refused why))
+known-refusal : (n : NodeId) (k : Cell) (o : Option Value) (why : Refusal) → KnowsPlan n k o (tells_only (answer.Refused why))
 known-refusal n k o why q = absurd (other _ (λ z. cc) (λ z. cc) q)
 
-known-delivery : (c : Node) (w : World) (from to : Node) (o : Option Message) → KnowsPlan to (w.at to) (handed_over o) (delivery c w from to o)
+known-delivery : (c : CircuitId) (w : World) (from to : NodeId) (o : Option Message) → KnowsPlan to (w.at to) (handed_over o) (delivery c w from to o)
 known-delivery c w from to None = known-refusal to (w.at to) None refusal.NoMessage
 known-delivery c w from to (Some m) = known-plan (site_at to c) (w.at to) (event.Deliver from m)
 

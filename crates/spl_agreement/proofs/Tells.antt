@@ -1,17 +1,14 @@
 -- What a node that is up tells is told of the fronts of the circuit's lists that are committed there.
 use Rattle.std.proofs.Common.{◌≡◌, ℕ, Bool, true, false, List, [], length, take, refl, sym, ap, subst, ◌∙◌}
 use Rattle.std.specs.Prelude.{Option, Some, None, if◌then◌else◌}
-use Rattle.spl_agree.specs.Member.{Member, values}
+use Rattle.spl_agree.specs.Member.{values}
 use Rattle.spl_agree.specs.World.{IsPrefixOf}
 use Rattle.spl_state.specs.Root.{node_at}
 use Rattle.spl_command.specs.declared.batch.Batch.{Batch}
 use Rattle.spl_command.specs.declared.receipt.Receipt.{Receipt}
 use Rattle.spl_command.specs.Lists.{state_of}
 use Rattle.spl_scabbard.specs.Readers.{place_of, receipts_of}
-use Rattle.spl_circuit.specs.declared.definition.Definition.{Definition}
 use Rattle.spl_circuit.specs.declared.act.Act.{Act}
-use Rattle.spl_circuit.specs.declared.lifecycle.Mark.{Mark}
-use Rattle.spl_circuit.specs.Nodes.{Node}
 use Rattle.spl_circuit.specs.Lifecycle.{life}
 use Rattle.spl_wire.specs.declared.event.Event.{Event}
 use Rattle.spl_wire.specs.declared.event.Event.TheVariants as event

@@ -6,10 +6,10 @@ use Rattle.spl_agree.specs.World.{World as GroupWorld}
 use Rattle.spl_circuit.specs.declared.definition.Definition.{Definition}
 use Rattle.spl_circuit.specs.declared.act.Act.{Act}
 use Rattle.spl_circuit.specs.declared.lifecycle.Mark.{Mark}
-use Rattle.spl_circuit.specs.Nodes.{Node, has_node, position}
+use Rattle.spl_circuit.specs.Nodes.{NodeId, CircuitId, has_node, position}
 use Rattle.spl_circuit.specs.Rules.{broken, admin, service, is_member}
 use Rattle.spl_command.specs.declared.batch.Batch.{Batch}
-use Rattle.spl_rules.specs.Cells.{Cell, Held, runs}
+use Rattle.spl_rules.specs.Cells.{Cell, Held}
 use Rattle.spl_settle.specs.Bound.{InHistory, IsPending, IsRefused, Settles}
 use Rattle.spl_model.specs.Worlds.{Sent, World, first_world, Occurrence, world_behind}
 use Rattle.spl_model.specs.Calm.{calm}
@@ -17,7 +17,8 @@ use Rattle.spl_model.specs.Plain.{AllPlain}
 use Rattle.spl_model.proofs.Nodes.{node_same}
 use Rattle.spl_agreement.proofs.Positions.{position-below}
 use Rattle.spl_agreement.proofs.Rosters.{roster}
-use Rattle.spl_agreement.proofs.GroupOfDefinition.{Groups, There, there_is, away_not, group_of}
+use Rattle.spl_agreement.proofs.GroupOfDefinition.{Groups, There, there_is, group_of}
+use Rattle.spl_agreement.proofs.GroupBindings.{away_not}
 use Rattle.spl_agreement.proofs.GroupWorlds.{admin_groups, service_groups, admin_presence, service_presence, admin_said, service_said, IsValid, IsValidCell}
 use Rattle.spl_agreement.proofs.Occurrences.{world-start}
 use Rattle.spl_calm.specs.Settled.{is_active_by, cell_acts, cell_batches, acts_kept, batches_kept, IsOpenIn, AtMembers, IsWhole, IsActiveAll, IsSettled}
@@ -57,36 +58,36 @@ pub batches-there : (d : Definition) (k : Cell) (m : Member Batch) → service_p
 batches-there d (Held k) m h = (there_is k.definition d k.batches m h).1
 batches-there d _ m h = absurd (away_not d m h)
 
-pub tame-acts : (n : Node) (sent : List Sent) (count : ℕ) (k : Cell) (d : Definition) (m : Member Act) → IsTameCell n sent count k → admin_presence k ≡ There d m → IsTame admin_groups d n (admin_said sent) count m
+pub tame-acts : (n : NodeId) (sent : List Sent) (count : ℕ) (k : Cell) (d : Definition) (m : Member Act) → IsTameCell n sent count k → admin_presence k ≡ There d m → IsTame admin_groups d n (admin_said sent) count m
 tame-acts n sent count (Held k) d m t h = let p : (k.definition ≡ d) × (k.acts ≡ m) = there_is k.definition d k.acts m h in subst (λ (z : Definition). IsTame admin_groups z n (admin_said sent) count m) p.0 (subst (λ (z : Member Act). IsTame admin_groups k.definition n (admin_said sent) count z) p.1 t.0)
 tame-acts n sent count _ d m t h = absurd (away_not d m h)
 
-pub tame-batches : (n : Node) (sent : List Sent) (count : ℕ) (k : Cell) (d : Definition) (m : Member Batch) → IsTameCell n sent count k → service_presence k ≡ There d m → IsTame service_groups d n (service_said sent) count m
+pub tame-batches : (n : NodeId) (sent : List Sent) (count : ℕ) (k : Cell) (d : Definition) (m : Member Batch) → IsTameCell n sent count k → service_presence k ≡ There d m → IsTame service_groups d n (service_said sent) count m
 tame-batches n sent count (Held k) d m t h = let p : (k.definition ≡ d) × (k.batches ≡ m) = there_is k.definition d k.batches m h in subst (λ (z : Definition). IsTame service_groups z n (service_said sent) count m) p.0 (subst (λ (z : Member Batch). IsTame service_groups k.definition n (service_said sent) count z) p.1 t.1)
 tame-batches n sent count _ d m t h = absurd (away_not d m h)
 
 -- ---- worlds
 
 -- behind anything that happened
-pub behind : (ns : List Node) (es : List Occurrence) → AllPlain es → IsCoupled (world_behind ns es) × AllTame (0 + length es) (world_behind ns es)
+pub behind : (ns : List NodeId) (es : List Occurrence) → AllPlain es → IsCoupled (world_behind ns es) × AllTame (0 + length es) (world_behind ns es)
 behind ns es h = tame-run 0 (first_world ns) es h ([], (λ f. []), (λ f. []), world-start) (λ n. tt)
 
 -- the definition of a bound member breaks no rule
-pub ruled-whole : (w : World) (d : Definition) (n : Node) → IsCoupled w → IsWhole w d → is_member d n ≡ true → broken d ≡ None
+pub ruled-whole : (w : World) (d : Definition) (n : NodeId) → IsCoupled w → IsWhole w d → is_member d n ≡ true → broken d ≡ None
 ruled-whole w d n v whole h =
     let o : IsOpenTo d (w.at n) = open-to d (w.at n) (whole.open_cells n h) in
     let x : IsValid d n o.1 o.2 = subst (λ (z : Cell). IsValidCell n z) o.3 (v.3.valid n) in x.whole
 
 -- a definition has a member, or none
-pub some-member : (d : Definition) → ((n : Node) × (is_member d n ≡ true)) ⊎ ((n : Node) → is_member d n ≡ true → ⊥)
+pub some-member : (d : Definition) → ((n : NodeId) × (is_member d n ≡ true)) ⊎ ((n : NodeId) → is_member d n ≡ true → ⊥)
 some-member d = go d.members refl
   where
-    go : (ms : List Node) → d.members ≡ ms → ((n : Node) × (is_member d n ≡ true)) ⊎ ((n : Node) → is_member d n ≡ true → ⊥)
-    go [] e = inr (λ n h. let z : has_node [] n ≡ true = subst (λ (ms : List Node). has_node ms n ≡ true) e h in cc)
-    go (m ∷ ms) e = inl (m, subst (λ (xs : List Node). has_node xs m ≡ true) (sym e) (rw (node_same m)))
+    go : (ms : List NodeId) → d.members ≡ ms → ((n : NodeId) × (is_member d n ≡ true)) ⊎ ((n : NodeId) → is_member d n ≡ true → ⊥)
+    go [] e = inr (λ n h. let z : has_node [] n ≡ true = subst (λ (ms : List NodeId). has_node ms n ≡ true) e h in cc)
+    go (m ∷ ms) e = inl (m, subst (λ (xs : List NodeId). has_node xs m ≡ true) (sym e) (rw (node_same m)))
 
 -- a settled group shows in what the members keep
-pub settled-from : {V : Type 0} (groups : Groups V) (d : Definition) (v : V) (w : GroupWorld V) (kept : Node → Member V) → broken d ≡ None → has_node d.members (groups.leader d) ≡ true → ((n : Node) → has_node d.members n ≡ true → kept n ≡ w.at (position d.members n)) → Settles (group_of groups d) v w → IsSettled d (groups.leader d) v kept
+pub settled-from : {V : Type 0} (groups : Groups V) (d : Definition) (v : V) (w : GroupWorld V) (kept : NodeId → Member V) → broken d ≡ None → has_node d.members (groups.leader d) ≡ true → ((n : NodeId) → has_node d.members n ≡ true → kept n ≡ w.at (position d.members n)) → Settles (group_of groups d) v w → IsSettled d (groups.leader d) v kept
 settled-from {V} groups d v w kept ruled leads same (inl h) = inl (λ n m. subst (λ (z : Member V). InHistory v z) (sym (same n m)) (h (position d.members n) (position-below d.members n m)))
 settled-from {V} groups d v w kept ruled leads same (inr h) = inr (
   subst (λ (z : Member V). IsRefused v z) (sym (same (groups.leader d) leads)) h.0,
@@ -101,12 +102,12 @@ acts-carried d ruled = record { ruled = ruled; shaped = act-shaped d ruled; last
 
 -- behind a calm the members are whole, and a first pending act is settled; where no act was pending and no round was open,
 -- the coordinator has committed none
-pub record ActsCalm (c : Node) (k count : ℕ) (w : World) (d : Definition) : Type 0 where
+pub record ActsCalm (c : CircuitId) (k count : ℕ) (w : World) (d : Definition) : Type 0 where
   pub whole : IsWhole (calm c w k).world d
   pub settles : (v : Act) (rest : List Act) → count ≤ 32768 → 6 ≤ k → (acts_kept w (admin d)).pending ≡ v ∷ rest → IsSettled d (admin d) v (acts_kept (calm c w k).world)
   pub idles : AtMembers d (λ j. (acts_kept w j).pending ≡ []) → (acts_kept w (admin d)).opened ≡ None → (acts_kept (calm c w k).world (admin d)).history ≡ (acts_kept w (admin d)).history
 
-pub calm-acts : (c : Node) (k count : ℕ) (w : World) (d : Definition) (n : Node) → IsCoupled w → AllTame count w → IsWhole w d → is_member d n ≡ true → ActsCalm c k count w d
+pub calm-acts : (c : CircuitId) (k count : ℕ) (w : World) (d : Definition) (n : NodeId) → IsCoupled w → AllTame count w → IsWhole w d → is_member d n ≡ true → ActsCalm c k count w d
 calm-acts c k count w d n coupled tame whole member = go (reached-groups admin_groups d count coupled.0 (λ j. admin_presence (w.at j)) (admin_said w.sent) (coupled.1 d) leads there (λ j m h. tame-acts j w.sent count (w.at j) d m (tame j) h) (coupled.3.admins d))
   where
     ruled : broken d ≡ None
@@ -115,13 +116,13 @@ calm-acts c k count w d n coupled tame whole member = go (reached-groups admin_g
     leads : has_node d.members (admin d) ≡ true
     leads = (roster d ruled).admin_in
 
-    there : (j : Node) → has_node d.members j ≡ true → (m : Member Act) × (admin_presence (w.at j) ≡ There d m)
+    there : (j : NodeId) → has_node d.members j ≡ true → (m : Member Act) × (admin_presence (w.at j) ≡ There d m)
     there j h = let o : IsOpenTo d (w.at j) = open-to d (w.at j) (whole.open_cells j h) in (o.1, ap admin_presence o.3)
 
     go : (g : GroupWorld Act) × IsReached admin_groups d count (λ j. admin_presence (w.at j)) g → ActsCalm c k count w d
     go r = calmed (calm-group act_shape IsOpenTo d (CellsAre d (IsOpenTo d)) (acts-carried d ruled) c k w r.0 (coupled, λ j h. open-to d (w.at j) (whole.open_cells j h)) (record { registered = whole.registered; up = whole.up; same = r.1.same }))
       where
-        mine : (j : Node) → has_node d.members j ≡ true → acts_kept w j ≡ r.0.at (position d.members j)
+        mine : (j : NodeId) → has_node d.members j ≡ true → acts_kept w j ≡ r.0.at (position d.members j)
         mine j h = acts-there d (w.at j) (r.0.at (position d.members j)) (r.1.same j h)
 
         calmed : IsCalm act_shape d (CellsAre d (IsOpenTo d)) k (calm c w k) r.0 → ActsCalm c k count w d
@@ -134,7 +135,7 @@ calm-acts c k count w d n coupled tame whole member = go (reached-groups admin_g
               ∙ ap (λ (z : Member Act). z.history) (sym (mine (admin d) leads)));
         }
           where
-            theirs : (j : Node) → has_node d.members j ≡ true → acts_kept (calm c w k).world j ≡ x.group.at (position d.members j)
+            theirs : (j : NodeId) → has_node d.members j ≡ true → acts_kept (calm c w k).world j ≡ x.group.at (position d.members j)
             theirs j h = acts-there d ((calm c w k).world.at j) (x.group.at (position d.members j)) (x.calmed.same j h)
 
 -- ---- batches
@@ -144,18 +145,18 @@ pub batches-carried : (d : Definition) → broken d ≡ None → IsCarried batch
 batches-carried d ruled = record { ruled = ruled; shaped = batch-shaped d ruled; lasts = cells-last d (IsActiveIn d) (active-keeps d); on = λ w taken q n h. q.1 n h }
 
 -- behind a calm the circuit is active still, and a first pending batch is settled
-pub record BatchesCalm (c : Node) (k count : ℕ) (w : World) (d : Definition) : Type 0 where
+pub record BatchesCalm (c : CircuitId) (k count : ℕ) (w : World) (d : Definition) : Type 0 where
   pub active : IsActiveAll (calm c w k).world d
   pub settles : (v : Batch) (rest : List Batch) → count ≤ 32768 → 6 ≤ k → (batches_kept w (service d)).pending ≡ v ∷ rest → IsSettled d (service d) v (batches_kept (calm c w k).world)
 
 -- by any fact that carries the group
-pub calm-batches-by : (c : Node) (k count : ℕ) (w : World) (d : Definition) (Inv : World → (Node → Node → ℕ) → Type 0) → IsCarried batch_shape IsActiveIn d Inv → Inv w (all_taken w) → IsCoupled w → AllTame count w → IsWhole w d → BatchesCalm c k count w d
+pub calm-batches-by : (c : CircuitId) (k count : ℕ) (w : World) (d : Definition) (Inv : World → (NodeId → NodeId → ℕ) → Type 0) → IsCarried batch_shape IsActiveIn d Inv → Inv w (all_taken w) → IsCoupled w → AllTame count w → IsWhole w d → BatchesCalm c k count w d
 calm-batches-by c k count w d Inv run inv coupled tame whole = go (reached-groups service_groups d count coupled.0 (λ j. service_presence (w.at j)) (service_said w.sent) (coupled.2 d) leads there (λ j m h. tame-batches j w.sent count (w.at j) d m (tame j) h) (coupled.3.services d))
   where
     leads : has_node d.members (service d) ≡ true
     leads = (roster d run.ruled).service_in
 
-    there : (j : Node) → has_node d.members j ≡ true → (m : Member Batch) × (service_presence (w.at j) ≡ There d m)
+    there : (j : NodeId) → has_node d.members j ≡ true → (m : Member Batch) × (service_presence (w.at j) ≡ There d m)
     there j h = let o : IsOpenTo d (w.at j) = open-to d (w.at j) (whole.open_cells j h) in (o.2, ap service_presence o.3)
 
     go : (g : GroupWorld Batch) × IsReached service_groups d count (λ j. service_presence (w.at j)) g → BatchesCalm c k count w d
@@ -169,5 +170,5 @@ calm-batches-by c k count w d Inv run inv coupled tame whole = go (reached-group
               (subst (λ (z : Member Batch). z.pending ≡ v ∷ rest) (batches-there d (w.at (service d)) (r.0.at (position d.members (service d))) (r.1.same (service d) leads)) first));
         }
 
-pub calm-batches : (c : Node) (k count : ℕ) (w : World) (d : Definition) (n : Node) → IsCoupled w → AllTame count w → IsWhole w d → IsActiveAll w d → is_member d n ≡ true → BatchesCalm c k count w d
+pub calm-batches : (c : CircuitId) (k count : ℕ) (w : World) (d : Definition) (n : NodeId) → IsCoupled w → AllTame count w → IsWhole w d → IsActiveAll w d → is_member d n ≡ true → BatchesCalm c k count w d
 calm-batches c k count w d n coupled tame whole active member = calm-batches-by c k count w d (CellsAre d (IsActiveIn d)) (batches-carried d (ruled-whole w d n coupled whole member)) (coupled, λ j h. active-in d (w.at j) (whole.open_cells j h) (active j h)) coupled tame whole

@@ -6,8 +6,7 @@ use Rattle.spl_agree.specs.Member.{Member, new_member, restarted}
 use Rattle.spl_command.specs.declared.batch.Batch.{Batch}
 use Rattle.spl_circuit.specs.declared.act.Act.{Act}
 use Rattle.spl_circuit.specs.declared.definition.Definition.{Definition}
-use Rattle.spl_circuit.specs.declared.lifecycle.Mark.TheVariants as mark
-use Rattle.spl_circuit.specs.Nodes.{Node}
+use Rattle.spl_circuit.specs.Nodes.{NodeId, CircuitId}
 use Rattle.spl_wire.specs.declared.change.Change.TheVariants as durable
 use Rattle.spl_wire.specs.declared.plan.Plan.{Plan}
 use Rattle.spl_sched.specs.Grammar.{step_node}
@@ -29,27 +28,27 @@ use Rattle.spl_calm.proofs.Coupled.{IsCoupled, coupled-happens}
 use Rattle.spl_calm.proofs.Tame.{IsTame, tame-new, tame-said, tame-more, tame-restarted, tame-row, keyed-acts, keyed-batches}
 
 -- what a cell keeps of both groups
-abbrev pub IsTameCell : Node → List Sent → ℕ → Cell → Type 0
+abbrev pub IsTameCell : NodeId → List Sent → ℕ → Cell → Type 0
 IsTameCell n sent count (Held h) = IsTame admin_groups h.definition n (admin_said sent) count h.acts × IsTame service_groups h.definition n (service_said sent) count h.batches
 IsTameCell n sent count _ = Unit {0}
 
-pub tame-cell-more : (n : Node) (sent : List Sent) (count : ℕ) (k : Cell) → IsTameCell n sent count k → IsTameCell n sent (count + 1) k
+pub tame-cell-more : (n : NodeId) (sent : List Sent) (count : ℕ) (k : Cell) → IsTameCell n sent count k → IsTameCell n sent (count + 1) k
 tame-cell-more n sent count (Held h) t = (tame-more admin_groups h.definition n (admin_said sent) count h.acts t.0, tame-more service_groups h.definition n (service_said sent) count h.batches t.1)
 tame-cell-more n sent count _ t = tt
 
-pub tame-cell-sent : (n : Node) (sent sent2 : List Sent) (count : ℕ) (k : Cell) → ((x : Sent) → WasSent x sent → WasSent x sent2) → IsTameCell n sent count k → IsTameCell n sent2 count k
+pub tame-cell-sent : (n : NodeId) (sent sent2 : List Sent) (count : ℕ) (k : Cell) → ((x : Sent) → WasSent x sent → WasSent x sent2) → IsTameCell n sent count k → IsTameCell n sent2 count k
 tame-cell-sent n sent sent2 count (Held h) more t = (
   tame-said admin_groups h.definition n (admin_said sent) (admin_said sent2) count h.acts (λ l s. (s.0, more _ s.1)) t.0,
   tame-said service_groups h.definition n (service_said sent) (service_said sent2) count h.batches (λ l s. (s.0, s.1, s.2, more _ s.3)) t.1,
 )
 tame-cell-sent n sent sent2 count _ more t = tt
 
-pub tame-cell-stopped : (n : Node) (sent : List Sent) (count : ℕ) (k : Cell) → IsTameCell n sent count k → IsTameCell n sent count (stopped_cell k)
+pub tame-cell-stopped : (n : NodeId) (sent : List Sent) (count : ℕ) (k : Cell) → IsTameCell n sent count k → IsTameCell n sent count (stopped_cell k)
 tame-cell-stopped n sent count (Held h) t = (tame-restarted admin_groups h.definition n (admin_said sent) count h.acts t.0, tame-restarted service_groups h.definition n (service_said sent) count h.batches t.1)
 tame-cell-stopped n sent count _ t = tt
 
 -- a fair deed keeps a valid cell tame
-pub tame-deed : (c n : Node) (sent : List Sent) (count : ℕ) (k : Cell) (deed : Deed) → IsStepOf n sent k deed → IsValidCell n k → IsTameCell n sent count k → IsTameCell n sent (count + 1) (after_plan n k (planned (site_at n c) deed))
+pub tame-deed : (c : CircuitId) (n : NodeId) (sent : List Sent) (count : ℕ) (k : Cell) (deed : Deed) → IsStepOf n sent k deed → IsValidCell n k → IsTameCell n sent count k → IsTameCell n sent (count + 1) (after_plan n k (planned (site_at n c) deed))
 tame-deed c n sent count k (Binds say d back e) fair v t =
     let x : (u : ℕ) × (_ ≡ Held (record (fresh d) { turn = u; acts = after_row admin_groups d n new_member e })) = after-acts n (fresh d) (plan_row admin_groups d n new_member e) in
     subst (IsTameCell n sent (count + 1)) (sym (ap (λ (z : Cell). moved_cell n (made n z (map durable.Admin (plan_row admin_groups d n new_member e).changes)) (plan_row admin_groups d n new_member e).opening move.Keep) (made-bind n k d) ∙ x.1))
@@ -90,32 +89,32 @@ tame-deed c n sent count k _ fair v t = subst (IsTameCell n sent (count + 1)) (s
 
 -- after so many events
 abbrev pub AllTame : ℕ → World → Type 0
-AllTame count w = (n : Node) → IsTameCell n w.sent count (w.at n)
+AllTame count w = (n : NodeId) → IsTameCell n w.sent count (w.at n)
 
 -- one cell becomes another
-pub tame-put : (count : ℕ) (w : World) (n : Node) (k : Cell) (sent2 : List Sent) (up : Node → Bool) → ((x : Sent) → WasSent x w.sent → WasSent x sent2) → IsTameCell n w.sent (count + 1) k → AllTame count w → AllTame (count + 1) (record { nodes = w.nodes; up = up; at = put_at w.at n k; sent = sent2 })
+pub tame-put : (count : ℕ) (w : World) (n : NodeId) (k : Cell) (sent2 : List Sent) (up : NodeId → Bool) → ((x : Sent) → WasSent x w.sent → WasSent x sent2) → IsTameCell n w.sent (count + 1) k → AllTame count w → AllTame (count + 1) (record { nodes = w.nodes; up = up; at = put_at w.at n k; sent = sent2 })
 tame-put count w n k sent2 up more new old j = go (node_cases j n)
   where
     go : (j ≡ n) ⊎ (j ≢ n) → IsTameCell j sent2 (count + 1) (put_at w.at n k j)
-    go (inl q) = subst (λ (z : Node). IsTameCell z sent2 (count + 1) (put_at w.at n k z)) (sym q) (subst (IsTameCell n sent2 (count + 1)) (sym (put_at-same w.at n k)) (tame-cell-sent n w.sent sent2 (count + 1) k more new))
+    go (inl q) = subst (λ (z : NodeId). IsTameCell z sent2 (count + 1) (put_at w.at n k z)) (sym q) (subst (IsTameCell n sent2 (count + 1)) (sym (put_at-same w.at n k)) (tame-cell-sent n w.sent sent2 (count + 1) k more new))
     go (inr q) = subst (IsTameCell j sent2 (count + 1)) (sym (put_at-other w.at n k j q)) (tame-cell-sent j w.sent sent2 (count + 1) (w.at j) more (tame-cell-more j w.sent count (w.at j) (old j)))
 
 pub tame-later : (count : ℕ) (w : World) → AllTame count w → AllTame (count + 1) w
 tame-later count w t n = tame-cell-more n w.sent count (w.at n) (t n)
 
 -- the cell behind a step
-pub tame-step : (count : ℕ) (w : World) (n : Node) (p : Plan) → IsDeed w n p → IsCoupled w → AllTame count w → IsTameCell n w.sent (count + 1) (after_plan n (w.at n) p)
+pub tame-step : (count : ℕ) (w : World) (n : NodeId) (p : Plan) → IsDeed w n p → IsCoupled w → AllTame count w → IsTameCell n w.sent (count + 1) (after_plan n (w.at n) p)
 tame-step count w n p i v t = subst (λ (z : Plan). IsTameCell n w.sent (count + 1) (after_plan n (w.at n) z)) (sym i.3) (tame-deed i.2 n w.sent count (w.at n) i.0 i.1 (v.3.valid n) (t n))
 
-pub tame-stops : (count : ℕ) (w : World) (n : Node) (u : Bool) → AllTame count w → AllTame (count + 1) (if u then stopped w n else w)
+pub tame-stops : (count : ℕ) (w : World) (n : NodeId) (u : Bool) → AllTame count w → AllTame (count + 1) (if u then stopped w n else w)
 tame-stops count w n false t = tame-later count w t
 tame-stops count w n true t = tame-put count w n (stopped_cell (w.at n)) w.sent (put_at w.up n false) (λ x h. h) (tame-cell-more n w.sent count (stopped_cell (w.at n)) (tame-cell-stopped n w.sent count (w.at n) (t n))) t
 
-pub tame-starts : (count : ℕ) (w : World) (n : Node) (u : Bool) → AllTame count w → AllTame (count + 1) (if u then w else started w n)
+pub tame-starts : (count : ℕ) (w : World) (n : NodeId) (u : Bool) → AllTame count w → AllTame (count + 1) (if u then w else started w n)
 tame-starts count w n true t = tame-later count w t
 tame-starts count w n false t = tame-later count w t
 
-pub tame-halts : (count : ℕ) (w : World) (n : Node) (p : Plan) (kept u : Bool) → IsTameCell n w.sent (count + 1) (after_plan n (w.at n) p) → AllTame count w → AllTame (count + 1) (if u then halted w n kept p else w)
+pub tame-halts : (count : ℕ) (w : World) (n : NodeId) (p : Plan) (kept u : Bool) → IsTameCell n w.sent (count + 1) (after_plan n (w.at n) p) → AllTame count w → AllTame (count + 1) (if u then halted w n kept p else w)
 tame-halts count w n p kept false new t = tame-later count w t
 tame-halts count w n p false true new t = tame-put count w n (stopped_cell (w.at n)) w.sent (put_at w.up n false) (λ x h. h) (tame-cell-more n w.sent count (stopped_cell (w.at n)) (tame-cell-stopped n w.sent count (w.at n) (t n))) t
 tame-halts count w n p true true new t = tame-put count w n (stopped_cell (made n (w.at n) p.changes)) w.sent (put_at w.up n false) (λ x h. h)
