@@ -1,8 +1,8 @@
 -- The agreement of a circuit behind what happened, and in lines.
-use Rattle.std.proofs.Common.{◌≡◌, true, List}
+use Rattle.std.proofs.Common.{◌≡◌, true, List, sym, ◌∙◌}
 use Rattle.spl_circuit.specs.declared.definition.Definition.{Definition}
-use Rattle.spl_circuit.specs.Nodes.{Node}
-use Rattle.spl_model.specs.Worlds.{Occurrence, first_world, world_behind}
+use Rattle.spl_circuit.specs.Nodes.{NodeId}
+use Rattle.spl_model.specs.Worlds.{Occurrence, first_world, world_behind, site_at}
 use Rattle.spl_model.specs.Projection.{Ran, own, lines_fit}
 use Rattle.spl_agreement.specs.Lists.{act_list, batch_list}
 use Rattle.spl_model.specs.Plain.{AllPlain}
@@ -16,21 +16,21 @@ use Rattle.spl_agreement.proofs.QueuedIsKnown.{knows-queued}
 use Rattle.spl_agreement.proofs.PendingActsAreFew.{few-behind}
 
 -- each part of the agreement
-pub agreed-behind : (ns : List Node) (es : List Occurrence) (d : Definition) → AllPlain es → IsAgreed ns es d
+pub agreed-behind : (ns : List NodeId) (es : List Occurrence) (d : Definition) → AllPlain es → IsAgreed ns es d
 agreed-behind ns es d h = record {
   acts = begins-acts ns es d h;
   batches = begins-batches ns es d h;
   differ = ids-differ ns d es h;
-  told = λ c n m turn a b is. tells-lists (world_behind ns es) n c d m turn a b (act_list ns d es) (batch_list ns d es) is (begins-acts ns es d h n m turn a b is) (begins-batches ns es d h n m turn a b is);
+  told = λ c n b is same. tells-lists (world_behind ns es) (site_at n c) b (act_list ns d es) (batch_list ns d es) is (begins-acts ns es d h n b is same) (begins-batches ns es d h n b is same);
   queued = λ before s e. knows-queued (world_behind ns before) s;
   apart = λ e. share-nothing ns d e es h;
-  keeps = λ fs k n m turn a b is m2 turn2 a2 b2 is2. keeps-run (world_behind ns es) fs d n m m2 turn turn2 a a2 b b2 k is is2;
+  keeps = λ fs k n b is same later is2 same2. keeps-run (world_behind ns es) fs n b later k is is2 (same2 ∙ sym same);
   past = λ fs k. stays-behind ns es fs d h k;
   few = few-behind ns es d h;
 }
 
 -- at each moment of each circuit's world
-pub lines-agree : (ns : List Node) (rs : List Ran) → lines_fit rs ≡ true → Agree ns rs
+pub lines-agree : (ns : List NodeId) (rs : List Ran) → lines_fit rs ≡ true → Agree ns rs
 lines-agree ns rs h = record {
   happened = λ c. lines-run (first_world ns) (own c rs);
   agreed = λ c d es fs e. agreed-behind ns es d (plain-moment ns c rs es fs h e);

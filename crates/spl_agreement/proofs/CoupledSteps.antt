@@ -1,15 +1,15 @@
 -- Each kind of step of the cells keeps the coupling.
+use Rattle.spl_rules.specs.Plans.{group_sends, admin_lane, service_lane}
 use Rattle.std.proofs.Common.{◌≡◌, ◌≢◌, ℕ, ◌<◌, ◌≤◌, ◌⊎◌, true, false, List, [], ◌∷◌, ◌++◌, length, refl, sym, ap, subst, ◌∙◌, inl, inr, arith}
 use Rattle.std.specs.Prelude.{None, ◌==◌}
 use Rattle.spl_agree.specs.declared.event.GroupEvent.{GroupEvent}
 use Rattle.spl_agree.specs.declared.event.GroupEvent.TheVariants as event
-use Rattle.spl_agree.specs.Member.{Rules, Group, Member, new_member, restarted, known}
+use Rattle.spl_agree.specs.Member.{Rules, Group, Member, restarted, known}
 use Rattle.spl_agree.specs.Fits.{IsSound, IsRoomy, IsDue, any_value}
 use Rattle.spl_circuit.specs.declared.definition.Definition.{Definition}
 use Rattle.spl_circuit.specs.declared.act.Act.{Act}
 use Rattle.spl_circuit.specs.declared.lifecycle.Mark.{Mark}
-use Rattle.spl_circuit.specs.declared.lifecycle.Mark.TheVariants as mark
-use Rattle.spl_circuit.specs.Nodes.{Node, has_node, position}
+use Rattle.spl_circuit.specs.Nodes.{NodeId, CircuitId, has_node, position}
 use Rattle.spl_circuit.specs.Rules.{broken, admin, service}
 use Rattle.spl_circuit.specs.Acts.{act_rules}
 use Rattle.spl_command.specs.declared.batch.Batch.{Batch}
@@ -19,21 +19,21 @@ use Rattle.spl_wire.specs.declared.message.Message.{Message}
 use Rattle.spl_wire.specs.declared.message.Message.TheVariants as message
 use Rattle.spl_group.proofs.Fits.{good-row, not-full, may-any, sound-new_member, roomy-new_member, sound-restarted, roomy-open}
 use Rattle.spl_group.proofs.Sound.{sound-row}
-use Rattle.spl_rules.specs.Cells.{Cell, Empty, Held, Purged}
+use Rattle.spl_rules.specs.Cells.{Cell, Empty, Held, Purged, Bound, fresh}
 use Rattle.spl_rules.specs.Changes.{stopped_cell}
-use Rattle.spl_rules.specs.Plans.{admin_sends, service_sends}
 use Rattle.spl_model.proofs.Nodes.{node_cases}
 use Rattle.spl_agreement.proofs.Positions.{position-apart}
 use Rattle.spl_agreement.proofs.Same.{act_same}
-use Rattle.spl_model.specs.Worlds.{Sent, posted}
-use Rattle.spl_agreement.proofs.GroupOfDefinition.{GroupMessage, Ever, IsOne, IsPlaced, IsMessageOf, MayHear, IsHarmless, all_committed, after_row, plan_row, lane-row, lane-messages, lane-drop, lane-restart, lane-fresh, Lane, group_of}
+use Rattle.spl_model.specs.Worlds.{Sent, posted, site_at}
+use Rattle.spl_agreement.proofs.GroupOfDefinition.{GroupMessage, Ever, IsOne, IsPlaced, IsMessageOf, MayHear, all_committed, after_row, plan_row, groups-row, Groups, group_of}
+use Rattle.spl_agreement.proofs.GroupBindings.{IsHarmless, groups-messages, groups-drop, groups-restart, groups-fresh}
 use Rattle.spl_agreement.proofs.SentByRule.{fine-row}
-use Rattle.spl_agreement.proofs.GroupWorlds.{admin_presence, service_presence, WasSent, admin_said, service_said, IsValid, IsValidCell, InWorld, Others, placed-admin, placed-service, quiet-admin, posted-admin, posted-no_service, posted-service, posted-no_admin, admin_lane, service_lane}
+use Rattle.spl_agreement.proofs.GroupWorlds.{admin_presence, service_presence, WasSent, admin_said, service_said, IsValid, IsValidCell, InWorld, Others, placed-admin, placed-service, quiet-admin, posted-admin, posted-no_service, posted-service, posted-no_admin, admin_groups, service_groups}
 use Rattle.spl_agreement.specs.Agreement.{IsPast}
 
 -- all bindings that ever were
 abbrev pub Past : Type 0
-Past = List (Node × Definition)
+Past = List (NodeId × Definition)
 
 -- a value that is submitted isn't known yet, and there is room for it
 abbrev pub IsNew : {V : Type 0} → Rules V → Member V → GroupEvent V → Type 0
@@ -41,134 +41,134 @@ IsNew rules m (event.Submit v) = (known rules m v ≡ None) × ((length m.pendin
 IsNew rules m _ = Unit {0}
 
 -- an event that may happen here is due
-pub due-row : {V : Type 0} (lane : Lane V) (d : Definition) (n back : Node) (said : GroupMessage V → Type 0) (m : Member V) (e : GroupEvent V) → IsPlaced lane d n → MayHear d said n back e → IsNew (lane.rules d) m e → IsRoomy m → IsDue (group_of lane d) (position d.members n) m e
-due-row lane d n back said m (event.Submit v) p h new room = (new.0, not-full m new.1 room)
-due-row lane d n back said m (event.From s x) p h new room = (h.2, λ q. h.3 (sym (position-apart d.members n back p.few p.here (sym q ∙ h.0))))
-due-row lane d n back said m _ p h new room = tt
+pub due-row : {V : Type 0} (groups : Groups V) (d : Definition) (n back : NodeId) (said : GroupMessage V → Type 0) (m : Member V) (e : GroupEvent V) → IsPlaced groups d n → MayHear d said n back e → IsNew (groups.rules d) m e → IsRoomy m → IsDue (group_of groups d) (position d.members n) m e
+due-row groups d n back said m (event.Submit v) p h new room = (new.0, not-full m new.1 room)
+due-row groups d n back said m (event.From s x) p h new room = (h.2, λ q. h.3 (sym (position-apart d.members n back p.few p.here (sym q ∙ h.0))))
+due-row groups d n back said m _ p h new room = tt
 
 -- a member stays sound and roomy
-pub sound-after : {V : Type 0} (lane : Lane V) (d : Definition) (n back : Node) (said : GroupMessage V → Type 0) (m : Member V) (e : GroupEvent V) → ((x : V) → (lane.rules d).same x x ≡ true) → IsPlaced lane d n → MayHear d said n back e → IsNew (lane.rules d) m e → IsSound (group_of lane d) (position d.members n) m → IsRoomy m → IsSound (group_of lane d) (position d.members n) (after_row lane d n m e) × IsRoomy (after_row lane d n m e)
-sound-after {V} lane d n back said m e same p h new sound room = (
+pub sound-after : {V : Type 0} (groups : Groups V) (d : Definition) (n back : NodeId) (said : GroupMessage V → Type 0) (m : Member V) (e : GroupEvent V) → ((x : V) → (groups.rules d).same x x ≡ true) → IsPlaced groups d n → MayHear d said n back e → IsNew (groups.rules d) m e → IsSound (group_of groups d) (position d.members n) m → IsRoomy m → IsSound (group_of groups d) (position d.members n) (after_row groups d n m e) × IsRoomy (after_row groups d n m e)
+sound-after {V} groups d n back said m e same p h new sound room = (
   sound-row g (position d.members n) m e due room sound,
   (good-row g any_value (position d.members n) m e same due (may-any g e) sound room).1,
 )
   where
     g : Group V
-    g = group_of lane d
+    g = group_of groups d
 
     due : IsDue g (position d.members n) m e
-    due = due-row lane d n back said m e p h new room
+    due = due-row groups d n back said m e p h new room
 
 -- facts of one cell, where one cell changes
-pub each_cell : (P : Node → Cell → Type 0) (at at2 : Node → Cell) (n : Node) (k : Cell) → at2 n ≡ k → Others n at at2 → P n k → ((j : Node) → j ≢ n → P j (at j)) → (j : Node) → P j (at2 j)
+pub each_cell : (P : NodeId → Cell → Type 0) (at at2 : NodeId → Cell) (n : NodeId) (k : Cell) → at2 n ≡ k → Others n at at2 → P n k → ((j : NodeId) → j ≢ n → P j (at j)) → (j : NodeId) → P j (at2 j)
 each_cell P at at2 n k is others new old j = go (node_cases j n)
   where
     go : (j ≡ n) ⊎ (j ≢ n) → P j (at2 j)
-    go (inl q) = subst (λ (z : Node). P z (at2 z)) (sym q) (subst (λ (c : Cell). P n c) (sym is) new)
+    go (inl q) = subst (λ (z : NodeId). P z (at2 z)) (sym q) (subst (λ (c : Cell). P n c) (sym is) new)
     go (inr q) = subst (λ (c : Cell). P j c) (sym (others j q)) (old j q)
 
 -- the admin group of a cell does something
-pub world-acts : (past : Past) (at at2 : Node → Cell) (sent sent2 : List Sent) (acts more : Definition → List Act) (batches : Definition → List Batch) (ns : List Node) (c n back : Node) (d : Definition) (m m2 : Mark) (t t2 : ℕ) (a : Member Act) (b : Member Batch) (e : GroupEvent Act)
-    → at n ≡ Held d m t a b → at2 n ≡ Held d m2 t2 (after_row admin_lane d n a e) b → Others n at at2
-    → ((x : Sent) → WasSent x sent2 → WasSent x sent ⊎ WasSent x (posted ns n (admin_sends c d back (plan_row admin_lane d n a e).sends)))
-    → MayHear d (admin_said sent) n back e → IsNew (act_rules d) a e
-    → ((f : Definition) → d ≡ f → n ≡ admin f → more f ≡ all_committed (plan_row admin_lane d n a e).changes)
-    → ((f : Definition) → (d ≢ f) ⊎ (n ≢ admin f) → more f ≡ [])
+pub world-acts : (past : Past) (at at2 : NodeId → Cell) (sent sent2 : List Sent) (acts more : Definition → List Act) (batches : Definition → List Batch) (ns : List NodeId) (c : CircuitId) (n back : NodeId) (b : Bound) (m2 : Mark) (t2 : ℕ) (e : GroupEvent Act)
+    → at n ≡ Held b → at2 n ≡ Held (record b { mark = m2; turn = t2; acts = after_row admin_groups b.definition n b.acts e }) → Others n at at2
+    → ((x : Sent) → WasSent x sent2 → WasSent x sent ⊎ WasSent x (posted ns n (group_sends (admin_lane (site_at n c) b.definition) back (plan_row admin_groups b.definition n b.acts e).sends)))
+    → MayHear b.definition (admin_said sent) n back e → IsNew (act_rules b.definition) b.acts e
+    → ((f : Definition) → b.definition ≡ f → n ≡ admin f → more f ≡ all_committed (plan_row admin_groups b.definition n b.acts e).changes)
+    → ((f : Definition) → (b.definition ≢ f) ⊎ (n ≢ admin f) → more f ≡ [])
     → InWorld past at sent acts batches → InWorld past at2 sent2 (λ f. acts f ++ more f) batches
-world-acts past at at2 sent sent2 acts more batches ns c n back d m m2 t t2 a b e is new others messages may fresh leads follows w = record {
+world-acts past at at2 sent sent2 acts more batches ns c n back b m2 t2 e is new others messages may fresh leads follows w = record {
   law = w.law;
   ruled = w.ruled;
-  since = λ k f h. each_cell (λ k z. Ever k f past → IsPast f z) at at2 n (Held d m2 t2 (after_row admin_lane d n a e) b) new others (λ x. subst (λ (z : Cell). IsPast f z) is (w.since n f x)) (λ k q x. w.since k f x) k h;
-  valid = each_cell IsValidCell at at2 n (Held d m2 t2 (after_row admin_lane d n a e) b) new others valid (λ j q. w.valid j);
-  admins = λ f. lane-row admin_lane f d past (λ k. admin_presence (at k)) (λ k. admin_presence (at2 k)) (admin_said sent) (admin_said sent2) (acts f) (more f) n back a e w.law (ap admin_presence is) may valid.acts.good
-      (quiet-admin d past (λ k. admin_presence (at k)) (admin_said sent) (acts d) n back a e (ap admin_presence is) may (w.admins d))
-      (fine-row (group_of admin_lane d) (position d.members n) a e before.acts)
+  since = λ k f h. each_cell (λ k z. Ever k f past → IsPast f z) at at2 n (Held (record b { mark = m2; turn = t2; acts = after_row admin_groups b.definition n b.acts e })) new others (λ x. subst (λ (z : Cell). IsPast f z) is (w.since n f x)) (λ k q x. w.since k f x) k h;
+  valid = each_cell IsValidCell at at2 n (Held (record b { mark = m2; turn = t2; acts = after_row admin_groups b.definition n b.acts e })) new others valid (λ j q. w.valid j);
+  admins = λ f. groups-row admin_groups f b.definition past (λ k. admin_presence (at k)) (λ k. admin_presence (at2 k)) (admin_said sent) (admin_said sent2) (acts f) (more f) n back b.acts e w.law (ap admin_presence is) may valid.acts.good
+      (quiet-admin b.definition past (λ k. admin_presence (at k)) (admin_said sent) (acts b.definition) n back b.acts e (ap admin_presence is) may (w.admins b.definition))
+      (fine-row (group_of admin_groups b.definition) (position b.definition.members n) b.acts e before.acts)
       (ap admin_presence new) (λ k q. ap admin_presence (others k q))
       (λ l s. admin_messages l s) (leads f) (follows f) (w.admins f);
-  services = λ f. lane-messages service_lane f past (λ k. service_presence (at k)) (λ k. service_presence (at2 k)) (service_said sent) (service_said sent2) (batches f) still (λ l s. inl (service_messages l s)) (w.services f);
+  services = λ f. groups-messages service_groups f past (λ k. service_presence (at k)) (λ k. service_presence (at2 k)) (service_said sent) (service_said sent2) (batches f) still (λ l s. inl (service_messages l s)) (w.services f);
 }
   where
-    before : IsValid d n a b
+    before : IsValid b.definition n b.acts b.batches
     before = subst (λ (z : Cell). IsValidCell n z) is (w.valid n)
 
-    kept : IsSound (group_of admin_lane d) (position d.members n) (after_row admin_lane d n a e) × IsRoomy (after_row admin_lane d n a e)
-    kept = sound-after admin_lane d n back (admin_said sent) a e act_same (placed-admin d n before.whole before.member) may fresh before.acts before.acts_room
+    kept : IsSound (group_of admin_groups b.definition) (position b.definition.members n) (after_row admin_groups b.definition n b.acts e) × IsRoomy (after_row admin_groups b.definition n b.acts e)
+    kept = sound-after admin_groups b.definition n back (admin_said sent) b.acts e act_same (placed-admin b.definition n before.whole before.member) may fresh before.acts before.acts_room
 
-    valid : IsValid d n (after_row admin_lane d n a e) b
+    valid : IsValid b.definition n (after_row admin_groups b.definition n b.acts e) b.batches
     valid = record { whole = before.whole; member = before.member; acts = kept.0; batches = before.batches; acts_room = kept.1; batches_room = before.batches_room }
 
-    still : (k : Node) → service_presence (at2 k) ≡ service_presence (at k)
+    still : (k : NodeId) → service_presence (at2 k) ≡ service_presence (at k)
     still k = go (node_cases k n)
       where
         go : (k ≡ n) ⊎ (k ≢ n) → service_presence (at2 k) ≡ service_presence (at k)
-        go (inl q) = subst (λ (z : Node). service_presence (at2 z) ≡ service_presence (at z)) (sym q) (ap service_presence new ∙ sym (ap service_presence is))
+        go (inl q) = subst (λ (z : NodeId). service_presence (at2 z) ≡ service_presence (at z)) (sym q) (ap service_presence new ∙ sym (ap service_presence is))
         go (inr q) = ap service_presence (others k q)
 
-    admin_messages : (l : GroupMessage Act) → admin_said sent2 l → admin_said sent l ⊎ IsMessageOf n d back (plan_row admin_lane d n a e).sends l
+    admin_messages : (l : GroupMessage Act) → admin_said sent2 l → admin_said sent l ⊎ IsMessageOf n b.definition back (plan_row admin_groups b.definition n b.acts e).sends l
     admin_messages l s = go (messages _ s.1)
       where
-        go : WasSent (record { from = l.from; to = l.to; message = message.Admin s.0 l.body }) sent ⊎ WasSent (record { from = l.from; to = l.to; message = message.Admin s.0 l.body }) (posted ns n (admin_sends c d back (plan_row admin_lane d n a e).sends)) → admin_said sent l ⊎ IsMessageOf n d back (plan_row admin_lane d n a e).sends l
+        go : WasSent (record { from = l.from; to = l.to; message = message.Admin s.0 l.body }) sent ⊎ WasSent (record { from = l.from; to = l.to; message = message.Admin s.0 l.body }) (posted ns n (group_sends (admin_lane (site_at n c) b.definition) back (plan_row admin_groups b.definition n b.acts e).sends)) → admin_said sent l ⊎ IsMessageOf n b.definition back (plan_row admin_groups b.definition n b.acts e).sends l
         go (inl x) = inl (s.0, x)
-        go (inr x) = inr (posted-admin ns n c d back (plan_row admin_lane d n a e).sends s.0 l x)
+        go (inr x) = inr (posted-admin ns n c b.definition back (plan_row admin_groups b.definition n b.acts e).sends s.0 l x)
 
     service_messages : (l : GroupMessage Batch) → service_said sent2 l → service_said sent l
     service_messages l s = go (messages _ s.3)
       where
-        go : WasSent (record { from = l.from; to = l.to; message = message.Scabbard s.0 s.1 s.2 l.body }) sent ⊎ WasSent (record { from = l.from; to = l.to; message = message.Scabbard s.0 s.1 s.2 l.body }) (posted ns n (admin_sends c d back (plan_row admin_lane d n a e).sends)) → service_said sent l
+        go : WasSent (record { from = l.from; to = l.to; message = message.Scabbard s.0 s.1 s.2 l.body }) sent ⊎ WasSent (record { from = l.from; to = l.to; message = message.Scabbard s.0 s.1 s.2 l.body }) (posted ns n (group_sends (admin_lane (site_at n c) b.definition) back (plan_row admin_groups b.definition n b.acts e).sends)) → service_said sent l
         go (inl x) = (s.0, s.1, s.2, x)
-        go (inr x) = absurd (posted-no_service ns n c d back (plan_row admin_lane d n a e).sends l.from l.to s.0 s.1 s.2 l.body x)
+        go (inr x) = absurd (posted-no_service ns n c b.definition back (plan_row admin_groups b.definition n b.acts e).sends l.from l.to s.0 s.1 s.2 l.body x)
 
 -- the service group of a cell does something
-pub world-serves : (past : Past) (at at2 : Node → Cell) (sent sent2 : List Sent) (acts : Definition → List Act) (batches more : Definition → List Batch) (ns : List Node) (c n back : Node) (d : Definition) (m m2 : Mark) (t t2 : ℕ) (a : Member Act) (b : Member Batch) (e : GroupEvent Batch)
-    → at n ≡ Held d m t a b → at2 n ≡ Held d m2 t2 a (after_row service_lane d n b e) → Others n at at2
-    → ((x : Sent) → WasSent x sent2 → WasSent x sent ⊎ WasSent x (posted ns n (service_sends n c d back (plan_row service_lane d n b e).sends)))
-    → Ever (service d) d past
-    → MayHear d (service_said sent) n back e → IsNew batch_rules b e
-    → ((f : Definition) → d ≡ f → n ≡ service f → more f ≡ all_committed (plan_row service_lane d n b e).changes)
-    → ((f : Definition) → (d ≢ f) ⊎ (n ≢ service f) → more f ≡ [])
+pub world-serves : (past : Past) (at at2 : NodeId → Cell) (sent sent2 : List Sent) (acts : Definition → List Act) (batches more : Definition → List Batch) (ns : List NodeId) (c : CircuitId) (n back : NodeId) (b : Bound) (m2 : Mark) (t2 : ℕ) (e : GroupEvent Batch)
+    → at n ≡ Held b → at2 n ≡ Held (record b { mark = m2; turn = t2; batches = after_row service_groups b.definition n b.batches e }) → Others n at at2
+    → ((x : Sent) → WasSent x sent2 → WasSent x sent ⊎ WasSent x (posted ns n (group_sends (service_lane (site_at n c) b.definition) back (plan_row service_groups b.definition n b.batches e).sends)))
+    → Ever (service b.definition) b.definition past
+    → MayHear b.definition (service_said sent) n back e → IsNew batch_rules b.batches e
+    → ((f : Definition) → b.definition ≡ f → n ≡ service f → more f ≡ all_committed (plan_row service_groups b.definition n b.batches e).changes)
+    → ((f : Definition) → (b.definition ≢ f) ⊎ (n ≢ service f) → more f ≡ [])
     → InWorld past at sent acts batches → InWorld past at2 sent2 acts (λ f. batches f ++ more f)
-world-serves past at at2 sent sent2 acts batches more ns c n back d m m2 t t2 a b e is new others messages led may fresh leads follows w = record {
+world-serves past at at2 sent sent2 acts batches more ns c n back b m2 t2 e is new others messages led may fresh leads follows w = record {
   law = w.law;
   ruled = w.ruled;
-  since = λ k f h. each_cell (λ k z. Ever k f past → IsPast f z) at at2 n (Held d m2 t2 a (after_row service_lane d n b e)) new others (λ x. subst (λ (z : Cell). IsPast f z) is (w.since n f x)) (λ k q x. w.since k f x) k h;
-  valid = each_cell IsValidCell at at2 n (Held d m2 t2 a (after_row service_lane d n b e)) new others valid (λ j q. w.valid j);
-  admins = λ f. lane-messages admin_lane f past (λ k. admin_presence (at k)) (λ k. admin_presence (at2 k)) (admin_said sent) (admin_said sent2) (acts f) still (λ l s. inl (admin_messages l s)) (w.admins f);
-  services = λ f. lane-row service_lane f d past (λ k. service_presence (at k)) (λ k. service_presence (at2 k)) (service_said sent) (service_said sent2) (batches f) (more f) n back b e w.law (ap service_presence is) may valid.batches.good
+  since = λ k f h. each_cell (λ k z. Ever k f past → IsPast f z) at at2 n (Held (record b { mark = m2; turn = t2; batches = after_row service_groups b.definition n b.batches e })) new others (λ x. subst (λ (z : Cell). IsPast f z) is (w.since n f x)) (λ k q x. w.since k f x) k h;
+  valid = each_cell IsValidCell at at2 n (Held (record b { mark = m2; turn = t2; batches = after_row service_groups b.definition n b.batches e })) new others valid (λ j q. w.valid j);
+  admins = λ f. groups-messages admin_groups f past (λ k. admin_presence (at k)) (λ k. admin_presence (at2 k)) (admin_said sent) (admin_said sent2) (acts f) still (λ l s. inl (admin_messages l s)) (w.admins f);
+  services = λ f. groups-row service_groups f b.definition past (λ k. service_presence (at k)) (λ k. service_presence (at2 k)) (service_said sent) (service_said sent2) (batches f) (more f) n back b.batches e w.law (ap service_presence is) may valid.batches.good
       (inr led)
-      (fine-row (group_of service_lane d) (position d.members n) b e before.batches)
+      (fine-row (group_of service_groups b.definition) (position b.definition.members n) b.batches e before.batches)
       (ap service_presence new) (λ k q. ap service_presence (others k q))
       (λ l s. service_messages l s) (leads f) (follows f) (w.services f);
 }
   where
-    before : IsValid d n a b
+    before : IsValid b.definition n b.acts b.batches
     before = subst (λ (z : Cell). IsValidCell n z) is (w.valid n)
 
-    kept : IsSound (group_of service_lane d) (position d.members n) (after_row service_lane d n b e) × IsRoomy (after_row service_lane d n b e)
-    kept = sound-after service_lane d n back (service_said sent) b e (λ x. (same_batches x x).1 refl) (placed-service d n before.whole before.member) may fresh before.batches before.batches_room
+    kept : IsSound (group_of service_groups b.definition) (position b.definition.members n) (after_row service_groups b.definition n b.batches e) × IsRoomy (after_row service_groups b.definition n b.batches e)
+    kept = sound-after service_groups b.definition n back (service_said sent) b.batches e (λ x. (same_batches x x).1 refl) (placed-service b.definition n before.whole before.member) may fresh before.batches before.batches_room
 
-    valid : IsValid d n a (after_row service_lane d n b e)
+    valid : IsValid b.definition n b.acts (after_row service_groups b.definition n b.batches e)
     valid = record { whole = before.whole; member = before.member; acts = before.acts; batches = kept.0; acts_room = before.acts_room; batches_room = kept.1 }
 
-    still : (k : Node) → admin_presence (at2 k) ≡ admin_presence (at k)
+    still : (k : NodeId) → admin_presence (at2 k) ≡ admin_presence (at k)
     still k = go (node_cases k n)
       where
         go : (k ≡ n) ⊎ (k ≢ n) → admin_presence (at2 k) ≡ admin_presence (at k)
-        go (inl q) = subst (λ (z : Node). admin_presence (at2 z) ≡ admin_presence (at z)) (sym q) (ap admin_presence new ∙ sym (ap admin_presence is))
+        go (inl q) = subst (λ (z : NodeId). admin_presence (at2 z) ≡ admin_presence (at z)) (sym q) (ap admin_presence new ∙ sym (ap admin_presence is))
         go (inr q) = ap admin_presence (others k q)
 
-    service_messages : (l : GroupMessage Batch) → service_said sent2 l → service_said sent l ⊎ IsMessageOf n d back (plan_row service_lane d n b e).sends l
+    service_messages : (l : GroupMessage Batch) → service_said sent2 l → service_said sent l ⊎ IsMessageOf n b.definition back (plan_row service_groups b.definition n b.batches e).sends l
     service_messages l s = go (messages _ s.3)
       where
-        go : WasSent (record { from = l.from; to = l.to; message = message.Scabbard s.0 s.1 s.2 l.body }) sent ⊎ WasSent (record { from = l.from; to = l.to; message = message.Scabbard s.0 s.1 s.2 l.body }) (posted ns n (service_sends n c d back (plan_row service_lane d n b e).sends)) → service_said sent l ⊎ IsMessageOf n d back (plan_row service_lane d n b e).sends l
+        go : WasSent (record { from = l.from; to = l.to; message = message.Scabbard s.0 s.1 s.2 l.body }) sent ⊎ WasSent (record { from = l.from; to = l.to; message = message.Scabbard s.0 s.1 s.2 l.body }) (posted ns n (group_sends (service_lane (site_at n c) b.definition) back (plan_row service_groups b.definition n b.batches e).sends)) → service_said sent l ⊎ IsMessageOf n b.definition back (plan_row service_groups b.definition n b.batches e).sends l
         go (inl x) = inl (s.0, s.1, s.2, x)
-        go (inr x) = inr (posted-service ns n c d back (plan_row service_lane d n b e).sends s.0 s.1 s.2 l x)
+        go (inr x) = inr (posted-service ns n c b.definition back (plan_row service_groups b.definition n b.batches e).sends s.0 s.1 s.2 l x)
 
     admin_messages : (l : GroupMessage Act) → admin_said sent2 l → admin_said sent l
     admin_messages l s = go (messages _ s.1)
       where
-        go : WasSent (record { from = l.from; to = l.to; message = message.Admin s.0 l.body }) sent ⊎ WasSent (record { from = l.from; to = l.to; message = message.Admin s.0 l.body }) (posted ns n (service_sends n c d back (plan_row service_lane d n b e).sends)) → admin_said sent l
+        go : WasSent (record { from = l.from; to = l.to; message = message.Admin s.0 l.body }) sent ⊎ WasSent (record { from = l.from; to = l.to; message = message.Admin s.0 l.body }) (posted ns n (group_sends (service_lane (site_at n c) b.definition) back (plan_row service_groups b.definition n b.batches e).sends)) → admin_said sent l
         go (inl x) = (s.0, x)
-        go (inr x) = absurd (posted-no_admin ns n c d back (plan_row service_lane d n b e).sends l.from l.to s.0 l.body x)
+        go (inr x) = absurd (posted-no_admin ns n c b.definition back (plan_row service_groups b.definition n b.batches e).sends l.from l.to s.0 l.body x)
 
 -- a message that counts in no group
 abbrev pub IsIdle : Message → Type 0
@@ -176,14 +176,14 @@ IsIdle (message.Admin i x) = IsHarmless x
 IsIdle (message.Scabbard i s t x) = IsHarmless x
 
 -- no cell changes; there may be fewer messages, and new ones that count in no group
-pub world-messages : (past : Past) (at at2 : Node → Cell) (sent sent2 : List Sent) (acts : Definition → List Act) (batches : Definition → List Batch) → ((k : Node) → at2 k ≡ at k) → ((x : Sent) → WasSent x sent2 → WasSent x sent ⊎ IsIdle x.message) → InWorld past at sent acts batches → InWorld past at2 sent2 acts batches
+pub world-messages : (past : Past) (at at2 : NodeId → Cell) (sent sent2 : List Sent) (acts : Definition → List Act) (batches : Definition → List Batch) → ((k : NodeId) → at2 k ≡ at k) → ((x : Sent) → WasSent x sent2 → WasSent x sent ⊎ IsIdle x.message) → InWorld past at sent acts batches → InWorld past at2 sent2 acts batches
 world-messages past at at2 sent sent2 acts batches still messages w = record {
   law = w.law;
   ruled = w.ruled;
   since = λ k f h. subst (λ (z : Cell). IsPast f z) (sym (still k)) (w.since k f h);
   valid = λ k. subst (λ (z : Cell). IsValidCell k z) (sym (still k)) (w.valid k);
-  admins = λ f. lane-messages admin_lane f past (λ k. admin_presence (at k)) (λ k. admin_presence (at2 k)) (admin_said sent) (admin_said sent2) (acts f) (λ k. ap admin_presence (still k)) (λ l s. admin_messages l s) (w.admins f);
-  services = λ f. lane-messages service_lane f past (λ k. service_presence (at k)) (λ k. service_presence (at2 k)) (service_said sent) (service_said sent2) (batches f) (λ k. ap service_presence (still k)) (λ l s. service_messages l s) (w.services f);
+  admins = λ f. groups-messages admin_groups f past (λ k. admin_presence (at k)) (λ k. admin_presence (at2 k)) (admin_said sent) (admin_said sent2) (acts f) (λ k. ap admin_presence (still k)) (λ l s. admin_messages l s) (w.admins f);
+  services = λ f. groups-messages service_groups f past (λ k. service_presence (at k)) (λ k. service_presence (at2 k)) (service_said sent) (service_said sent2) (batches f) (λ k. ap service_presence (still k)) (λ l s. service_messages l s) (w.services f);
 }
   where
     admin_messages : (l : GroupMessage Act) → admin_said sent2 l → admin_said sent l ⊎ IsHarmless l.body
@@ -201,94 +201,94 @@ world-messages past at at2 sent sent2 acts batches still messages w = record {
         go (inr x) = inr x
 
 -- a bound cell forgets its open rounds, whatever its mark
-pub world-restart : (past : Past) (at at2 : Node → Cell) (sent : List Sent) (acts : Definition → List Act) (batches : Definition → List Batch) (n : Node) (d : Definition) (m m2 : Mark) (t t2 : ℕ) (a : Member Act) (b : Member Batch)
-    → at n ≡ Held d m t a b → at2 n ≡ Held d m2 t2 (restarted a) (restarted b) → Others n at at2 → InWorld past at sent acts batches → InWorld past at2 sent acts batches
-world-restart past at at2 sent acts batches n d m m2 t t2 a b is new others w = record {
+pub world-restart : (past : Past) (at at2 : NodeId → Cell) (sent : List Sent) (acts : Definition → List Act) (batches : Definition → List Batch) (n : NodeId) (b : Bound) (m2 : Mark) (t2 : ℕ)
+    → at n ≡ Held b → at2 n ≡ Held (record b { mark = m2; turn = t2; acts = restarted b.acts; batches = restarted b.batches }) → Others n at at2 → InWorld past at sent acts batches → InWorld past at2 sent acts batches
+world-restart past at at2 sent acts batches n b m2 t2 is new others w = record {
   law = w.law;
   ruled = w.ruled;
-  since = λ k f h. each_cell (λ k z. Ever k f past → IsPast f z) at at2 n (Held d m2 t2 (restarted a) (restarted b)) new others (λ x. subst (λ (z : Cell). IsPast f z) is (w.since n f x)) (λ k q x. w.since k f x) k h;
-  valid = each_cell IsValidCell at at2 n (Held d m2 t2 (restarted a) (restarted b)) new others (record { whole = before.whole; member = before.member; acts = sound-restarted _ _ a before.acts; batches = sound-restarted _ _ b before.batches; acts_room = roomy-open a None before.acts_room; batches_room = roomy-open b None before.batches_room }) (λ j q. w.valid j);
-  admins = λ f. lane-restart admin_lane f d past (λ k. admin_presence (at k)) (λ k. admin_presence (at2 k)) (admin_said sent) (acts f) n a (ap admin_presence is) (ap admin_presence new) (λ k q. ap admin_presence (others k q)) (w.admins f);
-  services = λ f. lane-restart service_lane f d past (λ k. service_presence (at k)) (λ k. service_presence (at2 k)) (service_said sent) (batches f) n b (ap service_presence is) (ap service_presence new) (λ k q. ap service_presence (others k q)) (w.services f);
+  since = λ k f h. each_cell (λ k z. Ever k f past → IsPast f z) at at2 n (Held (record b { mark = m2; turn = t2; acts = restarted b.acts; batches = restarted b.batches })) new others (λ x. subst (λ (z : Cell). IsPast f z) is (w.since n f x)) (λ k q x. w.since k f x) k h;
+  valid = each_cell IsValidCell at at2 n (Held (record b { mark = m2; turn = t2; acts = restarted b.acts; batches = restarted b.batches })) new others (record { whole = before.whole; member = before.member; acts = sound-restarted _ _ b.acts before.acts; batches = sound-restarted _ _ b.batches before.batches; acts_room = roomy-open b.acts None before.acts_room; batches_room = roomy-open b.batches None before.batches_room }) (λ j q. w.valid j);
+  admins = λ f. groups-restart admin_groups f b.definition past (λ k. admin_presence (at k)) (λ k. admin_presence (at2 k)) (admin_said sent) (acts f) n b.acts (ap admin_presence is) (ap admin_presence new) (λ k q. ap admin_presence (others k q)) (w.admins f);
+  services = λ f. groups-restart service_groups f b.definition past (λ k. service_presence (at k)) (λ k. service_presence (at2 k)) (service_said sent) (batches f) n b.batches (ap service_presence is) (ap service_presence new) (λ k q. ap service_presence (others k q)) (w.services f);
 }
   where
-    before : IsValid d n a b
+    before : IsValid b.definition n b.acts b.batches
     before = subst (λ (z : Cell). IsValidCell n z) is (w.valid n)
 
 -- a node stops
-pub world-stop : (past : Past) (at at2 : Node → Cell) (sent : List Sent) (acts : Definition → List Act) (batches : Definition → List Batch) (n : Node) (k : Cell) → at n ≡ k → at2 n ≡ stopped_cell k → Others n at at2 → InWorld past at sent acts batches → InWorld past at2 sent acts batches
+pub world-stop : (past : Past) (at at2 : NodeId → Cell) (sent : List Sent) (acts : Definition → List Act) (batches : Definition → List Batch) (n : NodeId) (k : Cell) → at n ≡ k → at2 n ≡ stopped_cell k → Others n at at2 → InWorld past at sent acts batches → InWorld past at2 sent acts batches
 world-stop past at at2 sent acts batches n Empty is new others w = world-messages past at at2 sent sent acts batches (λ k. go k (node_cases k n)) (λ x s. inl s) w
   where
-    go : (k : Node) → (k ≡ n) ⊎ (k ≢ n) → at2 k ≡ at k
-    go k (inl q) = subst (λ (z : Node). at2 z ≡ at z) (sym q) (new ∙ sym is)
+    go : (k : NodeId) → (k ≡ n) ⊎ (k ≢ n) → at2 k ≡ at k
+    go k (inl q) = subst (λ (z : NodeId). at2 z ≡ at z) (sym q) (new ∙ sym is)
     go k (inr q) = others k q
 world-stop past at at2 sent acts batches n (Purged old) is new others w = world-messages past at at2 sent sent acts batches (λ k. go k (node_cases k n)) (λ x s. inl s) w
   where
-    go : (k : Node) → (k ≡ n) ⊎ (k ≢ n) → at2 k ≡ at k
-    go k (inl q) = subst (λ (z : Node). at2 z ≡ at z) (sym q) (new ∙ sym is)
+    go : (k : NodeId) → (k ≡ n) ⊎ (k ≢ n) → at2 k ≡ at k
+    go k (inl q) = subst (λ (z : NodeId). at2 z ≡ at z) (sym q) (new ∙ sym is)
     go k (inr q) = others k q
-world-stop past at at2 sent acts batches n (Held d m t a b) is new others w = world-restart past at at2 sent acts batches n d m m t t a b is new others w
+world-stop past at at2 sent acts batches n (Held h) is new others w = world-restart past at at2 sent acts batches n h h.mark h.turn is new others w
 
 -- a bound cell is purged
-pub world-purge : (past : Past) (at at2 : Node → Cell) (sent : List Sent) (acts : Definition → List Act) (batches : Definition → List Batch) (n : Node) (d : Definition) (m : Mark) (t : ℕ) (a : Member Act) (b : Member Batch)
-    → at n ≡ Held d m t a b → at2 n ≡ Purged d.generation → Others n at at2 → InWorld past at sent acts batches → InWorld past at2 sent acts batches
-world-purge past at at2 sent acts batches n d m t a b is new others w = record {
+pub world-purge : (past : Past) (at at2 : NodeId → Cell) (sent : List Sent) (acts : Definition → List Act) (batches : Definition → List Batch) (n : NodeId) (b : Bound)
+    → at n ≡ Held b → at2 n ≡ Purged b.definition.generation → Others n at at2 → InWorld past at sent acts batches → InWorld past at2 sent acts batches
+world-purge past at at2 sent acts batches n b is new others w = record {
   law = w.law;
   ruled = w.ruled;
-  since = λ k f h. each_cell (λ k z. Ever k f past → IsPast f z) at at2 n (Purged d.generation) new others (λ x. passed f (subst (λ (z : Cell). IsPast f z) is (w.since n f x))) (λ k q x. w.since k f x) k h;
-  valid = each_cell IsValidCell at at2 n (Purged d.generation) new others tt (λ j q. w.valid j);
-  admins = λ f. lane-drop admin_lane f past (λ k. admin_presence (at k)) (λ k. admin_presence (at2 k)) (admin_said sent) (acts f) n (ap admin_presence new) (λ k q. ap admin_presence (others k q)) (w.admins f);
-  services = λ f. lane-drop service_lane f past (λ k. service_presence (at k)) (λ k. service_presence (at2 k)) (service_said sent) (batches f) n (ap service_presence new) (λ k q. ap service_presence (others k q)) (w.services f);
+  since = λ k f h. each_cell (λ k z. Ever k f past → IsPast f z) at at2 n (Purged b.definition.generation) new others (λ x. passed f (subst (λ (z : Cell). IsPast f z) is (w.since n f x))) (λ k q x. w.since k f x) k h;
+  valid = each_cell IsValidCell at at2 n (Purged b.definition.generation) new others tt (λ j q. w.valid j);
+  admins = λ f. groups-drop admin_groups f past (λ k. admin_presence (at k)) (λ k. admin_presence (at2 k)) (admin_said sent) (acts f) n (ap admin_presence new) (λ k q. ap admin_presence (others k q)) (w.admins f);
+  services = λ f. groups-drop service_groups f past (λ k. service_presence (at k)) (λ k. service_presence (at2 k)) (service_said sent) (batches f) n (ap service_presence new) (λ k q. ap service_presence (others k q)) (w.services f);
 }
   where
-    passed : (f : Definition) → (d ≡ f) ⊎ (f.generation < d.generation) → f.generation ≤ d.generation
-    passed f (inl q) = let x : d.generation ≡ f.generation = ap (λ (z : Definition). z.generation) q in omega arith
+    passed : (f : Definition) → (b.definition ≡ f) ⊎ (f.generation < b.definition.generation) → f.generation ≤ b.definition.generation
+    passed f (inl q) = let x : b.definition.generation ≡ f.generation = ap (λ (z : Definition). z.generation) q in omega arith
     passed f (inr q) = omega arith
 
 -- the cell is free for a definition of this generation
 abbrev pub IsFree : Cell → ℕ → Type 0
 IsFree Empty g = Unit {0}
-IsFree (Held d m t a b) g = ⊥
+IsFree (Held h) g = ⊥
 IsFree (Purged old) g = old < g
 
 -- what was bound where a cell is free is of an earlier generation
 pub free-past : (f : Definition) (k : Cell) (g : ℕ) → IsFree k g → IsPast f k → f.generation < g
 free-past f Empty g h p = absurd p
 free-past f (Purged old) g h p = omega arith
-free-past f (Held d m t a b) g h p = absurd h
+free-past f (Held k) g h p = absurd h
 
 -- a free cell is bound
-pub world-bind : (past : Past) (at at2 : Node → Cell) (sent : List Sent) (acts : Definition → List Act) (batches : Definition → List Batch) (n : Node) (d : Definition)
-    → IsFree (at n) d.generation → broken d ≡ None → has_node d.members n ≡ true → at2 n ≡ Held d mark.Open 0 new_member new_member → Others n at at2 → InWorld past at sent acts batches → InWorld ((n, d) ∷ past) at2 sent acts batches
+pub world-bind : (past : Past) (at at2 : NodeId → Cell) (sent : List Sent) (acts : Definition → List Act) (batches : Definition → List Batch) (n : NodeId) (d : Definition)
+    → IsFree (at n) d.generation → broken d ≡ None → has_node d.members n ≡ true → at2 n ≡ Held (fresh d) → Others n at at2 → InWorld past at sent acts batches → InWorld ((n, d) ∷ past) at2 sent acts batches
 world-bind past at at2 sent acts batches n d free whole member new others w = record {
   law = law;
   ruled = ruled;
-  since = λ k f h. each_cell (λ k z. Ever k f ((n, d) ∷ past) → IsPast f z) at at2 n (Held d mark.Open 0 new_member new_member) new others (λ x. mine f x) (λ k q x. theirs k f x q) k h;
-  valid = each_cell IsValidCell at at2 n (Held d mark.Open 0 new_member new_member) new others (record { whole = whole; member = member; acts = sound-new_member _ _; batches = sound-new_member _ _; acts_room = roomy-new_member; batches_room = roomy-new_member }) (λ j q. w.valid j);
-  admins = λ f. lane-fresh admin_lane f d past (λ k. admin_presence (at k)) (λ k. admin_presence (at2 k)) (admin_said sent) (acts f) n fresh (placed-admin d n whole member) (ap admin_presence new) (λ k q. ap admin_presence (others k q)) (w.admins f);
-  services = λ f. lane-fresh service_lane f d past (λ k. service_presence (at k)) (λ k. service_presence (at2 k)) (service_said sent) (batches f) n fresh (placed-service d n whole member) (ap service_presence new) (λ k q. ap service_presence (others k q)) (w.services f);
+  since = λ k f h. each_cell (λ k z. Ever k f ((n, d) ∷ past) → IsPast f z) at at2 n (Held (fresh d)) new others (λ x. mine f x) (λ k q x. theirs k f x q) k h;
+  valid = each_cell IsValidCell at at2 n (Held (fresh d)) new others (record { whole = whole; member = member; acts = sound-new_member _ _; batches = sound-new_member _ _; acts_room = roomy-new_member; batches_room = roomy-new_member }) (λ j q. w.valid j);
+  admins = λ f. groups-fresh admin_groups f d past (λ k. admin_presence (at k)) (λ k. admin_presence (at2 k)) (admin_said sent) (acts f) n higher (placed-admin d n whole member) (ap admin_presence new) (λ k q. ap admin_presence (others k q)) (w.admins f);
+  services = λ f. groups-fresh service_groups f d past (λ k. service_presence (at k)) (λ k. service_presence (at2 k)) (service_said sent) (batches f) n higher (placed-service d n whole member) (ap service_presence new) (λ k q. ap service_presence (others k q)) (w.services f);
 }
   where
     lower : (f : Definition) → Ever n f past → f.generation < d.generation
     lower f h = free-past f (at n) d.generation free (w.since n f h)
 
-    fresh : (f : Definition) → Ever n f past → f.generation ≢ d.generation
-    fresh f h e = let x : f.generation < d.generation = lower f h in omega arith
+    higher : (f : Definition) → Ever n f past → f.generation ≢ d.generation
+    higher f h e = let x : f.generation < d.generation = lower f h in omega arith
 
-    ruled : (k : Node) (e : Definition) → Ever k e ((n, d) ∷ past) → broken e ≡ None
+    ruled : (k : NodeId) (e : Definition) → Ever k e ((n, d) ∷ past) → broken e ≡ None
     ruled k e (inl x) = subst (λ (z : Definition). broken z ≡ None) (sym x.1) whole
     ruled k e (inr x) = w.ruled k e x
 
     law : IsOne ((n, d) ∷ past)
     law k e f (inl x) (inl y) g = x.1 ∙ sym y.1
-    law k e f (inl x) (inr y) g = absurd (fresh f (subst (λ (z : Node). Ever z f past) x.0 y) (sym g ∙ ap (λ (z : Definition). z.generation) x.1))
-    law k e f (inr x) (inl y) g = absurd (fresh e (subst (λ (z : Node). Ever z e past) y.0 x) (g ∙ ap (λ (z : Definition). z.generation) y.1))
+    law k e f (inl x) (inr y) g = absurd (higher f (subst (λ (z : NodeId). Ever z f past) x.0 y) (sym g ∙ ap (λ (z : Definition). z.generation) x.1))
+    law k e f (inr x) (inl y) g = absurd (higher e (subst (λ (z : NodeId). Ever z e past) y.0 x) (g ∙ ap (λ (z : Definition). z.generation) y.1))
     law k e f (inr x) (inr y) g = w.law k e f x y g
 
     mine : (f : Definition) → Ever n f ((n, d) ∷ past) → (d ≡ f) ⊎ (f.generation < d.generation)
     mine f (inl x) = inl (sym x.1)
     mine f (inr x) = inr (lower f x)
 
-    theirs : (k : Node) (f : Definition) → Ever k f ((n, d) ∷ past) → k ≢ n → IsPast f (at k)
+    theirs : (k : NodeId) (f : Definition) → Ever k f ((n, d) ∷ past) → k ≢ n → IsPast f (at k)
     theirs k f (inl x) q = absurd (q x.0)
     theirs k f (inr x) q = w.since k f x

@@ -18,7 +18,7 @@ use Rattle.spl_agree.proofs.Tests.{put-same, put-other, if_holds, if_true}
 use Rattle.spl_agree.specs.Fits.{AllGood, generation_of}
 use Rattle.spl_agree.specs.declared.plan.GroupPlan.{GroupPlan}
 use Rattle.spl_circuit.specs.declared.definition.Definition.{Definition}
-use Rattle.spl_circuit.specs.Nodes.{Node, has_node, position, node_or}
+use Rattle.spl_circuit.specs.Nodes.{NodeId, has_node, position, node_or}
 use Rattle.spl_circuit.specs.Equality.{same_definition}
 use Rattle.spl_group.proofs.Agreement.{agrees-row, agrees-stopped, agrees-start}
 use Rattle.spl_group.proofs.Sound.{values-more}
@@ -28,51 +28,51 @@ use Rattle.spl_agreement.proofs.Positions.{position-apart, position-or, member_b
 use Rattle.spl_agreement.specs.Lists.{committed}
 
 -- one of the two groups that each definition has: its rules and who coordinates it
-pub record Lane (V : Type 0) : Type 0 where
+pub record Groups (V : Type 0) : Type 0 where
   pub rules : Definition → Rules V
-  pub leader : Definition → Node
+  pub leader : Definition → NodeId
 
--- the group of a definition in a lane
-abbrev pub group_of : {V : Type 0} → Lane V → Definition → Group V
-group_of lane d = record { rules = lane.rules d; generation = d.generation; members = length d.members; coordinator = position d.members (lane.leader d) }
+-- the group of a definition in such groups
+abbrev pub group_of : {V : Type 0} → Groups V → Definition → Group V
+group_of groups d = record { rules = groups.rules d; generation = d.generation; members = length d.members; coordinator = position d.members (groups.leader d) }
 
--- what a lane sees of a cell
+-- what such groups sees of a cell
 pub data Presence (V : Type 0) : Type 0 where
   Away : Presence V
   There : (d : Definition) → (m : Member V) → Presence V
 
--- a message in a lane
+-- a message in such groups
 pub record GroupMessage (V : Type 0) : Type 0 where
-  pub from : Node
-  pub to : Node
+  pub from : NodeId
+  pub to : NodeId
   pub body : CommitMsg V
 
 -- bindings so far
-abbrev pub Ever : Node → Definition → List (Node × Definition) → Type 0
+abbrev pub Ever : NodeId → Definition → List (NodeId × Definition) → Type 0
 Ever n d [] = ⊥
 Ever n d (x ∷ xs) = ((n ≡ x.0) × (d ≡ x.1)) ⊎ Ever n d xs
 
 -- a node was bound to at most one definition of a generation
-abbrev pub IsOne : List (Node × Definition) → Type 0
-IsOne past = (n : Node) (d e : Definition) → Ever n d past → Ever n e past → d.generation ≡ e.generation → d ≡ e
+abbrev pub IsOne : List (NodeId × Definition) → Type 0
+IsOne past = (n : NodeId) (d e : Definition) → Ever n d past → Ever n e past → d.generation ≡ e.generation → d ≡ e
 
 -- a member that has committed and promised nothing
 abbrev pub IsQuiet : {V : Type 0} → Member V → Type 0
 IsQuiet m = (m.history ≡ []) × (m.promise ≡ None)
 
 -- a message that counts in the group of d
-abbrev pub Matters : {V : Type 0} → Lane V → Definition → Node → Node → CommitMsg V → Type 0
-Matters lane d from to (msg.VoteRequest gen r place v) = (from ≡ lane.leader d) × (gen ≡ d.generation)
-Matters lane d from to (msg.Decision gen r commit) = (from ≡ lane.leader d) × (gen ≡ d.generation)
-Matters lane d from to (msg.Vote gen r true) = (to ≡ lane.leader d) × (gen ≡ d.generation)
-Matters lane d from to _ = ⊥
+abbrev pub Matters : {V : Type 0} → Groups V → Definition → NodeId → NodeId → CommitMsg V → Type 0
+Matters groups d from to (msg.VoteRequest gen r place v) = (from ≡ groups.leader d) × (gen ≡ d.generation)
+Matters groups d from to (msg.Decision gen r commit) = (from ≡ groups.leader d) × (gen ≡ d.generation)
+Matters groups d from to (msg.Vote gen r true) = (to ≡ groups.leader d) × (gen ≡ d.generation)
+Matters groups d from to _ = ⊥
 
 -- what a message tells of bindings
-abbrev pub Shows : {V : Type 0} → Lane V → List (Node × Definition) → Node → Node → CommitMsg V → Type 0
-Shows lane past from to (msg.VoteRequest gen r place v) = (e : Definition) × Ever from e past × (e.generation ≡ gen) × (place ≡ 0 → (lane.rules e).check [] v ≡ None)
-Shows lane past from to (msg.Decision gen r commit) = (e : Definition) × Ever from e past × (e.generation ≡ gen)
-Shows lane past from to (msg.Vote gen r true) = (e : Definition) × Ever to e past × (e.generation ≡ gen)
-Shows lane past from to _ = Unit {0}
+abbrev pub Shows : {V : Type 0} → Groups V → List (NodeId × Definition) → NodeId → NodeId → CommitMsg V → Type 0
+Shows groups past from to (msg.VoteRequest gen r place v) = (e : Definition) × Ever from e past × (e.generation ≡ gen) × (place ≡ 0 → (groups.rules e).check [] v ≡ None)
+Shows groups past from to (msg.Decision gen r commit) = (e : Definition) × Ever from e past × (e.generation ≡ gen)
+Shows groups past from to (msg.Vote gen r true) = (e : Definition) × Ever to e past × (e.generation ≡ gen)
+Shows groups past from to _ = Unit {0}
 
 -- the position has said this
 abbrev pub Says : {V : Type 0} → ℕ → CommitMsg V → List (GroupSent V) → Type 0
@@ -80,38 +80,38 @@ Says i x [] = ⊥
 Says i x (s ∷ ss) = ((i ≡ s.from) × (x ≡ s.message)) ⊎ Says i x ss
 
 -- a member and the coordinator have positions
-pub record IsPlaced {V : Type 0} (lane : Lane V) (d : Definition) (n : Node) : Type 0 where
+pub record IsPlaced {V : Type 0} (groups : Groups V) (d : Definition) (n : NodeId) : Type 0 where
   pub few : length d.members ≤ 8
   pub here_in : has_node d.members n ≡ true
-  pub lead_in : has_node d.members (lane.leader d) ≡ true
+  pub lead_in : has_node d.members (groups.leader d) ≡ true
   pub here : position d.members n < length d.members
-  pub leads : position d.members (lane.leader d) < length d.members
+  pub leads : position d.members (groups.leader d) < length d.members
 
 -- a world of the group of d, coupled with the cells and the messages
-pub record Coupled {V : Type 0} (lane : Lane V) (d : Definition) (past : List (Node × Definition)) (at : Node → Presence V) (said : GroupMessage V → Type 0) (list : List V) (w : GroupWorld V) : Type 0 where
-  pub agrees : Agrees (group_of lane d) w
-  pub there : (n : Node) (m : Member V) → at n ≡ There d m → w.at (position d.members n) ≡ m
-  pub never : (n : Node) → position d.members n < length d.members → (w.at (position d.members n) ≡ new_member) ⊎ Ever n d past
-  pub known : (l : GroupMessage V) → said l → Matters lane d l.from l.to l.body → Says (position d.members l.from) l.body w.sent
-  pub listed : values (w.at (position d.members (lane.leader d))).history ≡ list
+pub record Coupled {V : Type 0} (groups : Groups V) (d : Definition) (past : List (NodeId × Definition)) (at : NodeId → Presence V) (said : GroupMessage V → Type 0) (list : List V) (w : GroupWorld V) : Type 0 where
+  pub agrees : Agrees (group_of groups d) w
+  pub there : (n : NodeId) (m : Member V) → at n ≡ There d m → w.at (position d.members n) ≡ m
+  pub never : (n : NodeId) → position d.members n < length d.members → (w.at (position d.members n) ≡ new_member) ⊎ Ever n d past
+  pub known : (l : GroupMessage V) → said l → Matters groups d l.from l.to l.body → Says (position d.members l.from) l.body w.sent
+  pub listed : values (w.at (position d.members (groups.leader d))).history ≡ list
   -- each value of the list had a good check against those before it
-  pub good : AllGood (lane.rules d) [] list
+  pub good : AllGood (groups.rules d) [] list
 
 -- there is such a world
-abbrev pub SomeWorld : {V : Type 0} → Lane V → Definition → List (Node × Definition) → (Node → Presence V) → (GroupMessage V → Type 0) → List V → Type 0
-SomeWorld {V} lane d past at said list = (w : GroupWorld V) × Coupled lane d past at said list w
+abbrev pub SomeWorld : {V : Type 0} → Groups V → Definition → List (NodeId × Definition) → (NodeId → Presence V) → (GroupMessage V → Type 0) → List V → Type 0
+SomeWorld {V} groups d past at said list = (w : GroupWorld V) × Coupled groups d past at said list w
 
--- what holds of a lane for a definition d: of all cells and messages, and of the world of d once its coordinator was bound
-pub record InLane {V : Type 0} (lane : Lane V) (d : Definition) (past : List (Node × Definition)) (at : Node → Presence V) (said : GroupMessage V → Type 0) (list : List V) : Type 0 where
-  pub ever : (n : Node) (e : Definition) (m : Member V) → at n ≡ There e m → Ever n e past
-  pub quiet : (n : Node) (e : Definition) (m : Member V) → at n ≡ There e m → IsQuiet m ⊎ Ever (lane.leader e) e past
-  pub placed : (n : Node) (e : Definition) (m : Member V) → at n ≡ There e m → IsPlaced lane e n
-  pub shows : (l : GroupMessage V) → said l → Shows lane past l.from l.to l.body
-  pub coupled : Ever (lane.leader d) d past → SomeWorld lane d past at said list
-  pub empty : (list ≡ []) ⊎ Ever (lane.leader d) d past
+-- what holds of such groups for a definition d: of all cells and messages, and of the world of d once its coordinator was bound
+pub record InGroups {V : Type 0} (groups : Groups V) (d : Definition) (past : List (NodeId × Definition)) (at : NodeId → Presence V) (said : GroupMessage V → Type 0) (list : List V) : Type 0 where
+  pub ever : (n : NodeId) (e : Definition) (m : Member V) → at n ≡ There e m → Ever n e past
+  pub quiet : (n : NodeId) (e : Definition) (m : Member V) → at n ≡ There e m → IsQuiet m ⊎ Ever (groups.leader e) e past
+  pub placed : (n : NodeId) (e : Definition) (m : Member V) → at n ≡ There e m → IsPlaced groups e n
+  pub shows : (l : GroupMessage V) → said l → Shows groups past l.from l.to l.body
+  pub coupled : Ever (groups.leader d) d past → SomeWorld groups d past at said list
+  pub empty : (list ≡ []) ⊎ Ever (groups.leader d) d past
 
 -- the messages of a plan
-abbrev pub IsMessageOf : {V : Type 0} → Node → Definition → Node → List (ℕ × CommitMsg V) → GroupMessage V → Type 0
+abbrev pub IsMessageOf : {V : Type 0} → NodeId → Definition → NodeId → List (ℕ × CommitMsg V) → GroupMessage V → Type 0
 IsMessageOf n d back [] l = ⊥
 IsMessageOf n d back (s ∷ ss) l = (l ≡ record { from = n; to = node_or d.members back s.0; body = s.1 }) ⊎ IsMessageOf n d back ss l
 
@@ -128,7 +128,7 @@ IsByRule g new q (msg.Vote gen r true) = (gen ≡ g.generation) × (q ≡ g.coor
 IsByRule g new q _ = Unit {0}
 
 -- each message of a plan comes from one of its sends
-pub message-by_rule : {V : Type 0} (P : ℕ → CommitMsg V → Type 0) (n : Node) (d : Definition) (back : Node) (ss : List (ℕ × CommitMsg V)) (l : GroupMessage V) → AllPosts P ss → IsMessageOf n d back ss l → (q : ℕ) × P q l.body × (l.from ≡ n) × (l.to ≡ node_or d.members back q)
+pub message-by_rule : {V : Type 0} (P : ℕ → CommitMsg V → Type 0) (n : NodeId) (d : Definition) (back : NodeId) (ss : List (ℕ × CommitMsg V)) (l : GroupMessage V) → AllPosts P ss → IsMessageOf n d back ss l → (q : ℕ) × P q l.body × (l.from ≡ n) × (l.to ≡ node_or d.members back q)
 message-by_rule P n d back [] l a i = absurd i
 message-by_rule {V} P n d back (s ∷ ss) l a (inl e) = (s.0, subst (λ (z : GroupMessage V). P s.0 z.body) (sym e) a.0, ap (λ (z : GroupMessage V). z.from) e, ap (λ (z : GroupMessage V). z.to) e)
 message-by_rule P n d back (s ∷ ss) l a (inr i) = message-by_rule P n d back ss l a.1 i
@@ -139,7 +139,7 @@ says-more i x [] olds h = h
 says-more i x (s ∷ ss) olds h = inr (says-more i x ss olds h)
 
 -- the messages of a plan are said with it
-pub message-says : {V : Type 0} (n : Node) (d : Definition) (back : Node) (p : ℕ) (ss : List (ℕ × CommitMsg V)) (olds : List (GroupSent V)) (l : GroupMessage V) → IsMessageOf n d back ss l → Says p l.body (group_posted p ss ++ olds)
+pub message-says : {V : Type 0} (n : NodeId) (d : Definition) (back : NodeId) (p : ℕ) (ss : List (ℕ × CommitMsg V)) (olds : List (GroupSent V)) (l : GroupMessage V) → IsMessageOf n d back ss l → Says p l.body (group_posted p ss ++ olds)
 message-says n d back p [] olds l i = absurd i
 message-says {V} n d back p (s ∷ ss) olds l (inl e) = inl (refl, ap (λ (z : GroupMessage V). z.body) e)
 message-says n d back p (s ∷ ss) olds l (inr i) = inr (message-says n d back p ss olds l i)
@@ -163,33 +163,33 @@ says-said {V} g w i x a h n =
     subst (λ (y : CommitMsg V). Said (lead (w.at g.coordinator)) (seat (w.at i)) y) (sym k.3) (subst (λ (j : ℕ). Said (lead (w.at g.coordinator)) (seat (w.at j)) k.0.message) (sym k.2) (a.said k.0 k.1 (λ q. n (k.2 ∙ q))))
 
 -- a message of another kind is anybody's
-pub told-by : {V : Type 0} (lane : Lane V) (d : Definition) (l : Lead V) (from to : Node) (x : CommitMsg V) → generation_of x ≡ d.generation → from ≡ lane.leader d → (Matters lane d from to x → Told l x) → Told l x
-told-by lane d l from to (msg.VoteRequest gen r place v) g e h = h (e, g)
-told-by lane d l from to (msg.Decision gen r commit) g e h = h (e, g)
-told-by lane d l from to _ g e h = tt
+pub told-by : {V : Type 0} (groups : Groups V) (d : Definition) (l : Lead V) (from to : NodeId) (x : CommitMsg V) → generation_of x ≡ d.generation → from ≡ groups.leader d → (Matters groups d from to x → Told l x) → Told l x
+told-by groups d l from to (msg.VoteRequest gen r place v) g e h = h (e, g)
+told-by groups d l from to (msg.Decision gen r commit) g e h = h (e, g)
+told-by groups d l from to _ g e h = tt
 
 -- a message to the coordinator that matters, or any other one
-pub said-by : {V : Type 0} (lane : Lane V) (d : Definition) (l : Lead V) (s : Seat V) (from to : Node) (x : CommitMsg V) → generation_of x ≡ d.generation → to ≡ lane.leader d → (Matters lane d from to x → Said l s x) → Said l s x
-said-by lane d l s from to (msg.Vote gen r true) g e h = h (e, g)
-said-by lane d l s from to _ g e h = tt
+pub said-by : {V : Type 0} (groups : Groups V) (d : Definition) (l : Lead V) (s : Seat V) (from to : NodeId) (x : CommitMsg V) → generation_of x ≡ d.generation → to ≡ groups.leader d → (Matters groups d from to x → Said l s x) → Said l s x
+said-by groups d l s from to (msg.Vote gen r true) g e h = h (e, g)
+said-by groups d l s from to _ g e h = tt
 
 -- an event that may happen at a cell that is bound to d: a message was sent to it by another node, and has its generation
-abbrev pub MayHear : {V : Type 0} → Definition → (GroupMessage V → Type 0) → Node → Node → GroupEvent V → Type 0
+abbrev pub MayHear : {V : Type 0} → Definition → (GroupMessage V → Type 0) → NodeId → NodeId → GroupEvent V → Type 0
 MayHear d said n back (event.From s x) = (s ≡ position d.members back) × said (record { from = back; to = n; body = x }) × (generation_of x ≡ d.generation) × (back ≢ n)
 MayHear d said n back _ = Unit {0}
 
 -- what may be heard at a cell may happen in the coupled world
-pub may-happen : {V : Type 0} (lane : Lane V) (d : Definition) (past : List (Node × Definition)) (at : Node → Presence V) (said : GroupMessage V → Type 0) (list : List V) (w : GroupWorld V) (n back : Node) (e : GroupEvent V) → IsPlaced lane d n → Coupled lane d past at said list w → MayHear d said n back e → MayHappen (group_of lane d) w (position d.members n) e
-may-happen {V} lane d past at said list w n back (event.From s x) p c h = subst (λ (i : ℕ). MayCome (group_of lane d) w (position d.members n) i x) (sym h.0) (record {
+pub may-happen : {V : Type 0} (groups : Groups V) (d : Definition) (past : List (NodeId × Definition)) (at : NodeId → Presence V) (said : GroupMessage V → Type 0) (list : List V) (w : GroupWorld V) (n back : NodeId) (e : GroupEvent V) → IsPlaced groups d n → Coupled groups d past at said list w → MayHear d said n back e → MayHappen (group_of groups d) w (position d.members n) e
+may-happen {V} groups d past at said list w n back (event.From s x) p c h = subst (λ (i : ℕ). MayCome (group_of groups d) w (position d.members n) i x) (sym h.0) (record {
   other = λ q. h.3 (sym (position-apart d.members n back p.few p.here (sym q)));
   told = λ q.
-      let same : back ≡ lane.leader d = sym (position-apart d.members (lane.leader d) back p.few p.leads (sym q)) in
-      told-by lane d (lead (w.at (position d.members (lane.leader d)))) back n x h.2 same (λ k. says-told (group_of lane d) w (position d.members back) x c.agrees (c.known (record { from = back; to = n; body = x }) h.1 k) q);
+      let same : back ≡ groups.leader d = sym (position-apart d.members (groups.leader d) back p.few p.leads (sym q)) in
+      told-by groups d (lead (w.at (position d.members (groups.leader d)))) back n x h.2 same (λ k. says-told (group_of groups d) w (position d.members back) x c.agrees (c.known (record { from = back; to = n; body = x }) h.1 k) q);
   said = λ mine l other.
-      let same : n ≡ lane.leader d = position-apart d.members n (lane.leader d) p.few p.here mine in
-      said-by lane d (lead (w.at (position d.members (lane.leader d)))) (seat (w.at (position d.members back))) back n x h.2 same (λ k. says-said (group_of lane d) w (position d.members back) x c.agrees (c.known (record { from = back; to = n; body = x }) h.1 k) other);
+      let same : n ≡ groups.leader d = position-apart d.members n (groups.leader d) p.few p.here mine in
+      said-by groups d (lead (w.at (position d.members (groups.leader d)))) (seat (w.at (position d.members back))) back n x h.2 same (λ k. says-said (group_of groups d) w (position d.members back) x c.agrees (c.known (record { from = back; to = n; body = x }) h.1 k) other);
 })
-may-happen lane d past at said list w n back _ p c h = tt
+may-happen groups d past at said list w n back _ p c h = tt
 
 -- what changes do to a history
 abbrev pub all_committed : {V : Type 0} → List (GroupChange V) → List V
@@ -220,85 +220,85 @@ pub there_is : {V : Type 0} (d e : Definition) (m k : Member V) → There d m �
 there_is d e m k h = (cc, cc)
 
 -- a row at a cell that is bound to d
-pub coupled-row : {V : Type 0} (lane : Lane V) (d : Definition) (past : List (Node × Definition)) (at at2 : Node → Presence V) (said said2 : GroupMessage V → Type 0) (list more : List V) (w : GroupWorld V) (n back : Node) (e : GroupEvent V) → Ever n d past → IsPlaced lane d n → MayHear d said n back e
-    → AllGood (lane.rules d) [] (values (after (group_of lane d) (position d.members n) (w.at (position d.members n)) (row (group_of lane d) (position d.members n) (w.at (position d.members n)) e)).history)
-    → at2 n ≡ There d (after (group_of lane d) (position d.members n) (w.at (position d.members n)) (row (group_of lane d) (position d.members n) (w.at (position d.members n)) e))
-    → ((k : Node) → k ≢ n → at2 k ≡ at k)
-    → ((l : GroupMessage V) → said2 l → said l ⊎ IsMessageOf n d back (row (group_of lane d) (position d.members n) (w.at (position d.members n)) e).sends l)
-    → (n ≡ lane.leader d → more ≡ all_committed (row (group_of lane d) (position d.members n) (w.at (position d.members n)) e).changes)
-    → (n ≢ lane.leader d → more ≡ [])
-    → Coupled lane d past at said list w → Coupled lane d past at2 said2 (list ++ more) (group_carried_out (group_of lane d) w (position d.members n) (row (group_of lane d) (position d.members n) (w.at (position d.members n)) e))
-coupled-row {V} lane d past at at2 said said2 list more w n back e ever p may sound new others messages leads follows c = record {
-  agrees = agrees-row g w i e p.here (may-happen lane d past at said list w n back e p c may) c.agrees;
+pub coupled-row : {V : Type 0} (groups : Groups V) (d : Definition) (past : List (NodeId × Definition)) (at at2 : NodeId → Presence V) (said said2 : GroupMessage V → Type 0) (list more : List V) (w : GroupWorld V) (n back : NodeId) (e : GroupEvent V) → Ever n d past → IsPlaced groups d n → MayHear d said n back e
+    → AllGood (groups.rules d) [] (values (after (group_of groups d) (position d.members n) (w.at (position d.members n)) (row (group_of groups d) (position d.members n) (w.at (position d.members n)) e)).history)
+    → at2 n ≡ There d (after (group_of groups d) (position d.members n) (w.at (position d.members n)) (row (group_of groups d) (position d.members n) (w.at (position d.members n)) e))
+    → ((k : NodeId) → k ≢ n → at2 k ≡ at k)
+    → ((l : GroupMessage V) → said2 l → said l ⊎ IsMessageOf n d back (row (group_of groups d) (position d.members n) (w.at (position d.members n)) e).sends l)
+    → (n ≡ groups.leader d → more ≡ all_committed (row (group_of groups d) (position d.members n) (w.at (position d.members n)) e).changes)
+    → (n ≢ groups.leader d → more ≡ [])
+    → Coupled groups d past at said list w → Coupled groups d past at2 said2 (list ++ more) (group_carried_out (group_of groups d) w (position d.members n) (row (group_of groups d) (position d.members n) (w.at (position d.members n)) e))
+coupled-row {V} groups d past at at2 said said2 list more w n back e ever p may sound new others messages leads follows c = record {
+  agrees = agrees-row g w i e p.here (may-happen groups d past at said list w n back e p c may) c.agrees;
   there = there;
   never = never;
   known = known;
   listed = listed;
-  good = good (node_cases n (lane.leader d));
+  good = good (node_cases n (groups.leader d));
 }
   where
     g : Group V
-    g = group_of lane d
+    g = group_of groups d
 
     i : ℕ
     i = position d.members n
 
     plan : GroupPlan V
-    plan = row (group_of lane d) (position d.members n) (w.at (position d.members n)) e
+    plan = row (group_of groups d) (position d.members n) (w.at (position d.members n)) e
 
     m2 : Member V
     m2 = after g i (w.at i) plan
 
-    there : (k : Node) (m : Member V) → at2 k ≡ There d m → put w.at i m2 (position d.members k) ≡ m
+    there : (k : NodeId) (m : Member V) → at2 k ≡ There d m → put w.at i m2 (position d.members k) ≡ m
     there k m is = go (node_cases k n)
       where
         go : (k ≡ n) ⊎ (k ≢ n) → put w.at i m2 (position d.members k) ≡ m
-        go (inl q) = subst (λ (z : Node). put w.at i m2 (position d.members z) ≡ m) (sym q) (put-same w.at i m2 ∙ (there_is d d m2 m (sym new ∙ subst (λ (z : Node). at2 z ≡ There d m) q is)).1)
+        go (inl q) = subst (λ (z : NodeId). put w.at i m2 (position d.members z) ≡ m) (sym q) (put-same w.at i m2 ∙ (there_is d d m2 m (sym new ∙ subst (λ (z : NodeId). at2 z ≡ There d m) q is)).1)
         go (inr q) = put-other w.at i m2 (position d.members k) (λ x. q (sym (position-apart d.members n k p.few p.here (sym x)))) ∙ c.there k m (sym (others k q) ∙ is)
 
-    never : (k : Node) → position d.members k < length d.members → (put w.at i m2 (position d.members k) ≡ new_member) ⊎ Ever k d past
+    never : (k : NodeId) → position d.members k < length d.members → (put w.at i m2 (position d.members k) ≡ new_member) ⊎ Ever k d past
     never k l = go (node_cases k n) (c.never k l)
       where
         go : (k ≡ n) ⊎ (k ≢ n) → (w.at (position d.members k) ≡ new_member) ⊎ Ever k d past → (put w.at i m2 (position d.members k) ≡ new_member) ⊎ Ever k d past
-        go (inl q) x = inr (subst (λ (z : Node). Ever z d past) (sym q) ever)
+        go (inl q) x = inr (subst (λ (z : NodeId). Ever z d past) (sym q) ever)
         go (inr q) (inl x) = inl (put-other w.at i m2 (position d.members k) (λ y. q (sym (position-apart d.members n k p.few p.here (sym y)))) ∙ x)
         go (inr q) (inr x) = inr x
 
-    known : (l : GroupMessage V) → said2 l → Matters lane d l.from l.to l.body → Says (position d.members l.from) l.body (group_posted i plan.sends ++ w.sent)
+    known : (l : GroupMessage V) → said2 l → Matters groups d l.from l.to l.body → Says (position d.members l.from) l.body (group_posted i plan.sends ++ w.sent)
     known l s k = go (messages l s)
       where
         go : said l ⊎ IsMessageOf n d back plan.sends l → Says (position d.members l.from) l.body (group_posted i plan.sends ++ w.sent)
         go (inl x) = says-more (position d.members l.from) l.body (group_posted i plan.sends) w.sent (c.known l x k)
-        go (inr x) = subst (λ (z : Node). Says (position d.members z) l.body (group_posted i plan.sends ++ w.sent)) (sym (from_is plan.sends x)) (message-says n d back i plan.sends w.sent l x)
+        go (inr x) = subst (λ (z : NodeId). Says (position d.members z) l.body (group_posted i plan.sends ++ w.sent)) (sym (from_is plan.sends x)) (message-says n d back i plan.sends w.sent l x)
           where
             from_is : (ss : List (ℕ × CommitMsg V)) → IsMessageOf n d back ss l → l.from ≡ n
             from_is [] y = absurd y
             from_is (t ∷ ts) (inl y) = ap (λ (z : GroupMessage V). z.from) y
             from_is (t ∷ ts) (inr y) = from_is ts y
 
-    listed : values (put w.at i m2 (position d.members (lane.leader d))).history ≡ list ++ more
-    listed = go (node_cases n (lane.leader d))
+    listed : values (put w.at i m2 (position d.members (groups.leader d))).history ≡ list ++ more
+    listed = go (node_cases n (groups.leader d))
       where
-        go : (n ≡ lane.leader d) ⊎ (n ≢ lane.leader d) → values (put w.at i m2 (position d.members (lane.leader d))).history ≡ list ++ more
+        go : (n ≡ groups.leader d) ⊎ (n ≢ groups.leader d) → values (put w.at i m2 (position d.members (groups.leader d))).history ≡ list ++ more
         go (inl q) =
-            ap (λ (z : Member V). values z.history) (subst (λ (z : Node). put w.at i m2 (position d.members z) ≡ m2) q (put-same w.at i m2))
-            ∙ (history-after g i (w.at i) plan ∙ (ap (λ (z : List V). z ++ all_committed plan.changes) (subst (λ (z : Node). values (w.at (position d.members z)).history ≡ list) (sym q) c.listed) ∙ ap (λ (z : List V). list ++ z) (sym (leads q))))
+            ap (λ (z : Member V). values z.history) (subst (λ (z : NodeId). put w.at i m2 (position d.members z) ≡ m2) q (put-same w.at i m2))
+            ∙ (history-after g i (w.at i) plan ∙ (ap (λ (z : List V). z ++ all_committed plan.changes) (subst (λ (z : NodeId). values (w.at (position d.members z)).history ≡ list) (sym q) c.listed) ∙ ap (λ (z : List V). list ++ z) (sym (leads q))))
         go (inr q) =
-            ap (λ (z : Member V). values z.history) (put-other w.at i m2 (position d.members (lane.leader d)) (λ y. q (position-apart d.members n (lane.leader d) p.few p.here (sym y))))
+            ap (λ (z : Member V). values z.history) (put-other w.at i m2 (position d.members (groups.leader d)) (λ y. q (position-apart d.members n (groups.leader d) p.few p.here (sym y))))
             ∙ (c.listed ∙ (sym (append-nil _) ∙ ap (λ (z : List V). list ++ z) (sym (follows q))))
 
-    good : (n ≡ lane.leader d) ⊎ (n ≢ lane.leader d) → AllGood (lane.rules d) [] (list ++ more)
-    good (inl q) = subst (λ (z : List V). AllGood (lane.rules d) [] z) (ap (λ (z : Member V). values z.history) (sym (subst (λ (z : Node). put w.at i m2 (position d.members z) ≡ m2) q (put-same w.at i m2))) ∙ listed) sound
-    good (inr q) = subst (λ (z : List V). AllGood (lane.rules d) [] z) (sym (append-nil _) ∙ ap (λ (z : List V). list ++ z) (sym (follows q))) c.good
+    good : (n ≡ groups.leader d) ⊎ (n ≢ groups.leader d) → AllGood (groups.rules d) [] (list ++ more)
+    good (inl q) = subst (λ (z : List V). AllGood (groups.rules d) [] z) (ap (λ (z : Member V). values z.history) (sym (subst (λ (z : NodeId). put w.at i m2 (position d.members z) ≡ m2) q (put-same w.at i m2))) ∙ listed) sound
+    good (inr q) = subst (λ (z : List V). AllGood (groups.rules d) [] z) (sym (append-nil _) ∙ ap (λ (z : List V). list ++ z) (sym (follows q))) c.good
 
 -- a row at a cell that is bound to another definition
-pub coupled-other : {V : Type 0} (lane : Lane V) (d e : Definition) (past : List (Node × Definition)) (at at2 : Node → Presence V) (said said2 : GroupMessage V → Type 0) (list : List V) (w : GroupWorld V) (n back : Node) (ss : List (ℕ × CommitMsg V)) (new : Member V) → d ≢ e → IsOne past → Ever n e past → Ever (lane.leader d) d past → IsPlaced lane e n
-    → (IsQuiet new ⊎ Ever (lane.leader e) e past) → AllPosts (IsByRule (group_of lane e) new) ss
+pub coupled-other : {V : Type 0} (groups : Groups V) (d e : Definition) (past : List (NodeId × Definition)) (at at2 : NodeId → Presence V) (said said2 : GroupMessage V → Type 0) (list : List V) (w : GroupWorld V) (n back : NodeId) (ss : List (ℕ × CommitMsg V)) (new : Member V) → d ≢ e → IsOne past → Ever n e past → Ever (groups.leader d) d past → IsPlaced groups e n
+    → (IsQuiet new ⊎ Ever (groups.leader e) e past) → AllPosts (IsByRule (group_of groups e) new) ss
     → at2 n ≡ There e new
-    → ((k : Node) → k ≢ n → at2 k ≡ at k)
+    → ((k : NodeId) → k ≢ n → at2 k ≡ at k)
     → ((l : GroupMessage V) → said2 l → said l ⊎ IsMessageOf n e back ss l)
-    → Coupled lane d past at said list w → Coupled lane d past at2 said2 list w
-coupled-other {V} lane d e past at at2 said said2 list w n back ss new other law ever led p quiet by_rule is others messages c = record {
+    → Coupled groups d past at said list w → Coupled groups d past at2 said2 list w
+coupled-other {V} groups d e past at at2 said said2 list w n back ss new other law ever led p quiet by_rule is others messages c = record {
   agrees = c.agrees;
   there = there;
   never = c.never;
@@ -307,437 +307,146 @@ coupled-other {V} lane d e past at at2 said said2 list w n back ss new other law
   good = c.good;
 }
   where
-    there : (k : Node) (m : Member V) → at2 k ≡ There d m → w.at (position d.members k) ≡ m
+    there : (k : NodeId) (m : Member V) → at2 k ≡ There d m → w.at (position d.members k) ≡ m
     there k m h = go (node_cases k n)
       where
         go : (k ≡ n) ⊎ (k ≢ n) → w.at (position d.members k) ≡ m
-        go (inl q) = absurd (other (sym (there_is e d new m (sym is ∙ subst (λ (z : Node). at2 z ≡ There d m) q h)).0))
+        go (inl q) = absurd (other (sym (there_is e d new m (sym is ∙ subst (λ (z : NodeId). at2 z ≡ There d m) q h)).0))
         go (inr q) = c.there k m (sym (others k q) ∙ h)
 
-    leads : (z : Node) → z ≡ n → z ≡ lane.leader d → e.generation ≡ d.generation → ⊥
-    leads z q x y = other (law (lane.leader d) d e led (subst (λ (u : Node). Ever u e past) (sym q ∙ x) ever) (sym y))
+    leads : (z : NodeId) → z ≡ n → z ≡ groups.leader d → e.generation ≡ d.generation → ⊥
+    leads z q x y = other (law (groups.leader d) d e led (subst (λ (u : NodeId). Ever u e past) (sym q ∙ x) ever) (sym y))
 
-    ledby : IsQuiet new ⊎ Ever (lane.leader e) e past → (new.promise ≡ None → ⊥) → Ever (lane.leader e) e past
+    ledby : IsQuiet new ⊎ Ever (groups.leader e) e past → (new.promise ≡ None → ⊥) → Ever (groups.leader e) e past
     ledby (inl q) h = absurd (h q.1)
     ledby (inr q) h = q
 
-    no : (q : ℕ) (from to : Node) (x : CommitMsg V) → IsByRule (group_of lane e) new q x → from ≡ n → to ≡ node_or e.members back q → Matters lane d from to x → ⊥
+    no : (q : ℕ) (from to : NodeId) (x : CommitMsg V) → IsByRule (group_of groups e) new q x → from ≡ n → to ≡ node_or e.members back q → Matters groups d from to x → ⊥
     no q from to (msg.VoteRequest gen r place v) f a b h = leads from a h.0 (sym f.0 ∙ h.1)
     no q from to (msg.Decision gen r commit) f a b h = leads from a h.0 (sym f ∙ h.1)
     no q from to (msg.Vote gen r true) f a b h =
-        let x : to ≡ lane.leader e = b ∙ (ap (λ (z : ℕ). node_or e.members back z) f.1 ∙ position-or e.members back (lane.leader e) p.lead_in) in
-        let y : lane.leader e ≡ lane.leader d = sym x ∙ h.0 in
-        other (law (lane.leader d) d e led (subst (λ (z : Node). Ever z e past) y (ledby quiet f.2)) (sym (sym f.0 ∙ h.1)))
+        let x : to ≡ groups.leader e = b ∙ (ap (λ (z : ℕ). node_or e.members back z) f.1 ∙ position-or e.members back (groups.leader e) p.lead_in) in
+        let y : groups.leader e ≡ groups.leader d = sym x ∙ h.0 in
+        other (law (groups.leader d) d e led (subst (λ (z : NodeId). Ever z e past) y (ledby quiet f.2)) (sym (sym f.0 ∙ h.1)))
     no q from to _ f a b h = h
 
-    known : (l : GroupMessage V) → said2 l → Matters lane d l.from l.to l.body → Says (position d.members l.from) l.body w.sent
+    known : (l : GroupMessage V) → said2 l → Matters groups d l.from l.to l.body → Says (position d.members l.from) l.body w.sent
     known l s k = go (messages l s)
       where
         go : said l ⊎ IsMessageOf n e back ss l → Says (position d.members l.from) l.body w.sent
         go (inl x) = c.known l x k
-        go (inr x) = let y : (q : ℕ) × IsByRule (group_of lane e) new q l.body × (l.from ≡ n) × (l.to ≡ node_or e.members back q) = message-by_rule (IsByRule (group_of lane e) new) n e back ss l by_rule x in absurd (no y.0 l.from l.to l.body y.1 y.2 y.3 k)
+        go (inr x) = let y : (q : ℕ) × IsByRule (group_of groups e) new q l.body × (l.from ≡ n) × (l.to ≡ node_or e.members back q) = message-by_rule (IsByRule (group_of groups e) new) n e back ss l by_rule x in absurd (no y.0 l.from l.to l.body y.1 y.2 y.3 k)
 
 -- what the messages of a row show
-pub shows-message : {V : Type 0} (lane : Lane V) (e : Definition) (past : List (Node × Definition)) (n back : Node) (new : Member V) (q : ℕ) (from to : Node) (x : CommitMsg V) → Ever n e past → IsPlaced lane e n → (IsQuiet new ⊎ Ever (lane.leader e) e past) → IsByRule (group_of lane e) new q x → from ≡ n → to ≡ node_or e.members back q → Shows lane past from to x
-shows-message lane e past n back new q from to (msg.VoteRequest gen r place v) ever p quiet f a b = (e, subst (λ (z : Node). Ever z e past) (sym a) ever, sym f.0, f.1)
-shows-message lane e past n back new q from to (msg.Decision gen r commit) ever p quiet f a b = (e, subst (λ (z : Node). Ever z e past) (sym a) ever, sym f)
-shows-message {V} lane e past n back new q from to (msg.Vote gen r true) ever p quiet f a b =
-    let x : to ≡ lane.leader e = b ∙ (ap (λ (z : ℕ). node_or e.members back z) f.1 ∙ position-or e.members back (lane.leader e) p.lead_in) in
-    (e, subst (λ (z : Node). Ever z e past) (sym x) (ledby quiet), sym f.0)
+pub shows-message : {V : Type 0} (groups : Groups V) (e : Definition) (past : List (NodeId × Definition)) (n back : NodeId) (new : Member V) (q : ℕ) (from to : NodeId) (x : CommitMsg V) → Ever n e past → IsPlaced groups e n → (IsQuiet new ⊎ Ever (groups.leader e) e past) → IsByRule (group_of groups e) new q x → from ≡ n → to ≡ node_or e.members back q → Shows groups past from to x
+shows-message groups e past n back new q from to (msg.VoteRequest gen r place v) ever p quiet f a b = (e, subst (λ (z : NodeId). Ever z e past) (sym a) ever, sym f.0, f.1)
+shows-message groups e past n back new q from to (msg.Decision gen r commit) ever p quiet f a b = (e, subst (λ (z : NodeId). Ever z e past) (sym a) ever, sym f)
+shows-message {V} groups e past n back new q from to (msg.Vote gen r true) ever p quiet f a b =
+    let x : to ≡ groups.leader e = b ∙ (ap (λ (z : ℕ). node_or e.members back z) f.1 ∙ position-or e.members back (groups.leader e) p.lead_in) in
+    (e, subst (λ (z : NodeId). Ever z e past) (sym x) (ledby quiet), sym f.0)
   where
-    ledby : IsQuiet new ⊎ Ever (lane.leader e) e past → Ever (lane.leader e) e past
+    ledby : IsQuiet new ⊎ Ever (groups.leader e) e past → Ever (groups.leader e) e past
     ledby (inl q) = absurd (f.2 q.1)
     ledby (inr q) = q
-shows-message lane e past n back new q from to (msg.Vote gen r false) ever p quiet f a b = tt
-shows-message lane e past n back new q from to _ ever p quiet f a b = tt
+shows-message groups e past n back new q from to (msg.Vote gen r false) ever p quiet f a b = tt
+shows-message groups e past n back new q from to _ ever p quiet f a b = tt
 
 -- the member after a row at a cell
-abbrev pub after_row : {V : Type 0} → Lane V → Definition → Node → Member V → GroupEvent V → Member V
-after_row lane e n m ev = after (group_of lane e) (position e.members n) m (row (group_of lane e) (position e.members n) m ev)
+abbrev pub after_row : {V : Type 0} → Groups V → Definition → NodeId → Member V → GroupEvent V → Member V
+after_row groups e n m ev = after (group_of groups e) (position e.members n) m (row (group_of groups e) (position e.members n) m ev)
 
 -- the plan of a row at a cell
-abbrev pub plan_row : {V : Type 0} → Lane V → Definition → Node → Member V → GroupEvent V → GroupPlan V
-plan_row lane e n m ev = row (group_of lane e) (position e.members n) m ev
+abbrev pub plan_row : {V : Type 0} → Groups V → Definition → NodeId → Member V → GroupEvent V → GroupPlan V
+plan_row groups e n m ev = row (group_of groups e) (position e.members n) m ev
 
 -- any row
-pub lane-row : {V : Type 0} (lane : Lane V) (d e : Definition) (past : List (Node × Definition)) (at at2 : Node → Presence V) (said said2 : GroupMessage V → Type 0) (list more : List V) (n back : Node) (m : Member V) (ev : GroupEvent V) → IsOne past
+pub groups-row : {V : Type 0} (groups : Groups V) (d e : Definition) (past : List (NodeId × Definition)) (at at2 : NodeId → Presence V) (said said2 : GroupMessage V → Type 0) (list more : List V) (n back : NodeId) (m : Member V) (ev : GroupEvent V) → IsOne past
     → at n ≡ There e m → MayHear e said n back ev
-    → AllGood (lane.rules e) [] (values (after_row lane e n m ev).history)
-    → (IsQuiet (after_row lane e n m ev) ⊎ Ever (lane.leader e) e past)
-    → AllPosts (IsByRule (group_of lane e) (after_row lane e n m ev)) (plan_row lane e n m ev).sends
-    → at2 n ≡ There e (after_row lane e n m ev)
-    → ((k : Node) → k ≢ n → at2 k ≡ at k)
-    → ((l : GroupMessage V) → said2 l → said l ⊎ IsMessageOf n e back (plan_row lane e n m ev).sends l)
-    → (e ≡ d → n ≡ lane.leader d → more ≡ all_committed (plan_row lane e n m ev).changes)
-    → ((e ≢ d) ⊎ (n ≢ lane.leader d) → more ≡ [])
-    → InLane lane d past at said list → InLane lane d past at2 said2 (list ++ more)
-lane-row {V} lane d e past at at2 said said2 list more n back m ev law is may sound quiet by_rule new others messages leads follows c = record {
+    → AllGood (groups.rules e) [] (values (after_row groups e n m ev).history)
+    → (IsQuiet (after_row groups e n m ev) ⊎ Ever (groups.leader e) e past)
+    → AllPosts (IsByRule (group_of groups e) (after_row groups e n m ev)) (plan_row groups e n m ev).sends
+    → at2 n ≡ There e (after_row groups e n m ev)
+    → ((k : NodeId) → k ≢ n → at2 k ≡ at k)
+    → ((l : GroupMessage V) → said2 l → said l ⊎ IsMessageOf n e back (plan_row groups e n m ev).sends l)
+    → (e ≡ d → n ≡ groups.leader d → more ≡ all_committed (plan_row groups e n m ev).changes)
+    → ((e ≢ d) ⊎ (n ≢ groups.leader d) → more ≡ [])
+    → InGroups groups d past at said list → InGroups groups d past at2 said2 (list ++ more)
+groups-row {V} groups d e past at at2 said said2 list more n back m ev law is may sound quiet by_rule new others messages leads follows c = record {
   ever = ever;
   quiet = quiets;
   placed = placed;
   shows = shows;
   coupled = λ led. coupled led (definition_cases d e);
-  empty = empty (definition_cases d e) (node_cases n (lane.leader d));
+  empty = empty (definition_cases d e) (node_cases n (groups.leader d));
 }
   where
     bound : Ever n e past
     bound = c.ever n e m is
 
-    spot : IsPlaced lane e n
+    spot : IsPlaced groups e n
     spot = c.placed n e m is
 
-    split : (P : Node → Definition → Member V → Type 0) → P n e (after_row lane e n m ev) → ((k : Node) (f : Definition) (x : Member V) → at k ≡ There f x → P k f x) → (k : Node) (f : Definition) (x : Member V) → at2 k ≡ There f x → P k f x
+    split : (P : NodeId → Definition → Member V → Type 0) → P n e (after_row groups e n m ev) → ((k : NodeId) (f : Definition) (x : Member V) → at k ≡ There f x → P k f x) → (k : NodeId) (f : Definition) (x : Member V) → at2 k ≡ There f x → P k f x
     split P mine old k f x h = go (node_cases k n)
       where
         go : (k ≡ n) ⊎ (k ≢ n) → P k f x
-        go (inl q) = let y : (e ≡ f) × (after_row lane e n m ev ≡ x) = there_is e f (after_row lane e n m ev) x (sym new ∙ subst (λ (z : Node). at2 z ≡ There f x) q h) in
-            subst (λ (z : Node). P z f x) (sym q) (subst (λ (z : Definition). P n z x) y.0 (subst (λ (z : Member V). P n e z) y.1 mine))
+        go (inl q) = let y : (e ≡ f) × (after_row groups e n m ev ≡ x) = there_is e f (after_row groups e n m ev) x (sym new ∙ subst (λ (z : NodeId). at2 z ≡ There f x) q h) in
+            subst (λ (z : NodeId). P z f x) (sym q) (subst (λ (z : Definition). P n z x) y.0 (subst (λ (z : Member V). P n e z) y.1 mine))
         go (inr q) = old k f x (sym (others k q) ∙ h)
 
-    ever : (k : Node) (f : Definition) (x : Member V) → at2 k ≡ There f x → Ever k f past
+    ever : (k : NodeId) (f : Definition) (x : Member V) → at2 k ≡ There f x → Ever k f past
     ever = split (λ k f x. Ever k f past) bound c.ever
 
-    quiets : (k : Node) (f : Definition) (x : Member V) → at2 k ≡ There f x → IsQuiet x ⊎ Ever (lane.leader f) f past
-    quiets = split (λ k f x. IsQuiet x ⊎ Ever (lane.leader f) f past) quiet c.quiet
+    quiets : (k : NodeId) (f : Definition) (x : Member V) → at2 k ≡ There f x → IsQuiet x ⊎ Ever (groups.leader f) f past
+    quiets = split (λ k f x. IsQuiet x ⊎ Ever (groups.leader f) f past) quiet c.quiet
 
-    placed : (k : Node) (f : Definition) (x : Member V) → at2 k ≡ There f x → IsPlaced lane f k
-    placed = split (λ k f x. IsPlaced lane f k) spot c.placed
+    placed : (k : NodeId) (f : Definition) (x : Member V) → at2 k ≡ There f x → IsPlaced groups f k
+    placed = split (λ k f x. IsPlaced groups f k) spot c.placed
 
-    shows : (l : GroupMessage V) → said2 l → Shows lane past l.from l.to l.body
+    shows : (l : GroupMessage V) → said2 l → Shows groups past l.from l.to l.body
     shows l s = go (messages l s)
       where
-        go : said l ⊎ IsMessageOf n e back (plan_row lane e n m ev).sends l → Shows lane past l.from l.to l.body
+        go : said l ⊎ IsMessageOf n e back (plan_row groups e n m ev).sends l → Shows groups past l.from l.to l.body
         go (inl x) = c.shows l x
-        go (inr x) = let y : (q : ℕ) × IsByRule (group_of lane e) (after_row lane e n m ev) q l.body × (l.from ≡ n) × (l.to ≡ node_or e.members back q) = message-by_rule (IsByRule (group_of lane e) (after_row lane e n m ev)) n e back (plan_row lane e n m ev).sends l by_rule x in
-            shows-message lane e past n back (after_row lane e n m ev) y.0 l.from l.to l.body bound spot quiet y.1 y.2 y.3
+        go (inr x) = let y : (q : ℕ) × IsByRule (group_of groups e) (after_row groups e n m ev) q l.body × (l.from ≡ n) × (l.to ≡ node_or e.members back q) = message-by_rule (IsByRule (group_of groups e) (after_row groups e n m ev)) n e back (plan_row groups e n m ev).sends l by_rule x in
+            shows-message groups e past n back (after_row groups e n m ev) y.0 l.from l.to l.body bound spot quiet y.1 y.2 y.3
 
-    empty : (d ≡ e) ⊎ (d ≢ e) → (n ≡ lane.leader d) ⊎ (n ≢ lane.leader d) → (list ++ more ≡ []) ⊎ Ever (lane.leader d) d past
-    empty (inl q) (inl x) = inr (subst (λ (z : Node). Ever z d past) x (subst (λ (z : Definition). Ever n z past) (sym q) bound))
+    empty : (d ≡ e) ⊎ (d ≢ e) → (n ≡ groups.leader d) ⊎ (n ≢ groups.leader d) → (list ++ more ≡ []) ⊎ Ever (groups.leader d) d past
+    empty (inl q) (inl x) = inr (subst (λ (z : NodeId). Ever z d past) x (subst (λ (z : Definition). Ever n z past) (sym q) bound))
     empty (inl q) (inr x) = still c.empty (follows (inr x))
       where
-        still : (list ≡ []) ⊎ Ever (lane.leader d) d past → more ≡ [] → (list ++ more ≡ []) ⊎ Ever (lane.leader d) d past
+        still : (list ≡ []) ⊎ Ever (groups.leader d) d past → more ≡ [] → (list ++ more ≡ []) ⊎ Ever (groups.leader d) d past
         still (inl y) z = inl (rw (y, z))
         still (inr y) z = inr y
     empty (inr q) x = still c.empty (follows (inl (λ y. q (sym y))))
       where
-        still : (list ≡ []) ⊎ Ever (lane.leader d) d past → more ≡ [] → (list ++ more ≡ []) ⊎ Ever (lane.leader d) d past
+        still : (list ≡ []) ⊎ Ever (groups.leader d) d past → more ≡ [] → (list ++ more ≡ []) ⊎ Ever (groups.leader d) d past
         still (inl y) z = inl (rw (y, z))
         still (inr y) z = inr y
 
-    mine : (f : Definition) → f ≡ d → Ever (lane.leader d) d past → at n ≡ There f m → MayHear f said n back ev → Ever n f past → IsPlaced lane f n
-        → at2 n ≡ There f (after_row lane f n m ev) → ((l : GroupMessage V) → said2 l → said l ⊎ IsMessageOf n f back (plan_row lane f n m ev).sends l)
-        → (n ≡ lane.leader d → more ≡ all_committed (plan_row lane f n m ev).changes) → (n ≢ lane.leader d → more ≡ [])
-        → AllGood (lane.rules f) [] (values (after_row lane f n m ev).history)
-        → SomeWorld lane d past at2 said2 (list ++ more)
+    mine : (f : Definition) → f ≡ d → Ever (groups.leader d) d past → at n ≡ There f m → MayHear f said n back ev → Ever n f past → IsPlaced groups f n
+        → at2 n ≡ There f (after_row groups f n m ev) → ((l : GroupMessage V) → said2 l → said l ⊎ IsMessageOf n f back (plan_row groups f n m ev).sends l)
+        → (n ≡ groups.leader d → more ≡ all_committed (plan_row groups f n m ev).changes) → (n ≢ groups.leader d → more ≡ [])
+        → AllGood (groups.rules f) [] (values (after_row groups f n m ev).history)
+        → SomeWorld groups d past at2 said2 (list ++ more)
     mine f q led h1 h2 h3 h4 h5 h6 h7 h8 h9 =
-        let old : SomeWorld lane d past at said list = c.coupled led in
+        let old : SomeWorld groups d past at said list = c.coupled led in
         let same : old.0.at (position d.members n) ≡ m = old.1.there n m (subst (λ (z : Definition). at n ≡ There z m) q h1) in
         let g1 : MayHear d said n back ev = subst (λ (z : Definition). MayHear z said n back ev) q h2 in
-        let g2 : at2 n ≡ There d (after_row lane d n (old.0.at (position d.members n)) ev) = subst (λ (y : Member V). at2 n ≡ There d (after_row lane d n y ev)) (sym same) (subst (λ (z : Definition). at2 n ≡ There z (after_row lane z n m ev)) q h5) in
-        let g3 : ((l : GroupMessage V) → said2 l → said l ⊎ IsMessageOf n d back (plan_row lane d n (old.0.at (position d.members n)) ev).sends l) = subst (λ (y : Member V). (l : GroupMessage V) → said2 l → said l ⊎ IsMessageOf n d back (plan_row lane d n y ev).sends l) (sym same) (subst (λ (z : Definition). (l : GroupMessage V) → said2 l → said l ⊎ IsMessageOf n z back (plan_row lane z n m ev).sends l) q h6) in
-        let g4 : (n ≡ lane.leader d → more ≡ all_committed (plan_row lane d n (old.0.at (position d.members n)) ev).changes) = subst (λ (y : Member V). n ≡ lane.leader d → more ≡ all_committed (plan_row lane d n y ev).changes) (sym same) (subst (λ (z : Definition). n ≡ lane.leader d → more ≡ all_committed (plan_row lane z n m ev).changes) q h7) in
-        let g5 : AllGood (lane.rules d) [] (values (after_row lane d n (old.0.at (position d.members n)) ev).history) = subst (λ (y : Member V). AllGood (lane.rules d) [] (values (after_row lane d n y ev).history)) (sym same) (subst (λ (z : Definition). AllGood (lane.rules z) [] (values (after_row lane z n m ev).history)) q h9) in (
-          group_carried_out (group_of lane d) old.0 (position d.members n) (plan_row lane d n (old.0.at (position d.members n)) ev),
-          coupled-row lane d past at at2 said said2 list more old.0 n back ev (subst (λ (z : Definition). Ever n z past) q h3) (subst (λ (z : Definition). IsPlaced lane z n) q h4) g1 g5 g2 others g3 g4 h8 old.1,
+        let g2 : at2 n ≡ There d (after_row groups d n (old.0.at (position d.members n)) ev) = subst (λ (y : Member V). at2 n ≡ There d (after_row groups d n y ev)) (sym same) (subst (λ (z : Definition). at2 n ≡ There z (after_row groups z n m ev)) q h5) in
+        let g3 : ((l : GroupMessage V) → said2 l → said l ⊎ IsMessageOf n d back (plan_row groups d n (old.0.at (position d.members n)) ev).sends l) = subst (λ (y : Member V). (l : GroupMessage V) → said2 l → said l ⊎ IsMessageOf n d back (plan_row groups d n y ev).sends l) (sym same) (subst (λ (z : Definition). (l : GroupMessage V) → said2 l → said l ⊎ IsMessageOf n z back (plan_row groups z n m ev).sends l) q h6) in
+        let g4 : (n ≡ groups.leader d → more ≡ all_committed (plan_row groups d n (old.0.at (position d.members n)) ev).changes) = subst (λ (y : Member V). n ≡ groups.leader d → more ≡ all_committed (plan_row groups d n y ev).changes) (sym same) (subst (λ (z : Definition). n ≡ groups.leader d → more ≡ all_committed (plan_row groups z n m ev).changes) q h7) in
+        let g5 : AllGood (groups.rules d) [] (values (after_row groups d n (old.0.at (position d.members n)) ev).history) = subst (λ (y : Member V). AllGood (groups.rules d) [] (values (after_row groups d n y ev).history)) (sym same) (subst (λ (z : Definition). AllGood (groups.rules z) [] (values (after_row groups z n m ev).history)) q h9) in (
+          group_carried_out (group_of groups d) old.0 (position d.members n) (plan_row groups d n (old.0.at (position d.members n)) ev),
+          coupled-row groups d past at at2 said said2 list more old.0 n back ev (subst (λ (z : Definition). Ever n z past) q h3) (subst (λ (z : Definition). IsPlaced groups z n) q h4) g1 g5 g2 others g3 g4 h8 old.1,
         )
 
-    coupled : Ever (lane.leader d) d past → (d ≡ e) ⊎ (d ≢ e) → SomeWorld lane d past at2 said2 (list ++ more)
+    coupled : Ever (groups.leader d) d past → (d ≡ e) ⊎ (d ≢ e) → SomeWorld groups d past at2 said2 (list ++ more)
     coupled led (inl q) = mine e (sym q) led is may bound spot new messages (leads (sym q)) (λ x. follows (inr x)) sound
     coupled led (inr q) =
-        let old : SomeWorld lane d past at said list = c.coupled led in
+        let old : SomeWorld groups d past at said list = c.coupled led in
         let none : more ≡ [] = follows (inl (λ y. q (sym y))) in (
           old.0,
-          subst (λ (z : List V). Coupled lane d past at2 said2 z old.0) (sym (ap (λ (z : List V). list ++ z) none ∙ append-nil _))
-              (coupled-other lane d e past at at2 said said2 list old.0 n back (plan_row lane e n m ev).sends (after_row lane e n m ev) q law bound led spot quiet by_rule new others messages old.1),
+          subst (λ (z : List V). Coupled groups d past at2 said2 z old.0) (sym (ap (λ (z : List V). list ++ z) none ∙ append-nil _))
+              (coupled-other groups d e past at at2 said said2 list old.0 n back (plan_row groups e n m ev).sends (after_row groups e n m ev) q law bound led spot quiet by_rule new others messages old.1),
         )
-
--- messages that count in no group
-abbrev pub IsHarmless : {V : Type 0} → CommitMsg V → Type 0
-IsHarmless (msg.VoteRequest gen r place v) = ⊥
-IsHarmless (msg.Decision gen r commit) = ⊥
-IsHarmless (msg.Vote gen r true) = ⊥
-IsHarmless _ = Unit {0}
-
--- a harmless message tells nothing
-pub harmless-shows : {V : Type 0} (lane : Lane V) (past : List (Node × Definition)) (from to : Node) (x : CommitMsg V) → IsHarmless x → Shows lane past from to x
-harmless-shows lane past from to (msg.VoteRequest gen r place v) h = absurd h
-harmless-shows lane past from to (msg.Decision gen r commit) h = absurd h
-harmless-shows lane past from to (msg.Vote gen r true) h = absurd h
-harmless-shows lane past from to _ h = tt
-
--- a harmless message doesn't matter
-pub harmless-not : {V : Type 0} (lane : Lane V) (d : Definition) (from to : Node) (x : CommitMsg V) → IsHarmless x → Matters lane d from to x → ⊥
-harmless-not lane d from to (msg.VoteRequest gen r place v) h k = h
-harmless-not lane d from to (msg.Decision gen r commit) h k = h
-harmless-not lane d from to (msg.Vote gen r true) h k = h
-harmless-not lane d from to _ h k = k
-
--- no cell changes, and what is new among the messages is harmless; there may be fewer
-pub lane-messages : {V : Type 0} (lane : Lane V) (d : Definition) (past : List (Node × Definition)) (at at2 : Node → Presence V) (said said2 : GroupMessage V → Type 0) (list : List V) → ((k : Node) → at2 k ≡ at k) → ((l : GroupMessage V) → said2 l → said l ⊎ IsHarmless l.body) → InLane lane d past at said list → InLane lane d past at2 said2 list
-lane-messages {V} lane d past at at2 said said2 list still messages c = record {
-  ever = λ n e m h. c.ever n e m (sym (still n) ∙ h);
-  quiet = λ n e m h. c.quiet n e m (sym (still n) ∙ h);
-  placed = λ n e m h. c.placed n e m (sym (still n) ∙ h);
-  shows = λ l s. shows l (messages l s);
-  coupled = λ led. coupled (c.coupled led);
-  empty = c.empty;
-}
-  where
-    shows : (l : GroupMessage V) → said l ⊎ IsHarmless l.body → Shows lane past l.from l.to l.body
-    shows l (inl x) = c.shows l x
-    shows l (inr x) = harmless-shows lane past l.from l.to l.body x
-
-    coupled : SomeWorld lane d past at said list → SomeWorld lane d past at2 said2 list
-    coupled old = (
-      old.0,
-      record {
-        agrees = old.1.agrees;
-        there = λ n m h. old.1.there n m (sym (still n) ∙ h);
-        never = old.1.never;
-        known = λ l s k. known l k (messages l s);
-        listed = old.1.listed;
-        good = old.1.good;
-      },
-    )
-      where
-        known : (l : GroupMessage V) → Matters lane d l.from l.to l.body → said l ⊎ IsHarmless l.body → Says (position d.members l.from) l.body old.0.sent
-        known l k (inl x) = old.1.known l x k
-        known l k (inr x) = absurd (harmless-not lane d l.from l.to l.body x k)
-
--- no member is where the cell is not bound
-pub away_not : {V : Type 0} (d : Definition) (m : Member V) → Away ≡ There d m → ⊥
-away_not d m h = cc
-
--- a cell is no longer bound
-pub lane-drop : {V : Type 0} (lane : Lane V) (d : Definition) (past : List (Node × Definition)) (at at2 : Node → Presence V) (said : GroupMessage V → Type 0) (list : List V) (n : Node) → at2 n ≡ Away → ((k : Node) → k ≢ n → at2 k ≡ at k) → InLane lane d past at said list → InLane lane d past at2 said list
-lane-drop {V} lane d past at at2 said list n gone others c = record {
-  ever = λ k e m h. c.ever k e m (before k e m h);
-  quiet = λ k e m h. c.quiet k e m (before k e m h);
-  placed = λ k e m h. c.placed k e m (before k e m h);
-  shows = c.shows;
-  coupled = λ led. coupled (c.coupled led);
-  empty = c.empty;
-}
-  where
-    before : (k : Node) (e : Definition) (m : Member V) → at2 k ≡ There e m → at k ≡ There e m
-    before k e m h = go (node_cases k n)
-      where
-        go : (k ≡ n) ⊎ (k ≢ n) → at k ≡ There e m
-        go (inl q) = absurd (away_not e m (sym gone ∙ subst (λ (z : Node). at2 z ≡ There e m) q h))
-        go (inr q) = sym (others k q) ∙ h
-
-    coupled : SomeWorld lane d past at said list → SomeWorld lane d past at2 said list
-    coupled old = (old.0, record { agrees = old.1.agrees; there = λ k m h. old.1.there k m (before k d m h); never = old.1.never; known = old.1.known; listed = old.1.listed; good = old.1.good })
-
--- a cell forgets its open round
-pub lane-restart : {V : Type 0} (lane : Lane V) (d e : Definition) (past : List (Node × Definition)) (at at2 : Node → Presence V) (said : GroupMessage V → Type 0) (list : List V) (n : Node) (m : Member V) → at n ≡ There e m → at2 n ≡ There e (restarted m) → ((k : Node) → k ≢ n → at2 k ≡ at k) → InLane lane d past at said list → InLane lane d past at2 said list
-lane-restart {V} lane d e past at at2 said list n m is new others c = record {
-  ever = split (λ k f x. Ever k f past) (c.ever n e m is) c.ever;
-  quiet = split (λ k f x. IsQuiet x ⊎ Ever (lane.leader f) f past) (c.quiet n e m is) c.quiet;
-  placed = split (λ k f x. IsPlaced lane f k) (c.placed n e m is) c.placed;
-  shows = c.shows;
-  coupled = λ led. coupled (c.coupled led) (definition_cases d e);
-  empty = c.empty;
-}
-  where
-    split : (P : Node → Definition → Member V → Type 0) → P n e (restarted m) → ((k : Node) (f : Definition) (x : Member V) → at k ≡ There f x → P k f x) → (k : Node) (f : Definition) (x : Member V) → at2 k ≡ There f x → P k f x
-    split P mine old k f x h = go (node_cases k n)
-      where
-        go : (k ≡ n) ⊎ (k ≢ n) → P k f x
-        go (inl q) = let y : (e ≡ f) × (restarted m ≡ x) = there_is e f (restarted m) x (sym new ∙ subst (λ (z : Node). at2 z ≡ There f x) q h) in
-            subst (λ (z : Node). P z f x) (sym q) (subst (λ (z : Definition). P n z x) y.0 (subst (λ (z : Member V). P n e z) y.1 mine))
-        go (inr q) = old k f x (sym (others k q) ∙ h)
-
-    coupled : SomeWorld lane d past at said list → (d ≡ e) ⊎ (d ≢ e) → SomeWorld lane d past at2 said list
-    coupled old (inr q) = (old.0, record { agrees = old.1.agrees; there = there; never = old.1.never; known = old.1.known; listed = old.1.listed; good = old.1.good })
-      where
-        there : (k : Node) (x : Member V) → at2 k ≡ There d x → old.0.at (position d.members k) ≡ x
-        there k x h = go (node_cases k n)
-          where
-            go : (k ≡ n) ⊎ (k ≢ n) → old.0.at (position d.members k) ≡ x
-            go (inl y) = absurd (q (sym (there_is e d (restarted m) x (sym new ∙ subst (λ (z : Node). at2 z ≡ There d x) y h)).0))
-            go (inr y) = old.1.there k x (sym (others k y) ∙ h)
-    coupled old (inl q) = (group_stopped old.0 i, record { agrees = agrees-stopped (group_of lane d) old.0 i spot.here old.1.agrees; there = there; never = never; known = old.1.known; listed = listed; good = old.1.good })
-      where
-        i : ℕ
-        i = position d.members n
-
-        spot : IsPlaced lane d n
-        spot = subst (λ (z : Definition). IsPlaced lane z n) (sym q) (c.placed n e m is)
-
-        same : old.0.at i ≡ m
-        same = old.1.there n m (subst (λ (z : Definition). at n ≡ There z m) (sym q) is)
-
-        apart : (k : Node) → k ≢ n → position d.members k ≢ i
-        apart k y z = y (sym (position-apart d.members n k spot.few spot.here (sym z)))
-
-        there : (k : Node) (x : Member V) → at2 k ≡ There d x → put old.0.at i (restarted (old.0.at i)) (position d.members k) ≡ x
-        there k x h = go (node_cases k n)
-          where
-            go : (k ≡ n) ⊎ (k ≢ n) → put old.0.at i (restarted (old.0.at i)) (position d.members k) ≡ x
-            go (inl y) = subst (λ (z : Node). put old.0.at i (restarted (old.0.at i)) (position d.members z) ≡ x) (sym y)
-                (put-same old.0.at i (restarted (old.0.at i)) ∙ (ap (λ (z : Member V). restarted z) same ∙ (there_is e d (restarted m) x (sym new ∙ subst (λ (z : Node). at2 z ≡ There d x) y h)).1))
-            go (inr y) = put-other old.0.at i (restarted (old.0.at i)) (position d.members k) (apart k y) ∙ old.1.there k x (sym (others k y) ∙ h)
-
-        never : (k : Node) → position d.members k < length d.members → (put old.0.at i (restarted (old.0.at i)) (position d.members k) ≡ new_member) ⊎ Ever k d past
-        never k l = go (node_cases k n) (old.1.never k l)
-          where
-            go : (k ≡ n) ⊎ (k ≢ n) → (old.0.at (position d.members k) ≡ new_member) ⊎ Ever k d past → (put old.0.at i (restarted (old.0.at i)) (position d.members k) ≡ new_member) ⊎ Ever k d past
-            go (inl y) x = inr (subst (λ (z : Node). Ever z d past) (sym y) (subst (λ (z : Definition). Ever n z past) (sym q) (c.ever n e m is)))
-            go (inr y) (inl x) = inl (put-other old.0.at i (restarted (old.0.at i)) (position d.members k) (apart k y) ∙ x)
-            go (inr y) (inr x) = inr x
-
-        listed : values (put old.0.at i (restarted (old.0.at i)) (position d.members (lane.leader d))).history ≡ list
-        listed = go (node_cases (lane.leader d) n)
-          where
-            go : (lane.leader d ≡ n) ⊎ (lane.leader d ≢ n) → values (put old.0.at i (restarted (old.0.at i)) (position d.members (lane.leader d))).history ≡ list
-            go (inl y) = ap (λ (z : Member V). values z.history) (subst (λ (z : Node). put old.0.at i (restarted (old.0.at i)) (position d.members z) ≡ restarted (old.0.at i)) (sym y) (put-same old.0.at i (restarted (old.0.at i)))) ∙ subst (λ (z : Node). values (old.0.at (position d.members z)).history ≡ list) y old.1.listed
-            go (inr y) = ap (λ (z : Member V). values z.history) (put-other old.0.at i (restarted (old.0.at i)) (position d.members (lane.leader d)) (apart (lane.leader d) y)) ∙ old.1.listed
-
--- the member from which a group starts
-abbrev pub start_of : {V : Type 0} → Definition → Presence V → Member V
-start_of d Away = new_member
-start_of d (There f m) = if same_definition f d then m else new_member
-
--- it is quiet
-pub start-quiet : {V : Type 0} (d : Definition) (s : Presence V) → ((m : Member V) → s ≡ There d m → IsQuiet m) → IsQuiet (start_of d s)
-start-quiet d Away h = (refl, refl)
-start-quiet {V} d (There f m) h = if_holds IsQuiet (same_definition f d) m new_member (λ q. h m (ap (λ (u : Definition). There u m) (definition_is f d q))) (λ q. (refl, refl))
-
--- it is the member of a cell that is bound to d
-pub start-there : {V : Type 0} (d : Definition) (s : Presence V) (m : Member V) → s ≡ There d m → start_of d s ≡ m
-start-there {V} d s m h = subst (λ (z : Presence V). start_of d z ≡ m) (sym h) (if_true (λ x. x ≡ m) (same_definition d d) m new_member (definition_same d) refl)
-
--- elsewhere it is a new one
-pub start-other : {V : Type 0} (d : Definition) (s : Presence V) → (start_of d s ≡ new_member) ⊎ ((m : Member V) × (s ≡ There d m))
-start-other d Away = inl refl
-start-other {V} d (There f m) = if_holds (λ z. (z ≡ new_member) ⊎ ((x : Member V) × (There f m ≡ There d x))) (same_definition f d) m new_member (λ q. inr (m, ap (λ (u : Definition). There u m) (definition_is f d q))) (λ q. inl refl)
-
--- beside a new member it is a new one
-pub start-new : {V : Type 0} (d e : Definition) → start_of d (There e (new_member {V = V})) ≡ new_member
-start-new {V} d e = if_holds (λ z. z ≡ new_member) (same_definition e d) new_member new_member (λ q. refl) (λ q. refl)
-
--- a cell is bound, with a member as it is made
-pub lane-fresh : {V : Type 0} (lane : Lane V) (d e : Definition) (past : List (Node × Definition)) (at at2 : Node → Presence V) (said : GroupMessage V → Type 0) (list : List V) (n : Node) → ((f : Definition) → Ever n f past → f.generation ≢ e.generation) → IsPlaced lane e n → at2 n ≡ There e new_member → ((k : Node) → k ≢ n → at2 k ≡ at k) → InLane lane d past at said list → InLane lane d ((n, e) ∷ past) at2 said list
-lane-fresh {V} lane d e past at at2 said list n fresh spot new others c = record {
-  ever = split (λ k f x. Ever k f ((n, e) ∷ past)) (inl (refl, refl)) (λ k f x h. inr (c.ever k f x h));
-  quiet = split (λ k f x. IsQuiet x ⊎ Ever (lane.leader f) f ((n, e) ∷ past)) (inl (refl, refl)) (λ k f x h. more f x (c.quiet k f x h));
-  placed = split (λ k f x. IsPlaced lane f k) spot c.placed;
-  shows = λ l s. shows l.from l.to l.body (c.shows l s);
-  coupled = coupled;
-  empty = empty c.empty;
-}
-  where
-    split : (P : Node → Definition → Member V → Type 0) → P n e new_member → ((k : Node) (f : Definition) (x : Member V) → at k ≡ There f x → P k f x) → (k : Node) (f : Definition) (x : Member V) → at2 k ≡ There f x → P k f x
-    split P mine old k f x h = go (node_cases k n)
-      where
-        go : (k ≡ n) ⊎ (k ≢ n) → P k f x
-        go (inl q) = let y : (e ≡ f) × (new_member ≡ x) = there_is e f new_member x (sym new ∙ subst (λ (z : Node). at2 z ≡ There f x) q h) in
-            subst (λ (z : Node). P z f x) (sym q) (subst (λ (z : Definition). P n z x) y.0 (subst (λ (z : Member V). P n e z) y.1 mine))
-        go (inr q) = old k f x (sym (others k q) ∙ h)
-
-    more : (f : Definition) (x : Member V) → IsQuiet x ⊎ Ever (lane.leader f) f past → IsQuiet x ⊎ Ever (lane.leader f) f ((n, e) ∷ past)
-    more f x (inl h) = inl h
-    more f x (inr h) = inr (inr h)
-
-    empty : (list ≡ []) ⊎ Ever (lane.leader d) d past → (list ≡ []) ⊎ Ever (lane.leader d) d ((n, e) ∷ past)
-    empty (inl h) = inl h
-    empty (inr h) = inr (inr h)
-
-    shows : (from to : Node) (x : CommitMsg V) → Shows lane past from to x → Shows lane ((n, e) ∷ past) from to x
-    shows from to (msg.VoteRequest gen r place v) h = (h.0, inr h.1, h.2, h.3)
-    shows from to (msg.Decision gen r commit) h = (h.0, inr h.1, h.2)
-    shows from to (msg.Vote gen r true) h = (h.0, inr h.1, h.2)
-    shows from to _ h = tt
-
-    old_world : SomeWorld lane d past at said list → SomeWorld lane d ((n, e) ∷ past) at2 said list
-    old_world old = (old.0, record { agrees = old.1.agrees; there = there; never = λ k l. later k (old.1.never k l); known = old.1.known; listed = old.1.listed; good = old.1.good })
-      where
-        later : (k : Node) → (old.0.at (position d.members k) ≡ new_member) ⊎ Ever k d past → (old.0.at (position d.members k) ≡ new_member) ⊎ Ever k d ((n, e) ∷ past)
-        later k (inl h) = inl h
-        later k (inr h) = inr (inr h)
-
-        unbound : e ≡ d → (old.0.at (position d.members n) ≡ new_member) ⊎ Ever n d past → old.0.at (position d.members n) ≡ new_member
-        unbound q (inl h) = h
-        unbound q (inr h) = absurd (fresh d h (sym (ap (λ (z : Definition). z.generation) q)))
-
-        there : (k : Node) (x : Member V) → at2 k ≡ There d x → old.0.at (position d.members k) ≡ x
-        there k x h = go (node_cases k n)
-          where
-            go : (k ≡ n) ⊎ (k ≢ n) → old.0.at (position d.members k) ≡ x
-            go (inl y) = let z : (e ≡ d) × (new_member ≡ x) = there_is e d new_member x (sym new ∙ subst (λ (u : Node). at2 u ≡ There d x) y h) in
-                subst (λ (u : Node). old.0.at (position d.members u) ≡ x) (sym y) (unbound z.0 (old.1.never n (subst (λ (u : Definition). position u.members n < length u.members) z.0 spot.here)) ∙ z.1)
-            go (inr y) = old.1.there k x (sym (others k y) ∙ h)
-
-    -- the coordinator is bound only now
-    new_world : lane.leader d ≡ n → d ≡ e → SomeWorld lane d ((n, e) ∷ past) at2 said list
-    new_world q r = (
-      record { at = start; sent = [] },
-      record {
-        agrees = agrees-start (group_of lane d) start (record { empty = λ i. (calm i).0; free = λ i. (calm i).1; shut = ap (λ (z : Member V). z.opened) begins });
-        there = there;
-        never = never;
-        known = λ l s k. absurd (none l.from l.to l.body (c.shows l s) k);
-        listed = ap (λ (z : Member V). values z.history) begins ∙ sym (no_list c.empty);
-        good = subst (λ (z : List V). AllGood (lane.rules d) [] z) (sym (no_list c.empty)) tt;
-      },
-    )
-      where
-        fits : IsPlaced lane d n
-        fits = subst (λ (u : Definition). IsPlaced lane u n) (sym r) spot
-
-        start : ℕ → Member V
-        start i = start_of d (at2 (node_or d.members [] i))
-
-        none_before : (k : Node) (f : Definition) → Ever k f past → k ≡ lane.leader d → f.generation ≡ d.generation → ⊥
-        none_before k f h x y = fresh f (subst (λ (u : Node). Ever u f past) (x ∙ q) h) (y ∙ ap (λ (u : Definition). u.generation) r)
-
-        quiet_one : (k : Node) (m : Member V) → at2 k ≡ There d m → IsQuiet m
-        quiet_one k m h = go (node_cases k n)
-          where
-            sub : IsQuiet m ⊎ Ever (lane.leader d) d past → IsQuiet m
-            sub (inl x) = x
-            sub (inr x) = absurd (none_before (lane.leader d) d x refl refl)
-
-            go : (k ≡ n) ⊎ (k ≢ n) → IsQuiet m
-            go (inl y) = subst IsQuiet (there_is e d new_member m (sym new ∙ subst (λ (u : Node). at2 u ≡ There d m) y h)).1 (refl, refl)
-            go (inr y) = sub (c.quiet k d m (sym (others k y) ∙ h))
-
-        calm : (i : ℕ) → IsQuiet (start i)
-        calm i = start-quiet d (at2 (node_or d.members [] i)) (quiet_one (node_or d.members [] i))
-
-        at_lead : node_or d.members [] (position d.members (lane.leader d)) ≡ n
-        at_lead = position-or d.members [] (lane.leader d) fits.lead_in ∙ q
-
-        begins : start (position d.members (lane.leader d)) ≡ new_member
-        begins = ap (λ (u : Node). start_of d (at2 u)) at_lead ∙ (ap (λ (u : Presence V). start_of d u) new ∙ start-new d e)
-
-        no_list : (list ≡ []) ⊎ Ever (lane.leader d) d past → list ≡ []
-        no_list (inl x) = x
-        no_list (inr x) = absurd (none_before (lane.leader d) d x refl refl)
-
-        is_placed : (k : Node) (x : Member V) → at2 k ≡ There d x → IsPlaced lane d k
-        is_placed k x h = split (λ k f x. IsPlaced lane f k) spot c.placed k d x h
-
-        there : (k : Node) (x : Member V) → at2 k ≡ There d x → start (position d.members k) ≡ x
-        there k x h = ap (λ (u : Node). start_of d (at2 u)) (position-or d.members [] k (is_placed k x h).here_in) ∙ start-there d (at2 k) x h
-
-        never : (k : Node) → position d.members k < length d.members → (start (position d.members k) ≡ new_member) ⊎ Ever k d ((n, e) ∷ past)
-        never k l = go (start-other d (at2 k))
-          where
-            same : start (position d.members k) ≡ start_of d (at2 k)
-            same = ap (λ (u : Node). start_of d (at2 u)) (position-or d.members [] k (member_by d.members k fits.few l))
-
-            go : (start_of d (at2 k) ≡ new_member) ⊎ ((m : Member V) × (at2 k ≡ There d m)) → (start (position d.members k) ≡ new_member) ⊎ Ever k d ((n, e) ∷ past)
-            go (inl x) = inl (same ∙ x)
-            go (inr x) = inr (split (λ k f x. Ever k f ((n, e) ∷ past)) (inl (refl, refl)) (λ k f x h. inr (c.ever k f x h)) k d x.0 x.1)
-
-        none : (from to : Node) (x : CommitMsg V) → Shows lane past from to x → Matters lane d from to x → ⊥
-        none from to (msg.VoteRequest gen rr place v) h k = none_before from h.0 h.1 k.0 (h.2 ∙ k.1)
-        none from to (msg.Decision gen rr commit) h k = none_before from h.0 h.1 k.0 (h.2 ∙ k.1)
-        none from to (msg.Vote gen rr true) h k = none_before to h.0 h.1 k.0 (h.2 ∙ k.1)
-        none from to _ h k = k
-
-    coupled : Ever (lane.leader d) d ((n, e) ∷ past) → SomeWorld lane d ((n, e) ∷ past) at2 said list
-    coupled (inl h) = new_world h.0 h.1
-    coupled (inr h) = old_world (c.coupled h)

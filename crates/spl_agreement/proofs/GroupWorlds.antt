@@ -14,8 +14,7 @@ use Rattle.spl_circuit.specs.declared.definition.Definition.{Definition}
 use Rattle.spl_circuit.specs.declared.act.Act.{Act}
 use Rattle.spl_circuit.specs.declared.act.ActKind.{ActKind}
 use Rattle.spl_circuit.specs.declared.act.ActKind.TheVariants as kind
-use Rattle.spl_circuit.specs.declared.lifecycle.Mark.{Mark}
-use Rattle.spl_circuit.specs.Nodes.{Node, has_node, position, node_or}
+use Rattle.spl_circuit.specs.Nodes.{NodeId, CircuitId, ServiceId, has_node, position, node_or}
 use Rattle.spl_circuit.specs.Rules.{broken, admin, service, is_member}
 use Rattle.spl_circuit.specs.Acts.{misfit, misfit_kind, act_rules}
 use Rattle.spl_circuit.specs.Equality.{same_definition}
@@ -24,32 +23,31 @@ use Rattle.spl_command.specs.declared.batch.Batch.{Batch}
 use Rattle.spl_scabbard.specs.Checks.{batch_rules}
 use Rattle.spl_wire.specs.declared.message.Message.TheVariants as message
 use Rattle.spl_group.proofs.Agreement.{prefix-agrees}
-use Rattle.spl_rules.specs.Cells.{Cell, Held, runs}
-use Rattle.spl_rules.specs.Plans.{admin_sends, service_sends, service_message}
+use Rattle.spl_rules.specs.Cells.{Cell, Held}
+use Rattle.spl_rules.specs.Plans.{service_on, group_sends, admin_lane, service_lane}
 use Rattle.spl_model.proofs.Nodes.{node_cases}
 use Rattle.spl_agreement.proofs.Same.{definition_is}
 use Rattle.spl_agreement.proofs.Positions.{position-apart, position-below}
 use Rattle.spl_agreement.proofs.Rosters.{IsRoster, roster}
-use Rattle.spl_model.specs.Worlds.{Sent, posted}
-use Rattle.spl_agreement.proofs.GroupOfDefinition.{Presence, Away, There, GroupMessage, Ever, IsOne, IsQuiet, IsPlaced, SomeWorld, InLane, IsMessageOf, MayHear, after_row, Lane, group_of}
+use Rattle.spl_model.specs.Worlds.{Sent, posted, site_at}
+use Rattle.spl_agreement.proofs.GroupOfDefinition.{Presence, Away, There, GroupMessage, Ever, IsOne, IsQuiet, IsPlaced, SomeWorld, InGroups, IsMessageOf, MayHear, after_row, Groups, group_of}
 use Rattle.spl_agreement.proofs.SentByRule.{IsFirst, quiet-row}
 use Rattle.spl_agreement.specs.Agreement.{IsPast}
 
--- the two lanes of cells
--- the two lanes of cells
-abbrev pub admin_lane : Lane Act
-admin_lane = record { rules = act_rules; leader = admin }
+-- the two groups of each definition
+abbrev pub admin_groups : Groups Act
+admin_groups = record { rules = act_rules; leader = admin }
 
-abbrev pub service_lane : Lane Batch
-service_lane = record { rules = λ d. batch_rules; leader = service }
+abbrev pub service_groups : Groups Batch
+service_groups = record { rules = λ d. batch_rules; leader = service }
 
--- what each lane sees of a cell
+-- what each group sees of a cell
 abbrev pub admin_presence : Cell → Presence Act
-admin_presence (Held d m turn a b) = There d a
+admin_presence (Held h) = There h.definition h.acts
 admin_presence _ = Away
 
 abbrev pub service_presence : Cell → Presence Batch
-service_presence (Held d m turn a b) = There d b
+service_presence (Held h) = There h.definition h.batches
 service_presence _ = Away
 
 -- the message was sent
@@ -57,58 +55,50 @@ abbrev pub WasSent : Sent → List Sent → Type 0
 WasSent x [] = ⊥
 WasSent x (y ∷ ys) = (x ≡ y) ⊎ WasSent x ys
 
--- what was sent in each lane
+-- what was sent in each group
 abbrev pub admin_said : List Sent → GroupMessage Act → Type 0
-admin_said sent l = (i : Node) × WasSent (record { from = l.from; to = l.to; message = message.Admin i l.body }) sent
+admin_said sent l = (i : CircuitId) × WasSent (record { from = l.from; to = l.to; message = message.Admin i l.body }) sent
 
 abbrev pub service_said : List Sent → GroupMessage Batch → Type 0
-service_said sent l = (i : Node) × (s : Node) × (t : Node) × WasSent (record { from = l.from; to = l.to; message = message.Scabbard i s t l.body }) sent
+service_said sent l = (i : CircuitId) × (s : ServiceId) × (t : ServiceId) × WasSent (record { from = l.from; to = l.to; message = message.Scabbard i s t l.body }) sent
 
 -- a bound cell: its definition breaks no rule, the node is a member, and what it keeps of each group is sound and roomy
-pub record IsValid (d : Definition) (n : Node) (a : Member Act) (b : Member Batch) : Type 0 where
+pub record IsValid (d : Definition) (n : NodeId) (a : Member Act) (b : Member Batch) : Type 0 where
   pub whole : broken d ≡ None
   pub member : has_node d.members n ≡ true
-  pub acts : IsSound (group_of admin_lane d) (position d.members n) a
-  pub batches : IsSound (group_of service_lane d) (position d.members n) b
+  pub acts : IsSound (group_of admin_groups d) (position d.members n) a
+  pub batches : IsSound (group_of service_groups d) (position d.members n) b
   pub acts_room : IsRoomy a
   pub batches_room : IsRoomy b
 
 -- a cell that is not bound is valid
-abbrev pub IsValidCell : Node → Cell → Type 0
-IsValidCell n (Held d m turn a b) = IsValid d n a b
+abbrev pub IsValidCell : NodeId → Cell → Type 0
+IsValidCell n (Held h) = IsValid h.definition n h.acts h.batches
 IsValidCell n _ = Unit {0}
 
--- what holds of the cells and the sent messages of one id: of all bindings that ever were, and in both lanes of each definition
-pub record InWorld (past : List (Node × Definition)) (at : Node → Cell) (sent : List Sent) (acts : Definition → List Act) (batches : Definition → List Batch) : Type 0 where
+-- what holds of the cells and the sent messages of one id: of all bindings that ever were, and in both groups of each definition
+pub record InWorld (past : List (NodeId × Definition)) (at : NodeId → Cell) (sent : List Sent) (acts : Definition → List Act) (batches : Definition → List Batch) : Type 0 where
   pub law : IsOne past
-  pub ruled : (n : Node) (e : Definition) → Ever n e past → broken e ≡ None
-  pub since : (n : Node) (e : Definition) → Ever n e past → IsPast e (at n)
-  pub valid : (n : Node) → IsValidCell n (at n)
-  pub admins : (d : Definition) → InLane admin_lane d past (λ n. admin_presence (at n)) (admin_said sent) (acts d)
-  pub services : (d : Definition) → InLane service_lane d past (λ n. service_presence (at n)) (service_said sent) (batches d)
+  pub ruled : (n : NodeId) (e : Definition) → Ever n e past → broken e ≡ None
+  pub since : (n : NodeId) (e : Definition) → Ever n e past → IsPast e (at n)
+  pub valid : (n : NodeId) → IsValidCell n (at n)
+  pub admins : (d : Definition) → InGroups admin_groups d past (λ n. admin_presence (at n)) (admin_said sent) (acts d)
+  pub services : (d : Definition) → InGroups service_groups d past (λ n. service_presence (at n)) (service_said sent) (batches d)
 
 -- no cell changes but that of this node
-abbrev pub Others : Node → (Node → Cell) → (Node → Cell) → Type 0
-Others n at at2 = (k : Node) → k ≢ n → at2 k ≡ at k
-
--- equal bound cells keep equal things
-pub held_is : (d e : Definition) (m m2 : Mark) (t t2 : ℕ) (a a2 : Member Act) (b b2 : Member Batch) → Held d m t a b ≡ Held e m2 t2 a2 b2 → (d ≡ e) × (a ≡ a2) × (b ≡ b2)
-held_is d e m m2 t t2 a a2 b b2 h = (cc, cc, cc)
-
--- what the lanes see of a bound cell
-pub presence_of : (d : Definition) (k : Cell) (m : Mark) (t : ℕ) (a : Member Act) (b : Member Batch) → k ≡ Held d m t a b → (admin_presence k ≡ There d a) × (service_presence k ≡ There d b)
-presence_of d k m t a b h = (ap admin_presence h, ap service_presence h)
+abbrev pub Others : NodeId → (NodeId → Cell) → (NodeId → Cell) → Type 0
+Others n at at2 = (k : NodeId) → k ≢ n → at2 k ≡ at k
 
 -- placed by validity
-pub placed-admin : (d : Definition) (n : Node) → broken d ≡ None → has_node d.members n ≡ true → IsPlaced admin_lane d n
+pub placed-admin : (d : Definition) (n : NodeId) → broken d ≡ None → has_node d.members n ≡ true → IsPlaced admin_groups d n
 placed-admin d n h m = let r : IsRoster d = roster d h in record { few = r.few; here_in = m; lead_in = r.admin_in; here = position-below d.members n m; leads = position-below d.members (admin d) r.admin_in }
 
 -- a member has its position in the service group
-pub placed-service : (d : Definition) (n : Node) → broken d ≡ None → has_node d.members n ≡ true → IsPlaced service_lane d n
+pub placed-service : (d : Definition) (n : NodeId) → broken d ≡ None → has_node d.members n ≡ true → IsPlaced service_groups d n
 placed-service d n h m = let r : IsRoster d = roster d h in record { few = r.few; here_in = m; lead_in = r.service_in; here = position-below d.members n m; leads = position-below d.members (service d) r.service_in }
 
 -- what is proposed first is the definition itself
-pub first_kind : (d : Definition) (n : Node) (k : ActKind) → misfit_kind d [] n k ≡ None → (x : Definition) × (k ≡ kind.Propose x) × (x ≡ d)
+pub first_kind : (d : Definition) (n : NodeId) (k : ActKind) → misfit_kind d [] n k ≡ None → (x : Definition) × (k ≡ kind.Propose x) × (x ≡ d)
 first_kind d n (kind.Propose x) h = go (bool_cases (same_definition x d))
   where
     go : (same_definition x d ≡ true) ⊎ (same_definition x d ≡ false) → (y : Definition) × (kind.Propose x ≡ kind.Propose y) × (y ≡ d)
@@ -143,38 +133,38 @@ same_first d e v h k =
     propose_is p q r = cc
 
 -- a row of the admin group leaves a member quiet, or the coordinator was bound
-pub quiet-admin : (e : Definition) (past : List (Node × Definition)) (at : Node → Presence Act) (said : GroupMessage Act → Type 0) (list : List Act) (n back : Node) (m : Member Act) (ev : GroupEvent Act) → at n ≡ There e m → MayHear e said n back ev → InLane admin_lane e past at said list → IsQuiet (after_row admin_lane e n m ev) ⊎ Ever (admin e) e past
+pub quiet-admin : (e : Definition) (past : List (NodeId × Definition)) (at : NodeId → Presence Act) (said : GroupMessage Act → Type 0) (list : List Act) (n back : NodeId) (m : Member Act) (ev : GroupEvent Act) → at n ≡ There e m → MayHear e said n back ev → InGroups admin_groups e past at said list → IsQuiet (after_row admin_groups e n m ev) ⊎ Ever (admin e) e past
 quiet-admin e past at said list n back m ev is may c = go (node_cases n (admin e)) (c.quiet n e m is)
   where
-    spot : IsPlaced admin_lane e n
+    spot : IsPlaced admin_groups e n
     spot = c.placed n e m is
 
-    first : (x : GroupEvent Act) → MayHear e said n back x → IsFirst (group_of admin_lane e) x → Ever (admin e) e past
+    first : (x : GroupEvent Act) → MayHear e said n back x → IsFirst (group_of admin_groups e) x → Ever (admin e) e past
     first (event.From s (msg.VoteRequest gen r place v)) h f =
         let same : admin e ≡ back = position-apart e.members (admin e) back spot.few spot.leads (sym f.0 ∙ h.0) in
         let shown : (g : Definition) × Ever back g past × (g.generation ≡ gen) × (place ≡ 0 → misfit g [] v ≡ None) = c.shows (record { from = back; to = n; body = msg.VoteRequest gen r place v }) h.1 in
         let it : e ≡ shown.0 = same_first e shown.0 v f.2 (shown.3 f.1) in
-        subst (λ (z : Node). Ever z e past) (sym same) (subst (λ (z : Definition). Ever back z past) (sym it) shown.1)
+        subst (λ (z : NodeId). Ever z e past) (sym same) (subst (λ (z : Definition). Ever back z past) (sym it) shown.1)
     first _ h f = absurd f
 
-    sub : IsQuiet (after_row admin_lane e n m ev) ⊎ IsFirst (group_of admin_lane e) ev → IsQuiet (after_row admin_lane e n m ev) ⊎ Ever (admin e) e past
+    sub : IsQuiet (after_row admin_groups e n m ev) ⊎ IsFirst (group_of admin_groups e) ev → IsQuiet (after_row admin_groups e n m ev) ⊎ Ever (admin e) e past
     sub (inl x) = inl x
     sub (inr x) = inr (first ev may x)
 
-    go : (n ≡ admin e) ⊎ (n ≢ admin e) → IsQuiet m ⊎ Ever (admin e) e past → IsQuiet (after_row admin_lane e n m ev) ⊎ Ever (admin e) e past
-    go (inl q) x = inr (subst (λ (z : Node). Ever z e past) q (c.ever n e m is))
+    go : (n ≡ admin e) ⊎ (n ≢ admin e) → IsQuiet m ⊎ Ever (admin e) e past → IsQuiet (after_row admin_groups e n m ev) ⊎ Ever (admin e) e past
+    go (inl q) x = inr (subst (λ (z : NodeId). Ever z e past) q (c.ever n e m is))
     go (inr q) (inr x) = inr x
-    go (inr q) (inl x) = sub (quiet-row (group_of admin_lane e) (position e.members n) m ev (λ y. q (position-apart e.members n (admin e) spot.few spot.here y)) x)
+    go (inr q) (inl x) = sub (quiet-row (group_of admin_groups e) (position e.members n) m ev (λ y. q (position-apart e.members n (admin e) spot.few spot.here y)) x)
 
 -- where the lifecycle is active at a member, every member was bound
-pub active-ever : (e : Definition) (past : List (Node × Definition)) (at : Node → Presence Act) (said : GroupMessage Act → Type 0) (list : List Act) (n other : Node) (a : Member Act) → at n ≡ There e a → runs e a ≡ true → has_node e.members other ≡ true → InLane admin_lane e past at said list → Ever other e past
+pub active-ever : (e : Definition) (past : List (NodeId × Definition)) (at : NodeId → Presence Act) (said : GroupMessage Act → Type 0) (list : List Act) (n other : NodeId) (a : Member Act) → at n ≡ There e a → is_active (life e (values a.history)).state ≡ true → has_node e.members other ≡ true → InGroups admin_groups e past at said list → Ever other e past
 active-ever e past at said list n other a is active mem c = go (c.quiet n e a is)
   where
-    spot : IsPlaced admin_lane e n
+    spot : IsPlaced admin_groups e n
     spot = c.placed n e a is
 
     not_empty : a.history ≡ [] → ⊥
-    not_empty h = let k : runs e a ≡ false = ap (λ (x : List (ℕ × Act)). is_active (life e (values x)).state) h in cc
+    not_empty h = let k : is_active (life e (values a.history)).state ≡ false = ap (λ (x : List (ℕ × Act)). is_active (life e (values x)).state) h in cc
 
     nothing_before : {A : Type 0} (xs ys : List A) → xs ++ ys ≡ [] → xs ≡ []
     nothing_before [] ys h = refl
@@ -184,7 +174,7 @@ active-ever e past at said list n other a is active mem c = go (c.quiet n e a is
     last_not [] y h = cc
     last_not (x ∷ xs) y h = cc
 
-    by_world : SomeWorld admin_lane e past at said list → Ever other e past
+    by_world : SomeWorld admin_groups e past at said list → Ever other e past
     by_world w = pick (w.1.never other below) (node_cases other (admin e))
       where
         below : position e.members other < length e.members
@@ -194,14 +184,14 @@ active-ever e past at said list n other a is active mem c = go (c.quiet n e a is
         mine = w.1.there n a is
 
         prefix : IsPrefixOf (w.0.at (position e.members n)).history (w.0.at (position e.members (admin e))).history
-        prefix = prefix-agrees (group_of admin_lane e) w.0 (position e.members n) spot.here w.1.agrees
+        prefix = prefix-agrees (group_of admin_groups e) w.0 (position e.members n) spot.here w.1.agrees
 
         lead_not : (w.0.at (position e.members (admin e))).history ≡ [] → ⊥
         lead_not h = not_empty (ap (λ (x : Member Act). x.history) (sym mine) ∙ nothing_before (w.0.at (position e.members n)).history prefix.0 (prefix.1 ∙ h))
 
         pick : (w.0.at (position e.members other) ≡ new_member) ⊎ Ever other e past → (other ≡ admin e) ⊎ (other ≢ admin e) → Ever other e past
         pick (inr x) y = x
-        pick (inl x) (inl y) = absurd (lead_not (subst (λ (z : Node). (w.0.at (position e.members z)).history ≡ []) y (ap (λ (z : Member Act). z.history) x)))
+        pick (inl x) (inl y) = absurd (lead_not (subst (λ (z : NodeId). (w.0.at (position e.members z)).history ≡ []) y (ap (λ (z : Member Act). z.history) x)))
         pick (inl x) (inr y) = absurd (none (f.behind))
           where
             f : Follows (lead (w.0.at (position e.members (admin e)))) (seat (w.0.at (position e.members other))) (position e.members other)
@@ -235,64 +225,64 @@ was-left x (z ∷ zs) ys (inl e) = inl e
 was-left x (z ∷ zs) ys (inr h) = inr (was-left x zs ys h)
 
 -- a message, by its parts
-abbrev made_message : {V : Type 0} → Node → Node → CommitMsg V → GroupMessage V
+abbrev made_message : {V : Type 0} → NodeId → NodeId → CommitMsg V → GroupMessage V
 made_message f t x = record { from = f; to = t; body = x }
 
-made_message_is : {V : Type 0} (f f2 t t2 : Node) (x x2 : CommitMsg V) → f ≡ f2 → t ≡ t2 → x ≡ x2 → made_message f t x ≡ made_message f2 t2 x2
+made_message_is : {V : Type 0} (f f2 t t2 : NodeId) (x x2 : CommitMsg V) → f ≡ f2 → t ≡ t2 → x ≡ x2 → made_message f t x ≡ made_message f2 t2 x2
 made_message_is f f2 t t2 x x2 p q r = cc
 
 -- messages that are equal have equal bodies
-pub admin_is : (i j : Node) (x y : CommitMsg Act) → message.Admin i x ≡ message.Admin j y → x ≡ y
+pub admin_is : (i j : CircuitId) (x y : CommitMsg Act) → message.Admin i x ≡ message.Admin j y → x ≡ y
 admin_is i j x y h = cc
 
 -- messages of services that are equal have equal bodies
-pub scabbard_is : (i j s s2 t t2 : Node) (x y : CommitMsg Batch) → message.Scabbard i s t x ≡ message.Scabbard j s2 t2 y → x ≡ y
+pub scabbard_is : (i j : CircuitId) (s s2 t t2 : ServiceId) (x y : CommitMsg Batch) → message.Scabbard i s t x ≡ message.Scabbard j s2 t2 y → x ≡ y
 scabbard_is i j s s2 t t2 x y h = cc
 
 -- a message of acts is none of batches
-pub not_admin : (i j s t : Node) (x : CommitMsg Act) (y : CommitMsg Batch) → message.Admin i x ≡ message.Scabbard j s t y → ⊥
+pub not_admin : (i j : CircuitId) (s t : ServiceId) (x : CommitMsg Act) (y : CommitMsg Batch) → message.Admin i x ≡ message.Scabbard j s t y → ⊥
 not_admin i j s t x y h = cc
 
 -- what the admin group of a plan posts are its messages
-pub posted-admin : (ns : List Node) (n c : Node) (d : Definition) (back : Node) (ss : List (ℕ × CommitMsg Act)) (i : Node) (l : GroupMessage Act) → WasSent (record { from = l.from; to = l.to; message = message.Admin i l.body }) (posted ns n (admin_sends c d back ss)) → IsMessageOf n d back ss l
+pub posted-admin : (ns : List NodeId) (n : NodeId) (c : CircuitId) (d : Definition) (back : NodeId) (ss : List (ℕ × CommitMsg Act)) (i : CircuitId) (l : GroupMessage Act) → WasSent (record { from = l.from; to = l.to; message = message.Admin i l.body }) (posted ns n (group_sends (admin_lane (site_at n c) d) back ss)) → IsMessageOf n d back ss l
 posted-admin ns n c d back [] i l h = absurd h
 posted-admin ns n c d back (s ∷ ss) i l h =
     if_holds (λ (ps : List Sent). WasSent (record { from = l.from; to = l.to; message = message.Admin i l.body }) ps → IsMessageOf n d back (s ∷ ss) l) (has_node ns (node_or d.members back s.0)) _ _
     (λ q. here (posted-admin ns n c d back ss i l)) (λ q k. inr (posted-admin ns n c d back ss i l k)) h
   where
-    here : (WasSent (record { from = l.from; to = l.to; message = message.Admin i l.body }) (posted ns n (admin_sends c d back ss)) → IsMessageOf n d back ss l) → WasSent (record { from = l.from; to = l.to; message = message.Admin i l.body }) (record { from = n; to = node_or d.members back s.0; message = message.Admin c s.1 } ∷ posted ns n (admin_sends c d back ss)) → IsMessageOf n d back (s ∷ ss) l
+    here : (WasSent (record { from = l.from; to = l.to; message = message.Admin i l.body }) (posted ns n (group_sends (admin_lane (site_at n c) d) back ss)) → IsMessageOf n d back ss l) → WasSent (record { from = l.from; to = l.to; message = message.Admin i l.body }) (record { from = n; to = node_or d.members back s.0; message = message.Admin c s.1 } ∷ posted ns n (group_sends (admin_lane (site_at n c) d) back ss)) → IsMessageOf n d back (s ∷ ss) l
     here hyp (inl e) = inl (made_message_is l.from n l.to (node_or d.members back s.0) l.body s.1 (ap (λ (z : Sent). z.from) e) (ap (λ (z : Sent). z.to) e) (admin_is i c l.body s.1 (ap (λ (z : Sent). z.message) e)))
     here hyp (inr k) = inr (hyp k)
 
 -- and none is one of batches
-pub posted-no_service : (ns : List Node) (n c : Node) (d : Definition) (back : Node) (ss : List (ℕ × CommitMsg Act)) (f to i s t : Node) (x : CommitMsg Batch) → WasSent (record { from = f; to = to; message = message.Scabbard i s t x }) (posted ns n (admin_sends c d back ss)) → ⊥
+pub posted-no_service : (ns : List NodeId) (n : NodeId) (c : CircuitId) (d : Definition) (back : NodeId) (ss : List (ℕ × CommitMsg Act)) (f to : NodeId) (i : CircuitId) (s t : ServiceId) (x : CommitMsg Batch) → WasSent (record { from = f; to = to; message = message.Scabbard i s t x }) (posted ns n (group_sends (admin_lane (site_at n c) d) back ss)) → ⊥
 posted-no_service ns n c d back [] f to i s t x h = h
 posted-no_service ns n c d back (z ∷ zs) f to i s t x h =
     if_holds (λ (ps : List Sent). WasSent (record { from = f; to = to; message = message.Scabbard i s t x }) ps → ⊥) (has_node ns (node_or d.members back z.0)) _ _
     (λ q. here (posted-no_service ns n c d back zs f to i s t x)) (λ q k. posted-no_service ns n c d back zs f to i s t x k) h
   where
-    here : (WasSent (record { from = f; to = to; message = message.Scabbard i s t x }) (posted ns n (admin_sends c d back zs)) → ⊥) → WasSent (record { from = f; to = to; message = message.Scabbard i s t x }) (record { from = n; to = node_or d.members back z.0; message = message.Admin c z.1 } ∷ posted ns n (admin_sends c d back zs)) → ⊥
+    here : (WasSent (record { from = f; to = to; message = message.Scabbard i s t x }) (posted ns n (group_sends (admin_lane (site_at n c) d) back zs)) → ⊥) → WasSent (record { from = f; to = to; message = message.Scabbard i s t x }) (record { from = n; to = node_or d.members back z.0; message = message.Admin c z.1 } ∷ posted ns n (group_sends (admin_lane (site_at n c) d) back zs)) → ⊥
     here hyp (inl e) = not_admin c i s t z.1 x (sym (ap (λ (u : Sent). u.message) e))
     here hyp (inr k) = hyp k
 
 -- what the service group of a plan posts are its messages
-pub posted-service : (ns : List Node) (n c : Node) (d : Definition) (back : Node) (ss : List (ℕ × CommitMsg Batch)) (i s t : Node) (l : GroupMessage Batch) → WasSent (record { from = l.from; to = l.to; message = message.Scabbard i s t l.body }) (posted ns n (service_sends n c d back ss)) → IsMessageOf n d back ss l
+pub posted-service : (ns : List NodeId) (n : NodeId) (c : CircuitId) (d : Definition) (back : NodeId) (ss : List (ℕ × CommitMsg Batch)) (i : CircuitId) (s t : ServiceId) (l : GroupMessage Batch) → WasSent (record { from = l.from; to = l.to; message = message.Scabbard i s t l.body }) (posted ns n (group_sends (service_lane (site_at n c) d) back ss)) → IsMessageOf n d back ss l
 posted-service ns n c d back [] i s t l h = absurd h
 posted-service ns n c d back (z ∷ zs) i s t l h =
     if_holds (λ (ps : List Sent). WasSent (record { from = l.from; to = l.to; message = message.Scabbard i s t l.body }) ps → IsMessageOf n d back (z ∷ zs) l) (has_node ns (node_or d.members back z.0)) _ _
     (λ q. here (posted-service ns n c d back zs i s t l)) (λ q k. inr (posted-service ns n c d back zs i s t l k)) h
   where
-    here : (WasSent (record { from = l.from; to = l.to; message = message.Scabbard i s t l.body }) (posted ns n (service_sends n c d back zs)) → IsMessageOf n d back zs l) → WasSent (record { from = l.from; to = l.to; message = message.Scabbard i s t l.body }) (record { from = n; to = node_or d.members back z.0; message = (service_message n c d (node_or d.members back z.0) z.1).message } ∷ posted ns n (service_sends n c d back zs)) → IsMessageOf n d back (z ∷ zs) l
+    here : (WasSent (record { from = l.from; to = l.to; message = message.Scabbard i s t l.body }) (posted ns n (group_sends (service_lane (site_at n c) d) back zs)) → IsMessageOf n d back zs l) → WasSent (record { from = l.from; to = l.to; message = message.Scabbard i s t l.body }) (record { from = n; to = node_or d.members back z.0; message = message.Scabbard c (service_on d n) (service_on d (node_or d.members back z.0)) z.1 } ∷ posted ns n (group_sends (service_lane (site_at n c) d) back zs)) → IsMessageOf n d back (z ∷ zs) l
     here hyp (inl e) = inl (made_message_is l.from n l.to (node_or d.members back z.0) l.body z.1 (ap (λ (u : Sent). u.from) e) (ap (λ (u : Sent). u.to) e) (scabbard_is i c s _ t _ l.body z.1 (ap (λ (u : Sent). u.message) e)))
     here hyp (inr k) = inr (hyp k)
 
 -- and none is one of acts
-pub posted-no_admin : (ns : List Node) (n c : Node) (d : Definition) (back : Node) (ss : List (ℕ × CommitMsg Batch)) (f to i : Node) (x : CommitMsg Act) → WasSent (record { from = f; to = to; message = message.Admin i x }) (posted ns n (service_sends n c d back ss)) → ⊥
+pub posted-no_admin : (ns : List NodeId) (n : NodeId) (c : CircuitId) (d : Definition) (back : NodeId) (ss : List (ℕ × CommitMsg Batch)) (f to : NodeId) (i : CircuitId) (x : CommitMsg Act) → WasSent (record { from = f; to = to; message = message.Admin i x }) (posted ns n (group_sends (service_lane (site_at n c) d) back ss)) → ⊥
 posted-no_admin ns n c d back [] f to i x h = h
 posted-no_admin ns n c d back (z ∷ zs) f to i x h =
     if_holds (λ (ps : List Sent). WasSent (record { from = f; to = to; message = message.Admin i x }) ps → ⊥) (has_node ns (node_or d.members back z.0)) _ _
     (λ q. here (posted-no_admin ns n c d back zs f to i x)) (λ q k. posted-no_admin ns n c d back zs f to i x k) h
   where
-    here : (WasSent (record { from = f; to = to; message = message.Admin i x }) (posted ns n (service_sends n c d back zs)) → ⊥) → WasSent (record { from = f; to = to; message = message.Admin i x }) (record { from = n; to = node_or d.members back z.0; message = (service_message n c d (node_or d.members back z.0) z.1).message } ∷ posted ns n (service_sends n c d back zs)) → ⊥
+    here : (WasSent (record { from = f; to = to; message = message.Admin i x }) (posted ns n (group_sends (service_lane (site_at n c) d) back zs)) → ⊥) → WasSent (record { from = f; to = to; message = message.Admin i x }) (record { from = n; to = node_or d.members back z.0; message = message.Scabbard c (service_on d n) (service_on d (node_or d.members back z.0)) z.1 } ∷ posted ns n (group_sends (service_lane (site_at n c) d) back zs)) → ⊥
     here hyp (inl e) = not_admin i c _ _ x z.1 (ap (λ (u : Sent). u.message) e)
     here hyp (inr k) = hyp k

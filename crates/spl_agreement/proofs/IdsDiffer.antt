@@ -8,7 +8,7 @@ use Rattle.spl_agree.proofs.Tests.{bool_cases, eqb_is, eqb_same, or_true}
 use Rattle.spl_agree.specs.Fits.{AllGood}
 use Rattle.spl_circuit.specs.declared.definition.Definition.{Definition}
 use Rattle.spl_circuit.specs.declared.act.Act.{Act}
-use Rattle.spl_circuit.specs.Nodes.{Node, has_node, position}
+use Rattle.spl_circuit.specs.Nodes.{NodeId, has_node, position}
 use Rattle.spl_circuit.specs.Rules.{broken, admin}
 use Rattle.spl_command.specs.declared.batch.Batch.{Batch}
 use Rattle.spl_command.specs.Rules.{broken_batch}
@@ -18,8 +18,8 @@ use Rattle.spl_agreement.proofs.Positions.{position-apart, position-below}
 use Rattle.spl_agreement.proofs.Rosters.{IsRoster, roster}
 use Rattle.spl_model.specs.Worlds.{Occurrence, world_behind}
 use Rattle.spl_agreement.specs.Lists.{act_list, batch_list}
-use Rattle.spl_agreement.proofs.GroupOfDefinition.{GroupMessage, Presence, Ever, SomeWorld, InLane, Lane}
-use Rattle.spl_agreement.proofs.GroupWorlds.{admin_presence, service_presence, admin_said, service_said, admin_lane, service_lane}
+use Rattle.spl_agreement.proofs.GroupOfDefinition.{GroupMessage, Presence, Ever, SomeWorld, InGroups, Groups}
+use Rattle.spl_agreement.proofs.GroupWorlds.{admin_presence, service_presence, admin_said, service_said, admin_groups, service_groups}
 use Rattle.spl_agreement.proofs.CoupledSteps.{Past}
 use Rattle.spl_agreement.proofs.CoupledDeeds.{SomePast}
 use Rattle.spl_agreement.proofs.Occurrences.{run-past}
@@ -67,25 +67,25 @@ pub good-differ : (before bs : List Batch) → AllGood batch_rules before bs →
 good-differ before [] g = tt
 good-differ before (v ∷ vs) g = (fresh_in v.id (before ++ v ∷ []) vs (is_taken-last before v) g.1, good-differ (before ++ v ∷ []) vs g.1)
 
--- the list of a lane is good
-pub lane-good : {V : Type 0} (lane : Lane V) (d : Definition) (past : Past) (at : Node → Presence V) (said : GroupMessage V → Type 0) (list : List V) → InLane lane d past at said list → AllGood (lane.rules d) [] list
-lane-good {V} lane d past at said list c = go c.empty
+-- the list of such groups is good
+pub groups-good : {V : Type 0} (groups : Groups V) (d : Definition) (past : Past) (at : NodeId → Presence V) (said : GroupMessage V → Type 0) (list : List V) → InGroups groups d past at said list → AllGood (groups.rules d) [] list
+groups-good {V} groups d past at said list c = go c.empty
   where
-    go : (list ≡ []) ⊎ Ever (lane.leader d) d past → AllGood (lane.rules d) [] list
-    go (inl h) = subst (λ (z : List V). AllGood (lane.rules d) [] z) (sym h) tt
+    go : (list ≡ []) ⊎ Ever (groups.leader d) d past → AllGood (groups.rules d) [] list
+    go (inl h) = subst (λ (z : List V). AllGood (groups.rules d) [] z) (sym h) tt
     go (inr h) = (c.coupled h).1.good
 
 -- the ids of the circuit's list of batches differ
-pub ids-differ : (ns : List Node) (d : Definition) (es : List Occurrence) → AllPlain es → AllDiffer (batch_list ns d es)
+pub ids-differ : (ns : List NodeId) (d : Definition) (es : List Occurrence) → AllPlain es → AllDiffer (batch_list ns d es)
 ids-differ ns d es h =
     let v : SomePast [] (world_behind ns es).at (world_behind ns es).sent (λ f. act_list ns f es) (λ f. batch_list ns f es) = run-past ns es h in
-    good-differ [] (batch_list ns d es) (lane-good service_lane d v.0 (λ k. service_presence ((world_behind ns es).at k)) (service_said (world_behind ns es).sent) (batch_list ns d es) (v.2.services d))
+    good-differ [] (batch_list ns d es) (groups-good service_groups d v.0 (λ k. service_presence ((world_behind ns es).at k)) (service_said (world_behind ns es).sent) (batch_list ns d es) (v.2.services d))
 
 -- where there are acts, every member was bound
-pub all-ever : (d : Definition) (past : Past) (at : Node → Presence Act) (said : GroupMessage Act → Type 0) (list : List Act) (n : Node) → ((k : Node) (e : Definition) → Ever k e past → broken e ≡ None) → list ≢ [] → has_node d.members n ≡ true → InLane admin_lane d past at said list → Ever n d past
+pub all-ever : (d : Definition) (past : Past) (at : NodeId → Presence Act) (said : GroupMessage Act → Type 0) (list : List Act) (n : NodeId) → ((k : NodeId) (e : Definition) → Ever k e past → broken e ≡ None) → list ≢ [] → has_node d.members n ≡ true → InGroups admin_groups d past at said list → Ever n d past
 all-ever d past at said list n ruled some mem c = go c.empty
   where
-    by_world : IsRoster d → SomeWorld admin_lane d past at said list → Ever n d past
+    by_world : IsRoster d → SomeWorld admin_groups d past at said list → Ever n d past
     by_world r w = pick (w.1.never n below) (node_cases n (admin d))
       where
         below : position d.members n < length d.members
@@ -96,7 +96,7 @@ all-ever d past at said list n ruled some mem c = go c.empty
 
         pick : (w.0.at (position d.members n) ≡ new_member) ⊎ Ever n d past → (n ≡ admin d) ⊎ (n ≢ admin d) → Ever n d past
         pick (inr x) y = x
-        pick (inl x) (inl y) = absurd (lead_not (subst (λ (z : Node). (w.0.at (position d.members z)).history ≡ []) y (ap (λ (z : Member Act). z.history) x)))
+        pick (inl x) (inl y) = absurd (lead_not (subst (λ (z : NodeId). (w.0.at (position d.members z)).history ≡ []) y (ap (λ (z : Member Act). z.history) x)))
         pick (inl x) (inr y) = absurd (none f.behind)
           where
             f : Follows (lead (w.0.at (position d.members (admin d)))) (seat (w.0.at (position d.members n))) (position d.members n)
@@ -114,7 +114,7 @@ all-ever d past at said list n ruled some mem c = go c.empty
     go (inr h) = by_world (roster d (ruled (admin d) d h)) (c.coupled h)
 
 -- a member of two definitions of one generation that both have acts was bound to both
-pub share-nothing : (ns : List Node) (d e : Definition) (es : List Occurrence) → AllPlain es → ShareNothing ns es d e
+pub share-nothing : (ns : List NodeId) (d e : Definition) (es : List Occurrence) → AllPlain es → ShareNothing ns es d e
 share-nothing ns d e es h n p q same x y =
     let v : SomePast [] (world_behind ns es).at (world_behind ns es).sent (λ f. act_list ns f es) (λ f. batch_list ns f es) = run-past ns es h in
     v.2.law n d e

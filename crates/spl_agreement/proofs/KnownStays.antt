@@ -9,14 +9,13 @@ use Rattle.spl_agree.specs.Member.{Rules, Member, values, without, changed, foun
 use Rattle.spl_agree.proofs.Tests.{bool_cases, and_left, and_right, eqb_is}
 use Rattle.spl_agree.specs.World.{IsPrefixOf}
 use Rattle.spl_circuit.specs.declared.definition.Definition.{Definition}
-use Rattle.spl_circuit.specs.Nodes.{Node}
+use Rattle.spl_circuit.specs.Nodes.{NodeId}
 use Rattle.spl_circuit.specs.Acts.{act_rules}
 use Rattle.spl_circuit.specs.declared.act.Act.{Act}
-use Rattle.spl_circuit.specs.declared.lifecycle.Mark.{Mark}
 use Rattle.spl_command.specs.declared.batch.Batch.{Batch}
 use Rattle.spl_scabbard.specs.Checks.{batch_rules}
 use Rattle.spl_group.proofs.Sound.{values-more}
-use Rattle.spl_rules.specs.Cells.{Held}
+use Rattle.spl_rules.specs.Cells.{Held, Bound}
 use Rattle.spl_model.proofs.Nodes.{node_is}
 use Rattle.spl_agreement.proofs.HistoriesGrow.{Lasts, stays-run, kept-prefix, prefix-same}
 use Rattle.spl_model.specs.Worlds.{World, Occurrence, occur}
@@ -128,7 +127,7 @@ pub keyed-acts : (d : Definition) → IsKeyed (act_rules d)
 keyed-acts d x u v p q =
     let a : u.node ≡ x.node = node_is u.node x.node (and_left (bytes_eq u.node x.node) (eqb u.turn x.turn) p) in
     let b : u.turn ≡ x.turn = eqb_is u.turn x.turn (and_right (bytes_eq u.node x.node) (eqb u.turn x.turn) p) in
-    subst (λ (t : ℕ). (bytes_eq v.node u.node && eqb v.turn t) ≡ true) (sym b) (subst (λ (n : Node). (bytes_eq v.node n && eqb v.turn x.turn) ≡ true) (sym a) q)
+    subst (λ (t : ℕ). (bytes_eq v.node u.node && eqb v.turn t) ≡ true) (sym b) (subst (λ (n : NodeId). (bytes_eq v.node n && eqb v.turn x.turn) ≡ true) (sym a) q)
 
 -- the key of a batch is its id
 pub keyed-batches : IsKeyed batch_rules
@@ -152,13 +151,13 @@ lasting-batches v = record {
 }
 
 -- whatever happens, histories grow, and what is known stays known
-pub keeps-run : (w : World) (fs : List Occurrence) (d : Definition) (n : Node) (m m2 : Mark) (t t2 : ℕ) (a a2 : Member Act) (b b2 : Member Batch) → AllPlain fs → w.at n ≡ Held d m t a b → (occur w fs).at n ≡ Held d m2 t2 a2 b2 → Keeps a a2 b b2 d
-keeps-run w fs d n m m2 t t2 a a2 b b2 k is is2 = record {
+pub keeps-run : (w : World) (fs : List Occurrence) (n : NodeId) (b later : Bound) → AllPlain fs → w.at n ≡ Held b → (occur w fs).at n ≡ Held later → later.definition ≡ b.definition → Keeps b later
+keeps-run w fs n b later k is is2 same = record {
   acts = grown.0;
   batches = grown.1;
-  known_acts = λ v x. known-in (act_rules d) v a2 ((stays-run _ _ (lasting-acts v) w fs n d m m2 t t2 a a2 b b2 k is is2 (λ e. in-known (act_rules e) v a x) tt).0 d);
-  known_batches = λ v x. known-in batch_rules v b2 (stays-run _ _ (lasting-batches v) w fs n d m m2 t t2 a a2 b b2 k is is2 tt (in-known batch_rules v b x)).1;
+  known_acts = λ v x. known-in (act_rules b.definition) v later.acts ((stays-run _ _ (lasting-acts v) w fs n b later k is is2 same (λ e. in-known (act_rules e) v b.acts x) tt).0 b.definition);
+  known_batches = λ v x. known-in batch_rules v later.batches (stays-run _ _ (lasting-batches v) w fs n b later k is is2 same tt (in-known batch_rules v b.batches x)).1;
 }
   where
-    grown : IsPrefixOf a.history a2.history × IsPrefixOf b.history b2.history
-    grown = stays-run (λ x. IsPrefixOf a.history x.history) (λ x. IsPrefixOf b.history x.history) (kept-prefix a.history b.history) w fs n d m m2 t t2 a a2 b b2 k is is2 (prefix-same a.history) (prefix-same b.history)
+    grown : IsPrefixOf b.acts.history later.acts.history × IsPrefixOf b.batches.history later.batches.history
+    grown = stays-run (λ x. IsPrefixOf b.acts.history x.history) (λ x. IsPrefixOf b.batches.history x.history) (kept-prefix b.acts.history b.batches.history) w fs n b later k is is2 same (prefix-same b.acts.history) (prefix-same b.batches.history)

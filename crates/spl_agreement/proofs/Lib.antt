@@ -2,6 +2,7 @@ pub mod Same
 pub mod Positions
 pub mod Rosters
 pub mod GroupOfDefinition
+pub mod GroupBindings
 pub mod SentByRule
 pub mod GroupWorlds
 pub mod CoupledSteps

@@ -8,7 +8,7 @@ use Rattle.spl_agree.proofs.Tests.{if_holds, bool_cases, and_left, and_right}
 use Rattle.spl_agree.specs.Fits.{AllGood}
 use Rattle.spl_circuit.specs.declared.definition.Definition.{Definition}
 use Rattle.spl_circuit.specs.declared.act.Act.{Act}
-use Rattle.spl_circuit.specs.Nodes.{Node, position}
+use Rattle.spl_circuit.specs.Nodes.{NodeId, CircuitId, position}
 use Rattle.spl_circuit.specs.Rules.{admin, service}
 use Rattle.spl_circuit.specs.Acts.{act_rules}
 use Rattle.spl_circuit.specs.declared.act.ActKind.TheVariants as kind
@@ -19,7 +19,7 @@ use Rattle.spl_wire.specs.declared.event.Event.TheVariants as event
 use Rattle.spl_wire.specs.declared.answer.Refusal.TheVariants as refusal
 use Rattle.spl_wire.specs.declared.plan.Plan.{Plan}
 use Rattle.spl_group.proofs.Agreement.{prefix-agrees}
-use Rattle.spl_rules.specs.Cells.{Cell, Empty, Deed, Refuses}
+use Rattle.spl_rules.specs.Cells.{Cell, Empty, Held, Deed, Refuses, Bound}
 use Rattle.spl_rules.specs.Changes.{made, stopped_cell, after_plan}
 use Rattle.spl_rules.specs.Events.{does}
 use Rattle.spl_rules.specs.Plans.{planned}
@@ -27,10 +27,10 @@ use Rattle.spl_sched.specs.declared.line.Step.{Step}
 use Rattle.spl_sched.specs.declared.line.Step.TheVariants as step
 use Rattle.spl_sched.specs.Grammar.{step_node}
 use Rattle.spl_model.proofs.Nodes.{node_is, node_not}
-use Rattle.spl_model.specs.Worlds.{Sent, World, first_world, put_at, on_pair, messages, posted, delivery, step_plan, stopped, started, halted, Occurrence, Steps, Stops, Starts, Halts, happens, occur, world_behind}
+use Rattle.spl_model.specs.Worlds.{Sent, World, first_world, put_at, on_pair, messages, posted, delivery, step_plan, stopped, started, halted, Occurrence, Steps, Stops, Starts, Halts, happens, occur, world_behind, site_at}
 use Rattle.spl_agreement.specs.Lists.{acts_in, batches_in, adds, acts_from, batches_from, act_list, batch_list}
-use Rattle.spl_agreement.proofs.GroupOfDefinition.{GroupMessage, Presence, Away, There, Ever, IsQuiet, SomeWorld, InLane, Lane, group_of}
-use Rattle.spl_agreement.proofs.GroupWorlds.{admin_said, service_said, admin_presence, service_presence, WasSent, IsValid, IsValidCell, InWorld, Others, was-left, admin_lane, service_lane, first_act}
+use Rattle.spl_agreement.proofs.GroupOfDefinition.{GroupMessage, Presence, Away, There, Ever, IsQuiet, SomeWorld, InGroups, Groups, group_of}
+use Rattle.spl_agreement.proofs.GroupWorlds.{admin_said, service_said, admin_presence, service_presence, WasSent, IsValid, IsValidCell, InWorld, Others, was-left, admin_groups, service_groups, first_act}
 use Rattle.spl_agreement.proofs.CoupledSteps.{Past, world-messages, world-stop}
 use Rattle.spl_agreement.proofs.DeedsAreSteps.{IsStepOf, IsDue, steps-does}
 use Rattle.spl_agreement.proofs.PendingActsDue.{Apt, apt-does}
@@ -40,14 +40,14 @@ use Rattle.spl_model.proofs.Puts.{put_at-same, put_at-other}
 use Rattle.spl_agreement.proofs.CoupledDeeds.{stopped-moved, added, added-none, world-lists, SomePast, Planned, none-more, put-others, planned-deed}
 
 -- what is on a pair was sent
-pub pair-was : (from to : Node) (ss : List Sent) (k : ℕ) (m : Message) → slice_get (on_pair from to ss) k ≡ Some m → WasSent (record { from = from; to = to; message = m }) ss
+pub pair-was : (from to : NodeId) (ss : List Sent) (k : ℕ) (m : Message) → slice_get (on_pair from to ss) k ≡ Some m → WasSent (record { from = from; to = to; message = m }) ss
 pair-was from to [] k m h = cc
 pair-was from to (s ∷ ss) k m h = go (bool_cases (bytes_eq s.from from && bytes_eq s.to to)) (λ j x. pair-was from to ss j m x)
   where
-    built : Node → Node → Message → Sent
+    built : NodeId → NodeId → Message → Sent
     built x y z = record { from = x; to = y; message = z }
 
-    built_is : (x x2 y y2 : Node) (z z2 : Message) → x ≡ x2 → y ≡ y2 → z ≡ z2 → built x y z ≡ built x2 y2 z2
+    built_is : (x x2 y y2 : NodeId) (z z2 : Message) → x ≡ x2 → y ≡ y2 → z ≡ z2 → built x y z ≡ built x2 y2 z2
     built_is x x2 y y2 z z2 p q r = cc
 
     some_same : (x y : Message) → Some x ≡ Some y → x ≡ y
@@ -62,20 +62,20 @@ pair-was from to (s ∷ ss) k m h = go (bool_cases (bytes_eq s.from from && byte
     go (inr q) hyp = inr (hyp k (rw q at h))
 
 -- a step is what some fair deed gives
-abbrev pub IsDeed : World → Node → Plan → Type 0
-IsDeed w n p = (deed : Deed) × IsStepOf n w.sent (w.at n) deed × (c : Node) × (p ≡ planned n c deed) × Apt (admin_said w.sent) n deed
+abbrev pub IsDeed : World → NodeId → Plan → Type 0
+IsDeed w n p = (deed : Deed) × IsStepOf n w.sent (w.at n) deed × (c : CircuitId) × (p ≡ planned (site_at n c) deed) × Apt (admin_said w.sent) n deed
 
 -- an event at a node is a fair deed
-pub due-at : (c : Node) (w : World) (n : Node) (e : Event) → IsDue w.sent n e → IsDeed w n (planned n c (does n c (w.at n) e))
-due-at c w n e due = (does n c (w.at n) e, steps-does n c w.sent (w.at n) e due, c, refl, apt-does n c w.sent (w.at n) e due)
+pub due-at : (c : CircuitId) (w : World) (n : NodeId) (e : Event) → IsDue w.sent n e → IsDeed w n (planned (site_at n c) (does (site_at n c) (w.at n) e))
+due-at c w n e due = (does (site_at n c) (w.at n) e, steps-does (site_at n c) w.sent (w.at n) e due, c, refl, apt-does (site_at n c) w.sent (w.at n) e due)
 
 -- an event that is no delivery is due
-pub plain-due : (sent : List Sent) (n : Node) (e : Event) → IsPlainEvent e → IsDue sent n e
+pub plain-due : (sent : List Sent) (n : NodeId) (e : Event) → IsPlainEvent e → IsDue sent n e
 plain-due sent n (event.Deliver from m) h = absurd h
 plain-due sent n _ h = tt
 
 -- a delivery is a fair deed
-pub delivery-deed : (c : Node) (w : World) (from to : Node) (k : ℕ) (o : Option Message) → slice_get (messages w from to) k ≡ o → IsDeed w to (delivery c w from to o)
+pub delivery-deed : (c : CircuitId) (w : World) (from to : NodeId) (k : ℕ) (o : Option Message) → slice_get (messages w from to) k ≡ o → IsDeed w to (delivery c w from to o)
 delivery-deed c w from to k None h = (Refuses refusal.NoMessage, tt, c, refl, tt)
 delivery-deed c w from to k (Some m) h = due-at c w to (event.Deliver from m) (go (bool_cases (bytes_eq from to)))
   where
@@ -102,21 +102,21 @@ step-planned base w s acts batches h v =
     subst (λ (p : Plan). Planned base w.nodes (step_node s) w.at w.sent acts batches p) (sym d.3) (planned-deed base w.nodes d.2 (step_node s) w.at w.sent acts batches d.0 d.1 v)
 
 -- nothing is added
-pub unadded : (base : Past) (n : Node) (old at : Node → Cell) (sent : List Sent) (acts : Definition → List Act) (batches : Definition → List Batch) → SomePast base at sent acts batches → SomePast base at sent (λ f. acts f ++ added n (admin f) f old []) (λ f. batches f ++ added n (service f) f old [])
+pub unadded : (base : Past) (n : NodeId) (old at : NodeId → Cell) (sent : List Sent) (acts : Definition → List Act) (batches : Definition → List Batch) → SomePast base at sent acts batches → SomePast base at sent (λ f. acts f ++ added n (admin f) f old []) (λ f. batches f ++ added n (service f) f old [])
 unadded base n old at sent acts batches v = (v.0, v.1, world-lists v.0 at sent acts (λ f. acts f ++ added n (admin f) f old []) batches (λ f. batches f ++ added n (service f) f old []) (λ f. none-more (acts f) _ (added-none n (admin f) f old [] refl)) (λ f. none-more (batches f) _ (added-none n (service f) f old [] refl)) v.2)
 
 -- a stop
-pub stops-keeps : (base : Past) (n : Node) (w : World) (acts : Definition → List Act) (batches : Definition → List Batch) (u : Bool) → SomePast base w.at w.sent acts batches → SomePast base (if u then stopped w n else w).at (if u then stopped w n else w).sent acts batches
+pub stops-keeps : (base : Past) (n : NodeId) (w : World) (acts : Definition → List Act) (batches : Definition → List Batch) (u : Bool) → SomePast base w.at w.sent acts batches → SomePast base (if u then stopped w n else w).at (if u then stopped w n else w).sent acts batches
 stops-keeps base n w acts batches false v = v
 stops-keeps base n w acts batches true v = (v.0, v.1, world-stop v.0 w.at (put_at w.at n (stopped_cell (w.at n))) w.sent acts batches n (w.at n) refl (put_at-same w.at n (stopped_cell (w.at n))) (put-others w.at n (stopped_cell (w.at n))) v.2)
 
 -- a start
-pub starts-keeps : (base : Past) (n : Node) (w : World) (acts : Definition → List Act) (batches : Definition → List Batch) (u : Bool) → SomePast base w.at w.sent acts batches → SomePast base (if u then w else started w n).at (if u then w else started w n).sent acts batches
+pub starts-keeps : (base : Past) (n : NodeId) (w : World) (acts : Definition → List Act) (batches : Definition → List Batch) (u : Bool) → SomePast base w.at w.sent acts batches → SomePast base (if u then w else started w n).at (if u then w else started w n).sent acts batches
 starts-keeps base n w acts batches true v = v
 starts-keeps base n w acts batches false v = v
 
 -- a stop in a step, with its record or without
-pub halts-keeps : (base : Past) (n : Node) (w : World) (p : Plan) (acts : Definition → List Act) (batches : Definition → List Batch) (kept u : Bool) → Planned base w.nodes n w.at w.sent acts batches p → SomePast base w.at w.sent acts batches → SomePast base (if u then halted w n kept p else w).at (if u then halted w n kept p else w).sent
+pub halts-keeps : (base : Past) (n : NodeId) (w : World) (p : Plan) (acts : Definition → List Act) (batches : Definition → List Batch) (kept u : Bool) → Planned base w.nodes n w.at w.sent acts batches p → SomePast base w.at w.sent acts batches → SomePast base (if u then halted w n kept p else w).at (if u then halted w n kept p else w).sent
     (λ f. acts f ++ added n (admin f) f w.at (acts_in (if u then (if kept then p.changes else []) else []))) (λ f. batches f ++ added n (service f) f w.at (batches_in (if u then (if kept then p.changes else []) else [])))
 halts-keeps base n w p acts batches kept false q v = unadded base n w.at w.at w.sent acts batches v
 halts-keeps base n w p acts batches false true q v = unadded base n w.at (put_at w.at n (stopped_cell (w.at n))) w.sent acts batches (stops-keeps base n w acts batches true v)
@@ -133,10 +133,10 @@ halts-keeps base n w p acts batches true true q v = (
     batches2 : Definition → List Batch
     batches2 f = batches f ++ added n (service f) f w.at (batches_in p.changes)
 
-    at1 : Node → Cell
+    at1 : NodeId → Cell
     at1 = put_at w.at n (after_plan n (w.at n) p)
 
-    at2 : Node → Cell
+    at2 : NodeId → Cell
     at2 = put_at w.at n (stopped_cell (made n (w.at n) p.changes))
 
     now : at2 n ≡ stopped_cell (at1 n)
@@ -165,8 +165,8 @@ run-keeps base w (e ∷ es) acts batches h v =
     )
 
 -- at first
-pub lane-start : {V : Type 0} (lane : Lane V) (d : Definition) (said : GroupMessage V → Type 0) → ((l : GroupMessage V) → said l → ⊥) → InLane lane d [] (λ n. Away) said []
-lane-start {V} lane d said none = record {
+pub groups-start : {V : Type 0} (groups : Groups V) (d : Definition) (said : GroupMessage V → Type 0) → ((l : GroupMessage V) → said l → ⊥) → InGroups groups d [] (λ n. Away) said []
+groups-start {V} groups d said none = record {
   ever = λ n e m h. cc;
   quiet = λ n e m h. cc;
   placed = λ n e m h. cc;
@@ -182,55 +182,62 @@ world-start = record {
   ruled = λ n e h. absurd h;
   since = λ n e h. h;
   valid = λ n. tt;
-  admins = λ d. lane-start admin_lane d (admin_said []) (λ l s. s.1);
-  services = λ d. lane-start service_lane d (service_said []) (λ l s. s.3);
+  admins = λ d. groups-start admin_groups d (admin_said []) (λ l s. s.1);
+  services = λ d. groups-start service_groups d (service_said []) (λ l s. s.3);
 }
 
 -- behind anything that happened
-pub run-past : (ns : List Node) (es : List Occurrence) → AllPlain es → SomePast [] (occur (first_world ns) es).at (occur (first_world ns) es).sent (λ f. act_list ns f es) (λ f. batch_list ns f es)
+pub run-past : (ns : List NodeId) (es : List Occurrence) → AllPlain es → SomePast [] (occur (first_world ns) es).at (occur (first_world ns) es).sent (λ f. act_list ns f es) (λ f. batch_list ns f es)
 run-past ns es h = run-keeps [] (first_world ns) es (λ f. []) (λ f. []) h ([], (λ k f x. x), world-start)
 
 -- a history is a beginning of the list
-pub lane-prefix : {V : Type 0} (lane : Lane V) (d : Definition) (past : Past) (at : Node → Presence V) (said : GroupMessage V → Type 0) (list : List V) (n : Node) (m : Member V) → at n ≡ There d m → InLane lane d past at said list → IsPrefixOf (values m.history) list
-lane-prefix {V} lane d past at said list n m is c = go (c.quiet n d m is)
+pub groups-prefix : {V : Type 0} (groups : Groups V) (d : Definition) (past : Past) (at : NodeId → Presence V) (said : GroupMessage V → Type 0) (list : List V) (n : NodeId) (m : Member V) → at n ≡ There d m → InGroups groups d past at said list → IsPrefixOf (values m.history) list
+groups-prefix {V} groups d past at said list n m is c = go (c.quiet n d m is)
   where
     values-append : (xs ys : List (ℕ × V)) → values (xs ++ ys) ≡ values xs ++ values ys
     values-append [] ys = refl
     values-append (x ∷ xs) ys = ap (λ z. x.1 ∷ z) (values-append xs ys)
 
-    by_world : SomeWorld lane d past at said list → IsPrefixOf (values m.history) list
+    by_world : SomeWorld groups d past at said list → IsPrefixOf (values m.history) list
     by_world w =
-        let p : IsPrefixOf (w.0.at (position d.members n)).history (w.0.at (position d.members (lane.leader d))).history = prefix-agrees (group_of lane d) w.0 (position d.members n) (c.placed n d m is).here w.1.agrees in
+        let p : IsPrefixOf (w.0.at (position d.members n)).history (w.0.at (position d.members (groups.leader d))).history = prefix-agrees (group_of groups d) w.0 (position d.members n) (c.placed n d m is).here w.1.agrees in
         (values p.0, subst (λ (x : Member V). values x.history ++ values p.0 ≡ list) (w.1.there n m is) (sym (values-append (w.0.at (position d.members n)).history p.0) ∙ (ap (λ z. values z) p.1 ∙ w.1.listed)))
 
-    go : IsQuiet m ⊎ Ever (lane.leader d) d past → IsPrefixOf (values m.history) list
+    go : IsQuiet m ⊎ Ever (groups.leader d) d past → IsPrefixOf (values m.history) list
     go (inl q) = (list, ap (λ z. values z ++ list) q.0)
     go (inr q) = by_world (c.coupled q)
 
--- the histories begin the circuit's lists
-pub begins-acts : (ns : List Node) (es : List Occurrence) (d : Definition) → AllPlain es → AtEach (world_behind ns es) d (λ n m turn a b. IsPrefixOf (values a.history) (act_list ns d es))
-begins-acts ns es d h n m t a b is =
-    let v : SomePast [] (world_behind ns es).at (world_behind ns es).sent (λ f. act_list ns f es) (λ f. batch_list ns f es) = run-past ns es h in
-    lane-prefix admin_lane d v.0 (λ k. admin_presence ((world_behind ns es).at k)) (admin_said (world_behind ns es).sent) (act_list ns d es) n a (ap admin_presence is) (v.2.admins d)
+-- a cell that is bound to a definition is seen so
+bound-acts : (k : Cell) (b : Bound) (d : Definition) → k ≡ Held b → b.definition ≡ d → admin_presence k ≡ There d b.acts
+bound-acts k b d is same = ap admin_presence is ∙ ap (λ (z : Definition). There z b.acts) same
 
-pub begins-batches : (ns : List Node) (es : List Occurrence) (d : Definition) → AllPlain es → AtEach (world_behind ns es) d (λ n m turn a b. IsPrefixOf (values b.history) (batch_list ns d es))
-begins-batches ns es d h n m t a b is =
+bound-batches : (k : Cell) (b : Bound) (d : Definition) → k ≡ Held b → b.definition ≡ d → service_presence k ≡ There d b.batches
+bound-batches k b d is same = ap service_presence is ∙ ap (λ (z : Definition). There z b.batches) same
+
+-- the histories begin the circuit's lists
+pub begins-acts : (ns : List NodeId) (es : List Occurrence) (d : Definition) → AllPlain es → AtEach (world_behind ns es) d (λ n b. IsPrefixOf (values b.acts.history) (act_list ns d es))
+begins-acts ns es d h n b is same =
     let v : SomePast [] (world_behind ns es).at (world_behind ns es).sent (λ f. act_list ns f es) (λ f. batch_list ns f es) = run-past ns es h in
-    lane-prefix service_lane d v.0 (λ k. service_presence ((world_behind ns es).at k)) (service_said (world_behind ns es).sent) (batch_list ns d es) n b (ap service_presence is) (v.2.services d)
+    groups-prefix admin_groups d v.0 (λ k. admin_presence ((world_behind ns es).at k)) (admin_said (world_behind ns es).sent) (act_list ns d es) n b.acts (bound-acts ((world_behind ns es).at n) b d is same) (v.2.admins d)
+
+pub begins-batches : (ns : List NodeId) (es : List Occurrence) (d : Definition) → AllPlain es → AtEach (world_behind ns es) d (λ n b. IsPrefixOf (values b.batches.history) (batch_list ns d es))
+begins-batches ns es d h n b is same =
+    let v : SomePast [] (world_behind ns es).at (world_behind ns es).sent (λ f. act_list ns f es) (λ f. batch_list ns f es) = run-past ns es h in
+    groups-prefix service_groups d v.0 (λ k. service_presence ((world_behind ns es).at k)) (service_said (world_behind ns es).sent) (batch_list ns d es) n b.batches (bound-batches ((world_behind ns es).at n) b d is same) (v.2.services d)
 
 -- what a cell was bound to is behind it
-pub stays-behind : (ns : List Node) (es fs : List Occurrence) (d : Definition) → AllPlain es → AllPlain fs → AtEach (world_behind ns es) d (λ n m turn a b. IsPast d ((occur (world_behind ns es) fs).at n))
-stays-behind ns es fs d h k n m t a b is =
+pub stays-behind : (ns : List NodeId) (es fs : List Occurrence) (d : Definition) → AllPlain es → AllPlain fs → AtEach (world_behind ns es) d (λ n b. IsPast d ((occur (world_behind ns es) fs).at n))
+stays-behind ns es fs d h k n b is same =
     let w1 : World = world_behind ns es in
     let v : SomePast [] w1.at w1.sent (λ f. act_list ns f es) (λ f. batch_list ns f es) = run-past ns es h in
     let u : SomePast v.0 (occur w1 fs).at (occur w1 fs).sent (λ f. act_list ns f es ++ acts_from f w1 fs) (λ f. batch_list ns f es ++ batches_from f w1 fs) = run-keeps v.0 w1 fs (λ f. act_list ns f es) (λ f. batch_list ns f es) k (v.0, (λ k f x. x), v.2) in
-    u.2.since n d (u.1 n d ((v.2.admins d).ever n d a (ap admin_presence is)))
+    u.2.since n d (u.1 n d ((v.2.admins d).ever n d b.acts (bound-acts (w1.at n) b d is same)))
 
 -- the first act is the proposal of the bound definition
-pub first-proposal : (ns : List Node) (es : List Occurrence) (d : Definition) → AllPlain es → AtEach (world_behind ns es) d (λ n m turn a b. FirstIsProposal d a)
-first-proposal ns es d h n m t a b is e rest first =
+pub first-proposal : (ns : List NodeId) (es : List Occurrence) (d : Definition) → AllPlain es → AtEach (world_behind ns es) d (λ n b. FirstIsProposal d b.acts)
+first-proposal ns es d h n b is same e rest first =
     let v : SomePast [] (world_behind ns es).at (world_behind ns es).sent (λ f. act_list ns f es) (λ f. batch_list ns f es) = run-past ns es h in
-    let x : IsValid d n a b = subst (λ (z : Cell). IsValidCell n z) is (v.2.valid n) in
-    let y : AllGood (act_rules d) [] (e.1 ∷ values rest) = subst (λ (z : List (ℕ × Act)). AllGood (act_rules d) [] (values z)) first x.acts.good in
-    let z : (x : Definition) × (e.1.kind ≡ kind.Propose x) × (x ≡ d) = first_act d e.1 y.0 in
-    z.1 ∙ ap (λ (u : Definition). kind.Propose u) z.2
+    let x : IsValid b.definition n b.acts b.batches = subst (λ (z : Cell). IsValidCell n z) is (v.2.valid n) in
+    let y : AllGood (act_rules b.definition) [] (e.1 ∷ values rest) = subst (λ (z : List (ℕ × Act)). AllGood (act_rules b.definition) [] (values z)) first x.acts.good in
+    let z : (x : Definition) × (e.1.kind ≡ kind.Propose x) × (x ≡ b.definition) = first_act b.definition e.1 y.0 in
+    z.1 ∙ ap (λ (u : Definition). kind.Propose u) (z.2 ∙ same)

@@ -2,7 +2,7 @@
 use Rattle.std.proofs.Common.{◌≡◌, ℕ, ◌⊎◌, Bool, true, false, List, [], ◌∷◌, ◌++◌, append_assoc, length, refl, sym, ap, subst, ◌∙◌, inl, inr, arith}
 use Rattle.std.specs.Prelude.{if◌then◌else◌}
 use Rattle.std.proofs.lemmas.List.{map-append}
-use Rattle.spl_agree.specs.Member.{Member, values}
+use Rattle.spl_agree.specs.Member.{values}
 use Rattle.spl_agree.specs.World.{IsPrefixOf}
 use Rattle.spl_agree.proofs.Tests.{bool_cases}
 use Rattle.spl_state.specs.Root.{node_at}
@@ -10,19 +10,17 @@ use Rattle.spl_command.specs.declared.batch.Batch.{Batch}
 use Rattle.spl_command.specs.Lists.{state_of}
 use Rattle.spl_scabbard.specs.Readers.{ids_of}
 use Rattle.spl_circuit.specs.declared.definition.Definition.{Definition}
-use Rattle.spl_circuit.specs.declared.act.Act.{Act}
-use Rattle.spl_circuit.specs.declared.lifecycle.Mark.{Mark}
-use Rattle.spl_circuit.specs.Nodes.{Node}
+use Rattle.spl_circuit.specs.Nodes.{NodeId, CircuitId}
 use Rattle.spl_circuit.specs.Rules.{service}
 use Rattle.spl_wire.specs.declared.event.Event.{Event}
 use Rattle.spl_wire.specs.declared.event.Event.TheVariants as event
 use Rattle.spl_wire.specs.declared.answer.Answer.{Answer}
 use Rattle.spl_wire.specs.declared.answer.Answer.TheVariants as answer
 use Rattle.spl_wire.specs.declared.answer.Refusal.TheVariants as refusal
-use Rattle.spl_rules.specs.Cells.{Cell, Held, Tells, runs}
+use Rattle.spl_rules.specs.Cells.{Cell, Held, Tells, runs, Bound}
 use Rattle.spl_rules.specs.Batches.{root_told, history_told}
 use Rattle.spl_rules.specs.Plans.{plan_of, tells_only}
-use Rattle.spl_model.specs.Worlds.{World, Occurrence, first_world, happens, occur}
+use Rattle.spl_model.specs.Worlds.{World, Occurrence, first_world, happens, occur, site_at}
 use Rattle.spl_model.specs.Projection.{Ran, lines_fit}
 use Rattle.spl_agreement.specs.Lists.{is_bound_to, batches_in, adds, batches_from, batch_list}
 use Rattle.spl_agreement.specs.Told.{answered}
@@ -84,7 +82,7 @@ batches-append d w (e ∷ es) fs =
     ∙ sym (append_assoc (adds batches_in (service d) d w e) (batches_from d (happens w e) es) (batches_from d (occur (happens w e) es) fs))
 
 -- from the lines before one to all lines
-list-grows : (ns : List Node) (c : Node) (d : Definition) (xs ys : List Ran) → IsPrefixOf (batch_list ns d (whole_happened ns c xs)) (batch_list ns d (whole_happened ns c (xs ++ ys)))
+list-grows : (ns : List NodeId) (c : CircuitId) (d : Definition) (xs ys : List Ran) → IsPrefixOf (batch_list ns d (whole_happened ns c xs)) (batch_list ns d (whole_happened ns c (xs ++ ys)))
 list-grows ns c d xs ys = (
   batches_from d (occur (first_world ns) (whole_happened ns c xs)) later,
   sym (batches-append d (first_world ns) (whole_happened ns c xs) later) ∙ ap (λ (es : List Occurrence). batch_list ns d es) (sym (happened-append c (first_world ns) xs ys)),
@@ -96,18 +94,16 @@ list-grows ns c d xs ys = (
 -- ---- what is told
 
 -- the cell of a node that is bound to the definition
-record IsHeld (w : World) (n : Node) (d : Definition) : Type 0 where
-  mark : Mark
-  turn : ℕ
-  acts : Member Act
-  batches : Member Batch
-  is : w.at n ≡ Held d mark turn acts batches
+record IsHeld (w : World) (n : NodeId) (d : Definition) : Type 0 where
+  bound : Bound
+  is : w.at n ≡ Held bound
+  same : bound.definition ≡ d
 
-held-bound : (w : World) (n : Node) (d : Definition) (k : Cell) → w.at n ≡ k → is_bound_to d k ≡ true → IsHeld w n d
-held-bound w n d (Held e m t a b) is h = record { mark = m; turn = t; acts = a; batches = b; is = is ∙ ap (λ (x : Definition). Held x m t a b) (definition_is e d h) }
+held-bound : (w : World) (n : NodeId) (d : Definition) (k : Cell) → w.at n ≡ k → is_bound_to d k ≡ true → IsHeld w n d
+held-bound w n d (Held b) is h = record { bound = b; is = is; same = definition_is b.definition d h }
 held-bound w n d _ is h = cc
 
-module _ (ns : List Node) (rs : List Ran) (fit : lines_fit rs ≡ true) (c : Node) (d : Definition) (e : Event) (told : Answer) (t : IsTold ns rs c d e told) where
+module _ (ns : List NodeId) (rs : List Ran) (fit : lines_fit rs ≡ true) (c : CircuitId) (d : Definition) (e : Event) (told : Answer) (t : IsTold ns rs c d e told) where
   abbrev w : World
   w = whole_world ns c t.before
 
@@ -118,42 +114,42 @@ module _ (ns : List Node) (rs : List Ran) (fit : lines_fit rs ≡ true) (c : Nod
   fits_before = fits-left t.before (asking t.node c e ∷ []) fits
 
   held : IsHeld w t.node d
-  held = held-bound w t.node d (w.at t.node) refl (subst (λ (at : Node → Cell). is_bound_to d (at t.node) ≡ true) (own-same ns c t.before fits_before).at t.bound)
+  held = held-bound w t.node d (w.at t.node) refl (subst (λ (at : NodeId → Cell). is_bound_to d (at t.node) ≡ true) (own-same ns c t.before fits_before).at t.bound)
 
-  asked : answered w t.node c e ≡ told
+  asked : answered w (site_at t.node c) e ≡ told
   asked = sym (answer-whole ns t.before (asking t.node c e) fits) ∙ t.said
 
-  begins : IsPrefixOf (values held.batches.history) (batch_list ns d (whole_happened ns c t.before))
-  begins = begins-batches ns (whole_happened ns c t.before) d (plain-whole c (first_world ns) t.before fits_before) t.node held.mark held.turn held.acts held.batches
-      (subst (λ (x : World). x.at t.node ≡ Held d held.mark held.turn held.acts held.batches) (whole-run c (first_world ns) t.before) held.is)
+  begins : IsPrefixOf (values held.bound.batches.history) (batch_list ns d (whole_happened ns c t.before))
+  begins = begins-batches ns (whole_happened ns c t.before) d (plain-whole c (first_world ns) t.before fits_before) t.node held.bound
+      (subst (λ (x : World). x.at t.node ≡ Held held.bound) (whole-run c (first_world ns) t.before) held.is) held.same
 
-  front : IsPrefixOf (values held.batches.history) (batch_list ns d (whole_happened ns c rs))
-  front = prefix-on (values held.batches.history) (batch_list ns d (whole_happened ns c t.before)) (batch_list ns d (whole_happened ns c rs)) begins
+  front : IsPrefixOf (values held.bound.batches.history) (batch_list ns d (whole_happened ns c rs))
+  front = prefix-on (values held.bound.batches.history) (batch_list ns d (whole_happened ns c t.before)) (batch_list ns d (whole_happened ns c rs)) begins
       (subst (λ (xs : List Ran). IsPrefixOf (batch_list ns d (whole_happened ns c t.before)) (batch_list ns d (whole_happened ns c xs))) t.lines (list-grows ns c d t.before (asking t.node c e ∷ t.behind)))
 
   -- what its cell tells
   abbrev tells : Answer
-  tells = (plan_of t.node c (Held d held.mark held.turn held.acts held.batches) e).answer
+  tells = (plan_of (site_at t.node c) (Held held.bound) e).answer
 
   -- a node that isn't down tells it
   cell-said : (told ≡ answer.Refused refusal.Down → ⊥) → tells ≡ told
   cell-said other = go (bool_cases (w.up t.node))
     where
       go : (w.up t.node ≡ true) ⊎ (w.up t.node ≡ false) → tells ≡ told
-      go (inl q) = sym (held-answers w t.node c d held.mark held.turn held.acts held.batches e q held.is) ∙ asked
-      go (inr q) = absurd (other (sym asked ∙ ap (λ (b : Bool). (if b then plan_of t.node c (w.at t.node) e else tells_only (answer.Refused refusal.Down)).answer) q))
+      go (inl q) = sym (held-answers w (site_at t.node c) held.bound e q held.is) ∙ asked
+      go (inr q) = absurd (other (sym asked ∙ ap (λ (b : Bool). (if b then plan_of (site_at t.node c) (w.at t.node) e else tells_only (answer.Refused refusal.Down)).answer) q))
 
 -- ---- roots and histories
 
 -- a root is that of committed batches
-record IsRootOf (ns : List Node) (rs : List Ran) (c : Node) (d : Definition) (count : ℕ) (x : List ℕ) : Type 0 where
+record IsRootOf (ns : List NodeId) (rs : List Ran) (c : CircuitId) (d : Definition) (count : ℕ) (x : List ℕ) : Type 0 where
   batches : List Batch
   front : IsPrefixOf batches (batch_list ns d (whole_happened ns c rs))
   counted : count ≡ length batches
   root : x ≡ node_at 70 [] (state_of batches)
 
-root-told : (ns : List Node) (rs : List Ran) (fit : lines_fit rs ≡ true) (c : Node) (d : Definition) (count : ℕ) (x : List ℕ) → IsTold ns rs c d event.Root (answer.Root count x) → IsRootOf ns rs c d count x
-root-told ns rs fit c d count x t = go (bool_cases (runs d k.acts))
+root-told : (ns : List NodeId) (rs : List Ran) (fit : lines_fit rs ≡ true) (c : CircuitId) (d : Definition) (count : ℕ) (x : List ℕ) → IsTold ns rs c d event.Root (answer.Root count x) → IsRootOf ns rs c d count x
+root-told ns rs fit c d count x t = go (bool_cases (runs k.bound))
   where
     k : IsHeld (whole_world ns c t.before) t.node d
     k = held ns rs fit c d event.Root (answer.Root count x) t
@@ -161,20 +157,20 @@ root-told ns rs fit c d count x t = go (bool_cases (runs d k.acts))
     told : tells ns rs fit c d event.Root (answer.Root count x) t ≡ answer.Root count x
     told = cell-said ns rs fit c d event.Root (answer.Root count x) t (λ z. cc)
 
-    go : (runs d k.acts ≡ true) ⊎ (runs d k.acts ≡ false) → IsRootOf ns rs c d count x
+    go : (runs k.bound ≡ true) ⊎ (runs k.bound ≡ false) → IsRootOf ns rs c d count x
     go (inl q) =
-        let h : answer.Root (length k.batches.history) (node_at 70 [] (state_of (values k.batches.history))) ≡ answer.Root count x = sym (active-answer t.node c d k.acts (Tells (root_told k.batches)) q) ∙ told in
-        let same : length k.batches.history ≡ count = cc in
-        record { batches = values k.batches.history; front = front ns rs fit c d event.Root (answer.Root count x) t; counted = sym same ∙ sym (length-values k.batches.history); root = cc }
-    go (inr q) = let h : answer.Refused refusal.NotActive ≡ answer.Root count x = sym (inactive-answer t.node c d k.acts (Tells (root_told k.batches)) q) ∙ told in cc
+        let h : answer.Root (length k.bound.batches.history) (node_at 70 [] (state_of (values k.bound.batches.history))) ≡ answer.Root count x = sym (active-answer (site_at t.node c) k.bound (Tells (root_told k.bound.batches)) q) ∙ told in
+        let same : length k.bound.batches.history ≡ count = cc in
+        record { batches = values k.bound.batches.history; front = front ns rs fit c d event.Root (answer.Root count x) t; counted = sym same ∙ sym (length-values k.bound.batches.history); root = cc }
+    go (inr q) = let h : answer.Refused refusal.NotActive ≡ answer.Root count x = sym (inactive-answer (site_at t.node c) k.bound (Tells (root_told k.bound.batches)) q) ∙ told in cc
 
-record IsHistoryOf (ns : List Node) (rs : List Ran) (c : Node) (d : Definition) (xs : List ℕ) : Type 0 where
+record IsHistoryOf (ns : List NodeId) (rs : List Ran) (c : CircuitId) (d : Definition) (xs : List ℕ) : Type 0 where
   batches : List Batch
   front : IsPrefixOf batches (batch_list ns d (whole_happened ns c rs))
   ids : ids_of batches ≡ xs
 
-history-told : (ns : List Node) (rs : List Ran) (fit : lines_fit rs ≡ true) (c : Node) (d : Definition) (xs : List ℕ) → IsTold ns rs c d event.History (answer.History xs) → IsHistoryOf ns rs c d xs
-history-told ns rs fit c d xs t = go (bool_cases (runs d k.acts))
+history-told : (ns : List NodeId) (rs : List Ran) (fit : lines_fit rs ≡ true) (c : CircuitId) (d : Definition) (xs : List ℕ) → IsTold ns rs c d event.History (answer.History xs) → IsHistoryOf ns rs c d xs
+history-told ns rs fit c d xs t = go (bool_cases (runs k.bound))
   where
     k : IsHeld (whole_world ns c t.before) t.node d
     k = held ns rs fit c d event.History (answer.History xs) t
@@ -182,18 +178,18 @@ history-told ns rs fit c d xs t = go (bool_cases (runs d k.acts))
     told : tells ns rs fit c d event.History (answer.History xs) t ≡ answer.History xs
     told = cell-said ns rs fit c d event.History (answer.History xs) t (λ z. cc)
 
-    go : (runs d k.acts ≡ true) ⊎ (runs d k.acts ≡ false) → IsHistoryOf ns rs c d xs
+    go : (runs k.bound ≡ true) ⊎ (runs k.bound ≡ false) → IsHistoryOf ns rs c d xs
     go (inl q) =
-        let h : answer.History (ids_of (values k.batches.history)) ≡ answer.History xs = sym (active-answer t.node c d k.acts (Tells (history_told k.batches)) q) ∙ told in
-        record { batches = values k.batches.history; front = front ns rs fit c d event.History (answer.History xs) t; ids = cc }
-    go (inr q) = let h : answer.Refused refusal.NotActive ≡ answer.History xs = sym (inactive-answer t.node c d k.acts (Tells (history_told k.batches)) q) ∙ told in cc
+        let h : answer.History (ids_of (values k.bound.batches.history)) ≡ answer.History xs = sym (active-answer (site_at t.node c) k.bound (Tells (history_told k.bound.batches)) q) ∙ told in
+        record { batches = values k.bound.batches.history; front = front ns rs fit c d event.History (answer.History xs) t; ids = cc }
+    go (inr q) = let h : answer.Refused refusal.NotActive ≡ answer.History xs = sym (inactive-answer (site_at t.node c) k.bound (Tells (history_told k.bound.batches)) q) ∙ told in cc
 
-one-root : (ns : List Node) (rs : List Ran) (c : Node) (d : Definition) (count : ℕ) (x y : List ℕ) → IsRootOf ns rs c d count x → IsRootOf ns rs c d count y → x ≡ y
+one-root : (ns : List NodeId) (rs : List Ran) (c : CircuitId) (d : Definition) (count : ℕ) (x y : List ℕ) → IsRootOf ns rs c d count x → IsRootOf ns rs c d count y → x ≡ y
 one-root ns rs c d count x y p q =
     let same : p.batches ≡ q.batches = prefix-equal p.batches q.batches (batch_list ns d (whole_happened ns c rs)) p.front q.front (sym p.counted ∙ q.counted) in
     p.root ∙ (ap (λ (bs : List Batch). node_at 70 [] (state_of bs)) same ∙ sym q.root)
 
-one-history : (ns : List Node) (rs : List Ran) (c : Node) (d : Definition) (xs ys : List ℕ) → IsHistoryOf ns rs c d xs → IsHistoryOf ns rs c d ys → IsPrefixOf xs ys ⊎ IsPrefixOf ys xs
+one-history : (ns : List NodeId) (rs : List Ran) (c : CircuitId) (d : Definition) (xs ys : List ℕ) → IsHistoryOf ns rs c d xs → IsHistoryOf ns rs c d ys → IsPrefixOf xs ys ⊎ IsPrefixOf ys xs
 one-history ns rs c d xs ys p q =
     subst (λ (us : List ℕ). IsPrefixOf us ys ⊎ IsPrefixOf ys us) p.ids
     (subst (λ (vs : List ℕ). IsPrefixOf (ids_of p.batches) vs ⊎ IsPrefixOf vs (ids_of p.batches)) q.ids (go (prefix-both p.batches q.batches (batch_list ns d (whole_happened ns c rs)) p.front q.front)))
@@ -202,7 +198,7 @@ one-history ns rs c d xs ys p q =
     go (inl r) = inl (prefix-ids p.batches q.batches r)
     go (inr r) = inr (prefix-ids q.batches p.batches r)
 
-pub tell-one_list : (ns : List Node) (rs : List Ran) → lines_fit rs ≡ true → TellOneList ns rs
+pub tell-one_list : (ns : List NodeId) (rs : List Ran) → lines_fit rs ≡ true → TellOneList ns rs
 tell-one_list ns rs fit = record {
   roots = λ c d count x y t u. one-root ns rs c d count x y (root-told ns rs fit c d count x t) (root-told ns rs fit c d count y u);
   histories = λ c d xs ys t u. one-history ns rs c d xs ys (history-told ns rs fit c d xs t) (history-told ns rs fit c d ys u);

@@ -3,7 +3,7 @@ use Rattle.std.proofs.Common.{◌≡◌, ◌^◌, true, not, ◌&&◌, List, [],
 use Rattle.std.specs.Prelude.{nat_le, nat_lt}
 use Rattle.std.specs.Str.{bytes_eq}
 use Rattle.spl_agree.proofs.Tests.{if_holds, and_left, and_right}
-use Rattle.spl_circuit.specs.Nodes.{Node, has_node}
+use Rattle.spl_circuit.specs.Nodes.{NodeId, CircuitId, has_node}
 use Rattle.spl_sched.specs.declared.line.Step.{Step}
 use Rattle.spl_sched.specs.declared.line.Step.TheVariants as step
 use Rattle.spl_sched.specs.declared.line.Line.{Line}
@@ -30,7 +30,7 @@ plain-lines w [] h = tt
 plain-lines w (r ∷ rs) h = plain-append (occurrences_in w r.line r.kept) (occurrences_from (line_world w r.line r.kept) rs) (plain-line w r.line r.kept (and_left (line_fits r) (lines_fit rs) h)) (plain-lines (line_world w r.line r.kept) rs (and_right (line_fits r) (lines_fit rs) h))
 
 -- a stop or a start of one of these nodes
-pub fit-one : (ns : List Node) (n : Node) (l : Line) → is_line l ≡ true → lines_fit (at_one_of ns n l) ≡ true
+pub fit-one : (ns : List NodeId) (n : NodeId) (l : Line) → is_line l ≡ true → lines_fit (at_one_of ns n l) ≡ true
 fit-one ns n l h = if_holds (λ rs. lines_fit rs ≡ true) (has_node ns n) _ _ (λ q. rw h) (λ q. refl)
 
 -- the node of a step has an id
@@ -39,7 +39,7 @@ node-fits (step.At n c e) h = and_left (is_node_id n) (is_circuit_id c) (and_lef
 node-fits (step.Deliver from to c k) h = and_right (is_node_id from) (is_node_id to) (and_left (is_node_id from && is_node_id to) (is_circuit_id c) (and_left _ (nat_le 1 k && nat_lt k (2 ^ 32)) (and_left _ (not (bytes_eq from to)) h)))
 
 -- what is left of a line
-pub fit-beside : (ns : List Node) (l : Line) → is_line l ≡ true → lines_fit (beside ns l) ≡ true
+pub fit-beside : (ns : List NodeId) (l : Line) → is_line l ≡ true → lines_fit (beside ns l) ≡ true
 fit-beside ns (line.Stop n) h = fit-one ns n (line.Stop n) h
 fit-beside ns (line.Start n) h = fit-one ns n (line.Start n) h
 fit-beside ns (line.Cut calls f s) h = fit-one ns (step_node s) (line.Stop (step_node s)) (node-fits s (and_right (nat_lt calls (2 ^ 8) && is_fill f) (is_step s) h))
@@ -47,7 +47,7 @@ fit-beside ns (line.Fail call s) h = fit-one ns (step_node s) (line.Stop (step_n
 fit-beside ns _ h = refl
 
 -- a circuit's own lines are within their bounds
-pub fit-own : (c : Node) (ns : List Node) (rs : List Ran) → lines_fit rs ≡ true → lines_fit (own_among c ns rs) ≡ true
+pub fit-own : (c : CircuitId) (ns : List NodeId) (rs : List Ran) → lines_fit rs ≡ true → lines_fit (own_among c ns rs) ≡ true
 fit-own c ns [] h = refl
 fit-own c ns (r ∷ rs) h = fit-append (own_line c ns r) (own_among c ns rs) here (fit-own c ns rs (and_right (line_fits r) (lines_fit rs) h))
   where
@@ -63,5 +63,5 @@ plain-front [] ys h = tt
 plain-front (x ∷ xs) ys h = (h.0, plain-front xs ys h.1)
 
 -- at each moment of a circuit's world
-pub plain-moment : (ns : List Node) (c : Node) (rs : List Ran) (es fs : List Occurrence) → lines_fit rs ≡ true → es ++ fs ≡ occurrences ns c rs → AllPlain es
+pub plain-moment : (ns : List NodeId) (c : CircuitId) (rs : List Ran) (es fs : List Occurrence) → lines_fit rs ≡ true → es ++ fs ≡ occurrences ns c rs → AllPlain es
 plain-moment ns c rs es fs h e = plain-front es fs (subst AllPlain (sym e) (plain-lines (first_world ns) (own c rs) (fit-own c (concerned c rs) rs h)))

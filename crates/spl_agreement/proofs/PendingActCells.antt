@@ -9,7 +9,7 @@ use Rattle.spl_agree.specs.Member.{Member, values, without, found, found_refused
 use Rattle.spl_agree.proofs.Tests.{bool_cases}
 use Rattle.spl_circuit.specs.declared.definition.Definition.{Definition}
 use Rattle.spl_circuit.specs.declared.act.Act.{Act}
-use Rattle.spl_circuit.specs.Nodes.{Node}
+use Rattle.spl_circuit.specs.Nodes.{NodeId}
 use Rattle.spl_circuit.specs.Rules.{admin}
 use Rattle.spl_circuit.specs.Acts.{act_rules}
 use Rattle.spl_circuit.specs.Equality.{same_act_key}
@@ -40,7 +40,7 @@ abbrev pub no_view : View
 no_view = record { done = []; pending = []; refused = [] }
 
 abbrev pub sight : Cell → Sight
-sight (Held d m turn a b) = Sees d (view a)
+sight (Held h) = Sees h.definition (view h.acts)
 sight _ = Nowhere
 
 -- equal sights have equal parts
@@ -71,22 +71,22 @@ settled-not w u (inr h) k = some_not (found_refused (same_act_key u) w.refused) 
     some_not None p q = cc
 
 -- the test of a key, by its parts
-abbrev of_key : Node → ℕ → Act → Bool
+abbrev of_key : NodeId → ℕ → Act → Bool
 of_key n t x = same_act_key (record { node = n; turn = t; kind = x.kind }) x
 
 -- it hangs on the key alone
 pub settled-key : (w : View) (u v : Act) → same_act_key u v ≡ true → Settled w u → Settled w v
 settled-key w u v h s =
     let k : (u.node ≡ v.node) × (u.turn ≡ v.turn) = key-parts u v h in
-    subst (λ (n : Node). (is_some (found (of_key n v.turn) w.done) ≡ true) ⊎ (is_some (found_refused (of_key n v.turn) w.refused) ≡ true)) k.0
+    subst (λ (n : NodeId). (is_some (found (of_key n v.turn) w.done) ≡ true) ⊎ (is_some (found_refused (of_key n v.turn) w.refused) ≡ true)) k.0
     (subst (λ (t : ℕ). (is_some (found (of_key u.node t) w.done) ≡ true) ⊎ (is_some (found_refused (of_key u.node t) w.refused) ≡ true)) k.1 s)
 
 -- an act was sent back as refused
-abbrev pub Returns : (GroupMessage Act → Type 0) → Node → Node → ℕ → Act → Reason → Type 0
+abbrev pub Returns : (GroupMessage Act → Type 0) → NodeId → NodeId → ℕ → Act → Reason → Type 0
 Returns said n k g u why = said (record { from = n; to = k; body = msg.Refused g u why })
 
 -- what holds of the acts of a cell that is bound to e
-pub record IsTidy (past : Past) (said : GroupMessage Act → Type 0) (n : Node) (e : Definition) (w : View) : Type 0 where
+pub record IsTidy (past : Past) (said : GroupMessage Act → Type 0) (n : NodeId) (e : Definition) (w : View) : Type 0 where
   -- a pending proposal is the first act of its node
   pub first : (v : Act) → Among v w.pending → is_proposal v.kind ≡ true → v.turn ≡ 1
   -- but at the coordinator, the pending acts are the node's own, and there is at most one of these
@@ -101,7 +101,7 @@ pub record IsTidy (past : Past) (said : GroupMessage Act → Type 0) (n : Node) 
   pub came : n ≡ admin e → (v : Act) → Among v w.pending → (v.node ≡ n) ⊎ Forwards said v.node n e.generation v
 
 -- what holds of an act that is queued
-pub record MayJoin (past : Past) (said : GroupMessage Act → Type 0) (n : Node) (e : Definition) (w : View) (v : Act) : Type 0 where
+pub record MayJoin (past : Past) (said : GroupMessage Act → Type 0) (n : NodeId) (e : Definition) (w : View) (v : Act) : Type 0 where
   pub first : is_proposal v.kind ≡ true → v.turn ≡ 1
   pub own : n ≢ admin e → v.node ≡ n
   pub alone : v.node ≡ n → (x : Act) → Among x w.pending → x.node ≢ n
@@ -133,20 +133,20 @@ view-by d a [] = refl
 view-by d a (x ∷ xs) = view-by d (changed (act_rules d) a x) xs ∙ ap (λ (w : View). shifted_by w xs) (view-changed d a x)
 
 -- what a change asks: what is queued may join and is unknown; what is refused is so by the coordinator
-abbrev pub Meets : Past → (GroupMessage Act → Type 0) → Node → Definition → View → GroupChange Act → Type 0
+abbrev pub Meets : Past → (GroupMessage Act → Type 0) → NodeId → Definition → View → GroupChange Act → Type 0
 Meets past said n e w (change.Queue v) = MayJoin past said n e w v × IsUnknown w v
 Meets past said n e w (change.Refuse v why) = (n ≡ admin e) ⊎ (Among v w.pending × Returns said (admin e) n e.generation v why)
 Meets past said n e w (change.Kept v why) = ⊥
 Meets past said n e w _ = Unit {0}
 
 -- at most one change, which meets what it asks
-abbrev pub MeetsOne : Past → (GroupMessage Act → Type 0) → Node → Definition → View → List (GroupChange Act) → Type 0
+abbrev pub MeetsOne : Past → (GroupMessage Act → Type 0) → NodeId → Definition → View → List (GroupChange Act) → Type 0
 MeetsOne past said n e w [] = Unit {0}
 MeetsOne past said n e w (x ∷ []) = Meets past said n e w x
 MeetsOne past said n e w (x ∷ y ∷ zs) = ⊥
 
 -- a new cell is tidy
-pub tidy-new : (past : Past) (said : GroupMessage Act → Type 0) (n : Node) (e : Definition) → IsTidy past said n e no_view
+pub tidy-new : (past : Past) (said : GroupMessage Act → Type 0) (n : NodeId) (e : Definition) → IsTidy past said n e no_view
 tidy-new past said n e = record {
   first = λ v h. absurd h;
   own = λ o v h. absurd h;
@@ -158,7 +158,7 @@ tidy-new past said n e = record {
 }
 
 -- more bindings and more messages
-pub tidy-more : (past past2 : Past) (said said2 : GroupMessage Act → Type 0) (n : Node) (e : Definition) (w : View) → ((k : Node) (f : Definition) → Ever k f past → Ever k f past2) → ((l : GroupMessage Act) → said l → said2 l) → IsTidy past said n e w → IsTidy past2 said2 n e w
+pub tidy-more : (past past2 : Past) (said said2 : GroupMessage Act → Type 0) (n : NodeId) (e : Definition) (w : View) → ((k : NodeId) (f : Definition) → Ever k f past → Ever k f past2) → ((l : GroupMessage Act) → said l → said2 l) → IsTidy past said n e w → IsTidy past2 said2 n e w
 tidy-more past past2 said said2 n e w p q t = record {
   first = t.first;
   own = t.own;
@@ -174,7 +174,7 @@ tidy-more past past2 said said2 n e w p q t = record {
     go v (inr x) = inr (q (record { from = v.node; to = n; body = msg.Forward e.generation v }) x)
 
 -- one more is pending
-pub tidy-queue : (past : Past) (said : GroupMessage Act → Type 0) (n : Node) (e : Definition) (w : View) (v : Act) → MayJoin past said n e w v → IsUnknown w v → IsTidy past said n e w → IsTidy past said n e (shifted w (change.Queue v))
+pub tidy-queue : (past : Past) (said : GroupMessage Act → Type 0) (n : NodeId) (e : Definition) (w : View) (v : Act) → MayJoin past said n e w v → IsUnknown w v → IsTidy past said n e w → IsTidy past said n e (shifted w (change.Queue v))
 tidy-queue past said n e w v j k t = record {
   first = split (λ x. is_proposal x.kind ≡ true → x.turn ≡ 1) j.first t.first;
   own = λ o. split (λ x. x.node ≡ n) (j.own o) (t.own o);
@@ -193,7 +193,7 @@ tidy-queue past said n e w v j k t = record {
         go (inr y) = subst P (sym y) new
 
 -- fewer are pending
-pub tidy-without : (past : Past) (said : GroupMessage Act → Type 0) (n : Node) (e : Definition) (w : View) (v : Act) (done : List Act) (refused : List (Act × Reason)) → ((x : Act) → same_act_key x v ≡ false → Unsettled w x → (found (same_act_key x) done ≡ None) × (found_refused (same_act_key x) refused ≡ None)) → IsTidy past said n e w
+pub tidy-without : (past : Past) (said : GroupMessage Act → Type 0) (n : NodeId) (e : Definition) (w : View) (v : Act) (done : List Act) (refused : List (Act × Reason)) → ((x : Act) → same_act_key x v ≡ false → Unsettled w x → (found (same_act_key x) done ≡ None) × (found_refused (same_act_key x) refused ≡ None)) → IsTidy past said n e w
     → IsTidy past said n e (record { done = done; pending = without (same_act_key v) w.pending; refused = refused })
 tidy-without past said n e w v done refused still t = record {
   first = λ x h. t.first x (was x h);
@@ -216,32 +216,32 @@ tidy-without past said n e w v done refused still t = record {
         go (inr q) = q
 
 -- a change that meets what it asks leaves the cell tidy
-pub tidy-shifted : (past : Past) (said : GroupMessage Act → Type 0) (n : Node) (e : Definition) (w : View) (x : GroupChange Act) → Meets past said n e w x → IsTidy past said n e w → IsTidy past said n e (shifted w x)
+pub tidy-shifted : (past : Past) (said : GroupMessage Act → Type 0) (n : NodeId) (e : Definition) (w : View) (x : GroupChange Act) → Meets past said n e w x → IsTidy past said n e w → IsTidy past said n e (shifted w x)
 tidy-shifted past said n e w (change.Queue v) m t = tidy-queue past said n e w v m.0 m.1 t
 tidy-shifted past said n e w (change.Refuse v why) m t = tidy-without past said n e w v w.done (w.refused ++ (v, why) ∷ []) (λ x h u. (u.0, refused-none_more (same_act_key x) (v, why) w.refused u.1 h)) t
 tidy-shifted past said n e w (change.Commit r v) m t = tidy-without past said n e w v (w.done ++ v ∷ []) w.refused (λ x h u. (found-none_more (same_act_key x) v w.done u.0 h, u.1)) t
 tidy-shifted past said n e w (change.Kept v why) m t = absurd m
 tidy-shifted past said n e w _ m t = t
 
-pub tidy-by : (past : Past) (said : GroupMessage Act → Type 0) (n : Node) (e : Definition) (w : View) (xs : List (GroupChange Act)) → MeetsOne past said n e w xs → IsTidy past said n e w → IsTidy past said n e (shifted_by w xs)
+pub tidy-by : (past : Past) (said : GroupMessage Act → Type 0) (n : NodeId) (e : Definition) (w : View) (xs : List (GroupChange Act)) → MeetsOne past said n e w xs → IsTidy past said n e w → IsTidy past said n e (shifted_by w xs)
 tidy-by past said n e w [] m t = t
 tidy-by past said n e w (x ∷ []) m t = tidy-shifted past said n e w x m t
 tidy-by past said n e w (x ∷ y ∷ zs) m t = absurd m
 
 -- how an act that was pending got settled: it is committed here, or here is the coordinator, or it came back from there
-abbrev pub WhySettled : (GroupMessage Act → Type 0) → Node → Definition → View → Act → Type 0
+abbrev pub WhySettled : (GroupMessage Act → Type 0) → NodeId → Definition → View → Act → Type 0
 WhySettled said n e w u = (is_some (found (same_act_key u) w.done) ≡ true) ⊎ ((n ≡ admin e) ⊎ ((why : Reason) × Returns said (admin e) n e.generation u why))
 
 -- the acts of a cell go on: what was pending is, or is settled, and what was settled is
-pub record Grows (said : GroupMessage Act → Type 0) (n : Node) (e : Definition) (w w2 : View) : Type 0 where
+pub record Grows (said : GroupMessage Act → Type 0) (n : NodeId) (e : Definition) (w w2 : View) : Type 0 where
   pub pending : (u : Act) → Among u w.pending → Among u w2.pending ⊎ (Settled w2 u × WhySettled said n e w2 u)
   pub settled : (u : Act) → Settled w u → Settled w2 u
 
-pub grows-same : (said : GroupMessage Act → Type 0) (n : Node) (e : Definition) (w : View) → Grows said n e w w
+pub grows-same : (said : GroupMessage Act → Type 0) (n : NodeId) (e : Definition) (w : View) → Grows said n e w w
 grows-same said n e w = record { pending = λ u h. inl h; settled = λ u h. h }
 
 -- a change that meets what it asks
-pub grows-shifted : (past : Past) (said : GroupMessage Act → Type 0) (n : Node) (e : Definition) (w : View) (x : GroupChange Act) → Meets past said n e w x → IsTidy past said n e w → Grows said n e w (shifted w x)
+pub grows-shifted : (past : Past) (said : GroupMessage Act → Type 0) (n : NodeId) (e : Definition) (w : View) (x : GroupChange Act) → Meets past said n e w x → IsTidy past said n e w → Grows said n e w (shifted w x)
 grows-shifted past said n e w (change.Queue v) m t = record { pending = λ u h. inl (among-more u v w.pending h); settled = λ u h. h }
 grows-shifted past said n e w (change.Refuse v why) m t = record { pending = λ u h. go u h m (without-keeps (same_act_key v) u w.pending h); settled = more }
   where
@@ -269,7 +269,7 @@ grows-shifted past said n e w (change.Commit r v) m t = record { pending = λ u 
 grows-shifted past said n e w (change.Kept v why) m t = absurd m
 grows-shifted past said n e w _ m t = grows-same said n e w
 
-pub grows-by : (past : Past) (said : GroupMessage Act → Type 0) (n : Node) (e : Definition) (w : View) (xs : List (GroupChange Act)) → MeetsOne past said n e w xs → IsTidy past said n e w → Grows said n e w (shifted_by w xs)
+pub grows-by : (past : Past) (said : GroupMessage Act → Type 0) (n : NodeId) (e : Definition) (w : View) (xs : List (GroupChange Act)) → MeetsOne past said n e w xs → IsTidy past said n e w → Grows said n e w (shifted_by w xs)
 grows-by past said n e w [] m t = grows-same said n e w
 grows-by past said n e w (x ∷ []) m t = grows-shifted past said n e w x m t
 grows-by past said n e w (x ∷ y ∷ zs) m t = absurd m

@@ -1,4 +1,5 @@
 -- A planned deed is a step of the acts that the cells keep.
+use Rattle.std.specs.Prelude.{map}
 use Rattle.std.proofs.Common.{◌≡◌, ◌≢◌, ℕ, ◌<◌, ◌⊎◌, true, false, List, [], ◌∷◌, ◌++◌, refl, sym, ap, subst, ◌∙◌, inl, inr, arith}
 use Rattle.spl_agree.specs.declared.message.CommitMsg.{CommitMsg}
 use Rattle.spl_agree.specs.declared.message.CommitMsg.TheVariants as msg
@@ -10,9 +11,7 @@ use Rattle.spl_agree.specs.Member.{Member, new_member, changed_by}
 use Rattle.spl_agree.proofs.Tests.{if_holds, bool_cases}
 use Rattle.spl_circuit.specs.declared.definition.Definition.{Definition}
 use Rattle.spl_circuit.specs.declared.act.Act.{Act}
-use Rattle.spl_circuit.specs.declared.lifecycle.Mark.{Mark}
-use Rattle.spl_circuit.specs.declared.lifecycle.Mark.TheVariants as mark
-use Rattle.spl_circuit.specs.Nodes.{Node, has_node}
+use Rattle.spl_circuit.specs.Nodes.{NodeId, CircuitId, has_node}
 use Rattle.spl_circuit.specs.Rules.{admin}
 use Rattle.spl_circuit.specs.Acts.{act_rules}
 use Rattle.spl_command.specs.declared.batch.Batch.{Batch}
@@ -20,13 +19,13 @@ use Rattle.spl_wire.specs.declared.message.Message.{Message}
 use Rattle.spl_wire.specs.declared.message.Message.TheVariants as message
 use Rattle.spl_wire.specs.declared.change.Change.TheVariants as durable
 use Rattle.spl_wire.specs.declared.plan.Outgoing.{Outgoing}
-use Rattle.spl_rules.specs.Cells.{Cell, Held, Deed, Refuses, Tells, Replies, Binds, Acts, Serves, Turns, Abandons, Purges}
+use Rattle.spl_rules.specs.Cells.{Cell, Held, Deed, Refuses, Tells, Replies, Binds, Acts, Serves, Turns, Abandons, Purges, Bound, fresh}
 use Rattle.spl_rules.specs.Changes.{made, made_one}
-use Rattle.spl_rules.specs.Plans.{planned, admin_sends, service_sends, admin_changes, service_changes}
+use Rattle.spl_rules.specs.Plans.{planned, group_sends, admin_lane, service_lane}
 use Rattle.spl_agreement.specs.Agreement.{is_proposal}
-use Rattle.spl_model.specs.Worlds.{Sent, posted}
+use Rattle.spl_model.specs.Worlds.{Sent, posted, site_at}
 use Rattle.spl_agreement.proofs.GroupOfDefinition.{GroupMessage, Ever, IsMessageOf, MayHear, IsQuiet, plan_row}
-use Rattle.spl_agreement.proofs.GroupWorlds.{admin_lane, service_lane, admin_said, admin_presence, InWorld, Others, WasSent, placed-admin, posted-admin, posted-no_admin, was-split}
+use Rattle.spl_agreement.proofs.GroupWorlds.{admin_groups, service_groups, admin_said, admin_presence, InWorld, Others, WasSent, placed-admin, posted-admin, posted-no_admin, was-split}
 use Rattle.spl_agreement.proofs.CoupledSteps.{Past, IsNew, free-past}
 use Rattle.spl_agreement.proofs.DeedsAreSteps.{IsStepOf}
 use Rattle.spl_agreement.proofs.CoupledDeeds.{made-bind, made-admin, made-service, made-append}
@@ -38,19 +37,19 @@ use Rattle.spl_agreement.proofs.PendingActSteps.{sights, step-still, step-drop, 
 use Rattle.spl_agreement.proofs.PendingActsDue.{Forwards, Apt, IsReply, IsReplyOf, IsNextAct, IsFirstAct}
 
 -- the acts behind changes of the admin group, and behind changes of the service group
-pub sight-admin : (n : Node) (d : Definition) (m : Mark) (t : ℕ) (a : Member Act) (b : Member Batch) (xs : List (GroupChange Act)) → sight (made n (Held d m t a b) (admin_changes xs)) ≡ Sees d (shifted_by (view a) xs)
-sight-admin n d m t a b xs =
-    let k : (t2 : ℕ) × (made n (Held d m t a b) (admin_changes xs) ≡ Held d m t2 (changed_by (act_rules d) a xs) b) = made-admin n d m t a b xs in
-    ap sight k.1 ∙ ap (λ (w : View). Sees d w) (view-by d a xs)
+pub sight-admin : (n : NodeId) (b : Bound) (xs : List (GroupChange Act)) → sight (made n (Held b) (map durable.Admin xs)) ≡ Sees b.definition (shifted_by (view b.acts) xs)
+sight-admin n b xs =
+    let k : (t2 : ℕ) × (made n (Held b) (map durable.Admin xs) ≡ Held (record b { turn = t2; acts = changed_by (act_rules b.definition) b.acts xs })) = made-admin n b xs in
+    ap sight k.1 ∙ ap (λ (w : View). Sees b.definition w) (view-by b.definition b.acts xs)
 
-pub sight-both : (n : Node) (d : Definition) (m : Mark) (t : ℕ) (a : Member Act) (b : Member Batch) (xs : List (GroupChange Act)) (ys : List (GroupChange Batch)) → sight (made n (Held d m t a b) (admin_changes xs ++ service_changes ys)) ≡ Sees d (shifted_by (view a) xs)
-sight-both n d m t a b xs ys =
-    let k : (t2 : ℕ) × (made n (Held d m t a b) (admin_changes xs) ≡ Held d m t2 (changed_by (act_rules d) a xs) b) = made-admin n d m t a b xs in
-    ap sight (made-append n (Held d m t a b) (admin_changes xs) (service_changes ys) ∙ (ap (λ (z : Cell). made n z (service_changes ys)) k.1 ∙ made-service n d m k.0 (changed_by (act_rules d) a xs) b ys))
-    ∙ ap (λ (w : View). Sees d w) (view-by d a xs)
+pub sight-both : (n : NodeId) (b : Bound) (xs : List (GroupChange Act)) (ys : List (GroupChange Batch)) → sight (made n (Held b) (map durable.Admin xs ++ map durable.Service ys)) ≡ Sees b.definition (shifted_by (view b.acts) xs)
+sight-both n b xs ys =
+    let k : (t2 : ℕ) × (made n (Held b) (map durable.Admin xs) ≡ Held (record b { turn = t2; acts = changed_by (act_rules b.definition) b.acts xs })) = made-admin n b xs in
+    ap sight (made-append n (Held b) (map durable.Admin xs) (map durable.Service ys) ∙ (ap (λ (z : Cell). made n z (map durable.Service ys)) k.1 ∙ made-service n (record b { turn = k.0; acts = changed_by (act_rules b.definition) b.acts xs }) ys))
+    ∙ ap (λ (w : View). Sees b.definition w) (view-by b.definition b.acts xs)
 
 -- what an event asks of the acts of a bound cell
-pub ready-next : (past : Past) (said : GroupMessage Act → Type 0) (n back : Node) (d : Definition) (a : Member Act) (e : GroupEvent Act) → MayHear d said n back e → IsNew (act_rules d) a e → IsNextAct n a e → (IsQuiet a ⊎ Ever (admin d) d past) → IsReady past said n back d a e
+pub ready-next : (past : Past) (said : GroupMessage Act → Type 0) (n back : NodeId) (d : Definition) (a : Member Act) (e : GroupEvent Act) → MayHear d said n back e → IsNew (act_rules d) a e → IsNextAct n a e → (IsQuiet a ⊎ Ever (admin d) d past) → IsReady past said n back d a e
 ready-next past said n back d a (group.From s x) h new next quiet = h
 ready-next past said n back d a (group.Submit v) h new next quiet = (
   record {
@@ -69,7 +68,7 @@ ready-next past said n back d a (group.Submit v) h new next quiet = (
 ready-next past said n back d a _ h new next quiet = tt
 
 -- and where a cell is bound
-pub ready-first : (past : Past) (see : Node → Sight) (said : GroupMessage Act → Type 0) (n back : Node) (d : Definition) (past2 : Past) (e : GroupEvent Act) → IsFew past see said → MayHear d said n back e → IsFirstAct said n d e → IsReady past2 said n back d new_member e
+pub ready-first : (past : Past) (see : NodeId → Sight) (said : GroupMessage Act → Type 0) (n back : NodeId) (d : Definition) (past2 : Past) (e : GroupEvent Act) → IsFew past see said → MayHear d said n back e → IsFirstAct said n d e → IsReady past2 said n back d new_member e
 ready-first past see said n back d past2 group.Tick f h first = tt
 ready-first past see said n back d past2 group.Expire f h first = tt
 ready-first past see said n back d past2 (group.From s x) f h first = h
@@ -92,7 +91,7 @@ ready-first past see said n back d past2 (group.Submit v) f h first = (join firs
     }
 
 -- what is posted in two lists
-pub posted-both : (ns : List Node) (n : Node) (xs ys : List Outgoing) → posted ns n (xs ++ ys) ≡ posted ns n xs ++ posted ns n ys
+pub posted-both : (ns : List NodeId) (n : NodeId) (xs ys : List Outgoing) → posted ns n (xs ++ ys) ≡ posted ns n xs ++ posted ns n ys
 posted-both ns n [] ys = refl
 posted-both ns n (z ∷ zs) ys = go (bool_cases (has_node ns z.to)) (posted-both ns n zs ys)
   where
@@ -101,13 +100,13 @@ posted-both ns n (z ∷ zs) ys = go (bool_cases (has_node ns z.to)) (posted-both
     go (inr r) hyp = rw (r, hyp)
 
 -- a reply is no news
-pub reply-news : (see : Node → Sight) (from to : Node) (x : CommitMsg Act) → IsReplyOf x → IsNews see from to x
+pub reply-news : (see : NodeId → Sight) (from to : NodeId) (x : CommitMsg Act) → IsReplyOf x → IsNews see from to x
 reply-news see from to (msg.Forward g u) h = absurd h
 reply-news see from to (msg.Refused g u why) h = inl h
 reply-news see from to _ h = tt
 
 -- what a deed posts
-pub reply-message : (ns : List Node) (n to : Node) (m : Message) (i : Node) (l : GroupMessage Act) → IsReply m → WasSent (record { from = l.from; to = l.to; message = message.Admin i l.body }) (posted ns n (record { to = to; message = m } ∷ [])) → IsReplyOf l.body
+pub reply-message : (ns : List NodeId) (n to : NodeId) (m : Message) (i : CircuitId) (l : GroupMessage Act) → IsReply m → WasSent (record { from = l.from; to = l.to; message = message.Admin i l.body }) (posted ns n (record { to = to; message = m } ∷ [])) → IsReplyOf l.body
 reply-message ns n to m i l h was = if_holds (λ (ps : List Sent). WasSent (record { from = l.from; to = l.to; message = message.Admin i l.body }) ps → IsReplyOf l.body) (has_node ns to) _ _ (λ q. one_of) (λ q y. absurd y) was
   where
     one_of : WasSent (record { from = l.from; to = l.to; message = message.Admin i l.body }) (record { from = n; to = to; message = m } ∷ []) → IsReplyOf l.body
@@ -115,7 +114,7 @@ reply-message ns n to m i l h was = if_holds (λ (ps : List Sent). WasSent (reco
     one_of (inr y) = absurd y
 
 -- where nothing is sent
-pub no-news : (sent sent2 : List Sent) (see : Node → Sight) → ((x : Sent) → WasSent x sent2 → WasSent x sent ⊎ ⊥) → (l : GroupMessage Act) → admin_said sent2 l → admin_said sent l ⊎ IsNews see l.from l.to l.body
+pub no-news : (sent sent2 : List Sent) (see : NodeId → Sight) → ((x : Sent) → WasSent x sent2 → WasSent x sent ⊎ ⊥) → (l : GroupMessage Act) → admin_said sent2 l → admin_said sent l ⊎ IsNews see l.from l.to l.body
 no-news sent sent2 see messages l s = go (messages _ s.1)
   where
     go : WasSent (record { from = l.from; to = l.to; message = message.Admin s.0 l.body }) sent ⊎ ⊥ → admin_said sent l ⊎ IsNews see l.from l.to l.body
@@ -123,10 +122,10 @@ no-news sent sent2 see messages l s = go (messages _ s.1)
     go (inr x) = absurd x
 
 -- any deed, by its kind
-pub few-deed : (past past2 : Past) (ns : List Node) (c n : Node) (at at2 : Node → Cell) (sent sent2 : List Sent) (acts acts2 : Definition → List Act) (batches batches2 : Definition → List Batch) (deed : Deed)
-    → ((k : Node) (f : Definition) → Ever k f past → Ever k f past2) → Others n at at2 → ((x : Sent) → WasSent x sent → WasSent x sent2)
-    → ((x : Sent) → WasSent x sent2 → WasSent x sent ⊎ WasSent x (posted ns n (planned n c deed).sends))
-    → sights at2 n ≡ sight (made n (at n) (planned n c deed).changes)
+pub few-deed : (past past2 : Past) (ns : List NodeId) (c : CircuitId) (n : NodeId) (at at2 : NodeId → Cell) (sent sent2 : List Sent) (acts acts2 : Definition → List Act) (batches batches2 : Definition → List Batch) (deed : Deed)
+    → ((k : NodeId) (f : Definition) → Ever k f past → Ever k f past2) → Others n at at2 → ((x : Sent) → WasSent x sent → WasSent x sent2)
+    → ((x : Sent) → WasSent x sent2 → WasSent x sent ⊎ WasSent x (posted ns n (planned (site_at n c) deed).sends))
+    → sights at2 n ≡ sight (made n (at n) (planned (site_at n c) deed).changes)
     → IsStepOf n sent (at n) deed → Apt (admin_said sent) n deed
     → InWorld past at sent acts batches → InWorld past2 at2 sent2 acts2 batches2 → IsFew past (sights at) (admin_said sent)
     → IsFew past2 (sights at2) (admin_said sent2)
@@ -141,89 +140,89 @@ few-deed past past2 ns c n at at2 sent sent2 acts acts2 batches batches2 (Replie
         go (inl x) = inl (s.0, x)
         go (inr x) = inr (reply-news (sights at2) l.from l.to l.body (reply-message ns n to m s.0 l apt x))
 few-deed past past2 ns c n at at2 sent sent2 acts acts2 batches batches2 (Binds say d back e) ever others olds messages is fair apt w v f = step-row past past2 at at2 sent sent2 acts acts2 batches batches2 n back d new_member e ever others olds v f now news
-    (placed-admin d n fair.0 fair.1) (tidy-new past2 (admin_said sent) n d) (ready-first past (sights at) (admin_said sent) n back d past2 e f fair.3 apt) (inr fresh)
+    (placed-admin d n fair.0 fair.1) (tidy-new past2 (admin_said sent) n d) (ready-first past (sights at) (admin_said sent) n back d past2 e f fair.3 apt) (inr higher)
   where
     plan : GroupPlan Act
-    plan = plan_row admin_lane d n new_member e
+    plan = plan_row admin_groups d n new_member e
 
     now : sights at2 n ≡ Sees d (shifted_by no_view plan.changes)
-    now = is ∙ (ap (λ (z : Cell). sight (made n z (admin_changes plan.changes))) (made-bind n (at n) d) ∙ sight-admin n d mark.Open 0 new_member new_member plan.changes)
+    now = is ∙ (ap (λ (z : Cell). sight (made n z (map durable.Admin plan.changes))) (made-bind n (at n) d) ∙ sight-admin n (fresh d) plan.changes)
 
-    fresh : (g : Definition) → Ever n g past → g.generation ≢ d.generation
-    fresh g h q = let x : g.generation < d.generation = free-past g (at n) d.generation fair.2 (w.since n g h) in omega arith
+    higher : (g : Definition) → Ever n g past → g.generation ≢ d.generation
+    higher g h q = let x : g.generation < d.generation = free-past g (at n) d.generation fair.2 (w.since n g h) in omega arith
 
     news : (l : GroupMessage Act) → admin_said sent2 l → admin_said sent l ⊎ IsMessageOf n d back plan.sends l
     news l s = go (messages _ s.1)
       where
-        go : WasSent (record { from = l.from; to = l.to; message = message.Admin s.0 l.body }) sent ⊎ WasSent (record { from = l.from; to = l.to; message = message.Admin s.0 l.body }) (posted ns n (admin_sends c d back plan.sends)) → admin_said sent l ⊎ IsMessageOf n d back plan.sends l
+        go : WasSent (record { from = l.from; to = l.to; message = message.Admin s.0 l.body }) sent ⊎ WasSent (record { from = l.from; to = l.to; message = message.Admin s.0 l.body }) (posted ns n (group_sends (admin_lane (site_at n c) d) back plan.sends)) → admin_said sent l ⊎ IsMessageOf n d back plan.sends l
         go (inl x) = inl (s.0, x)
         go (inr x) = inr (posted-admin ns n c d back plan.sends s.0 l x)
-few-deed past past2 ns c n at at2 sent sent2 acts acts2 batches batches2 (Acts say d a back e) ever others olds messages is fair apt w v f = step-row past past2 at at2 sent sent2 acts acts2 batches batches2 n back d a e ever others olds v f now news
-    ((w.admins d).placed n d a (ap admin_presence fair.3)) (tidy-more past past2 (admin_said sent) (admin_said sent) n d (view a) ever (λ l x. x) (f.tidy n d (view a) (ap sight fair.3)))
-    (ready-next past2 (admin_said sent) n back d a e fair.4 fair.5 apt (quiet ((w.admins d).quiet n d a (ap admin_presence fair.3)))) (inl (ap sight fair.3))
+few-deed past past2 ns c n at at2 sent sent2 acts acts2 batches batches2 (Acts say b back e) ever others olds messages is fair apt w v f = step-row past past2 at at2 sent sent2 acts acts2 batches batches2 n back b.definition b.acts e ever others olds v f now news
+    ((w.admins b.definition).placed n b.definition b.acts (ap admin_presence fair.0)) (tidy-more past past2 (admin_said sent) (admin_said sent) n b.definition (view b.acts) ever (λ l x. x) (f.tidy n b.definition (view b.acts) (ap sight fair.0)))
+    (ready-next past2 (admin_said sent) n back b.definition b.acts e fair.1 fair.2 apt (quiet ((w.admins b.definition).quiet n b.definition b.acts (ap admin_presence fair.0)))) (inl (ap sight fair.0))
   where
     plan : GroupPlan Act
-    plan = plan_row admin_lane d n a e
+    plan = plan_row admin_groups b.definition n b.acts e
 
-    now : sights at2 n ≡ Sees d (shifted_by (view a) plan.changes)
-    now = is ∙ (ap (λ (z : Cell). sight (made n z (admin_changes plan.changes))) fair.3 ∙ sight-admin n d fair.0 fair.1 a fair.2 plan.changes)
+    now : sights at2 n ≡ Sees b.definition (shifted_by (view b.acts) plan.changes)
+    now = is ∙ (ap (λ (z : Cell). sight (made n z (map durable.Admin plan.changes))) fair.0 ∙ sight-admin n b plan.changes)
 
-    quiet : IsQuiet a ⊎ Ever (admin d) d past → IsQuiet a ⊎ Ever (admin d) d past2
+    quiet : IsQuiet b.acts ⊎ Ever (admin b.definition) b.definition past → IsQuiet b.acts ⊎ Ever (admin b.definition) b.definition past2
     quiet (inl q) = inl q
-    quiet (inr q) = inr (ever (admin d) d q)
+    quiet (inr q) = inr (ever (admin b.definition) b.definition q)
 
-    news : (l : GroupMessage Act) → admin_said sent2 l → admin_said sent l ⊎ IsMessageOf n d back plan.sends l
+    news : (l : GroupMessage Act) → admin_said sent2 l → admin_said sent l ⊎ IsMessageOf n b.definition back plan.sends l
     news l s = go (messages _ s.1)
       where
-        go : WasSent (record { from = l.from; to = l.to; message = message.Admin s.0 l.body }) sent ⊎ WasSent (record { from = l.from; to = l.to; message = message.Admin s.0 l.body }) (posted ns n (admin_sends c d back plan.sends)) → admin_said sent l ⊎ IsMessageOf n d back plan.sends l
+        go : WasSent (record { from = l.from; to = l.to; message = message.Admin s.0 l.body }) sent ⊎ WasSent (record { from = l.from; to = l.to; message = message.Admin s.0 l.body }) (posted ns n (group_sends (admin_lane (site_at n c) b.definition) back plan.sends)) → admin_said sent l ⊎ IsMessageOf n b.definition back plan.sends l
         go (inl x) = inl (s.0, x)
-        go (inr x) = inr (posted-admin ns n c d back plan.sends s.0 l x)
-few-deed past past2 ns c n at at2 sent sent2 acts acts2 batches batches2 (Serves say d b back e) ever others olds messages is fair apt w v f = step-still past past2 at at2 sent sent2 acts acts2 batches batches2 n ever others olds v f same news
+        go (inr x) = inr (posted-admin ns n c b.definition back plan.sends s.0 l x)
+few-deed past past2 ns c n at at2 sent sent2 acts acts2 batches batches2 (Serves say b back e) ever others olds messages is fair apt w v f = step-still past past2 at at2 sent sent2 acts acts2 batches batches2 n ever others olds v f same news
   where
     plan : GroupPlan Batch
-    plan = plan_row service_lane d n b e
+    plan = plan_row service_groups b.definition n b.batches e
 
     same : sights at2 n ≡ sights at n
-    same = is ∙ (ap (λ (z : Cell). sight (made n z (service_changes plan.changes))) fair.3 ∙ (ap sight (made-service n d fair.0 fair.1 fair.2 b plan.changes) ∙ sym (ap sight fair.3)))
+    same = is ∙ (ap (λ (z : Cell). sight (made n z (map durable.Service plan.changes))) fair.0 ∙ (ap sight (made-service n b plan.changes) ∙ sym (ap sight fair.0)))
 
     news : (l : GroupMessage Act) → admin_said sent2 l → admin_said sent l ⊎ IsNews (sights at2) l.from l.to l.body
     news l s = go (messages _ s.1)
       where
-        go : WasSent (record { from = l.from; to = l.to; message = message.Admin s.0 l.body }) sent ⊎ WasSent (record { from = l.from; to = l.to; message = message.Admin s.0 l.body }) (posted ns n (service_sends n c d back plan.sends)) → admin_said sent l ⊎ IsNews (sights at2) l.from l.to l.body
+        go : WasSent (record { from = l.from; to = l.to; message = message.Admin s.0 l.body }) sent ⊎ WasSent (record { from = l.from; to = l.to; message = message.Admin s.0 l.body }) (posted ns n (group_sends (service_lane (site_at n c) b.definition) back plan.sends)) → admin_said sent l ⊎ IsNews (sights at2) l.from l.to l.body
         go (inl x) = inl (s.0, x)
-        go (inr x) = absurd (posted-no_admin ns n c d back plan.sends l.from l.to s.0 l.body x)
-few-deed past past2 ns c n at at2 sent sent2 acts acts2 batches batches2 (Turns d a b x y) ever others olds messages is fair apt w v f = step-row past past2 at at2 sent sent2 acts acts2 batches batches2 n n d a x ever others olds v f now news
-    ((w.admins d).placed n d a (ap admin_presence fair.2)) (tidy-more past past2 (admin_said sent) (admin_said sent) n d (view a) ever (λ l z. z) (f.tidy n d (view a) (ap sight fair.2)))
-    (ready-next past2 (admin_said sent) n n d a x fair.4 fair.6 apt (quiet ((w.admins d).quiet n d a (ap admin_presence fair.2)))) (inl (ap sight fair.2))
+        go (inr x) = absurd (posted-no_admin ns n c b.definition back plan.sends l.from l.to s.0 l.body x)
+few-deed past past2 ns c n at at2 sent sent2 acts acts2 batches batches2 (Turns b x y) ever others olds messages is fair apt w v f = step-row past past2 at at2 sent sent2 acts acts2 batches batches2 n n b.definition b.acts x ever others olds v f now news
+    ((w.admins b.definition).placed n b.definition b.acts (ap admin_presence fair.0)) (tidy-more past past2 (admin_said sent) (admin_said sent) n b.definition (view b.acts) ever (λ l z. z) (f.tidy n b.definition (view b.acts) (ap sight fair.0)))
+    (ready-next past2 (admin_said sent) n n b.definition b.acts x fair.2 fair.4 apt (quiet ((w.admins b.definition).quiet n b.definition b.acts (ap admin_presence fair.0)))) (inl (ap sight fair.0))
   where
     p : GroupPlan Act
-    p = plan_row admin_lane d n a x
+    p = plan_row admin_groups b.definition n b.acts x
 
     q : GroupPlan Batch
-    q = plan_row service_lane d n b y
+    q = plan_row service_groups b.definition n b.batches y
 
-    now : sights at2 n ≡ Sees d (shifted_by (view a) p.changes)
-    now = is ∙ (ap (λ (z : Cell). sight (made n z (admin_changes p.changes ++ service_changes q.changes))) fair.2 ∙ sight-both n d fair.0 fair.1 a b p.changes q.changes)
+    now : sights at2 n ≡ Sees b.definition (shifted_by (view b.acts) p.changes)
+    now = is ∙ (ap (λ (z : Cell). sight (made n z (map durable.Admin p.changes ++ map durable.Service q.changes))) fair.0 ∙ sight-both n b p.changes q.changes)
 
-    quiet : IsQuiet a ⊎ Ever (admin d) d past → IsQuiet a ⊎ Ever (admin d) d past2
+    quiet : IsQuiet b.acts ⊎ Ever (admin b.definition) b.definition past → IsQuiet b.acts ⊎ Ever (admin b.definition) b.definition past2
     quiet (inl z) = inl z
-    quiet (inr z) = inr (ever (admin d) d z)
+    quiet (inr z) = inr (ever (admin b.definition) b.definition z)
 
-    news : (l : GroupMessage Act) → admin_said sent2 l → admin_said sent l ⊎ IsMessageOf n d n p.sends l
+    news : (l : GroupMessage Act) → admin_said sent2 l → admin_said sent l ⊎ IsMessageOf n b.definition n p.sends l
     news l s = go (messages _ s.1)
       where
-        sub : WasSent (record { from = l.from; to = l.to; message = message.Admin s.0 l.body }) (posted ns n (admin_sends c d n p.sends)) ⊎ WasSent (record { from = l.from; to = l.to; message = message.Admin s.0 l.body }) (posted ns n (service_sends n c d n q.sends)) → admin_said sent l ⊎ IsMessageOf n d n p.sends l
-        sub (inl z) = inr (posted-admin ns n c d n p.sends s.0 l z)
-        sub (inr z) = absurd (posted-no_admin ns n c d n q.sends l.from l.to s.0 l.body z)
+        sub : WasSent (record { from = l.from; to = l.to; message = message.Admin s.0 l.body }) (posted ns n (group_sends (admin_lane (site_at n c) b.definition) n p.sends)) ⊎ WasSent (record { from = l.from; to = l.to; message = message.Admin s.0 l.body }) (posted ns n (group_sends (service_lane (site_at n c) b.definition) n q.sends)) → admin_said sent l ⊎ IsMessageOf n b.definition n p.sends l
+        sub (inl z) = inr (posted-admin ns n c b.definition n p.sends s.0 l z)
+        sub (inr z) = absurd (posted-no_admin ns n c b.definition n q.sends l.from l.to s.0 l.body z)
 
-        go : WasSent (record { from = l.from; to = l.to; message = message.Admin s.0 l.body }) sent ⊎ WasSent (record { from = l.from; to = l.to; message = message.Admin s.0 l.body }) (posted ns n (admin_sends c d n p.sends ++ service_sends n c d n q.sends)) → admin_said sent l ⊎ IsMessageOf n d n p.sends l
+        go : WasSent (record { from = l.from; to = l.to; message = message.Admin s.0 l.body }) sent ⊎ WasSent (record { from = l.from; to = l.to; message = message.Admin s.0 l.body }) (posted ns n (group_sends (admin_lane (site_at n c) b.definition) n p.sends ++ group_sends (service_lane (site_at n c) b.definition) n q.sends)) → admin_said sent l ⊎ IsMessageOf n b.definition n p.sends l
         go (inl z) = inl (s.0, z)
-        go (inr z) = sub (was-split _ (posted ns n (admin_sends c d n p.sends)) (posted ns n (service_sends n c d n q.sends)) (subst (λ (ss : List Sent). WasSent (record { from = l.from; to = l.to; message = message.Admin s.0 l.body }) ss) (posted-both ns n (admin_sends c d n p.sends) (service_sends n c d n q.sends)) z))
+        go (inr z) = sub (was-split _ (posted ns n (group_sends (admin_lane (site_at n c) b.definition) n p.sends)) (posted ns n (group_sends (service_lane (site_at n c) b.definition) n q.sends)) (subst (λ (ss : List Sent). WasSent (record { from = l.from; to = l.to; message = message.Admin s.0 l.body }) ss) (posted-both ns n (group_sends (admin_lane (site_at n c) b.definition) n p.sends) (group_sends (service_lane (site_at n c) b.definition) n q.sends)) z))
 few-deed past past2 ns c n at at2 sent sent2 acts acts2 batches batches2 Abandons ever others olds messages is fair apt w v f = step-still past past2 at at2 sent sent2 acts acts2 batches batches2 n ever others olds v f same (no-news sent sent2 (sights at2) messages)
   where
     same : sights at2 n ≡ sights at n
-    same = is ∙ (ap (λ (z : Cell). sight (made_one n z durable.Abandon)) fair.5 ∙ sym (ap sight fair.5))
+    same = is ∙ (ap (λ (z : Cell). sight (made_one n z durable.Abandon)) fair.1 ∙ sym (ap sight fair.1))
 few-deed past past2 ns c n at at2 sent sent2 acts acts2 batches batches2 Purges ever others olds messages is fair apt w v f = step-drop past past2 at at2 sent sent2 acts acts2 batches batches2 n ever others olds v f gone (no-news sent sent2 (sights at2) messages)
   where
     gone : sights at2 n ≡ Nowhere
-    gone = is ∙ ap (λ (z : Cell). sight (made_one n z durable.Purge)) fair.5
+    gone = is ∙ ap (λ (z : Cell). sight (made_one n z durable.Purge)) fair.1

@@ -10,7 +10,7 @@ use Rattle.spl_circuit.specs.declared.act.Act.{Act}
 use Rattle.spl_circuit.specs.declared.act.ActKind.{ActKind}
 use Rattle.spl_circuit.specs.declared.act.ActKind.TheVariants as kind
 use Rattle.spl_circuit.specs.declared.definition.Definition.{Definition}
-use Rattle.spl_circuit.specs.Nodes.{Node}
+use Rattle.spl_circuit.specs.Nodes.{NodeId}
 use Rattle.spl_circuit.specs.Equality.{same_act_key, same_act, same_kind}
 use Rattle.spl_model.proofs.Nodes.{node_is, node_same}
 use Rattle.spl_agreement.proofs.Same.{definition_is}
@@ -152,7 +152,7 @@ pub key-parts : (u v : Act) → same_act_key u v ≡ true → (u.node ≡ v.node
 key-parts u v h = (node_is u.node v.node (and_left (bytes_eq u.node v.node) (eqb u.turn v.turn) h), eqb_is u.turn v.turn (and_right (bytes_eq u.node v.node) (eqb u.turn v.turn) h))
 
 pub key-of : (u v : Act) → u.node ≡ v.node → u.turn ≡ v.turn → same_act_key u v ≡ true
-key-of u v p q = subst (λ (n : Node). (bytes_eq u.node n && eqb u.turn v.turn) ≡ true) p (subst (λ (t : ℕ). (bytes_eq u.node u.node && eqb u.turn t) ≡ true) q (rw (node_same u.node) (eqb_same u.turn)))
+key-of u v p q = subst (λ (n : NodeId). (bytes_eq u.node n && eqb u.turn v.turn) ≡ true) p (subst (λ (t : ℕ). (bytes_eq u.node u.node && eqb u.turn t) ≡ true) q (rw (node_same u.node) (eqb_same u.turn)))
 
 pub key-same : (u : Act) → same_act_key u u ≡ true
 key-same u = key-of u u refl refl
@@ -164,10 +164,10 @@ pub key-over : (u v x : Act) → same_act_key u v ≡ true → same_act_key v x 
 key-over u v x p q = let k : (u.node ≡ v.node) × (u.turn ≡ v.turn) = key-parts u v p in let l : (v.node ≡ x.node) × (v.turn ≡ x.turn) = key-parts v x q in key-of u x (k.0 ∙ l.0) (k.1 ∙ l.1)
 
 -- acts by their parts
-abbrev made_act : Node → ℕ → ActKind → Act
+abbrev made_act : NodeId → ℕ → ActKind → Act
 made_act n t k = record { node = n; turn = t; kind = k }
 
-made_act_is : (n n2 : Node) (t t2 : ℕ) (k k2 : ActKind) → n ≡ n2 → t ≡ t2 → k ≡ k2 → made_act n t k ≡ made_act n2 t2 k2
+made_act_is : (n n2 : NodeId) (t t2 : ℕ) (k k2 : ActKind) → n ≡ n2 → t ≡ t2 → k ≡ k2 → made_act n t k ≡ made_act n2 t2 k2
 made_act_is n n2 t t2 k k2 p q r = cc
 
 kind-is : (k l : ActKind) → same_kind k l ≡ true → k ≡ l
@@ -213,11 +213,11 @@ keys-one x y (z ∷ zs) p (inr a) (inl b) e = absurd (both-not (same_act_key x y
 keys-one x y (z ∷ zs) p (inr a) (inr b) e = keys-one x y zs p.1 a b e
 
 -- not both are of the node
-abbrev pub NotBoth : Node → Act → Act → Type 0
+abbrev pub NotBoth : NodeId → Act → Act → Type 0
 NotBoth n x y = x.node ≡ n → y.node ≡ n → ⊥
 
 -- two of the node are one
-pub single-one : (n : Node) (x y : Act) (zs : List Act) → Pairs (NotBoth n) zs → Among x zs → Among y zs → x.node ≡ n → y.node ≡ n → x ≡ y
+pub single-one : (n : NodeId) (x y : Act) (zs : List Act) → Pairs (NotBoth n) zs → Among x zs → Among y zs → x.node ≡ n → y.node ≡ n → x ≡ y
 single-one n x y [] p h k i j = absurd h
 single-one n x y (z ∷ zs) p (inl a) (inl b) i j = a ∙ sym b
 single-one n x y (z ∷ zs) p (inl a) (inr b) i j = absurd (p.0 y b (subst (λ (u : Act). u.node ≡ n) a i) j)

@@ -8,7 +8,7 @@ use Rattle.spl_agree.specs.Member.{Group, Member, moved}
 use Rattle.spl_agree.proofs.Tests.{and_left, and_right, not_true}
 use Rattle.spl_circuit.specs.declared.definition.Definition.{Definition}
 use Rattle.spl_circuit.specs.declared.act.Act.{Act}
-use Rattle.spl_circuit.specs.Nodes.{Node, position}
+use Rattle.spl_circuit.specs.Nodes.{NodeId, position}
 use Rattle.spl_circuit.specs.Rules.{admin}
 use Rattle.spl_circuit.specs.Equality.{same_act_key}
 use Rattle.spl_command.specs.declared.batch.Batch.{Batch}
@@ -21,7 +21,7 @@ use Rattle.spl_agreement.specs.Agreement.{AtEach, AreFew, is_proposal, is_propos
 use Rattle.spl_model.specs.Plain.{AllPlain, IsPlain}
 use Rattle.spl_model.proofs.Nodes.{node_is, node_cases}
 use Rattle.spl_agreement.proofs.GroupOfDefinition.{GroupMessage, Ever, group_of}
-use Rattle.spl_agreement.proofs.GroupWorlds.{InWorld, Others, WasSent, admin_lane, admin_said, was-split, was-left}
+use Rattle.spl_agreement.proofs.GroupWorlds.{InWorld, Others, WasSent, admin_groups, admin_said, was-split, was-left}
 use Rattle.spl_agreement.proofs.CoupledSteps.{Past}
 use Rattle.spl_agreement.proofs.CoupledDeeds.{SomePast, put-others}
 use Rattle.spl_model.proofs.Puts.{put_at-same}
@@ -38,8 +38,8 @@ pub view-moved : (g : Group Act) (i : ℕ) (a : Member Act) (o : OpenMove) → v
 view-moved g i a move.Keep = refl
 view-moved g i a _ = refl
 
-pub sight-moved : (n : Node) (k : Cell) (x y : OpenMove) → sight (moved_cell n k x y) ≡ sight k
-sight-moved n (Held d m t a b) x y = ap (λ (w : View). Sees d w) (view-moved (group_of admin_lane d) (position d.members n) a x)
+pub sight-moved : (n : NodeId) (k : Cell) (x y : OpenMove) → sight (moved_cell n k x y) ≡ sight k
+sight-moved n (Held h) x y = ap (λ (w : View). Sees h.definition w) (view-moved (group_of admin_groups h.definition) (position h.definition.members n) h.acts x)
 sight-moved n _ x y = refl
 
 pub sight-stopped : (k : Cell) → sight (stopped_cell k) ≡ sight k
@@ -47,8 +47,8 @@ sight-stopped Empty = refl
 sight-stopped _ = refl
 
 -- a step that some deed gives
-pub few-plan : (past past2 : Past) (w : World) (n : Node) (p : Plan) (at2 : Node → Cell) (sent2 : List Sent) (acts acts2 : Definition → List Act) (batches batches2 : Definition → List Batch)
-    → IsDeed w n p → ((k : Node) (f : Definition) → Ever k f past → Ever k f past2) → Others n w.at at2 → ((x : Sent) → WasSent x w.sent → WasSent x sent2)
+pub few-plan : (past past2 : Past) (w : World) (n : NodeId) (p : Plan) (at2 : NodeId → Cell) (sent2 : List Sent) (acts acts2 : Definition → List Act) (batches batches2 : Definition → List Batch)
+    → IsDeed w n p → ((k : NodeId) (f : Definition) → Ever k f past → Ever k f past2) → Others n w.at at2 → ((x : Sent) → WasSent x w.sent → WasSent x sent2)
     → ((x : Sent) → WasSent x sent2 → WasSent x w.sent ⊎ WasSent x (posted w.nodes n p.sends))
     → sights at2 n ≡ sight (made n (w.at n) p.changes)
     → InWorld past w.at w.sent acts batches → InWorld past2 at2 sent2 acts2 batches2 → IsFew past (sights w.at) (admin_said w.sent)
@@ -59,28 +59,28 @@ few-plan past past2 w n p at2 sent2 acts acts2 batches batches2 i ever others ol
     i.1 i.4 v u f
 
 -- where no acts change and nothing is sent
-pub few-quiet : (past past2 : Past) (w : World) (n : Node) (at2 : Node → Cell) (acts2 : Definition → List Act) (batches2 : Definition → List Batch)
-    → ((k : Node) (f : Definition) → Ever k f past → Ever k f past2) → Others n w.at at2 → sights at2 n ≡ sights w.at n
+pub few-quiet : (past past2 : Past) (w : World) (n : NodeId) (at2 : NodeId → Cell) (acts2 : Definition → List Act) (batches2 : Definition → List Batch)
+    → ((k : NodeId) (f : Definition) → Ever k f past → Ever k f past2) → Others n w.at at2 → sights at2 n ≡ sights w.at n
     → InWorld past2 at2 w.sent acts2 batches2 → IsFew past (sights w.at) (admin_said w.sent) → IsFew past2 (sights at2) (admin_said w.sent)
 few-quiet past past2 w n at2 acts2 batches2 ever others same u f = step-still past past2 w.at at2 w.sent w.sent acts2 acts2 batches2 batches2 n ever others (λ x h. h) u f same (λ l s. inl s)
 
 -- a stop, a start, and a stop in a step
-pub few-stopped : (past past2 : Past) (w : World) (n : Node) (acts2 : Definition → List Act) (batches2 : Definition → List Batch) → ((k : Node) (f : Definition) → Ever k f past → Ever k f past2)
+pub few-stopped : (past past2 : Past) (w : World) (n : NodeId) (acts2 : Definition → List Act) (batches2 : Definition → List Batch) → ((k : NodeId) (f : Definition) → Ever k f past → Ever k f past2)
     → InWorld past2 (put_at w.at n (stopped_cell (w.at n))) w.sent acts2 batches2 → IsFew past (sights w.at) (admin_said w.sent) → IsFew past2 (sights (put_at w.at n (stopped_cell (w.at n)))) (admin_said w.sent)
 few-stopped past past2 w n acts2 batches2 ever u f = few-quiet past past2 w n (put_at w.at n (stopped_cell (w.at n))) acts2 batches2 ever (put-others w.at n (stopped_cell (w.at n)))
     (ap sight (put_at-same w.at n (stopped_cell (w.at n))) ∙ sight-stopped (w.at n)) u f
 
-pub few-stops : (past past2 : Past) (w : World) (n : Node) (up : Bool) (acts2 : Definition → List Act) (batches2 : Definition → List Batch) → ((k : Node) (f : Definition) → Ever k f past → Ever k f past2)
+pub few-stops : (past past2 : Past) (w : World) (n : NodeId) (up : Bool) (acts2 : Definition → List Act) (batches2 : Definition → List Batch) → ((k : NodeId) (f : Definition) → Ever k f past → Ever k f past2)
     → InWorld past2 (if up then stopped w n else w).at (if up then stopped w n else w).sent acts2 batches2 → IsFew past (sights w.at) (admin_said w.sent) → IsFew past2 (sights (if up then stopped w n else w).at) (admin_said (if up then stopped w n else w).sent)
 few-stops past past2 w n true acts2 batches2 ever u f = few-stopped past past2 w n acts2 batches2 ever u f
 few-stops past past2 w n false acts2 batches2 ever u f = few-quiet past past2 w n w.at acts2 batches2 ever (λ k q. refl) refl u f
 
-pub few-starts : (past past2 : Past) (w : World) (n : Node) (up : Bool) (acts2 : Definition → List Act) (batches2 : Definition → List Batch) → ((k : Node) (f : Definition) → Ever k f past → Ever k f past2)
+pub few-starts : (past past2 : Past) (w : World) (n : NodeId) (up : Bool) (acts2 : Definition → List Act) (batches2 : Definition → List Batch) → ((k : NodeId) (f : Definition) → Ever k f past → Ever k f past2)
     → InWorld past2 (if up then w else started w n).at (if up then w else started w n).sent acts2 batches2 → IsFew past (sights w.at) (admin_said w.sent) → IsFew past2 (sights (if up then w else started w n).at) (admin_said (if up then w else started w n).sent)
 few-starts past past2 w n true acts2 batches2 ever u f = few-quiet past past2 w n w.at acts2 batches2 ever (λ k q. refl) refl u f
 few-starts past past2 w n false acts2 batches2 ever u f = few-quiet past past2 w n w.at acts2 batches2 ever (λ k q. refl) refl u f
 
-pub few-halts : (past past2 : Past) (w : World) (n : Node) (p : Plan) (kept up : Bool) (acts acts2 : Definition → List Act) (batches batches2 : Definition → List Batch) → IsDeed w n p → ((k : Node) (f : Definition) → Ever k f past → Ever k f past2)
+pub few-halts : (past past2 : Past) (w : World) (n : NodeId) (p : Plan) (kept up : Bool) (acts acts2 : Definition → List Act) (batches batches2 : Definition → List Batch) → IsDeed w n p → ((k : NodeId) (f : Definition) → Ever k f past → Ever k f past2)
     → InWorld past w.at w.sent acts batches → InWorld past2 (if up then halted w n kept p else w).at (if up then halted w n kept p else w).sent acts2 batches2 → IsFew past (sights w.at) (admin_said w.sent)
     → IsFew past2 (sights (if up then halted w n kept p else w).at) (admin_said (if up then halted w n kept p else w).sent)
 few-halts past past2 w n p kept false acts acts2 batches batches2 i ever v u f = few-quiet past past2 w n w.at acts2 batches2 ever (λ k q. refl) refl u f
@@ -89,7 +89,7 @@ few-halts past past2 w n p true true acts acts2 batches batches2 i ever v u f = 
     (put-others w.at n (stopped_cell (made n (w.at n) p.changes))) (λ x h. h) (λ x h. inl h)
     (ap sight (put_at-same w.at n (stopped_cell (made n (w.at n) p.changes))) ∙ sight-stopped (made n (w.at n) p.changes)) v u f
 
-pub few-steps : (past past2 : Past) (w : World) (n : Node) (p : Plan) (acts acts2 : Definition → List Act) (batches batches2 : Definition → List Batch) → IsDeed w n p → ((k : Node) (f : Definition) → Ever k f past → Ever k f past2)
+pub few-steps : (past past2 : Past) (w : World) (n : NodeId) (p : Plan) (acts acts2 : Definition → List Act) (batches batches2 : Definition → List Batch) → IsDeed w n p → ((k : NodeId) (f : Definition) → Ever k f past → Ever k f past2)
     → InWorld past w.at w.sent acts batches → InWorld past2 (put_at w.at n (after_plan n (w.at n) p)) (w.sent ++ posted w.nodes n p.sends) acts2 batches2 → IsFew past (sights w.at) (admin_said w.sent)
     → IsFew past2 (sights (put_at w.at n (after_plan n (w.at n) p))) (admin_said (w.sent ++ posted w.nodes n p.sends))
 few-steps past past2 w n p acts acts2 batches batches2 i ever v u f = few-plan past past2 w n p (put_at w.at n (after_plan n (w.at n) p)) (w.sent ++ posted w.nodes n p.sends) acts acts2 batches batches2 i ever
@@ -97,7 +97,7 @@ few-steps past past2 w n p acts acts2 batches batches2 i ever v u f = few-plan p
     (ap sight (put_at-same w.at n (after_plan n (w.at n) p)) ∙ sight-moved n (made n (w.at n) p.changes) p.admin p.service) v u f
 
 -- there are bindings and lists with which the coupling holds, and few acts are pending
-abbrev pub SomeFew : (Node → Cell) → List Sent → Type 0
+abbrev pub SomeFew : (NodeId → Cell) → List Sent → Type 0
 SomeFew at sent = (past : Past) × (acts : Definition → List Act) × (batches : Definition → List Batch) × InWorld past at sent acts batches × IsFew past (sights at) (admin_said sent)
 
 -- any event
@@ -130,7 +130,7 @@ few-start = record {
 }
 
 -- at a coordinator, at most one proposal and at most one other act of each node is pending
-pub are-few : (past : Past) (see : Node → Sight) (said : GroupMessage Act → Type 0) (n : Node) (d : Definition) (w : View) → IsFew past see said → see n ≡ Sees d w → n ≡ admin d → AreFew w.pending
+pub are-few : (past : Past) (see : NodeId → Sight) (said : GroupMessage Act → Type 0) (n : NodeId) (d : Definition) (w : View) → IsFew past see said → see n ≡ Sees d w → n ≡ admin d → AreFew w.pending
 are-few past see said n d w f is lead = record {
   proposals = λ q. filter-few (is_proposal_of q) w.pending (pairs-map OtherKey (λ x y. is_proposal_of q x ≡ true → is_proposal_of q y ≡ true → ⊥) w.pending (λ x y h k o a b. proposals q x y h k o a b) tidy.keys);
   others = λ q. filter-few (is_other_act_of q) w.pending (pairs-map OtherKey (λ x y. is_other_act_of q x ≡ true → is_other_act_of q y ≡ true → ⊥) w.pending (λ x y h k o a b. others q x y h k o a b (node_cases q n)) tidy.keys);
@@ -142,28 +142,28 @@ are-few past see said n d w f is lead = record {
     not_one : (x y : Act) → OtherKey x y → x ≡ y → ⊥
     not_one x y o e = both-not (same_act_key y y) (key-same y) (subst (λ (z : Act). same_act_key y z ≡ false) e o)
 
-    of_node : (q : Node) (x : Act) (b : Bool) → (bytes_eq x.node q && b) ≡ true → x.node ≡ q
+    of_node : (q : NodeId) (x : Act) (b : Bool) → (bytes_eq x.node q && b) ≡ true → x.node ≡ q
     of_node q x b h = node_is x.node q (and_left (bytes_eq x.node q) b h)
 
-    proposals : (q : Node) (x y : Act) → Among x w.pending → Among y w.pending → OtherKey x y → is_proposal_of q x ≡ true → is_proposal_of q y ≡ true → ⊥
+    proposals : (q : NodeId) (x y : Act) → Among x w.pending → Among y w.pending → OtherKey x y → is_proposal_of q x ≡ true → is_proposal_of q y ≡ true → ⊥
     proposals q x y h k o a b =
         let i : x.turn ≡ 1 = tidy.first x h (and_right (bytes_eq x.node q) (is_proposal x.kind) a) in
         let j : y.turn ≡ 1 = tidy.first y k (and_right (bytes_eq y.node q) (is_proposal y.kind) b) in
         both-not (same_act_key y x) (key-of y x (of_node q y (is_proposal y.kind) b ∙ sym (of_node q x (is_proposal x.kind) a)) (j ∙ sym i)) o
 
-    other_kind : (q : Node) (x : Act) → is_other_act_of q x ≡ true → IsOther x
+    other_kind : (q : NodeId) (x : Act) → is_other_act_of q x ≡ true → IsOther x
     other_kind q x a = not_true (is_proposal x.kind) (and_right (bytes_eq x.node q) (not (is_proposal x.kind)) a)
 
-    came : (q : Node) (x : Act) → q ≢ n → x.node ≡ q → (x.node ≡ n) ⊎ Forwards said x.node n d.generation x → Forwards said q n d.generation x
+    came : (q : NodeId) (x : Act) → q ≢ n → x.node ≡ q → (x.node ≡ n) ⊎ Forwards said x.node n d.generation x → Forwards said q n d.generation x
     came q x o e (inl h) = absurd (o (sym e ∙ h))
-    came q x o e (inr h) = subst (λ (z : Node). Forwards said z n d.generation x) e h
+    came q x o e (inr h) = subst (λ (z : NodeId). Forwards said z n d.generation x) e h
 
     unsettled : (x y : Act) → Among x w.pending → Among y w.pending → OtherKey x y → IsOneOf w x y → ⊥
     unsettled x y h k o (inl e) = not_one x y o e
     unsettled x y h k o (inr (inl s)) = settled-not w x s (tidy.unsettled x h)
     unsettled x y h k o (inr (inr s)) = settled-not w y s (tidy.unsettled y k)
 
-    others : (q : Node) (x y : Act) → Among x w.pending → Among y w.pending → OtherKey x y → is_other_act_of q x ≡ true → is_other_act_of q y ≡ true → (q ≡ n) ⊎ (q ≢ n) → ⊥
+    others : (q : NodeId) (x y : Act) → Among x w.pending → Among y w.pending → OtherKey x y → is_other_act_of q x ≡ true → is_other_act_of q y ≡ true → (q ≡ n) ⊎ (q ≢ n) → ⊥
     others q x y h k o a b (inl e) = not_one x y o (single-one n x y w.pending tidy.single h k (of_node q x (not (is_proposal x.kind)) a ∙ e) (of_node q y (not (is_proposal y.kind)) b ∙ e))
     others q x y h k o a b (inr e) = unsettled x y h k o (f.few q n d.generation x y
         (came q x e (of_node q x (not (is_proposal x.kind)) a) (tidy.came lead x h))
@@ -171,7 +171,7 @@ are-few past see said n d w f is lead = record {
         (other_kind q x a) (other_kind q y b) d w is refl lead)
 
 -- behind anything that happened
-pub few-behind : (ns : List Node) (es : List Occurrence) (d : Definition) → AllPlain es → AtEach (world_behind ns es) d (λ n m turn a b. n ≡ admin d → AreFew a.pending)
-few-behind ns es d h n m turn a b is lead =
+pub few-behind : (ns : List NodeId) (es : List Occurrence) (d : Definition) → AllPlain es → AtEach (world_behind ns es) d (λ n b. n ≡ admin d → AreFew b.acts.pending)
+few-behind ns es d h n b is same lead =
     let v : SomeFew (world_behind ns es).at (world_behind ns es).sent = few-run (first_world ns) es h ([], (λ f. []), (λ f. []), world-start, few-start) in
-    are-few v.0 (sights (world_behind ns es).at) (admin_said (world_behind ns es).sent) n d (view a) v.4 (ap sight is) lead
+    are-few v.0 (sights (world_behind ns es).at) (admin_said (world_behind ns es).sent) n d (view b.acts) v.4 (ap sight is ∙ ap (λ (z : Definition). Sees z (view b.acts)) same) lead

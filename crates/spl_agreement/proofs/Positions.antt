@@ -2,11 +2,11 @@
 use Rattle.std.proofs.Common.{◌≡◌, suc, ◌<◌, ◌≤◌, ◌⊎◌, true, false, List, [], ◌∷◌, length, sym, ◌∙◌, inl, inr, arith}
 use Rattle.std.specs.Str.{bytes_eq}
 use Rattle.spl_agree.proofs.Tests.{if_holds, or_cases, or_true, bool_cases}
-use Rattle.spl_circuit.specs.Nodes.{Node, has_node, before_node, position, node_or, is_below, lowest_from}
+use Rattle.spl_circuit.specs.Nodes.{NodeId, has_node, before_node, position, node_or, is_below, lowest_from}
 use Rattle.spl_model.proofs.Nodes.{node_is, node_same}
 
 -- two members with one position are one
-pub before_same : (ms : List Node) (a b : Node) → has_node ms a ≡ true → has_node ms b ≡ true → before_node ms a ≡ before_node ms b → a ≡ b
+pub before_same : (ms : List NodeId) (a b : NodeId) → has_node ms a ≡ true → has_node ms b ≡ true → before_node ms a ≡ before_node ms b → a ≡ b
 before_same [] a b p q e = cc
 before_same (m ∷ ms) a b p q e = go (bool_cases (bytes_eq m a)) (bool_cases (bytes_eq m b)) (λ x y z. before_same ms a b x y z)
   where
@@ -19,7 +19,7 @@ before_same (m ∷ ms) a b p q e = go (bool_cases (bytes_eq m a)) (bool_cases (b
         hyp (rw x at p) (rw y at q) (omega arith)
 
 -- a member stands below their number
-pub before_below : (ms : List Node) (a : Node) → has_node ms a ≡ true → before_node ms a < length ms
+pub before_below : (ms : List NodeId) (a : NodeId) → has_node ms a ≡ true → before_node ms a < length ms
 before_below [] a p = cc
 before_below (m ∷ ms) a p = go (bool_cases (bytes_eq m a)) (λ x. before_below ms a x)
   where
@@ -28,7 +28,7 @@ before_below (m ∷ ms) a p = go (bool_cases (bytes_eq m a)) (λ x. before_below
     go (inr x) hyp = let k : before_node (m ∷ ms) a ≡ suc (before_node ms a) = rw x in let l : before_node ms a < length ms = hyp (rw x at p) in omega arith
 
 -- at its place is the member
-pub before_or : (ms : List Node) (back a : Node) → has_node ms a ≡ true → node_or ms back (before_node ms a) ≡ a
+pub before_or : (ms : List NodeId) (back a : NodeId) → has_node ms a ≡ true → node_or ms back (before_node ms a) ≡ a
 before_or [] back a p = cc
 before_or (m ∷ ms) back a p = go (bool_cases (bytes_eq m a)) (λ x. before_or ms back a x)
   where
@@ -37,15 +37,15 @@ before_or (m ∷ ms) back a p = go (bool_cases (bytes_eq m a)) (λ x. before_or 
     go (inr x) hyp = let k : before_node (m ∷ ms) a ≡ suc (before_node ms a) = rw x in rw k (hyp (rw x at p))
 
 -- the position of a member
-pub position-member : (ms : List Node) (a : Node) → has_node ms a ≡ true → position ms a ≡ before_node ms a
+pub position-member : (ms : List NodeId) (a : NodeId) → has_node ms a ≡ true → position ms a ≡ before_node ms a
 position-member ms a h = rw h
 
 -- the position of a node that is none
-pub position-none : (ms : List Node) (a : Node) → has_node ms a ≡ false → position ms a ≡ 255
+pub position-none : (ms : List NodeId) (a : NodeId) → has_node ms a ≡ false → position ms a ≡ 255
 position-none ms a h = rw h
 
 -- who has a position below the number of members is one
-pub member_by : (ms : List Node) (a : Node) → length ms ≤ 8 → position ms a < length ms → has_node ms a ≡ true
+pub member_by : (ms : List NodeId) (a : NodeId) → length ms ≤ 8 → position ms a < length ms → has_node ms a ≡ true
 member_by ms a few l = go (bool_cases (has_node ms a))
   where
     go : (has_node ms a ≡ true) ⊎ (has_node ms a ≡ false) → has_node ms a ≡ true
@@ -53,22 +53,22 @@ member_by ms a few l = go (bool_cases (has_node ms a))
     go (inr q) = let k : position ms a ≡ 255 = position-none ms a q in absurd (omega arith)
 
 -- a member's position is below their number
-pub position-below : (ms : List Node) (a : Node) → has_node ms a ≡ true → position ms a < length ms
+pub position-below : (ms : List NodeId) (a : NodeId) → has_node ms a ≡ true → position ms a < length ms
 position-below ms a h = let k : position ms a ≡ before_node ms a = position-member ms a h in let l : before_node ms a < length ms = before_below ms a h in omega arith
 
 -- two members have two positions
-pub position-apart : (ms : List Node) (a b : Node) → length ms ≤ 8 → position ms a < length ms → position ms a ≡ position ms b → a ≡ b
+pub position-apart : (ms : List NodeId) (a b : NodeId) → length ms ≤ 8 → position ms a < length ms → position ms a ≡ position ms b → a ≡ b
 position-apart ms a b few l e =
     let p : has_node ms a ≡ true = member_by ms a few l in
     let q : has_node ms b ≡ true = member_by ms b few (omega arith) in
     before_same ms a b p q (sym (position-member ms a p) ∙ (e ∙ position-member ms b q))
 
 -- at its position is the member
-pub position-or : (ms : List Node) (back a : Node) → has_node ms a ≡ true → node_or ms back (position ms a) ≡ a
+pub position-or : (ms : List NodeId) (back a : NodeId) → has_node ms a ≡ true → node_or ms back (position ms a) ≡ a
 position-or ms back a h = rw (position-member ms a h) (before_or ms back a h)
 
 -- the coordinators are members
-pub has-lowest : (x : Node) (ys : List Node) → has_node (x ∷ ys) (lowest_from x ys) ≡ true
+pub has-lowest : (x : NodeId) (ys : List NodeId) → has_node (x ∷ ys) (lowest_from x ys) ≡ true
 has-lowest x [] = rw (node_same x)
 has-lowest x (y ∷ ys) = if_holds (λ z. has_node (x ∷ y ∷ ys) (lowest_from z ys) ≡ true) (is_below y x) y x (λ q. later (has-lowest y ys)) (λ q. first (has-lowest x ys))
   where

@@ -6,7 +6,7 @@ use Rattle.std.specs.Str.{bytes_eq}
 use Rattle.spl_agree.proofs.Tests.{if_holds, and_left, and_right, or_cases, or_true}
 use Rattle.spl_circuit.specs.declared.definition.Service.{Service}
 use Rattle.spl_circuit.specs.declared.definition.Definition.{Definition}
-use Rattle.spl_circuit.specs.Nodes.{Node, has_node, is_below, lowest, inserted, sorted, same_nodes}
+use Rattle.spl_circuit.specs.Nodes.{NodeId, has_node, is_below, lowest, inserted, sorted, same_nodes}
 use Rattle.spl_circuit.specs.Rules.{first_false, rules_of, broken, admin, service, lowest_service, leading_node, nodes_of}
 use Rattle.spl_model.proofs.Nodes.{node_same}
 use Rattle.spl_agreement.proofs.Same.{same_nodes_is}
@@ -28,7 +28,7 @@ pub leb_is : (a b : ℕ) → nat_le a b ≡ true → a ≤ b
 leb_is a b h = grind (arith, nat_tests)
 
 -- what is inserted is there, and all that was
-pub has-inserted : (x : Node) (ys : List Node) (z : Node) → has_node (x ∷ ys) z ≡ true → has_node (inserted x ys) z ≡ true
+pub has-inserted : (x : NodeId) (ys : List NodeId) (z : NodeId) → has_node (x ∷ ys) z ≡ true → has_node (inserted x ys) z ≡ true
 has-inserted x [] z h = h
 has-inserted x (y ∷ ys) z h = if_holds (λ r. has_node r z ≡ true) (is_below y x) _ _ (λ q. go (has-inserted x ys z) (or_cases (bytes_eq x z) (has_node (y ∷ ys) z) h)) (λ q. h)
   where
@@ -41,7 +41,7 @@ has-inserted x (y ∷ ys) z h = if_holds (λ r. has_node r z ≡ true) (is_below
         deeper f (inr r) = let k : has_node (inserted x ys) z ≡ true = f (rw r (or_true (bytes_eq x z))) in rw k (or_true (bytes_eq y z))
 
 -- sorting loses no node
-pub has-sorted : (xs : List Node) (z : Node) → has_node xs z ≡ true → has_node (sorted xs) z ≡ true
+pub has-sorted : (xs : List NodeId) (z : NodeId) → has_node xs z ≡ true → has_node (sorted xs) z ≡ true
 has-sorted [] z h = h
 has-sorted (x ∷ xs) z h = has-inserted x (sorted xs) z (go (has-sorted xs z) (or_cases (bytes_eq x z) (has_node xs z) h))
   where
@@ -71,14 +71,14 @@ pub record IsRoster (d : Definition) : Type 0 where
   pub service_in : has_node d.members (service d) ≡ true
 
 -- the lowest member is one
-pub admin-in : (ms : List Node) → 2 ≤ length ms → has_node ms (lowest ms) ≡ true
+pub admin-in : (ms : List NodeId) → 2 ≤ length ms → has_node ms (lowest ms) ≡ true
 admin-in [] h = absurd (omega (arith, h))
 admin-in (x ∷ xs) h = has-lowest x xs
 
 -- the node of the lowest service is a member
-pub service-in : (ss : List Service) (ms : List Node) → 2 ≤ length ms → sorted (nodes_of ss) ≡ ms → has_node ms (leading_node ss) ≡ true
-service-in [] ms h e = absurd (let k : length ms ≡ 0 = ap (λ (x : List Node). length x) (sym e) in omega arith)
-service-in (s ∷ ss) ms h e = subst (λ (x : List Node). has_node x (lowest_service s ss).node ≡ true) e (has-sorted (nodes_of (s ∷ ss)) (lowest_service s ss).node (has-lowest_service s ss))
+pub service-in : (ss : List Service) (ms : List NodeId) → 2 ≤ length ms → sorted (nodes_of ss) ≡ ms → has_node ms (leading_node ss) ≡ true
+service-in [] ms h e = absurd (let k : length ms ≡ 0 = ap (λ (x : List NodeId). length x) (sym e) in omega arith)
+service-in (s ∷ ss) ms h e = subst (λ (x : List NodeId). has_node x (lowest_service s ss).node ≡ true) e (has-sorted (nodes_of (s ∷ ss)) (lowest_service s ss).node (has-lowest_service s ss))
 
 -- of a definition that breaks no rule
 pub roster : (d : Definition) → broken d ≡ None → IsRoster d

@@ -7,12 +7,12 @@ use Rattle.spl_circuit.specs.declared.definition.Definition.{Definition}
 use Rattle.spl_circuit.specs.declared.act.Act.{Act}
 use Rattle.spl_circuit.specs.declared.act.ActKind.{ActKind}
 use Rattle.spl_circuit.specs.declared.act.ActKind.TheVariants as kind
-use Rattle.spl_circuit.specs.Nodes.{Node, same_nodes}
+use Rattle.spl_circuit.specs.Nodes.{NodeId, same_nodes}
 use Rattle.spl_circuit.specs.Equality.{same_services, same_definition, same_kind, same_act}
 use Rattle.spl_model.proofs.Nodes.{node_is, node_same}
 
 -- equal lists of nodes are one
-pub same_nodes_is : (xs ys : List Node) → same_nodes xs ys ≡ true → xs ≡ ys
+pub same_nodes_is : (xs ys : List NodeId) → same_nodes xs ys ≡ true → xs ≡ ys
 same_nodes_is [] [] h = refl
 same_nodes_is (x ∷ xs) (y ∷ ys) h =
     let p : x ≡ y = node_is x y (and_left (bytes_eq x y) (same_nodes xs ys) h) in
@@ -20,7 +20,7 @@ same_nodes_is (x ∷ xs) (y ∷ ys) h =
 same_nodes_is _ _ h = cc
 
 -- a list of nodes is equal to itself
-pub same_nodes_same : (xs : List Node) → same_nodes xs xs ≡ true
+pub same_nodes_same : (xs : List NodeId) → same_nodes xs xs ≡ true
 same_nodes_same [] = refl
 same_nodes_same (x ∷ xs) = let p : bytes_eq x x ≡ true = node_same x in let q : same_nodes xs xs ≡ true = same_nodes_same xs in rw (p, q)
 
@@ -58,10 +58,10 @@ pub definition_same : (d : Definition) → same_definition d d ≡ true
 definition_same d = rw (node_same d.id, eqb_same d.generation, eqb_same d.version, node_same d.management, node_same d.name, same_nodes_same d.members, same_services_same d.services)
 
 -- a definition, by its parts
-abbrev made_definition : List ℕ → ℕ → ℕ → List ℕ → List ℕ → List Node → List Service → Definition
+abbrev made_definition : List ℕ → ℕ → ℕ → List ℕ → List ℕ → List NodeId → List Service → Definition
 made_definition a b c x y ms ss = record { id = a; generation = b; version = c; management = x; name = y; members = ms; services = ss }
 
-made_definition_is : (a a2 : List ℕ) (b b2 c c2 : ℕ) (x x2 y y2 : List ℕ) (ms ms2 : List Node) (ss ss2 : List Service) → a ≡ a2 → b ≡ b2 → c ≡ c2 → x ≡ x2 → y ≡ y2 → ms ≡ ms2 → ss ≡ ss2 → made_definition a b c x y ms ss ≡ made_definition a2 b2 c2 x2 y2 ms2 ss2
+made_definition_is : (a a2 : List ℕ) (b b2 c c2 : ℕ) (x x2 y y2 : List ℕ) (ms ms2 : List NodeId) (ss ss2 : List Service) → a ≡ a2 → b ≡ b2 → c ≡ c2 → x ≡ x2 → y ≡ y2 → ms ≡ ms2 → ss ≡ ss2 → made_definition a b c x y ms ss ≡ made_definition a2 b2 c2 x2 y2 ms2 ss2
 made_definition_is a a2 b b2 c c2 x x2 y y2 ms ms2 ss ss2 p q r s t u v = cc
 
 -- equal definitions are one

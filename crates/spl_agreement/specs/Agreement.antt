@@ -10,13 +10,12 @@ use Rattle.spl_circuit.specs.declared.definition.Definition.{Definition}
 use Rattle.spl_circuit.specs.declared.act.ActKind.{ActKind}
 use Rattle.spl_circuit.specs.declared.act.ActKind.TheVariants as kind
 use Rattle.spl_circuit.specs.declared.act.Act.{Act}
-use Rattle.spl_circuit.specs.declared.lifecycle.Mark.{Mark}
-use Rattle.spl_circuit.specs.Nodes.{Node, has_node}
+use Rattle.spl_circuit.specs.Nodes.{NodeId, CircuitId, has_node}
 use Rattle.spl_circuit.specs.Rules.{admin}
 use Rattle.spl_circuit.specs.Acts.{act_rules}
 use Rattle.spl_sched.specs.declared.line.Step.{Step}
-use Rattle.spl_rules.specs.Cells.{Cell, Empty, Held, Purged}
-use Rattle.spl_model.specs.Worlds.{World, Occurrence, Steps, occur, world_behind}
+use Rattle.spl_rules.specs.Cells.{Bound, Cell, Empty, Held, Purged}
+use Rattle.spl_model.specs.Worlds.{World, site_at, Occurrence, Steps, occur, world_behind}
 use Rattle.spl_agreement.specs.Lists.{act_list, batch_list}
 use Rattle.spl_model.specs.Plain.{AllPlain}
 use Rattle.spl_model.specs.Projection.{Ran}
@@ -25,8 +24,8 @@ use Rattle.spl_agreement.specs.Told.{TellsFronts}
 use Rattle.spl_agreement.specs.Queued.{KnowsQueued}
 
 -- something holds of each cell that is bound to a definition
-abbrev pub AtEach : World → Definition → (Node → Mark → ℕ → Member Act → Member Batch → Type 0) → Type 0
-AtEach w d P = (n : Node) (m : Mark) (turn : ℕ) (a : Member Act) (b : Member Batch) → w.at n ≡ Held d m turn a b → P n m turn a b
+abbrev pub AtEach : World → Definition → (NodeId → Bound → Type 0) → Type 0
+AtEach w d P = (n : NodeId) (h : Bound) → w.at n ≡ Held h → h.definition ≡ d → P n h
 
 -- the ids of batches differ
 abbrev pub AllDiffer : List Batch → Type 0
@@ -34,22 +33,22 @@ AllDiffer [] = Unit {0}
 AllDiffer (b ∷ bs) = (is_taken bs b.id ≡ false) × AllDiffer bs
 
 -- two definitions of one generation that share a member don't both have acts
-abbrev pub ShareNothing : List Node → List Occurrence → Definition → Definition → Type 0
-ShareNothing ns es d e = (n : Node) → has_node d.members n ≡ true → has_node e.members n ≡ true → d.generation ≡ e.generation → act_list ns d es ≢ [] → act_list ns e es ≢ [] → d ≡ e
+abbrev pub ShareNothing : List NodeId → List Occurrence → Definition → Definition → Type 0
+ShareNothing ns es d e = (n : NodeId) → has_node d.members n ≡ true → has_node e.members n ≡ true → d.generation ≡ e.generation → act_list ns d es ≢ [] → act_list ns e es ≢ [] → d ≡ e
 
 -- from one moment to a later one, where a cell is bound to a definition at both: its histories have grown, and what it
 -- knew it knows
-pub record Keeps (a a2 : Member Act) (b b2 : Member Batch) (d : Definition) : Type 0 where
-  pub acts : IsPrefixOf a.history a2.history
-  pub batches : IsPrefixOf b.history b2.history
-  pub known_acts : (v : Act) → is_some (known (act_rules d) a v) ≡ true → is_some (known (act_rules d) a2 v) ≡ true
-  pub known_batches : (v : Batch) → is_some (known batch_rules b v) ≡ true → is_some (known batch_rules b2 v) ≡ true
+pub record Keeps (h later : Bound) : Type 0 where
+  pub acts : IsPrefixOf h.acts.history later.acts.history
+  pub batches : IsPrefixOf h.batches.history later.batches.history
+  pub known_acts : (v : Act) → is_some (known (act_rules h.definition) h.acts v) ≡ true → is_some (known (act_rules h.definition) later.acts v) ≡ true
+  pub known_batches : (v : Batch) → is_some (known batch_rules h.batches v) ≡ true → is_some (known batch_rules later.batches v) ≡ true
 
 -- what a cell was bound to is behind it: it is bound to it still, or was purged, or is bound to a later generation
 abbrev pub IsPast : Definition → Cell → Type 0
 IsPast d Empty = ⊥
 IsPast d (Purged old) = d.generation ≤ old
-IsPast d (Held e m turn a b) = (e ≡ d) ⊎ (d.generation < e.generation)
+IsPast d (Held h) = (h.definition ≡ d) ⊎ (d.generation < h.definition.generation)
 
 -- the first act of a history, if there is one, is the proposal of the definition
 abbrev pub FirstIsProposal : Definition → Member Act → Type 0
@@ -59,36 +58,36 @@ abbrev pub is_proposal : ActKind → Bool
 is_proposal (kind.Propose d) = true
 is_proposal _ = false
 
-abbrev pub is_proposal_of : Node → Act → Bool
+abbrev pub is_proposal_of : NodeId → Act → Bool
 is_proposal_of n v = bytes_eq v.node n && is_proposal v.kind
 
-abbrev pub is_other_act_of : Node → Act → Bool
+abbrev pub is_other_act_of : NodeId → Act → Bool
 is_other_act_of n v = bytes_eq v.node n && not (is_proposal v.kind)
 
 -- at most one proposal and at most one other act of each node
 pub record AreFew (pending : List Act) : Type 0 where
-  pub proposals : (n : Node) → length (filter (is_proposal_of n) pending) ≤ 1
-  pub others : (n : Node) → length (filter (is_other_act_of n) pending) ≤ 1
+  pub proposals : (n : NodeId) → length (filter (is_proposal_of n) pending) ≤ 1
+  pub others : (n : NodeId) → length (filter (is_other_act_of n) pending) ≤ 1
 
 -- ---- the agreement
 
 -- what holds of the circuit of a definition behind what happened in the world of its id
-pub record IsAgreed (ns : List Node) (es : List Occurrence) (d : Definition) : Type 0 where
+pub record IsAgreed (ns : List NodeId) (es : List Occurrence) (d : Definition) : Type 0 where
   -- the acts and the batches that are committed at a member begin the circuit's lists
-  pub acts : AtEach (world_behind ns es) d (λ n m turn a b. IsPrefixOf (values a.history) (act_list ns d es))
-  pub batches : AtEach (world_behind ns es) d (λ n m turn a b. IsPrefixOf (values b.history) (batch_list ns d es))
+  pub acts : AtEach (world_behind ns es) d (λ n h. IsPrefixOf (values h.acts.history) (act_list ns d es))
+  pub batches : AtEach (world_behind ns es) d (λ n h. IsPrefixOf (values h.batches.history) (batch_list ns d es))
   pub differ : AllDiffer (batch_list ns d es)
   -- what a member tells, it tells of the fronts of those lists that are committed at it
-  pub told : (c : Node) → AtEach (world_behind ns es) d (λ n m turn a b. TellsFronts (world_behind ns es) n c d m a b (act_list ns d es) (batch_list ns d es))
+  pub told : (c : CircuitId) → AtEach (world_behind ns es) d (λ n h. TellsFronts (world_behind ns es) (site_at n c) h (act_list ns d es) (batch_list ns d es))
   -- what the last step is answered to have queued is known there
   pub queued : (before : List Occurrence) (s : Step) → es ≡ before ++ Steps s ∷ [] → KnowsQueued (world_behind ns before) s
   pub apart : (e : Definition) → ShareNothing ns es d e
   -- whatever happens later
-  pub keeps : (fs : List Occurrence) → AllPlain fs → AtEach (world_behind ns es) d (λ n m turn a b. (m2 : Mark) (turn2 : ℕ) (a2 : Member Act) (b2 : Member Batch) → (occur (world_behind ns es) fs).at n ≡ Held d m2 turn2 a2 b2 → Keeps a a2 b b2 d)
-  pub past : (fs : List Occurrence) → AllPlain fs → AtEach (world_behind ns es) d (λ n m turn a b. IsPast d ((occur (world_behind ns es) fs).at n))
-  pub few : AtEach (world_behind ns es) d (λ n m turn a b. n ≡ admin d → AreFew a.pending)
+  pub keeps : (fs : List Occurrence) → AllPlain fs → AtEach (world_behind ns es) d (λ n h. (later : Bound) → (occur (world_behind ns es) fs).at n ≡ Held later → later.definition ≡ d → Keeps h later)
+  pub past : (fs : List Occurrence) → AllPlain fs → AtEach (world_behind ns es) d (λ n h. IsPast d ((occur (world_behind ns es) fs).at n))
+  pub few : AtEach (world_behind ns es) d (λ n h. n ≡ admin d → AreFew h.acts.pending)
 
 -- the agreement of all circuits in a run of lines: at each moment of the world of each id, of each definition
-pub record Agree (ns : List Node) (rs : List Ran) : Type 0 where
-  pub happened : (c : Node) → circuit_world ns c rs ≡ world_behind ns (occurrences ns c rs)
-  pub agreed : (c : Node) (d : Definition) (es fs : List Occurrence) → es ++ fs ≡ occurrences ns c rs → IsAgreed ns es d
+pub record Agree (ns : List NodeId) (rs : List Ran) : Type 0 where
+  pub happened : (c : CircuitId) → circuit_world ns c rs ≡ world_behind ns (occurrences ns c rs)
+  pub agreed : (c : CircuitId) (d : Definition) (es fs : List Occurrence) → es ++ fs ≡ occurrences ns c rs → IsAgreed ns es d

@@ -5,7 +5,7 @@ use Rattle.spl_agree.specs.declared.event.GroupChange.{GroupChange}
 use Rattle.spl_agree.specs.declared.event.GroupChange.TheVariants as change
 use Rattle.spl_circuit.specs.declared.definition.Definition.{Definition}
 use Rattle.spl_circuit.specs.declared.act.Act.{Act}
-use Rattle.spl_circuit.specs.Nodes.{Node}
+use Rattle.spl_circuit.specs.Nodes.{NodeId}
 use Rattle.spl_circuit.specs.Rules.{admin, service}
 use Rattle.spl_circuit.specs.Equality.{same_definition}
 use Rattle.spl_command.specs.declared.batch.Batch.{Batch}
@@ -22,7 +22,7 @@ changes_of w (Halts kept s) = if w.up (step_node s) then (if kept then (step_pla
 changes_of w _ = []
 
 -- and where
-abbrev pub node_of : Occurrence → Node
+abbrev pub node_of : Occurrence → NodeId
 node_of (Steps s) = step_node s
 node_of (Stops n) = n
 node_of (Starts n) = n
@@ -51,11 +51,11 @@ batches_in (x ∷ xs) = batch_of x ++ batches_in xs
 
 -- the cell is bound to this definition
 abbrev pub is_bound_to : Definition → Cell → Bool
-is_bound_to d (Held e m turn a b) = same_definition e d
+is_bound_to d (Held h) = same_definition h.definition d
 is_bound_to d _ = false
 
 -- what is committed at the cell of a circuit's coordinator while it is bound to the circuit
-abbrev pub adds : {V : Type 0} → (List Change → List V) → Node → Definition → World → Occurrence → List V
+abbrev pub adds : {V : Type 0} → (List Change → List V) → NodeId → Definition → World → Occurrence → List V
 adds values leader d w e =
     if bytes_eq (node_of e) leader then (if is_bound_to d (w.at leader) then values (changes_of w e) else []) else []
 
@@ -68,9 +68,9 @@ batches_from d w [] = []
 batches_from d w (e ∷ es) = adds batches_in (service d) d w e ++ batches_from d (happens w e) es
 
 -- the list of acts of a circuit, behind what happened
-abbrev pub act_list : List Node → Definition → List Occurrence → List Act
+abbrev pub act_list : List NodeId → Definition → List Occurrence → List Act
 act_list ns d es = acts_from d (first_world ns) es
 
 -- its list of batches
-abbrev pub batch_list : List Node → Definition → List Occurrence → List Batch
+abbrev pub batch_list : List NodeId → Definition → List Occurrence → List Batch
 batch_list ns d es = batches_from d (first_world ns) es

@@ -2,7 +2,7 @@
 use Rattle.std.specs.Prelude.{◌≡◌, ℕ, ◌⊎◌, true, List, ◌∷◌, ◌++◌}
 use Rattle.spl_agree.specs.World.{IsPrefixOf}
 use Rattle.spl_circuit.specs.declared.definition.Definition.{Definition}
-use Rattle.spl_circuit.specs.Nodes.{Node}
+use Rattle.spl_circuit.specs.Nodes.{NodeId, CircuitId}
 use Rattle.spl_wire.specs.declared.event.Event.{Event}
 use Rattle.spl_wire.specs.declared.event.Event.TheVariants as event
 use Rattle.spl_wire.specs.declared.answer.Answer.{Answer}
@@ -14,12 +14,12 @@ use Rattle.spl_agreement.specs.Lists.{is_bound_to}
 use Rattle.spl_model.specs.Answers.{circuit_world, answer_to}
 
 -- a line that asks a node about a circuit
-abbrev pub asking : Node → Node → Event → Ran
+abbrev pub asking : NodeId → CircuitId → Event → Ran
 asking n c e = plainly (line.Step (step.At n c e))
 
 -- in these lines a node that is bound to the definition is asked about the circuit, and this is the answer
-pub record IsTold (ns : List Node) (rs : List Ran) (c : Node) (d : Definition) (e : Event) (told : Answer) : Type 0 where
-  pub node : Node
+pub record IsTold (ns : List NodeId) (rs : List Ran) (c : CircuitId) (d : Definition) (e : Event) (told : Answer) : Type 0 where
+  pub node : NodeId
   pub before : List Ran
   pub behind : List Ran
   pub lines : before ++ asking node c e ∷ behind ≡ rs
@@ -28,6 +28,6 @@ pub record IsTold (ns : List Node) (rs : List Ran) (c : Node) (d : Definition) (
 
 -- two answers about a circuit, of nodes that are bound to one definition: roots of as many batches are one root, and of two
 -- histories one begins the other
-pub record TellOneList (ns : List Node) (rs : List Ran) : Type 0 where
-  pub roots : (c : Node) (d : Definition) (count : ℕ) (x y : List ℕ) → IsTold ns rs c d event.Root (answer.Root count x) → IsTold ns rs c d event.Root (answer.Root count y) → x ≡ y
-  pub histories : (c : Node) (d : Definition) (xs ys : List ℕ) → IsTold ns rs c d event.History (answer.History xs) → IsTold ns rs c d event.History (answer.History ys) → IsPrefixOf xs ys ⊎ IsPrefixOf ys xs
+pub record TellOneList (ns : List NodeId) (rs : List Ran) : Type 0 where
+  pub roots : (c : CircuitId) (d : Definition) (count : ℕ) (x y : List ℕ) → IsTold ns rs c d event.Root (answer.Root count x) → IsTold ns rs c d event.Root (answer.Root count y) → x ≡ y
+  pub histories : (c : CircuitId) (d : Definition) (xs ys : List ℕ) → IsTold ns rs c d event.History (answer.History xs) → IsTold ns rs c d event.History (answer.History ys) → IsPrefixOf xs ys ⊎ IsPrefixOf ys xs

@@ -7,7 +7,7 @@ use Rattle.spl_command.specs.declared.batch.Batch.{Batch}
 use Rattle.spl_scabbard.specs.Checks.{batch_rules}
 use Rattle.spl_circuit.specs.declared.act.ActKind.TheVariants as kind
 use Rattle.spl_circuit.specs.declared.act.Act.{Act}
-use Rattle.spl_circuit.specs.Nodes.{Node}
+use Rattle.spl_circuit.specs.Nodes.{NodeId}
 use Rattle.spl_circuit.specs.Acts.{act_rules}
 use Rattle.spl_wire.specs.declared.message.Message.{Message}
 use Rattle.spl_wire.specs.declared.message.Message.TheVariants as message
@@ -28,13 +28,13 @@ pub data Value : Type 0 where
 
 -- it is known at a cell
 abbrev pub knows : Value → Cell → Bool
-knows (OfActs v) (Held d m turn a b) = is_some (known (act_rules d) a v)
-knows (OfBatches v) (Held d m turn a b) = is_some (known batch_rules b v)
+knows (OfActs v) (Held h) = is_some (known (act_rules h.definition) h.acts v)
+knows (OfBatches v) (Held h) = is_some (known batch_rules h.batches v)
 knows v _ = false
 
 -- the turn of the node's last act
 abbrev pub turn_of : Cell → ℕ
-turn_of (Held d m turn a b) = turn
+turn_of (Held h) = h.turn
 turn_of _ = 0
 
 -- the value that a message hands on
@@ -44,7 +44,7 @@ handed_on (message.Scabbard c s t (msg.Forward gen v)) = Some (OfBatches v)
 handed_on _ = None
 
 -- the value that an event brings to a cell: a proposal, the node's next act, a batch, or what is handed on
-abbrev pub brought_to : Node → Cell → Event → Option Value
+abbrev pub brought_to : NodeId → Cell → Event → Option Value
 brought_to n k (event.Propose d) = Some (OfActs (proposal n d))
 brought_to n k (event.Vote accept) = Some (OfActs (next_act n (turn_of k) (if accept then kind.Accept else kind.Reject)))
 brought_to n k event.Remove = Some (OfActs (next_act n (turn_of k) kind.Remove))

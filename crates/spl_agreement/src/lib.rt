@@ -4,7 +4,7 @@
 
 ghost use Rattle.std.specs.Prelude.{◌≡◌, true, List};
 ghost use Rattle.spl_circuit.specs.declared.definition.Definition.{Definition};
-ghost use Rattle.spl_circuit.specs.Nodes.{Node};
+ghost use Rattle.spl_circuit.specs.Nodes.{NodeId};
 ghost use Rattle.spl_model.specs.Worlds.{Occurrence, occur, world_behind};
 ghost use Rattle.spl_model.specs.Plain.{AllPlain};
 ghost use Rattle.spl_model.specs.Projection.{Ran, lines_fit};
@@ -14,19 +14,19 @@ ghost use Rattle.spl_agreement.specs.OneList.{TellOneList};
 /// A cell that is bound to a definition stays bound to it, or is purged, or is bound to a later
 /// generation; and the first act that it commits is the proposal of that definition.
 pub fn bindings_are_final()
-    ensures past { (ns : List Node) (es fs : List Occurrence) (d : Definition) → AllPlain es → AllPlain fs → AtEach (world_behind ns es) d (λ n m turn a b. IsPast d ((occur (world_behind ns es) fs).at n)) }
-    ensures first { (ns : List Node) (es : List Occurrence) (d : Definition) → AllPlain es → AtEach (world_behind ns es) d (λ n m turn a b. FirstIsProposal d a) }
+    ensures past { (ns : List NodeId) (es fs : List Occurrence) (d : Definition) → AllPlain es → AllPlain fs → AtEach (world_behind ns es) d (λ n h. IsPast d ((occur (world_behind ns es) fs).at n)) }
+    ensures first { (ns : List NodeId) (es : List Occurrence) (d : Definition) → AllPlain es → AtEach (world_behind ns es) d (λ n h. FirstIsProposal d h.acts) }
 {}
 
 /// Whatever happens in the world of a circuit, its members agree; so they do at each moment of any
 /// lines within their bounds.
 pub fn circuits_agree()
-    ensures behind { (ns : List Node) (es : List Occurrence) (d : Definition) → AllPlain es → IsAgreed ns es d }
-    ensures lines { (ns : List Node) (rs : List Ran) → lines_fit rs ≡ true → Agree ns rs }
+    ensures behind { (ns : List NodeId) (es : List Occurrence) (d : Definition) → AllPlain es → IsAgreed ns es d }
+    ensures lines { (ns : List NodeId) (rs : List Ran) → lines_fit rs ≡ true → Agree ns rs }
 {}
 
 /// What nodes that are bound to one definition tell about a circuit, in whatever lines, is of one
 /// list: roots of as many batches are one root, and of two histories one begins the other.
 pub fn members_tell_one_list()
-    ensures { (ns : List Node) (rs : List Ran) → lines_fit rs ≡ true → TellOneList ns rs }
+    ensures { (ns : List NodeId) (rs : List Ran) → lines_fit rs ≡ true → TellOneList ns rs }
 {}

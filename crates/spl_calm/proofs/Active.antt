@@ -13,14 +13,14 @@ use Rattle.spl_circuit.specs.declared.act.ActKind.TheVariants as kind
 use Rattle.spl_circuit.specs.declared.act.Act.{Act}
 use Rattle.spl_circuit.specs.declared.lifecycle.Lifecycle.{Lifecycle}
 use Rattle.spl_circuit.specs.declared.lifecycle.Lifecycle.TheVariants as lifecycle
-use Rattle.spl_circuit.specs.Nodes.{Node}
+use Rattle.spl_circuit.specs.Nodes.{NodeId}
 use Rattle.spl_circuit.specs.Rules.{is_member}
 use Rattle.spl_circuit.specs.Equality.{same_definition}
 use Rattle.spl_circuit.specs.Lifecycle.{Life, life, is_active, is_proposed}
 use Rattle.spl_circuit.specs.Acts.{reason, misfit, misfit_kind, misfit_vote, is_first, act_rules}
-use Rattle.spl_rules.specs.Cells.{runs}
 use Rattle.spl_agreement.proofs.GroupOfDefinition.{group_of, all_committed, history-after}
-use Rattle.spl_agreement.proofs.GroupWorlds.{admin_lane}
+use Rattle.spl_calm.specs.Settled.{is_active_by}
+use Rattle.spl_agreement.proofs.GroupWorlds.{admin_groups}
 
 some_none : (x : Reason) → Some x ≡ None → ⊥
 some_none x h = cc
@@ -31,10 +31,10 @@ active-proposed lifecycle.Proposed h = cc
 active-proposed _ h = refl
 
 -- no act is good behind acts that made the circuit active
-pub no-vote : (l : Life) (n : Node) → is_active l.state ≡ true → misfit_vote l n ≡ None → ⊥
+pub no-vote : (l : Life) (n : NodeId) → is_active l.state ≡ true → misfit_vote l n ≡ None → ⊥
 no-vote l n h k = some_none _ (rw (active-proposed l.state h) at k)
 
-pub no-kind : (d : Definition) (acts : List Act) (n : Node) (k : ActKind) → is_active (life d acts).state ≡ true → misfit_kind d acts n k ≡ None → ⊥
+pub no-kind : (d : Definition) (acts : List Act) (n : NodeId) (k : ActKind) → is_active (life d acts).state ≡ true → misfit_kind d acts n k ≡ None → ⊥
 no-kind d acts n (kind.Propose e) h = if_holds (λ (o : Option Reason). o ≡ None → ⊥) (not (same_definition e d)) _ _ (λ q k. some_none _ k) (λ q. first acts h)
   where
     first : (xs : List Act) → is_active (life d xs).state ≡ true → (if is_first xs then None else Some (reason 2)) ≡ None → ⊥
@@ -52,9 +52,9 @@ good-behind {V} rules before [] ys a = subst (λ (z : List V). AllGood rules z y
 good-behind {V} rules before (x ∷ xs) ys a = subst (λ (z : List V). AllGood rules z ys) (append_assoc before (x ∷ []) xs) (good-behind rules (before ++ x ∷ []) xs ys a.1)
 
 -- so a row leaves an active circuit active
-pub active-after : (d : Definition) (i : ℕ) (a : Member Act) (p : GroupPlan Act) → runs d a ≡ true → AllGood (act_rules d) [] (values (after (group_of admin_lane d) i a p).history) → runs d (after (group_of admin_lane d) i a p) ≡ true
-active-after d i a p h good = go (all_committed p.changes) (history-after (group_of admin_lane d) i a p)
+pub active-after : (d : Definition) (i : ℕ) (a : Member Act) (p : GroupPlan Act) → is_active_by d a ≡ true → AllGood (act_rules d) [] (values (after (group_of admin_groups d) i a p).history) → is_active_by d (after (group_of admin_groups d) i a p) ≡ true
+active-after d i a p h good = go (all_committed p.changes) (history-after (group_of admin_groups d) i a p)
   where
-    go : (cs : List Act) → values (after (group_of admin_lane d) i a p).history ≡ values a.history ++ cs → runs d (after (group_of admin_lane d) i a p) ≡ true
+    go : (cs : List Act) → values (after (group_of admin_groups d) i a p).history ≡ values a.history ++ cs → is_active_by d (after (group_of admin_groups d) i a p) ≡ true
     go [] e = subst (λ (z : List Act). is_active (life d z).state ≡ true) (sym (e ∙ append-nil _)) h
     go (v ∷ vs) e = absurd (no-more d (values a.history) v h (good-behind (act_rules d) [] (values a.history) (v ∷ vs) (subst (λ (z : List Act). AllGood (act_rules d) [] z) e good)).0)

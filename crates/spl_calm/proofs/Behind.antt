@@ -3,7 +3,7 @@ use Rattle.std.proofs.Common.{◌≡◌, ℕ, ◌+◌, ◌≤◌, ◌⊎◌, tru
 use Rattle.std.specs.Prelude.{None}
 use Rattle.spl_circuit.specs.declared.definition.Definition.{Definition}
 use Rattle.spl_circuit.specs.declared.act.Act.{Act}
-use Rattle.spl_circuit.specs.Nodes.{Node}
+use Rattle.spl_circuit.specs.Nodes.{NodeId, CircuitId}
 use Rattle.spl_circuit.specs.Rules.{admin, service, is_member}
 use Rattle.spl_command.specs.declared.batch.Batch.{Batch}
 use Rattle.spl_model.specs.Worlds.{Occurrence, world_behind}
@@ -12,29 +12,29 @@ use Rattle.spl_model.specs.Plain.{AllPlain}
 use Rattle.spl_calm.specs.Settled.{acts_kept, batches_kept, AtMembers, IsWhole, IsActiveAll, IsSettled}
 use Rattle.spl_calm.proofs.Circuits.{some-member, behind, calm-acts, calm-batches}
 
-pub whole-behind : (ns : List Node) (es : List Occurrence) (c : Node) (k : ℕ) (d : Definition) → AllPlain es → IsWhole (world_behind ns es) d → IsWhole (calm c (world_behind ns es) k).world d
+pub whole-behind : (ns : List NodeId) (es : List Occurrence) (c : CircuitId) (k : ℕ) (d : Definition) → AllPlain es → IsWhole (world_behind ns es) d → IsWhole (calm c (world_behind ns es) k).world d
 whole-behind ns es c k d plain whole = go (some-member d)
   where
-    go : ((n : Node) × (is_member d n ≡ true)) ⊎ ((n : Node) → is_member d n ≡ true → ⊥) → IsWhole (calm c (world_behind ns es) k).world d
+    go : ((n : NodeId) × (is_member d n ≡ true)) ⊎ ((n : NodeId) → is_member d n ≡ true → ⊥) → IsWhole (calm c (world_behind ns es) k).world d
     go (inl n) = (calm-acts c k (0 + length es) (world_behind ns es) d n.0 (behind ns es plain).0 (behind ns es plain).1 whole n.1).whole
     go (inr none) = record { registered = λ n h. absurd (none n h); up = λ n h. absurd (none n h); open_cells = λ n h. absurd (none n h) }
 
-pub active-behind : (ns : List Node) (es : List Occurrence) (c : Node) (k : ℕ) (d : Definition) → AllPlain es → IsWhole (world_behind ns es) d → IsActiveAll (world_behind ns es) d → IsActiveAll (calm c (world_behind ns es) k).world d
+pub active-behind : (ns : List NodeId) (es : List Occurrence) (c : CircuitId) (k : ℕ) (d : Definition) → AllPlain es → IsWhole (world_behind ns es) d → IsActiveAll (world_behind ns es) d → IsActiveAll (calm c (world_behind ns es) k).world d
 active-behind ns es c k d plain whole active n h = (calm-batches c k (0 + length es) (world_behind ns es) d n (behind ns es plain).0 (behind ns es plain).1 whole active h).active n h
 
-pub idle-behind : (ns : List Node) (es : List Occurrence) (c : Node) (k : ℕ) (d : Definition) (n : Node) → AllPlain es → is_member d n ≡ true → IsWhole (world_behind ns es) d → AtMembers d (λ j. (acts_kept (world_behind ns es) j).pending ≡ []) → (acts_kept (world_behind ns es) (admin d)).opened ≡ None → (acts_kept (calm c (world_behind ns es) k).world (admin d)).history ≡ (acts_kept (world_behind ns es) (admin d)).history
+pub idle-behind : (ns : List NodeId) (es : List Occurrence) (c : CircuitId) (k : ℕ) (d : Definition) (n : NodeId) → AllPlain es → is_member d n ≡ true → IsWhole (world_behind ns es) d → AtMembers d (λ j. (acts_kept (world_behind ns es) j).pending ≡ []) → (acts_kept (world_behind ns es) (admin d)).opened ≡ None → (acts_kept (calm c (world_behind ns es) k).world (admin d)).history ≡ (acts_kept (world_behind ns es) (admin d)).history
 idle-behind ns es c k d n plain member whole empty shut = (calm-acts c k (0 + length es) (world_behind ns es) d n (behind ns es plain).0 (behind ns es plain).1 whole member).idles empty shut
 
-pub settle-acts : (ns : List Node) (es : List Occurrence) (c : Node) (k : ℕ) (d : Definition) (v : Act) (rest : List Act) → AllPlain es → length es ≤ 32768 → 6 ≤ k → IsWhole (world_behind ns es) d → (acts_kept (world_behind ns es) (admin d)).pending ≡ v ∷ rest → IsSettled d (admin d) v (acts_kept (calm c (world_behind ns es) k).world)
+pub settle-acts : (ns : List NodeId) (es : List Occurrence) (c : CircuitId) (k : ℕ) (d : Definition) (v : Act) (rest : List Act) → AllPlain es → length es ≤ 32768 → 6 ≤ k → IsWhole (world_behind ns es) d → (acts_kept (world_behind ns es) (admin d)).pending ≡ v ∷ rest → IsSettled d (admin d) v (acts_kept (calm c (world_behind ns es) k).world)
 settle-acts ns es c k d v rest plain few six whole first = go (some-member d)
   where
-    go : ((n : Node) × (is_member d n ≡ true)) ⊎ ((n : Node) → is_member d n ≡ true → ⊥) → IsSettled d (admin d) v (acts_kept (calm c (world_behind ns es) k).world)
+    go : ((n : NodeId) × (is_member d n ≡ true)) ⊎ ((n : NodeId) → is_member d n ≡ true → ⊥) → IsSettled d (admin d) v (acts_kept (calm c (world_behind ns es) k).world)
     go (inl n) = (calm-acts c k (0 + length es) (world_behind ns es) d n.0 (behind ns es plain).0 (behind ns es plain).1 whole n.1).settles v rest (omega (arith, few)) six first
     go (inr none) = inl (λ n h. absurd (none n h))
 
-pub settle-batches : (ns : List Node) (es : List Occurrence) (c : Node) (k : ℕ) (d : Definition) (v : Batch) (rest : List Batch) → AllPlain es → length es ≤ 32768 → 6 ≤ k → IsWhole (world_behind ns es) d → IsActiveAll (world_behind ns es) d → (batches_kept (world_behind ns es) (service d)).pending ≡ v ∷ rest → IsSettled d (service d) v (batches_kept (calm c (world_behind ns es) k).world)
+pub settle-batches : (ns : List NodeId) (es : List Occurrence) (c : CircuitId) (k : ℕ) (d : Definition) (v : Batch) (rest : List Batch) → AllPlain es → length es ≤ 32768 → 6 ≤ k → IsWhole (world_behind ns es) d → IsActiveAll (world_behind ns es) d → (batches_kept (world_behind ns es) (service d)).pending ≡ v ∷ rest → IsSettled d (service d) v (batches_kept (calm c (world_behind ns es) k).world)
 settle-batches ns es c k d v rest plain few six whole active first = go (some-member d)
   where
-    go : ((n : Node) × (is_member d n ≡ true)) ⊎ ((n : Node) → is_member d n ≡ true → ⊥) → IsSettled d (service d) v (batches_kept (calm c (world_behind ns es) k).world)
+    go : ((n : NodeId) × (is_member d n ≡ true)) ⊎ ((n : NodeId) → is_member d n ≡ true → ⊥) → IsSettled d (service d) v (batches_kept (calm c (world_behind ns es) k).world)
     go (inl n) = (calm-batches c k (0 + length es) (world_behind ns es) d n.0 (behind ns es plain).0 (behind ns es plain).1 whole active n.1).settles v rest (omega (arith, few)) six first
     go (inr none) = inl (λ n h. absurd (none n h))

@@ -6,10 +6,10 @@ use Rattle.spl_agree.specs.World.{World as GroupWorld}
 use Rattle.spl_circuit.specs.declared.definition.Definition.{Definition}
 use Rattle.spl_circuit.specs.declared.act.Act.{Act}
 use Rattle.spl_circuit.specs.declared.lifecycle.Mark.{Mark}
-use Rattle.spl_circuit.specs.Nodes.{Node, has_node, position}
+use Rattle.spl_circuit.specs.Nodes.{NodeId, CircuitId, has_node, position}
 use Rattle.spl_circuit.specs.Rules.{broken, admin, service, is_member}
 use Rattle.spl_command.specs.declared.batch.Batch.{Batch}
-use Rattle.spl_rules.specs.Cells.{Cell, Held, runs}
+use Rattle.spl_rules.specs.Cells.{Cell, Held}
 use Rattle.spl_settle.specs.Bound.{InHistory, IsPending, IsRefused, Settles}
 use Rattle.spl_model.specs.Worlds.{Sent, World, first_world, Occurrence, world_behind}
 use Rattle.spl_model.specs.Calm.{calm}
@@ -17,10 +17,11 @@ use Rattle.spl_model.specs.Plain.{AllPlain}
 use Rattle.spl_model.proofs.Nodes.{node_same}
 use Rattle.spl_agreement.proofs.Positions.{position-below}
 use Rattle.spl_agreement.proofs.Rosters.{roster}
-use Rattle.spl_agreement.proofs.GroupOfDefinition.{Lane, There, there_is, away_not, group_of}
-use Rattle.spl_agreement.proofs.GroupWorlds.{admin_lane, service_lane, admin_presence, service_presence, admin_said, service_said, IsValid, IsValidCell}
+use Rattle.spl_agreement.proofs.GroupOfDefinition.{Groups, There, there_is, group_of}
+use Rattle.spl_agreement.proofs.GroupBindings.{away_not}
+use Rattle.spl_agreement.proofs.GroupWorlds.{admin_groups, service_groups, admin_presence, service_presence, admin_said, service_said, IsValid, IsValidCell}
 use Rattle.spl_agreement.proofs.Occurrences.{world-start}
-use Rattle.spl_calm.specs.Settled.{cell_acts, cell_batches, acts_kept, batches_kept, IsOpenIn, AtMembers, IsWhole, IsActiveAll, IsSettled}
+use Rattle.spl_calm.specs.Settled.{is_active_by, cell_acts, cell_batches, acts_kept, batches_kept, IsOpenIn, AtMembers, IsWhole, IsActiveAll, IsSettled}
 use Rattle.spl_calm.proofs.Coupled.{IsCoupled}
 use Rattle.spl_calm.proofs.Lasting.{IsCarried}
 use Rattle.spl_calm.proofs.Members.{CellsAre, cells-last, open-keeps, active-keeps}
@@ -28,68 +29,68 @@ use Rattle.spl_calm.proofs.ActShape.{act_shape, act-shaped, IsOpenTo}
 use Rattle.spl_calm.proofs.BatchShape.{batch_shape, batch-shaped, IsActiveIn}
 use Rattle.spl_calm.proofs.Tame.{IsTame, keyed-acts, keyed-batches}
 use Rattle.spl_calm.proofs.TameRuns.{IsTameCell, AllTame, tame-run}
-use Rattle.spl_calm.proofs.Settles.{IsReached, reached-lane, fit-lane, IsCalm, all_taken, calm-group}
+use Rattle.spl_calm.proofs.Settles.{IsReached, reached-groups, fit-groups, IsCalm, all_taken, calm-group}
 
 -- ---- cells
 
 pub open-to : (d : Definition) (k : Cell) → IsOpenIn d k → IsOpenTo d k
-open-to d (Held e m t a b) o = (t, a, b, ap (λ (z : Definition). Held z m t a b) o.0 ∙ ap (λ (z : Mark). Held d z t a b) o.1)
+open-to d (Held h) o = (h.turn, h.acts, h.batches, ap (λ (z : Definition). Held (record h { definition = z })) o.0 ∙ ap (λ (z : Mark). Held (record h { definition = d; mark = z })) o.1)
 open-to d _ o = absurd o
 
 pub open-in : (d : Definition) (k : Cell) → IsOpenTo d k → IsOpenIn d k
 open-in d k o = subst (IsOpenIn d) (sym o.3) (refl, refl)
 
-pub active-in : (d : Definition) (k : Cell) → IsOpenIn d k → runs d (cell_acts k) ≡ true → IsActiveIn d k
-active-in d k o h = let x : IsOpenTo d k = open-to d k o in (x.0, x.1, x.2, x.3, subst (λ (z : Cell). runs d (cell_acts z) ≡ true) x.3 h)
+pub active-in : (d : Definition) (k : Cell) → IsOpenIn d k → is_active_by d (cell_acts k) ≡ true → IsActiveIn d k
+active-in d k o h = let x : IsOpenTo d k = open-to d k o in (x.0, x.1, x.2, x.3, subst (λ (z : Cell). is_active_by d (cell_acts z) ≡ true) x.3 h)
 
 pub active-open : (d : Definition) (k : Cell) → IsActiveIn d k → IsOpenIn d k
 active-open d k o = subst (IsOpenIn d) (sym o.3) (refl, refl)
 
-pub active-runs : (d : Definition) (k : Cell) → IsActiveIn d k → runs d (cell_acts k) ≡ true
-active-runs d k o = subst (λ (z : Cell). runs d (cell_acts z) ≡ true) (sym o.3) o.4
+pub active-runs : (d : Definition) (k : Cell) → IsActiveIn d k → is_active_by d (cell_acts k) ≡ true
+active-runs d k o = subst (λ (z : Cell). is_active_by d (cell_acts z) ≡ true) (sym o.3) o.4
 
--- what the lanes see of a cell is what it keeps
+-- what the groups see of a cell is what it keeps
 pub acts-there : (d : Definition) (k : Cell) (m : Member Act) → admin_presence k ≡ There d m → cell_acts k ≡ m
-acts-there d (Held e x t a b) m h = (there_is e d a m h).1
+acts-there d (Held k) m h = (there_is k.definition d k.acts m h).1
 acts-there d _ m h = absurd (away_not d m h)
 
 pub batches-there : (d : Definition) (k : Cell) (m : Member Batch) → service_presence k ≡ There d m → cell_batches k ≡ m
-batches-there d (Held e x t a b) m h = (there_is e d b m h).1
+batches-there d (Held k) m h = (there_is k.definition d k.batches m h).1
 batches-there d _ m h = absurd (away_not d m h)
 
-pub tame-acts : (n : Node) (sent : List Sent) (count : ℕ) (k : Cell) (d : Definition) (m : Member Act) → IsTameCell n sent count k → admin_presence k ≡ There d m → IsTame admin_lane d n (admin_said sent) count m
-tame-acts n sent count (Held e x u a b) d m t h = let p : (e ≡ d) × (a ≡ m) = there_is e d a m h in subst (λ (z : Definition). IsTame admin_lane z n (admin_said sent) count m) p.0 (subst (λ (z : Member Act). IsTame admin_lane e n (admin_said sent) count z) p.1 t.0)
+pub tame-acts : (n : NodeId) (sent : List Sent) (count : ℕ) (k : Cell) (d : Definition) (m : Member Act) → IsTameCell n sent count k → admin_presence k ≡ There d m → IsTame admin_groups d n (admin_said sent) count m
+tame-acts n sent count (Held k) d m t h = let p : (k.definition ≡ d) × (k.acts ≡ m) = there_is k.definition d k.acts m h in subst (λ (z : Definition). IsTame admin_groups z n (admin_said sent) count m) p.0 (subst (λ (z : Member Act). IsTame admin_groups k.definition n (admin_said sent) count z) p.1 t.0)
 tame-acts n sent count _ d m t h = absurd (away_not d m h)
 
-pub tame-batches : (n : Node) (sent : List Sent) (count : ℕ) (k : Cell) (d : Definition) (m : Member Batch) → IsTameCell n sent count k → service_presence k ≡ There d m → IsTame service_lane d n (service_said sent) count m
-tame-batches n sent count (Held e x u a b) d m t h = let p : (e ≡ d) × (b ≡ m) = there_is e d b m h in subst (λ (z : Definition). IsTame service_lane z n (service_said sent) count m) p.0 (subst (λ (z : Member Batch). IsTame service_lane e n (service_said sent) count z) p.1 t.1)
+pub tame-batches : (n : NodeId) (sent : List Sent) (count : ℕ) (k : Cell) (d : Definition) (m : Member Batch) → IsTameCell n sent count k → service_presence k ≡ There d m → IsTame service_groups d n (service_said sent) count m
+tame-batches n sent count (Held k) d m t h = let p : (k.definition ≡ d) × (k.batches ≡ m) = there_is k.definition d k.batches m h in subst (λ (z : Definition). IsTame service_groups z n (service_said sent) count m) p.0 (subst (λ (z : Member Batch). IsTame service_groups k.definition n (service_said sent) count z) p.1 t.1)
 tame-batches n sent count _ d m t h = absurd (away_not d m h)
 
 -- ---- worlds
 
 -- behind anything that happened
-pub behind : (ns : List Node) (es : List Occurrence) → AllPlain es → IsCoupled (world_behind ns es) × AllTame (0 + length es) (world_behind ns es)
+pub behind : (ns : List NodeId) (es : List Occurrence) → AllPlain es → IsCoupled (world_behind ns es) × AllTame (0 + length es) (world_behind ns es)
 behind ns es h = tame-run 0 (first_world ns) es h ([], (λ f. []), (λ f. []), world-start) (λ n. tt)
 
 -- the definition of a bound member breaks no rule
-pub ruled-whole : (w : World) (d : Definition) (n : Node) → IsCoupled w → IsWhole w d → is_member d n ≡ true → broken d ≡ None
+pub ruled-whole : (w : World) (d : Definition) (n : NodeId) → IsCoupled w → IsWhole w d → is_member d n ≡ true → broken d ≡ None
 ruled-whole w d n v whole h =
     let o : IsOpenTo d (w.at n) = open-to d (w.at n) (whole.open_cells n h) in
     let x : IsValid d n o.1 o.2 = subst (λ (z : Cell). IsValidCell n z) o.3 (v.3.valid n) in x.whole
 
 -- a definition has a member, or none
-pub some-member : (d : Definition) → ((n : Node) × (is_member d n ≡ true)) ⊎ ((n : Node) → is_member d n ≡ true → ⊥)
+pub some-member : (d : Definition) → ((n : NodeId) × (is_member d n ≡ true)) ⊎ ((n : NodeId) → is_member d n ≡ true → ⊥)
 some-member d = go d.members refl
   where
-    go : (ms : List Node) → d.members ≡ ms → ((n : Node) × (is_member d n ≡ true)) ⊎ ((n : Node) → is_member d n ≡ true → ⊥)
-    go [] e = inr (λ n h. let z : has_node [] n ≡ true = subst (λ (ms : List Node). has_node ms n ≡ true) e h in cc)
-    go (m ∷ ms) e = inl (m, subst (λ (xs : List Node). has_node xs m ≡ true) (sym e) (rw (node_same m)))
+    go : (ms : List NodeId) → d.members ≡ ms → ((n : NodeId) × (is_member d n ≡ true)) ⊎ ((n : NodeId) → is_member d n ≡ true → ⊥)
+    go [] e = inr (λ n h. let z : has_node [] n ≡ true = subst (λ (ms : List NodeId). has_node ms n ≡ true) e h in cc)
+    go (m ∷ ms) e = inl (m, subst (λ (xs : List NodeId). has_node xs m ≡ true) (sym e) (rw (node_same m)))
 
 -- a settled group shows in what the members keep
-pub settled-from : {V : Type 0} (lane : Lane V) (d : Definition) (v : V) (w : GroupWorld V) (kept : Node → Member V) → broken d ≡ None → has_node d.members (lane.leader d) ≡ true → ((n : Node) → has_node d.members n ≡ true → kept n ≡ w.at (position d.members n)) → Settles (group_of lane d) v w → IsSettled d (lane.leader d) v kept
-settled-from {V} lane d v w kept ruled leads same (inl h) = inl (λ n m. subst (λ (z : Member V). InHistory v z) (sym (same n m)) (h (position d.members n) (position-below d.members n m)))
-settled-from {V} lane d v w kept ruled leads same (inr h) = inr (
-  subst (λ (z : Member V). IsRefused v z) (sym (same (lane.leader d) leads)) h.0,
+pub settled-from : {V : Type 0} (groups : Groups V) (d : Definition) (v : V) (w : GroupWorld V) (kept : NodeId → Member V) → broken d ≡ None → has_node d.members (groups.leader d) ≡ true → ((n : NodeId) → has_node d.members n ≡ true → kept n ≡ w.at (position d.members n)) → Settles (group_of groups d) v w → IsSettled d (groups.leader d) v kept
+settled-from {V} groups d v w kept ruled leads same (inl h) = inl (λ n m. subst (λ (z : Member V). InHistory v z) (sym (same n m)) (h (position d.members n) (position-below d.members n m)))
+settled-from {V} groups d v w kept ruled leads same (inr h) = inr (
+  subst (λ (z : Member V). IsRefused v z) (sym (same (groups.leader d) leads)) h.0,
   λ n m p. h.1 (position d.members n) (position-below d.members n m) (subst (λ (z : Member V). IsPending v z) (same n m) p),
 )
 
@@ -101,13 +102,13 @@ acts-carried d ruled = record { ruled = ruled; shaped = act-shaped d ruled; last
 
 -- behind a calm the members are whole, and a first pending act is settled; where no act was pending and no round was open,
 -- the coordinator has committed none
-pub record ActsCalm (c : Node) (k count : ℕ) (w : World) (d : Definition) : Type 0 where
+pub record ActsCalm (c : CircuitId) (k count : ℕ) (w : World) (d : Definition) : Type 0 where
   pub whole : IsWhole (calm c w k).world d
   pub settles : (v : Act) (rest : List Act) → count ≤ 32768 → 6 ≤ k → (acts_kept w (admin d)).pending ≡ v ∷ rest → IsSettled d (admin d) v (acts_kept (calm c w k).world)
   pub idles : AtMembers d (λ j. (acts_kept w j).pending ≡ []) → (acts_kept w (admin d)).opened ≡ None → (acts_kept (calm c w k).world (admin d)).history ≡ (acts_kept w (admin d)).history
 
-pub calm-acts : (c : Node) (k count : ℕ) (w : World) (d : Definition) (n : Node) → IsCoupled w → AllTame count w → IsWhole w d → is_member d n ≡ true → ActsCalm c k count w d
-calm-acts c k count w d n coupled tame whole member = go (reached-lane admin_lane d count coupled.0 (λ j. admin_presence (w.at j)) (admin_said w.sent) (coupled.1 d) leads there (λ j m h. tame-acts j w.sent count (w.at j) d m (tame j) h) (coupled.3.admins d))
+pub calm-acts : (c : CircuitId) (k count : ℕ) (w : World) (d : Definition) (n : NodeId) → IsCoupled w → AllTame count w → IsWhole w d → is_member d n ≡ true → ActsCalm c k count w d
+calm-acts c k count w d n coupled tame whole member = go (reached-groups admin_groups d count coupled.0 (λ j. admin_presence (w.at j)) (admin_said w.sent) (coupled.1 d) leads there (λ j m h. tame-acts j w.sent count (w.at j) d m (tame j) h) (coupled.3.admins d))
   where
     ruled : broken d ≡ None
     ruled = ruled-whole w d n coupled whole member
@@ -115,26 +116,26 @@ calm-acts c k count w d n coupled tame whole member = go (reached-lane admin_lan
     leads : has_node d.members (admin d) ≡ true
     leads = (roster d ruled).admin_in
 
-    there : (j : Node) → has_node d.members j ≡ true → (m : Member Act) × (admin_presence (w.at j) ≡ There d m)
+    there : (j : NodeId) → has_node d.members j ≡ true → (m : Member Act) × (admin_presence (w.at j) ≡ There d m)
     there j h = let o : IsOpenTo d (w.at j) = open-to d (w.at j) (whole.open_cells j h) in (o.1, ap admin_presence o.3)
 
-    go : (g : GroupWorld Act) × IsReached admin_lane d count (λ j. admin_presence (w.at j)) g → ActsCalm c k count w d
+    go : (g : GroupWorld Act) × IsReached admin_groups d count (λ j. admin_presence (w.at j)) g → ActsCalm c k count w d
     go r = calmed (calm-group act_shape IsOpenTo d (CellsAre d (IsOpenTo d)) (acts-carried d ruled) c k w r.0 (coupled, λ j h. open-to d (w.at j) (whole.open_cells j h)) (record { registered = whole.registered; up = whole.up; same = r.1.same }))
       where
-        mine : (j : Node) → has_node d.members j ≡ true → acts_kept w j ≡ r.0.at (position d.members j)
+        mine : (j : NodeId) → has_node d.members j ≡ true → acts_kept w j ≡ r.0.at (position d.members j)
         mine j h = acts-there d (w.at j) (r.0.at (position d.members j)) (r.1.same j h)
 
         calmed : IsCalm act_shape d (CellsAre d (IsOpenTo d)) k (calm c w k) r.0 → ActsCalm c k count w d
         calmed x = record {
           whole = record { registered = x.calmed.registered; up = x.calmed.up; open_cells = λ j h. open-in d ((calm c w k).world.at j) (x.inv.1 j h) };
-          settles = λ v rest few six first. settled-from admin_lane d v x.group (acts_kept (calm c w k).world) ruled leads theirs (x.settles v rest six (fit-lane admin_lane d count (λ j. admin_presence (w.at j)) r.0 (keyed-acts d) ruled leads few r.1) (subst (λ (z : Member Act). z.pending ≡ v ∷ rest) (mine (admin d) leads) first));
+          settles = λ v rest few six first. settled-from admin_groups d v x.group (acts_kept (calm c w k).world) ruled leads theirs (x.settles v rest six (fit-groups admin_groups d count (λ j. admin_presence (w.at j)) r.0 (keyed-acts d) ruled leads few r.1) (subst (λ (z : Member Act). z.pending ≡ v ∷ rest) (mine (admin d) leads) first));
           idles = λ empty shut.
               ap (λ (z : Member Act). z.history) (theirs (admin d) leads)
               ∙ (x.idles (λ j h. subst (λ (z : Member Act). z.pending ≡ []) (mine j h) (empty j h)) (subst (λ (z : Member Act). z.opened ≡ None) (mine (admin d) leads) shut)
               ∙ ap (λ (z : Member Act). z.history) (sym (mine (admin d) leads)));
         }
           where
-            theirs : (j : Node) → has_node d.members j ≡ true → acts_kept (calm c w k).world j ≡ x.group.at (position d.members j)
+            theirs : (j : NodeId) → has_node d.members j ≡ true → acts_kept (calm c w k).world j ≡ x.group.at (position d.members j)
             theirs j h = acts-there d ((calm c w k).world.at j) (x.group.at (position d.members j)) (x.calmed.same j h)
 
 -- ---- batches
@@ -144,30 +145,30 @@ pub batches-carried : (d : Definition) → broken d ≡ None → IsCarried batch
 batches-carried d ruled = record { ruled = ruled; shaped = batch-shaped d ruled; lasts = cells-last d (IsActiveIn d) (active-keeps d); on = λ w taken q n h. q.1 n h }
 
 -- behind a calm the circuit is active still, and a first pending batch is settled
-pub record BatchesCalm (c : Node) (k count : ℕ) (w : World) (d : Definition) : Type 0 where
+pub record BatchesCalm (c : CircuitId) (k count : ℕ) (w : World) (d : Definition) : Type 0 where
   pub active : IsActiveAll (calm c w k).world d
   pub settles : (v : Batch) (rest : List Batch) → count ≤ 32768 → 6 ≤ k → (batches_kept w (service d)).pending ≡ v ∷ rest → IsSettled d (service d) v (batches_kept (calm c w k).world)
 
 -- by any fact that carries the group
-pub calm-batches-by : (c : Node) (k count : ℕ) (w : World) (d : Definition) (Inv : World → (Node → Node → ℕ) → Type 0) → IsCarried batch_shape IsActiveIn d Inv → Inv w (all_taken w) → IsCoupled w → AllTame count w → IsWhole w d → BatchesCalm c k count w d
-calm-batches-by c k count w d Inv run inv coupled tame whole = go (reached-lane service_lane d count coupled.0 (λ j. service_presence (w.at j)) (service_said w.sent) (coupled.2 d) leads there (λ j m h. tame-batches j w.sent count (w.at j) d m (tame j) h) (coupled.3.services d))
+pub calm-batches-by : (c : CircuitId) (k count : ℕ) (w : World) (d : Definition) (Inv : World → (NodeId → NodeId → ℕ) → Type 0) → IsCarried batch_shape IsActiveIn d Inv → Inv w (all_taken w) → IsCoupled w → AllTame count w → IsWhole w d → BatchesCalm c k count w d
+calm-batches-by c k count w d Inv run inv coupled tame whole = go (reached-groups service_groups d count coupled.0 (λ j. service_presence (w.at j)) (service_said w.sent) (coupled.2 d) leads there (λ j m h. tame-batches j w.sent count (w.at j) d m (tame j) h) (coupled.3.services d))
   where
     leads : has_node d.members (service d) ≡ true
     leads = (roster d run.ruled).service_in
 
-    there : (j : Node) → has_node d.members j ≡ true → (m : Member Batch) × (service_presence (w.at j) ≡ There d m)
+    there : (j : NodeId) → has_node d.members j ≡ true → (m : Member Batch) × (service_presence (w.at j) ≡ There d m)
     there j h = let o : IsOpenTo d (w.at j) = open-to d (w.at j) (whole.open_cells j h) in (o.2, ap service_presence o.3)
 
-    go : (g : GroupWorld Batch) × IsReached service_lane d count (λ j. service_presence (w.at j)) g → BatchesCalm c k count w d
+    go : (g : GroupWorld Batch) × IsReached service_groups d count (λ j. service_presence (w.at j)) g → BatchesCalm c k count w d
     go r = calmed (calm-group batch_shape IsActiveIn d Inv run c k w r.0 inv (record { registered = whole.registered; up = whole.up; same = r.1.same }))
       where
         calmed : IsCalm batch_shape d Inv k (calm c w k) r.0 → BatchesCalm c k count w d
         calmed x = record {
           active = λ j h. active-runs d ((calm c w k).world.at j) (run.on (calm c w k).world (calm c w k).taken x.inv j h);
-          settles = λ v rest few six first. settled-from service_lane d v x.group (batches_kept (calm c w k).world) run.ruled leads (λ j h. batches-there d ((calm c w k).world.at j) (x.group.at (position d.members j)) (x.calmed.same j h))
-              (x.settles v rest six (fit-lane service_lane d count (λ j. service_presence (w.at j)) r.0 keyed-batches run.ruled leads few r.1)
+          settles = λ v rest few six first. settled-from service_groups d v x.group (batches_kept (calm c w k).world) run.ruled leads (λ j h. batches-there d ((calm c w k).world.at j) (x.group.at (position d.members j)) (x.calmed.same j h))
+              (x.settles v rest six (fit-groups service_groups d count (λ j. service_presence (w.at j)) r.0 keyed-batches run.ruled leads few r.1)
               (subst (λ (z : Member Batch). z.pending ≡ v ∷ rest) (batches-there d (w.at (service d)) (r.0.at (position d.members (service d))) (r.1.same (service d) leads)) first));
         }
 
-pub calm-batches : (c : Node) (k count : ℕ) (w : World) (d : Definition) (n : Node) → IsCoupled w → AllTame count w → IsWhole w d → IsActiveAll w d → is_member d n ≡ true → BatchesCalm c k count w d
+pub calm-batches : (c : CircuitId) (k count : ℕ) (w : World) (d : Definition) (n : NodeId) → IsCoupled w → AllTame count w → IsWhole w d → IsActiveAll w d → is_member d n ≡ true → BatchesCalm c k count w d
 calm-batches c k count w d n coupled tame whole active member = calm-batches-by c k count w d (CellsAre d (IsActiveIn d)) (batches-carried d (ruled-whole w d n coupled whole member)) (coupled, λ j h. active-in d (w.at j) (whole.open_cells j h) (active j h)) coupled tame whole

@@ -2,7 +2,7 @@
 use Rattle.std.proofs.Common.{List, subst}
 use Rattle.spl_circuit.specs.declared.definition.Definition.{Definition}
 use Rattle.spl_circuit.specs.declared.act.Act.{Act}
-use Rattle.spl_circuit.specs.Nodes.{Node}
+use Rattle.spl_circuit.specs.Nodes.{NodeId}
 use Rattle.spl_command.specs.declared.batch.Batch.{Batch}
 use Rattle.spl_wire.specs.declared.plan.Plan.{Plan}
 use Rattle.spl_sched.specs.declared.line.Step.{Step}
@@ -27,5 +27,5 @@ pub coupled-step : (w : World) (s : Step) → IsPlainStep s → IsCoupled w → 
 coupled-step w s h v = coupled-happens w (Steps s) h v
 
 -- so the cell behind a plan that was carried out is valid
-pub valid-behind : (w : World) (n : Node) (p : Plan) → IsCoupled (carried_out w n p) → IsValidCell n (after_plan n (w.at n) p)
+pub valid-behind : (w : World) (n : NodeId) (p : Plan) → IsCoupled (carried_out w n p) → IsValidCell n (after_plan n (w.at n) p)
 valid-behind w n p v = subst (λ (z : Cell). IsValidCell n z) (put_at-same w.at n (after_plan n (w.at n) p)) (v.3.valid n)

@@ -1,4 +1,5 @@
 -- Deeds that leave a group as it is.
+use Rattle.spl_model.specs.Worlds.{site_at}
 use Rattle.std.proofs.Common.{◌≡◌, ℕ, false, not, ◌&&◌, List, [], refl, ap, ◌∙◌}
 use Rattle.std.specs.Prelude.{Option, None, ◌==◌}
 use Rattle.std.specs.Str.{bytes_eq}
@@ -11,13 +12,12 @@ use Rattle.spl_circuit.specs.declared.definition.Definition.{Definition}
 use Rattle.spl_circuit.specs.declared.act.ActKind.{ActKind}
 use Rattle.spl_circuit.specs.declared.act.ActKind.TheVariants as kind
 use Rattle.spl_circuit.specs.declared.act.Act.{Act}
-use Rattle.spl_circuit.specs.declared.lifecycle.Mark.{Mark}
-use Rattle.spl_circuit.specs.Nodes.{Node}
+use Rattle.spl_circuit.specs.Nodes.{NodeId, CircuitId, ServiceId}
 use Rattle.spl_circuit.specs.Rules.{admin, is_member}
 use Rattle.spl_command.specs.declared.batch.Batch.{Batch}
 use Rattle.spl_wire.specs.declared.message.Message.{Message}
 use Rattle.spl_wire.specs.declared.message.Message.TheVariants as message
-use Rattle.spl_rules.specs.Cells.{Cell, Held, Deed, Refuses, Tells, Replies, can_bind, asked_first, forwarded_first, hears_first}
+use Rattle.spl_rules.specs.Cells.{Cell, Held, Deed, Refuses, Tells, Replies, can_bind, asked_first, forwarded_first, hears_first, Bound}
 use Rattle.spl_rules.specs.Batches.{serves_other}
 use Rattle.spl_rules.specs.Plans.{planned}
 use Rattle.spl_agreement.proofs.GroupOfDefinition.{There}
@@ -26,14 +26,14 @@ use Rattle.spl_model.proofs.Unmoved.{moved-keep}
 use Rattle.spl_calm.proofs.Shapes.{Shape, owned, owns, Gives}
 
 -- nothing changes, and nothing of the group is sent
-abbrev pub IsIdle : {V : Type 0} → Shape V → Definition → Node → Deed → Type 0
+abbrev pub IsIdle : {V : Type 0} → Shape V → Definition → NodeId → Deed → Type 0
 IsIdle s d n (Refuses r) = Unit {0}
 IsIdle s d n (Tells a) = Unit {0}
-IsIdle s d n (Replies note to m) = (y : Node) → s.own d n y m ≡ None
+IsIdle s d n (Replies note to m) = (y : NodeId) → s.own d n y m ≡ None
 IsIdle s d n _ = ⊥
 
 -- a cell stays
-pub gives-still : {V : Type 0} (s : Shape V) (d : Definition) (c n : Node) (k : Cell) (m : Member V) (deed : Deed) → IsIdle s d n deed → s.stand k ≡ There d m → Gives s d n k (planned n c deed) m []
+pub gives-still : {V : Type 0} (s : Shape V) (d : Definition) (c : CircuitId) (n : NodeId) (k : Cell) (m : Member V) (deed : Deed) → IsIdle s d n deed → s.stand k ≡ There d m → Gives s d n k (planned (site_at n c) deed) m []
 gives-still {V} s d c n k m (Replies note to x) idle is = record {
   stands = ap s.stand (moved-keep n k) ∙ is;
   sends = λ y h e. if_holds (λ (z : List Message). owns (s.own d n y) z ≡ []) (bytes_eq to y) _ _ (λ q. ap (λ (o : Option (CommitMsg V)). owned o []) (idle y)) (λ q. refl);
@@ -43,32 +43,32 @@ gives-still {V} s d c n k m (Tells a) idle is = record { stands = ap s.stand (mo
 gives-still s d c n k m _ idle is = absurd idle
 
 -- a reply to a message of acts is one of its generation
-abbrev pub Declines : {V : Type 0} → Shape V → Definition → Node → Node → ℕ → Type 0
-Declines {V} s d n c gen = (y : Node) (x : CommitMsg Act) → generation_of x ≡ gen → s.own d n y (message.Admin c x) ≡ None
+abbrev pub Declines : {V : Type 0} → Shape V → Definition → NodeId → NodeId → ℕ → Type 0
+Declines {V} s d n c gen = (y : NodeId) (x : CommitMsg Act) → generation_of x ≡ gen → s.own d n y (message.Admin c x) ≡ None
 
 -- a message of acts at a bound cell that takes no part in its generation
-pub idle-asked : {V : Type 0} (s : Shape V) (d : Definition) (n c : Node) (e : Definition) (m : Mark) (t : ℕ) (a : Member Act) (b : Member Batch) (from : Node) (gen r place : ℕ) (v : Act) (w : ActKind) → Declines s d n c gen → IsIdle s d n (asked_first n c (Held e m t a b) from gen r place v w)
-idle-asked {V} s d n c e m t a b from gen r place v (kind.Propose f) h =
-    if_holds (IsIdle s d n) (place == 0 && (can_bind n c (Held e m t a b) gen f && bytes_eq (admin f) from)) _ _
-    (λ q. absurd (bind-facts n c (Held e m t a b) gen f (and_left (can_bind n c (Held e m t a b) gen f) _ (and_right (place == 0) _ q))).2)
+pub idle-asked : {V : Type 0} (s : Shape V) (d : Definition) (n : NodeId) (c : CircuitId) (b : Bound) (from : NodeId) (gen r place : ℕ) (v : Act) (w : ActKind) → Declines s d n c gen → IsIdle s d n (asked_first (site_at n c) (Held b) from gen r place v w)
+idle-asked {V} s d n c b from gen r place v (kind.Propose f) h =
+    if_holds (IsIdle s d n) (place == 0 && (can_bind (site_at n c) (Held b) gen f && bytes_eq (admin f) from)) _ _
+    (λ q. absurd (bind-facts (site_at n c) (Held b) gen f (and_left (can_bind (site_at n c) (Held b) gen f) _ (and_right (place == 0) _ q))).2)
     (λ q y. h y (msg.Vote gen r false) refl)
-idle-asked s d n c e m t a b from gen r place v kind.Accept h = λ y. h y (msg.Vote gen r false) refl
-idle-asked s d n c e m t a b from gen r place v _ h = λ y. h y (msg.Vote gen r false) refl
+idle-asked s d n c b from gen r place v kind.Accept h = λ y. h y (msg.Vote gen r false) refl
+idle-asked s d n c b from gen r place v _ h = λ y. h y (msg.Vote gen r false) refl
 
-pub idle-forwarded : {V : Type 0} (s : Shape V) (d : Definition) (n c : Node) (e : Definition) (m : Mark) (t : ℕ) (a : Member Act) (b : Member Batch) (from : Node) (gen : ℕ) (v : Act) (w : ActKind) → Declines s d n c gen → IsIdle s d n (forwarded_first n c (Held e m t a b) from gen v w)
-idle-forwarded {V} s d n c e m t a b from gen v (kind.Propose f) h =
-    if_holds (IsIdle s d n) (can_bind n c (Held e m t a b) gen f && (bytes_eq (admin f) n && (bytes_eq v.node from && (is_member f from && not (bytes_eq from n))))) _ _
-    (λ q. absurd (bind-facts n c (Held e m t a b) gen f (and_left (can_bind n c (Held e m t a b) gen f) _ q)).2)
+pub idle-forwarded : {V : Type 0} (s : Shape V) (d : Definition) (n : NodeId) (c : CircuitId) (b : Bound) (from : NodeId) (gen : ℕ) (v : Act) (w : ActKind) → Declines s d n c gen → IsIdle s d n (forwarded_first (site_at n c) (Held b) from gen v w)
+idle-forwarded {V} s d n c b from gen v (kind.Propose f) h =
+    if_holds (IsIdle s d n) (can_bind (site_at n c) (Held b) gen f && (bytes_eq (admin f) n && (bytes_eq v.node from && (is_member f from && not (bytes_eq from n))))) _ _
+    (λ q. absurd (bind-facts (site_at n c) (Held b) gen f (and_left (can_bind (site_at n c) (Held b) gen f) _ q)).2)
     (λ q y. h y (msg.Refused gen v _) refl)
-idle-forwarded s d n c e m t a b from gen v kind.Accept h = tt
-idle-forwarded s d n c e m t a b from gen v _ h = tt
+idle-forwarded s d n c b from gen v kind.Accept h = tt
+idle-forwarded s d n c b from gen v _ h = tt
 
-pub idle-first : {V : Type 0} (s : Shape V) (d : Definition) (n c : Node) (e : Definition) (m : Mark) (t : ℕ) (a : Member Act) (b : Member Batch) (from : Node) (x : CommitMsg Act) → Declines s d n c (generation_of x) → IsIdle s d n (hears_first n c (Held e m t a b) from x)
-idle-first s d n c e m t a b from (msg.VoteRequest gen r place v) h = idle-asked s d n c e m t a b from gen r place v v.kind h
-idle-first s d n c e m t a b from (msg.Forward gen v) h = idle-forwarded s d n c e m t a b from gen v v.kind h
-idle-first s d n c e m t a b from _ h = tt
+pub idle-first : {V : Type 0} (s : Shape V) (d : Definition) (n : NodeId) (c : CircuitId) (b : Bound) (from : NodeId) (x : CommitMsg Act) → Declines s d n c (generation_of x) → IsIdle s d n (hears_first (site_at n c) (Held b) from x)
+idle-first s d n c b from (msg.VoteRequest gen r place v) h = idle-asked s d n c b from gen r place v v.kind h
+idle-first s d n c b from (msg.Forward gen v) h = idle-forwarded s d n c b from gen v v.kind h
+idle-first s d n c b from _ h = tt
 
 -- a message of batches of another generation
-pub idle-other : {V : Type 0} (s : Shape V) (d : Definition) (n c from i t : Node) (x : CommitMsg Batch) → ((y : Node) (z : CommitMsg Batch) → generation_of z ≡ generation_of x → s.own d n y (message.Scabbard c t i z) ≡ None) → IsIdle s d n (serves_other c from i t x)
+pub idle-other : {V : Type 0} (s : Shape V) (d : Definition) (n : NodeId) (c : CircuitId) (from : NodeId) (i t : ServiceId) (x : CommitMsg Batch) → ((y : NodeId) (z : CommitMsg Batch) → generation_of z ≡ generation_of x → s.own d n y (message.Scabbard c t i z) ≡ None) → IsIdle s d n (serves_other (site_at n c) from i t x)
 idle-other s d n c from i t (msg.VoteRequest gen r place v) h = λ y. h y (msg.Vote gen r false) refl
 idle-other s d n c from i t _ h = tt

@@ -5,7 +5,7 @@ use Rattle.spl_agree.specs.Member.{Member}
 use Rattle.spl_agree.proofs.Tests.{if_holds}
 use Rattle.spl_circuit.specs.declared.definition.Definition.{Definition}
 use Rattle.spl_circuit.specs.declared.act.Act.{Act}
-use Rattle.spl_circuit.specs.Nodes.{Node, has_node}
+use Rattle.spl_circuit.specs.Nodes.{NodeId, CircuitId, has_node}
 use Rattle.spl_wire.specs.declared.message.Message.{Message}
 use Rattle.spl_wire.specs.declared.plan.Plan.{Plan}
 use Rattle.spl_wire.specs.declared.event.Event.TheVariants as event
@@ -15,15 +15,16 @@ use Rattle.spl_wire.specs.declared.answer.Refusal.TheVariants as refusal
 use Rattle.spl_sched.specs.declared.line.Step.{Step}
 use Rattle.spl_sched.specs.declared.line.Step.TheVariants as step
 use Rattle.spl_sched.specs.Grammar.{step_node}
-use Rattle.spl_rules.specs.Cells.{Cell, runs}
+use Rattle.spl_rules.specs.Cells.{Cell}
 use Rattle.spl_rules.specs.Changes.{after_plan}
 use Rattle.spl_rules.specs.Plans.{plan_of, tells_only}
-use Rattle.spl_model.specs.Worlds.{World, messages, delivery, step_plan, step_world, put_at}
+use Rattle.spl_model.specs.Worlds.{World, messages, delivery, step_plan, step_world, put_at, site_at}
 use Rattle.spl_model.specs.Plain.{IsPlainStep}
 use Rattle.spl_model.proofs.Nodes.{node_cases}
 use Rattle.spl_agreement.proofs.GroupWorlds.{IsValidCell}
 use Rattle.spl_model.proofs.Puts.{put_at-same, put_at-other}
 use Rattle.spl_model.proofs.Unmoved.{moved-keep}
+use Rattle.spl_calm.specs.Settled.{is_active_by}
 use Rattle.spl_calm.proofs.ActShape.{IsOpenTo}
 use Rattle.spl_calm.proofs.BatchShape.{IsActiveIn}
 use Rattle.spl_calm.proofs.Stays.{StaysOpen, stays-tick, stays-deliver, stays-active}
@@ -32,30 +33,30 @@ use Rattle.spl_calm.proofs.Lasting.{IsLasting}
 
 -- the events of a calm keep this of a cell that is valid behind them
 pub record KeepsCell (P : Cell → Type 0) : Type 0 where
-  pub ticks : (c n : Node) (k : Cell) → P k → IsValidCell n (after_plan n k (plan_of n c k event.Tick)) → P (after_plan n k (plan_of n c k event.Tick))
-  pub delivers : (c n from : Node) (x : Message) (k : Cell) → P k → IsValidCell n (after_plan n k (plan_of n c k (event.Deliver from x))) → P (after_plan n k (plan_of n c k (event.Deliver from x)))
+  pub ticks : (c : CircuitId) (n : NodeId) (k : Cell) → P k → IsValidCell n (after_plan n k (plan_of (site_at n c) k event.Tick)) → P (after_plan n k (plan_of (site_at n c) k event.Tick))
+  pub delivers : (c : CircuitId) (n from : NodeId) (x : Message) (k : Cell) → P k → IsValidCell n (after_plan n k (plan_of (site_at n c) k (event.Deliver from x))) → P (after_plan n k (plan_of (site_at n c) k (event.Deliver from x)))
 
 -- the coupling, and this of each member's cell
-abbrev pub CellsAre : Definition → (Cell → Type 0) → World → (Node → Node → ℕ) → Type 0
-CellsAre d P w taken = IsCoupled w × ((n : Node) → has_node d.members n ≡ true → P (w.at n))
+abbrev pub CellsAre : Definition → (Cell → Type 0) → World → (NodeId → NodeId → ℕ) → Type 0
+CellsAre d P w taken = IsCoupled w × ((n : NodeId) → has_node d.members n ≡ true → P (w.at n))
 
 -- what only tells something keeps all of a cell
-pub told-keeps : (P : Cell → Type 0) (n : Node) (k : Cell) (a : Answer) → P k → P (after_plan n k (tells_only a))
+pub told-keeps : (P : Cell → Type 0) (n : NodeId) (k : Cell) (a : Answer) → P k → P (after_plan n k (tells_only a))
 told-keeps P n k a p = subst P (sym (moved-keep n k)) p
 
 -- a step of a calm
-pub cells-step : (d : Definition) (P : Cell → Type 0) (w : World) (s : Step) → IsPlainStep s → (P (w.at (step_node s)) → IsValidCell (step_node s) (after_plan (step_node s) (w.at (step_node s)) (step_plan w s)) → P (after_plan (step_node s) (w.at (step_node s)) (step_plan w s))) → (taken taken2 : Node → Node → ℕ) → CellsAre d P w taken → CellsAre d P (step_world w s) taken2
+pub cells-step : (d : Definition) (P : Cell → Type 0) (w : World) (s : Step) → IsPlainStep s → (P (w.at (step_node s)) → IsValidCell (step_node s) (after_plan (step_node s) (w.at (step_node s)) (step_plan w s)) → P (after_plan (step_node s) (w.at (step_node s)) (step_plan w s))) → (taken taken2 : NodeId → NodeId → ℕ) → CellsAre d P w taken → CellsAre d P (step_world w s) taken2
 cells-step d P w s plain keeps taken taken2 q = (later, λ j h. go j h (node_cases j (step_node s)))
   where
-    n : Node
+    n : NodeId
     n = step_node s
 
     later : IsCoupled (step_world w s)
     later = coupled-step w s plain q.0
 
-    go : (j : Node) → has_node d.members j ≡ true → (j ≡ n) ⊎ (j ≢ n) → P (put_at w.at n (after_plan n (w.at n) (step_plan w s)) j)
-    go j h (inl e) = subst (λ (z : Node). P (put_at w.at n (after_plan n (w.at n) (step_plan w s)) z)) (sym e)
-        (subst P (sym (put_at-same w.at n (after_plan n (w.at n) (step_plan w s)))) (keeps (q.1 n (subst (λ (z : Node). has_node d.members z ≡ true) e h)) (valid-behind w n (step_plan w s) later)))
+    go : (j : NodeId) → has_node d.members j ≡ true → (j ≡ n) ⊎ (j ≢ n) → P (put_at w.at n (after_plan n (w.at n) (step_plan w s)) j)
+    go j h (inl e) = subst (λ (z : NodeId). P (put_at w.at n (after_plan n (w.at n) (step_plan w s)) z)) (sym e)
+        (subst P (sym (put_at-same w.at n (after_plan n (w.at n) (step_plan w s)))) (keeps (q.1 n (subst (λ (z : NodeId). has_node d.members z ≡ true) e h)) (valid-behind w n (step_plan w s) later)))
     go j h (inr e) = subst P (sym (put_at-other w.at n (after_plan n (w.at n) (step_plan w s)) j e)) (q.1 j h)
 
 -- so it lasts
@@ -67,35 +68,35 @@ cells-last d P keeps = record {
   again = λ w taken taken2 e q. q;
 }
   where
-    Kept : Node → Cell → Plan → Type 0
+    Kept : NodeId → Cell → Plan → Type 0
     Kept n k p = P k → IsValidCell n (after_plan n k p) → P (after_plan n k p)
 
-    tick : (c n : Node) (w : World) → Kept n (w.at n) (step_plan w (step.At n c event.Tick))
+    tick : (c : CircuitId) (n : NodeId) (w : World) → Kept n (w.at n) (step_plan w (step.At n c event.Tick))
     tick c n w = if_holds (Kept n (w.at n)) (w.up n) _ _ (λ u p v. keeps.ticks c n (w.at n) p v) (λ u p v. told-keeps P n (w.at n) (answer.Refused refusal.Down) p)
 
-    by_message : (c from to : Node) (w : World) (o : Option Message) → Kept to (w.at to) (delivery c w from to o)
+    by_message : (c : CircuitId) (from to : NodeId) (w : World) (o : Option Message) → Kept to (w.at to) (delivery c w from to o)
     by_message c from to w None = λ p v. told-keeps P to (w.at to) (answer.Refused refusal.NoMessage) p
     by_message c from to w (Some x) = λ p v. keeps.delivers c to from x (w.at to) p v
 
-    deliver : (c from to : Node) (w : World) (number : ℕ) → Kept to (w.at to) (step_plan w (step.Deliver from to c number))
+    deliver : (c : CircuitId) (from to : NodeId) (w : World) (number : ℕ) → Kept to (w.at to) (step_plan w (step.Deliver from to c number))
     deliver c from to w number = if_holds (Kept to (w.at to)) (w.up to) _ _ (λ u. by_message c from to w (slice_get (messages w from to) (number - 1))) (λ u p v. told-keeps P to (w.at to) (answer.Refused refusal.Down) p)
 
 -- ---- open, and active
 
 pub open-keeps : (d : Definition) → KeepsCell (IsOpenTo d)
 open-keeps d = record {
-  ticks = λ c n k o v. subst (λ (z : Cell). IsOpenTo d (after_plan n z (plan_of n c z event.Tick))) (sym o.3) (opened n o.1 _ (stays-tick c n d o.0 o.1 o.2));
-  delivers = λ c n from x k o v. subst (λ (z : Cell). IsOpenTo d (after_plan n z (plan_of n c z (event.Deliver from x)))) (sym o.3) (opened n o.1 _ (stays-deliver c n from d o.0 o.1 o.2 x));
+  ticks = λ c n k o v. subst (λ (z : Cell). IsOpenTo d (after_plan n z (plan_of (site_at n c) z event.Tick))) (sym o.3) (opened n o.1 _ (stays-tick c n d o.0 o.1 o.2));
+  delivers = λ c n from x k o v. subst (λ (z : Cell). IsOpenTo d (after_plan n z (plan_of (site_at n c) z (event.Deliver from x)))) (sym o.3) (opened n o.1 _ (stays-deliver c n from d o.0 o.1 o.2 x));
 }
   where
-    opened : (n : Node) (a : Member Act) (k : Cell) → StaysOpen d n a k → IsOpenTo d k
+    opened : (n : NodeId) (a : Member Act) (k : Cell) → StaysOpen d n a k → IsOpenTo d k
     opened n a k s = (s.turn, s.acts, s.batches, s.held)
 
 pub active-keeps : (d : Definition) → KeepsCell (IsActiveIn d)
 active-keeps d = record {
-  ticks = λ c n k o v. subst (λ (z : Cell). IsValidCell n (after_plan n z (plan_of n c z event.Tick)) → IsActiveIn d (after_plan n z (plan_of n c z event.Tick))) (sym o.3) (active n o.1 _ (stays-tick c n d o.0 o.1 o.2) o.4) v;
-  delivers = λ c n from x k o v. subst (λ (z : Cell). IsValidCell n (after_plan n z (plan_of n c z (event.Deliver from x))) → IsActiveIn d (after_plan n z (plan_of n c z (event.Deliver from x)))) (sym o.3) (active n o.1 _ (stays-deliver c n from d o.0 o.1 o.2 x) o.4) v;
+  ticks = λ c n k o v. subst (λ (z : Cell). IsValidCell n (after_plan n z (plan_of (site_at n c) z event.Tick)) → IsActiveIn d (after_plan n z (plan_of (site_at n c) z event.Tick))) (sym o.3) (active n o.1 _ (stays-tick c n d o.0 o.1 o.2) o.4) v;
+  delivers = λ c n from x k o v. subst (λ (z : Cell). IsValidCell n (after_plan n z (plan_of (site_at n c) z (event.Deliver from x))) → IsActiveIn d (after_plan n z (plan_of (site_at n c) z (event.Deliver from x)))) (sym o.3) (active n o.1 _ (stays-deliver c n from d o.0 o.1 o.2 x) o.4) v;
 }
   where
-    active : (n : Node) (a : Member Act) (k : Cell) → StaysOpen d n a k → runs d a ≡ true → IsValidCell n k → IsActiveIn d k
+    active : (n : NodeId) (a : Member Act) (k : Cell) → StaysOpen d n a k → is_active_by d a ≡ true → IsValidCell n k → IsActiveIn d k
     active n a k s h v = (s.turn, s.acts, s.batches, s.held, stays-active d n a k s v h)

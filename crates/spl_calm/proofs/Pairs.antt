@@ -3,7 +3,7 @@ use Rattle.std.proofs.Common.{◌≡◌, ◌≢◌, ℕ, zero, suc, ◌<◌, ◌
 use Rattle.std.specs.Prelude.{Some, if◌then◌else◌, slice_get}
 use Rattle.std.specs.Str.{bytes_eq}
 use Rattle.spl_agree.proofs.Tests.{bool_cases}
-use Rattle.spl_circuit.specs.Nodes.{Node, has_node}
+use Rattle.spl_circuit.specs.Nodes.{NodeId, has_node}
 use Rattle.spl_wire.specs.declared.message.Message.{Message}
 use Rattle.spl_wire.specs.declared.plan.Outgoing.{Outgoing}
 use Rattle.spl_wire.specs.declared.plan.Plan.{Plan}
@@ -11,11 +11,11 @@ use Rattle.spl_model.specs.Worlds.{Sent, World, on_pair, messages, posted, carri
 use Rattle.spl_model.proofs.Nodes.{node_is, node_same, node_other}
 
 -- what goes to a node, in order
-abbrev pub to_node : Node → List Outgoing → List Message
+abbrev pub to_node : NodeId → List Outgoing → List Message
 to_node n [] = []
 to_node n (o ∷ os) = if bytes_eq o.to n then o.message ∷ to_node n os else to_node n os
 
-pub to_node-append : (n : Node) (xs ys : List Outgoing) → to_node n (xs ++ ys) ≡ to_node n xs ++ to_node n ys
+pub to_node-append : (n : NodeId) (xs ys : List Outgoing) → to_node n (xs ++ ys) ≡ to_node n xs ++ to_node n ys
 to_node-append n [] ys = refl
 to_node-append n (x ∷ xs) ys = go (bool_cases (bytes_eq x.to n)) (to_node-append n xs ys)
   where
@@ -23,7 +23,7 @@ to_node-append n (x ∷ xs) ys = go (bool_cases (bytes_eq x.to n)) (to_node-appe
     go (inl q) hyp = rw q (ap (λ z. x.message ∷ z) hyp)
     go (inr q) hyp = rw q hyp
 
-pub on_pair-append : (x y : Node) (xs ys : List Sent) → on_pair x y (xs ++ ys) ≡ on_pair x y xs ++ on_pair x y ys
+pub on_pair-append : (x y : NodeId) (xs ys : List Sent) → on_pair x y (xs ++ ys) ≡ on_pair x y xs ++ on_pair x y ys
 on_pair-append x y [] ys = refl
 on_pair-append x y (s ∷ ss) ys = go (bool_cases (bytes_eq s.from x && bytes_eq s.to y)) (on_pair-append x y ss ys)
   where
@@ -32,12 +32,12 @@ on_pair-append x y (s ∷ ss) ys = go (bool_cases (bytes_eq s.from x && bytes_eq
     go (inr q) hyp = rw q hyp
 
 -- what a node posts to a registered one
-pub posted-mine : (ns : List Node) (n y : Node) (os : List Outgoing) → has_node ns y ≡ true → on_pair n y (posted ns n os) ≡ to_node y os
+pub posted-mine : (ns : List NodeId) (n y : NodeId) (os : List Outgoing) → has_node ns y ≡ true → on_pair n y (posted ns n os) ≡ to_node y os
 posted-mine ns n y [] h = refl
 posted-mine ns n y (o ∷ os) h = go (bool_cases (bytes_eq o.to y)) (bool_cases (has_node ns o.to)) (posted-mine ns n y os h)
   where
     there : bytes_eq o.to y ≡ true → has_node ns o.to ≡ true
-    there q = subst (λ (z : Node). has_node ns z ≡ true) (sym (node_is o.to y q)) h
+    there q = subst (λ (z : NodeId). has_node ns z ≡ true) (sym (node_is o.to y q)) h
 
     go : (bytes_eq o.to y ≡ true) ⊎ (bytes_eq o.to y ≡ false) → (has_node ns o.to ≡ true) ⊎ (has_node ns o.to ≡ false) → on_pair n y (posted ns n os) ≡ to_node y os → on_pair n y (posted ns n (o ∷ os)) ≡ to_node y (o ∷ os)
     go (inl q) k hyp = rw (there q) (rw (node_same n, q) (ap (λ z. o.message ∷ z) hyp))
@@ -45,7 +45,7 @@ posted-mine ns n y (o ∷ os) h = go (bool_cases (bytes_eq o.to y)) (bool_cases 
     go (inr q) (inr k) hyp = rw (k, q) hyp
 
 -- no other node posts it
-pub posted-other : (ns : List Node) (n x y : Node) (os : List Outgoing) → x ≢ n → on_pair x y (posted ns n os) ≡ []
+pub posted-other : (ns : List NodeId) (n x y : NodeId) (os : List Outgoing) → x ≢ n → on_pair x y (posted ns n os) ≡ []
 posted-other ns n x y [] d = refl
 posted-other ns n x y (o ∷ os) d = go (bool_cases (has_node ns o.to)) (posted-other ns n x y os d)
   where
@@ -54,10 +54,10 @@ posted-other ns n x y (o ∷ os) d = go (bool_cases (has_node ns o.to)) (posted-
     go (inr q) hyp = rw q hyp
 
 -- behind a plan that is carried out
-pub messages-mine : (w : World) (n y : Node) (p : Plan) → n ≢ y → has_node w.nodes y ≡ true → messages (carried_out w n p) n y ≡ messages w n y ++ to_node y p.sends
+pub messages-mine : (w : World) (n y : NodeId) (p : Plan) → n ≢ y → has_node w.nodes y ≡ true → messages (carried_out w n p) n y ≡ messages w n y ++ to_node y p.sends
 messages-mine w n y p d h = rw (node_other n y d) (on_pair-append n y w.sent (posted w.nodes n p.sends) ∙ ap (λ z. on_pair n y w.sent ++ z) (posted-mine w.nodes n y p.sends h))
 
-pub messages-other : (w : World) (n x y : Node) (p : Plan) → x ≢ n → messages (carried_out w n p) x y ≡ messages w x y
+pub messages-other : (w : World) (n x y : NodeId) (p : Plan) → x ≢ n → messages (carried_out w n p) x y ≡ messages w x y
 messages-other w n x y p d = go (bool_cases (bytes_eq x y))
   where
     same : on_pair x y (w.sent ++ posted w.nodes n p.sends) ≡ on_pair x y w.sent
@@ -68,7 +68,7 @@ messages-other w n x y p d = go (bool_cases (bytes_eq x y))
     go (inr q) = rw q same
 
 -- no node sends to itself
-pub messages-self : (w : World) (x : Node) → messages w x x ≡ []
+pub messages-self : (w : World) (x : NodeId) → messages w x x ≡ []
 messages-self w x = rw (node_same x)
 
 -- ---- what stands behind the first so many

@@ -6,7 +6,7 @@ use Rattle.spl_agree.specs.Member.{Member}
 use Rattle.spl_agree.specs.World.{World as GroupWorld}
 use Rattle.spl_agree.specs.Agreement.{Told, lead, Agrees}
 use Rattle.spl_circuit.specs.declared.definition.Definition.{Definition}
-use Rattle.spl_circuit.specs.Nodes.{Node, has_node, position, node_or, sorted}
+use Rattle.spl_circuit.specs.Nodes.{NodeId, CircuitId, has_node, position, node_or, sorted}
 use Rattle.spl_circuit.specs.Rules.{broken}
 use Rattle.spl_circuit.proofs.Valid.{few_members}
 use Rattle.spl_wire.specs.declared.message.Message.{Message}
@@ -21,7 +21,7 @@ use Rattle.spl_model.specs.Worlds.{World, messages}
 use Rattle.spl_model.specs.Calm.{Calming, calming, calm}
 use Rattle.spl_agreement.proofs.Positions.{position-below}
 use Rattle.spl_agreement.proofs.Rosters.{has-sorted}
-use Rattle.spl_agreement.proofs.GroupOfDefinition.{Lane, Presence, There, GroupMessage, Matters, SomeWorld, InLane, group_of, says-told}
+use Rattle.spl_agreement.proofs.GroupOfDefinition.{Groups, Presence, There, GroupMessage, Matters, SomeWorld, InGroups, group_of, says-told}
 use Rattle.spl_calm.proofs.Places.{or-member, position-at}
 use Rattle.spl_calm.proofs.Pairs.{drop-all}
 use Rattle.spl_calm.proofs.Shapes.{Shape, owns}
@@ -31,51 +31,51 @@ use Rattle.spl_calm.proofs.Passes.{HasMembers, AllPassed, sim-passes}
 use Rattle.spl_calm.proofs.Tame.{IsTame, WasAsked}
 
 -- the world of a group beside its cells, after so many events
-pub record IsReached {V : Type 0} (lane : Lane V) (d : Definition) (count : ℕ) (at : Node → Presence V) (w : GroupWorld V) : Type 0 where
-  pub agrees : Agrees (group_of lane d) w
-  pub same : (n : Node) → has_node d.members n ≡ true → at n ≡ There d (w.at (position d.members n))
-  pub steady : (n : Node) → has_node d.members n ≡ true → IsSteady (group_of lane d) count (w.at (position d.members n))
-  pub heard : (n : Node) → has_node d.members n ≡ true → n ≢ lane.leader d → (w.at (position d.members n)).seen < (w.at (position d.members (lane.leader d))).next
+pub record IsReached {V : Type 0} (groups : Groups V) (d : Definition) (count : ℕ) (at : NodeId → Presence V) (w : GroupWorld V) : Type 0 where
+  pub agrees : Agrees (group_of groups d) w
+  pub same : (n : NodeId) → has_node d.members n ≡ true → at n ≡ There d (w.at (position d.members n))
+  pub steady : (n : NodeId) → has_node d.members n ≡ true → IsSteady (group_of groups d) count (w.at (position d.members n))
+  pub heard : (n : NodeId) → has_node d.members n ≡ true → n ≢ groups.leader d → (w.at (position d.members n)).seen < (w.at (position d.members (groups.leader d))).next
 
 -- there is such a world, where all members are bound
-pub reached-lane : {V : Type 0} (lane : Lane V) (d : Definition) (count : ℕ) (past : List (Node × Definition)) (at : Node → Presence V) (said : GroupMessage V → Type 0) (list : List V) → has_node d.members (lane.leader d) ≡ true → ((n : Node) → has_node d.members n ≡ true → (m : Member V) × (at n ≡ There d m)) → ((n : Node) (m : Member V) → at n ≡ There d m → IsTame lane d n said count m) → InLane lane d past at said list → (w : GroupWorld V) × IsReached lane d count at w
-reached-lane {V} lane d count past at said list leads there tame c = go (c.coupled (c.ever (lane.leader d) d (there (lane.leader d) leads).0 (there (lane.leader d) leads).1))
+pub reached-groups : {V : Type 0} (groups : Groups V) (d : Definition) (count : ℕ) (past : List (NodeId × Definition)) (at : NodeId → Presence V) (said : GroupMessage V → Type 0) (list : List V) → has_node d.members (groups.leader d) ≡ true → ((n : NodeId) → has_node d.members n ≡ true → (m : Member V) × (at n ≡ There d m)) → ((n : NodeId) (m : Member V) → at n ≡ There d m → IsTame groups d n said count m) → InGroups groups d past at said list → (w : GroupWorld V) × IsReached groups d count at w
+reached-groups {V} groups d count past at said list leads there tame c = go (c.coupled (c.ever (groups.leader d) d (there (groups.leader d) leads).0 (there (groups.leader d) leads).1))
   where
-    go : SomeWorld lane d past at said list → (w : GroupWorld V) × IsReached lane d count at w
+    go : SomeWorld groups d past at said list → (w : GroupWorld V) × IsReached groups d count at w
     go x = (x.0, record { agrees = x.1.agrees; same = same; steady = λ n h. (tame n (x.0.at (position d.members n)) (same n h)).steady; heard = λ n h off. heard n h ((tame n (x.0.at (position d.members n)) (same n h)).heard off) })
       where
-        same : (n : Node) → has_node d.members n ≡ true → at n ≡ There d (x.0.at (position d.members n))
+        same : (n : NodeId) → has_node d.members n ≡ true → at n ≡ There d (x.0.at (position d.members n))
         same n h = (there n h).1 ∙ ap (λ (z : Member V). There d z) (sym (x.1.there n (there n h).0 (there n h).1))
 
         next : ℕ
-        next = (x.0.at (position d.members (lane.leader d))).next
+        next = (x.0.at (position d.members (groups.leader d))).next
 
-        asked : (r : ℕ) → WasAsked lane d said r → r < next
-        asked r a = (subst (λ (z : CommitMsg V). Told (lead (x.0.at (position d.members (lane.leader d)))) z) a.5
-            (says-told (group_of lane d) x.0 (position d.members a.0.from) a.0.body x.1.agrees (x.1.known a.0 a.1 (subst (λ (z : CommitMsg V). Matters lane d a.0.from a.0.to z) (sym a.5) (a.2, refl))) (ap (λ (z : Node). position d.members z) a.2))).0
+        asked : (r : ℕ) → WasAsked groups d said r → r < next
+        asked r a = (subst (λ (z : CommitMsg V). Told (lead (x.0.at (position d.members (groups.leader d)))) z) a.5
+            (says-told (group_of groups d) x.0 (position d.members a.0.from) a.0.body x.1.agrees (x.1.known a.0 a.1 (subst (λ (z : CommitMsg V). Matters groups d a.0.from a.0.to z) (sym a.5) (a.2, refl))) (ap (λ (z : NodeId). position d.members z) a.2))).0
 
-        heard : (n : Node) → has_node d.members n ≡ true → ((x.0.at (position d.members n)).seen ≡ 0) ⊎ WasAsked lane d said (x.0.at (position d.members n)).seen → (x.0.at (position d.members n)).seen < next
+        heard : (n : NodeId) → has_node d.members n ≡ true → ((x.0.at (position d.members n)).seen ≡ 0) ⊎ WasAsked groups d said (x.0.at (position d.members n)).seen → (x.0.at (position d.members n)).seen < next
         heard n h (inr a) = asked (x.0.at (position d.members n)).seen a
-        heard n h (inl e) = let b : IsSteady (group_of lane d) count (x.0.at (position d.members (lane.leader d))) = (tame (lane.leader d) (x.0.at (position d.members (lane.leader d))) (same (lane.leader d) leads)).steady in
-            let y : 1 ≤ (x.0.at (position d.members (lane.leader d))).next = b.begun in omega (arith, e, y)
+        heard n h (inl e) = let b : IsSteady (group_of groups d) count (x.0.at (position d.members (groups.leader d))) = (tame (groups.leader d) (x.0.at (position d.members (groups.leader d))) (same (groups.leader d) leads)).steady in
+            let y : 1 ≤ (x.0.at (position d.members (groups.leader d))).next = b.begun in omega (arith, e, y)
 
 -- it is fit
-pub fit-lane : {V : Type 0} (lane : Lane V) (d : Definition) (count : ℕ) (at : Node → Presence V) (w : GroupWorld V) → IsKeyed (lane.rules d) → broken d ≡ None → has_node d.members (lane.leader d) ≡ true → count ≤ 32768 → IsReached lane d count at w → IsFit (group_of lane d) w
-fit-lane {V} lane d count at w keyed ruled leads few r = fit-by (group_of lane d) keyed (few_members d ruled).0 (position-below d.members (lane.leader d) leads) count w few r.agrees
-    (λ i l. subst (λ (j : ℕ). IsSteady (group_of lane d) count (w.at j)) (position-at d [] i ruled l) (r.steady (node_or d.members [] i) (or-member d.members [] i l)))
-    (λ i l off. subst (λ (j : ℕ). (w.at j).seen < (w.at (position d.members (lane.leader d))).next) (position-at d [] i ruled l) (r.heard (node_or d.members [] i) (or-member d.members [] i l) (λ e. off (sym (position-at d [] i ruled l) ∙ ap (λ (z : Node). position d.members z) e))))
+pub fit-groups : {V : Type 0} (groups : Groups V) (d : Definition) (count : ℕ) (at : NodeId → Presence V) (w : GroupWorld V) → IsKeyed (groups.rules d) → broken d ≡ None → has_node d.members (groups.leader d) ≡ true → count ≤ 32768 → IsReached groups d count at w → IsFit (group_of groups d) w
+fit-groups {V} groups d count at w keyed ruled leads few r = fit-by (group_of groups d) keyed (few_members d ruled).0 (position-below d.members (groups.leader d) leads) count w few r.agrees
+    (λ i l. subst (λ (j : ℕ). IsSteady (group_of groups d) count (w.at j)) (position-at d [] i ruled l) (r.steady (node_or d.members [] i) (or-member d.members [] i l)))
+    (λ i l off. subst (λ (j : ℕ). (w.at j).seen < (w.at (position d.members (groups.leader d))).next) (position-at d [] i ruled l) (r.heard (node_or d.members [] i) (or-member d.members [] i l) (λ e. off (sym (position-at d [] i ruled l) ∙ ap (λ (z : NodeId). position d.members z) e))))
 
 -- the members are registered and up, and their cells have the members of a world of the group
 pub record IsCalmed {V : Type 0} (s : Shape V) (d : Definition) (w : World) (g : GroupWorld V) : Type 0 where
   pub registered : HasMembers d w.nodes
-  pub up : (n : Node) → has_node d.members n ≡ true → w.up n ≡ true
-  pub same : (n : Node) → has_node d.members n ≡ true → s.stand (w.at n) ≡ There d (g.at (position d.members n))
+  pub up : (n : NodeId) → has_node d.members n ≡ true → w.up n ≡ true
+  pub same : (n : NodeId) → has_node d.members n ≡ true → s.stand (w.at n) ≡ There d (g.at (position d.members n))
 
 -- at first nothing of the calm stands on a pair
-abbrev pub all_taken : World → Node → Node → ℕ
+abbrev pub all_taken : World → NodeId → NodeId → ℕ
 all_taken w a b = length (messages w a b)
 
-pub sim-start : {V : Type 0} (s : Shape V) (d : Definition) (Inv : World → (Node → Node → ℕ) → Type 0) (w : World) (g : GroupWorld V) → Inv w (all_taken w) → IsCalmed s d w g → Sim s d Inv w (all_taken w) (begins g)
+pub sim-start : {V : Type 0} (s : Shape V) (d : Definition) (Inv : World → (NodeId → NodeId → ℕ) → Type 0) (w : World) (g : GroupWorld V) → Inv w (all_taken w) → IsCalmed s d w g → Sim s d Inv w (all_taken w) (begins g)
 sim-start s d Inv w g inv q = record {
   inv = inv;
   registered = q.registered;
@@ -88,21 +88,21 @@ sim-start s d Inv w g inv q = record {
 -- behind a calm: the fact holds, and there is a world of the group beside the cells. It is settled, where the calm has six
 -- passes or more and a value was pending first; and its coordinator has committed nothing, where nothing was pending and no
 -- round was open
-pub record IsCalm {V : Type 0} (s : Shape V) (d : Definition) (Inv : World → (Node → Node → ℕ) → Type 0) (k : ℕ) (z : Calming) (g : GroupWorld V) : Type 0 where
+pub record IsCalm {V : Type 0} (s : Shape V) (d : Definition) (Inv : World → (NodeId → NodeId → ℕ) → Type 0) (k : ℕ) (z : Calming) (g : GroupWorld V) : Type 0 where
   pub inv : Inv z.world z.taken
   pub group : GroupWorld V
   pub calmed : IsCalmed s d z.world group
-  pub settles : (v : V) (rest : List V) → 6 ≤ k → IsFit (group_of s.lane d) g → (g.at (position d.members (s.lane.leader d))).pending ≡ v ∷ rest → Settles (group_of s.lane d) v group
-  pub idles : ((n : Node) → has_node d.members n ≡ true → (g.at (position d.members n)).pending ≡ []) → (g.at (position d.members (s.lane.leader d))).opened ≡ None → (group.at (position d.members (s.lane.leader d))).history ≡ (g.at (position d.members (s.lane.leader d))).history
+  pub settles : (v : V) (rest : List V) → 6 ≤ k → IsFit (group_of s.groups d) g → (g.at (position d.members (s.groups.leader d))).pending ≡ v ∷ rest → Settles (group_of s.groups d) v group
+  pub idles : ((n : NodeId) → has_node d.members n ≡ true → (g.at (position d.members n)).pending ≡ []) → (g.at (position d.members (s.groups.leader d))).opened ≡ None → (group.at (position d.members (s.groups.leader d))).history ≡ (g.at (position d.members (s.groups.leader d))).history
 
-pub calm-group : {V : Type 0} (s : Shape V) (IsOn : Definition → Cell → Type 0) (d : Definition) (Inv : World → (Node → Node → ℕ) → Type 0) → IsCarried s IsOn d Inv → (c : Node) (k : ℕ) (w : World) (g : GroupWorld V) → Inv w (all_taken w) → IsCalmed s d w g → IsCalm s d Inv k (calm c w k) g
+pub calm-group : {V : Type 0} (s : Shape V) (IsOn : Definition → Cell → Type 0) (d : Definition) (Inv : World → (NodeId → NodeId → ℕ) → Type 0) → IsCarried s IsOn d Inv → (c : CircuitId) (k : ℕ) (w : World) (g : GroupWorld V) → Inv w (all_taken w) → IsCalmed s d w g → IsCalm s d Inv k (calm c w k) g
 calm-group {V} s IsOn d Inv run c k w g inv q = go (sim-passes s IsOn d Inv run c (sorted w.nodes) k (calming w) (begins g) (λ n h. has-sorted w.nodes n (q.registered n h)) (sim-start s d Inv w g inv q))
   where
     go : AllPassed s d Inv k (calm c w k) (begins g) → IsCalm s d Inv k (calm c w k) g
     go p = record {
       inv = p.sim.inv;
-      group = (passes (group_of s.lane d) p.orders (begins g)).world;
+      group = (passes (group_of s.groups d) p.orders (begins g)).world;
       calmed = record { registered = p.sim.registered; up = p.sim.up; same = p.sim.same };
-      settles = λ v rest six fit first. orders-settle (group_of s.lane d) g v rest p.orders p.full (let z : length p.orders ≡ k = p.many in omega (arith, z, six)) fit first;
-      idles = λ empty shut. idle-calm (group_of s.lane d) p.orders g p.full (λ i l. subst (λ (j : ℕ). (g.at j).pending ≡ []) (position-at d [] i run.ruled l) (empty (node_or d.members [] i) (or-member d.members [] i l))) shut;
+      settles = λ v rest six fit first. orders-settle (group_of s.groups d) g v rest p.orders p.full (let z : length p.orders ≡ k = p.many in omega (arith, z, six)) fit first;
+      idles = λ empty shut. idle-calm (group_of s.groups d) p.orders g p.full (λ i l. subst (λ (j : ℕ). (g.at j).pending ≡ []) (position-at d [] i run.ruled l) (empty (node_or d.members [] i) (or-member d.members [] i l))) shut;
     }

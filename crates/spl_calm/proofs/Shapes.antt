@@ -1,11 +1,12 @@
 -- One of the two groups of a definition, as it shows in cells and messages, and what an event at a cell gives it.
+use Rattle.spl_model.specs.Worlds.{site_at}
 use Rattle.std.proofs.Common.{◌≡◌, ◌≢◌, ℕ, ◌⊎◌, true, false, List, [], ◌∷◌, ◌++◌, refl, ap}
 use Rattle.std.specs.Prelude.{Option, Some, None}
 use Rattle.spl_agree.specs.declared.message.CommitMsg.{CommitMsg}
 use Rattle.spl_agree.specs.declared.event.GroupEvent.TheVariants as group
 use Rattle.spl_agree.specs.Member.{Member}
 use Rattle.spl_circuit.specs.declared.definition.Definition.{Definition}
-use Rattle.spl_circuit.specs.Nodes.{Node, has_node, position}
+use Rattle.spl_circuit.specs.Nodes.{NodeId, CircuitId, has_node, position}
 use Rattle.spl_wire.specs.declared.message.Message.{Message}
 use Rattle.spl_wire.specs.declared.plan.Plan.{Plan}
 use Rattle.spl_wire.specs.declared.event.Event.TheVariants as event
@@ -13,14 +14,14 @@ use Rattle.spl_rules.specs.Cells.{Cell, is_open_cell}
 use Rattle.spl_rules.specs.Changes.{after_plan}
 use Rattle.spl_rules.specs.Plans.{plan_of}
 use Rattle.spl_settle.specs.Calm.{mail}
-use Rattle.spl_agreement.proofs.GroupOfDefinition.{Lane, Presence, There, after_row, plan_row}
+use Rattle.spl_agreement.proofs.GroupOfDefinition.{Groups, Presence, There, after_row, plan_row}
 use Rattle.spl_calm.proofs.Pairs.{to_node}
 
--- its lane, what it sees of a cell, and what a message from a node to another is to the group of a definition
+-- its group, what it sees of a cell, and what a message from a node to another is to the group of a definition
 pub record Shape (V : Type 0) : Type 0 where
-  pub lane : Lane V
+  pub groups : Groups V
   pub stand : Cell → Presence V
-  pub own : Definition → Node → Node → Message → Option (CommitMsg V)
+  pub own : Definition → NodeId → NodeId → Message → Option (CommitMsg V)
 
 abbrev pub owned : {V : Type 0} → Option (CommitMsg V) → List (CommitMsg V) → List (CommitMsg V)
 owned None ms = ms
@@ -40,12 +41,12 @@ owns-append {V} own (x ∷ xs) ys = go (own x) (owns-append own xs ys)
     go (Some m) hyp = ap (λ z. m ∷ z) hyp
 
 -- behind a plan the cell has this member of the group, and these messages of the group go to the other members
-pub record Gives {V : Type 0} (s : Shape V) (d : Definition) (n : Node) (k : Cell) (p : Plan) (m : Member V) (ss : List (ℕ × CommitMsg V)) : Type 0 where
+pub record Gives {V : Type 0} (s : Shape V) (d : Definition) (n : NodeId) (k : Cell) (p : Plan) (m : Member V) (ss : List (ℕ × CommitMsg V)) : Type 0 where
   pub stands : s.stand (after_plan n k p) ≡ There d m
-  pub sends : (y : Node) → has_node d.members y ≡ true → y ≢ n → owns (s.own d n y) (to_node y p.sends) ≡ mail (position d.members y) ss
+  pub sends : (y : NodeId) → has_node d.members y ≡ true → y ≢ n → owns (s.own d n y) (to_node y p.sends) ≡ mail (position d.members y) ss
 
 -- a member's cell in which the group takes part
-pub record IsMet {V : Type 0} (s : Shape V) (IsOn : Definition → Cell → Type 0) (d : Definition) (n : Node) (k : Cell) (m : Member V) : Type 0 where
+pub record IsMet {V : Type 0} (s : Shape V) (IsOn : Definition → Cell → Type 0) (d : Definition) (n : NodeId) (k : Cell) (m : Member V) : Type 0 where
   pub member : has_node d.members n ≡ true
   pub on : IsOn d k
   pub stands : s.stand k ≡ There d m
@@ -54,7 +55,7 @@ pub record IsMet {V : Type 0} (s : Shape V) (IsOn : Definition → Cell → Type
 -- any other message, or one from a node that is no member, leaves the group as it is
 pub record IsShaped {V : Type 0} (s : Shape V) (IsOn : Definition → Cell → Type 0) (d : Definition) : Type 0 where
   pub opens : (k : Cell) → IsOn d k → is_open_cell k ≡ true
-  pub ticks : (c n : Node) (k : Cell) (m : Member V) → IsMet s IsOn d n k m → Gives s d n k (plan_of n c k event.Tick) (after_row s.lane d n m group.Tick) (plan_row s.lane d n m group.Tick).sends
-  pub hears : (c n from : Node) (k : Cell) (m : Member V) (x : Message) (y : CommitMsg V) → from ≢ n → has_node d.members from ≡ true → s.own d from n x ≡ Some y → IsMet s IsOn d n k m
-      → Gives s d n k (plan_of n c k (event.Deliver from x)) (after_row s.lane d n m (group.From (position d.members from) y)) (plan_row s.lane d n m (group.From (position d.members from) y)).sends
-  pub passes : (c n from : Node) (k : Cell) (m : Member V) (x : Message) → from ≢ n → (s.own d from n x ≡ None) ⊎ (has_node d.members from ≡ false) → IsMet s IsOn d n k m → Gives s d n k (plan_of n c k (event.Deliver from x)) m []
+  pub ticks : (c : CircuitId) (n : NodeId) (k : Cell) (m : Member V) → IsMet s IsOn d n k m → Gives s d n k (plan_of (site_at n c) k event.Tick) (after_row s.groups d n m group.Tick) (plan_row s.groups d n m group.Tick).sends
+  pub hears : (c : CircuitId) (n from : NodeId) (k : Cell) (m : Member V) (x : Message) (y : CommitMsg V) → from ≢ n → has_node d.members from ≡ true → s.own d from n x ≡ Some y → IsMet s IsOn d n k m
+      → Gives s d n k (plan_of (site_at n c) k (event.Deliver from x)) (after_row s.groups d n m (group.From (position d.members from) y)) (plan_row s.groups d n m (group.From (position d.members from) y)).sends
+  pub passes : (c : CircuitId) (n from : NodeId) (k : Cell) (m : Member V) (x : Message) → from ≢ n → (s.own d from n x ≡ None) ⊎ (has_node d.members from ≡ false) → IsMet s IsOn d n k m → Gives s d n k (plan_of (site_at n c) k (event.Deliver from x)) m []

@@ -11,7 +11,7 @@ use Rattle.spl_agree.specs.Member.{Rules, Member, new_member, restarted, values,
 use Rattle.spl_agree.proofs.Tests.{and_left, and_right, eqb_is, eqb_same}
 use Rattle.spl_circuit.specs.declared.definition.Definition.{Definition}
 use Rattle.spl_circuit.specs.declared.act.Act.{Act}
-use Rattle.spl_circuit.specs.Nodes.{Node, position}
+use Rattle.spl_circuit.specs.Nodes.{NodeId, position}
 use Rattle.spl_circuit.specs.Rules.{broken}
 use Rattle.spl_circuit.specs.Acts.{act_rules}
 use Rattle.spl_circuit.specs.Equality.{same_act_key}
@@ -23,7 +23,7 @@ use Rattle.spl_settle.proofs.Steady.{IsSteady, IsFair, Asks, steady-new, steady-
 use Rattle.spl_model.proofs.Nodes.{node_is, node_same}
 use Rattle.spl_agreement.proofs.Positions.{position-apart}
 use Rattle.spl_agreement.proofs.Same.{act_same}
-use Rattle.spl_agreement.proofs.GroupOfDefinition.{Lane, GroupMessage, IsPlaced, MayHear, after_row, group_of}
+use Rattle.spl_agreement.proofs.GroupOfDefinition.{Groups, GroupMessage, IsPlaced, MayHear, after_row, group_of}
 use Rattle.spl_agreement.proofs.CoupledSteps.{IsNew}
 
 -- ---- keys
@@ -43,7 +43,7 @@ keyed-acts d = record {
     turn u v h = eqb_is u.turn v.turn (and_right (bytes_eq u.node v.node) (eqb u.turn v.turn) h)
 
     both : (u v : Act) → u.node ≡ v.node → u.turn ≡ v.turn → same_act_key u v ≡ true
-    both u v n t = let a : bytes_eq u.node v.node ≡ true = subst (λ (z : Node). bytes_eq u.node z ≡ true) n (node_same u.node) in let b : eqb u.turn v.turn ≡ true = subst (λ (z : ℕ). eqb u.turn z ≡ true) t (eqb_same u.turn) in rw (a, b)
+    both u v n t = let a : bytes_eq u.node v.node ≡ true = subst (λ (z : NodeId). bytes_eq u.node z ≡ true) n (node_same u.node) in let b : eqb u.turn v.turn ≡ true = subst (λ (z : ℕ). eqb u.turn z ≡ true) t (eqb_same u.turn) in rw (a, b)
 
 pub keyed-batches : IsKeyed batch_rules
 keyed-batches = record {
@@ -56,29 +56,29 @@ keyed-batches = record {
 -- ---- a member
 
 -- the coordinator has sent a request for this round
-abbrev pub WasAsked : {V : Type 0} → Lane V → Definition → (GroupMessage V → Type 0) → ℕ → Type 0
-WasAsked {V} lane d said r = (l : GroupMessage V) × said l × (l.from ≡ lane.leader d) × (place : ℕ) × (v : V) × (l.body ≡ msg.VoteRequest d.generation r place v)
+abbrev pub WasAsked : {V : Type 0} → Groups V → Definition → (GroupMessage V → Type 0) → ℕ → Type 0
+WasAsked {V} groups d said r = (l : GroupMessage V) × said l × (l.from ≡ groups.leader d) × (place : ℕ) × (v : V) × (l.body ≡ msg.VoteRequest d.generation r place v)
 
-pub record IsTame {V : Type 0} (lane : Lane V) (d : Definition) (n : Node) (said : GroupMessage V → Type 0) (count : ℕ) (m : Member V) : Type 0 where
-  pub steady : IsSteady (group_of lane d) count m
-  pub heard : n ≢ lane.leader d → (m.seen ≡ 0) ⊎ WasAsked lane d said m.seen
+pub record IsTame {V : Type 0} (groups : Groups V) (d : Definition) (n : NodeId) (said : GroupMessage V → Type 0) (count : ℕ) (m : Member V) : Type 0 where
+  pub steady : IsSteady (group_of groups d) count m
+  pub heard : n ≢ groups.leader d → (m.seen ≡ 0) ⊎ WasAsked groups d said m.seen
 
-pub tame-new : {V : Type 0} (lane : Lane V) (d : Definition) (n : Node) (said : GroupMessage V → Type 0) (count : ℕ) → IsTame lane d n said count new_member
-tame-new lane d n said count = record { steady = steady-new (group_of lane d) count; heard = λ q. inl refl }
+pub tame-new : {V : Type 0} (groups : Groups V) (d : Definition) (n : NodeId) (said : GroupMessage V → Type 0) (count : ℕ) → IsTame groups d n said count new_member
+tame-new groups d n said count = record { steady = steady-new (group_of groups d) count; heard = λ q. inl refl }
 
 -- what is said stays said
-pub tame-said : {V : Type 0} (lane : Lane V) (d : Definition) (n : Node) (said said2 : GroupMessage V → Type 0) (count : ℕ) (m : Member V) → ((l : GroupMessage V) → said l → said2 l) → IsTame lane d n said count m → IsTame lane d n said2 count m
-tame-said {V} lane d n said said2 count m more t = record { steady = t.steady; heard = λ q. go (t.heard q) }
+pub tame-said : {V : Type 0} (groups : Groups V) (d : Definition) (n : NodeId) (said said2 : GroupMessage V → Type 0) (count : ℕ) (m : Member V) → ((l : GroupMessage V) → said l → said2 l) → IsTame groups d n said count m → IsTame groups d n said2 count m
+tame-said {V} groups d n said said2 count m more t = record { steady = t.steady; heard = λ q. go (t.heard q) }
   where
-    go : (m.seen ≡ 0) ⊎ WasAsked lane d said m.seen → (m.seen ≡ 0) ⊎ WasAsked lane d said2 m.seen
+    go : (m.seen ≡ 0) ⊎ WasAsked groups d said m.seen → (m.seen ≡ 0) ⊎ WasAsked groups d said2 m.seen
     go (inl e) = inl e
     go (inr a) = inr (a.0, more a.0 a.1, a.2, a.3, a.4, a.5)
 
-pub tame-more : {V : Type 0} (lane : Lane V) (d : Definition) (n : Node) (said : GroupMessage V → Type 0) (count : ℕ) (m : Member V) → IsTame lane d n said count m → IsTame lane d n said (count + 1) m
-tame-more lane d n said count m t = record { steady = steady-more (group_of lane d) count m t.steady; heard = t.heard }
+pub tame-more : {V : Type 0} (groups : Groups V) (d : Definition) (n : NodeId) (said : GroupMessage V → Type 0) (count : ℕ) (m : Member V) → IsTame groups d n said count m → IsTame groups d n said (count + 1) m
+tame-more groups d n said count m t = record { steady = steady-more (group_of groups d) count m t.steady; heard = t.heard }
 
-pub tame-restarted : {V : Type 0} (lane : Lane V) (d : Definition) (n : Node) (said : GroupMessage V → Type 0) (count : ℕ) (m : Member V) → IsTame lane d n said count m → IsTame lane d n said count (restarted m)
-tame-restarted lane d n said count m t = record { steady = steady-restarted (group_of lane d) count m t.steady; heard = t.heard }
+pub tame-restarted : {V : Type 0} (groups : Groups V) (d : Definition) (n : NodeId) (said : GroupMessage V → Type 0) (count : ℕ) (m : Member V) → IsTame groups d n said count m → IsTame groups d n said count (restarted m)
+tame-restarted groups d n said count m t = record { steady = steady-restarted (group_of groups d) count m t.steady; heard = t.heard }
 
 -- what is not known is not pending
 pub not-pending : {V : Type 0} (rules : Rules V) (m : Member V) (v : V) → known rules m v ≡ None → found (rules.same_key v) m.pending ≡ None
@@ -89,31 +89,31 @@ not-pending {V} rules m v h = go (found (rules.same_key v) (values m.history)) (
     go _ _ z k = cc
 
 -- what may be heard at a cell is fair
-pub fair-hear : {V : Type 0} (lane : Lane V) (d : Definition) (n back : Node) (said : GroupMessage V → Type 0) (m : Member V) (e : GroupEvent V) → IsPlaced lane d n → MayHear d said n back e → IsNew (lane.rules d) m e → IsFair (group_of lane d) (position d.members n) m e
-fair-hear lane d n back said m (event.Submit v) p h new = not-pending (lane.rules d) m v new.0
-fair-hear lane d n back said m (event.From s x) p h new = λ q. h.3 (sym (position-apart d.members n back p.few p.here (sym q ∙ h.0)))
-fair-hear lane d n back said m _ p h new = tt
+pub fair-hear : {V : Type 0} (groups : Groups V) (d : Definition) (n back : NodeId) (said : GroupMessage V → Type 0) (m : Member V) (e : GroupEvent V) → IsPlaced groups d n → MayHear d said n back e → IsNew (groups.rules d) m e → IsFair (group_of groups d) (position d.members n) m e
+fair-hear groups d n back said m (event.Submit v) p h new = not-pending (groups.rules d) m v new.0
+fair-hear groups d n back said m (event.From s x) p h new = λ q. h.3 (sym (position-apart d.members n back p.few p.here (sym q ∙ h.0)))
+fair-hear groups d n back said m _ p h new = tt
 
 -- a request that is heard was sent by the coordinator
-pub asked-hear : {V : Type 0} (lane : Lane V) (d : Definition) (n back : Node) (said : GroupMessage V → Type 0) (e : GroupEvent V) (r : ℕ) → IsPlaced lane d n → MayHear d said n back e → Asks (group_of lane d) r e → WasAsked lane d said r
-asked-hear {V} lane d n back said e r p h a = go (subst (λ (z : GroupEvent V). MayHear d said n back z) a.3 h)
+pub asked-hear : {V : Type 0} (groups : Groups V) (d : Definition) (n back : NodeId) (said : GroupMessage V → Type 0) (e : GroupEvent V) (r : ℕ) → IsPlaced groups d n → MayHear d said n back e → Asks (group_of groups d) r e → WasAsked groups d said r
+asked-hear {V} groups d n back said e r p h a = go (subst (λ (z : GroupEvent V). MayHear d said n back z) a.3 h)
   where
     named : (gen : ℕ) → gen ≡ d.generation → msg.VoteRequest gen r a.1 a.2 ≡ msg.VoteRequest d.generation r a.1 a.2
     named gen q = ap (λ (z : ℕ). msg.VoteRequest z r a.1 a.2) q
 
-    go : MayHear d said n back (event.From (position d.members (lane.leader d)) (msg.VoteRequest a.0 r a.1 a.2)) → WasAsked lane d said r
-    go k = (record { from = back; to = n; body = msg.VoteRequest a.0 r a.1 a.2 }, k.1, sym (position-apart d.members (lane.leader d) back p.few p.leads k.0), a.1, a.2, named a.0 k.2)
+    go : MayHear d said n back (event.From (position d.members (groups.leader d)) (msg.VoteRequest a.0 r a.1 a.2)) → WasAsked groups d said r
+    go k = (record { from = back; to = n; body = msg.VoteRequest a.0 r a.1 a.2 }, k.1, sym (position-apart d.members (groups.leader d) back p.few p.leads k.0), a.1, a.2, named a.0 k.2)
 
 -- a row keeps a member tame
-pub tame-row : {V : Type 0} (lane : Lane V) (d : Definition) (n back : Node) (said : GroupMessage V → Type 0) (count : ℕ) (m : Member V) (e : GroupEvent V) → IsKeyed (lane.rules d) → broken d ≡ None → IsPlaced lane d n → MayHear d said n back e → IsNew (lane.rules d) m e → IsTame lane d n said count m → IsTame lane d n said (count + 1) (after_row lane d n m e)
-tame-row {V} lane d n back said count m e keyed ruled p h new t = record {
-  steady = steady-row (group_of lane d) keyed (few_members d ruled).0 count (position d.members n) m e fair t.steady;
-  heard = λ off. go off (seen-row (group_of lane d) (position d.members n) m e (λ q. off (position-apart d.members n (lane.leader d) p.few p.here q)) fair);
+pub tame-row : {V : Type 0} (groups : Groups V) (d : Definition) (n back : NodeId) (said : GroupMessage V → Type 0) (count : ℕ) (m : Member V) (e : GroupEvent V) → IsKeyed (groups.rules d) → broken d ≡ None → IsPlaced groups d n → MayHear d said n back e → IsNew (groups.rules d) m e → IsTame groups d n said count m → IsTame groups d n said (count + 1) (after_row groups d n m e)
+tame-row {V} groups d n back said count m e keyed ruled p h new t = record {
+  steady = steady-row (group_of groups d) keyed (few_members d ruled).0 count (position d.members n) m e fair t.steady;
+  heard = λ off. go off (seen-row (group_of groups d) (position d.members n) m e (λ q. off (position-apart d.members n (groups.leader d) p.few p.here q)) fair);
 }
   where
-    fair : IsFair (group_of lane d) (position d.members n) m e
-    fair = fair-hear lane d n back said m e p h new
+    fair : IsFair (group_of groups d) (position d.members n) m e
+    fair = fair-hear groups d n back said m e p h new
 
-    go : n ≢ lane.leader d → ((after_row lane d n m e).seen ≡ m.seen) ⊎ Asks (group_of lane d) (after_row lane d n m e).seen e → ((after_row lane d n m e).seen ≡ 0) ⊎ WasAsked lane d said (after_row lane d n m e).seen
-    go off (inl q) = subst (λ (r : ℕ). (r ≡ 0) ⊎ WasAsked lane d said r) (sym q) (t.heard off)
-    go off (inr a) = inr (asked-hear lane d n back said e (after_row lane d n m e).seen p h a)
+    go : n ≢ groups.leader d → ((after_row groups d n m e).seen ≡ m.seen) ⊎ Asks (group_of groups d) (after_row groups d n m e).seen e → ((after_row groups d n m e).seen ≡ 0) ⊎ WasAsked groups d said (after_row groups d n m e).seen
+    go off (inl q) = subst (λ (r : ℕ). (r ≡ 0) ⊎ WasAsked groups d said r) (sym q) (t.heard off)
+    go off (inr a) = inr (asked-hear groups d n back said e (after_row groups d n m e).seen p h a)

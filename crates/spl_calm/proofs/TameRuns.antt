@@ -1,20 +1,23 @@
 -- Each cell is tame behind anything that happened.
 use Rattle.std.proofs.Common.{◌≡◌, ◌≢◌, ℕ, suc, ◌+◌, ◌⊎◌, Bool, true, false, List, [], ◌∷◌, ◌++◌, length, sym, ap, subst, ◌∙◌, inl, inr, arith}
-use Rattle.std.specs.Prelude.{if◌then◌else◌}
+use Rattle.std.specs.Prelude.{if◌then◌else◌, map}
 use Rattle.spl_agree.specs.declared.event.OpenMove.TheVariants as move
-use Rattle.spl_agree.specs.Member.{new_member, restarted}
-use Rattle.spl_circuit.specs.declared.lifecycle.Mark.TheVariants as mark
-use Rattle.spl_circuit.specs.Nodes.{Node}
+use Rattle.spl_agree.specs.Member.{Member, new_member, restarted}
+use Rattle.spl_command.specs.declared.batch.Batch.{Batch}
+use Rattle.spl_circuit.specs.declared.act.Act.{Act}
+use Rattle.spl_circuit.specs.declared.definition.Definition.{Definition}
+use Rattle.spl_circuit.specs.Nodes.{NodeId, CircuitId}
+use Rattle.spl_wire.specs.declared.change.Change.TheVariants as durable
 use Rattle.spl_wire.specs.declared.plan.Plan.{Plan}
 use Rattle.spl_sched.specs.Grammar.{step_node}
-use Rattle.spl_rules.specs.Cells.{Cell, Held, Deed, Binds, Acts, Serves, Turns, Abandons, Purges}
+use Rattle.spl_rules.specs.Cells.{Cell, Held, Deed, Binds, Acts, Serves, Turns, Abandons, Purges, fresh}
 use Rattle.spl_rules.specs.Changes.{made, moved_cell, stopped_cell, after_plan}
-use Rattle.spl_rules.specs.Plans.{planned, admin_changes}
-use Rattle.spl_model.specs.Worlds.{Sent, World, put_at, posted, step_plan, stopped, started, halted, Occurrence, Steps, Stops, Starts, Halts, happens, occur}
+use Rattle.spl_rules.specs.Plans.{planned}
+use Rattle.spl_model.specs.Worlds.{Sent, World, put_at, posted, step_plan, stopped, started, halted, Occurrence, Steps, Stops, Starts, Halts, happens, occur, site_at}
 use Rattle.spl_model.specs.Plain.{IsPlain, AllPlain}
 use Rattle.spl_model.proofs.Nodes.{node_cases}
 use Rattle.spl_agreement.proofs.GroupOfDefinition.{after_row, plan_row}
-use Rattle.spl_agreement.proofs.GroupWorlds.{admin_lane, service_lane, admin_said, service_said, WasSent, IsValid, IsValidCell, placed-admin, placed-service, was-left}
+use Rattle.spl_agreement.proofs.GroupWorlds.{admin_groups, service_groups, admin_said, service_said, WasSent, IsValid, IsValidCell, placed-admin, placed-service, was-left}
 use Rattle.spl_agreement.proofs.DeedsAreSteps.{IsStepOf}
 use Rattle.spl_model.proofs.Puts.{put_at-same, put_at-other}
 use Rattle.spl_agreement.proofs.CoupledDeeds.{made-bind, stopped-moved}
@@ -25,87 +28,93 @@ use Rattle.spl_calm.proofs.Coupled.{IsCoupled, coupled-happens}
 use Rattle.spl_calm.proofs.Tame.{IsTame, tame-new, tame-said, tame-more, tame-restarted, tame-row, keyed-acts, keyed-batches}
 
 -- what a cell keeps of both groups
-abbrev pub IsTameCell : Node → List Sent → ℕ → Cell → Type 0
-IsTameCell n sent count (Held d m t a b) = IsTame admin_lane d n (admin_said sent) count a × IsTame service_lane d n (service_said sent) count b
+abbrev pub IsTameCell : NodeId → List Sent → ℕ → Cell → Type 0
+IsTameCell n sent count (Held h) = IsTame admin_groups h.definition n (admin_said sent) count h.acts × IsTame service_groups h.definition n (service_said sent) count h.batches
 IsTameCell n sent count _ = Unit {0}
 
-pub tame-cell-more : (n : Node) (sent : List Sent) (count : ℕ) (k : Cell) → IsTameCell n sent count k → IsTameCell n sent (count + 1) k
-tame-cell-more n sent count (Held d m u a b) t = (tame-more admin_lane d n (admin_said sent) count a t.0, tame-more service_lane d n (service_said sent) count b t.1)
+pub tame-cell-more : (n : NodeId) (sent : List Sent) (count : ℕ) (k : Cell) → IsTameCell n sent count k → IsTameCell n sent (count + 1) k
+tame-cell-more n sent count (Held h) t = (tame-more admin_groups h.definition n (admin_said sent) count h.acts t.0, tame-more service_groups h.definition n (service_said sent) count h.batches t.1)
 tame-cell-more n sent count _ t = tt
 
-pub tame-cell-sent : (n : Node) (sent sent2 : List Sent) (count : ℕ) (k : Cell) → ((x : Sent) → WasSent x sent → WasSent x sent2) → IsTameCell n sent count k → IsTameCell n sent2 count k
-tame-cell-sent n sent sent2 count (Held d m u a b) more t = (
-  tame-said admin_lane d n (admin_said sent) (admin_said sent2) count a (λ l s. (s.0, more _ s.1)) t.0,
-  tame-said service_lane d n (service_said sent) (service_said sent2) count b (λ l s. (s.0, s.1, s.2, more _ s.3)) t.1,
+pub tame-cell-sent : (n : NodeId) (sent sent2 : List Sent) (count : ℕ) (k : Cell) → ((x : Sent) → WasSent x sent → WasSent x sent2) → IsTameCell n sent count k → IsTameCell n sent2 count k
+tame-cell-sent n sent sent2 count (Held h) more t = (
+  tame-said admin_groups h.definition n (admin_said sent) (admin_said sent2) count h.acts (λ l s. (s.0, more _ s.1)) t.0,
+  tame-said service_groups h.definition n (service_said sent) (service_said sent2) count h.batches (λ l s. (s.0, s.1, s.2, more _ s.3)) t.1,
 )
 tame-cell-sent n sent sent2 count _ more t = tt
 
-pub tame-cell-stopped : (n : Node) (sent : List Sent) (count : ℕ) (k : Cell) → IsTameCell n sent count k → IsTameCell n sent count (stopped_cell k)
-tame-cell-stopped n sent count (Held d m u a b) t = (tame-restarted admin_lane d n (admin_said sent) count a t.0, tame-restarted service_lane d n (service_said sent) count b t.1)
+pub tame-cell-stopped : (n : NodeId) (sent : List Sent) (count : ℕ) (k : Cell) → IsTameCell n sent count k → IsTameCell n sent count (stopped_cell k)
+tame-cell-stopped n sent count (Held h) t = (tame-restarted admin_groups h.definition n (admin_said sent) count h.acts t.0, tame-restarted service_groups h.definition n (service_said sent) count h.batches t.1)
 tame-cell-stopped n sent count _ t = tt
 
 -- a fair deed keeps a valid cell tame
-pub tame-deed : (c n : Node) (sent : List Sent) (count : ℕ) (k : Cell) (deed : Deed) → IsStepOf n sent k deed → IsValidCell n k → IsTameCell n sent count k → IsTameCell n sent (count + 1) (after_plan n k (planned n c deed))
+pub tame-deed : (c : CircuitId) (n : NodeId) (sent : List Sent) (count : ℕ) (k : Cell) (deed : Deed) → IsStepOf n sent k deed → IsValidCell n k → IsTameCell n sent count k → IsTameCell n sent (count + 1) (after_plan n k (planned (site_at n c) deed))
 tame-deed c n sent count k (Binds say d back e) fair v t =
-    let x : (u : ℕ) × (_ ≡ Held d mark.Open u (after_row admin_lane d n new_member e) new_member) = after-acts n d mark.Open 0 new_member new_member (plan_row admin_lane d n new_member e) in
-    subst (IsTameCell n sent (count + 1)) (sym (ap (λ (z : Cell). moved_cell n (made n z (admin_changes (plan_row admin_lane d n new_member e).changes)) (plan_row admin_lane d n new_member e).opening move.Keep) (made-bind n k d) ∙ x.1))
-    (tame-row admin_lane d n back (admin_said sent) count new_member e (keyed-acts d) fair.0 (placed-admin d n fair.0 fair.1) fair.3 fair.4 (tame-new admin_lane d n (admin_said sent) count), tame-new service_lane d n (service_said sent) (count + 1))
-tame-deed c n sent count k (Acts say d a back e) fair v t =
-    let here : IsValid d n a fair.2 = subst (λ (z : Cell). IsValidCell n z) fair.3 v in
-    let both : IsTame admin_lane d n (admin_said sent) count a × IsTame service_lane d n (service_said sent) count fair.2 = subst (IsTameCell n sent count) fair.3 t in
-    let x : (u : ℕ) × (_ ≡ Held d fair.0 u (after_row admin_lane d n a e) fair.2) = after-acts n d fair.0 fair.1 a fair.2 (plan_row admin_lane d n a e) in
-    subst (IsTameCell n sent (count + 1)) (sym (ap (λ (z : Cell). after_plan n z (planned n c (Acts say d a back e))) fair.3 ∙ x.1))
-    (tame-row admin_lane d n back (admin_said sent) count a e (keyed-acts d) here.whole (placed-admin d n here.whole here.member) fair.4 fair.5 both.0, tame-more service_lane d n (service_said sent) count fair.2 both.1)
-tame-deed c n sent count k (Serves say d b back e) fair v t =
-    let here : IsValid d n fair.2 b = subst (λ (z : Cell). IsValidCell n z) fair.3 v in
-    let both : IsTame admin_lane d n (admin_said sent) count fair.2 × IsTame service_lane d n (service_said sent) count b = subst (IsTameCell n sent count) fair.3 t in
-    subst (IsTameCell n sent (count + 1)) (sym (ap (λ (z : Cell). after_plan n z (planned n c (Serves say d b back e))) fair.3 ∙ after-serves n d fair.0 fair.1 fair.2 b (plan_row service_lane d n b e)))
-    (tame-more admin_lane d n (admin_said sent) count fair.2 both.0, tame-row service_lane d n back (service_said sent) count b e keyed-batches here.whole (placed-service d n here.whole here.member) fair.5 fair.6 both.1)
-tame-deed c n sent count k (Turns d a b x y) fair v t =
-    let here : IsValid d n a b = subst (λ (z : Cell). IsValidCell n z) fair.2 v in
-    let both : IsTame admin_lane d n (admin_said sent) count a × IsTame service_lane d n (service_said sent) count b = subst (IsTameCell n sent count) fair.2 t in
-    let z : (u : ℕ) × (_ ≡ Held d fair.0 u (after_row admin_lane d n a x) (after_row service_lane d n b y)) = after-both n d fair.0 fair.1 a b (plan_row admin_lane d n a x) (plan_row service_lane d n b y) in
-    subst (IsTameCell n sent (count + 1)) (sym (ap (λ (z : Cell). after_plan n z (planned n c (Turns d a b x y))) fair.2 ∙ z.1)) (
-      tame-row admin_lane d n n (admin_said sent) count a x (keyed-acts d) here.whole (placed-admin d n here.whole here.member) fair.4 fair.6 both.0,
-      tame-row service_lane d n n (service_said sent) count b y keyed-batches here.whole (placed-service d n here.whole here.member) fair.5 fair.7 both.1,
+    let x : (u : ℕ) × (_ ≡ Held (record (fresh d) { turn = u; acts = after_row admin_groups d n new_member e })) = after-acts n (fresh d) (plan_row admin_groups d n new_member e) in
+    subst (IsTameCell n sent (count + 1)) (sym (ap (λ (z : Cell). moved_cell n (made n z (map durable.Admin (plan_row admin_groups d n new_member e).changes)) (plan_row admin_groups d n new_member e).opening move.Keep) (made-bind n k d) ∙ x.1))
+    (tame-row admin_groups d n back (admin_said sent) count new_member e (keyed-acts d) fair.0 (placed-admin d n fair.0 fair.1) fair.3 fair.4 (tame-new admin_groups d n (admin_said sent) count), tame-new service_groups d n (service_said sent) (count + 1))
+tame-deed c n sent count k (Acts say b back e) fair v t =
+    let d : Definition = b.definition in
+    let here : IsValid d n b.acts b.batches = subst (λ (z : Cell). IsValidCell n z) fair.0 v in
+    let both : IsTame admin_groups d n (admin_said sent) count b.acts × IsTame service_groups d n (service_said sent) count b.batches = subst (IsTameCell n sent count) fair.0 t in
+    let x : (u : ℕ) × (_ ≡ Held (record b { turn = u; acts = after_row admin_groups d n b.acts e })) = after-acts n b (plan_row admin_groups d n b.acts e) in
+    subst (IsTameCell n sent (count + 1)) (sym (ap (λ (z : Cell). after_plan n z (planned (site_at n c) (Acts say b back e))) fair.0 ∙ x.1))
+    (tame-row admin_groups d n back (admin_said sent) count b.acts e (keyed-acts d) here.whole (placed-admin d n here.whole here.member) fair.1 fair.2 both.0, tame-more service_groups d n (service_said sent) count b.batches both.1)
+tame-deed c n sent count k (Serves say b back e) fair v t =
+    let d : Definition = b.definition in
+    let here : IsValid d n b.acts b.batches = subst (λ (z : Cell). IsValidCell n z) fair.0 v in
+    let both : IsTame admin_groups d n (admin_said sent) count b.acts × IsTame service_groups d n (service_said sent) count b.batches = subst (IsTameCell n sent count) fair.0 t in
+    subst (IsTameCell n sent (count + 1)) (sym (ap (λ (z : Cell). after_plan n z (planned (site_at n c) (Serves say b back e))) fair.0 ∙ after-serves n b (plan_row service_groups d n b.batches e)))
+    (tame-more admin_groups d n (admin_said sent) count b.acts both.0, tame-row service_groups d n back (service_said sent) count b.batches e keyed-batches here.whole (placed-service d n here.whole here.member) fair.2 fair.3 both.1)
+tame-deed c n sent count k (Turns b x y) fair v t =
+    let d : Definition = b.definition in
+    let here : IsValid d n b.acts b.batches = subst (λ (z : Cell). IsValidCell n z) fair.0 v in
+    let both : IsTame admin_groups d n (admin_said sent) count b.acts × IsTame service_groups d n (service_said sent) count b.batches = subst (IsTameCell n sent count) fair.0 t in
+    let z : (u : ℕ) × (_ ≡ Held (record b { turn = u; acts = after_row admin_groups d n b.acts x; batches = after_row service_groups d n b.batches y })) = after-both n b (plan_row admin_groups d n b.acts x) (plan_row service_groups d n b.batches y) in
+    subst (IsTameCell n sent (count + 1)) (sym (ap (λ (z : Cell). after_plan n z (planned (site_at n c) (Turns b x y))) fair.0 ∙ z.1)) (
+      tame-row admin_groups d n n (admin_said sent) count b.acts x (keyed-acts d) here.whole (placed-admin d n here.whole here.member) fair.2 fair.4 both.0,
+      tame-row service_groups d n n (service_said sent) count b.batches y keyed-batches here.whole (placed-service d n here.whole here.member) fair.3 fair.5 both.1,
     )
 tame-deed c n sent count k Abandons fair v t =
-    let both : IsTame admin_lane fair.0 n (admin_said sent) count fair.3 × IsTame service_lane fair.0 n (service_said sent) count fair.4 = subst (IsTameCell n sent count) fair.5 t in
-    subst (IsTameCell n sent (count + 1)) (sym (ap (λ (z : Cell). after_plan n z (planned n c Abandons)) fair.5))
-    (tame-more admin_lane fair.0 n (admin_said sent) count (restarted fair.3) (tame-restarted admin_lane fair.0 n (admin_said sent) count fair.3 both.0), tame-more service_lane fair.0 n (service_said sent) count (restarted fair.4) (tame-restarted service_lane fair.0 n (service_said sent) count fair.4 both.1))
-tame-deed c n sent count k Purges fair v t = subst (IsTameCell n sent (count + 1)) (sym (ap (λ (z : Cell). after_plan n z (planned n c Purges)) fair.5)) tt
+    let d : Definition = fair.0.definition in
+    let a : Member Act = fair.0.acts in
+    let b : Member Batch = fair.0.batches in
+    let both : IsTame admin_groups d n (admin_said sent) count a × IsTame service_groups d n (service_said sent) count b = subst (IsTameCell n sent count) fair.1 t in
+    subst (IsTameCell n sent (count + 1)) (sym (ap (λ (z : Cell). after_plan n z (planned (site_at n c) Abandons)) fair.1))
+    (tame-more admin_groups d n (admin_said sent) count (restarted a) (tame-restarted admin_groups d n (admin_said sent) count a both.0), tame-more service_groups d n (service_said sent) count (restarted b) (tame-restarted service_groups d n (service_said sent) count b both.1))
+tame-deed c n sent count k Purges fair v t = subst (IsTameCell n sent (count + 1)) (sym (ap (λ (z : Cell). after_plan n z (planned (site_at n c) Purges)) fair.1)) tt
 tame-deed c n sent count k _ fair v t = subst (IsTameCell n sent (count + 1)) (sym (moved-keep n k)) (tame-cell-more n sent count k t)
 
 -- ---- worlds
 
 -- after so many events
 abbrev pub AllTame : ℕ → World → Type 0
-AllTame count w = (n : Node) → IsTameCell n w.sent count (w.at n)
+AllTame count w = (n : NodeId) → IsTameCell n w.sent count (w.at n)
 
 -- one cell becomes another
-pub tame-put : (count : ℕ) (w : World) (n : Node) (k : Cell) (sent2 : List Sent) (up : Node → Bool) → ((x : Sent) → WasSent x w.sent → WasSent x sent2) → IsTameCell n w.sent (count + 1) k → AllTame count w → AllTame (count + 1) (record { nodes = w.nodes; up = up; at = put_at w.at n k; sent = sent2 })
+pub tame-put : (count : ℕ) (w : World) (n : NodeId) (k : Cell) (sent2 : List Sent) (up : NodeId → Bool) → ((x : Sent) → WasSent x w.sent → WasSent x sent2) → IsTameCell n w.sent (count + 1) k → AllTame count w → AllTame (count + 1) (record { nodes = w.nodes; up = up; at = put_at w.at n k; sent = sent2 })
 tame-put count w n k sent2 up more new old j = go (node_cases j n)
   where
     go : (j ≡ n) ⊎ (j ≢ n) → IsTameCell j sent2 (count + 1) (put_at w.at n k j)
-    go (inl q) = subst (λ (z : Node). IsTameCell z sent2 (count + 1) (put_at w.at n k z)) (sym q) (subst (IsTameCell n sent2 (count + 1)) (sym (put_at-same w.at n k)) (tame-cell-sent n w.sent sent2 (count + 1) k more new))
+    go (inl q) = subst (λ (z : NodeId). IsTameCell z sent2 (count + 1) (put_at w.at n k z)) (sym q) (subst (IsTameCell n sent2 (count + 1)) (sym (put_at-same w.at n k)) (tame-cell-sent n w.sent sent2 (count + 1) k more new))
     go (inr q) = subst (IsTameCell j sent2 (count + 1)) (sym (put_at-other w.at n k j q)) (tame-cell-sent j w.sent sent2 (count + 1) (w.at j) more (tame-cell-more j w.sent count (w.at j) (old j)))
 
 pub tame-later : (count : ℕ) (w : World) → AllTame count w → AllTame (count + 1) w
 tame-later count w t n = tame-cell-more n w.sent count (w.at n) (t n)
 
 -- the cell behind a step
-pub tame-step : (count : ℕ) (w : World) (n : Node) (p : Plan) → IsDeed w n p → IsCoupled w → AllTame count w → IsTameCell n w.sent (count + 1) (after_plan n (w.at n) p)
+pub tame-step : (count : ℕ) (w : World) (n : NodeId) (p : Plan) → IsDeed w n p → IsCoupled w → AllTame count w → IsTameCell n w.sent (count + 1) (after_plan n (w.at n) p)
 tame-step count w n p i v t = subst (λ (z : Plan). IsTameCell n w.sent (count + 1) (after_plan n (w.at n) z)) (sym i.3) (tame-deed i.2 n w.sent count (w.at n) i.0 i.1 (v.3.valid n) (t n))
 
-pub tame-stops : (count : ℕ) (w : World) (n : Node) (u : Bool) → AllTame count w → AllTame (count + 1) (if u then stopped w n else w)
+pub tame-stops : (count : ℕ) (w : World) (n : NodeId) (u : Bool) → AllTame count w → AllTame (count + 1) (if u then stopped w n else w)
 tame-stops count w n false t = tame-later count w t
 tame-stops count w n true t = tame-put count w n (stopped_cell (w.at n)) w.sent (put_at w.up n false) (λ x h. h) (tame-cell-more n w.sent count (stopped_cell (w.at n)) (tame-cell-stopped n w.sent count (w.at n) (t n))) t
 
-pub tame-starts : (count : ℕ) (w : World) (n : Node) (u : Bool) → AllTame count w → AllTame (count + 1) (if u then w else started w n)
+pub tame-starts : (count : ℕ) (w : World) (n : NodeId) (u : Bool) → AllTame count w → AllTame (count + 1) (if u then w else started w n)
 tame-starts count w n true t = tame-later count w t
 tame-starts count w n false t = tame-later count w t
 
-pub tame-halts : (count : ℕ) (w : World) (n : Node) (p : Plan) (kept u : Bool) → IsTameCell n w.sent (count + 1) (after_plan n (w.at n) p) → AllTame count w → AllTame (count + 1) (if u then halted w n kept p else w)
+pub tame-halts : (count : ℕ) (w : World) (n : NodeId) (p : Plan) (kept u : Bool) → IsTameCell n w.sent (count + 1) (after_plan n (w.at n) p) → AllTame count w → AllTame (count + 1) (if u then halted w n kept p else w)
 tame-halts count w n p kept false new t = tame-later count w t
 tame-halts count w n p false true new t = tame-put count w n (stopped_cell (w.at n)) w.sent (put_at w.up n false) (λ x h. h) (tame-cell-more n w.sent count (stopped_cell (w.at n)) (tame-cell-stopped n w.sent count (w.at n) (t n))) t
 tame-halts count w n p true true new t = tame-put count w n (stopped_cell (made n (w.at n) p.changes)) w.sent (put_at w.up n false) (λ x h. h)

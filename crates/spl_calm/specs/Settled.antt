@@ -1,40 +1,41 @@
 -- What a calm needs of a circuit, and what it gives (docs/RULES.md, Calm).
-use Rattle.std.specs.Prelude.{◌≡◌, ◌⊎◌, true}
-use Rattle.spl_agree.specs.Member.{Member, new_member}
+use Rattle.std.specs.Prelude.{◌≡◌, ◌⊎◌, Bool, true}
+use Rattle.spl_agree.specs.Member.{Member, new_member, values}
 use Rattle.spl_circuit.specs.declared.definition.Definition.{Definition}
 use Rattle.spl_circuit.specs.declared.act.Act.{Act}
 use Rattle.spl_circuit.specs.declared.lifecycle.Mark.TheVariants as mark
-use Rattle.spl_circuit.specs.Nodes.{Node, has_node}
+use Rattle.spl_circuit.specs.Nodes.{NodeId, has_node}
 use Rattle.spl_circuit.specs.Rules.{is_member}
+use Rattle.spl_circuit.specs.Lifecycle.{life, is_active}
 use Rattle.spl_command.specs.declared.batch.Batch.{Batch}
 use Rattle.spl_settle.specs.Bound.{InHistory, IsPending, IsRefused}
-use Rattle.spl_rules.specs.Cells.{Cell, Held, runs}
+use Rattle.spl_rules.specs.Cells.{Cell, Held}
 use Rattle.spl_model.specs.Worlds.{World}
 
 -- what a cell keeps of acts, and of batches; a cell that is not bound keeps nothing
 abbrev pub cell_acts : Cell → Member Act
-cell_acts (Held d m turn a b) = a
+cell_acts (Held h) = h.acts
 cell_acts _ = new_member
 
 abbrev pub cell_batches : Cell → Member Batch
-cell_batches (Held d m turn a b) = b
+cell_batches (Held h) = h.batches
 cell_batches _ = new_member
 
 -- what each node keeps of them
-abbrev pub acts_kept : World → Node → Member Act
+abbrev pub acts_kept : World → NodeId → Member Act
 acts_kept w n = cell_acts (w.at n)
 
-abbrev pub batches_kept : World → Node → Member Batch
+abbrev pub batches_kept : World → NodeId → Member Batch
 batches_kept w n = cell_batches (w.at n)
 
 -- the cell is bound to the definition, and the node takes part
 abbrev pub IsOpenIn : Definition → Cell → Type 0
-IsOpenIn d (Held e m turn a b) = (e ≡ d) × (m ≡ mark.Open)
+IsOpenIn d (Held h) = (h.definition ≡ d) × (h.mark ≡ mark.Open)
 IsOpenIn d _ = ⊥
 
 -- something holds of each member
-abbrev pub AtMembers : Definition → (Node → Type 0) → Type 0
-AtMembers d P = (n : Node) → is_member d n ≡ true → P n
+abbrev pub AtMembers : Definition → (NodeId → Type 0) → Type 0
+AtMembers d P = (n : NodeId) → is_member d n ≡ true → P n
 
 -- all members are registered and up, and their cells are bound to the definition and open
 pub record IsWhole (w : World) (d : Definition) : Type 0 where
@@ -42,10 +43,14 @@ pub record IsWhole (w : World) (d : Definition) : Type 0 where
   pub up : AtMembers d (λ n. w.up n ≡ true)
   pub open_cells : AtMembers d (λ n. IsOpenIn d (w.at n))
 
+-- what is kept of acts has made the circuit active
+abbrev pub is_active_by : Definition → Member Act → Bool
+is_active_by d a = is_active (life d (values a.history)).state
+
 -- the circuit is active at all members
 abbrev pub IsActiveAll : World → Definition → Type 0
-IsActiveAll w d = AtMembers d (λ n. runs d (acts_kept w n) ≡ true)
+IsActiveAll w d = AtMembers d (λ n. is_active_by d (acts_kept w n) ≡ true)
 
 -- the value is in the history of every member, or the coordinator has refused it and it is pending at no member
-abbrev pub IsSettled : {V : Type 0} → Definition → Node → V → (Node → Member V) → Type 0
+abbrev pub IsSettled : {V : Type 0} → Definition → NodeId → V → (NodeId → Member V) → Type 0
 IsSettled d leader v kept = AtMembers d (λ n. InHistory v (kept n)) ⊎ (IsRefused v (kept leader) × AtMembers d (λ n. IsPending v (kept n) → ⊥))

@@ -4,7 +4,7 @@
 ghost use Rattle.std.specs.Prelude.{◌≡◌, ℕ, ◌≤◌, None, true, List, [], ◌∷◌, ◌++◌, length};
 ghost use Rattle.spl_circuit.specs.declared.definition.Definition.{Definition};
 ghost use Rattle.spl_circuit.specs.declared.act.Act.{Act};
-ghost use Rattle.spl_circuit.specs.Nodes.{Node};
+ghost use Rattle.spl_circuit.specs.Nodes.{NodeId, CircuitId};
 ghost use Rattle.spl_circuit.specs.Rules.{admin, service, is_member};
 ghost use Rattle.spl_command.specs.declared.batch.Batch.{Batch};
 ghost use Rattle.spl_sched.specs.declared.line.Line.TheVariants as line;
@@ -18,20 +18,20 @@ ghost use Rattle.spl_calm.specs.Settled.{acts_kept, batches_kept, AtMembers, IsW
 
 /// Take any world of a circuit's id that at most 32,768 occurrences reach, and a definition all of whose members are registered and up, bound to it and open. A calm of six passes or more settles the first pending act of its admin coordinator; and, where the circuit is active at each member, the first pending batch of its service coordinator.
 pub fn calms_settle()
-    ensures acts { (ns : List Node) (es : List Occurrence) (c : Node) (k : ℕ) (d : Definition) (v : Act) (rest : List Act) → AllPlain es → length es ≤ 32768 → 6 ≤ k → IsWhole (world_behind ns es) d → (acts_kept (world_behind ns es) (admin d)).pending ≡ v ∷ rest → IsSettled d (admin d) v (acts_kept (calm c (world_behind ns es) k).world) }
-    ensures batches { (ns : List Node) (es : List Occurrence) (c : Node) (k : ℕ) (d : Definition) (v : Batch) (rest : List Batch) → AllPlain es → length es ≤ 32768 → 6 ≤ k → IsWhole (world_behind ns es) d → IsActiveAll (world_behind ns es) d → (batches_kept (world_behind ns es) (service d)).pending ≡ v ∷ rest → IsSettled d (service d) v (batches_kept (calm c (world_behind ns es) k).world) }
+    ensures acts { (ns : List NodeId) (es : List Occurrence) (c : CircuitId) (k : ℕ) (d : Definition) (v : Act) (rest : List Act) → AllPlain es → length es ≤ 32768 → 6 ≤ k → IsWhole (world_behind ns es) d → (acts_kept (world_behind ns es) (admin d)).pending ≡ v ∷ rest → IsSettled d (admin d) v (acts_kept (calm c (world_behind ns es) k).world) }
+    ensures batches { (ns : List NodeId) (es : List Occurrence) (c : CircuitId) (k : ℕ) (d : Definition) (v : Batch) (rest : List Batch) → AllPlain es → length es ≤ 32768 → 6 ≤ k → IsWhole (world_behind ns es) d → IsActiveAll (world_behind ns es) d → (batches_kept (world_behind ns es) (service d)).pending ≡ v ∷ rest → IsSettled d (service d) v (batches_kept (calm c (world_behind ns es) k).world) }
 {}
 
 /// So does the line of a calm, behind any lines within their bounds: in the world of a circuit that
 /// nodes stand for.
 pub fn calm_lines_settle()
-    ensures acts { (ns : List Node) (rs : List Ran) (c : Node) (k : ℕ) (d : Definition) (v : Act) (rest : List Act) → lines_fit rs ≡ true → length (whole_happened ns c rs) ≤ 32768 → 6 ≤ k → IsWhole (whole_world ns c rs) d → (acts_kept (whole_world ns c rs) (admin d)).pending ≡ v ∷ rest → IsSettled d (admin d) v (acts_kept (whole_world ns c (rs ++ plainly (line.Calm c k) ∷ []))) }
-    ensures batches { (ns : List Node) (rs : List Ran) (c : Node) (k : ℕ) (d : Definition) (v : Batch) (rest : List Batch) → lines_fit rs ≡ true → length (whole_happened ns c rs) ≤ 32768 → 6 ≤ k → IsWhole (whole_world ns c rs) d → IsActiveAll (whole_world ns c rs) d → (batches_kept (whole_world ns c rs) (service d)).pending ≡ v ∷ rest → IsSettled d (service d) v (batches_kept (whole_world ns c (rs ++ plainly (line.Calm c k) ∷ []))) }
+    ensures acts { (ns : List NodeId) (rs : List Ran) (c : CircuitId) (k : ℕ) (d : Definition) (v : Act) (rest : List Act) → lines_fit rs ≡ true → length (whole_happened ns c rs) ≤ 32768 → 6 ≤ k → IsWhole (whole_world ns c rs) d → (acts_kept (whole_world ns c rs) (admin d)).pending ≡ v ∷ rest → IsSettled d (admin d) v (acts_kept (whole_world ns c (rs ++ plainly (line.Calm c k) ∷ []))) }
+    ensures batches { (ns : List NodeId) (rs : List Ran) (c : CircuitId) (k : ℕ) (d : Definition) (v : Batch) (rest : List Batch) → lines_fit rs ≡ true → length (whole_happened ns c rs) ≤ 32768 → 6 ≤ k → IsWhole (whole_world ns c rs) d → IsActiveAll (whole_world ns c rs) d → (batches_kept (whole_world ns c rs) (service d)).pending ≡ v ∷ rest → IsSettled d (service d) v (batches_kept (whole_world ns c (rs ++ plainly (line.Calm c k) ∷ []))) }
 {}
 
 /// What a calm keeps: the members stay registered and up, bound and open; a circuit that is active at each of them stays so; and where no act is pending and no round of acts is open, its coordinator commits none.
 pub fn calms_keep()
-    ensures whole { (ns : List Node) (es : List Occurrence) (c : Node) (k : ℕ) (d : Definition) → AllPlain es → IsWhole (world_behind ns es) d → IsWhole (calm c (world_behind ns es) k).world d }
-    ensures active { (ns : List Node) (es : List Occurrence) (c : Node) (k : ℕ) (d : Definition) → AllPlain es → IsWhole (world_behind ns es) d → IsActiveAll (world_behind ns es) d → IsActiveAll (calm c (world_behind ns es) k).world d }
-    ensures idle { (ns : List Node) (es : List Occurrence) (c : Node) (k : ℕ) (d : Definition) (n : Node) → AllPlain es → is_member d n ≡ true → IsWhole (world_behind ns es) d → AtMembers d (λ j. (acts_kept (world_behind ns es) j).pending ≡ []) → (acts_kept (world_behind ns es) (admin d)).opened ≡ None → (acts_kept (calm c (world_behind ns es) k).world (admin d)).history ≡ (acts_kept (world_behind ns es) (admin d)).history }
+    ensures whole { (ns : List NodeId) (es : List Occurrence) (c : CircuitId) (k : ℕ) (d : Definition) → AllPlain es → IsWhole (world_behind ns es) d → IsWhole (calm c (world_behind ns es) k).world d }
+    ensures active { (ns : List NodeId) (es : List Occurrence) (c : CircuitId) (k : ℕ) (d : Definition) → AllPlain es → IsWhole (world_behind ns es) d → IsActiveAll (world_behind ns es) d → IsActiveAll (calm c (world_behind ns es) k).world d }
+    ensures idle { (ns : List NodeId) (es : List Occurrence) (c : CircuitId) (k : ℕ) (d : Definition) (n : NodeId) → AllPlain es → is_member d n ≡ true → IsWhole (world_behind ns es) d → AtMembers d (λ j. (acts_kept (world_behind ns es) j).pending ≡ []) → (acts_kept (world_behind ns es) (admin d)).opened ≡ None → (acts_kept (calm c (world_behind ns es) k).world (admin d)).history ≡ (acts_kept (world_behind ns es) (admin d)).history }
 {}

@@ -2,7 +2,7 @@
 use Rattle.std.proofs.Common.{◌≡◌, ℕ, zero, suc, ◌+◌, ◌-◌, ◌^◌, Bool, true, ◌&&◌, List, [], ◌∷◌, ◌++◌, length, refl, sym, ap, ◌∙◌}
 use Rattle.std.specs.Prelude.{nat_le, nat_lt}
 use Rattle.spl_agree.proofs.Tests.{if_holds, and_left, and_right}
-use Rattle.spl_circuit.specs.Nodes.{Node, sorted}
+use Rattle.spl_circuit.specs.Nodes.{NodeId, CircuitId, sorted}
 use Rattle.spl_wire.specs.declared.event.Event.{Event}
 use Rattle.spl_wire.specs.declared.event.Event.TheVariants as event
 use Rattle.spl_sched.specs.declared.line.Step.{Step}
@@ -40,42 +40,42 @@ run-step w z s h r = record {
 }
 
 -- its ticks
-pub run-ticks : (c : Node) (w : World) (z : Calming) (ns : List Node) → IsRun w z → IsRun w (ticks c z ns)
+pub run-ticks : (c : CircuitId) (w : World) (z : Calming) (ns : List NodeId) → IsRun w z → IsRun w (ticks c z ns)
 run-ticks c w z [] r = r
 run-ticks c w z (n ∷ ns) r = run-ticks c w (calming_step z (step.At n c event.Tick)) ns (run-step w z (step.At n c event.Tick) tt r)
 
 -- its deliveries on a pair
-pub run-delivers : (c : Node) (w : World) (z : Calming) (from to : Node) (number k : ℕ) → IsRun w z → IsRun w (delivers c z from to number k)
+pub run-delivers : (c : CircuitId) (w : World) (z : Calming) (from to : NodeId) (number k : ℕ) → IsRun w z → IsRun w (delivers c z from to number k)
 run-delivers c w z from to number zero r = r
 run-delivers c w z from to number (suc k) r = run-delivers c w (calming_step z (step.Deliver from to c number)) from to (number + 1) k (run-step w z (step.Deliver from to c number) tt r)
 
 -- what needs no delivery any more changes nothing
-pub run-takes : (w : World) (z : Calming) (from to : Node) (n : ℕ) → IsRun w z → IsRun w (takes z from to n)
+pub run-takes : (w : World) (z : Calming) (from to : NodeId) (n : ℕ) → IsRun w z → IsRun w (takes z from to n)
 run-takes w z from to n r = record { same = r.same; plain = r.plain }
 
 -- a pair's turn
-pub run-pair : (c : Node) (w : World) (z : Calming) (from to : Node) → IsRun w z → IsRun w (pair_turn c z from to)
+pub run-pair : (c : CircuitId) (w : World) (z : Calming) (from to : NodeId) → IsRun w z → IsRun w (pair_turn c z from to)
 run-pair c w z from to r = if_holds (IsRun w) (z.world.up to) _ _
     (λ q. run-takes w (delivers c z from to (z.taken from to + 1) (length (messages z.world from to) - z.taken from to)) from to (length (messages z.world from to)) (run-delivers c w z from to (z.taken from to + 1) (length (messages z.world from to) - z.taken from to) r))
     (λ q. r)
 
 -- the turns of a sender
-pub run-to_all : (c : Node) (w : World) (z : Calming) (from : Node) (ns : List Node) → IsRun w z → IsRun w (to_all c z from ns)
+pub run-to_all : (c : CircuitId) (w : World) (z : Calming) (from : NodeId) (ns : List NodeId) → IsRun w z → IsRun w (to_all c z from ns)
 run-to_all c w z from [] r = r
 run-to_all c w z from (n ∷ ns) r = run-to_all c w (pair_turn c z from n) from ns (run-pair c w z from n r)
 
 -- the turns of all senders
-pub run-from_all : (c : Node) (w : World) (z : Calming) (all ns : List Node) → IsRun w z → IsRun w (from_all c z all ns)
+pub run-from_all : (c : CircuitId) (w : World) (z : Calming) (all ns : List NodeId) → IsRun w z → IsRun w (from_all c z all ns)
 run-from_all c w z all [] r = r
 run-from_all c w z all (n ∷ ns) r = run-from_all c w (to_all c z n all) all ns (run-to_all c w z n all r)
 
 -- its passes
-pub run-passes : (c : Node) (w : World) (ns : List Node) (k : ℕ) (z : Calming) → IsRun w z → IsRun w (passes c ns k z)
+pub run-passes : (c : CircuitId) (w : World) (ns : List NodeId) (k : ℕ) (z : Calming) → IsRun w z → IsRun w (passes c ns k z)
 run-passes c w ns zero z r = r
 run-passes c w ns (suc k) z r = run-passes c w ns k (pass c ns z) (run-from_all c w (ticks c z (open_nodes z.world ns)) ns ns (run-ticks c w z (open_nodes z.world ns) r))
 
 -- a whole calm
-pub run-calm : (c : Node) (w : World) (k : ℕ) → IsRun w (calm c w k)
+pub run-calm : (c : CircuitId) (w : World) (k : ℕ) → IsRun w (calm c w k)
 run-calm c w k = run-passes c w (sorted w.nodes) k (calming w) (record { same = refl; plain = tt })
 
 -- ---- what happens in lines
@@ -88,7 +88,7 @@ line-run w _ kept = refl
 -- ---- a line within its bounds has no delivery of its own making
 
 -- the event of a line
-pub plain-event : (c : Node) (e : Event) → is_event c e ≡ true → IsPlainEvent e
+pub plain-event : (c : CircuitId) (e : Event) → is_event c e ≡ true → IsPlainEvent e
 plain-event c (event.Deliver from m) h = cc
 plain-event c _ h = tt
 

@@ -2,10 +2,10 @@
 use Rattle.std.proofs.Common.{◌≡◌, ◌≢◌, ◌⊎◌, true, false, eqb, [], ◌∷◌, refl, subst, inl, inr}
 use Rattle.std.specs.Str.{bytes_eq}
 use Rattle.spl_agree.proofs.Tests.{eqb_is, eqb_same, and_left, and_right, bool_cases}
-use Rattle.spl_circuit.specs.Nodes.{Node}
+use Rattle.spl_circuit.specs.Nodes.{NodeId}
 
 -- equal ids are one node
-pub node_is : (a b : Node) → bytes_eq a b ≡ true → a ≡ b
+pub node_is : (a b : NodeId) → bytes_eq a b ≡ true → a ≡ b
 node_is [] [] h = refl
 node_is (x ∷ xs) (y ∷ ys) h =
     let p : x ≡ y = eqb_is x y (and_left (eqb x y) (bytes_eq xs ys) h) in
@@ -13,16 +13,16 @@ node_is (x ∷ xs) (y ∷ ys) h =
 node_is _ _ h = cc
 
 -- a node is equal to itself
-pub node_same : (a : Node) → bytes_eq a a ≡ true
+pub node_same : (a : NodeId) → bytes_eq a a ≡ true
 node_same [] = refl
 node_same (x ∷ xs) = let p : eqb x x ≡ true = eqb_same x in let q : bytes_eq xs xs ≡ true = node_same xs in rw (p, q)
 
 -- unequal ids are two nodes
-pub node_not : (a b : Node) → bytes_eq a b ≡ false → a ≢ b
-node_not a b h e = let p : bytes_eq a b ≡ true = subst (λ (x : Node). bytes_eq a x ≡ true) e (node_same a) in cc
+pub node_not : (a b : NodeId) → bytes_eq a b ≡ false → a ≢ b
+node_not a b h e = let p : bytes_eq a b ≡ true = subst (λ (x : NodeId). bytes_eq a x ≡ true) e (node_same a) in cc
 
 -- two nodes have unequal ids
-pub node_other : (a b : Node) → a ≢ b → bytes_eq a b ≡ false
+pub node_other : (a b : NodeId) → a ≢ b → bytes_eq a b ≡ false
 node_other a b d = go (bool_cases (bytes_eq a b))
   where
     go : (bytes_eq a b ≡ true) ⊎ (bytes_eq a b ≡ false) → bytes_eq a b ≡ false
@@ -30,7 +30,7 @@ node_other a b d = go (bool_cases (bytes_eq a b))
     go (inr q) = q
 
 -- two nodes are one or not
-pub node_cases : (a b : Node) → (a ≡ b) ⊎ (a ≢ b)
+pub node_cases : (a b : NodeId) → (a ≡ b) ⊎ (a ≢ b)
 node_cases a b = go (bool_cases (bytes_eq a b))
   where
     go : (bytes_eq a b ≡ true) ⊎ (bytes_eq a b ≡ false) → (a ≡ b) ⊎ (a ≢ b)

@@ -4,7 +4,7 @@ use Rattle.std.specs.Prelude.{Option, Some, None, slice_get, if◌then◌else◌
 use Rattle.spl_agree.proofs.Tests.{if_holds}
 use Rattle.spl_agree.specs.declared.event.Note.{Note}
 use Rattle.spl_agree.specs.declared.event.OpenMove.TheVariants as move
-use Rattle.spl_circuit.specs.Nodes.{Node}
+use Rattle.spl_circuit.specs.Nodes.{NodeId, CircuitId}
 use Rattle.spl_wire.specs.declared.message.Message.{Message}
 use Rattle.spl_wire.specs.declared.event.Event.TheVariants as event
 use Rattle.spl_wire.specs.declared.answer.Answer.{Answer}
@@ -18,7 +18,7 @@ use Rattle.spl_sched.specs.declared.line.Step.TheVariants as step
 use Rattle.spl_sched.specs.declared.line.Line.{Line}
 use Rattle.spl_sched.specs.declared.line.Line.TheVariants as line
 use Rattle.spl_sched.specs.Grammar.{step_node, step_circuit}
-use Rattle.spl_rules.specs.Cells.{Cell, Empty, Held, Purged, Site, Say, Submitted, Delivered, Alone, said, Deed, Refuses, Tells, Binds, Acts, Serves}
+use Rattle.spl_rules.specs.Cells.{Cell, Empty, Site, Say, Submitted, Delivered, Alone, said, Deed, Refuses, Tells, Binds, Acts, Serves}
 use Rattle.spl_rules.specs.Events.{does}
 use Rattle.spl_rules.specs.Plans.{tells_only, planned}
 use Rattle.spl_rules.specs.Changes.{moved_cell}
@@ -51,7 +51,7 @@ alone-deed site (Acts say h back e) = record { alone = λ why q. absurd (never-r
 alone-deed site (Serves say h back e) = record { alone = λ why q. absurd (never-refused say _ why q) }
 alone-deed site _ = record { alone = λ why q. cc }
 
-alone-delivery : (c : Node) (w : World) (from to : Node) (o : Option Message) → IsAlone (delivery c w from to o)
+alone-delivery : (c : CircuitId) (w : World) (from to : NodeId) (o : Option Message) → IsAlone (delivery c w from to o)
 alone-delivery c w from to None = alone-tells (answer.Refused refusal.NoMessage)
 alone-delivery c w from to (Some m) = alone-deed (site_at to c) (does (site_at to c) (w.at to) (event.Deliver from m))
 
@@ -68,16 +68,16 @@ pub unmoved-same : (w : World) → IsUnmoved w w
 unmoved-same w = record { nodes = refl; up = λ n. refl; at = λ n. refl; sent = refl }
 
 -- without a move a cell stays
-pub moved-keep : (n : Node) (k : Cell) → moved_cell n k move.Keep move.Keep ≡ k
+pub moved-keep : (n : NodeId) (k : Cell) → moved_cell n k move.Keep move.Keep ≡ k
 moved-keep n Empty = refl
 moved-keep n _ = refl
 
 -- an answer alone
-unmoved-tells : (w : World) (n : Node) (a : Answer) → IsUnmoved w (carried_out w n (tells_only a))
+unmoved-tells : (w : World) (n : NodeId) (a : Answer) → IsUnmoved w (carried_out w n (tells_only a))
 unmoved-tells w n a = record { nodes = refl; up = λ j. refl; at = λ j. there j (node_cases j n); sent = append-nil w.sent }
   where
-    there : (j : Node) → (j ≡ n) ⊎ (j ≢ n) → put_at w.at n (moved_cell n (w.at n) move.Keep move.Keep) j ≡ w.at j
-    there j (inl q) = subst (λ (i : Node). put_at w.at n (moved_cell n (w.at n) move.Keep move.Keep) i ≡ w.at i) (sym q) (put_at-same w.at n _ ∙ moved-keep n (w.at n))
+    there : (j : NodeId) → (j ≡ n) ⊎ (j ≢ n) → put_at w.at n (moved_cell n (w.at n) move.Keep move.Keep) j ≡ w.at j
+    there j (inl q) = subst (λ (i : CircuitId). put_at w.at n (moved_cell n (w.at n) move.Keep move.Keep) i ≡ w.at i) (sym q) (put_at-same w.at n _ ∙ moved-keep n (w.at n))
     there j (inr q) = put_at-other w.at n _ j q
 
 pub unmoved-step : (w : World) (s : Step) (why : Refusal) → (step_plan w s).answer ≡ answer.Refused why → IsUnmoved w (step_world w s)
@@ -91,8 +91,8 @@ unmoved-halt say w s kept why other h = if_holds (IsUnmoved w) (w.up (step_node 
     up q = ap (λ (b : Bool). if b then say (bit_of kept (step_plan w s).changes) else answer.Refused refusal.Down) q
 
 -- a line of the circuit
-pub unmoved-line : (worlds : Node → World) (roll : Node → Answer) (l : Line) (kept : Bool) (why : Refusal) (c : Node) → names c l ≡ true → line_answer worlds roll l kept ≡ answer.Refused why → IsUnmoved (worlds c) (line_world (worlds c) l kept)
-unmoved-line worlds roll (line.Step s) kept why c q h = unmoved-step (worlds c) s why (subst (λ (i : Node). (step_plan (worlds i) s).answer ≡ answer.Refused why) (node_is (step_circuit s) c q) h)
-unmoved-line worlds roll (line.Cut calls fill s) kept why c q h = unmoved-halt answer.Cut (worlds c) s kept why (λ b x. cc) (subst (λ (i : Node). halt_answer answer.Cut (worlds i) s kept ≡ answer.Refused why) (node_is (step_circuit s) c q) h)
-unmoved-line worlds roll (line.Fail call s) kept why c q h = unmoved-halt answer.Fault (worlds c) s kept why (λ b x. cc) (subst (λ (i : Node). halt_answer answer.Fault (worlds i) s kept ≡ answer.Refused why) (node_is (step_circuit s) c q) h)
+pub unmoved-line : (worlds : CircuitId → World) (roll : NodeId → Answer) (l : Line) (kept : Bool) (why : Refusal) (c : CircuitId) → names c l ≡ true → line_answer worlds roll l kept ≡ answer.Refused why → IsUnmoved (worlds c) (line_world (worlds c) l kept)
+unmoved-line worlds roll (line.Step s) kept why c q h = unmoved-step (worlds c) s why (subst (λ (i : CircuitId). (step_plan (worlds i) s).answer ≡ answer.Refused why) (node_is (step_circuit s) c q) h)
+unmoved-line worlds roll (line.Cut calls fill s) kept why c q h = unmoved-halt answer.Cut (worlds c) s kept why (λ b x. cc) (subst (λ (i : CircuitId). halt_answer answer.Cut (worlds i) s kept ≡ answer.Refused why) (node_is (step_circuit s) c q) h)
+unmoved-line worlds roll (line.Fail call s) kept why c q h = unmoved-halt answer.Fault (worlds c) s kept why (λ b x. cc) (subst (λ (i : CircuitId). halt_answer answer.Fault (worlds i) s kept ≡ answer.Refused why) (node_is (step_circuit s) c q) h)
 unmoved-line worlds roll _ kept why c q h = cc

@@ -2,7 +2,7 @@
 use Rattle.std.specs.Prelude.{Bool, true, false, List, [], ◌∷◌, ◌++◌, if◌then◌else◌, Option, Some, None}
 use Rattle.std.specs.List.{filter}
 use Rattle.std.specs.Str.{bytes_eq}
-use Rattle.spl_circuit.specs.Nodes.{Node, has_node, sorted}
+use Rattle.spl_circuit.specs.Nodes.{NodeId, CircuitId, has_node, sorted}
 use Rattle.spl_wire.specs.declared.answer.Answer.{Answer}
 use Rattle.spl_wire.specs.declared.answer.Answer.TheVariants as answer
 use Rattle.spl_wire.specs.declared.answer.Refusal.TheVariants as refusal
@@ -30,7 +30,7 @@ abbrev pub halt_answer : (Bit → Answer) → World → Step → Bool → Answer
 halt_answer say w s kept = if w.up (step_node s) then say (bit_of kept (step_plan w s).changes) else answer.Refused refusal.Down
 
 -- the answer to a line, in the world of the circuit that it names; `roll` is what roll answers at each node
-abbrev pub line_answer : (Node → World) → (Node → Answer) → Line → Bool → Answer
+abbrev pub line_answer : (CircuitId → World) → (NodeId → Answer) → Line → Bool → Answer
 line_answer worlds roll (line.Step s) kept = (step_plan (worlds (step_circuit s)) s).answer
 line_answer worlds roll (line.Calm c k) kept = answer.Calm k
 line_answer worlds roll (line.Stop n) kept = answer.Power false
@@ -70,63 +70,63 @@ occurrences_from w [] = []
 occurrences_from w (r ∷ rs) = occurrences_in w r.line r.kept ++ occurrences_from (line_world w r.line r.kept) rs
 
 -- the world of a circuit among some nodes, behind the lines of a schedule: its own lines alone count
-abbrev pub circuit_world : List Node → Node → List Ran → World
+abbrev pub circuit_world : List NodeId → CircuitId → List Ran → World
 circuit_world ns c rs = lines_world (first_world ns) (own c rs)
 
 -- what happens in it
-abbrev pub occurrences : List Node → Node → List Ran → List Occurrence
+abbrev pub occurrences : List NodeId → CircuitId → List Ran → List Occurrence
 occurrences ns c rs = occurrences_from (first_world ns) (own c rs)
 
 -- the world of a circuit in which a line runs: what the line concerns counts already
-abbrev pub world_before : List Node → Node → List Ran → Ran → World
+abbrev pub world_before : List NodeId → CircuitId → List Ran → Ran → World
 world_before ns c before r = lines_world (first_world ns) (own_among c (concerned c (before ++ r ∷ [])) before)
 
 -- ---- nodes
 
-abbrev pub up_after : Node → Bool → Line → Bool
+abbrev pub up_after : NodeId → Bool → Line → Bool
 up_after n up (line.Stop m) = if bytes_eq n m then false else up
 up_after n up (line.Start m) = if bytes_eq n m then true else up
 up_after n up (line.Cut calls fill s) = if bytes_eq n (step_node s) then false else up
 up_after n up (line.Fail call s) = if bytes_eq n (step_node s) then false else up
 up_after n up _ = up
 
-abbrev pub up_from : Node → Bool → List Ran → Bool
+abbrev pub up_from : NodeId → Bool → List Ran → Bool
 up_from n up [] = up
 up_from n up (r ∷ rs) = up_from n (up_after n up r.line) rs
 
 -- the node is up behind these lines
-abbrev pub is_up : Node → List Ran → Bool
+abbrev pub is_up : NodeId → List Ran → Bool
 is_up n rs = up_from n true rs
 
-abbrev pub and_circuit : Option Node → List Node → List Node
+abbrev pub and_circuit : Option CircuitId → List CircuitId → List CircuitId
 and_circuit None cs = cs
 and_circuit (Some c) cs = if has_node cs c then cs else c ∷ cs
 
 -- the circuits that lines name, each once
-abbrev pub circuits_in : List Ran → List Node
+abbrev pub circuits_in : List Ran → List CircuitId
 circuits_in [] = []
 circuits_in (r ∷ rs) = and_circuit (circuit_of r.line) (circuits_in rs)
 
 -- the circuits that are bound at a node, in the order of their ids
-abbrev pub bound_at : List Node → List Ran → Node → List Node
+abbrev pub bound_at : List NodeId → List Ran → NodeId → List CircuitId
 bound_at ns rs n = filter (λ c. is_bound ((circuit_world ns c rs).at n)) (sorted (circuits_in rs))
 
-abbrev pub roll_answer : List Node → List Ran → Node → Answer
+abbrev pub roll_answer : List NodeId → List Ran → NodeId → Answer
 roll_answer ns rs n = if is_up n rs then answer.Roll (bound_at ns rs n) else answer.Refused refusal.Down
 
 -- ---- answers
 
 -- the answer to a line behind the lines that ran before it
-unfoldable pub answer_to : List Node → List Ran → Ran → Answer
+unfoldable pub answer_to : List NodeId → List Ran → Ran → Answer
 answer_to ns before r = line_answer (λ c. world_before ns c before r) (λ n. roll_answer ns (before ++ r ∷ []) n) r.line r.kept
 
 -- the answers to lines that run behind others
-abbrev pub answers : List Node → List Ran → List Ran → List Answer
+abbrev pub answers : List NodeId → List Ran → List Ran → List Answer
 answers ns before [] = []
 answers ns before (r ∷ rs) = answer_to ns before r ∷ answers ns (before ++ r ∷ []) rs
 
 -- those to the lines that name a circuit
-abbrev pub answers_about : List Node → Node → List Ran → List Ran → List Answer
+abbrev pub answers_about : List NodeId → CircuitId → List Ran → List Ran → List Answer
 answers_about ns c before [] = []
 answers_about ns c before (r ∷ rs) =
     if names c r.line then answer_to ns before r ∷ answers_about ns c (before ++ r ∷ []) rs

@@ -2,7 +2,7 @@
 use Rattle.std.specs.Prelude.{Bool, false, List, [], ◌∷◌, ◌++◌, if◌then◌else◌, Option, Some, None}
 use Rattle.std.specs.List.{list_all}
 use Rattle.std.specs.Str.{bytes_eq}
-use Rattle.spl_circuit.specs.Nodes.{Node, has_node}
+use Rattle.spl_circuit.specs.Nodes.{NodeId, CircuitId, has_node}
 use Rattle.spl_wire.specs.declared.event.Event.{Event}
 use Rattle.spl_wire.specs.declared.event.Event.TheVariants as event
 use Rattle.spl_sched.specs.declared.line.Step.{Step}
@@ -29,26 +29,26 @@ abbrev pub lines_fit : List Ran → Bool
 lines_fit rs = list_all line_fits rs
 
 -- the line names this circuit
-abbrev pub names_circuit : Node → Option Node → Bool
+abbrev pub names_circuit : CircuitId → Option CircuitId → Bool
 names_circuit c None = false
 names_circuit c (Some i) = bytes_eq i c
 
-abbrev pub names : Node → Line → Bool
+abbrev pub names : CircuitId → Line → Bool
 names c l = names_circuit c (circuit_of l)
 
 -- ---- the nodes concerned
 
 -- the members that an event proposes
-abbrev pub proposed_members : Event → List Node
+abbrev pub proposed_members : Event → List NodeId
 proposed_members (event.Propose d) = d.members
 proposed_members _ = []
 
 -- where a step takes place, and the members that it proposes
-abbrev pub step_concerns : Step → List Node
+abbrev pub step_concerns : Step → List NodeId
 step_concerns (step.At n c e) = n ∷ proposed_members e
 step_concerns (step.Deliver from to c k) = to ∷ []
 
-abbrev pub line_concerns : Line → List Node
+abbrev pub line_concerns : Line → List NodeId
 line_concerns (line.Step s) = step_concerns s
 line_concerns (line.Cut calls fill s) = step_concerns s
 line_concerns (line.Fail call s) = step_concerns s
@@ -56,19 +56,19 @@ line_concerns _ = []
 
 -- the nodes concerned with a circuit: those at which a line that names it takes place, and those that such a line
 -- proposes as members
-abbrev pub concerned : Node → List Ran → List Node
+abbrev pub concerned : CircuitId → List Ran → List NodeId
 concerned c [] = []
 concerned c (r ∷ rs) = (if names c r.line then line_concerns r.line else []) ++ concerned c rs
 
 -- ---- its own lines
 
 -- a stop or a start of a node, where it is one of these
-abbrev pub at_one_of : List Node → Node → Line → List Ran
+abbrev pub at_one_of : List NodeId → NodeId → Line → List Ran
 at_one_of ns n l = if has_node ns n then plainly l ∷ [] else []
 
 -- what is left of a line that doesn't name the circuit, where these nodes are concerned: their stops and starts. Where one
 -- stops in an event of another circuit, that is a stop
-abbrev pub beside : List Node → Line → List Ran
+abbrev pub beside : List NodeId → Line → List Ran
 beside ns (line.Stop n) = at_one_of ns n (line.Stop n)
 beside ns (line.Start n) = at_one_of ns n (line.Start n)
 beside ns (line.Cut calls fill s) = at_one_of ns (step_node s) (line.Stop (step_node s))
@@ -76,13 +76,13 @@ beside ns (line.Fail call s) = at_one_of ns (step_node s) (line.Stop (step_node 
 beside ns _ = []
 
 -- what is a circuit's own of a line, where these nodes are concerned with it: the line where it names it, or what is left
-abbrev pub own_line : Node → List Node → Ran → List Ran
+abbrev pub own_line : CircuitId → List NodeId → Ran → List Ran
 own_line c ns r = if names c r.line then r ∷ [] else beside ns r.line
 
-abbrev pub own_among : Node → List Node → List Ran → List Ran
+abbrev pub own_among : CircuitId → List NodeId → List Ran → List Ran
 own_among c ns [] = []
 own_among c ns (r ∷ rs) = own_line c ns r ++ own_among c ns rs
 
 -- a circuit's own lines
-abbrev pub own : Node → List Ran → List Ran
+abbrev pub own : CircuitId → List Ran → List Ran
 own c rs = own_among c (concerned c rs) rs

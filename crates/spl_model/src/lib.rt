@@ -3,7 +3,7 @@
 #![tactic(auto)]
 
 ghost use Rattle.std.specs.Prelude.{◌≡◌, Bool, true};
-ghost use Rattle.spl_circuit.specs.Nodes.{Node};
+ghost use Rattle.spl_circuit.specs.Nodes.{NodeId, CircuitId};
 ghost use Rattle.spl_wire.specs.declared.answer.Refusal.{Refusal};
 ghost use Rattle.spl_wire.specs.declared.answer.Answer.{Answer};
 ghost use Rattle.spl_wire.specs.declared.answer.Answer.TheVariants as answer;
@@ -16,5 +16,5 @@ ghost use Rattle.spl_model.specs.Answers.{line_answer, line_world};
 /// A line that is refused, whatever the refusal, leaves the world of its circuit as it was.
 pub fn refused_lines_change_nothing()
     ensures step { (w : World) (s : Step) (why : Refusal) → (step_plan w s).answer ≡ answer.Refused why → IsUnmoved w (step_world w s) }
-    ensures line { (worlds : Node → World) (roll : Node → Answer) (l : Line) (kept : Bool) (why : Refusal) (c : Node) → names c l ≡ true → line_answer worlds roll l kept ≡ answer.Refused why → IsUnmoved (worlds c) (line_world (worlds c) l kept) }
+    ensures line { (worlds : CircuitId → World) (roll : NodeId → Answer) (l : Line) (kept : Bool) (why : Refusal) (c : CircuitId) → names c l ≡ true → line_answer worlds roll l kept ≡ answer.Refused why → IsUnmoved (worlds c) (line_world (worlds c) l kept) }
 {}

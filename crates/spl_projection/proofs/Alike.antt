@@ -3,7 +3,7 @@
 use Rattle.std.proofs.Common.{◌≡◌, ◌≢◌, ◌⊎◌, Bool, true, false, List, [], ◌∷◌, refl, sym, ap, subst, ◌∙◌, inl, inr}
 use Rattle.std.proofs.Math.Path.{fun_ext}
 use Rattle.std.specs.Prelude.{if◌then◌else◌}
-use Rattle.spl_circuit.specs.Nodes.{Node, has_node}
+use Rattle.spl_circuit.specs.Nodes.{NodeId, has_node}
 use Rattle.spl_wire.specs.declared.answer.Refusal.TheVariants as refusal
 use Rattle.spl_wire.specs.declared.answer.Answer.TheVariants as answer
 use Rattle.spl_wire.specs.declared.plan.Plan.{Plan}
@@ -21,20 +21,20 @@ use Rattle.spl_projection.proofs.Within.{within-empty}
 use Rattle.spl_projection.proofs.Confined.{IsConfined}
 
 -- a world where others are up
-abbrev pub with_up : (Node → Bool) → World → World
+abbrev pub with_up : (NodeId → Bool) → World → World
 with_up up w = record { nodes = w.nodes; up = up; at = w.at; sent = w.sent }
 
-module _ (ns : List Node) where
+module _ (ns : List NodeId) where
   -- one world is the other but for who is up, and at these nodes it is so there too
   pub record IsAlike (w v : World) : Type 0 where
-    pub other : Node → Bool
+    pub other : NodeId → Bool
     pub is : w ≡ with_up other v
-    pub up : (n : Node) → has_node ns n ≡ true → other n ≡ v.up n
+    pub up : (n : NodeId) → has_node ns n ≡ true → other n ≡ v.up n
 
   pub alike-same : (w : World) → IsAlike w w
   alike-same w = record { other = w.up; is = refl; up = λ n h. refl }
 
-  pub up-alike : (w v : World) (n : Node) → IsAlike w v → has_node ns n ≡ true → w.up n ≡ v.up n
+  pub up-alike : (w v : World) (n : NodeId) → IsAlike w v → has_node ns n ≡ true → w.up n ≡ v.up n
   up-alike w v n a h = ap (λ (x : World). x.up n) a.is ∙ a.up n h
 
   pub same-alike : (w v : World) → IsAlike w v → IsSameFor ns w v
@@ -46,27 +46,27 @@ module _ (ns : List Node) where
   }
 
   -- another thing at one node of both
-  put-agree : (f g : Node → Bool) (n : Node) (b : Bool) → ((j : Node) → has_node ns j ≡ true → f j ≡ g j) → (j : Node) → has_node ns j ≡ true → put_at f n b j ≡ put_at g n b j
+  put-agree : (f g : NodeId → Bool) (n : NodeId) (b : Bool) → ((j : NodeId) → has_node ns j ≡ true → f j ≡ g j) → (j : NodeId) → has_node ns j ≡ true → put_at f n b j ≡ put_at g n b j
   put-agree f g n b h j k = go (node_cases j n)
     where
       go : (j ≡ n) ⊎ (j ≢ n) → put_at f n b j ≡ put_at g n b j
-      go (inl q) = subst (λ (z : Node). put_at f n b z ≡ put_at g n b z) (sym q) (put_at-same f n b ∙ sym (put_at-same g n b))
+      go (inl q) = subst (λ (z : NodeId). put_at f n b z ≡ put_at g n b z) (sym q) (put_at-same f n b ∙ sym (put_at-same g n b))
       go (inr q) = put_at-other f n b j q ∙ (h j k ∙ sym (put_at-other g n b j q))
 
   -- another thing at a node that is none of these
-  put-aside : (f g : Node → Bool) (n : Node) (b : Bool) → has_node ns n ≡ false → ((j : Node) → has_node ns j ≡ true → f j ≡ g j) → (j : Node) → has_node ns j ≡ true → f j ≡ put_at g n b j
+  put-aside : (f g : NodeId → Bool) (n : NodeId) (b : Bool) → has_node ns n ≡ false → ((j : NodeId) → has_node ns j ≡ true → f j ≡ g j) → (j : NodeId) → has_node ns j ≡ true → f j ≡ put_at g n b j
   put-aside f g n b other h j k = h j k ∙ sym (put_at-other g n b j apart)
     where
       apart : j ≢ n
-      apart q = let x : has_node ns n ≡ true = subst (λ (z : Node). has_node ns z ≡ true) q k in cc
+      apart q = let x : has_node ns n ≡ true = subst (λ (z : NodeId). has_node ns z ≡ true) q k in cc
 
   -- ---- steps
 
-  plan_up-same : (v : World) (up : Node → Bool) (s : Step) → plan_up (with_up up v) s ≡ plan_up v s
+  plan_up-same : (v : World) (up : NodeId → Bool) (s : Step) → plan_up (with_up up v) s ≡ plan_up v s
   plan_up-same v up (step.At n c e) = refl
   plan_up-same v up (step.Deliver from to c k) = refl
 
-  plan-with : (v : World) (up : Node → Bool) (s : Step) → up (step_node s) ≡ v.up (step_node s) → step_plan (with_up up v) s ≡ step_plan v s
+  plan-with : (v : World) (up : NodeId → Bool) (s : Step) → up (step_node s) ≡ v.up (step_node s) → step_plan (with_up up v) s ≡ step_plan v s
   plan-with v up s h =
       ap (λ (b : Bool). if b then plan_up (with_up up v) s else tells_only (answer.Refused refusal.Down)) h
       ∙ ap (λ (p : Plan). if v.up (step_node s) then p else tells_only (answer.Refused refusal.Down)) (plan_up-same v up s)
@@ -83,11 +83,11 @@ module _ (ns : List Node) where
 
   -- ---- stops and starts
 
-  stops-both : (w v : World) (n : Node) → IsAlike w v → (b : Bool) → IsAlike (if b then stopped w n else w) (if b then stopped v n else v)
+  stops-both : (w v : World) (n : NodeId) → IsAlike w v → (b : Bool) → IsAlike (if b then stopped w n else w) (if b then stopped v n else v)
   stops-both w v n a true = record { other = put_at a.other n false; is = ap (λ (x : World). stopped x n) a.is; up = put-agree a.other v.up n false a.up }
   stops-both w v n a false = a
 
-  starts-both : (w v : World) (n : Node) → IsAlike w v → (b : Bool) → IsAlike (if b then w else started w n) (if b then v else started v n)
+  starts-both : (w v : World) (n : NodeId) → IsAlike w v → (b : Bool) → IsAlike (if b then w else started w n) (if b then v else started v n)
   starts-both w v n a true = a
   starts-both w v n a false = record { other = put_at a.other n true; is = ap (λ (x : World). started x n) a.is; up = put-agree a.other v.up n true a.up }
 
@@ -114,10 +114,10 @@ module _ (ns : List Node) where
 
   -- ---- at another node
 
-  aside-stopped : (v : World) (n : Node) (up : Node → Bool) → has_node ns n ≡ false → IsConfined ns v → with_up up v ≡ with_up up (stopped v n)
-  aside-stopped v n up h c = ap (λ (f : Node → Cell). put (f)) (fun_ext (λ k. sym (put_at-still v.at n (stopped_cell (v.at n)) empty k)))
+  aside-stopped : (v : World) (n : NodeId) (up : NodeId → Bool) → has_node ns n ≡ false → IsConfined ns v → with_up up v ≡ with_up up (stopped v n)
+  aside-stopped v n up h c = ap (λ (f : NodeId → Cell). put (f)) (fun_ext (λ k. sym (put_at-still v.at n (stopped_cell (v.at n)) empty k)))
     where
-      put : (Node → Cell) → World
+      put : (NodeId → Cell) → World
       put f = record { nodes = v.nodes; up = up; at = f; sent = v.sent }
 
       nothing : v.at n ≡ Empty
@@ -126,14 +126,14 @@ module _ (ns : List Node) where
       empty : stopped_cell (v.at n) ≡ v.at n
       empty = ap stopped_cell nothing ∙ sym nothing
 
-  pub stops-aside : (w v : World) (n : Node) → has_node ns n ≡ false → IsConfined ns v → IsAlike w v → IsAlike w (happens v (Stops n))
+  pub stops-aside : (w v : World) (n : NodeId) → has_node ns n ≡ false → IsConfined ns v → IsAlike w v → IsAlike w (happens v (Stops n))
   stops-aside w v n h c a = go (v.up n)
     where
       go : (b : Bool) → IsAlike w (if b then stopped v n else v)
       go true = record { other = a.other; is = a.is ∙ aside-stopped v n a.other h c; up = put-aside a.other v.up n false h a.up }
       go false = a
 
-  pub starts-aside : (w v : World) (n : Node) → has_node ns n ≡ false → IsAlike w v → IsAlike w (happens v (Starts n))
+  pub starts-aside : (w v : World) (n : NodeId) → has_node ns n ≡ false → IsAlike w v → IsAlike w (happens v (Starts n))
   starts-aside w v n h a = go (v.up n)
     where
       go : (b : Bool) → IsAlike w (if b then v else started v n)

@@ -4,7 +4,7 @@ use Rattle.std.specs.Prelude.{Option, Some, None, if◌then◌else◌, slice_get
 use Rattle.std.specs.List.{list_all}
 use Rattle.std.specs.Str.{bytes_eq}
 use Rattle.spl_agree.proofs.Tests.{if_holds, bool_cases, and_left, and_right}
-use Rattle.spl_circuit.specs.Nodes.{Node, has_node}
+use Rattle.spl_circuit.specs.Nodes.{NodeId, CircuitId, has_node}
 use Rattle.spl_wire.specs.declared.message.Message.{Message}
 use Rattle.spl_wire.specs.declared.event.Event.{Event}
 use Rattle.spl_wire.specs.declared.event.Event.TheVariants as event
@@ -22,14 +22,14 @@ use Rattle.spl_model.proofs.Puts.{put_at-same, put_at-other}
 use Rattle.spl_projection.proofs.Within.{are_within, is_message_within, IsCellWithin, within-made, within-stopped, within-after, AllGo, is_outgoing_within, IsPlanWithin, IsDueWithin, within-plan}
 
 -- something holds at each node, where it holds of what is put at one
-pub put_at-each : {A : Type 0} (P : Node → A → Type 0) (f : Node → A) (n : Node) (x : A) → P n x → ((j : Node) → P j (f j)) → (j : Node) → P j (put_at f n x j)
+pub put_at-each : {A : Type 0} (P : NodeId → A → Type 0) (f : NodeId → A) (n : NodeId) (x : A) → P n x → ((j : NodeId) → P j (f j)) → (j : NodeId) → P j (put_at f n x j)
 put_at-each {A} P f n x h k j = go (node_cases j n)
   where
     go : (j ≡ n) ⊎ (j ≢ n) → P j (put_at f n x j)
-    go (inl q) = subst (λ (z : Node). P z (put_at f n x z)) (sym q) (subst (λ (y : A). P n y) (sym (put_at-same f n x)) h)
+    go (inl q) = subst (λ (z : NodeId). P z (put_at f n x z)) (sym q) (subst (λ (y : A). P n y) (sym (put_at-same f n x)) h)
     go (inr q) = subst (λ (y : A). P j y) (sym (put_at-other f n x j q)) (k j)
 
-module _ (ns : List Node) where
+module _ (ns : List NodeId) where
   -- a message that was sent is among the nodes
   abbrev pub is_sent_within : Sent → Bool
   is_sent_within s = has_node ns s.from && (has_node ns s.to && is_message_within ns s.message)
@@ -39,17 +39,17 @@ module _ (ns : List Node) where
 
   -- all that a world has of the circuit is among the nodes
   pub record IsConfined (w : World) : Type 0 where
-    pub cells : (n : Node) → IsCellWithin ns n (w.at n)
+    pub cells : (n : NodeId) → IsCellWithin ns n (w.at n)
     pub sent : AllSent w.sent
 
-  pub confined-first : (all : List Node) → IsConfined (first_world all)
+  pub confined-first : (all : List NodeId) → IsConfined (first_world all)
   confined-first all = record { cells = λ n. tt; sent = refl }
 
   all-sent : (xs ys : List Sent) → AllSent xs → AllSent ys → AllSent (xs ++ ys)
   all-sent [] ys h k = k
   all-sent (x ∷ xs) ys h k = rw (and_left (is_sent_within x) (list_all is_sent_within xs) h) (all-sent xs ys (and_right (is_sent_within x) (list_all is_sent_within xs) h) k)
 
-  posted-within : (all : List Node) (n : Node) (os : List Outgoing) → has_node ns n ≡ true → AllGo ns os → AllSent (posted all n os)
+  posted-within : (all : List NodeId) (n : NodeId) (os : List Outgoing) → has_node ns n ≡ true → AllGo ns os → AllSent (posted all n os)
   posted-within all n [] h k = refl
   posted-within all n (o ∷ os) h k = go (posted-within all n os h (and_right (is_outgoing_within ns o) (list_all (is_outgoing_within ns) os) k))
     where
@@ -65,14 +65,14 @@ module _ (ns : List Node) where
       go : AllSent (posted all n os) → AllSent (posted all n (o ∷ os))
       go rest = if_holds AllSent (has_node all o.to) _ _ (λ q. rw (h, to, body) rest) (λ q. rest)
 
-  pub confined-carried : (w : World) (n : Node) (p : Plan) → has_node ns n ≡ true → IsPlanWithin ns p → IsConfined w → IsConfined (carried_out w n p)
+  pub confined-carried : (w : World) (n : NodeId) (p : Plan) → has_node ns n ≡ true → IsPlanWithin ns p → IsConfined w → IsConfined (carried_out w n p)
   confined-carried w n p h k c = record {
     cells = put_at-each (IsCellWithin ns) w.at n (after_plan n (w.at n) p) (within-after ns n (w.at n) p h k (c.cells n)) c.cells;
     sent = all-sent w.sent (posted w.nodes n p.sends) c.sent (posted-within w.nodes n p.sends h k.sends);
   }
 
   -- what is on a pair comes from one of the nodes
-  pair-within : (from to : Node) (ss : List Sent) (k : ℕ) (m : Message) → AllSent ss → slice_get (on_pair from to ss) k ≡ Some m → (has_node ns from ≡ true) × (is_message_within ns m ≡ true)
+  pair-within : (from to : NodeId) (ss : List Sent) (k : ℕ) (m : Message) → AllSent ss → slice_get (on_pair from to ss) k ≡ Some m → (has_node ns from ≡ true) × (is_message_within ns m ≡ true)
   pair-within from to [] k m h e = cc
   pair-within from to (s ∷ ss) k m h e = go (bool_cases (bytes_eq s.from from && bytes_eq s.to to)) (λ j x. pair-within from to ss j m rest x)
     where
@@ -87,7 +87,7 @@ module _ (ns : List Node) where
 
       here : (j : ℕ) → s.from ≡ from → ((i : ℕ) → slice_get (on_pair from to ss) i ≡ Some m → (has_node ns from ≡ true) × (is_message_within ns m ≡ true)) → slice_get (s.message ∷ on_pair from to ss) j ≡ Some m → (has_node ns from ≡ true) × (is_message_within ns m ≡ true)
       here zero q hyp x = (
-        subst (λ (z : Node). has_node ns z ≡ true) q (and_left (has_node ns s.from) _ first),
+        subst (λ (z : NodeId). has_node ns z ≡ true) q (and_left (has_node ns s.from) _ first),
         subst (λ (z : Message). is_message_within ns z ≡ true) (some_same s.message m x) (and_right (has_node ns s.to) _ (and_right (has_node ns s.from) _ first)),
       )
       here (suc j) q hyp x = hyp j x
@@ -97,7 +97,7 @@ module _ (ns : List Node) where
       go (inr q) hyp = hyp k (rw q at e)
 
   -- to another node nothing was sent
-  pair-none : (from to : Node) (ss : List Sent) → AllSent ss → has_node ns to ≡ false → on_pair from to ss ≡ []
+  pair-none : (from to : NodeId) (ss : List Sent) → AllSent ss → has_node ns to ≡ false → on_pair from to ss ≡ []
   pair-none from to [] h k = refl
   pair-none from to (s ∷ ss) h k = go (bool_cases (bytes_eq s.from from && bytes_eq s.to to)) (pair-none from to ss (and_right (is_sent_within s) (list_all is_sent_within ss) h) k)
     where
@@ -105,13 +105,13 @@ module _ (ns : List Node) where
       there = and_left (has_node ns s.to) _ (and_right (has_node ns s.from) _ (and_left (is_sent_within s) (list_all is_sent_within ss) h))
 
       not_there : s.to ≡ to → ⊥
-      not_there e = let q : has_node ns to ≡ true = subst (λ (z : Node). has_node ns z ≡ true) e there in cc
+      not_there e = let q : has_node ns to ≡ true = subst (λ (z : NodeId). has_node ns z ≡ true) e there in cc
 
       go : ((bytes_eq s.from from && bytes_eq s.to to) ≡ true) ⊎ ((bytes_eq s.from from && bytes_eq s.to to) ≡ false) → on_pair from to ss ≡ [] → on_pair from to (s ∷ ss) ≡ []
       go (inl q) hyp = absurd (not_there (node_is s.to to (and_right (bytes_eq s.from from) (bytes_eq s.to to) q)))
       go (inr q) hyp = rw q hyp
 
-  pub messages-none : (w : World) (from to : Node) → IsConfined w → has_node ns to ≡ false → messages w from to ≡ []
+  pub messages-none : (w : World) (from to : NodeId) → IsConfined w → has_node ns to ≡ false → messages w from to ≡ []
   messages-none w from to c k = if_holds (λ ms. ms ≡ []) (bytes_eq from to) _ _ (λ q. refl) (λ q. pair-none from to w.sent c.sent k)
 
   -- ---- steps
@@ -129,7 +129,7 @@ module _ (ns : List Node) where
   event-due (event.Deliver from x) p h = absurd p
   event-due _ p h = tt
 
-  delivery-within : (c : Node) (w : World) (from to : Node) (k : ℕ) (o : Option Message) → has_node ns to ≡ true → IsConfined w → slice_get (messages w from to) k ≡ o → IsPlanWithin ns (delivery c w from to o)
+  delivery-within : (c : CircuitId) (w : World) (from to : NodeId) (k : ℕ) (o : Option Message) → has_node ns to ≡ true → IsConfined w → slice_get (messages w from to) k ≡ o → IsPlanWithin ns (delivery c w from to o)
   delivery-within c w from to k None h i e = record { changes = refl; sends = refl }
   delivery-within c w from to k (Some m) h i e = within-plan ns (site_at to c) (w.at to) (event.Deliver from m) h (go (bool_cases (bytes_eq from to))) (i.cells to)
     where
@@ -164,10 +164,10 @@ module _ (ns : List Node) where
   IsWithin (Starts n) = Unit {0}
   IsWithin (Halts kept s) = IsPlainStep s × IsStepWithin s
 
-  confined-stopped : (w : World) (n : Node) → IsConfined w → IsConfined (stopped w n)
+  confined-stopped : (w : World) (n : NodeId) → IsConfined w → IsConfined (stopped w n)
   confined-stopped w n i = record { cells = put_at-each (IsCellWithin ns) w.at n (stopped_cell (w.at n)) (within-stopped ns n (w.at n) (i.cells n)) i.cells; sent = i.sent }
 
-  confined-halted : (w : World) (n : Node) (kept : Bool) (p : Plan) → has_node ns n ≡ true → IsPlanWithin ns p → IsConfined w → IsConfined (halted w n kept p)
+  confined-halted : (w : World) (n : NodeId) (kept : Bool) (p : Plan) → has_node ns n ≡ true → IsPlanWithin ns p → IsConfined w → IsConfined (halted w n kept p)
   confined-halted w n kept p h k i = record {
     cells = put_at-each (IsCellWithin ns) w.at n (stopped_cell (if kept then made n (w.at n) p.changes else w.at n))
         (within-stopped ns n (if kept then made n (w.at n) p.changes else w.at n) (if_holds (IsCellWithin ns n) kept (made n (w.at n) p.changes) (w.at n) (λ q. within-made ns n (w.at n) p.changes h k.changes (i.cells n)) (λ q. i.cells n))) i.cells;

@@ -7,7 +7,7 @@ use Rattle.spl_edge.specs.declared.fill.Fill.TheVariants as fill
 use Rattle.spl_circuit.specs.declared.definition.Definition.{Definition}
 use Rattle.spl_circuit.specs.declared.lifecycle.Lifecycle.TheVariants as lifecycle
 use Rattle.spl_circuit.specs.declared.lifecycle.Mark.TheVariants as mark
-use Rattle.spl_circuit.specs.Nodes.{Node}
+use Rattle.spl_circuit.specs.Nodes.{NodeId}
 use Rattle.spl_wire.specs.declared.event.Event.{Event}
 use Rattle.spl_wire.specs.declared.event.Event.TheVariants as event
 use Rattle.spl_wire.specs.declared.answer.Answer.{Answer}
@@ -23,26 +23,26 @@ use Rattle.spl_model.specs.Projection.{own}
 use Rattle.spl_model.specs.Outcomes.{all_by_rule}
 use Rattle.spl_model.specs.Answers.{answer_to, answers}
 
-abbrev alpha : Node
+abbrev alpha : NodeId
 alpha = codes "alpha"
 
-abbrev beta : Node
+abbrev beta : NodeId
 beta = codes "beta"
 
-abbrev gamma : Node
+abbrev gamma : NodeId
 gamma = codes "gamma"
 
-abbrev registered : List Node
+abbrev registered : List NodeId
 registered = alpha ∷ beta ∷ gamma ∷ []
 
 -- two circuits of two members
-abbrev first : Node
+abbrev first : NodeId
 first = codes "Ab3dE-00001"
 
-abbrev second : Node
+abbrev second : NodeId
 second = codes "Ab3dE-00002"
 
-abbrev trade : Node → Definition
+abbrev trade : NodeId → Definition
 trade c = record {
   id = c;
   generation = 1;
@@ -53,10 +53,10 @@ trade c = record {
   services = record { id = codes "aaaa"; kind = codes "scabbard"; node = alpha } ∷ record { id = codes "bbbb"; kind = codes "scabbard"; node = beta } ∷ [];
 }
 
-abbrev at : Node → Node → Event → Line
+abbrev at : NodeId → NodeId → Event → Line
 at n c e = line.Step (step.At n c e)
 
-abbrev hands : Node → Node → ℕ → Line
+abbrev hands : NodeId → NodeId → ℕ → Line
 hands from to k = line.Step (step.Deliver from to first k)
 
 abbrev run : List Line → List Answer

@@ -1,7 +1,7 @@
 -- The world of a circuit behind all lines is the one behind what happens in them.
 use Rattle.std.proofs.Common.{◌≡◌, Bool, true, false, List, [], ◌∷◌, ◌++◌, append_assoc, refl, sym, ap, ◌∙◌}
 use Rattle.spl_agree.proofs.Tests.{if_holds, and_left, and_right}
-use Rattle.spl_circuit.specs.Nodes.{Node}
+use Rattle.spl_circuit.specs.Nodes.{CircuitId}
 use Rattle.spl_sched.specs.declared.line.Line.{Line}
 use Rattle.spl_sched.specs.declared.line.Line.TheVariants as line
 use Rattle.spl_model.specs.Worlds.{World, Occurrence, occur}
@@ -16,14 +16,14 @@ beside-run : (w : World) (l : Line) → world_beside w l ≡ occur w (happened_b
 beside-run w (line.Step s) = refl
 beside-run w _ = refl
 
-after-run : (c : Node) (w : World) (r : Ran) → world_after c w r ≡ occur w (happened_in c w r)
+after-run : (c : CircuitId) (w : World) (r : Ran) → world_after c w r ≡ occur w (happened_in c w r)
 after-run c w r = go (names c r.line) refl
   where
     go : (b : Bool) → names c r.line ≡ b → world_after c w r ≡ occur w (happened_in c w r)
     go true h = rw h (line-run w r.line r.kept)
     go false h = rw h (beside-run w r.line)
 
-pub whole-run : (c : Node) (w : World) (rs : List Ran) → whole_from c w rs ≡ occur w (happened_from c w rs)
+pub whole-run : (c : CircuitId) (w : World) (rs : List Ran) → whole_from c w rs ≡ occur w (happened_from c w rs)
 whole-run c w [] = refl
 whole-run c w (r ∷ rs) =
     whole-run c (world_after c w r) rs
@@ -36,15 +36,15 @@ plain-beside (line.Calm c k) = tt
 plain-beside (line.Roll n) = tt
 plain-beside _ = (tt, tt)
 
-plain-after : (c : Node) (w : World) (r : Ran) → line_fits r ≡ true → AllPlain (happened_in c w r)
+plain-after : (c : CircuitId) (w : World) (r : Ran) → line_fits r ≡ true → AllPlain (happened_in c w r)
 plain-after c w r h = if_holds AllPlain (names c r.line) (occurrences_in w r.line r.kept) (happened_beside r.line) (λ q. plain-line w r.line r.kept h) (λ q. plain-beside r.line)
 
-pub plain-whole : (c : Node) (w : World) (rs : List Ran) → lines_fit rs ≡ true → AllPlain (happened_from c w rs)
+pub plain-whole : (c : CircuitId) (w : World) (rs : List Ran) → lines_fit rs ≡ true → AllPlain (happened_from c w rs)
 plain-whole c w [] h = tt
 plain-whole c w (r ∷ rs) h = plain-append (happened_in c w r) (happened_from c (world_after c w r) rs) (plain-after c w r (and_left (line_fits r) (lines_fit rs) h)) (plain-whole c (world_after c w r) rs (and_right (line_fits r) (lines_fit rs) h))
 
 -- what happens in lines, one list after the other
-pub happened-append : (c : Node) (w : World) (xs ys : List Ran) → happened_from c w (xs ++ ys) ≡ happened_from c w xs ++ happened_from c (whole_from c w xs) ys
+pub happened-append : (c : CircuitId) (w : World) (xs ys : List Ran) → happened_from c w (xs ++ ys) ≡ happened_from c w xs ++ happened_from c (whole_from c w xs) ys
 happened-append c w [] ys = refl
 happened-append c w (x ∷ xs) ys =
     ap (λ (es : List Occurrence). happened_in c w x ++ es) (happened-append c (world_after c w x) xs ys)

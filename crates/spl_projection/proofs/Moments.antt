@@ -1,7 +1,7 @@
 -- The moments of a line are the same in both worlds.
 use Rattle.std.proofs.Common.{◌≡◌, ℕ, zero, suc, ◌+◌, ◌-◌, Bool, true, List, [], ◌∷◌, ◌++◌, append-nil, append_assoc, length, refl, sym, ap, subst, ◌∙◌}
 use Rattle.spl_agree.proofs.Tests.{if_holds}
-use Rattle.spl_circuit.specs.Nodes.{Node}
+use Rattle.spl_circuit.specs.Nodes.{NodeId, CircuitId}
 use Rattle.spl_wire.specs.declared.event.Event.TheVariants as event
 use Rattle.spl_sched.specs.declared.line.Step.{Step}
 use Rattle.spl_sched.specs.declared.line.Step.TheVariants as step
@@ -21,7 +21,7 @@ use Rattle.spl_projection.proofs.Alike.{IsAlike, AllHere, run-alike, same-alike}
 use Rattle.spl_projection.proofs.Calms.{calm-alike}
 use Rattle.spl_projection.proofs.Owns.{IsPair, pair-first, IsLineWithin, named-within, AllConcern, all-concern, within-same, lines-pair, fits-left, concern-left, own-same}
 
-module _ (ns : List Node) where
+module _ (ns : List NodeId) where
   -- the same happens in a line
   occurrences-same : (w v : World) (l : Line) (kept : Bool) → IsPair ns w v → occurrences_in w l kept ≡ occurrences_in v l kept
   occurrences-same w v (line.Calm c k) kept p = (calm-alike ns c w v k p.alike p.confined).happened
@@ -50,10 +50,10 @@ module _ (ns : List Node) where
   )
 
 -- a moment of a line in the world behind all lines is one in the world of the circuit
-pub moment-whole : (ns : List Node) (c : Node) (before : List Ran) (r : Ran) (m : World) → lines_fit (before ++ r ∷ []) ≡ true → names c r.line ≡ true → IsMoment (whole_world ns c before) r m → (n : World) × IsMoment (world_before ns c before r) r n × IsSameFor (concerned c (before ++ r ∷ [])) n m
+pub moment-whole : (ns : List NodeId) (c : CircuitId) (before : List Ran) (r : Ran) (m : World) → lines_fit (before ++ r ∷ []) ≡ true → names c r.line ≡ true → IsMoment (whole_world ns c before) r m → (n : World) × IsMoment (world_before ns c before r) r n × IsSameFor (concerned c (before ++ r ∷ [])) n m
 moment-whole ns c before r m f q i = moment-alike all (world_before ns c before r) (whole_world ns c before) m r (named-within all c r.line q (k.1.0 q)) p i
   where
-    all : List Node
+    all : List NodeId
     all = concerned c (before ++ r ∷ [])
 
     k : AllConcern all c before × AllConcern all c (r ∷ [])
@@ -63,14 +63,14 @@ moment-whole ns c before r m f q i = moment-alike all (world_before ns c before 
     p = lines-pair all c (first_world ns) (first_world ns) before (fits-left before (r ∷ []) f) k.0 (pair-first all ns)
 
 -- so what nodes keep at a moment
-pub cells-whole : (ns : List Node) (before : List Ran) (r : Ran) (cells : Node → Node → Cell) → lines_fit (before ++ r ∷ []) ≡ true → AreAtMoment (λ c. whole_world ns c before) (λ c. whole_world ns c before) r cells → AreAtMoment (λ c. world_before ns c before r) (λ c. circuit_world ns c before) r cells
+pub cells-whole : (ns : List NodeId) (before : List Ran) (r : Ran) (cells : CircuitId → NodeId → Cell) → lines_fit (before ++ r ∷ []) ≡ true → AreAtMoment (λ c. whole_world ns c before) (λ c. whole_world ns c before) r cells → AreAtMoment (λ c. world_before ns c before r) (λ c. circuit_world ns c before) r cells
 cells-whole ns before r cells f k = record {
   named = λ c q. named c q (k.named c q);
-  others = λ c q n. k.others c q n ∙ ap (λ (at : Node → Cell). at n) (sym ((own-same ns c before (fits-left before (r ∷ []) f)).at));
+  others = λ c q n. k.others c q n ∙ ap (λ (at : NodeId → Cell). at n) (sym ((own-same ns c before (fits-left before (r ∷ []) f)).at));
 }
   where
-    named : (c : Node) → names c r.line ≡ true → (m : World) × IsMoment (whole_world ns c before) r m × ((n : Node) → cells c n ≡ m.at n) → (m : World) × IsMoment (world_before ns c before r) r m × ((n : Node) → cells c n ≡ m.at n)
-    named c q x = let y = moment-whole ns c before r x.0 f q x.1 in (y.0, y.1, λ n. x.2 n ∙ ap (λ (at : Node → Cell). at n) (sym y.2.at))
+    named : (c : CircuitId) → names c r.line ≡ true → (m : World) × IsMoment (whole_world ns c before) r m × ((n : NodeId) → cells c n ≡ m.at n) → (m : World) × IsMoment (world_before ns c before r) r m × ((n : NodeId) → cells c n ≡ m.at n)
+    named c q x = let y = moment-whole ns c before r x.0 f q x.1 in (y.0, y.1, λ n. x.2 n ∙ ap (λ (at : NodeId → Cell). at n) (sym y.2.at))
 
 -- ---- the moments of a calm
 
@@ -88,18 +88,18 @@ front-on x y z f g = record { later = f.later ++ g.later; is = g.is ∙ (ap (λ 
 pub front-step : (z : Calming) (s : Step) → IsFront z (calming_step z s)
 front-step z s = record { later = Steps s ∷ []; is = refl }
 
-pub front-ticks : (c : Node) (z : Calming) (xs : List Node) → IsFront z (ticks c z xs)
+pub front-ticks : (c : CircuitId) (z : Calming) (xs : List NodeId) → IsFront z (ticks c z xs)
 front-ticks c z [] = front-same z
 front-ticks c z (x ∷ xs) = front-on z (calming_step z (step.At x c event.Tick)) (ticks c (calming_step z (step.At x c event.Tick)) xs) (front-step z (step.At x c event.Tick)) (front-ticks c (calming_step z (step.At x c event.Tick)) xs)
 
-pub front-delivers : (c : Node) (z : Calming) (from to : Node) (number k : ℕ) → IsFront z (delivers c z from to number k)
+pub front-delivers : (c : CircuitId) (z : Calming) (from to : NodeId) (number k : ℕ) → IsFront z (delivers c z from to number k)
 front-delivers c z from to number zero = front-same z
 front-delivers c z from to number (suc k) = front-on z (calming_step z (step.Deliver from to c number)) (delivers c (calming_step z (step.Deliver from to c number)) from to (number + 1) k) (front-step z (step.Deliver from to c number)) (front-delivers c (calming_step z (step.Deliver from to c number)) from to (number + 1) k)
 
-pub front-takes : (z : Calming) (from to : Node) (n : ℕ) → IsFront z (takes z from to n)
+pub front-takes : (z : Calming) (from to : NodeId) (n : ℕ) → IsFront z (takes z from to n)
 front-takes z from to n = record { later = []; is = sym (append-nil z.happened) }
 
-pub front-pair : (c : Node) (z : Calming) (from to : Node) → IsFront z (pair_turn c z from to)
+pub front-pair : (c : CircuitId) (z : Calming) (from to : NodeId) → IsFront z (pair_turn c z from to)
 front-pair c z from to = if_holds (IsFront z) (z.world.up to) _ _ (λ q. turned) (λ q. front-same z)
   where
     all : ℕ
@@ -111,21 +111,21 @@ front-pair c z from to = if_holds (IsFront z) (z.world.up to) _ _ (λ q. turned)
     turned : IsFront z (takes there from to all)
     turned = front-on z there (takes there from to all) (front-delivers c z from to (z.taken from to + 1) (all - z.taken from to)) (front-takes there from to all)
 
-pub front-to_all : (c : Node) (z : Calming) (from : Node) (xs : List Node) → IsFront z (to_all c z from xs)
+pub front-to_all : (c : CircuitId) (z : Calming) (from : NodeId) (xs : List NodeId) → IsFront z (to_all c z from xs)
 front-to_all c z from [] = front-same z
 front-to_all c z from (x ∷ xs) = front-on z (pair_turn c z from x) (to_all c (pair_turn c z from x) from xs) (front-pair c z from x) (front-to_all c (pair_turn c z from x) from xs)
 
-pub front-from_all : (c : Node) (z : Calming) (all xs : List Node) → IsFront z (from_all c z all xs)
+pub front-from_all : (c : CircuitId) (z : Calming) (all xs : List NodeId) → IsFront z (from_all c z all xs)
 front-from_all c z all [] = front-same z
 front-from_all c z all (x ∷ xs) = front-on z (to_all c z x all) (from_all c (to_all c z x all) all xs) (front-to_all c z x all) (front-from_all c (to_all c z x all) all xs)
 
-pub front-pass : (c : Node) (xs : List Node) (z : Calming) → IsFront z (pass c xs z)
+pub front-pass : (c : CircuitId) (xs : List NodeId) (z : Calming) → IsFront z (pass c xs z)
 front-pass c xs z = front-on z (ticks c z (open_nodes z.world xs)) (pass c xs z) (front-ticks c z (open_nodes z.world xs)) (front-from_all c (ticks c z (open_nodes z.world xs)) xs xs)
 
-pub front-passes : (c : Node) (xs : List Node) (k : ℕ) (z : Calming) → IsFront z (passes c xs k z)
+pub front-passes : (c : CircuitId) (xs : List NodeId) (k : ℕ) (z : Calming) → IsFront z (passes c xs k z)
 front-passes c xs zero z = front-same z
 front-passes c xs (suc k) z = front-on z (pass c xs z) (passes c xs k (pass c xs z)) (front-pass c xs z) (front-passes c xs k (pass c xs z))
 
 -- a calm so far is at a moment of the whole
-pub moment-calm : (c : Node) (w : World) (k : ℕ) (z : Calming) → IsRun w z → IsFront z (calm c w k) → IsMoment w (plainly (line.Calm c k)) z.world
+pub moment-calm : (c : CircuitId) (w : World) (k : ℕ) (z : Calming) → IsRun w z → IsFront z (calm c w k) → IsMoment w (plainly (line.Calm c k)) z.world
 moment-calm c w k z r f = record { happened = z.happened; later = f.later; all = sym f.is; is = r.same }

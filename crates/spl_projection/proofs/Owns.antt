@@ -3,7 +3,7 @@ use Rattle.std.proofs.Common.{◌≡◌, ℕ, ◌^◌, ◌⊎◌, Bool, true, fa
 use Rattle.std.specs.Prelude.{Option, Some, None, nat_le, nat_lt, if◌then◌else◌}
 use Rattle.std.specs.Str.{bytes_eq}
 use Rattle.spl_agree.proofs.Tests.{bool_cases, and_left, and_right, or_true}
-use Rattle.spl_circuit.specs.Nodes.{Node, has_node}
+use Rattle.spl_circuit.specs.Nodes.{NodeId, CircuitId, has_node}
 use Rattle.spl_wire.specs.declared.answer.Answer.{Answer}
 use Rattle.spl_wire.specs.declared.answer.Answer.TheVariants as answer
 use Rattle.spl_wire.specs.declared.answer.Refusal.TheVariants as refusal
@@ -33,13 +33,13 @@ cut-fits calls f s h = and_right (nat_lt calls (2 ^ 8) && is_fill f) (is_step s)
 pub fail-fits : (call : ℕ) (s : Step) → is_line (line.Fail call s) ≡ true → is_step s ≡ true
 fail-fits call s h = and_right (nat_le 1 call && nat_lt call (2 ^ 8)) (is_step s) h
 
-module _ (ns : List Node) where
+module _ (ns : List NodeId) where
   -- two worlds that are alike at these nodes, which have all that touches the circuit
   pub record IsPair (w v : World) : Type 0 where
     pub alike : IsAlike ns w v
     pub confined : IsConfined ns v
 
-  pub pair-first : (all : List Node) → IsPair (first_world all) (first_world all)
+  pub pair-first : (all : List NodeId) → IsPair (first_world all) (first_world all)
   pair-first all = record { alike = alike-same ns (first_world all); confined = confined-first ns all }
 
   -- ---- a line that names the circuit, or is about one of the nodes
@@ -76,7 +76,7 @@ module _ (ns : List Node) where
 
   -- ---- any other line
 
-  stops-pair : (w v : World) (n : Node) → IsPair w v → IsPair (lines_world w (at_one_of ns n (line.Stop n))) (happens v (Stops n))
+  stops-pair : (w v : World) (n : NodeId) → IsPair w v → IsPair (lines_world w (at_one_of ns n (line.Stop n))) (happens v (Stops n))
   stops-pair w v n p = go (bool_cases (has_node ns n))
     where
       confined : IsConfined ns (happens v (Stops n))
@@ -89,7 +89,7 @@ module _ (ns : List Node) where
       go (inl q) = subst (λ (b : Bool). IsPair (lines_world w (pick b)) (happens v (Stops n))) (sym q) (record { alike = happens-alike ns w v (Stops n) p.alike q; confined = confined })
       go (inr q) = subst (λ (b : Bool). IsPair (lines_world w (pick b)) (happens v (Stops n))) (sym q) (record { alike = stops-aside ns w v n q p.confined p.alike; confined = confined })
 
-  starts-pair : (w v : World) (n : Node) → IsPair w v → IsPair (lines_world w (at_one_of ns n (line.Start n))) (happens v (Starts n))
+  starts-pair : (w v : World) (n : NodeId) → IsPair w v → IsPair (lines_world w (at_one_of ns n (line.Start n))) (happens v (Starts n))
   starts-pair w v n p = go (bool_cases (has_node ns n))
     where
       confined : IsConfined ns (happens v (Starts n))
@@ -112,7 +112,7 @@ module _ (ns : List Node) where
   -- ---- lines
 
   -- a line that names a circuit concerns what it touches
-  pub named-within : (c : Node) (l : Line) → names c l ≡ true → are_within ns (line_concerns l) ≡ true → IsLineWithin l
+  pub named-within : (c : CircuitId) (l : Line) → names c l ≡ true → are_within ns (line_concerns l) ≡ true → IsLineWithin l
   named-within c (line.Calm i j) h k = tt
   named-within c (line.Stop n) h k = cc
   named-within c (line.Start n) h k = cc
@@ -120,14 +120,14 @@ module _ (ns : List Node) where
   named-within c _ h k = k
 
   -- where it names the circuit, what it concerns is among the nodes
-  abbrev pub Concerns : Node → Ran → Type 0
+  abbrev pub Concerns : NodeId → Ran → Type 0
   Concerns c r = names c r.line ≡ true → are_within ns (line_concerns r.line) ≡ true
 
-  abbrev pub AllConcern : Node → List Ran → Type 0
+  abbrev pub AllConcern : NodeId → List Ran → Type 0
   AllConcern c [] = Unit {0}
   AllConcern c (r ∷ rs) = Concerns c r × AllConcern c rs
 
-  pub ran-pair : (c : Node) (w v : World) (r : Ran) → line_fits r ≡ true → Concerns c r → IsPair w v → IsPair (lines_world w (own_line c ns r)) (world_after c v r)
+  pub ran-pair : (c : CircuitId) (w v : World) (r : Ran) → line_fits r ≡ true → Concerns c r → IsPair w v → IsPair (lines_world w (own_line c ns r)) (world_after c v r)
   ran-pair c w v r f h p = go (bool_cases (names c r.line))
     where
       go : (names c r.line ≡ true) ⊎ (names c r.line ≡ false) → IsPair (lines_world w (own_line c ns r)) (world_after c v r)
@@ -139,7 +139,7 @@ module _ (ns : List Node) where
   lines-append w (x ∷ xs) ys = lines-append (line_world w x.line x.kept) xs ys
 
   -- own lines and all lines
-  pub lines-pair : (c : Node) (w v : World) (rs : List Ran) → lines_fit rs ≡ true → AllConcern c rs → IsPair w v → IsPair (lines_world w (own_among c ns rs)) (whole_from c v rs)
+  pub lines-pair : (c : CircuitId) (w v : World) (rs : List Ran) → lines_fit rs ≡ true → AllConcern c rs → IsPair w v → IsPair (lines_world w (own_among c ns rs)) (whole_from c v rs)
   lines-pair c w v [] f h p = p
   lines-pair c w v (r ∷ rs) f h p =
       subst (λ (u : World). IsPair u (whole_from c (world_after c v r) rs)) (sym (lines-append w (own_line c ns r) (own_among c ns rs)))
@@ -147,16 +147,16 @@ module _ (ns : List Node) where
 
 -- ---- the nodes that lines concern
 
-within-left : (ns xs ys : List Node) → are_within ns (xs ++ ys) ≡ true → are_within ns xs ≡ true
+within-left : (ns xs ys : List NodeId) → are_within ns (xs ++ ys) ≡ true → are_within ns xs ≡ true
 within-left ns [] ys h = refl
 within-left ns (x ∷ xs) ys h = rw (and_left (has_node ns x) (are_within ns (xs ++ ys)) h) (within-left ns xs ys (and_right (has_node ns x) (are_within ns (xs ++ ys)) h))
 
-within-right : (ns xs ys : List Node) → are_within ns (xs ++ ys) ≡ true → are_within ns ys ≡ true
+within-right : (ns xs ys : List NodeId) → are_within ns (xs ++ ys) ≡ true → are_within ns ys ≡ true
 within-right ns [] ys h = h
 within-right ns (x ∷ xs) ys h = within-right ns xs ys (and_right (has_node ns x) (are_within ns (xs ++ ys)) h)
 
 -- what has all nodes concerned has those of each line
-pub all-concern : (ns : List Node) (c : Node) (rs : List Ran) → are_within ns (concerned c rs) ≡ true → AllConcern ns c rs
+pub all-concern : (ns : List NodeId) (c : CircuitId) (rs : List Ran) → are_within ns (concerned c rs) ≡ true → AllConcern ns c rs
 all-concern ns c [] h = tt
 all-concern ns c (r ∷ rs) h = (
   λ q. first q (within-left ns (if names c r.line then line_concerns r.line else []) (concerned c rs) h),
@@ -167,21 +167,21 @@ all-concern ns c (r ∷ rs) h = (
     first q k = rw q at k
 
 -- nodes are among themselves
-within-by : (ns xs : List Node) → ((n : Node) → has_node xs n ≡ true → has_node ns n ≡ true) → are_within ns xs ≡ true
+within-by : (ns xs : List NodeId) → ((n : NodeId) → has_node xs n ≡ true → has_node ns n ≡ true) → are_within ns xs ≡ true
 within-by ns [] h = refl
 within-by ns (x ∷ xs) h = rw (h x (rw (node_same x))) (within-by ns xs (λ n k. h n (rw k (or_true (bytes_eq x n)))))
 
-pub within-same : (ns : List Node) → are_within ns ns ≡ true
+pub within-same : (ns : List NodeId) → are_within ns ns ≡ true
 within-same ns = within-by ns ns (λ n h. h)
 
 -- ---- the laws
 
 -- the world of a circuit behind its own lines, and behind all lines
-pub own-pair : (ns : List Node) (c : Node) (rs : List Ran) → lines_fit rs ≡ true → IsPair (concerned c rs) (circuit_world ns c rs) (whole_world ns c rs)
+pub own-pair : (ns : List NodeId) (c : CircuitId) (rs : List Ran) → lines_fit rs ≡ true → IsPair (concerned c rs) (circuit_world ns c rs) (whole_world ns c rs)
 own-pair ns c rs f = lines-pair (concerned c rs) c (first_world ns) (first_world ns) rs f (all-concern (concerned c rs) c rs (within-same (concerned c rs))) (pair-first (concerned c rs) ns)
 
 -- own lines one list after the other
-pub own-append : (c : Node) (ns : List Node) (xs ys : List Ran) → own_among c ns (xs ++ ys) ≡ own_among c ns xs ++ own_among c ns ys
+pub own-append : (c : CircuitId) (ns : List NodeId) (xs ys : List Ran) → own_among c ns (xs ++ ys) ≡ own_among c ns xs ++ own_among c ns ys
 own-append c ns [] ys = refl
 own-append c ns (x ∷ xs) ys = ap (λ (zs : List Ran). own_line c ns x ++ zs) (own-append c ns xs ys) ∙ sym (append_assoc (own_line c ns x) (own_among c ns xs) (own_among c ns ys))
 
@@ -189,26 +189,26 @@ pub fits-left : (xs ys : List Ran) → lines_fit (xs ++ ys) ≡ true → lines_f
 fits-left [] ys h = refl
 fits-left (x ∷ xs) ys h = rw (and_left (line_fits x) (lines_fit (xs ++ ys)) h) (fits-left xs ys (and_right (line_fits x) (lines_fit (xs ++ ys)) h))
 
-pub concern-left : (ns : List Node) (c : Node) (xs ys : List Ran) → AllConcern ns c (xs ++ ys) → AllConcern ns c xs × AllConcern ns c ys
+pub concern-left : (ns : List NodeId) (c : CircuitId) (xs ys : List Ran) → AllConcern ns c (xs ++ ys) → AllConcern ns c xs × AllConcern ns c ys
 concern-left ns c [] ys h = (tt, h)
 concern-left ns c (x ∷ xs) ys h = let k = concern-left ns c xs ys h.1 in ((h.0, k.0), k.1)
 
 -- which circuit a line names
-pub names-is : (c : Node) (l : Line) → names c l ≡ true → circuit_of l ≡ Some c
+pub names-is : (c : CircuitId) (l : Line) → names c l ≡ true → circuit_of l ≡ Some c
 names-is c l h = go (circuit_of l) h
   where
-    go : (o : Option Node) → names_circuit c o ≡ true → o ≡ Some c
+    go : (o : Option NodeId) → names_circuit c o ≡ true → o ≡ Some c
     go None q = cc
-    go (Some i) q = ap (λ (x : Node). Some x) (node_is i c q)
+    go (Some i) q = ap (λ (x : NodeId). Some x) (node_is i c q)
 
 -- two worlds of a circuit that a line names are alike at nodes where it takes place
 pub record IsAlikeFor (l : Line) (w v : World) : Type 0 where
-  pub nodes : List Node
+  pub nodes : List NodeId
   pub within : IsLineWithin nodes l
   pub alike : IsAlike nodes w v
 
 -- a line is answered alike where the worlds of the circuit that it names are alike
-pub answer-alike : (ws vs : Node → World) (roll : Node → Answer) (l : Line) (kept : Bool) → ((c : Node) → names c l ≡ true → IsAlikeFor l (ws c) (vs c)) → line_answer ws roll l kept ≡ line_answer vs roll l kept
+pub answer-alike : (ws vs : NodeId → World) (roll : NodeId → Answer) (l : Line) (kept : Bool) → ((c : CircuitId) → names c l ≡ true → IsAlikeFor l (ws c) (vs c)) → line_answer ws roll l kept ≡ line_answer vs roll l kept
 answer-alike ws vs roll (line.Step s) kept h =
     let k : IsAlikeFor (line.Step s) (ws (step_circuit s)) (vs (step_circuit s)) = h (step_circuit s) (node_same (step_circuit s)) in
     ap (λ (p : Plan). p.answer) (plan-alike k.nodes (ws (step_circuit s)) (vs (step_circuit s)) s k.alike (step-here k.nodes s k.within))
@@ -221,7 +221,7 @@ answer-alike ws vs roll (line.Fail call s) kept h =
 answer-alike ws vs roll _ kept h = refl
 
 -- among any nodes that have all that is concerned, the world behind the own lines is alike to the one behind all lines
-pub alike-for : (all ns : List Node) (c : Node) (before : List Ran) (r : Ran) → lines_fit (before ++ r ∷ []) ≡ true → AllConcern ns c (before ++ r ∷ []) → names c r.line ≡ true → IsAlikeFor r.line (lines_world (first_world all) (own_among c ns before)) (whole_world all c before)
+pub alike-for : (all ns : List NodeId) (c : CircuitId) (before : List Ran) (r : Ran) → lines_fit (before ++ r ∷ []) ≡ true → AllConcern ns c (before ++ r ∷ []) → names c r.line ≡ true → IsAlikeFor r.line (lines_world (first_world all) (own_among c ns before)) (whole_world all c before)
 alike-for all ns c before r f h q = record { nodes = ns; within = named-within ns c r.line q (k.1.0 q); alike = p.alike }
   where
     k : AllConcern ns c before × AllConcern ns c (r ∷ [])
@@ -230,15 +230,15 @@ alike-for all ns c before r f h q = record { nodes = ns; within = named-within n
     p : IsPair ns (lines_world (first_world all) (own_among c ns before)) (whole_world all c before)
     p = lines-pair ns c (first_world all) (first_world all) before (fits-left before (r ∷ []) f) k.0 (pair-first ns all)
 
-pub answer-whole : (ns : List Node) (before : List Ran) (r : Ran) → lines_fit (before ++ r ∷ []) ≡ true → answer_to ns before r ≡ line_answer (λ c. whole_world ns c before) (λ n. roll_answer ns (before ++ r ∷ []) n) r.line r.kept
+pub answer-whole : (ns : List NodeId) (before : List Ran) (r : Ran) → lines_fit (before ++ r ∷ []) ≡ true → answer_to ns before r ≡ line_answer (λ c. whole_world ns c before) (λ n. roll_answer ns (before ++ r ∷ []) n) r.line r.kept
 unfolding answer_to
 answer-whole ns before r f = answer-alike (λ c. world_before ns c before r) (λ c. whole_world ns c before) (λ n. roll_answer ns (before ++ r ∷ []) n) r.line r.kept
     (λ c q. alike-for ns (concerned c (before ++ r ∷ [])) c before r f (all-concern (concerned c (before ++ r ∷ [])) c (before ++ r ∷ []) (within-same (concerned c (before ++ r ∷ [])))) q)
 
 -- nothing is kept at a node that isn't concerned
-pub elsewhere-empty : (ns : List Node) (c : Node) (rs : List Ran) (n : Node) → lines_fit rs ≡ true → has_node (concerned c rs) n ≡ false → (whole_world ns c rs).at n ≡ Empty
+pub elsewhere-empty : (ns : List NodeId) (c : CircuitId) (rs : List Ran) (n : NodeId) → lines_fit rs ≡ true → has_node (concerned c rs) n ≡ false → (whole_world ns c rs).at n ≡ Empty
 elsewhere-empty ns c rs n f h = within-empty (concerned c rs) n ((whole_world ns c rs).at n) h ((own-pair ns c rs f).confined.cells n)
 
 -- the two worlds
-pub own-same : (ns : List Node) (c : Node) (rs : List Ran) → lines_fit rs ≡ true → IsSameFor (concerned c rs) (circuit_world ns c rs) (whole_world ns c rs)
+pub own-same : (ns : List NodeId) (c : CircuitId) (rs : List Ran) → lines_fit rs ≡ true → IsSameFor (concerned c rs) (circuit_world ns c rs) (whole_world ns c rs)
 own-same ns c rs f = same-alike (concerned c rs) (circuit_world ns c rs) (whole_world ns c rs) (own-pair ns c rs f).alike

@@ -2,7 +2,7 @@
 use Rattle.std.proofs.Common.{◌≡◌, ◌⊎◌, Bool, true, false, List, [], ◌∷◌, ◌++◌, sym, ap, subst, ◌∙◌, inl, inr}
 use Rattle.std.specs.Prelude.{if◌then◌else◌}
 use Rattle.spl_agree.proofs.Tests.{if_holds, bool_cases}
-use Rattle.spl_circuit.specs.Nodes.{Node}
+use Rattle.spl_circuit.specs.Nodes.{NodeId, CircuitId}
 use Rattle.spl_wire.specs.declared.answer.Answer.{Answer}
 use Rattle.spl_wire.specs.declared.answer.Answer.TheVariants as answer
 use Rattle.spl_wire.specs.declared.answer.Bit.{Bit}
@@ -21,12 +21,12 @@ use Rattle.spl_projection.specs.Apart.{moves-own, moves-beside}
 use Rattle.spl_projection.proofs.Owns.{answer-whole}
 use Rattle.spl_projection.proofs.Ups.{whole-up}
 
-module _ (ns : List Node) (before : List Ran) (why : Refusal) where
-  abbrev worlds : Node → World
+module _ (ns : List NodeId) (before : List Ran) (why : Refusal) where
+  abbrev worlds : CircuitId → World
   worlds i = whole_world ns i before
 
   -- where a stop in a step is refused, its node is down already, in the world of each circuit
-  unmoved-stop : (say : Bit → Answer) (s : Step) (kept : Bool) (c : Node) → ((b : Bit) → say b ≡ answer.Refused why → ⊥) → halt_answer say (worlds (step_circuit s)) s kept ≡ answer.Refused why → IsUnmoved (worlds c) (happens (worlds c) (Stops (step_node s)))
+  unmoved-stop : (say : Bit → Answer) (s : Step) (kept : Bool) (c : CircuitId) → ((b : Bit) → say b ≡ answer.Refused why → ⊥) → halt_answer say (worlds (step_circuit s)) s kept ≡ answer.Refused why → IsUnmoved (worlds c) (happens (worlds c) (Stops (step_node s)))
   unmoved-stop say s kept c other h =
       if_holds (IsUnmoved (worlds c)) ((worlds c).up (step_node s)) _ _ (λ q. absurd (other (bit_of kept (step_plan here s).changes) (sym (up (there q)) ∙ h))) (λ q. unmoved-same (worlds c))
     where
@@ -39,17 +39,17 @@ module _ (ns : List Node) (before : List Ran) (why : Refusal) where
       up : here.up (step_node s) ≡ true → halt_answer say here s kept ≡ say (bit_of kept (step_plan here s).changes)
       up q = ap (λ (b : Bool). if b then say (bit_of kept (step_plan here s).changes) else answer.Refused refusal.Down) q
 
-  unmoved-beside : (roll : Node → Answer) (l : Line) (kept : Bool) (c : Node) → line_answer worlds roll l kept ≡ answer.Refused why → IsUnmoved (worlds c) (world_beside (worlds c) l)
+  unmoved-beside : (roll : NodeId → Answer) (l : Line) (kept : Bool) (c : CircuitId) → line_answer worlds roll l kept ≡ answer.Refused why → IsUnmoved (worlds c) (world_beside (worlds c) l)
   unmoved-beside roll (line.Stop n) kept c h = cc
   unmoved-beside roll (line.Start n) kept c h = cc
   unmoved-beside roll (line.Cut calls fill s) kept c h = unmoved-stop answer.Cut s kept c (λ b x. cc) h
   unmoved-beside roll (line.Fail call s) kept c h = unmoved-stop answer.Fault s kept c (λ b x. cc) h
   unmoved-beside roll _ kept c h = unmoved-same (worlds c)
 
-pub unmoved-worlds : (ns : List Node) (before : List Ran) (r : Ran) (why : Refusal) (c : Node) → lines_fit (before ++ r ∷ []) ≡ true → answer_to ns before r ≡ answer.Refused why → IsUnmoved (whole_world ns c before) (whole_world ns c (before ++ r ∷ []))
+pub unmoved-worlds : (ns : List NodeId) (before : List Ran) (r : Ran) (why : Refusal) (c : CircuitId) → lines_fit (before ++ r ∷ []) ≡ true → answer_to ns before r ≡ answer.Refused why → IsUnmoved (whole_world ns c before) (whole_world ns c (before ++ r ∷ []))
 unmoved-worlds ns before r why c f h = go (bool_cases (names c r.line))
   where
-    roll : Node → Answer
+    roll : NodeId → Answer
     roll n = roll_answer ns (before ++ r ∷ []) n
 
     told : line_answer (λ i. whole_world ns i before) roll r.line r.kept ≡ answer.Refused why

@@ -5,7 +5,7 @@ use Rattle.std.specs.Prelude.{Option, Some, None}
 use Rattle.std.specs.List.{filter}
 use Rattle.std.specs.Str.{bytes_eq}
 use Rattle.spl_agree.proofs.Tests.{if_holds, bool_cases, and_left, and_right, or_left, or_right}
-use Rattle.spl_circuit.specs.Nodes.{Node, has_node, is_below, inserted, sorted}
+use Rattle.spl_circuit.specs.Nodes.{NodeId, CircuitId, has_node, is_below, inserted, sorted}
 use Rattle.spl_circuit.specs.Rules.{ascends, ascends_after}
 use Rattle.spl_circuit.proofs.Order.{below_trans, same_from_ties, not_below_itself}
 use Rattle.spl_sched.specs.Grammar.{circuit_of}
@@ -28,7 +28,7 @@ or_both : (a b : Bool) → a ≡ false → b ≡ false → (a || b) ≡ false
 or_both a b h k = rw (h, k)
 
 -- an id at the front, or behind it
-has_inserted : (x : Node) (ys : List Node) (m : Node) → has_node (inserted x ys) m ≡ (bytes_eq x m || has_node ys m)
+has_inserted : (x : NodeId) (ys : List NodeId) (m : NodeId) → has_node (inserted x ys) m ≡ (bytes_eq x m || has_node ys m)
 has_inserted x [] m = refl
 has_inserted x (y ∷ ys) m = go (bool_cases (is_below y x)) (has_inserted x ys m)
   where
@@ -41,11 +41,11 @@ has_inserted x (y ∷ ys) m = go (bool_cases (is_below y x)) (has_inserted x ys 
     go (inl q) hyp = rw (q, hyp) (swap (bytes_eq y m) (bytes_eq x m) (has_node ys m))
     go (inr q) hyp = rw q
 
-has_sorted : (xs : List Node) (m : Node) → has_node (sorted xs) m ≡ has_node xs m
+has_sorted : (xs : List NodeId) (m : NodeId) → has_node (sorted xs) m ≡ has_node xs m
 has_sorted [] m = refl
 has_sorted (x ∷ xs) m = has_inserted x (sorted xs) m ∙ ap (λ (b : Bool). bytes_eq x m || b) (has_sorted xs m)
 
-has_filter : (p : Node → Bool) (xs : List Node) (m : Node) → has_node (filter p xs) m ≡ (has_node xs m && p m)
+has_filter : (p : NodeId → Bool) (xs : List NodeId) (m : NodeId) → has_node (filter p xs) m ≡ (has_node xs m && p m)
 has_filter p [] m = refl
 has_filter p (x ∷ xs) m = go (bool_cases (p x)) (bool_cases (bytes_eq x m)) (has_filter p xs m)
   where
@@ -64,11 +64,11 @@ has_filter p (x ∷ xs) m = go (bool_cases (p x)) (bool_cases (bytes_eq x m)) (h
 
 -- ---- ids in order
 
-weaken : (m k : Node) (ks : List Node) → is_below m k ≡ true → ascends_after k ks ≡ true → ascends_after m ks ≡ true
+weaken : (m k : NodeId) (ks : List NodeId) → is_below m k ≡ true → ascends_after k ks ≡ true → ascends_after m ks ≡ true
 weaken m k [] p h = refl
 weaken m k (j ∷ js) p h = rw (below_trans m k j p (and_left (is_below k j) (ascends_after j js) h)) (and_right (is_below k j) (ascends_after j js) h)
 
-filter-after : (p : Node → Bool) (m : Node) (xs : List Node) → ascends_after m xs ≡ true → ascends_after m (filter p xs) ≡ true
+filter-after : (p : NodeId → Bool) (m : NodeId) (xs : List NodeId) → ascends_after m xs ≡ true → ascends_after m (filter p xs) ≡ true
 filter-after p m [] h = refl
 filter-after p m (x ∷ xs) h = go (bool_cases (p x)) (filter-after p x xs (and_right (is_below m x) (ascends_after x xs) h))
   where
@@ -79,11 +79,11 @@ filter-after p m (x ∷ xs) h = go (bool_cases (p x)) (filter-after p x xs (and_
     go (inl q) hyp = rw (q, below) hyp
     go (inr q) hyp = rw q (weaken m x (filter p xs) below hyp)
 
-after-ascends : (m : Node) (xs : List Node) → ascends_after m xs ≡ true → ascends xs ≡ true
+after-ascends : (m : NodeId) (xs : List NodeId) → ascends_after m xs ≡ true → ascends xs ≡ true
 after-ascends m [] h = refl
 after-ascends m (x ∷ xs) h = and_right (is_below m x) (ascends_after x xs) h
 
-filter-ascends : (p : Node → Bool) (xs : List Node) → ascends xs ≡ true → ascends (filter p xs) ≡ true
+filter-ascends : (p : NodeId → Bool) (xs : List NodeId) → ascends xs ≡ true → ascends (filter p xs) ≡ true
 filter-ascends p [] h = refl
 filter-ascends p (x ∷ xs) h = go (bool_cases (p x)) (filter-after p x xs h)
   where
@@ -92,14 +92,14 @@ filter-ascends p (x ∷ xs) h = go (bool_cases (p x)) (filter-after p x xs h)
     go (inr q) hyp = rw q (after-ascends x (filter p xs) hyp)
 
 -- of two ids one is below the other
-below_or : (x y : Node) → is_below y x ≡ false → bytes_eq y x ≡ false → is_below x y ≡ true
+below_or : (x y : NodeId) → is_below y x ≡ false → bytes_eq y x ≡ false → is_below x y ≡ true
 below_or x y h d = go (bool_cases (is_below x y))
   where
     go : (is_below x y ≡ true) ⊎ (is_below x y ≡ false) → is_below x y ≡ true
     go (inl q) = q
     go (inr q) = absurd (node_not y x d (same_from_ties y x h q))
 
-inserted-after : (m x : Node) (ys : List Node) → is_below m x ≡ true → has_node ys x ≡ false → ascends_after m ys ≡ true → ascends_after m (inserted x ys) ≡ true
+inserted-after : (m x : NodeId) (ys : List NodeId) → is_below m x ≡ true → has_node ys x ≡ false → ascends_after m ys ≡ true → ascends_after m (inserted x ys) ≡ true
 inserted-after m x [] b n h = rw b
 inserted-after m x (y ∷ ys) b n h = go (bool_cases (is_below y x)) (λ q. inserted-after y x ys q (or_right (bytes_eq y x) (has_node ys x) n) rest)
   where
@@ -113,7 +113,7 @@ inserted-after m x (y ∷ ys) b n h = go (bool_cases (is_below y x)) (λ q. inse
     go (inl q) hyp = rw (q, first) (hyp q)
     go (inr q) hyp = rw (q, b, below_or x y q (or_left (bytes_eq y x) (has_node ys x) n)) rest
 
-inserted-ascends : (x : Node) (ys : List Node) → has_node ys x ≡ false → ascends ys ≡ true → ascends (inserted x ys) ≡ true
+inserted-ascends : (x : NodeId) (ys : List NodeId) → has_node ys x ≡ false → ascends ys ≡ true → ascends (inserted x ys) ≡ true
 inserted-ascends x [] n h = refl
 inserted-ascends x (y ∷ ys) n h = go (bool_cases (is_below y x))
   where
@@ -122,7 +122,7 @@ inserted-ascends x (y ∷ ys) n h = go (bool_cases (is_below y x))
     go (inr q) = rw (q, below_or x y q (or_left (bytes_eq y x) (has_node ys x) n)) h
 
 -- ids that are below all of a list aren't in it
-not_in : (m : Node) (xs : List Node) → ascends_after m xs ≡ true → has_node xs m ≡ false
+not_in : (m : NodeId) (xs : List NodeId) → ascends_after m xs ≡ true → has_node xs m ≡ false
 not_in m [] h = refl
 not_in m (x ∷ xs) h = or_both (bytes_eq x m) (has_node xs m) (go (bool_cases (bytes_eq x m))) (not_in m xs (weaken m x xs below (and_right (is_below m x) (ascends_after x xs) h)))
   where
@@ -130,11 +130,11 @@ not_in m (x ∷ xs) h = or_both (bytes_eq x m) (has_node xs m) (go (bool_cases (
     below = and_left (is_below m x) (ascends_after x xs) h
 
     go : (bytes_eq x m ≡ true) ⊎ (bytes_eq x m ≡ false) → bytes_eq x m ≡ false
-    go (inl q) = let e : is_below m m ≡ true = subst (λ (z : Node). is_below m z ≡ true) (node_is x m q) below in let f : is_below m m ≡ false = not_below_itself m in cc
+    go (inl q) = let e : is_below m m ≡ true = subst (λ (z : NodeId). is_below m z ≡ true) (node_is x m q) below in let f : is_below m m ≡ false = not_below_itself m in cc
     go (inr q) = q
 
 -- two lists in order with the same ids are one
-ascending-same : (xs ys : List Node) → ascends xs ≡ true → ascends ys ≡ true → ((m : Node) → has_node xs m ≡ has_node ys m) → xs ≡ ys
+ascending-same : (xs ys : List NodeId) → ascends xs ≡ true → ascends ys ≡ true → ((m : NodeId) → has_node xs m ≡ has_node ys m) → xs ≡ ys
 ascending-same [] [] h k e = refl
 ascending-same [] (y ∷ ys) h k e = let p : false ≡ (bytes_eq y y || has_node ys y) = e y in let q : bytes_eq y y ≡ true = node_same y in absurd (no (p ∙ ap (λ (b : Bool). b || has_node ys y) q))
   where
@@ -144,12 +144,12 @@ ascending-same (x ∷ xs) [] h k e = let p : (bytes_eq x x || has_node xs x) ≡
   where
     no : false ≡ true → ⊥
     no z = cc
-ascending-same (x ∷ xs) (y ∷ ys) h k e = ap (λ (z : Node). z ∷ xs) first ∙ ap (λ (zs : List Node). y ∷ zs) (ascending-same xs ys (after-ascends x xs h) (after-ascends y ys k) rest)
+ascending-same (x ∷ xs) (y ∷ ys) h k e = ap (λ (z : NodeId). z ∷ xs) first ∙ ap (λ (zs : List NodeId). y ∷ zs) (ascending-same xs ys (after-ascends x xs h) (after-ascends y ys k) rest)
   where
     no : {b : Bool} → b ≡ true → b ≡ false → ⊥
     no p q = cc
 
-    front : (a : Node) (as2 : List Node) → has_node (a ∷ as2) a ≡ true
+    front : (a : NodeId) (as2 : List NodeId) → has_node (a ∷ as2) a ≡ true
     front a as2 = rw (node_same a)
 
     above : is_below x y ≡ true → ⊥
@@ -165,21 +165,21 @@ ascending-same (x ∷ xs) (y ∷ ys) h k e = ap (λ (z : Node). z ∷ xs) first 
     first : x ≡ y
     first = same_from_ties x y (is_not (is_below x y) above) (is_not (is_below y x) below)
 
-    rest : (m : Node) → has_node xs m ≡ has_node ys m
+    rest : (m : NodeId) → has_node xs m ≡ has_node ys m
     rest m = go (bool_cases (bytes_eq x m))
       where
         there : bytes_eq y m ≡ bytes_eq x m
-        there = ap (λ (z : Node). bytes_eq z m) (sym first)
+        there = ap (λ (z : NodeId). bytes_eq z m) (sym first)
 
         go : (bytes_eq x m ≡ true) ⊎ (bytes_eq x m ≡ false) → has_node xs m ≡ has_node ys m
         go (inl q) =
             let is : x ≡ m = node_is x m q in
-            subst (λ (z : Node). has_node xs z ≡ false) is (not_in x xs h) ∙ sym (subst (λ (z : Node). has_node ys z ≡ false) (sym first ∙ is) (not_in y ys k))
+            subst (λ (z : NodeId). has_node xs z ≡ false) is (not_in x xs h) ∙ sym (subst (λ (z : NodeId). has_node ys z ≡ false) (sym first ∙ is) (not_in y ys k))
         go (inr q) = rw (there, q) at (e m)
 
 -- ---- the circuits that lines name
 
-has_and : (o : Option Node) (cs : List Node) (c : Node) → has_node (and_circuit o cs) c ≡ (names_circuit c o || has_node cs c)
+has_and : (o : Option NodeId) (cs : List NodeId) (c : CircuitId) → has_node (and_circuit o cs) c ≡ (names_circuit c o || has_node cs c)
 has_and None cs c = refl
 has_and (Some i) cs c = go (bool_cases (has_node cs i))
   where
@@ -188,7 +188,7 @@ has_and (Some i) cs c = go (bool_cases (has_node cs i))
     twice false h = refl
 
     go : (has_node cs i ≡ true) ⊎ (has_node cs i ≡ false) → has_node (and_circuit (Some i) cs) c ≡ (bytes_eq i c || has_node cs c)
-    go (inl q) = rw q (twice (bytes_eq i c) (λ e. subst (λ (z : Node). has_node cs z ≡ true) (node_is i c e) q))
+    go (inl q) = rw q (twice (bytes_eq i c) (λ e. subst (λ (z : NodeId). has_node cs z ≡ true) (node_is i c e) q))
     go (inr q) = rw q
 
 -- each once
@@ -196,12 +196,12 @@ circuits-ascend : (rs : List Ran) → ascends (sorted (circuits_in rs)) ≡ true
 circuits-ascend [] = refl
 circuits-ascend (r ∷ rs) = more (circuit_of r.line) (circuits_in rs) (circuits-ascend rs)
   where
-    more : (o : Option Node) (cs : List Node) → ascends (sorted cs) ≡ true → ascends (sorted (and_circuit o cs)) ≡ true
+    more : (o : Option NodeId) (cs : List NodeId) → ascends (sorted cs) ≡ true → ascends (sorted (and_circuit o cs)) ≡ true
     more None cs h = h
-    more (Some i) cs h = if_holds (λ (xs : List Node). ascends (sorted xs) ≡ true) (has_node cs i) cs (i ∷ cs) (λ q. h) (λ q. inserted-ascends i (sorted cs) (has_sorted cs i ∙ q) h)
+    more (Some i) cs h = if_holds (λ (xs : List NodeId). ascends (sorted xs) ≡ true) (has_node cs i) cs (i ∷ cs) (λ q. h) (λ q. inserted-ascends i (sorted cs) (has_sorted cs i ∙ q) h)
 
 -- where no line names a circuit, its cells are empty
-unnamed : (c : Node) (rs : List Ran) → has_node (circuits_in rs) c ≡ false → AllConcern [] c rs
+unnamed : (c : CircuitId) (rs : List Ran) → has_node (circuits_in rs) c ≡ false → AllConcern [] c rs
 unnamed c [] h = tt
 unnamed c (r ∷ rs) h = ((λ q. absurd (not_named q)), unnamed c rs (or_right (names c r.line) (has_node (circuits_in rs) c) none))
   where
@@ -211,7 +211,7 @@ unnamed c (r ∷ rs) h = ((λ q. absurd (not_named q)), unnamed c rs (or_right (
     not_named : names c r.line ≡ true → ⊥
     not_named q = let p : names c r.line ≡ false = or_left (names c r.line) (has_node (circuits_in rs) c) none in cc
 
-unnamed-empty : (ns : List Node) (c : Node) (rs : List Ran) (n : Node) → lines_fit rs ≡ true → has_node (circuits_in rs) c ≡ false → (whole_world ns c rs).at n ≡ Empty
+unnamed-empty : (ns : List NodeId) (c : CircuitId) (rs : List Ran) (n : NodeId) → lines_fit rs ≡ true → has_node (circuits_in rs) c ≡ false → (whole_world ns c rs).at n ≡ Empty
 unnamed-empty ns c rs n f h = within-empty [] n ((whole_world ns c rs).at n) refl (p.confined.cells n)
   where
     p : IsPair [] (lines_world (first_world ns) (own_among c [] rs)) (whole_world ns c rs)
@@ -220,18 +220,18 @@ unnamed-empty ns c rs n f h = within-empty [] n ((whole_world ns c rs).at n) ref
 -- ---- the roll
 
 -- the cell of a circuit is bound at a node
-abbrev is_bound_there : List Node → List Ran → Node → Node → Bool
+abbrev is_bound_there : List NodeId → List Ran → NodeId → NodeId → Bool
 is_bound_there ns rs n c = is_bound ((whole_world ns c rs).at n)
 
-pub bound-whole : (ns : List Node) (rs : List Ran) (n : Node) → lines_fit rs ≡ true → bound_at ns rs n ≡ filter (is_bound_there ns rs n) (sorted (circuits_in rs))
-bound-whole ns rs n f = ap (λ (p : Node → Bool). filter p (sorted (circuits_in rs))) (fun_ext (λ c. ap (λ (w : World). is_bound (w.at n)) ((own-pair ns c rs f).alike.is)))
+pub bound-whole : (ns : List NodeId) (rs : List Ran) (n : NodeId) → lines_fit rs ≡ true → bound_at ns rs n ≡ filter (is_bound_there ns rs n) (sorted (circuits_in rs))
+bound-whole ns rs n f = ap (λ (p : NodeId → Bool). filter p (sorted (circuits_in rs))) (fun_ext (λ c. ap (λ (w : World). is_bound (w.at n)) ((own-pair ns c rs f).alike.is)))
 
-pub bound-ascends : (ns : List Node) (rs : List Ran) (n : Node) → ascends (bound_at ns rs n) ≡ true
+pub bound-ascends : (ns : List NodeId) (rs : List Ran) (n : NodeId) → ascends (bound_at ns rs n) ≡ true
 bound-ascends ns rs n = filter-ascends (λ c. is_bound ((circuit_world ns c rs).at n)) (sorted (circuits_in rs)) (circuits-ascend rs)
 
-pub bound-has : (ns : List Node) (rs : List Ran) (n c : Node) → lines_fit rs ≡ true → has_node (bound_at ns rs n) c ≡ is_bound ((whole_world ns c rs).at n)
+pub bound-has : (ns : List NodeId) (rs : List Ran) (n : NodeId) (c : CircuitId) → lines_fit rs ≡ true → has_node (bound_at ns rs n) c ≡ is_bound ((whole_world ns c rs).at n)
 bound-has ns rs n c f =
-    ap (λ (xs : List Node). has_node xs c) (bound-whole ns rs n f)
+    ap (λ (xs : List NodeId). has_node xs c) (bound-whole ns rs n f)
     ∙ (has_filter (is_bound_there ns rs n) (sorted (circuits_in rs)) c
     ∙ (ap (λ (b : Bool). b && is_bound_there ns rs n c) (has_sorted (circuits_in rs) c)
     ∙ go (bool_cases (has_node (circuits_in rs) c))))
@@ -241,5 +241,5 @@ bound-has ns rs n c f =
     go (inr q) = rw (q, unnamed-empty ns c rs n f q)
 
 -- a list in order that has these is the roll
-pub bound-is : (ns : List Node) (rs : List Ran) (n : Node) (xs : List Node) → lines_fit rs ≡ true → ascends xs ≡ true → ((c : Node) → has_node xs c ≡ is_bound ((whole_world ns c rs).at n)) → xs ≡ bound_at ns rs n
+pub bound-is : (ns : List NodeId) (rs : List Ran) (n : NodeId) (xs : List CircuitId) → lines_fit rs ≡ true → ascends xs ≡ true → ((c : CircuitId) → has_node xs c ≡ is_bound ((whole_world ns c rs).at n)) → xs ≡ bound_at ns rs n
 bound-is ns rs n xs f h k = ascending-same xs (bound_at ns rs n) h (bound-ascends ns rs n) (λ c. k c ∙ sym (bound-has ns rs n c f))

@@ -2,7 +2,7 @@
 use Rattle.std.proofs.Common.{◌≡◌, ◌⊎◌, Bool, true, false, List, [], ◌∷◌, ◌++◌, append-nil, append_assoc, refl, sym, ap, subst, ◌∙◌, inl, inr}
 use Rattle.std.specs.Prelude.{Some, if◌then◌else◌}
 use Rattle.spl_agree.proofs.Tests.{if_holds, bool_cases, and_left, and_right}
-use Rattle.spl_circuit.specs.Nodes.{Node, has_node}
+use Rattle.spl_circuit.specs.Nodes.{NodeId, CircuitId, has_node}
 use Rattle.spl_wire.specs.declared.answer.Answer.{Answer}
 use Rattle.spl_wire.specs.declared.answer.Answer.TheVariants as answer
 use Rattle.spl_sched.specs.declared.line.Line.{Line}
@@ -20,33 +20,33 @@ abbrev pub named_answer : World → Ran → Answer
 named_answer w r = line_answer (λ c. w) (λ n. answer.Power true) r.line r.kept
 
 -- the answers to the lines that name a circuit, in a world where its own lines run
-abbrev pub named_answers : Node → World → List Ran → List Answer
+abbrev pub named_answers : NodeId → World → List Ran → List Answer
 named_answers c w [] = []
 named_answers c w (r ∷ rs) =
     if names c r.line then named_answer w r ∷ named_answers c (line_world w r.line r.kept) rs
     else named_answers c (line_world w r.line r.kept) rs
 
 -- no line that names a circuit asks for a roll
-unrolled : (c : Node) (ws : Node → World) (roll roll2 : Node → Answer) (l : Line) (kept : Bool) → names c l ≡ true → line_answer ws roll l kept ≡ line_answer ws roll2 l kept
+unrolled : (c : CircuitId) (ws : NodeId → World) (roll roll2 : NodeId → Answer) (l : Line) (kept : Bool) → names c l ≡ true → line_answer ws roll l kept ≡ line_answer ws roll2 l kept
 unrolled c ws roll roll2 (line.Roll n) kept q = cc
 unrolled c ws roll roll2 _ kept q = refl
 
 -- a line names one circuit
-named-one_circuit : (c i : Node) (l : Line) → names c l ≡ true → names i l ≡ true → i ≡ c
+named-one_circuit : (c i : CircuitId) (l : Line) → names c l ≡ true → names i l ≡ true → i ≡ c
 named-one_circuit c i l q z = let x : circuit_of l ≡ Some c = names-is c l q in let y : circuit_of l ≡ Some i = names-is i l z in cc
 
 -- stops and starts are none of these
-named-one : (c : Node) (w : World) (ns : List Node) (n : Node) (l : Line) (xs : List Ran) → names c l ≡ false → named_answers c w (at_one_of ns n l ++ xs) ≡ named_answers c (lines_world w (at_one_of ns n l)) xs
+named-one : (c : CircuitId) (w : World) (ns : List NodeId) (n : NodeId) (l : Line) (xs : List Ran) → names c l ≡ false → named_answers c w (at_one_of ns n l ++ xs) ≡ named_answers c (lines_world w (at_one_of ns n l)) xs
 named-one c w ns n l xs h = if_holds (λ (ys : List Ran). named_answers c w (ys ++ xs) ≡ named_answers c (lines_world w ys) xs) (has_node ns n) _ _ (λ q. rw h) (λ q. refl)
 
-named-beside : (c : Node) (w : World) (ns : List Node) (l : Line) (xs : List Ran) → named_answers c w (beside ns l ++ xs) ≡ named_answers c (lines_world w (beside ns l)) xs
+named-beside : (c : CircuitId) (w : World) (ns : List NodeId) (l : Line) (xs : List Ran) → named_answers c w (beside ns l ++ xs) ≡ named_answers c (lines_world w (beside ns l)) xs
 named-beside c w ns (line.Stop n) xs = named-one c w ns n (line.Stop n) xs refl
 named-beside c w ns (line.Start n) xs = named-one c w ns n (line.Start n) xs refl
 named-beside c w ns (line.Cut calls f s) xs = named-one c w ns (step_node s) (line.Stop (step_node s)) xs refl
 named-beside c w ns (line.Fail call s) xs = named-one c w ns (step_node s) (line.Stop (step_node s)) xs refl
 named-beside c w ns _ xs = refl
 
-module _ (all : List Node) (c : Node) (ns : List Node) where
+module _ (all : List NodeId) (c : CircuitId) (ns : List NodeId) where
   -- the world behind own lines
   abbrev here : List Ran → World
   here rs = lines_world (first_world all) (own_among c ns rs)
@@ -76,8 +76,8 @@ module _ (all : List Node) (c : Node) (ns : List Node) where
           ∙ (sym (answer-alike (λ i. here before) (λ i. whole_world all i before) (λ n. roll_answer all (before ++ r ∷ []) n) r.line r.kept alike)
           ∙ unrolled c (λ i. here before) (λ n. roll_answer all (before ++ r ∷ []) n) (λ n. answer.Power true) r.line r.kept q)
         where
-          alike : (i : Node) → names i r.line ≡ true → IsAlikeFor r.line (here before) (whole_world all i before)
-          alike i z = subst (λ (j : Node). IsAlikeFor r.line (here before) (whole_world all j before)) (sym (named-one_circuit c i r.line q z)) (record { nodes = ns; within = named-within ns c r.line q (k.0 q); alike = pair.alike })
+          alike : (i : CircuitId) → names i r.line ≡ true → IsAlikeFor r.line (here before) (whole_world all i before)
+          alike i z = subst (λ (j : NodeId). IsAlikeFor r.line (here before) (whole_world all j before)) (sym (named-one_circuit c i r.line q z)) (record { nodes = ns; within = named-within ns c r.line q (k.0 q); alike = pair.alike })
 
       own_is : names c r.line ≡ true → own_line c ns r ≡ r ∷ []
       own_is q = rw q
@@ -99,35 +99,35 @@ module _ (all : List Node) (c : Node) (ns : List Node) where
           ∙ sym (named-beside c (here before) ns r.line (own_among c ns rs)))))
 
 -- of its own lines alone
-pub about-own : (all : List Node) (c : Node) (rs : List Ran) → lines_fit rs ≡ true → answers_about all c [] rs ≡ named_answers c (first_world all) (own c rs)
+pub about-own : (all : List NodeId) (c : CircuitId) (rs : List Ran) → lines_fit rs ≡ true → answers_about all c [] rs ≡ named_answers c (first_world all) (own c rs)
 about-own all c rs f = about-named all c (concerned c rs) [] rs refl f tt (all-concern (concerned c rs) c rs (within-same (concerned c rs)))
 
 -- equal own lines, equal answers
-pub equal-answers : (all : List Node) (c : Node) (rs ss : List Ran) → lines_fit rs ≡ true → lines_fit ss ≡ true → own c rs ≡ own c ss → answers_about all c [] rs ≡ answers_about all c [] ss
+pub equal-answers : (all : List NodeId) (c : CircuitId) (rs ss : List Ran) → lines_fit rs ≡ true → lines_fit ss ≡ true → own c rs ≡ own c ss → answers_about all c [] rs ≡ answers_about all c [] ss
 equal-answers all c rs ss f g e = about-own all c rs f ∙ (ap (λ (xs : List Ran). named_answers c (first_world all) xs) e ∙ sym (about-own all c ss g))
 
 -- ---- a line that leaves nothing
 
-concerned-append : (c : Node) (xs ys : List Ran) → concerned c (xs ++ ys) ≡ concerned c xs ++ concerned c ys
+concerned-append : (c : CircuitId) (xs ys : List Ran) → concerned c (xs ++ ys) ≡ concerned c xs ++ concerned c ys
 concerned-append c [] ys = refl
-concerned-append c (x ∷ xs) ys = ap (λ (ns : List Node). first ++ ns) (concerned-append c xs ys) ∙ sym (append_assoc first (concerned c xs) (concerned c ys))
+concerned-append c (x ∷ xs) ys = ap (λ (ns : List NodeId). first ++ ns) (concerned-append c xs ys) ∙ sym (append_assoc first (concerned c xs) (concerned c ys))
   where
-    first : List Node
+    first : List NodeId
     first = if names c x.line then line_concerns x.line else []
 
-concerned-drop : (c : Node) (xs ys : List Ran) (r : Ran) → names c r.line ≡ false → concerned c (xs ++ r ∷ ys) ≡ concerned c (xs ++ ys)
-concerned-drop c xs ys r h = concerned-append c xs (r ∷ ys) ∙ (ap (λ (ns : List Node). concerned c xs ++ ns) one ∙ sym (concerned-append c xs ys))
+concerned-drop : (c : CircuitId) (xs ys : List Ran) (r : Ran) → names c r.line ≡ false → concerned c (xs ++ r ∷ ys) ≡ concerned c (xs ++ ys)
+concerned-drop c xs ys r h = concerned-append c xs (r ∷ ys) ∙ (ap (λ (ns : List NodeId). concerned c xs ++ ns) one ∙ sym (concerned-append c xs ys))
   where
     one : concerned c (r ∷ ys) ≡ concerned c ys
     one = rw h
 
 -- a line that doesn't name the circuit, and leaves no stop or start of a node concerned, is dropped
-pub own-drop : (c : Node) (xs ys : List Ran) (r : Ran) → names c r.line ≡ false → beside (concerned c (xs ++ ys)) r.line ≡ [] → own c (xs ++ r ∷ ys) ≡ own c (xs ++ ys)
+pub own-drop : (c : CircuitId) (xs ys : List Ran) (r : Ran) → names c r.line ≡ false → beside (concerned c (xs ++ ys)) r.line ≡ [] → own c (xs ++ r ∷ ys) ≡ own c (xs ++ ys)
 own-drop c xs ys r h e =
-    ap (λ (ns : List Node). own_among c ns (xs ++ r ∷ ys)) (concerned-drop c xs ys r h)
+    ap (λ (ns : List NodeId). own_among c ns (xs ++ r ∷ ys)) (concerned-drop c xs ys r h)
     ∙ (own-append c all xs (r ∷ ys) ∙ (ap (λ (zs : List Ran). own_among c all xs ++ zs) one ∙ sym (own-append c all xs ys)))
   where
-    all : List Node
+    all : List NodeId
     all = concerned c (xs ++ ys)
 
     line_is : own_line c all r ≡ []

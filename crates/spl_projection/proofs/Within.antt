@@ -18,7 +18,7 @@ use Rattle.spl_circuit.specs.declared.definition.Definition.{Definition}
 use Rattle.spl_circuit.specs.declared.act.ActKind.{ActKind}
 use Rattle.spl_circuit.specs.declared.act.ActKind.TheVariants as kind
 use Rattle.spl_circuit.specs.declared.act.Act.{Act}
-use Rattle.spl_circuit.specs.Nodes.{Node, has_node, position, node_or}
+use Rattle.spl_circuit.specs.Nodes.{NodeId, ServiceId, has_node, position, node_or}
 use Rattle.spl_circuit.specs.Rules.{broken, admin, is_member}
 use Rattle.spl_circuit.specs.Acts.{act_rules, is_node}
 use Rattle.spl_circuit.specs.Lifecycle.{is_proposed}
@@ -52,9 +52,9 @@ moved-pending : {V : Type 0} (g : Group V) (i : ℕ) (m : Member V) (o : OpenMov
 moved-pending g i m move.Keep may h = h
 moved-pending g i m _ may h = h
 
-module _ (ns : List Node) where
+module _ (ns : List NodeId) where
   -- all of these are among the nodes
-  abbrev pub are_within : List Node → Bool
+  abbrev pub are_within : List NodeId → Bool
   are_within ms = list_all (has_node ns) ms
 
   -- the members that an act proposes are
@@ -70,7 +70,7 @@ module _ (ns : List Node) where
   is_message_within (message.Scabbard i s t x) = true
 
   -- what a cell is bound to, and what is pending there
-  abbrev pub IsCellWithin : Node → Cell → Type 0
+  abbrev pub IsCellWithin : NodeId → Cell → Type 0
   IsCellWithin n Empty = Unit {0}
   IsCellWithin n (Purged old) = has_node ns n ≡ true
   IsCellWithin n (Held b) = (has_node ns n ≡ true) × (are_within b.definition.members ≡ true) × (list_all is_act_within b.acts.pending ≡ true)
@@ -85,7 +85,7 @@ module _ (ns : List Node) where
   abbrev pub AllWithin : List Change → Type 0
   AllWithin xs = list_all is_change_within xs ≡ true
 
-  within-made_one : (n : Node) (k : Cell) (x : Change) → has_node ns n ≡ true → is_change_within x ≡ true → IsCellWithin n k → IsCellWithin n (made_one n k x)
+  within-made_one : (n : NodeId) (k : Cell) (x : Change) → has_node ns n ≡ true → is_change_within x ≡ true → IsCellWithin n k → IsCellWithin n (made_one n k x)
   within-made_one n (Held b) (durable.Bind d) h i k = (h, i, refl)
   within-made_one n (Held b) (durable.Admin x) h i k = (h, k.1, pending-changed is_act_within (act_rules b.definition) b.acts x i k.2)
   within-made_one n (Held b) durable.Purge h i k = h
@@ -98,26 +98,26 @@ module _ (ns : List Node) where
   within-made_one n (Purged old) (durable.Gone u) h i k = h
   within-made_one n (Purged old) _ h i k = k
 
-  pub within-made : (n : Node) (k : Cell) (xs : List Change) → has_node ns n ≡ true → AllWithin xs → IsCellWithin n k → IsCellWithin n (made n k xs)
+  pub within-made : (n : NodeId) (k : Cell) (xs : List Change) → has_node ns n ≡ true → AllWithin xs → IsCellWithin n k → IsCellWithin n (made n k xs)
   within-made n k [] h i w = w
   within-made n k (x ∷ xs) h i w = within-made n (made_one n k x) xs h (and_right (is_change_within x) (list_all is_change_within xs) i) (within-made_one n k x h (and_left (is_change_within x) (list_all is_change_within xs) i) w)
 
-  pub within-moved : (n : Node) (k : Cell) (x y : OpenMove) → IsCellWithin n k → IsCellWithin n (moved_cell n k x y)
+  pub within-moved : (n : NodeId) (k : Cell) (x y : OpenMove) → IsCellWithin n k → IsCellWithin n (moved_cell n k x y)
   within-moved n (Held b) x y w = (w.0, w.1, moved-pending (admin_group b.definition) (position b.definition.members n) b.acts x is_act_within w.2)
   within-moved n _ x y w = w
 
-  pub within-stopped : (n : Node) (k : Cell) → IsCellWithin n k → IsCellWithin n (stopped_cell k)
+  pub within-stopped : (n : NodeId) (k : Cell) → IsCellWithin n k → IsCellWithin n (stopped_cell k)
   within-stopped n Empty w = w
   within-stopped n _ w = w
 
   -- a cell elsewhere is empty
-  pub within-empty : (n : Node) (k : Cell) → has_node ns n ≡ false → IsCellWithin n k → k ≡ Empty
+  pub within-empty : (n : NodeId) (k : Cell) → has_node ns n ≡ false → IsCellWithin n k → k ≡ Empty
   within-empty n Empty h w = refl
   within-empty n (Purged old) h w = cc
   within-empty n (Held b) h w = let q : has_node ns n ≡ true = w.0 in cc
 
   -- where a cell is open, its node is one of these
-  pub open-within : (n : Node) (k : Cell) → is_open_cell k ≡ true → IsCellWithin n k → has_node ns n ≡ true
+  pub open-within : (n : NodeId) (k : Cell) → is_open_cell k ≡ true → IsCellWithin n k → has_node ns n ≡ true
   open-within n (Held b) h w = w.0
   open-within n _ h w = cc
 
@@ -129,18 +129,18 @@ module _ (ns : List Node) where
   abbrev pub AllGo : List Outgoing → Type 0
   AllGo os = list_all is_outgoing_within os ≡ true
 
-  within-node_or : (ms : List Node) (back : Node) (p : ℕ) → are_within ms ≡ true → has_node ns back ≡ true → has_node ns (node_or ms back p) ≡ true
+  within-node_or : (ms : List NodeId) (back : NodeId) (p : ℕ) → are_within ms ≡ true → has_node ns back ≡ true → has_node ns (node_or ms back p) ≡ true
   within-node_or [] back p h k = k
   within-node_or (m ∷ ms) back zero h k = and_left (has_node ns m) (are_within ms) h
   within-node_or (m ∷ ms) back (suc p) h k = within-node_or ms back p (and_right (has_node ns m) (are_within ms) h) k
 
-  within-admin_sends : (site : Site) (d : Definition) (back : Node) (ss : List (ℕ × CommitMsg Act)) → are_within d.members ≡ true → has_node ns back ≡ true → AllCarry is_act_within ss → AllGo (group_sends (admin_lane site d) back ss)
+  within-admin_sends : (site : Site) (d : Definition) (back : NodeId) (ss : List (ℕ × CommitMsg Act)) → are_within d.members ≡ true → has_node ns back ≡ true → AllCarry is_act_within ss → AllGo (group_sends (admin_lane site d) back ss)
   within-admin_sends site d back [] h k x = refl
   within-admin_sends site d back (s ∷ ss) h k x =
       rw (within-node_or d.members back s.0 h k, and_left (send_carries is_act_within s) (list_all (send_carries is_act_within) ss) x)
       (within-admin_sends site d back ss h k (and_right (send_carries is_act_within s) (list_all (send_carries is_act_within) ss) x))
 
-  within-service_sends : (site : Site) (d : Definition) (back : Node) (ss : List (ℕ × CommitMsg Batch)) → are_within d.members ≡ true → has_node ns back ≡ true → AllGo (group_sends (service_lane site d) back ss)
+  within-service_sends : (site : Site) (d : Definition) (back : NodeId) (ss : List (ℕ × CommitMsg Batch)) → are_within d.members ≡ true → has_node ns back ≡ true → AllGo (group_sends (service_lane site d) back ss)
   within-service_sends site d back [] h k = refl
   within-service_sends site d back (s ∷ ss) h k = rw (within-node_or d.members back s.0 h k) (within-service_sends site d back ss h k)
 
@@ -210,7 +210,7 @@ module _ (ns : List Node) where
   within-planned site _ h w = record { changes = refl; sends = refl }
 
   -- the cell behind a plan
-  pub within-after : (n : Node) (k : Cell) (p : Plan) → has_node ns n ≡ true → IsPlanWithin p → IsCellWithin n k → IsCellWithin n (after_plan n k p)
+  pub within-after : (n : NodeId) (k : Cell) (p : Plan) → has_node ns n ≡ true → IsPlanWithin p → IsCellWithin n k → IsCellWithin n (after_plan n k p)
   within-after n k p h w i = within-moved n (made n k p.changes) p.admin p.service (within-made n k p.changes h w.changes i)
 
   -- ---- events
@@ -276,28 +276,28 @@ module _ (ns : List Node) where
   within-turns site b x y h i p k = if_holds IsDeedWithin (is_open b.mark) _ _ (λ o. if_holds IsDeedWithin (runs b) _ _ (λ q. (i, p, k)) (λ q. (i, h, p, k))) (λ o. tt)
 
   -- messages
-  within-asked : (site : Site) (k : Cell) (from : Node) (gen r place : ℕ) (v : Act) (w : ActKind) → has_node ns from ≡ true → is_act_within v ≡ true → is_kind_within w ≡ true → IsDeedWithin (asked_first site k from gen r place v w)
+  within-asked : (site : Site) (k : Cell) (from : NodeId) (gen r place : ℕ) (v : Act) (w : ActKind) → has_node ns from ≡ true → is_act_within v ≡ true → is_kind_within w ≡ true → IsDeedWithin (asked_first site k from gen r place v w)
   within-asked site k from gen r place v (kind.Propose d) h i j = if_holds IsDeedWithin (place == 0 && (can_bind site k gen d && bytes_eq (admin d) from)) _ _ (λ q. (j, h, i)) (λ q. (h, refl))
   within-asked site k from gen r place v _ h i j = (h, refl)
 
-  within-forwarded : (site : Site) (k : Cell) (from : Node) (gen : ℕ) (v : Act) (w : ActKind) → has_node ns from ≡ true → is_act_within v ≡ true → is_kind_within w ≡ true → IsDeedWithin (forwarded_first site k from gen v w)
+  within-forwarded : (site : Site) (k : Cell) (from : NodeId) (gen : ℕ) (v : Act) (w : ActKind) → has_node ns from ≡ true → is_act_within v ≡ true → is_kind_within w ≡ true → IsDeedWithin (forwarded_first site k from gen v w)
   within-forwarded site k from gen v (kind.Propose d) h i j = if_holds IsDeedWithin (can_bind site k gen d && (bytes_eq (admin d) site.here && (bytes_eq v.node from && (is_member d from && not (bytes_eq from site.here))))) _ _ (λ q. (j, h, i)) (λ q. (h, i))
   within-forwarded site k from gen v _ h i j = tt
 
-  within-first : (site : Site) (k : Cell) (from : Node) (x : CommitMsg Act) → has_node ns from ≡ true → carries is_act_within x ≡ true → IsDeedWithin (hears_first site k from x)
+  within-first : (site : Site) (k : Cell) (from : NodeId) (x : CommitMsg Act) → has_node ns from ≡ true → carries is_act_within x ≡ true → IsDeedWithin (hears_first site k from x)
   within-first site k from (msg.VoteRequest gen r place v) h i = within-asked site k from gen r place v v.kind h i i
   within-first site k from (msg.Forward gen v) h i = within-forwarded site k from gen v v.kind h i i
   within-first site k from _ h i = tt
 
-  within-other : (site : Site) (from s t : Node) (x : CommitMsg Batch) → has_node ns from ≡ true → IsDeedWithin (serves_other site from s t x)
+  within-other : (site : Site) (from : NodeId) (s t : ServiceId) (x : CommitMsg Batch) → has_node ns from ≡ true → IsDeedWithin (serves_other site from s t x)
   within-other site from s t (msg.VoteRequest gen r place v) h = (h, refl)
   within-other site from s t _ h = tt
 
-  within-routed : (site : Site) (b : Bound) (from s t : Node) (x : CommitMsg Batch) (o : Way) → has_node ns from ≡ true → are_within b.definition.members ≡ true → IsDeedWithin (routed o (hears_routed site b from s t x))
+  within-routed : (site : Site) (b : Bound) (from : NodeId) (s t : ServiceId) (x : CommitMsg Batch) (o : Way) → has_node ns from ≡ true → are_within b.definition.members ≡ true → IsDeedWithin (routed o (hears_routed site b from s t x))
   within-routed site b from s t x (Err f) h i = tt
   within-routed site b from s t x (Ok y) h i = if_holds IsDeedWithin (generation_of x == b.definition.generation) _ _ (λ q. (i, h)) (λ q. within-other site from s t x h)
 
-  within-hears : (site : Site) (b : Bound) (from : Node) (x : Message) → has_node ns from ≡ true → is_message_within x ≡ true → are_within b.definition.members ≡ true → list_all is_act_within b.acts.pending ≡ true → IsDeedWithin (held_hears site b from x)
+  within-hears : (site : Site) (b : Bound) (from : NodeId) (x : Message) → has_node ns from ≡ true → is_message_within x ≡ true → are_within b.definition.members ≡ true → list_all is_act_within b.acts.pending ≡ true → IsDeedWithin (held_hears site b from x)
   within-hears site b from (message.Admin c2 x) h k i p = if_holds IsDeedWithin (is_open b.mark && generation_of x == b.definition.generation) _ _ (λ q. (i, h, p, k)) (λ q. within-first site (Held b) from x h k)
   within-hears site b from (message.Scabbard c2 s t x) h k i p = within-routed site b from s t x (way site b from s t) h i
 

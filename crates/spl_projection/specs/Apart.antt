@@ -1,18 +1,18 @@
 -- A line moves the world of its own circuit, a stop or a start that of each; no other is moved (docs/RULES.md, Circuits as
 -- worlds).
 use Rattle.std.proofs.Common.{◌≡◌, true, false, List, [], ◌∷◌, ◌++◌, refl, ◌∙◌}
-use Rattle.spl_circuit.specs.Nodes.{Node}
+use Rattle.spl_circuit.specs.Nodes.{NodeId, CircuitId}
 use Rattle.spl_model.specs.Worlds.{World, first_world}
 use Rattle.spl_model.specs.Projection.{Ran, names}
 use Rattle.spl_model.specs.Answers.{line_world}
 use Rattle.spl_projection.specs.Whole.{world_beside, world_after, whole_from, whole_world}
 
-pub whole_from-append : (c : Node) (w : World) (xs ys : List Ran) → whole_from c w (xs ++ ys) ≡ whole_from c (whole_from c w xs) ys
+pub whole_from-append : (c : CircuitId) (w : World) (xs ys : List Ran) → whole_from c w (xs ++ ys) ≡ whole_from c (whole_from c w xs) ys
 whole_from-append c w [] ys = refl
 whole_from-append c w (x ∷ xs) ys = whole_from-append c (world_after c w x) xs ys
 
-pub moves-own : (ns : List Node) (before : List Ran) (r : Ran) (c : Node) → names c r.line ≡ true → whole_world ns c (before ++ r ∷ []) ≡ line_world (whole_world ns c before) r.line r.kept
+pub moves-own : (ns : List NodeId) (before : List Ran) (r : Ran) (c : CircuitId) → names c r.line ≡ true → whole_world ns c (before ++ r ∷ []) ≡ line_world (whole_world ns c before) r.line r.kept
 moves-own ns before r c h = whole_from-append c (first_world ns) before (r ∷ []) ∙ rw h
 
-pub moves-beside : (ns : List Node) (before : List Ran) (r : Ran) (c : Node) → names c r.line ≡ false → whole_world ns c (before ++ r ∷ []) ≡ world_beside (whole_world ns c before) r.line
+pub moves-beside : (ns : List NodeId) (before : List Ran) (r : Ran) (c : CircuitId) → names c r.line ≡ false → whole_world ns c (before ++ r ∷ []) ≡ world_beside (whole_world ns c before) r.line
 moves-beside ns before r c h = whole_from-append c (first_world ns) before (r ∷ []) ∙ rw h

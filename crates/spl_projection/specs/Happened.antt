@@ -1,6 +1,6 @@
 -- What happens in the world of a circuit in all lines (docs/RULES.md, Circuits as worlds).
 use Rattle.std.specs.Prelude.{List, [], ◌∷◌, ◌++◌, if◌then◌else◌}
-use Rattle.spl_circuit.specs.Nodes.{Node}
+use Rattle.spl_circuit.specs.Nodes.{NodeId, CircuitId}
 use Rattle.spl_sched.specs.declared.line.Line.{Line}
 use Rattle.spl_sched.specs.declared.line.Line.TheVariants as line
 use Rattle.spl_sched.specs.Grammar.{step_node}
@@ -18,13 +18,13 @@ happened_beside (line.Fail call s) = Stops (step_node s) ∷ []
 happened_beside _ = []
 
 -- in any line
-abbrev pub happened_in : Node → World → Ran → List Occurrence
+abbrev pub happened_in : CircuitId → World → Ran → List Occurrence
 happened_in c w r = if names c r.line then occurrences_in w r.line r.kept else happened_beside r.line
 
-abbrev pub happened_from : Node → World → List Ran → List Occurrence
+abbrev pub happened_from : CircuitId → World → List Ran → List Occurrence
 happened_from c w [] = []
 happened_from c w (r ∷ rs) = happened_in c w r ++ happened_from c (world_after c w r) rs
 
 -- in all lines
-abbrev pub whole_happened : List Node → Node → List Ran → List Occurrence
+abbrev pub whole_happened : List NodeId → CircuitId → List Ran → List Occurrence
 whole_happened ns c rs = happened_from c (first_world ns) rs

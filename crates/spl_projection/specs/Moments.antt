@@ -1,6 +1,6 @@
 -- The moments of a line (docs/RULES.md, Circuits as worlds).
 use Rattle.std.specs.Prelude.{◌≡◌, true, false, List, ◌++◌}
-use Rattle.spl_circuit.specs.Nodes.{Node}
+use Rattle.spl_circuit.specs.Nodes.{NodeId, CircuitId}
 use Rattle.spl_rules.specs.Cells.{Cell}
 use Rattle.spl_model.specs.Worlds.{World, Occurrence, occur}
 use Rattle.spl_model.specs.Projection.{Ran, names}
@@ -15,6 +15,6 @@ pub record IsMoment (w : World) (r : Ran) (m : World) : Type 0 where
 
 -- what each node keeps of each circuit at one moment of a line: of the circuit that the line names, what its world has at
 -- that moment, the same for all nodes; of any other, what its world has before the line
-pub record AreAtMoment (own other : Node → World) (r : Ran) (cells : Node → Node → Cell) : Type 0 where
-  pub named : (c : Node) → names c r.line ≡ true → (m : World) × IsMoment (own c) r m × ((n : Node) → cells c n ≡ m.at n)
-  pub others : (c : Node) → names c r.line ≡ false → (n : Node) → cells c n ≡ (other c).at n
+pub record AreAtMoment (own other : CircuitId → World) (r : Ran) (cells : CircuitId → NodeId → Cell) : Type 0 where
+  pub named : (c : CircuitId) → names c r.line ≡ true → (m : World) × IsMoment (own c) r m × ((n : NodeId) → cells c n ≡ m.at n)
+  pub others : (c : CircuitId) → names c r.line ≡ false → (n : NodeId) → cells c n ≡ (other c).at n

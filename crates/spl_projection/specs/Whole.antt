@@ -1,6 +1,6 @@
 -- The world of a circuit where the stops and starts of all nodes count (docs/RULES.md, Circuits as worlds).
 use Rattle.std.specs.Prelude.{List, [], ◌∷◌, if◌then◌else◌}
-use Rattle.spl_circuit.specs.Nodes.{Node}
+use Rattle.spl_circuit.specs.Nodes.{NodeId, CircuitId}
 use Rattle.spl_sched.specs.declared.line.Line.{Line}
 use Rattle.spl_sched.specs.declared.line.Line.TheVariants as line
 use Rattle.spl_sched.specs.Grammar.{step_node}
@@ -17,13 +17,13 @@ world_beside w (line.Fail call s) = happens w (Stops (step_node s))
 world_beside w _ = w
 
 -- any line
-abbrev pub world_after : Node → World → Ran → World
+abbrev pub world_after : CircuitId → World → Ran → World
 world_after c w r = if names c r.line then line_world w r.line r.kept else world_beside w r.line
 
-abbrev pub whole_from : Node → World → List Ran → World
+abbrev pub whole_from : CircuitId → World → List Ran → World
 whole_from c w [] = w
 whole_from c w (r ∷ rs) = whole_from c (world_after c w r) rs
 
 -- the world of a circuit behind all lines: nodes that keep all circuits stand for this one
-abbrev pub whole_world : List Node → Node → List Ran → World
+abbrev pub whole_world : List NodeId → CircuitId → List Ran → World
 whole_world ns c rs = whole_from c (first_world ns) rs

@@ -2,7 +2,7 @@
 #![tactic(auto)]
 
 ghost use Rattle.std.specs.Prelude.{◌≡◌, Bool, true, false, List, [], ◌∷◌, ◌++◌};
-ghost use Rattle.spl_circuit.specs.Nodes.{Node, has_node};
+ghost use Rattle.spl_circuit.specs.Nodes.{NodeId, CircuitId, has_node};
 ghost use Rattle.spl_circuit.specs.Rules.{ascends};
 ghost use Rattle.spl_wire.specs.declared.answer.Refusal.{Refusal};
 ghost use Rattle.spl_wire.specs.declared.answer.Answer.TheVariants as answer;
@@ -18,8 +18,8 @@ ghost use Rattle.spl_projection.specs.Moments.{IsMoment, AreAtMoment};
 /// A line that names a circuit moves that circuit's world; a stop or a start, also one in an event
 /// of another circuit, is one in each; no other line moves a world.
 pub fn circuits_are_apart()
-    ensures own { (ns : List Node) (before : List Ran) (r : Ran) (c : Node) → names c r.line ≡ true → whole_world ns c (before ++ r ∷ []) ≡ line_world (whole_world ns c before) r.line r.kept }
-    ensures others { (ns : List Node) (before : List Ran) (r : Ran) (c : Node) → names c r.line ≡ false → whole_world ns c (before ++ r ∷ []) ≡ world_beside (whole_world ns c before) r.line }
+    ensures own { (ns : List NodeId) (before : List Ran) (r : Ran) (c : CircuitId) → names c r.line ≡ true → whole_world ns c (before ++ r ∷ []) ≡ line_world (whole_world ns c before) r.line r.kept }
+    ensures others { (ns : List NodeId) (before : List Ran) (r : Ran) (c : CircuitId) → names c r.line ≡ false → whole_world ns c (before ++ r ∷ []) ≡ world_beside (whole_world ns c before) r.line }
 {}
 
 /// A circuit's world behind its own lines and the one behind all lines have the same cells and the
@@ -27,33 +27,33 @@ pub fn circuits_are_apart()
 /// a line is answered as in the worlds behind all lines. A node is up in that
 /// world of each circuit, or of none. Each moment of a line is one in both worlds.
 pub fn own_lines_suffice()
-    ensures same { (ns : List Node) (c : Node) (rs : List Ran) → lines_fit rs ≡ true → IsSameFor (concerned c rs) (circuit_world ns c rs) (whole_world ns c rs) }
-    ensures elsewhere { (ns : List Node) (c : Node) (rs : List Ran) (n : Node) → lines_fit rs ≡ true → has_node (concerned c rs) n ≡ false → (whole_world ns c rs).at n ≡ Empty }
-    ensures answer { (ns : List Node) (before : List Ran) (r : Ran) → lines_fit (before ++ r ∷ []) ≡ true → answer_to ns before r ≡ line_answer (λ c. whole_world ns c before) (λ n. roll_answer ns (before ++ r ∷ []) n) r.line r.kept }
-    ensures up { (ns : List Node) (c : Node) (rs : List Ran) (n : Node) → (whole_world ns c rs).up n ≡ is_up n rs }
-    ensures moments { (ns : List Node) (c : Node) (before : List Ran) (r : Ran) (m : World) → lines_fit (before ++ r ∷ []) ≡ true → names c r.line ≡ true → IsMoment (whole_world ns c before) r m → (n : World) × IsMoment (world_before ns c before r) r n × IsSameFor (concerned c (before ++ r ∷ [])) n m }
-    ensures cells { (ns : List Node) (before : List Ran) (r : Ran) (cells : Node → Node → Cell) → lines_fit (before ++ r ∷ []) ≡ true → AreAtMoment (λ c. whole_world ns c before) (λ c. whole_world ns c before) r cells → AreAtMoment (λ c. world_before ns c before r) (λ c. circuit_world ns c before) r cells }
+    ensures same { (ns : List NodeId) (c : CircuitId) (rs : List Ran) → lines_fit rs ≡ true → IsSameFor (concerned c rs) (circuit_world ns c rs) (whole_world ns c rs) }
+    ensures elsewhere { (ns : List NodeId) (c : CircuitId) (rs : List Ran) (n : NodeId) → lines_fit rs ≡ true → has_node (concerned c rs) n ≡ false → (whole_world ns c rs).at n ≡ Empty }
+    ensures answer { (ns : List NodeId) (before : List Ran) (r : Ran) → lines_fit (before ++ r ∷ []) ≡ true → answer_to ns before r ≡ line_answer (λ c. whole_world ns c before) (λ n. roll_answer ns (before ++ r ∷ []) n) r.line r.kept }
+    ensures up { (ns : List NodeId) (c : CircuitId) (rs : List Ran) (n : NodeId) → (whole_world ns c rs).up n ≡ is_up n rs }
+    ensures moments { (ns : List NodeId) (c : CircuitId) (before : List Ran) (r : Ran) (m : World) → lines_fit (before ++ r ∷ []) ≡ true → names c r.line ≡ true → IsMoment (whole_world ns c before) r m → (n : World) × IsMoment (world_before ns c before r) r n × IsSameFor (concerned c (before ++ r ∷ [])) n m }
+    ensures cells { (ns : List NodeId) (before : List Ran) (r : Ran) (cells : CircuitId → NodeId → Cell) → lines_fit (before ++ r ∷ []) ≡ true → AreAtMoment (λ c. whole_world ns c before) (λ c. whole_world ns c before) r cells → AreAtMoment (λ c. world_before ns c before r) (λ c. circuit_world ns c before) r cells }
 {}
 
 /// Two runs in which a circuit's own lines are the same give the same answers to the lines that
 /// name it. A line that doesn't name it, and leaves no stop or start of a node concerned, is none of
 /// its own.
 pub fn own_lines_decide()
-    ensures equal { (ns : List Node) (c : Node) (rs ss : List Ran) → lines_fit rs ≡ true → lines_fit ss ≡ true → own c rs ≡ own c ss → answers_about ns c [] rs ≡ answers_about ns c [] ss }
-    ensures dropped { (c : Node) (before behind : List Ran) (r : Ran) → names c r.line ≡ false → beside (concerned c (before ++ behind)) r.line ≡ [] → own c (before ++ r ∷ behind) ≡ own c (before ++ behind) }
+    ensures equal { (ns : List NodeId) (c : CircuitId) (rs ss : List Ran) → lines_fit rs ≡ true → lines_fit ss ≡ true → own c rs ≡ own c ss → answers_about ns c [] rs ≡ answers_about ns c [] ss }
+    ensures dropped { (c : CircuitId) (before behind : List Ran) (r : Ran) → names c r.line ≡ false → beside (concerned c (before ++ behind)) r.line ≡ [] → own c (before ++ r ∷ behind) ≡ own c (before ++ behind) }
 {}
 
 /// The roll of a node is the one list in order that has a circuit exactly where it is bound at the
 /// node.
 pub fn rolls_have_what_is_bound()
-    ensures ordered { (ns : List Node) (rs : List Ran) (n : Node) → ascends (bound_at ns rs n) ≡ true }
-    ensures bound { (ns : List Node) (rs : List Ran) (n c : Node) → lines_fit rs ≡ true → has_node (bound_at ns rs n) c ≡ is_bound ((whole_world ns c rs).at n) }
-    ensures only { (ns : List Node) (rs : List Ran) (n : Node) (xs : List Node) → lines_fit rs ≡ true → ascends xs ≡ true → ((c : Node) → has_node xs c ≡ is_bound ((whole_world ns c rs).at n)) → xs ≡ bound_at ns rs n }
+    ensures ordered { (ns : List NodeId) (rs : List Ran) (n : NodeId) → ascends (bound_at ns rs n) ≡ true }
+    ensures bound { (ns : List NodeId) (rs : List Ran) (n : NodeId) (c : CircuitId) → lines_fit rs ≡ true → has_node (bound_at ns rs n) c ≡ is_bound ((whole_world ns c rs).at n) }
+    ensures only { (ns : List NodeId) (rs : List Ran) (n : NodeId) (xs : List CircuitId) → lines_fit rs ≡ true → ascends xs ≡ true → ((c : CircuitId) → has_node xs c ≡ is_bound ((whole_world ns c rs).at n)) → xs ≡ bound_at ns rs n }
 {}
 
 /// A line that is refused, whatever the refusal, leaves the world of each circuit as it was.
 pub fn refusals_move_no_world()
-    ensures { (ns : List Node) (before : List Ran) (r : Ran) (why : Refusal) (c : Node) → lines_fit (before ++ r ∷ []) ≡ true → answer_to ns before r ≡ answer.Refused why → IsUnmoved (whole_world ns c before) (whole_world ns c (before ++ r ∷ [])) }
+    ensures { (ns : List NodeId) (before : List Ran) (r : Ran) (why : Refusal) (c : CircuitId) → lines_fit (before ++ r ∷ []) ≡ true → answer_to ns before r ≡ answer.Refused why → IsUnmoved (whole_world ns c before) (whole_world ns c (before ++ r ∷ [])) }
 {}
 
 /// Where an event without changes is cut off, it doesn't matter whether its record is kept.
