@@ -104,9 +104,7 @@ record IsMoved {V : Type 0} (rules : Rules V) (old new : Member V) : Type 0 wher
 
 moved-facts : {V : Type 0} (g : Group V) (here : ℕ) (a : Member V) (x : OpenMove) → IsMoved g.rules a (moved g here a x)
 moved-facts g here a move.Keep = record { checked = λ s. s; meets = λ may s. s; history = refl }
-moved-facts g here a (move.Begin r) = record { checked = λ s. checked-opened g.rules a _ s; meets = λ may s. meets-opened may a _ s; history = refl }
-moved-facts g here a (move.Yes i) = record { checked = λ s. checked-opened g.rules a _ s; meets = λ may s. meets-opened may a _ s; history = refl }
-moved-facts g here a move.Close = record { checked = λ s. checked-opened g.rules a _ s; meets = λ may s. meets-opened may a _ s; history = refl }
+moved-facts g here a _ = record { checked = λ s. checked-opened g.rules a _ s; meets = λ may s. meets-opened may a _ s; history = refl }
 
 kept-moved : (site : Site) (h : Bound) (x y : OpenMove) → IsHeld site h → IsKept site (moved_cell site.here (Held h) x y)
 kept-moved site h x y s =

@@ -14,7 +14,7 @@ use Rattle.spl_circuit.specs.declared.lifecycle.Lifecycle.TheVariants as lifecyc
 use Rattle.spl_circuit.specs.declared.act.ActKind.{ActKind}
 use Rattle.spl_circuit.specs.declared.act.ActKind.TheVariants as kind
 use Rattle.spl_circuit.specs.declared.act.Act.{Act}
-use Rattle.spl_circuit.specs.Nodes.{Node}
+use Rattle.spl_circuit.specs.Nodes.{NodeId}
 use Rattle.spl_circuit.specs.Rules.{is_member}
 use Rattle.spl_circuit.specs.Equality.{same_definition}
 use Rattle.spl_circuit.specs.Lifecycle.{life, is_proposed, is_active}
@@ -22,11 +22,8 @@ use Rattle.spl_circuit.specs.Acts.{reason, is_first, misfit_kind, misfit, act_ru
 use Rattle.spl_rules.specs.Cells.{Bound, is_active_here}
 
 active-proposed : (l : Lifecycle) → is_active l ≡ true → is_proposed l ≡ false
-active-proposed lifecycle.None h = refl
 active-proposed lifecycle.Proposed h = cc
-active-proposed lifecycle.Active h = refl
-active-proposed lifecycle.Rejected h = refl
-active-proposed lifecycle.Removed h = refl
+active-proposed _ h = refl
 
 active-later : (d : Definition) (acts : List Act) → is_active (life d acts).state ≡ true → is_first acts ≡ false
 active-later d [] h = cc
@@ -35,15 +32,13 @@ active-later d (a ∷ rest) h = refl
 some_not : (why : Reason) → Some why ≡ None → ⊥
 some_not why h = cc
 
-final-kind : (d : Definition) (acts : List Act) (n : Node) (k : ActKind) → is_active (life d acts).state ≡ true → misfit_kind d acts n k ≡ None → ⊥
+final-kind : (d : Definition) (acts : List Act) (n : NodeId) (k : ActKind) → is_active (life d acts).state ≡ true → misfit_kind d acts n k ≡ None → ⊥
 final-kind d acts n (kind.Propose e) h m = go (bool_cases (same_definition e d))
   where
     go : (same_definition e d ≡ true) ⊎ (same_definition e d ≡ false) → ⊥
     go (inl q) = some_not (reason 2) (rw (q, active-later d acts h) at m)
     go (inr q) = some_not (reason 5) (rw q at m)
-final-kind d acts n kind.Accept h m = some_not (reason 2) (rw (active-proposed (life d acts).state h) at m)
-final-kind d acts n kind.Reject h m = some_not (reason 2) (rw (active-proposed (life d acts).state h) at m)
-final-kind d acts n kind.Remove h m = some_not (reason 2) (rw (active-proposed (life d acts).state h) at m)
+final-kind d acts n _ h m = some_not (reason 2) (rw (active-proposed (life d acts).state h) at m)
 
 final : (d : Definition) (acts : List Act) (v : Act) → is_active (life d acts).state ≡ true → misfit d acts v ≡ None → ⊥
 final d acts v h m = go (bool_cases (is_member d v.node))

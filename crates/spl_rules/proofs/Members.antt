@@ -77,13 +77,8 @@ more-all may (u ∷ us) v h k = rw (and_left (may u) (list_all may us) h, more-a
 pub pending-changed : {V : Type 0} (rules : Rules V) (may : V → Bool) (m : Member V) (x : GroupChange V) → fits rules may m x ≡ true → list_all may m.pending ≡ true → list_all may (changed rules m x).pending ≡ true
 pending-changed rules may m (change.Queue v) h l = more-all may m.pending v l (and_right (nat_lt (length m.pending) 64) (may v) (and_right (is_none (known rules m v)) (nat_lt (length m.pending) 64 && may v) h))
 pending-changed rules may m (change.Refuse v why) h l = without-all may (rules.same_key v) m.pending l
-pending-changed rules may m (change.Begin r) h l = l
-pending-changed rules may m (change.Seen r) h l = l
-pending-changed rules may m (change.Promise r v) h l = l
-pending-changed rules may m change.Abort h l = l
 pending-changed rules may m (change.Commit r v) h l = without-all may (rules.same_key v) m.pending l
-pending-changed rules may m (change.Restore next seen) h l = l
-pending-changed rules may m (change.Kept v why) h l = l
+pending-changed rules may m _ h l = l
 
 -- ---- what each value meets
 
@@ -94,10 +89,8 @@ meets-new may = record { history = refl; pending = refl; refused = refl; promise
 pub meets-changed : {V : Type 0} (rules : Rules V) (may : V → Bool) (m : Member V) (x : GroupChange V) → meets may (value_in x) ≡ true → AllMeet may m → AllMeet may (changed rules m x)
 meets-changed rules may m (change.Queue v) h s = record { history = s.history; pending = more-all may m.pending v s.pending h; refused = s.refused; promise = s.promise }
 meets-changed rules may m (change.Refuse v why) h s = record { history = s.history; pending = without-all may (rules.same_key v) m.pending s.pending; refused = more-all (λ u. may u.0) m.refused (v, why) s.refused h; promise = s.promise }
-meets-changed rules may m (change.Begin r) h s = record { history = s.history; pending = s.pending; refused = s.refused; promise = s.promise }
-meets-changed rules may m (change.Seen r) h s = record { history = s.history; pending = s.pending; refused = s.refused; promise = s.promise }
 meets-changed {V} rules may m (change.Promise r v) h s = record { history = s.history; pending = s.pending; refused = s.refused; promise = λ e p. let same : (r, v) ≡ e = cc in subst (λ (x : ℕ × V). may x.1 ≡ true) same h }
 meets-changed rules may m change.Abort h s = record { history = s.history; pending = s.pending; refused = s.refused; promise = λ e p. cc }
 meets-changed rules may m (change.Commit r v) h s = record { history = rw (values-more m.history (r, v)) (more-all may (values m.history) v s.history h); pending = without-all may (rules.same_key v) m.pending s.pending; refused = s.refused; promise = λ e p. cc }
-meets-changed rules may m (change.Restore next seen) h s = record { history = s.history; pending = s.pending; refused = s.refused; promise = s.promise }
 meets-changed rules may m (change.Kept v why) h s = record { history = s.history; pending = s.pending; refused = more-all (λ u. may u.0) m.refused (v, why) s.refused h; promise = s.promise }
+meets-changed rules may m _ h s = record { history = s.history; pending = s.pending; refused = s.refused; promise = s.promise }

@@ -31,20 +31,16 @@ len64 n = wide64.len n
 module _ {V : Type 0} (f : Form V) (may : V → Bool) where
   bounded-body : ((v : V) → may v ≡ true → IsTrue (f.bounded v)) → (x : CommitMsg V) → carries may x ≡ true → IsTrue ((body f).bounded x)
   bounded-body b (msg.VoteRequest gen r place v) k = b v k
-  bounded-body b (msg.Vote gen r aye) k = refl
-  bounded-body b (msg.Decision gen r commit) k = refl
-  bounded-body b (msg.DecisionRequest gen r) k = refl
   bounded-body b (msg.Forward gen v) k = b v k
   bounded-body b (msg.Refused gen v why) k = and_true (f.bounded v) true (b v k) refl
+  bounded-body b _ k = refl
 
   -- a tag, a generation, a round and a place are 17 bytes
   short-body : (most : ℕ) → ((v : V) → may v ≡ true → length (f.spell v) ≤ most) → (x : CommitMsg V) → carries may x ≡ true → length ((body f).spell x) ≤ most + 17
   short-body most s (msg.VoteRequest gen r place v) k = simp (length-append, len8, len32, len64) (omega (arith, s v k))
-  short-body most s (msg.Vote gen r aye) k = simp (length-append, len8, len32, len64) (omega arith)
-  short-body most s (msg.Decision gen r commit) k = simp (length-append, len8, len32, len64) (omega arith)
-  short-body most s (msg.DecisionRequest gen r) k = simp (length-append, len8, len32, len64) (omega arith)
   short-body most s (msg.Forward gen v) k = simp (length-append, len8, len32) (omega (arith, s v k))
   short-body most s (msg.Refused gen v why) k = simp (length-append, len8, len32) (omega (arith, s v k))
+  short-body most s _ k = simp (length-append, len8, len32, len64) (omega arith)
 
 pub sendable-legal : (m : Message) → is_legal m ≡ true → IsSendable m
 sendable-legal (message.Admin c x) h =

@@ -11,7 +11,7 @@ use Rattle.spl_agree.specs.Fits.{fits as fits_group}
 use Rattle.spl_agree.proofs.Tests.{bool_cases, and_left, and_right, or_left, or_right, not_true}
 use Rattle.spl_circuit.specs.declared.definition.Definition.{Definition}
 use Rattle.spl_circuit.specs.declared.act.Act.{Act}
-use Rattle.spl_circuit.specs.Nodes.{Node}
+use Rattle.spl_circuit.specs.Nodes.{NodeId}
 use Rattle.spl_circuit.specs.Acts.{act_rules}
 use Rattle.spl_rules.specs.Changes.{turn_after, may_queue}
 use Rattle.spl_rules.proofs.Rebuilt.{MayInTurn}
@@ -28,7 +28,7 @@ any-both : {A : Type 0} (p : A → Bool) (xs ys : List A) → list_any p xs ≡ 
 any-both p [] ys h k = k
 any-both p (x ∷ xs) ys h k = rw (or_left (p x) (list_any p xs) h, any-both p xs ys (or_right (p x) (list_any p xs) h) k)
 
-module _ (here : Node) where
+module _ (here : NodeId) where
   abbrev pub owns : List Act → Bool
   owns us = list_any (λ u. bytes_eq u.node here) us
 
@@ -75,13 +75,8 @@ module _ (here : Node) where
   pub mine-changed : (d : Definition) (turn : ℕ) (a : Member Act) (x : GroupChange Act) → fits_group (act_rules d) (may_queue here turn a.pending) a x ≡ true → Mine turn [] a.pending → Mine (turn_after here turn x) [] (changed (act_rules d) a x).pending
   mine-changed d turn a (change.Queue v) h m = mine-queue d turn a v (and_right _ (may_queue here turn a.pending v) (and_right _ _ h)) m
   mine-changed d turn a (change.Refuse v why) h m = mine-without turn ((act_rules d).same_key v) [] a.pending m
-  mine-changed d turn a (change.Begin r) h m = m
-  mine-changed d turn a (change.Seen r) h m = m
-  mine-changed d turn a (change.Promise r v) h m = m
-  mine-changed d turn a change.Abort h m = m
   mine-changed d turn a (change.Commit r v) h m = mine-without turn ((act_rules d).same_key v) [] a.pending m
-  mine-changed d turn a (change.Restore next seen) h m = m
-  mine-changed d turn a (change.Kept v why) h m = m
+  mine-changed d turn a _ h m = m
 
   le_same : (n : ℕ) → nat_le n n ≡ true
   le_same n = grind (arith, nat_tests)

@@ -3,16 +3,16 @@ use Rattle.std.proofs.Common.{◌≡◌, ◌≢◌, ◌⊎◌, suc, ◌<◌, ◌
 use Rattle.std.specs.Str.{bytes_eq}
 use Rattle.std.proofs.lemmas.Slice.Eq.{bytes_eq-Decides}
 use Rattle.spl_agree.proofs.Tests.{bool_cases}
-use Rattle.spl_circuit.specs.Nodes.{Node, has_node, before_node, position, node_or}
+use Rattle.spl_circuit.specs.Nodes.{NodeId, has_node, before_node, position, node_or}
 
-pub node_is : (a b : Node) → bytes_eq a b ≡ true → a ≡ b
+pub node_is : (a b : NodeId) → bytes_eq a b ≡ true → a ≡ b
 node_is a b = (bytes_eq-Decides a b).0
 
-pub node_same : (a : Node) → bytes_eq a a ≡ true
+pub node_same : (a : NodeId) → bytes_eq a a ≡ true
 node_same a = (bytes_eq-Decides a a).1 refl
 
 -- two members before which as many stand are one
-before_same : (ms : List Node) (a b : Node) → has_node ms a ≡ true → has_node ms b ≡ true → before_node ms a ≡ before_node ms b → a ≡ b
+before_same : (ms : List NodeId) (a b : NodeId) → has_node ms a ≡ true → has_node ms b ≡ true → before_node ms a ≡ before_node ms b → a ≡ b
 before_same [] a b p q e = cc
 before_same (m ∷ ms) a b p q e = go (bool_cases (bytes_eq m a)) (bool_cases (bytes_eq m b)) (before_same ms a b)
   where
@@ -22,7 +22,7 @@ before_same (m ∷ ms) a b p q e = go (bool_cases (bytes_eq m a)) (bool_cases (b
     go (inr x) (inl y) rest = let k : before_node (m ∷ ms) a ≡ suc (before_node ms a) = rw x in let l : before_node (m ∷ ms) b ≡ 0 = rw y in absurd (omega arith)
     go (inr x) (inr y) rest = let k : before_node (m ∷ ms) a ≡ suc (before_node ms a) = rw x in let l : before_node (m ∷ ms) b ≡ suc (before_node ms b) = rw y in rest (rw x at p) (rw y at q) (omega arith)
 
-before_below : (ms : List Node) (a : Node) → has_node ms a ≡ true → before_node ms a < length ms
+before_below : (ms : List NodeId) (a : NodeId) → has_node ms a ≡ true → before_node ms a < length ms
 before_below [] a p = cc
 before_below (m ∷ ms) a p = go (bool_cases (bytes_eq m a)) (before_below ms a)
   where
@@ -30,7 +30,7 @@ before_below (m ∷ ms) a p = go (bool_cases (bytes_eq m a)) (before_below ms a)
     go (inl x) rest = let k : before_node (m ∷ ms) a ≡ 0 = rw x in omega arith
     go (inr x) rest = let k : before_node (m ∷ ms) a ≡ suc (before_node ms a) = rw x in let l : before_node ms a < length ms = rest (rw x at p) in omega arith
 
-node_before : (ms : List Node) (back a : Node) → has_node ms a ≡ true → node_or ms back (before_node ms a) ≡ a
+node_before : (ms : List NodeId) (back a : NodeId) → has_node ms a ≡ true → node_or ms back (before_node ms a) ≡ a
 node_before [] back a p = cc
 node_before (m ∷ ms) back a p = go (bool_cases (bytes_eq m a)) (node_before ms back a)
   where
@@ -38,15 +38,15 @@ node_before (m ∷ ms) back a p = go (bool_cases (bytes_eq m a)) (node_before ms
     go (inl x) rest = let k : before_node (m ∷ ms) a ≡ 0 = rw x in rw k (node_is m a x)
     go (inr x) rest = let k : before_node (m ∷ ms) a ≡ suc (before_node ms a) = rw x in rw k (rest (rw x at p))
 
-position_member : (ms : List Node) (a : Node) → has_node ms a ≡ true → position ms a ≡ before_node ms a
+position_member : (ms : List NodeId) (a : NodeId) → has_node ms a ≡ true → position ms a ≡ before_node ms a
 position_member ms a h = rw h
 
 -- a member's position is below their number
-pub position_below : (ms : List Node) (a : Node) → has_node ms a ≡ true → position ms a < length ms
+pub position_below : (ms : List NodeId) (a : NodeId) → has_node ms a ≡ true → position ms a < length ms
 position_below ms a h = let k : position ms a ≡ before_node ms a = position_member ms a h in let l : before_node ms a < length ms = before_below ms a h in omega arith
 
 -- a node whose position is below their number is a member
-pub member_below : (ms : List Node) (a : Node) → length ms ≤ 8 → position ms a < length ms → has_node ms a ≡ true
+pub member_below : (ms : List NodeId) (a : NodeId) → length ms ≤ 8 → position ms a < length ms → has_node ms a ≡ true
 member_below ms a few l = go (bool_cases (has_node ms a))
   where
     go : (has_node ms a ≡ true) ⊎ (has_node ms a ≡ false) → has_node ms a ≡ true
@@ -54,7 +54,7 @@ member_below ms a few l = go (bool_cases (has_node ms a))
     go (inr q) = let k : position ms a ≡ 255 = rw q in absurd (omega arith)
 
 -- another node than a member has another position
-pub position_apart : (ms : List Node) (a b : Node) → length ms ≤ 8 → has_node ms a ≡ true → bytes_eq b a ≡ false → position ms b ≢ position ms a
+pub position_apart : (ms : List NodeId) (a b : NodeId) → length ms ≤ 8 → has_node ms a ≡ true → bytes_eq b a ≡ false → position ms b ≢ position ms a
 position_apart ms a b few p d e =
     let below : position ms a < length ms = position_below ms a p in
     let q : has_node ms b ≡ true = member_below ms b few (omega arith) in
@@ -62,5 +62,5 @@ position_apart ms a b few p d e =
     let yes : bytes_eq b a ≡ true = rw same (node_same a) in cc
 
 -- a member stands at its position
-pub node_at_position : (ms : List Node) (back a : Node) → has_node ms a ≡ true → node_or ms back (position ms a) ≡ a
+pub node_at_position : (ms : List NodeId) (back a : NodeId) → has_node ms a ≡ true → node_or ms back (position ms a) ≡ a
 node_at_position ms back a h = rw (position_member ms a h) (node_before ms back a h)

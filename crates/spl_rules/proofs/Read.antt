@@ -25,22 +25,15 @@ form-act v h =
 form-admin : (x : GroupChange Act) → IsTrue (change_form.fits (durable.Admin x)) → meets has_form (value_in x) ≡ true
 form-admin (change.Queue v) h = form-act v h
 form-admin (change.Refuse v why) h = form-act v (both_true (act.fits v) (reason.fits why) h).0
-form-admin (change.Begin r) h = refl
-form-admin (change.Seen r) h = refl
 form-admin (change.Promise r v) h = form-act v (both_true (long.fits r) (act.fits v) h).1
-form-admin change.Abort h = refl
 form-admin (change.Commit r v) h = form-act v (both_true (long.fits r) (act.fits v) h).1
-form-admin (change.Restore next seen) h = refl
 form-admin (change.Kept v why) h = form-act v (both_true (act.fits v) (reason.fits why) h).0
+form-admin _ h = refl
 
 form-one : (x : Change) → IsTrue (change_form.fits x) → is_formed x ≡ true
 form-one (durable.Bind d) h = h
 form-one (durable.Admin x) h = form-admin x h
-form-one (durable.Service x) h = refl
-form-one durable.Abandon h = refl
-form-one durable.Purge h = refl
-form-one (durable.Turn t) h = refl
-form-one (durable.Gone old) h = refl
+form-one _ h = refl
 
 read-formed : (xs : List Change) → IsTrue (list_all change_form.fits xs) → are_formed xs ≡ true
 read-formed [] h = refl

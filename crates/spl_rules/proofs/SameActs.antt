@@ -6,11 +6,11 @@ use Rattle.spl_circuit.specs.declared.definition.Definition.{Definition}
 use Rattle.spl_circuit.specs.declared.act.ActKind.{ActKind}
 use Rattle.spl_circuit.specs.declared.act.ActKind.TheVariants as kind
 use Rattle.spl_circuit.specs.declared.act.Act.{Act}
-use Rattle.spl_circuit.specs.Nodes.{Node, same_nodes}
+use Rattle.spl_circuit.specs.Nodes.{NodeId, same_nodes}
 use Rattle.spl_circuit.specs.Equality.{same_services, same_definition, same_kind, same_act}
 use Rattle.spl_rules.proofs.Positions.{node_same}
 
-nodes_same : (xs : List Node) → same_nodes xs xs ≡ true
+nodes_same : (xs : List NodeId) → same_nodes xs xs ≡ true
 nodes_same [] = refl
 nodes_same (x ∷ xs) = rw (node_same x, nodes_same xs)
 
@@ -23,9 +23,7 @@ definition_same d = rw (node_same d.id, eqb_same d.generation, eqb_same d.versio
 
 kind_same : (k : ActKind) → same_kind k k ≡ true
 kind_same (kind.Propose d) = definition_same d
-kind_same kind.Accept = refl
-kind_same kind.Reject = refl
-kind_same kind.Remove = refl
+kind_same _ = refl
 
 pub act_same : (a : Act) → same_act a a ≡ true
 act_same a = rw (node_same a.node, eqb_same a.turn, kind_same a.kind)

@@ -8,7 +8,7 @@ use Rattle.spl_agree.proofs.Tests.{bool_cases}
 use Rattle.spl_circuit.specs.declared.definition.Service.{Service}
 use Rattle.spl_circuit.specs.declared.definition.Definition.{Definition}
 use Rattle.spl_circuit.specs.Forms.{node_id, label, byte, word, circuit_id, service_id, service, definition}
-use Rattle.spl_circuit.specs.Nodes.{Node}
+use Rattle.spl_circuit.specs.Nodes.{NodeId}
 use Rattle.spl_circuit.specs.Rules.{service_of_node}
 use Rattle.spl_rules.specs.Plans.{or_none, service_on}
 
@@ -17,7 +17,7 @@ short-service s h =
     let b = both_true (service_id.fits s.id) _ h in
     (both_true (nat_le 4 (length s.id)) (nat_le (length s.id) 4) (both_true (nat_le 4 (length s.id) && nat_le (length s.id) 4) _ b.0).0).1
 
-short-among : (ss : List Service) (n : Node) → IsTrue (list_all service.fits ss) → nat_le (length (or_none (service_of_node ss n))) 4 ≡ true
+short-among : (ss : List Service) (n : NodeId) → IsTrue (list_all service.fits ss) → nat_le (length (or_none (service_of_node ss n))) 4 ≡ true
 short-among [] n h = refl
 short-among (s ∷ ss) n h = let b = both_true (service.fits s) (list_all service.fits ss) h in go (bool_cases (bytes_eq s.node n)) b.0 (short-among ss n b.1)
   where
@@ -35,5 +35,5 @@ services-form d h =
     let g = both_true (nat_le (length d.members) 16 && list_all node_id.fits d.members) _ f.1 in
     (both_true (nat_le (length d.services) 16) (list_all service.fits d.services) g.1).1
 
-pub short-service_on : (d : Definition) (n : Node) → IsTrue (definition.fits d) → nat_le (length (service_on d n)) 4 ≡ true
+pub short-service_on : (d : Definition) (n : NodeId) → IsTrue (definition.fits d) → nat_le (length (service_on d n)) 4 ≡ true
 short-service_on d n h = short-among d.services n (services-form d h)

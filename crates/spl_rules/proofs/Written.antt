@@ -118,47 +118,19 @@ IsWritten (Purged old) = IsTrue (word.fits old)
 -- a change of a group has a byte form where its fields have
 fits-admin : (x : GroupChange Act) → IsTrue (change_form.fits (durable.Admin x)) → IsTrue (fits_change act x)
 fits-admin (change.Queue v) h = h
-fits-admin (change.Refuse v why) h = h
-fits-admin (change.Begin n) h = h
-fits-admin (change.Seen n) h = h
-fits-admin (change.Promise n v) h = h
-fits-admin change.Abort h = h
-fits-admin (change.Commit n v) h = h
-fits-admin (change.Restore n s) h = h
-fits-admin (change.Kept v why) h = h
+fits-admin _ h = h
 
 admin-fits : (x : GroupChange Act) → IsTrue (fits_change act x) → IsTrue (change_form.fits (durable.Admin x))
 admin-fits (change.Queue v) h = h
-admin-fits (change.Refuse v why) h = h
-admin-fits (change.Begin n) h = h
-admin-fits (change.Seen n) h = h
-admin-fits (change.Promise n v) h = h
-admin-fits change.Abort h = h
-admin-fits (change.Commit n v) h = h
-admin-fits (change.Restore n s) h = h
-admin-fits (change.Kept v why) h = h
+admin-fits _ h = h
 
 fits-service : (x : GroupChange Batch) → IsTrue (change_form.fits (durable.Service x)) → IsTrue (fits_change batch x)
 fits-service (change.Queue v) h = h
-fits-service (change.Refuse v why) h = h
-fits-service (change.Begin n) h = h
-fits-service (change.Seen n) h = h
-fits-service (change.Promise n v) h = h
-fits-service change.Abort h = h
-fits-service (change.Commit n v) h = h
-fits-service (change.Restore n s) h = h
-fits-service (change.Kept v why) h = h
+fits-service _ h = h
 
 service-fits : (x : GroupChange Batch) → IsTrue (fits_change batch x) → IsTrue (change_form.fits (durable.Service x))
 service-fits (change.Queue v) h = h
-service-fits (change.Refuse v why) h = h
-service-fits (change.Begin n) h = h
-service-fits (change.Seen n) h = h
-service-fits (change.Promise n v) h = h
-service-fits change.Abort h = h
-service-fits (change.Commit n v) h = h
-service-fits (change.Restore n s) h = h
-service-fits (change.Kept v why) h = h
+service-fits _ h = h
 
 act-turn : (v : Act) → IsTrue (act.fits v) → IsTrue (word.fits v.turn)
 act-turn v h = (both_true (word.fits v.turn) _ (both_true (node_id.fits v.node) _ h).1).0
