@@ -1,5 +1,5 @@
 -- Durable changes, by entries.
-use Rattle.std.proofs.Common.{◌≡◌, ◌⊎◌, ◌↔◌, ℕ, suc, ◌+◌, ◌-◌, ◌^◌, ◌<◌, Bool, true, false, ◌&&◌, ◌||◌, List, [], ◌∷◌, ◌++◌, length, refl, sym, ap, subst, ◌∙◌, inl, inr, arith}
+use Rattle.std.proofs.Common.{◌≡◌, ◌⊎◌, ◌↔◌, ℕ, suc, ◌-◌, ◌^◌, ◌<◌, Bool, true, false, ◌&&◌, ◌||◌, List, [], ◌∷◌, length, refl, sym, ap, subst, ◌∙◌, inl, inr, arith}
 use Rattle.std.specs.Prelude.{Option, Some, None, is_none, nat_lt, ◌==◌}
 use Rattle.std.specs.List.{Contains, IsDistinct, list_any}
 use Rattle.std.specs.Map.{lookup, keys_of}
@@ -49,18 +49,6 @@ commit-room n b h = ltb_is n (2 ^ 32 - 1) (and_left (nat_lt n (2 ^ 32 - 1)) b h)
 pub commit-good : (a : Bool) (o : Option Reason) → (a && is_none o) ≡ true → o ≡ None
 commit-good a None h = refl
 commit-good a (Some x) h = absurd (let q : is_none (Some x) ≡ true = and_right a (is_none (Some x)) h in cc)
-
-pub length-values : {V : Type 0} (h : List (ℕ × V)) → length (values h) ≡ length h
-length-values [] = refl
-length-values (e ∷ es) = ap suc (length-values es)
-
-pub values-more : {V : Type 0} (h : List (ℕ × V)) (e : ℕ × V) → values (h ++ e ∷ []) ≡ values h ++ e.1 ∷ []
-values-more [] e = refl
-values-more (x ∷ xs) e = ap (λ vs. x.1 ∷ vs) (values-more xs e)
-
-pub length-one : {A : Type 0} (xs : List A) (x : A) → length (xs ++ x ∷ []) ≡ length xs + 1
-length-one [] x = refl
-length-one (y ∷ ys) x = let h : length (ys ++ x ∷ []) ≡ length ys + 1 = length-one ys x in omega arith
 
 -- the value under a key, against an equal one that is pending
 pub same-pending : {K V : Type 0} (eq : K → K → Bool) (key : V → K) (same : V → V → Bool) (q : V → Bool) (v u : V) (es : List (K × V)) → IsEquivalence eq → ((a b : V) → (same a b ≡ true) ↔ (a ≡ b)) → ((a : V) → eq (key v) (key a) ≡ q a) → AreKeyed key es → IsDistinct eq (keys_of es) → found q (seconds es) ≡ Some u → same u v ≡ list_any (λ a. same a v) (seconds es)

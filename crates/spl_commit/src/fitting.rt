@@ -4,7 +4,7 @@ ghost use Rattle.spl_agree.specs.Member.{known, values, found_refused};
 ghost use Rattle.spl_agree.specs.Fits.{has_nothing, is_new, fits, any_value, is_pending};
 
 use crate::Member;
-use spl_agree::{Agreed, GroupChange, Round};
+use spl_agree::{Agreed, GroupChange, MOST_PENDING, Round};
 use spl_queue::Known;
 use std::alloc::{AllocError, Global};
 
@@ -55,16 +55,15 @@ impl<M: Agreed> Member<M> {
     {
         match self.in_queue(value) {
             Known::No => true,
-            Known::Pending(_) => false,
-            Known::Refused(_, _) => false,
+            _ => false,
         }
     }
 
-    /// Whether a value isn't known, and fewer than 64 are pending.
+    /// Whether a value isn't known, and fewer than `MOST_PENDING` are pending.
     fn may_queue(&self, value: &M::Value) -> bool
         ensures { result ≡ fits (M.rules self.now.content) any_value self.now.state (GroupChange.Queue value.now) }
     {
-        self.is_unknown(value) && self.pending_len() < 64
+        self.is_unknown(value) && (self.pending_len() as usize) < MOST_PENDING
     }
 
     /// Whether nothing is known of the key of a value.
@@ -75,8 +74,7 @@ impl<M: Agreed> Member<M> {
             Some(_) => false,
             None => match self.in_queue(value) {
                 Known::No => true,
-                Known::Pending(_) => false,
-                Known::Refused(_, _) => false,
+                _ => false,
             },
         }
     }

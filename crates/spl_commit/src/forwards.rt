@@ -6,12 +6,9 @@ ghost use Rattle.spl_commit.specs.Views.{group_by};
 
 use crate::Member;
 use crate::plans::{changes_one, nothing, sends_one};
-use spl_agree::{Admit, Agreed, CommitMsg, GroupChange, GroupPlan, Note, Reason};
+use spl_agree::{Admit, Agreed, CommitMsg, GroupChange, GroupPlan, MOST_PENDING, Note, Reason};
 use spl_queue::Known;
 use std::alloc::{AllocError, Global};
-
-/// A value of that key is known here with other content.
-const OTHER_VALUE: Reason = Reason { code: 8, at: 0 };
 
 impl<M: Agreed> Member<M> {
     /// A forwarded value.
@@ -120,7 +117,7 @@ impl<M: Agreed> Member<M> {
         if self.is_same(there, value) {
             return Ok(nothing(alloc, Note::Ignored));
         }
-        self.returns(alloc, sender, value, OTHER_VALUE)
+        self.returns(alloc, sender, value, Reason::ID_TAKEN)
     }
 
     /// A value whose key was refused.
@@ -137,7 +134,7 @@ impl<M: Agreed> Member<M> {
         if self.is_same(there, value) {
             self.returns(alloc, sender, value, reason)
         } else {
-            self.returns(alloc, sender, value, OTHER_VALUE)
+            self.returns(alloc, sender, value, Reason::ID_TAKEN)
         }
     }
 
@@ -149,7 +146,7 @@ impl<M: Agreed> Member<M> {
     ) -> Result<GroupPlan<M::Value>, AllocError>
         ensures { IfOk result (λ p. p ≡ forwarded_new self.now.state value.now) }
     {
-        if self.pending_len() == 64 {
+        if self.pending_len() as usize == MOST_PENDING {
             return Ok(nothing(alloc, Note::Ignored));
         }
         let value = M::copy(alloc, value)?;

@@ -11,7 +11,8 @@ use std::alloc::{AllocError, Global};
 use std::hash::Hash;
 use std::marker::Model;
 
-/// The committed rounds and values in their order, with the first place of each key and of each round. Contracts see the list.
+/// The committed rounds and values in their order, with the first place of each key and of each
+/// round. Contracts see the list.
 #[derive(Drop)]
 pub struct History<M: Agreed> {
     entries: Vec<(Round, M::Value)>,
@@ -87,7 +88,8 @@ impl<M: Agreed> History<M> {
         }
     }
 
-    /// A round and its value join it and the list of a content. After want of memory both are as they were.
+    /// A round and its value join it and the list of a content. After want of memory both are as
+    /// they were.
     pub fn commit(
         &mut self,
         alloc: Global,

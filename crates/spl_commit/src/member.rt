@@ -12,7 +12,9 @@ use spl_queue::Queue;
 use std::alloc::Global;
 use std::marker::Model;
 
-/// What one member of a group keeps: its content, which stands for its history, the pending and the refused values, its promise, the last round seen, the next round, and the open round. All but the open round is made durable by its changes.
+/// What one member of a group keeps: its content, which stands for its history, the pending and the
+/// refused values, its promise, the last round seen, the next round, and the open round. All but
+/// the open round is made durable by its changes.
 #[derive(Drop)]
 pub struct Member<M: Agreed> {
     pub(crate) content: M,

@@ -8,7 +8,8 @@ use spl_agree::{Agreed, GroupChange, GroupChanges, Round};
 use std::alloc::{AllocError, Global};
 
 impl<M: Agreed> Member<M> {
-    /// The changes that make the member of a new one, in their order. An error comes for want of memory alone.
+    /// The changes that make the member of a new one, in their order. An error comes for want of
+    /// memory alone.
     pub fn pack(&self, alloc: Global) -> Result<GroupChanges<M::Value>, AllocError>
         ensures { IfOk result (λ cs. cs ≡ packed_member self.now.state) }
     {

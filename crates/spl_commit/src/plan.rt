@@ -9,7 +9,8 @@ use spl_agree::{Agreed, CommitMsg, GroupEvent, GroupPlan};
 use std::alloc::{AllocError, Global};
 
 impl<M: Agreed> Member<M> {
-    /// What an event gives: a note, durable changes, a move of the open round and messages, by the rules of a group. Nothing is changed. An error comes for want of memory alone.
+    /// What an event gives: a note, durable changes, a move of the open round and messages, by the
+    /// rules of a group. Nothing is changed. An error comes for want of memory alone.
     pub fn plan(
         &self,
         alloc: Global,

@@ -74,7 +74,8 @@ impl<M: Agreed> Member<M> {
         &self.queue
     }
 
-    /// What is known of a key: the first value of the history, the pending and the refused ones that has it.
+    /// What is known of a key: the first value of the history, the pending and the refused ones
+    /// that has it.
     pub fn known(&self, key: &M::Key) -> Option<&M::Value>
         ensures { option_copied result ≡ known_by (λ v. M.Key.eq key.now (M.key_of v)) self.now.state }
     {

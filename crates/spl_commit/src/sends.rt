@@ -107,13 +107,12 @@ pub fn abort_each<M: Agreed>(
     let mut sends = GroupSends::new(alloc);
     for i in 0..8 {
         if has_position(to, i) {
-            let commit = false;
             sends.push(
                 i,
                 CommitMsg::Decision {
                     generation,
                     round,
-                    commit,
+                    commit: false,
                 },
             )?;
             let value = M::copy(alloc, value)?;

@@ -14,9 +14,6 @@ use spl_agree::{
 use spl_coord::{Voted, Voting};
 use std::alloc::{AllocError, Global};
 
-/// A member voted no.
-const VOTE_NO: Reason = Reason { code: 7, at: 0 };
-
 impl<M: Agreed> Member<M> {
     /// A vote.
     pub(crate) fn on_vote(
@@ -40,7 +37,8 @@ impl<M: Agreed> Member<M> {
         self.counted_vote(alloc, sender, round, missing, yes)
     }
 
-    /// The open round without its value, made for one question: a plan asks what a vote does, and changes nothing.
+    /// The open round without its value, made for one question: a plan asks what a vote does, and
+    /// changes nothing.
     fn ballot(&self, round: Round, missing: u8) -> Voting<()>
         requires { none_left (positions missing) ≡ false }
         ensures { result ≡ record { round = round; value = tt; others = below_but self.now.members self.now.here; missing = positions missing } }
@@ -126,9 +124,16 @@ impl<M: Agreed> Member<M> {
         let refused = M::copy(alloc, value)?;
         Ok(GroupPlan {
             note: Note::Aborted(round),
-            changes: GroupChanges::one(alloc, GroupChange::Refuse(refused, VOTE_NO))?,
+            changes: GroupChanges::one(alloc, GroupChange::Refuse(refused, Reason::VOTED_NO))?,
             opening: OpenMove::Close,
-            sends: abort_each::<M>(alloc, self.generation, round, value, VOTE_NO, self.others())?,
+            sends: abort_each::<M>(
+                alloc,
+                self.generation,
+                round,
+                value,
+                Reason::VOTED_NO,
+                self.others(),
+            )?,
         })
     }
 }

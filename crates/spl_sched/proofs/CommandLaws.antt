@@ -3,10 +3,9 @@ use Rattle.std.proofs.Common.{◌≡◌, ℕ, ◌/◌, ◌%◌, ◌≤◌, Bool,
 use Rattle.std.specs.Prelude.{codes}
 use Rattle.std.specs.List.{list_all, flat_map}
 use Rattle.std.specs.Str.{bytes_eq}
-use Rattle.std.proofs.lemmas.Bool.{leb-true, le-leb}
+use Rattle.std.proofs.lemmas.Bool.{leb-true, le-leb, and_parts, and_from}
 use Rattle.std.proofs.Math.Bool.{and-false}
 use Rattle.spl_base.specs.Ids.{is_node_byte, is_graphic, is_label}
-use Rattle.spl_base.specs.FormLaws.{both_true, and_true}
 use Rattle.spl_command.specs.declared.batch.Command.{Command}
 use Rattle.spl_command.specs.declared.batch.Command.TheVariants as command
 use Rattle.spl_sched.specs.Words.{hex_digit, hex_byte, hex_string, end, ◌&◌, that}
@@ -46,11 +45,11 @@ dashed_again [] h = refl
 dashed_again (b ∷ bs) h =
     let other : bytes_eq (prefix.spell (b ∷ bs)) (codes "-") ≡ false = no_dash (hex_digit (b / 16)) (hex_digit (b % 16)) (flat_map hex_byte bs) in
     let some : IsTrue (leb 1 (length (b ∷ bs))) = le-leb 1 (length (b ∷ bs)) (omega arith) in
-    rw other (exact_some.again (b ∷ bs) (and_true (leb 1 (length (b ∷ bs))) (is_prefix (b ∷ bs)) some h))
+    rw other (exact_some.again (b ∷ bs) (and_from (leb 1 (length (b ∷ bs))) (is_prefix (b ∷ bs)) some h))
 
 behind_dash : (xs p : List ℕ) → (xs ≡ prefix.spell p) × IsTrue ((that (λ bs. leb 1 (length bs)) prefix).fits p) → (xs ≡ dashed_text p) × IsTrue (is_prefix p)
 behind_dash xs [] e = absurd (let no : false ≡ true = e.1 in cc)
-behind_dash xs (b ∷ bs) e = (e.0, (both_true (leb 1 (length (b ∷ bs))) (is_prefix (b ∷ bs)) e.1).1)
+behind_dash xs (b ∷ bs) e = (e.0, (and_parts (leb 1 (length (b ∷ bs))) (is_prefix (b ∷ bs)) e.1).1)
 
 dashed_by : (xs p : List ℕ) (b : Bool) → bytes_eq xs (codes "-") ≡ b → cond b (Some []) ((that (λ bs. leb 1 (length bs)) prefix).read xs) ≡ Some p → (xs ≡ dashed_text p) × IsTrue (is_prefix p)
 dashed_by xs p true same e = let none : [] ≡ p = some_is [] p e in subst (λ (q : List ℕ). (xs ≡ dashed_text q) × IsTrue (is_prefix q)) none (same_bytes xs (codes "-") same, refl)
@@ -69,19 +68,19 @@ dashed_lacks = record { free = dashed_free }
 -- ---- texts
 
 tag_lacks : (c : ℕ) → is_tag_byte c ≡ false → Lacks c tag
-tag_lacks c other = record { free = λ x h. lacks_from is_tag_byte c other x (both_true (leb 1 (length x) && leb (length x) 64) (list_all is_tag_byte x) h).1 }
+tag_lacks c other = record { free = λ x h. lacks_from is_tag_byte c other x (and_parts (leb 1 (length x) && leb (length x) 64) (list_all is_tag_byte x) h).1 }
 
 tags_are_graphic : (xs : List ℕ) → IsTrue (list_all is_tag_byte xs) → IsTrue (list_all is_graphic xs)
 tags_are_graphic [] h = refl
 tags_are_graphic (x ∷ xs) h =
-    let b = both_true (is_tag_byte x) (list_all is_tag_byte xs) h in
-    and_true (is_graphic x) (list_all is_graphic xs) (both_true (is_graphic x) (not (eqb x 61)) b.0).0 (tags_are_graphic xs b.1)
+    let b = and_parts (is_tag_byte x) (list_all is_tag_byte xs) h in
+    and_from (is_graphic x) (list_all is_graphic xs) (and_parts (is_graphic x) (not (eqb x 61)) b.0).0 (tags_are_graphic xs b.1)
 
 pub tag_is_label : (xs : List ℕ) → IsTrue (is_tag xs) → IsTrue (is_label xs)
 tag_is_label xs h =
-    let b = both_true (leb 1 (length xs) && leb (length xs) 64) (list_all is_tag_byte xs) h in
-    let few : length xs ≤ 64 = leb-true _ _ (both_true (leb 1 (length xs)) (leb (length xs) 64) b.0).1 in
-    and_true (leb (length xs) 128) (list_all is_graphic xs) (le-leb (length xs) 128 (omega arith)) (tags_are_graphic xs b.1)
+    let b = and_parts (leb 1 (length xs) && leb (length xs) 64) (list_all is_tag_byte xs) h in
+    let few : length xs ≤ 64 = leb-true _ _ (and_parts (leb 1 (length xs)) (leb (length xs) 64) b.0).1 in
+    and_from (leb (length xs) 128) (list_all is_graphic xs) (le-leb (length xs) 128 (omega arith)) (tags_are_graphic xs b.1)
 
 -- ---- two words with = between them
 

@@ -3,12 +3,11 @@ use Rattle.std.proofs.Common.{◌≡◌, ℕ, ◌^◌, ◌<◌, ◌≤◌, Bool,
 use Rattle.std.specs.Prelude.{codes}
 use Rattle.std.specs.List.{list_all, join_with_byte}
 use Rattle.std.specs.Fmt.{decimal}
-use Rattle.std.proofs.lemmas.Bool.{eqb-true, ltb-true, leb-true, le-leb}
+use Rattle.std.proofs.lemmas.Bool.{eqb-true, ltb-true, leb-true, le-leb, and_parts, and_from}
 use Rattle.std.proofs.lemmas.Bool.Decides.{nat_tests}
 use Rattle.std.proofs.lemmas.List.{map-id, take-append-drop}
 use Rattle.std.proofs.Math.Bool.{and-true}
 use Rattle.spl_base.specs.Ids.{is_node_id, is_node_byte, is_circuit_id, is_service_id, is_base62, is_digit, is_graphic, is_label}
-use Rattle.spl_base.specs.FormLaws.{both_true, and_true}
 use Rattle.spl_circuit.specs.declared.definition.Service.{Service}
 use Rattle.spl_circuit.specs.declared.definition.Definition.{Definition}
 use Rattle.spl_sched.specs.Words.{Word, Words, text, number, joined, end, ◌&◌, up_to, that, is_decimal}
@@ -22,29 +21,29 @@ use Rattle.spl_sched.proofs.WordLaws.{IsExact, Lacks, EachLacks, exact_text, exa
 -- ---- which bytes the words lack
 
 node_lacks : (c : ℕ) → is_node_byte c ≡ false → Lacks c (text is_node_id)
-node_lacks c other = record { free = λ x h. lacks_from is_node_byte c other x (both_true (leb 1 (length x) && leb (length x) 32) (list_all is_node_byte x) h).1 }
+node_lacks c other = record { free = λ x h. lacks_from is_node_byte c other x (and_parts (leb 1 (length x) && leb (length x) 32) (list_all is_node_byte x) h).1 }
 
 service_id_lacks : (c : ℕ) → is_base62 c ≡ false → Lacks c (text is_service_id)
-service_id_lacks c other = record { free = λ x h. lacks_from is_base62 c other x (both_true (eqb (length x) 4) (list_all is_base62 x) h).1 }
+service_id_lacks c other = record { free = λ x h. lacks_from is_base62 c other x (and_parts (eqb (length x) 4) (list_all is_base62 x) h).1 }
 
 name_lacks : (c : ℕ) → is_graphic c ≡ false → Lacks c (text is_name)
-name_lacks c other = record { free = λ x h. lacks_from is_graphic c other x (both_true (leb (length x) 128) (list_all is_graphic x) (both_true (leb 1 (length x)) (is_label x) h).1).1 }
+name_lacks c other = record { free = λ x h. lacks_from is_graphic c other x (and_parts (leb (length x) 128) (list_all is_graphic x) (and_parts (leb 1 (length x)) (is_label x) h).1).1 }
 
 pub number_lacks : (c limit : ℕ) → is_digit c ≡ false → limit ≤ 2 ^ 64 → Lacks c (number limit)
 number_lacks c limit other wide = record {
   free = λ n h.
       let small : n < limit = ltb-true n limit h in
       let digits : IsTrue (is_decimal (decimal n)) = decimal_is n (omega arith) in
-      let front = both_true (leb 1 (length (decimal n)) && list_all is_digit (decimal n)) (eqb (length (decimal n)) 1 || not (eqb (get_or (decimal n) 0 0) 48)) digits in
-      lacks_from is_digit c other (decimal n) (both_true (leb 1 (length (decimal n))) (list_all is_digit (decimal n)) front.0).1;
+      let front = and_parts (leb 1 (length (decimal n)) && list_all is_digit (decimal n)) (eqb (length (decimal n)) 1 || not (eqb (get_or (decimal n) 0 0) 48)) digits in
+      lacks_from is_digit c other (decimal n) (and_parts (leb 1 (length (decimal n))) (list_all is_digit (decimal n)) front.0).1;
 }
 
 circuit_id_lacks : (c : ℕ) → is_base62 c ≡ false → eqb 45 c ≡ false → Lacks c (text is_circuit_id)
 circuit_id_lacks c other dash = record {
   free = λ x h.
-      let a = both_true (eqb (length x) 11 && eqb (get_or x 5 0) 45 && list_all is_base62 (take 5 x)) (list_all is_base62 (drop 6 x)) h in
-      let b = both_true (eqb (length x) 11 && eqb (get_or x 5 0) 45) (list_all is_base62 (take 5 x)) a.0 in
-      let d = both_true (eqb (length x) 11) (eqb (get_or x 5 0) 45) b.0 in
+      let a = and_parts (eqb (length x) 11 && eqb (get_or x 5 0) 45 && list_all is_base62 (take 5 x)) (list_all is_base62 (drop 6 x)) h in
+      let b = and_parts (eqb (length x) 11 && eqb (get_or x 5 0) 45) (list_all is_base62 (take 5 x)) a.0 in
+      let d = and_parts (eqb (length x) 11) (eqb (get_or x 5 0) 45) b.0 in
       let long : length x ≡ 11 = eqb-true _ _ d.0 in
       let middle : get_or x 5 0 ≡ 45 = eqb-true _ _ d.1 in
       let front : IsTrue (lacks c (take 5 x)) = lacks_from is_base62 c other (take 5 x) b.1 in
@@ -53,7 +52,7 @@ circuit_id_lacks c other dash = record {
       let room : 5 < length x = omega arith in
       let tail : drop 5 x ≡ 45 ∷ drop 6 x = drop-cons x 5 0 room ∙ ap (λ (b : ℕ). b ∷ drop 6 x) middle in
       let all : take 5 x ++ (45 ∷ drop 6 x) ≡ x = ap (λ (ys : List ℕ). take 5 x ++ ys) (sym tail) ∙ take-append-drop 5 x in
-      subst (λ (ys : List ℕ). IsTrue (lacks c ys)) all (lacks_append c (take 5 x) (45 ∷ drop 6 x) front (and_true (not (eqb 45 c)) (lacks c (drop 6 x)) here back));
+      subst (λ (ys : List ℕ). IsTrue (lacks c ys)) all (lacks_append c (take 5 x) (45 ∷ drop 6 x) front (and_from (not (eqb 45 c)) (lacks c (drop 6 x)) here back));
 }
 
 byte_is_graphic : (b : ℕ) → IsTrue (is_node_byte b) → IsTrue (is_graphic b)
@@ -61,13 +60,13 @@ byte_is_graphic b h = grind (arith, nat_tests)
 
 bytes_are_graphic : (xs : List ℕ) → IsTrue (list_all is_node_byte xs) → IsTrue (list_all is_graphic xs)
 bytes_are_graphic [] h = refl
-bytes_are_graphic (x ∷ xs) h = let b = both_true (is_node_byte x) (list_all is_node_byte xs) h in and_true (is_graphic x) (list_all is_graphic xs) (byte_is_graphic x b.0) (bytes_are_graphic xs b.1)
+bytes_are_graphic (x ∷ xs) h = let b = and_parts (is_node_byte x) (list_all is_node_byte xs) h in and_from (is_graphic x) (list_all is_graphic xs) (byte_is_graphic x b.0) (bytes_are_graphic xs b.1)
 
 pub type_is_label : (xs : List ℕ) → IsTrue (is_type xs) → IsTrue (is_label xs)
 type_is_label xs h =
-    let b = both_true (leb 1 (length xs) && leb (length xs) 32) (list_all is_node_byte xs) h in
-    let few : length xs ≤ 32 = leb-true _ _ (both_true (leb 1 (length xs)) (leb (length xs) 32) b.0).1 in
-    and_true (leb (length xs) 128) (list_all is_graphic xs) (le-leb (length xs) 128 (omega arith)) (bytes_are_graphic xs b.1)
+    let b = and_parts (leb 1 (length xs) && leb (length xs) 32) (list_all is_node_byte xs) h in
+    let few : length xs ≤ 32 = leb-true _ _ (and_parts (leb 1 (length xs)) (leb (length xs) 32) b.0).1 in
+    and_from (leb (length xs) 128) (list_all is_graphic xs) (le-leb (length xs) 128 (omega arith)) (bytes_are_graphic xs b.1)
 
 -- ---- services
 

@@ -1,11 +1,9 @@
 -- The digits of a word, as the crate hex reads and writes them.
-use Rattle.std.proofs.Common.{◌⊎◌, if◌then◌else◌, get_or, zero, suc, MatchResult, slice_index, eqb-true, ◌≡◌, ◌≢◌, ℕ, ◌+◌, ◌*◌, ◌-◌, ◌/◌, ◌%◌, ◌<◌, ◌≤◌, Bool, true, false, cond, ◌&&◌, ◌||◌, ◌==◌, leb, ltb, IsTrue, List, [], ◌∷◌, ◌++◌, length, subst, Option, Some, None, Result, Ok, Err, refl, sym, ap, ◌∙◌, arith, inl, inr}
-use Rattle.std.specs.List.{list_all, flat_map}
+use Rattle.std.proofs.Common.{◌⊎◌, if◌then◌else◌, get_or, zero, suc, MatchResult, slice_index, eqb-true, ◌≡◌, ◌≢◌, ℕ, ◌+◌, ◌*◌, ◌-◌, ◌/◌, ◌%◌, ◌<◌, Bool, true, false, ◌&&◌, ◌==◌, ltb, List, [], ◌∷◌, length, Option, Some, None, Result, Ok, Err, refl, sym, ap, ◌∙◌, arith, inl, inr}
+use Rattle.std.specs.List.{list_all}
 use Rattle.std.specs.Result.{result_ok}
-use Rattle.std.proofs.lemmas.Bool.{cases_lt, cases_eq}
+use Rattle.std.proofs.lemmas.Bool.{cases_lt, cases_eq, and_parts, and_from}
 use Rattle.std.proofs.lemmas.Bool.Decides.{nat_tests}
-use Rattle.spl_base.specs.Ids.{is_digit}
-use Rattle.spl_base.specs.FormLaws.{both_true, and_true}
 use Rattle.hex.specs.Hex.{hex_digit_value, decode_pairs, decode_of, decode_sized, encode_lower, encode_with, lower_digits, ◌>>=◌ as ◌>>=ₕ◌}
 use Rattle.hex.specs.declared.error.FromHexError.{FromHexError}
 use Rattle.hex.specs.declared.error.FromHexError.TheVariants.{InvalidHexCharacter, OddLength, InvalidStringLength, OutOfMemory}
@@ -32,8 +30,8 @@ unfolding decode_pairs
 pairs i [] lower = refl
 pairs i (a ∷ []) lower = refl
 pairs i (a ∷ b ∷ xs) lower =
-    let first = both_true (is_lower_digit a) (list_all is_lower_digit (b ∷ xs)) lower in
-    let second = both_true (is_lower_digit b) (list_all is_lower_digit xs) first.1 in
+    let first = and_parts (is_lower_digit a) (list_all is_lower_digit (b ∷ xs)) lower in
+    let second = and_parts (is_lower_digit b) (list_all is_lower_digit xs) first.1 in
     let (v, ours, theirs) = has_value a first.0 in
     let (w, our, their) = has_value b second.0 in
     rw (theirs, their, ours, our) (more (v * 16 + w) (decode_pairs (i + 2) xs) (read_hex_string xs) (pairs (i + 2) xs second.1))
@@ -123,7 +121,7 @@ agree (suc n) = (hex_digit n == slice_index lower_digits n) && agree n
 agree-at : (n k : ℕ) → agree n ≡ true → k < n → hex_digit k ≡ slice_index lower_digits k
 agree-at zero k same lt = absurd (omega arith)
 agree-at (suc n) k same lt =
-    let parts = both_true (hex_digit n == slice_index lower_digits n) (agree n) same in
+    let parts = and_parts (hex_digit n == slice_index lower_digits n) (agree n) same in
     elim (cases_lt k n) [
       | inl below ↦ agree-at n k parts.1 below
       | inr top ↦
@@ -143,7 +141,7 @@ byte_is_encode b lt =
 pub one_read : (xs : List ℕ) (b : ℕ) → read_hex_string xs ≡ Some (b ∷ []) → read_hex xs ≡ Some b
 one_read xs b e =
     let spelled = (exact_hex_string.only xs (b ∷ []) e).0 in
-    ap read_hex spelled ∙ exact_hex.again b (both_true (ltb b 256) true (exact_hex_string.only xs (b ∷ []) e).1).0
+    ap read_hex spelled ∙ exact_hex.again b (and_parts (ltb b 256) true (exact_hex_string.only xs (b ∷ []) e).1).0
 
 pub none_read : (xs : List ℕ) → ((bytes : List ℕ) → read_hex_string xs ≡ Some bytes → length bytes ≢ 1) → read_hex xs ≡ None
 none_read xs none = at (read_hex xs) refl
@@ -152,7 +150,7 @@ none_read xs none = at (read_hex xs) refl
     at None e = refl
     at (Some b) e =
         let one = exact_hex.only xs b e in
-        absurd (none (b ∷ []) (ap read_hex_string one.0 ∙ exact_hex_string.again (b ∷ []) (and_true (ltb b 256) true one.1 refl)) refl)
+        absurd (none (b ∷ []) (ap read_hex_string one.0 ∙ exact_hex_string.again (b ∷ []) (and_from (ltb b 256) true one.1 refl)) refl)
 
 pub one_of : (xs : List ℕ) → length xs ≡ 1 → xs ≡ get_or xs 0 0 ∷ []
 one_of [] long = absurd cc

@@ -1,10 +1,9 @@
 -- Bytes in two digits.
 use Rattle.std.proofs.Common.{◌≡◌, ℕ, ◌+◌, ◌*◌, ◌-◌, ◌/◌, ◌%◌, ◌<◌, ◌≤◌, Bool, true, false, cond, ◌&&◌, leb, ltb, IsTrue, List, [], ◌∷◌, ◌++◌, subst, Option, Some, None, refl, sym, ap, ◌∙◌, arith, inl, inr}
 use Rattle.std.specs.List.{list_all, flat_map}
-use Rattle.std.proofs.lemmas.Bool.{lt-ltb, ltb-true, leb-true, cases_lt}
+use Rattle.std.proofs.lemmas.Bool.{lt-ltb, ltb-true, leb-true, cases_lt, and_parts, and_from}
 use Rattle.std.proofs.lemmas.Bool.Decides.{nat_tests}
 use Rattle.spl_base.specs.Ids.{is_digit, is_node_byte}
-use Rattle.spl_base.specs.FormLaws.{both_true, and_true}
 use Rattle.spl_sched.specs.Words.{hex_digit, hex_byte, hex_value, read_hex, hex, read_hex_string, hex_string, ◌>>=◌}
 use Rattle.spl_sched.proofs.Splits.{lacks, lacks_from, lacks_append}
 use Rattle.spl_sched.proofs.WordLaws.{IsExact, Lacks, some_is, bind_some}
@@ -51,7 +50,7 @@ again b lt =
 as_letter : (c n : ℕ) (b : Bool) → (leb 97 c && leb c 102) ≡ b → cond b (Some (c - 87)) None ≡ Some n → (c ≡ hex_digit n) × (n < 16)
 as_letter c n true in_range e =
     let is : c - 87 ≡ n = some_is (c - 87) n e in
-    let b = both_true (leb 97 c) (leb c 102) in_range in
+    let b = and_parts (leb 97 c) (leb c 102) in_range in
     let low : 97 ≤ c = leb-true 97 c b.0 in
     let high : c ≤ 102 = leb-true c 102 b.1 in
     let large : 10 ≤ n = omega arith in
@@ -62,7 +61,7 @@ as_letter c n false in_range e = absurd cc
 as_digit : (c n : ℕ) (b : Bool) → is_digit c ≡ b → cond b (Some (c - 48)) (cond (leb 97 c && leb c 102) (Some (c - 87)) None) ≡ Some n → (c ≡ hex_digit n) × (n < 16)
 as_digit c n true in_range e =
     let is : c - 48 ≡ n = some_is (c - 48) n e in
-    let b = both_true (leb 48 c) (leb c 57) in_range in
+    let b = and_parts (leb 48 c) (leb c 57) in_range in
     let low : 48 ≤ c = leb-true 48 c b.0 in
     let high : c ≤ 57 = leb-true c 57 b.1 in
     let small : n < 10 = omega arith in
@@ -109,14 +108,14 @@ hex_lacks c other = record {
       let small : b < 256 = ltb-true b 256 h in
       let high : b / 16 < 16 = omega arith in
       let low : b % 16 < 16 = omega arith in
-      lacks_from is_node_byte c other (hex_byte b) (and_true (is_node_byte (hex_digit (b / 16))) _ (digit_is_node_byte (b / 16) high) (and_true (is_node_byte (hex_digit (b % 16))) true (digit_is_node_byte (b % 16) low) refl));
+      lacks_from is_node_byte c other (hex_byte b) (and_from (is_node_byte (hex_digit (b / 16))) _ (digit_is_node_byte (b / 16) high) (and_from (is_node_byte (hex_digit (b % 16))) true (digit_is_node_byte (b % 16) low) refl));
 }
 
 -- ---- byte strings
 
 string_again : (bs : List ℕ) → IsTrue (list_all (λ b. ltb b 256) bs) → read_hex_string (flat_map hex_byte bs) ≡ Some bs
 string_again [] h = refl
-string_again (b ∷ bs) h = let t = both_true (ltb b 256) (list_all (λ b. ltb b 256) bs) h in rw (again b (ltb-true b 256 t.0), string_again bs t.1) refl
+string_again (b ∷ bs) h = let t = and_parts (ltb b 256) (list_all (λ b. ltb b 256) bs) h in rw (again b (ltb-true b 256 t.0), string_again bs t.1) refl
 
 string_only : (xs bs : List ℕ) → read_hex_string xs ≡ Some bs → (xs ≡ flat_map hex_byte bs) × IsTrue (list_all (λ b. ltb b 256) bs)
 string_only [] bs e = let same : [] ≡ bs = some_is [] bs e in subst (λ (zs : List ℕ). ([] ≡ flat_map hex_byte zs) × IsTrue (list_all (λ b. ltb b 256) zs)) same (refl, refl)
@@ -130,7 +129,7 @@ string_only (a ∷ b ∷ xs) bs e =
     let others = string_only xs rest.0 rest.1 in
     let spelled : a ∷ b ∷ xs ≡ hex_byte first.0 ++ flat_map hex_byte rest.0 = ap (λ (zs : List ℕ). zs ++ xs) one.0 ∙ ap (λ (zs : List ℕ). hex_byte first.0 ++ zs) others.0 in
     subst (λ (zs : List ℕ). (a ∷ b ∷ xs ≡ flat_map hex_byte zs) × IsTrue (list_all (λ b. ltb b 256) zs)) same
-    (spelled, and_true (ltb first.0 256) (list_all (λ b. ltb b 256) rest.0) one.1 others.1)
+    (spelled, and_from (ltb first.0 256) (list_all (λ b. ltb b 256) rest.0) one.1 others.1)
 
 pub exact_hex_string : IsExact hex_string
 exact_hex_string = record { again = string_again; only = string_only }
@@ -138,7 +137,7 @@ exact_hex_string = record { again = string_again; only = string_only }
 string_free : (c : ℕ) → is_node_byte c ≡ false → (bs : List ℕ) → IsTrue (list_all (λ b. ltb b 256) bs) → IsTrue (lacks c (flat_map hex_byte bs))
 string_free c other [] h = refl
 string_free c other (b ∷ bs) h =
-    let t = both_true (ltb b 256) (list_all (λ b. ltb b 256) bs) h in
+    let t = and_parts (ltb b 256) (list_all (λ b. ltb b 256) bs) h in
     lacks_append c (hex_byte b) (flat_map hex_byte bs) ((hex_lacks c other).free b t.0) (string_free c other bs t.1)
 
 pub hex_string_lacks : (c : ℕ) → is_node_byte c ≡ false → Lacks c hex_string

@@ -4,10 +4,9 @@ use Rattle.std.specs.Prelude.{codes, Result, Ok, Err, IfOk}
 use Rattle.std.specs.List.{list_all, onto_first}
 use Rattle.std.specs.Option.{option_map}
 use Rattle.std.specs.Str.{bytes_eq}
-use Rattle.std.proofs.lemmas.Bool.{lt-ltb, leb-true}
+use Rattle.std.proofs.lemmas.Bool.{lt-ltb, leb-true, and_parts, and_from}
 use Rattle.std.proofs.Math.Bool.{and_assoc}
 use Rattle.spl_base.specs.Ids.{is_node_byte, is_node_id, is_circuit_id, is_service_id}
-use Rattle.spl_base.specs.FormLaws.{both_true, and_true}
 use Rattle.spl_circuit.specs.declared.definition.Definition.{Definition}
 use Rattle.spl_edge.specs.declared.fill.Fill.{Fill}
 use Rattle.spl_edge.specs.declared.fill.Fill.TheVariants.{Old, New, Byte}
@@ -46,26 +45,26 @@ module _ {A : Type 0} (name : List ℕ) (ws : Words A) (to : A → Step) (p : Is
       record {
         again = ap read_step words ∙ named (ws.spell x) ∙ found;
         alone = ap read_words words ∙ alone (ws.spell x) ∙ ap (option_map line.Step) found;
-        lack = subst (λ (zs : List (List ℕ)). IsTrue (list_all (lacks 32) zs)) (sym words) (and_true (lacks 32 name) (list_all (lacks 32) (ws.spell x)) free (p.lack.free x h));
+        lack = subst (λ (zs : List (List ℕ)). IsTrue (list_all (lacks 32) zs)) (sym words) (and_from (lacks 32 name) (list_all (lacks 32) (ws.spell x)) free (p.lack.free x h));
       }
 
 home_fits : (n id : List ℕ) (own b : Bool) → (IsTrue own → IsTrue b) → IsTrue (is_node_id n && is_circuit_id id && own) → IsTrue (is_node_id n && (is_circuit_id id && b))
 home_fits n id own b more h =
-    let outer = both_true (is_node_id n && is_circuit_id id) own h in
-    let inner = both_true (is_node_id n) (is_circuit_id id) outer.0 in
-    and_true (is_node_id n) (is_circuit_id id && b) inner.0 (and_true (is_circuit_id id) b inner.1 (more outer.1))
+    let outer = and_parts (is_node_id n && is_circuit_id id) own h in
+    let inner = and_parts (is_node_id n) (is_circuit_id id) outer.0 in
+    and_from (is_node_id n) (is_circuit_id id && b) inner.0 (and_from (is_circuit_id id) b inner.1 (more outer.1))
 
 fits_home : (n id : List ℕ) (b own : Bool) → (IsTrue b → IsTrue own) → IsTrue (is_node_id n && (is_circuit_id id && b)) → IsTrue (is_node_id n && is_circuit_id id && own)
 fits_home n id b own more h =
-    let outer = both_true (is_node_id n) (is_circuit_id id && b) h in
-    let inner = both_true (is_circuit_id id) b outer.1 in
-    and_true (is_node_id n && is_circuit_id id) own (and_true (is_node_id n) (is_circuit_id id) outer.0 inner.0) (more inner.1)
+    let outer = and_parts (is_node_id n) (is_circuit_id id && b) h in
+    let inner = and_parts (is_circuit_id id) b outer.1 in
+    and_from (is_node_id n && is_circuit_id id) own (and_from (is_node_id n) (is_circuit_id id) outer.0 inner.0) (more inner.1)
 
 more : (b : Bool) → IsTrue b → IsTrue (b && true)
-more b h = and_true b true h refl
+more b h = and_from b true h refl
 
 less : (b : Bool) → IsTrue (b && true) → IsTrue b
-less b h = (both_true b true h).0
+less b h = (and_parts b true h).0
 
 way_fits : (a b c : Bool) → IsTrue (a && b && c) → IsTrue (a && (b && (c && true)))
 way_fits true true true h = refl
@@ -82,10 +81,7 @@ fits_way false b c h = h
 delivery_fits : (a b c d e : Bool) → IsTrue (a && b && c && d && e) → IsTrue (e && (a && (b && (c && (d && true)))))
 delivery_fits true true true true true h = refl
 delivery_fits true true true true false h = h
-delivery_fits true true true false e h = absurd cc
-delivery_fits true true false d e h = absurd cc
-delivery_fits true false c d e h = absurd cc
-delivery_fits false b c d e h = absurd cc
+delivery_fits a b c d e h = absurd cc
 
 fits_delivery : (a b c d e : Bool) → IsTrue (e && (a && (b && (c && (d && true))))) → IsTrue (a && b && c && d && e)
 fits_delivery true true true true true h = refl
@@ -98,20 +94,20 @@ fits_delivery false b c d true h = h
 -- a definition with the id of its line
 module _ (n id : List ℕ) (d : Definition) (h : IsTrue (is_step (At n id (event.Propose d)))) where
   own : IsTrue (bytes_eq d.id id)
-  own = (both_true (bytes_eq d.id id) (is_definition d) (both_true (is_node_id n && is_circuit_id id) (bytes_eq d.id id && is_definition d) h).1).0
+  own = (and_parts (bytes_eq d.id id) (is_definition d) (and_parts (is_node_id n && is_circuit_id id) (bytes_eq d.id id && is_definition d) h).1).0
 
   proposal_is : proposed (n, (id, terms_of d)) ≡ At n id (event.Propose d)
   proposal_is = ap (λ (i : List ℕ). At n id (event.Propose (record d { id = i }))) (sym (same_bytes d.id id own))
 
   proposal_fits : IsTrue ((home terms).fits (n, (id, terms_of d)))
-  proposal_fits = home_fits n id (bytes_eq d.id id && is_definition d) (terms.fits (terms_of d)) (λ k. sym (terms_fit d) ∙ (both_true (bytes_eq d.id id) (is_definition d) k).1) h
+  proposal_fits = home_fits n id (bytes_eq d.id id && is_definition d) (terms.fits (terms_of d)) (λ k. sym (terms_fit d) ∙ (and_parts (bytes_eq d.id id) (is_definition d) k).1) h
 
   proposal_spelled : step_words (At n id (event.Propose d)) ≡ codes "propose" ∷ (home terms).spell (n, (id, terms_of d))
   proposal_spelled = ap (λ (zs : List (List ℕ)). codes "propose" ∷ n ∷ id ∷ zs) (terms_spelled d)
 
 fits_proposal : (x : Home Terms) → IsTrue ((home terms).fits x) → IsTrue (is_step (proposed x))
 fits_proposal x h = fits_home x.0 x.1.0 (terms.fits x.1.1) (bytes_eq x.1.0 x.1.0 && is_definition (definition_of x.1.0 x.1.1))
-    (λ k. and_true (bytes_eq x.1.0 x.1.0) (is_definition (definition_of x.1.0 x.1.1)) (itself x.1.0) (terms_fit (definition_of x.1.0 x.1.1) ∙ k)) h
+    (λ k. and_from (bytes_eq x.1.0 x.1.0) (is_definition (definition_of x.1.0 x.1.1)) (itself x.1.0) (terms_fit (definition_of x.1.0 x.1.1) ∙ k)) h
 
 step_seen : (s : Step) → IsTrue (is_step s) → IsSeen s
 step_seen (At n id (event.Propose d)) h =
@@ -131,7 +127,7 @@ step_seen (At n id (event.Receipt b)) h =
 step_seen (At n id (event.Route from sender recipient)) h =
     seen (codes "route") (home way) routed (sound_home way sound_way) refl (λ xs. refl) (λ xs. refl) (n, (id, (from, (sender, (recipient, tt))))) _
     (home_fits n id _ _ (way_fits (is_node_id from) (is_service_id sender) (is_service_id recipient)) h) refl refl
-step_seen (At n id (event.Deliver from message)) h = absurd (let no = both_true (is_node_id n && is_circuit_id id) false h in let never : false ≡ true = no.1 in cc)
+step_seen (At n id (event.Deliver from message)) h = absurd (let no = and_parts (is_node_id n && is_circuit_id id) false h in let never : false ≡ true = no.1 in cc)
 step_seen (At n id event.Remove) h = seen (codes "remove") (home end) (plain event.Remove) (sound_home end sound_end) refl (λ xs. refl) (λ xs. refl) (n, (id, tt)) _ (home_fits n id true true (λ k. k) h) refl refl
 step_seen (At n id event.Abandon) h = seen (codes "abandon") (home end) (plain event.Abandon) (sound_home end sound_end) refl (λ xs. refl) (λ xs. refl) (n, (id, tt)) _ (home_fits n id true true (λ k. k) h) refl refl
 step_seen (At n id event.Purge) h = seen (codes "purge") (home end) (plain event.Purge) (sound_home end sound_end) refl (λ xs. refl) (λ xs. refl) (n, (id, tt)) _ (home_fits n id true true (λ k. k) h) refl refl
@@ -227,9 +223,9 @@ fill_only [] f e = absurd cc
 fill_only (name ∷ xs) f e = kinds_only fill_words is_fill fill_kinds None name xs f all_fills (none f) e
 
 fill_free : (c : ℕ) → is_node_byte c ≡ false → (f : Fill) → IsTrue (is_fill f) → IsTrue (list_all (lacks c) (fill_words f))
-fill_free c other Old h = and_true (lacks c (codes "old")) true (lacks_from is_node_byte c other (codes "old") refl) refl
-fill_free c other New h = and_true (lacks c (codes "new")) true (lacks_from is_node_byte c other (codes "new") refl) refl
-fill_free c other (Byte b) h = and_true (lacks c (codes "byte")) _ (lacks_from is_node_byte c other (codes "byte") refl) (and_true (lacks c (hex.spell b)) true ((hex_lacks c other).free b h) refl)
+fill_free c other Old h = and_from (lacks c (codes "old")) true (lacks_from is_node_byte c other (codes "old") refl) refl
+fill_free c other New h = and_from (lacks c (codes "new")) true (lacks_from is_node_byte c other (codes "new") refl) refl
+fill_free c other (Byte b) h = and_from (lacks c (codes "byte")) _ (lacks_from is_node_byte c other (codes "byte") refl) (and_from (lacks c (hex.spell b)) true ((hex_lacks c other).free b h) refl)
 
 fill_some : (f : Fill) → 0 < length (fill_words f)
 fill_some Old = omega arith
@@ -259,20 +255,20 @@ read_so : {A : Type 0} (name : List ℕ) (ws : Words A) (to : A → Line) → Is
     → words_of l ≡ name ∷ ws.spell x → IsRead l
 read_so name ws to p free named x l h e words = record {
   again = ap read_words words ∙ named (ws.spell x) ∙ read_as ws to x l p.exact h e;
-  lack = subst (λ (zs : List (List ℕ)). IsTrue (list_all (lacks 32) zs)) (sym words) (and_true (lacks 32 name) (list_all (lacks 32) (ws.spell x)) free (p.lack.free x h));
+  lack = subst (λ (zs : List (List ℕ)). IsTrue (list_all (lacks 32) zs)) (sym words) (and_from (lacks 32 name) (list_all (lacks 32) (ws.spell x)) free (p.lack.free x h));
 }
 
 few : (n : ℕ) → IsTrue (is_passes n) → IsTrue (ltb n (2 ^ 8))
-few n h = let b = both_true (leb 1 n) (leb n 64) h in let le : n ≤ 64 = leb-true n 64 b.1 in lt-ltb n (2 ^ 8) (omega arith)
+few n h = let b = and_parts (leb 1 n) (leb n 64) h in let le : n ≤ 64 = leb-true n 64 b.1 in lt-ltb n (2 ^ 8) (omega arith)
 
 passes_fit : (n : ℕ) → IsTrue (is_passes n) → IsTrue ((that is_passes (number (2 ^ 8))).fits n)
-passes_fit n h = and_true (is_passes n) (ltb n (2 ^ 8)) h (few n h)
+passes_fit n h = and_from (is_passes n) (ltb n (2 ^ 8)) h (few n h)
 
 line_read : (l : Line) → IsTrue (is_line l) → IsRead l
 line_read (line.Step s) h = record { again = (step_seen s h).alone; lack = (step_seen s h).lack }
 line_read (line.Calm id n) h =
-    let b = both_true (is_circuit_id id) (is_passes n) h in
-    read_so (codes "calm") calm (λ x. line.Calm x.0 x.1.0) sound_calm refl (λ xs. refl) (id, (n, tt)) _ (and_true (is_circuit_id id) _ b.0 (more _ (passes_fit n b.1))) refl refl
+    let b = and_parts (is_circuit_id id) (is_passes n) h in
+    read_so (codes "calm") calm (λ x. line.Calm x.0 x.1.0) sound_calm refl (λ xs. refl) (id, (n, tt)) _ (and_from (is_circuit_id id) _ b.0 (more _ (passes_fit n b.1))) refl refl
 line_read (line.Stop n) h = read_so (codes "stop") node (λ x. line.Stop x.0) sound_one_node refl (λ xs. refl) (n, tt) _ (more _ h) refl refl
 line_read (line.Start n) h = read_so (codes "start") node (λ x. line.Start x.0) sound_one_node refl (λ xs. refl) (n, tt) _ (more _ h) refl refl
 line_read (line.Roll n) h = read_so (codes "roll") node (λ x. line.Roll x.0) sound_one_node refl (λ xs. refl) (n, tt) _ (more _ h) refl refl
@@ -281,8 +277,8 @@ line_read (line.Fail call s) h = read_so (codes "fail") failing (λ x. line.Fail
 
 fits_calm : (x : List ℕ × (ℕ × Unit {0})) → IsTrue (calm.fits x) → IsTrue (is_circuit_id x.0 && is_passes x.1.0)
 fits_calm x h =
-    let b = both_true (is_circuit_id x.0) ((is_passes x.1.0 && ltb x.1.0 (2 ^ 8)) && true) h in
-    and_true (is_circuit_id x.0) (is_passes x.1.0) b.0 (both_true (is_passes x.1.0) (ltb x.1.0 (2 ^ 8)) (less _ b.1)).0
+    let b = and_parts (is_circuit_id x.0) ((is_passes x.1.0 && ltb x.1.0 (2 ^ 8)) && true) h in
+    and_from (is_circuit_id x.0) (is_passes x.1.0) b.0 (and_parts (is_passes x.1.0) (ltb x.1.0 (2 ^ 8)) (less _ b.1)).0
 
 all_lines : AllKinds words_of is_line line_kinds
 all_lines =
@@ -306,12 +302,7 @@ line_only (name ∷ xs) l e = kinds_only words_of is_line line_kinds (option_map
 some_word : (l : Line) → 0 < length (words_of l)
 some_word (line.Step (At n id e)) = omega arith
 some_word (line.Step (Deliver from to id n)) = omega arith
-some_word (line.Calm id n) = omega arith
-some_word (line.Stop n) = omega arith
-some_word (line.Start n) = omega arith
-some_word (line.Roll n) = omega arith
-some_word (line.Cut calls f s) = omega arith
-some_word (line.Fail call s) = omega arith
+some_word l = omega arith
 
 exact_line : IsExact (joined 32 line_words)
 exact_line = exact_joined 32 line_words (record { some = λ l h. some_word l; each = λ l h. (line_read l h).lack }) (record { again = λ l h. (line_read l h).again; only = line_only })

@@ -2,11 +2,10 @@
 use Rattle.std.proofs.Common.{◌+◌, ◌*◌, ◌-◌, drop, drop-cons, add-one, ◌≡◌, ℕ, suc, ◌^◌, ◌<◌, ◌≤◌, Bool, true, false, not, ◌&&◌, ◌||◌, eqb, leb, IsTrue, List, [], ◌∷◌, length, get_or, refl, sym, ap, ◌∙◌, arith, rules, inl, inr}
 use Rattle.std.specs.List.{list_all}
 use Rattle.std.specs.Fmt.{decimal}
-use Rattle.std.proofs.lemmas.Bool.{eqb-true, eq-eqb, ne_eqb, leb-true, le-leb, cases_lt}
+use Rattle.std.proofs.lemmas.Bool.{eqb-true, eq-eqb, ne_eqb, leb-true, le-leb, cases_lt, and_parts, and_from}
 use Rattle.std.proofs.lemmas.Fmt.{digits_decimal, digits_value-decimal, decimal_nonempty, first_decimal, decimal_digit, decimal-digits_value}
 use Rattle.std.proofs.lemmas.Str.Parse.{IsNumeralModel, numerals_by_fold}
 use Rattle.spl_base.specs.Ids.{is_digit}
-use Rattle.spl_base.specs.FormLaws.{both_true, and_true}
 use Rattle.spl_sched.specs.Words.{is_decimal, value_behind, value}
 
 pub own : IsNumeralModel (λ ds. list_all is_digit ds ≡ true) value
@@ -30,8 +29,8 @@ short_zero n small =
 
 pub decimal_is : (n : ℕ) → n < 2 ^ 64 → IsTrue (is_decimal (decimal n))
 decimal_is n small =
-    and_true (leb 1 (length (decimal n)) && list_all is_digit (decimal n)) _
-    (and_true (leb 1 (length (decimal n))) (list_all is_digit (decimal n)) (le-leb _ _ (decimal_nonempty n small)) (digits_decimal own n small))
+    and_from (leb 1 (length (decimal n)) && list_all is_digit (decimal n)) _
+    (and_from (leb 1 (length (decimal n))) (list_all is_digit (decimal n)) (le-leb _ _ (decimal_nonempty n small)) (digits_decimal own n small))
     (short_zero n small)
 
 pub value-decimal : (n : ℕ) → n < 2 ^ 64 → value (decimal n) ≡ n
@@ -39,8 +38,8 @@ value-decimal n small = digits_value-decimal own n small
 
 pub decimal-value : (xs : List ℕ) → IsTrue (is_decimal xs) → value xs < 2 ^ 64 → decimal (value xs) ≡ xs
 decimal-value xs h small =
-    let b = both_true (leb 1 (length xs) && list_all is_digit xs) (eqb (length xs) 1 || not (eqb (get_or xs 0 0) 48)) h in
-    let c = both_true (leb 1 (length xs)) (list_all is_digit xs) b.0 in
+    let b = and_parts (leb 1 (length xs) && list_all is_digit xs) (eqb (length xs) 1 || not (eqb (get_or xs 0 0) 48)) h in
+    let c = and_parts (leb 1 (length xs)) (list_all is_digit xs) b.0 in
     decimal-digits_value own xs c.1 (leb-true _ _ c.0) (λ e. eqb-true _ _ (or_left (eqb (length xs) 1) (eqb (get_or xs 0 0) 48) b.1 (eq-eqb _ _ e))) small
 
 pub value_from : (n : ℕ) (xs : List ℕ) → n ≤ value_behind n xs

@@ -1,10 +1,9 @@
 -- Cutting at a byte and joining with it.
 use Rattle.std.proofs.Common.{◌≡◌, ℕ, ◌<◌, Bool, true, false, not, cond, eqb, ltb, ◌+◌, ◌≤◌, take, drop, Some, None, IsTrue, List, [], ◌∷◌, ◌++◌, length, get_or, refl, ap, ◌∙◌, subst, arith}
 use Rattle.std.specs.List.{All, position, position_or_len, list_all, slice_split, join_with_byte}
-use Rattle.std.proofs.lemmas.Bool.{ltb-true, ltb-false, eqb-true, eq-eqb, not-true}
+use Rattle.std.proofs.lemmas.Bool.{ltb-true, ltb-false, eqb-true, eq-eqb, not-true, and_parts, and_from}
 use Rattle.std.proofs.lemmas.List.Sums.{AllPass-from_list_all}
 use Rattle.std.proofs.lemmas.List.Splits.{slice_split_none, slice_split_at, slice_split_first, length-slice_split}
-use Rattle.spl_base.specs.FormLaws.{both_true, and_true}
 use Rattle.spl_sched.specs.Words.{split, read_end}
 
 -- the byte is none of these
@@ -26,15 +25,15 @@ not_same p c x false free here e = refl
 pub lacks_from : (p : ℕ → Bool) (c : ℕ) → p c ≡ false → (xs : List ℕ) → IsTrue (list_all p xs) → IsTrue (lacks c xs)
 lacks_from p c free [] h = refl
 lacks_from p c free (x ∷ xs) h =
-    let b = both_true (p x) (list_all p xs) h in
-    and_true (not (eqb x c)) (lacks c xs) (not_same p c x (eqb x c) free b.0 refl) (lacks_from p c free xs b.1)
+    let b = and_parts (p x) (list_all p xs) h in
+    and_from (not (eqb x c)) (lacks c xs) (not_same p c x (eqb x c) free b.0 refl) (lacks_from p c free xs b.1)
 
 -- words that lack the byte are the parts of what joins them
 pub split_join : (c : ℕ) (ws : List (List ℕ)) → 0 < length ws → IsTrue (list_all (lacks c) ws) → split c (join_with_byte c ws) ≡ ws
 split_join c [] some h = absurd (omega arith)
-split_join c (x ∷ []) some h = slice_split_none (λ b. eqb b c) x (all_other c x (both_true (lacks c x) true h).0)
+split_join c (x ∷ []) some h = slice_split_none (λ b. eqb b c) x (all_other c x (and_parts (lacks c x) true h).0)
 split_join c (x ∷ y ∷ ws) some h =
-    let b = both_true (lacks c x) (list_all (lacks c) (y ∷ ws)) h in
+    let b = and_parts (lacks c x) (list_all (lacks c) (y ∷ ws)) h in
     slice_split_at (λ b. eqb b c) x c (join_with_byte c (y ∷ ws)) (all_other c x b.0) (eq-eqb c c refl)
     ∙ ap (λ (r : List (List ℕ)). x ∷ r) (split_join c (y ∷ ws) (omega arith) b.1)
 
@@ -42,15 +41,15 @@ split_join c (x ∷ y ∷ ws) some h =
 pub lacks_append : (c : ℕ) (xs ys : List ℕ) → IsTrue (lacks c xs) → IsTrue (lacks c ys) → IsTrue (lacks c (xs ++ ys))
 lacks_append c [] ys h k = k
 lacks_append c (x ∷ xs) ys h k =
-    let b = both_true (not (eqb x c)) (lacks c xs) h in
-    and_true (not (eqb x c)) (lacks c (xs ++ ys)) b.0 (lacks_append c xs ys b.1 k)
+    let b = and_parts (not (eqb x c)) (lacks c xs) h in
+    and_from (not (eqb x c)) (lacks c (xs ++ ys)) b.0 (lacks_append c xs ys b.1 k)
 
 pub lacks_join : (c d : ℕ) → eqb d c ≡ false → (ws : List (List ℕ)) → IsTrue (list_all (lacks c) ws) → IsTrue (lacks c (join_with_byte d ws))
 lacks_join c d other [] h = refl
-lacks_join c d other (x ∷ []) h = (both_true (lacks c x) true h).0
+lacks_join c d other (x ∷ []) h = (and_parts (lacks c x) true h).0
 lacks_join c d other (x ∷ y ∷ ws) h =
-    let b = both_true (lacks c x) (list_all (lacks c) (y ∷ ws)) h in
-    lacks_append c x (d ∷ join_with_byte d (y ∷ ws)) b.0 (and_true (not (eqb d c)) (lacks c (join_with_byte d (y ∷ ws))) (not_false (eqb d c) other) (lacks_join c d other (y ∷ ws) b.1))
+    let b = and_parts (lacks c x) (list_all (lacks c) (y ∷ ws)) h in
+    lacks_append c x (d ∷ join_with_byte d (y ∷ ws)) b.0 (and_from (not (eqb d c)) (lacks c (join_with_byte d (y ∷ ws))) (not_false (eqb d c) other) (lacks_join c d other (y ∷ ws) b.1))
 
 -- ---- the first part
 

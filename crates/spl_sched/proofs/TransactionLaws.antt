@@ -3,10 +3,9 @@ use Rattle.std.proofs.Common.{◌≡◌, ℕ, Bool, true, false, cond, ◌&&◌,
 use Rattle.std.specs.Prelude.{codes}
 use Rattle.std.specs.List.{list_all}
 use Rattle.std.specs.Str.{bytes_eq}
-use Rattle.std.proofs.lemmas.Bool.{eqb-true}
+use Rattle.std.proofs.lemmas.Bool.{eqb-true, and_parts, and_from}
 use Rattle.std.proofs.lemmas.List.{append-nil, map-append}
 use Rattle.std.proofs.lemmas.List.Folds.{list_all-append}
-use Rattle.spl_base.specs.FormLaws.{both_true, and_true}
 use Rattle.spl_command.specs.declared.batch.Command.{Command}
 use Rattle.spl_command.specs.declared.batch.Command.TheVariants as command
 use Rattle.spl_command.specs.declared.batch.Transaction.{Transaction}
@@ -15,6 +14,7 @@ use Rattle.spl_sched.specs.declared.transaction.Part.TheVariants as part
 use Rattle.spl_sched.specs.Words.{◌>>=◌, read_front}
 use Rattle.spl_sched.specs.Transactions.{is_prefix, is_command, is_transaction, prefix, input_text, output_text, command_text, command_word, part_fronts, read_part, words_of_transaction, words_of_transactions, no_parts, with_part, with_word, read_open, read_transactions, transactions}
 use Rattle.spl_sched.proofs.Splits.{lacks, lacks_append}
+use Rattle.spl_base.specs.Booleans.{all_more}
 use Rattle.spl_sched.proofs.WordLaws.{IsExact, EachLacks, some_is, bind_some, guard_some, same_bytes, read_as}
 use Rattle.spl_sched.proofs.FrontLaws.{AllFronts, is_front, fronts_only}
 use Rattle.spl_sched.proofs.CommandLaws.{exact_prefix, prefix_lacks, exact_command, command_lacks}
@@ -34,21 +34,11 @@ is_part (part.Command c) = is_command c
 -- a command begins as no other part does
 command_alone : (other : Option Part) (c : Command) → read_front part_fronts other (command_text c) ≡ other
 command_alone other (command.Set a v) = refl
-command_alone other (command.Get a) = refl
-command_alone other (command.Delete a) = refl
-command_alone other (command.Event k v) = refl
-command_alone other (command.Data v) = refl
-command_alone other (command.Invalid why) = refl
-command_alone other (command.Error why) = refl
+command_alone other c = refl
 
 no_start : (c : Command) → bytes_eq (command_text c) (codes "tx") ≡ false
 no_start (command.Set a v) = refl
-no_start (command.Get a) = refl
-no_start (command.Delete a) = refl
-no_start (command.Event k v) = refl
-no_start (command.Data v) = refl
-no_start (command.Invalid why) = refl
-no_start (command.Error why) = refl
+no_start c = refl
 
 input_again : (p : List ℕ) → IsTrue (is_prefix p) → read_part (input_text p) ≡ Some (part.Input p)
 input_again p h = read_as prefix part.Input p (part.Input p) exact_prefix h refl
@@ -78,11 +68,8 @@ part_only xs p e = fronts_only part_text is_part part_fronts (command_word.read 
 abbrev inner : Transaction → List (List ℕ)
 inner t = map input_text t.inputs ++ (map output_text t.outputs ++ map command_text t.commands)
 
-all_more : {A : Type 0} (p : A → Bool) (xs : List A) (x : A) → IsTrue (list_all p xs) → IsTrue (p x) → IsTrue (list_all p (xs ++ x ∷ []))
-all_more p xs x h k = list_all-append p xs (x ∷ []) ∙ and_true (list_all p xs) (p x && true) h (and_true (p x) true k refl)
-
 both : (a b c : Bool) → IsTrue a → IsTrue b → IsTrue c → IsTrue (a && b && c)
-both a b c ha hb hc = and_true (a && b) c (and_true a b ha hb) hc
+both a b c ha hb hc = and_from (a && b) c (and_from a b ha hb) hc
 
 -- a transaction whose words are those of the first and one more
 abbrev Grown : Transaction → Part → Transaction → Type 0
@@ -94,18 +81,18 @@ some_left x xs h = let none : length (x ∷ xs) ≡ 0 = eqb-true (length (x ∷ 
 input_grown : (ins outs : List (List ℕ)) (cs : List Command) (p : List ℕ) → IsTrue (eqb (length outs) 0 && eqb (length cs) 0) → IsTrue (is_transaction (record { inputs = ins; outputs = outs; commands = cs })) → IsTrue (is_prefix p)
     → Grown (record { inputs = ins; outputs = outs; commands = cs }) (part.Input p) (record { inputs = ins ++ p ∷ []; outputs = outs; commands = cs })
 input_grown ins [] [] p none h k =
-    let b = both_true (list_all is_prefix ins) true (both_true (list_all is_prefix ins && true) true h).0 in
+    let b = and_parts (list_all is_prefix ins) true (and_parts (list_all is_prefix ins && true) true h).0 in
     let more : IsTrue (list_all is_prefix (ins ++ p ∷ [])) = all_more is_prefix ins p b.0 k in (
       append-nil (map input_text (ins ++ p ∷ [])) ∙ map-append input_text ins (p ∷ []) ∙ ap (λ (ws : List (List ℕ)). ws ++ input_text p ∷ []) (sym (append-nil (map input_text ins))),
       both (list_all is_prefix (ins ++ p ∷ [])) true true more refl refl,
     )
-input_grown ins (o ∷ outs) cs p none h k = absurd (some_left o outs (both_true (eqb (length (o ∷ outs)) 0) (eqb (length cs) 0) none).0)
+input_grown ins (o ∷ outs) cs p none h k = absurd (some_left o outs (and_parts (eqb (length (o ∷ outs)) 0) (eqb (length cs) 0) none).0)
 input_grown ins [] (c ∷ cs) p none h k = absurd (some_left c cs none)
 
 output_grown : (ins outs : List (List ℕ)) (cs : List Command) (p : List ℕ) → IsTrue (eqb (length cs) 0) → IsTrue (is_transaction (record { inputs = ins; outputs = outs; commands = cs })) → IsTrue (is_prefix p)
     → Grown (record { inputs = ins; outputs = outs; commands = cs }) (part.Output p) (record { inputs = ins; outputs = outs ++ p ∷ []; commands = cs })
 output_grown ins outs [] p none h k =
-    let b = both_true (list_all is_prefix ins) (list_all is_prefix outs) (both_true (list_all is_prefix ins && list_all is_prefix outs) true h).0 in
+    let b = and_parts (list_all is_prefix ins) (list_all is_prefix outs) (and_parts (list_all is_prefix ins && list_all is_prefix outs) true h).0 in
     let more : IsTrue (list_all is_prefix (outs ++ p ∷ [])) = all_more is_prefix outs p b.1 k in
     let end : List (List ℕ) = output_text p ∷ [] in (
       ap (λ (ws : List (List ℕ)). map input_text ins ++ ws) (append-nil (map output_text (outs ++ p ∷ [])) ∙ map-append output_text outs (p ∷ []))
@@ -117,8 +104,8 @@ output_grown ins outs (c ∷ cs) p none h k = absurd (some_left c cs none)
 command_grown : (ins outs : List (List ℕ)) (cs : List Command) (c : Command) → IsTrue (is_transaction (record { inputs = ins; outputs = outs; commands = cs })) → IsTrue (is_command c)
     → Grown (record { inputs = ins; outputs = outs; commands = cs }) (part.Command c) (record { inputs = ins; outputs = outs; commands = cs ++ c ∷ [] })
 command_grown ins outs cs c h k =
-    let a = both_true (list_all is_prefix ins && list_all is_prefix outs) (list_all is_command cs) h in
-    let b = both_true (list_all is_prefix ins) (list_all is_prefix outs) a.0 in
+    let a = and_parts (list_all is_prefix ins && list_all is_prefix outs) (list_all is_command cs) h in
+    let b = and_parts (list_all is_prefix ins) (list_all is_prefix outs) a.0 in
     let end : List (List ℕ) = command_text c ∷ [] in (
       ap (λ (ws : List (List ℕ)). map input_text ins ++ (map output_text outs ++ ws)) (map-append command_text cs (c ∷ []))
           ∙ ap (λ (ws : List (List ℕ)). map input_text ins ++ ws) (sym (append_assoc (map output_text outs) (map command_text cs) end))
@@ -162,7 +149,7 @@ module _ (t : Transaction) (word : List ℕ) (words : List (List ℕ)) (ts : Lis
       let o = more no_parts m.0 refl m.1 in
       subst (λ (us : List Transaction). SpelledBehind t (word ∷ words) us) same (
         ap (λ (w : List ℕ). codes "tx" ∷ (inner t ++ w ∷ words)) start ∙ ap (λ (ws : List (List ℕ)). codes "tx" ∷ (inner t ++ ws)) o.0,
-        and_true (is_transaction t) (list_all is_transaction m.0) h o.1,
+        and_from (is_transaction t) (list_all is_transaction m.0) h o.1,
       )
 
   went_on : (with_word t word >>= λ u. read_open u words) ≡ Some ts → SpelledBehind t (word ∷ words) ts
@@ -180,7 +167,7 @@ open_only : (words : List (List ℕ)) (t : Transaction) (ts : List Transaction) 
 open_only [] t ts h e =
     let made : List Transaction = t ∷ [] in
     let same : made ≡ ts = some_is made ts e in
-    subst (λ (us : List Transaction). SpelledBehind t [] us) same (refl, and_true (is_transaction t) true h refl)
+    subst (λ (us : List Transaction). SpelledBehind t [] us) same (refl, and_from (is_transaction t) true h refl)
 open_only (word ∷ words) t ts h e = by_start t word words ts h (open_only words) (bytes_eq word (codes "tx")) refl e
 
 first_by : (word : List ℕ) (words : List (List ℕ)) (ts : List Transaction) (b : Bool) → bytes_eq word (codes "tx") ≡ b → cond b (read_open no_parts words) None ≡ Some ts → (word ∷ words ≡ words_of_transactions ts) × IsTrue (list_all is_transaction ts)
@@ -199,7 +186,7 @@ inputs_again : (ins ps : List (List ℕ)) (rest : List (List ℕ)) → IsTrue (l
     → read_open (record { inputs = ins; outputs = []; commands = [] }) (map input_text ps ++ rest) ≡ read_open (record { inputs = ins ++ ps; outputs = []; commands = [] }) rest
 inputs_again ins [] rest h = ap (λ (xs : List (List ℕ)). read_open (record { inputs = xs; outputs = []; commands = [] }) rest) (sym (append-nil ins))
 inputs_again ins (p ∷ ps) rest h =
-    let b = both_true (is_prefix p) (list_all is_prefix ps) h in
+    let b = and_parts (is_prefix p) (list_all is_prefix ps) h in
     rw (input_again p b.0) (inputs_again (ins ++ p ∷ []) ps rest b.1)
     ∙ ap (λ (xs : List (List ℕ)). read_open (record { inputs = xs; outputs = []; commands = [] }) rest) (append_assoc ins (p ∷ []) ps)
 
@@ -207,7 +194,7 @@ outputs_again : (ins outs ps : List (List ℕ)) (rest : List (List ℕ)) → IsT
     → read_open (record { inputs = ins; outputs = outs; commands = [] }) (map output_text ps ++ rest) ≡ read_open (record { inputs = ins; outputs = outs ++ ps; commands = [] }) rest
 outputs_again ins outs [] rest h = ap (λ (xs : List (List ℕ)). read_open (record { inputs = ins; outputs = xs; commands = [] }) rest) (sym (append-nil outs))
 outputs_again ins outs (p ∷ ps) rest h =
-    let b = both_true (is_prefix p) (list_all is_prefix ps) h in
+    let b = and_parts (is_prefix p) (list_all is_prefix ps) h in
     rw (output_again p b.0) (outputs_again ins (outs ++ p ∷ []) ps rest b.1)
     ∙ ap (λ (xs : List (List ℕ)). read_open (record { inputs = ins; outputs = xs; commands = [] }) rest) (append_assoc outs (p ∷ []) ps)
 
@@ -215,14 +202,14 @@ commands_again : (ins outs : List (List ℕ)) (cs ds : List Command) (rest : Lis
     → read_open (record { inputs = ins; outputs = outs; commands = cs }) (map command_text ds ++ rest) ≡ read_open (record { inputs = ins; outputs = outs; commands = cs ++ ds }) rest
 commands_again ins outs cs [] rest h = ap (λ (xs : List Command). read_open (record { inputs = ins; outputs = outs; commands = xs }) rest) (sym (append-nil cs))
 commands_again ins outs cs (d ∷ ds) rest h =
-    let b = both_true (is_command d) (list_all is_command ds) h in
+    let b = and_parts (is_command d) (list_all is_command ds) h in
     rw (no_start d, do_again d b.0) (commands_again ins outs (cs ++ d ∷ []) ds rest b.1)
     ∙ ap (λ (xs : List Command). read_open (record { inputs = ins; outputs = outs; commands = xs }) rest) (append_assoc cs (d ∷ []) ds)
 
 open_again : (t : Transaction) (rest : List (List ℕ)) → IsTrue (is_transaction t) → read_open no_parts (inner t ++ rest) ≡ read_open t rest
 open_again t rest h =
-    let a = both_true (list_all is_prefix t.inputs && list_all is_prefix t.outputs) (list_all is_command t.commands) h in
-    let b = both_true (list_all is_prefix t.inputs) (list_all is_prefix t.outputs) a.0 in
+    let a = and_parts (list_all is_prefix t.inputs && list_all is_prefix t.outputs) (list_all is_command t.commands) h in
+    let b = and_parts (list_all is_prefix t.inputs) (list_all is_prefix t.outputs) a.0 in
     let others : List (List ℕ) = map output_text t.outputs ++ map command_text t.commands in
     ap (read_open no_parts) (append_assoc (map input_text t.inputs) others rest)
     ∙ inputs_again [] t.inputs (others ++ rest) b.0
@@ -233,14 +220,14 @@ open_again t rest h =
 all_again : (t : Transaction) (ts : List Transaction) → IsTrue (list_all is_transaction ts) → read_open t (words_of_transactions ts) ≡ Some (t ∷ ts)
 all_again t [] h = refl
 all_again t (u ∷ us) h =
-    let b = both_true (is_transaction u) (list_all is_transaction us) h in
+    let b = and_parts (is_transaction u) (list_all is_transaction us) h in
     let found : read_open no_parts (inner u ++ words_of_transactions us) ≡ Some (u ∷ us) = open_again u (words_of_transactions us) b.0 ∙ all_again u us b.1 in
     ap (λ (o : Option (List Transaction)). o >>= λ ts. Some (t ∷ ts)) found
 
 again : (ts : List Transaction) → IsTrue (list_all is_transaction ts) → read_transactions (words_of_transactions ts) ≡ Some ts
 again [] h = refl
 again (t ∷ ts) h =
-    let b = both_true (is_transaction t) (list_all is_transaction ts) h in
+    let b = and_parts (is_transaction t) (list_all is_transaction ts) h in
     open_again t (words_of_transactions ts) b.0 ∙ all_again t ts b.1
 
 pub exact_transactions : IsExact transactions
@@ -251,19 +238,19 @@ exact_transactions = record { again = again; only = only }
 each_text : {A : Type 0} (spell : A → List ℕ) (fits : A → Bool) → ((x : A) → IsTrue (fits x) → IsTrue (lacks 32 (spell x))) → (xs : List A) → IsTrue (list_all fits xs) → IsTrue (list_all (lacks 32) (map spell xs))
 each_text spell fits p [] h = refl
 each_text spell fits p (x ∷ xs) h =
-    let b = both_true (fits x) (list_all fits xs) h in
-    and_true (lacks 32 (spell x)) (list_all (lacks 32) (map spell xs)) (p x b.0) (each_text spell fits p xs b.1)
+    let b = and_parts (fits x) (list_all fits xs) h in
+    and_from (lacks 32 (spell x)) (list_all (lacks 32) (map spell xs)) (p x b.0) (each_text spell fits p xs b.1)
 
 all_append : (xs ys : List (List ℕ)) → IsTrue (list_all (lacks 32) xs) → IsTrue (list_all (lacks 32) ys) → IsTrue (list_all (lacks 32) (xs ++ ys))
-all_append xs ys h k = list_all-append (lacks 32) xs ys ∙ and_true (list_all (lacks 32) xs) (list_all (lacks 32) ys) h k
+all_append xs ys h k = list_all-append (lacks 32) xs ys ∙ and_from (list_all (lacks 32) xs) (list_all (lacks 32) ys) h k
 
 prefix_free : (p : List ℕ) → IsTrue (is_prefix p) → IsTrue (lacks 32 (prefix.spell p))
 prefix_free p h = (prefix_lacks 32 refl).free p h
 
 inner_lacks : (t : Transaction) → IsTrue (is_transaction t) → IsTrue (list_all (lacks 32) (inner t))
 inner_lacks t h =
-    let a = both_true (list_all is_prefix t.inputs && list_all is_prefix t.outputs) (list_all is_command t.commands) h in
-    let b = both_true (list_all is_prefix t.inputs) (list_all is_prefix t.outputs) a.0 in
+    let a = and_parts (list_all is_prefix t.inputs && list_all is_prefix t.outputs) (list_all is_command t.commands) h in
+    let b = and_parts (list_all is_prefix t.inputs) (list_all is_prefix t.outputs) a.0 in
     all_append (map input_text t.inputs) (map output_text t.outputs ++ map command_text t.commands)
     (each_text input_text is_prefix (λ p k. lacks_append 32 (codes "in:") (prefix.spell p) refl (prefix_free p k)) t.inputs b.0)
     (all_append (map output_text t.outputs) (map command_text t.commands)
@@ -273,7 +260,7 @@ inner_lacks t h =
 free : (ts : List Transaction) → IsTrue (list_all is_transaction ts) → IsTrue (list_all (lacks 32) (words_of_transactions ts))
 free [] h = refl
 free (t ∷ ts) h =
-    let b = both_true (is_transaction t) (list_all is_transaction ts) h in
+    let b = and_parts (is_transaction t) (list_all is_transaction ts) h in
     all_append (words_of_transaction t) (words_of_transactions ts) (inner_lacks t b.0) (free ts b.1)
 
 pub transactions_lack : EachLacks 32 transactions

@@ -4,11 +4,11 @@ use Rattle.std.specs.List.{list_all, slice_split, join_with_byte}
 use Rattle.std.specs.Option.{option_map}
 use Rattle.std.specs.Fmt.{decimal}
 use Rattle.std.specs.Str.{bytes_eq}
-use Rattle.std.proofs.lemmas.Bool.{lt-ltb, ltb-true, leb-true}
+use Rattle.std.proofs.lemmas.Bool.{lt-ltb, ltb-true, leb-true, and_parts, and_from}
 use Rattle.std.proofs.lemmas.List.{length-map}
 use Rattle.std.proofs.lemmas.List.Splits.{join_with_byte-slice_split}
-use Rattle.std.proofs.lemmas.Slice.Eq.{bytes_eq-Decides}
-use Rattle.spl_base.specs.FormLaws.{both_true, and_true}
+pub use Rattle.std.proofs.lemmas.Option.{same_Some as some_is}
+pub use Rattle.spl_base.specs.Booleans.{bytes_are as same_bytes, bytes_same as itself}
 use Rattle.spl_sched.specs.Words.{Spelling, Word, Words, Kind, split, ◌>>=◌, text, flag, read_flag, is_decimal, value, number, joined, read_end, end, ◌&◌, read_each, up_to, meaning, that, kind, read_kind}
 use Rattle.spl_sched.proofs.Splits.{lacks, split_join, lacks_join}
 use Rattle.spl_sched.proofs.Numbers.{decimal_is, value-decimal, decimal-value}
@@ -17,9 +17,6 @@ use Rattle.spl_sched.proofs.Numbers.{decimal_is, value-decimal, decimal-value}
 pub record IsExact {S A : Type 0} (s : Spelling S A) : Type 0 where
   pub again : (x : A) → IsTrue (s.fits x) → s.read (s.spell x) ≡ Some x
   pub only : (spelled : S) (x : A) → s.read spelled ≡ Some x → (spelled ≡ s.spell x) × IsTrue (s.fits x)
-
-pub some_is : {A : Type 0} (x y : A) → Some x ≡ Some y → x ≡ y
-some_is x y e = cc
 
 -- a test that passed
 pub guard_some : {A : Type 0} (b : Bool) (o : Option A) (x : A) → cond b o None ≡ Some x → IsTrue b × (o ≡ Some x)
@@ -34,12 +31,6 @@ bind_some (Some x) f y e = (x, refl, e)
 pub map_some : {A B : Type 0} (f : A → B) (o : Option A) (y : B) → option_map f o ≡ Some y → (x : A) × (o ≡ Some x) × (f x ≡ y)
 map_some f None y e = absurd cc
 map_some f (Some x) y e = (x, refl, cc)
-
-pub same_bytes : (xs ys : List ℕ) → bytes_eq xs ys ≡ true → xs ≡ ys
-same_bytes xs ys e = (bytes_eq-Decides xs ys).0 e
-
-pub itself : (xs : List ℕ) → bytes_eq xs xs ≡ true
-itself xs = (bytes_eq-Decides xs xs).1 refl
 
 -- ---- single words
 
@@ -59,7 +50,7 @@ exact_number limit wide = record {
       rw (decimals, same, lt-ltb n limit small) refl;
   only = λ xs n e.
       let g = guard_some (is_decimal xs && ltb (value xs) limit) (Some (value xs)) n e in
-      let b = both_true (is_decimal xs) (ltb (value xs) limit) g.0 in
+      let b = and_parts (is_decimal xs) (ltb (value xs) limit) g.0 in
       let same : value xs ≡ n = some_is (value xs) n g.1 in
       let small : value xs < limit = ltb-true (value xs) limit b.1 in
       (sym (decimal-value xs b.0 (omega arith)) ∙ ap decimal same, subst (λ (m : ℕ). IsTrue (ltb m limit)) same b.1);
@@ -93,7 +84,7 @@ exact_end = record { again = λ x h. refl; only = end_only }
 
 module _ {A B : Type 0} (w : Word A) (ws : Words B) (p : IsExact w) (q : IsExact ws) where
   and_again : (x : A × B) → IsTrue ((w & ws).fits x) → (w & ws).read ((w & ws).spell x) ≡ Some x
-  and_again x h = let b = both_true (w.fits x.0) (ws.fits x.1) h in rw (p.again x.0 b.0, q.again x.1 b.1) refl
+  and_again x h = let b = and_parts (w.fits x.0) (ws.fits x.1) h in rw (p.again x.0 b.0, q.again x.1 b.1) refl
 
   and_only : (xs : List (List ℕ)) (x : A × B) → (w & ws).read xs ≡ Some x → (xs ≡ (w & ws).spell x) × IsTrue ((w & ws).fits x)
   and_only [] x e = absurd cc
@@ -113,7 +104,7 @@ module _ {A B : Type 0} (w : Word A) (ws : Words B) (p : IsExact w) (q : IsExact
       let head : y ≡ w.spell x.0 = one.0 ∙ ap w.spell same_word in
       let tail : ys ≡ ws.spell x.1 = left ∙ others.0 ∙ ap ws.spell same_rest in (
         ap (λ (z : List ℕ). z ∷ ys) head ∙ ap (λ (zs : List (List ℕ)). w.spell x.0 ∷ zs) tail,
-        and_true (w.fits x.0) (ws.fits x.1) (subst (λ (a : A). IsTrue (w.fits a)) same_word one.1) (subst (λ (b : B). IsTrue (ws.fits b)) same_rest others.1),
+        and_from (w.fits x.0) (ws.fits x.1) (subst (λ (a : A). IsTrue (w.fits a)) same_word one.1) (subst (λ (b : B). IsTrue (ws.fits b)) same_rest others.1),
       )
 
   pub exact_and : IsExact (w & ws)
@@ -122,7 +113,7 @@ module _ {A B : Type 0} (w : Word A) (ws : Words B) (p : IsExact w) (q : IsExact
 module _ {A : Type 0} (w : Word A) (p : IsExact w) where
   each_again : (xs : List A) → IsTrue (list_all w.fits xs) → read_each w.read (map w.spell xs) ≡ Some xs
   each_again [] h = refl
-  each_again (x ∷ xs) h = let b = both_true (w.fits x) (list_all w.fits xs) h in rw (p.again x b.0, each_again xs b.1) refl
+  each_again (x ∷ xs) h = let b = and_parts (w.fits x) (list_all w.fits xs) h in rw (p.again x b.0, each_again xs b.1) refl
 
   each_only : (ws : List (List ℕ)) (xs : List A) → read_each w.read ws ≡ Some xs → (ws ≡ map w.spell xs) × IsTrue (list_all w.fits xs)
   each_only [] xs e = let same : [] ≡ xs = some_is [] xs e in subst (λ (ys : List A). ([] ≡ map w.spell ys) × IsTrue (list_all w.fits ys)) same (refl, refl)
@@ -134,19 +125,19 @@ module _ {A : Type 0} (w : Word A) (p : IsExact w) where
       let one = p.only y first.0 first.1 in
       let others = each_only ys rest.0 rest.1 in
       subst (λ (zs : List A). (y ∷ ys ≡ map w.spell zs) × IsTrue (list_all w.fits zs)) same
-      (ap (λ (z : List ℕ). z ∷ ys) one.0 ∙ ap (λ (zs : List (List ℕ)). w.spell first.0 ∷ zs) others.0, and_true (w.fits first.0) (list_all w.fits rest.0) one.1 others.1)
+      (ap (λ (z : List ℕ). z ∷ ys) one.0 ∙ ap (λ (zs : List (List ℕ)). w.spell first.0 ∷ zs) others.0, and_from (w.fits first.0) (list_all w.fits rest.0) one.1 others.1)
 
   pub exact_up_to : (most : ℕ) → IsExact (up_to most w)
   exact_up_to most = record {
     again = λ xs h.
-        let b = both_true (leb 1 (length xs) && leb (length xs) most) (list_all w.fits xs) h in
+        let b = and_parts (leb 1 (length xs) && leb (length xs) most) (list_all w.fits xs) h in
         let few : (leb 1 (length xs) && leb (length xs) most) ≡ true = b.0 in
         rw (length-map xs w.spell, few) (each_again xs b.1);
     only = λ ws xs e.
         let g = guard_some (leb 1 (length ws) && leb (length ws) most) (read_each w.read ws) xs e in
         let each = each_only ws xs g.1 in
         let same : length ws ≡ length xs = ap length each.0 ∙ length-map xs w.spell in
-        (each.0, and_true (leb 1 (length xs) && leb (length xs) most) (list_all w.fits xs) (subst (λ (n : ℕ). IsTrue (leb 1 n && leb n most)) same g.0) each.1);
+        (each.0, and_from (leb 1 (length xs) && leb (length xs) most) (list_all w.fits xs) (subst (λ (n : ℕ). IsTrue (leb 1 n && leb n most)) same g.0) each.1);
   }
 
 -- ---- joined words
@@ -167,13 +158,13 @@ exact_joined c ws split p = record {
 pub exact_meaning : {S A B : Type 0} (ok : B → Bool) (to : A → B) (from : B → A) (s : Spelling S A) → ((y : B) → IsTrue (ok y) → to (from y) ≡ y)
     → ((x : A) → IsTrue (s.fits x) → (from (to x) ≡ x) × IsTrue (ok (to x))) → IsExact s → IsExact (meaning ok to from s)
 exact_meaning {S} {A} {B} ok to from s there back p = record {
-  again = λ y h. let b = both_true (ok y) (s.fits (from y)) h in rw (p.again (from y) b.1) (ap (λ (z : B). Some z) (there y b.0));
+  again = λ y h. let b = and_parts (ok y) (s.fits (from y)) h in rw (p.again (from y) b.1) (ap (λ (z : B). Some z) (there y b.0));
   only = λ bs y e.
       let m = map_some to (s.read bs) y e in
       let o = p.only bs m.0 m.1 in
       let r = back m.0 o.1 in
       subst (λ (z : B). (bs ≡ s.spell (from z)) × IsTrue (ok z && s.fits (from z))) m.2
-      (o.0 ∙ ap s.spell (sym r.0), and_true (ok (to m.0)) (s.fits (from (to m.0))) r.1 (subst (λ (x : A). IsTrue (s.fits x)) (sym r.0) o.1));
+      (o.0 ∙ ap s.spell (sym r.0), and_from (ok (to m.0)) (s.fits (from (to m.0))) r.1 (subst (λ (x : A). IsTrue (s.fits x)) (sym r.0) o.1));
 }
 
 -- ---- a test
@@ -187,14 +178,14 @@ passed ok x y e =
 pub exact_that : {S A : Type 0} (ok : A → Bool) (s : Spelling S A) → IsExact s → IsExact (that ok s)
 exact_that {S} {A} ok s p = record {
   again = λ x h.
-      let b = both_true (ok x) (s.fits x) h in
+      let b = and_parts (ok x) (s.fits x) h in
       let passes : ok x ≡ true = b.0 in
       rw (p.again x b.1, passes) refl;
   only = λ bs y e.
       let m = bind_some (s.read bs) (λ a. cond (ok a) (Some a) None) y e in
       let w = passed ok m.0 y m.2 in
       let o = p.only bs m.0 m.1 in
-      (o.0 ∙ ap s.spell w.0, and_true (ok y) (s.fits y) w.1 (subst (λ (x : A). IsTrue (s.fits x)) w.0 o.1));
+      (o.0 ∙ ap s.spell w.0, and_from (ok y) (s.fits y) w.1 (subst (λ (x : A). IsTrue (s.fits x)) w.0 o.1));
 }
 
 -- ---- kinds
@@ -246,20 +237,20 @@ pub end_lacks : (c : ℕ) → EachLacks c end
 end_lacks c = record { free = λ x h. refl }
 
 pub and_lacks : {A B : Type 0} (c : ℕ) (w : Word A) (ws : Words B) → Lacks c w → EachLacks c ws → EachLacks c (w & ws)
-and_lacks c w ws p q = record { free = λ x h. let b = both_true (w.fits x.0) (ws.fits x.1) h in and_true (lacks c (w.spell x.0)) (list_all (lacks c) (ws.spell x.1)) (p.free x.0 b.0) (q.free x.1 b.1) }
+and_lacks c w ws p q = record { free = λ x h. let b = and_parts (w.fits x.0) (ws.fits x.1) h in and_from (lacks c (w.spell x.0)) (list_all (lacks c) (ws.spell x.1)) (p.free x.0 b.0) (q.free x.1 b.1) }
 
 each_map : {A : Type 0} (c : ℕ) (w : Word A) → Lacks c w → (xs : List A) → IsTrue (list_all w.fits xs) → IsTrue (list_all (lacks c) (map w.spell xs))
 each_map c w p [] h = refl
-each_map c w p (x ∷ xs) h = let b = both_true (w.fits x) (list_all w.fits xs) h in and_true (lacks c (w.spell x)) (list_all (lacks c) (map w.spell xs)) (p.free x b.0) (each_map c w p xs b.1)
+each_map c w p (x ∷ xs) h = let b = and_parts (w.fits x) (list_all w.fits xs) h in and_from (lacks c (w.spell x)) (list_all (lacks c) (map w.spell xs)) (p.free x b.0) (each_map c w p xs b.1)
 
 pub up_to_lacks : {A : Type 0} (c most : ℕ) (w : Word A) → Lacks c w → EachLacks c (up_to most w)
-up_to_lacks c most w p = record { free = λ xs h. each_map c w p xs (both_true (leb 1 (length xs) && leb (length xs) most) (list_all w.fits xs) h).1 }
+up_to_lacks c most w p = record { free = λ xs h. each_map c w p xs (and_parts (leb 1 (length xs) && leb (length xs) most) (list_all w.fits xs) h).1 }
 
 pub joined_lacks : {A : Type 0} (c d : ℕ) (ws : Words A) → eqb d c ≡ false → EachLacks c ws → Lacks c (joined d ws)
 joined_lacks c d ws other p = record { free = λ x h. lacks_join c d other (ws.spell x) (p.free x h) }
 
 pub meaning_lacks : {A B : Type 0} (c : ℕ) (ok : B → Bool) (to : A → B) (from : B → A) (w : Word A) → Lacks c w → Lacks c (meaning ok to from w)
-meaning_lacks c ok to from w p = record { free = λ x h. p.free (from x) (both_true (ok x) (w.fits (from x)) h).1 }
+meaning_lacks c ok to from w p = record { free = λ x h. p.free (from x) (and_parts (ok x) (w.fits (from x)) h).1 }
 
 -- words with a first one
 pub split_and : {A B : Type 0} (c : ℕ) (w : Word A) (ws : Words B) → EachLacks c (w & ws) → IsSplit c (w & ws)
@@ -268,17 +259,17 @@ split_and c w ws p = record { some = λ x h. omega arith; each = p.free }
 pub split_up_to : {A : Type 0} (c most : ℕ) (w : Word A) → Lacks c w → IsSplit c (up_to most w)
 split_up_to c most w p = record {
   some = λ xs h.
-      let b = both_true (leb 1 (length xs) && leb (length xs) most) (list_all w.fits xs) h in
-      let few : 1 ≤ length xs = leb-true 1 (length xs) (both_true (leb 1 (length xs)) (leb (length xs) most) b.0).0 in
+      let b = and_parts (leb 1 (length xs) && leb (length xs) most) (list_all w.fits xs) h in
+      let few : 1 ≤ length xs = leb-true 1 (length xs) (and_parts (leb 1 (length xs)) (leb (length xs) most) b.0).0 in
       omega (arith, length-map xs w.spell);
   each = (up_to_lacks c most w p).free;
 }
 
 pub that_lacks : {A : Type 0} (c : ℕ) (ok : A → Bool) (w : Word A) → Lacks c w → Lacks c (that ok w)
-that_lacks c ok w p = record { free = λ x h. p.free x (both_true (ok x) (w.fits x) h).1 }
+that_lacks c ok w p = record { free = λ x h. p.free x (and_parts (ok x) (w.fits x) h).1 }
 
 pub each_that_lacks : {A : Type 0} (c : ℕ) (ok : A → Bool) (ws : Words A) → EachLacks c ws → EachLacks c (that ok ws)
-each_that_lacks c ok ws p = record { free = λ x h. p.free x (both_true (ok x) (ws.fits x) h).1 }
+each_that_lacks c ok ws p = record { free = λ x h. p.free x (and_parts (ok x) (ws.fits x) h).1 }
 
 flag_free : (c : ℕ) (on off : List ℕ) → IsTrue (lacks c on) → IsTrue (lacks c off) → (b : Bool) → IsTrue (lacks c (cond b on off))
 flag_free c on off p q true = p

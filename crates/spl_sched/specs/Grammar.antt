@@ -14,6 +14,7 @@ use Rattle.spl_edge.specs.declared.fill.Fill.{Fill}
 use Rattle.spl_edge.specs.declared.fill.Fill.TheVariants.{Old, New, Byte}
 use Rattle.spl_wire.specs.declared.event.Event.{Event}
 use Rattle.spl_wire.specs.declared.event.Event.TheVariants as event
+use Rattle.spl_sched.specs.declared.line.TheConstants.{MOST_PASSES}
 use Rattle.spl_sched.specs.declared.line.Step.{Step}
 use Rattle.spl_sched.specs.declared.line.Step.TheVariants.{At, Deliver}
 use Rattle.spl_sched.specs.declared.line.Line.{Line}
@@ -136,7 +137,7 @@ is_fill (Byte b) = nat_lt b (2 ^ 8)
 is_fill _ = true
 
 abbrev pub is_passes : ℕ → Bool
-is_passes n = nat_le 1 n && nat_le n 64
+is_passes n = nat_le 1 n && nat_le n MOST_PASSES
 
 abbrev pub is_line : Line → Bool
 is_line (line.Step s) = is_step s

@@ -23,7 +23,8 @@ fn are_digits(bytes: &[u8]) -> bool
     bytes.iter().all(|b| is_lower_digit(*b))
 }
 
-/// Reads as many bytes as there are cells, two digits for each, and tells whether that is what the digits spell.
+/// Reads as many bytes as there are cells, two digits for each, and tells whether that is what the
+/// digits spell.
 pub(crate) fn read_cells(digits: &[u8], cells: &mut [u8]) -> bool
     ensures read { result ≡ true → read_hex_string digits.now ≡ Some cells.new }
     ensures unread { result ≡ false → (bytes : List ℕ) → read_hex_string digits.now ≡ Some bytes → length bytes ≢ length cells.old }

@@ -26,6 +26,6 @@ pub use laws::{
     lines_are_read_back, lines_have_one_spelling, silent_lines_are_no_lines,
     spellings_have_one_line,
 };
-pub use line::{Line, Step};
+pub use line::{Line, MOST_PASSES, Step};
 pub use read::read_line;
 pub use write::write_line;

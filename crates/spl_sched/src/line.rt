@@ -7,6 +7,9 @@ use spl_base::{CircuitId, NodeId};
 use spl_edge::Fill;
 use spl_wire::Event;
 
+/// How many passes a calm has at most.
+pub const MOST_PASSES: u8 = 64;
+
 /// A step of a schedule.
 #[derive(Debug, Drop)]
 pub enum Step {

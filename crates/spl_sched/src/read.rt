@@ -7,19 +7,19 @@ ghost use Rattle.spl_sched.specs.Words.{Reads, Takes, read_first, read_kind, tha
 ghost use Rattle.spl_sched.specs.Grammar.{is_line, is_passes, spelling, calm, cut, failing, node, step, read_words, line_of};
 
 use crate::fault::LineFault;
-use crate::line::{Line, Step};
+use crate::line::{Line, MOST_PASSES, Step};
 use crate::step::read_step;
 use crate::word::take;
 use crate::words::WordReader;
 use spl_base::NodeId;
 use std::alloc::Global;
 
-/// Takes a number from 1 to 64.
+/// Takes a number from 1 to `MOST_PASSES`.
 fn take_passes(alloc: Global, words: &mut WordReader) -> Result<u8, LineFault>
     ensures { Takes result words.new (read_first (that is_passes (number (2 ^ 8))) words.old) }
 {
     let passes = take(alloc, words)?;
-    if passes < 1 || passes > 64 {
+    if passes < 1 || passes > MOST_PASSES {
         return Err(LineFault::BadLine);
     }
     Ok(passes)

@@ -2,7 +2,9 @@ use Rattle.std.proofs.Common.{◌≡◌, ◌<◌, ◌-◌, ◌^◌, [], ◌∷�
 use Rattle.spl_agree.specs.Member.{values}
 use Rattle.spl_commit.specs.Views.{AreKeyed}
 use Rattle.spl_commit.proofs.Keyed.{remove-without, keyed-remove}
-use Rattle.spl_commit.proofs.ChangeSteps.{commit-room, length-values, values-more, length-one}
+use Rattle.spl_agree.proofs.Tests.{length-values, values-more}
+use Rattle.spl_group.proofs.Fits.{length-one}
+use Rattle.spl_commit.proofs.ChangeSteps.{commit-room}
 use Rattle.spl_commit.proofs.member.Member.commit.Goals as goal
 
 pub commit-requires-clause-room : goal.commit-requires-clause-room

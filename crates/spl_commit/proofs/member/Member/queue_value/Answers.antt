@@ -1,5 +1,6 @@
 use Rattle.std.proofs.Common.{◌≡◌, ◌<◌, length, sym, ap, ◌∙◌, subst, arith}
 use Rattle.std.specs.Prelude.{Err, is_none, nat_lt}
+use Rattle.spl_agree.specs.declared.limit.TheConstants.{MOST_PENDING}
 use Rattle.spl_agree.specs.Member.{found, found_refused, known_by}
 use Rattle.spl_agree.proofs.Tests.{and_left, and_right, ltb_is}
 use Rattle.spl_commit.specs.Views.{AreKeyed}
@@ -43,8 +44,8 @@ returns-clause-ok g c = rw (← c.self.view_is, c.in-Ok.ensures.queued, c.in-Ok.
 pub no_memory-requires : goal.no_memory-requires
 no_memory-requires g c = record {
   room = λ v e.
-      let room : length c.args.self.now.state.pending < 64 = ltb_is (length c.args.self.now.state.pending) 64 (and_left (nat_lt (length c.args.self.now.state.pending) 64) _ (and_right (is_none (known_by ((g.M.Agreed.rules c.args.self.now.content).same_key c.args.value) c.args.self.now.state)) _ c.requires)) in
+      let room : length c.args.self.now.state.pending < MOST_PENDING = ltb_is (length c.args.self.now.state.pending) MOST_PENDING (and_left (nat_lt (length c.args.self.now.state.pending) MOST_PENDING) _ (and_right (is_none (known_by ((g.M.Agreed.rules c.args.self.now.content).same_key c.args.value) c.args.self.now.state)) _ c.requires)) in
       let same : length c.self.inside.queue.pending ≡ length c.args.self.now.state.pending = sym (length-seconds c.self.inside.queue.pending) ∙ ap (λ m. length m.state.pending) c.self.view_is in
-      let full : length c.self.inside.queue.pending ≡ 64 = ((c.in-Err.ensures.full v).0 (ap Err e)).0 in
+      let full : length c.self.inside.queue.pending ≡ MOST_PENDING = ((c.in-Err.ensures.full v).0 (ap Err e)).0 in
       absurd (omega arith);
 }
