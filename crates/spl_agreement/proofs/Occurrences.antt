@@ -61,11 +61,11 @@ pair-was from to (s ∷ ss) k m h = go (bool_cases (bytes_eq s.from from && byte
     go (inl q) hyp = first k q hyp (rw q at h)
     go (inr q) hyp = inr (hyp k (rw q at h))
 
--- a step is what some fair deed gives
+-- a plan that some deed gives which is a step
 abbrev pub IsDeed : World → NodeId → Plan → Type 0
 IsDeed w n p = (deed : Deed) × IsStepOf n w.sent (w.at n) deed × (c : CircuitId) × (p ≡ planned (site_at n c) deed) × Apt (admin_said w.sent) n deed
 
--- an event at a node is a fair deed
+-- what an event at a node gives is one
 pub due-at : (c : CircuitId) (w : World) (n : NodeId) (e : Event) → IsDue w.sent n e → IsDeed w n (planned (site_at n c) (does (site_at n c) (w.at n) e))
 due-at c w n e due = (does (site_at n c) (w.at n) e, steps-does (site_at n c) w.sent (w.at n) e due, c, refl, apt-does (site_at n c) w.sent (w.at n) e due)
 
