@@ -174,6 +174,15 @@ planned-messages base ns n at sent news acts batches k same idle w = (
 pub put-others : (at : NodeId → Cell) (n : NodeId) (k : Cell) → Others n at (put_at at n k)
 put-others at n k = λ j q. put_at-other at n k j q
 
+-- what is posted in two lists
+pub posted-both : (ns : List NodeId) (n : NodeId) (xs ys : List Outgoing) → posted ns n (xs ++ ys) ≡ posted ns n xs ++ posted ns n ys
+posted-both ns n [] ys = refl
+posted-both ns n (z ∷ zs) ys = go (bool_cases (has_node ns z.to)) (posted-both ns n zs ys)
+  where
+    go : (has_node ns z.to ≡ true) ⊎ (has_node ns z.to ≡ false) → posted ns n (zs ++ ys) ≡ posted ns n zs ++ posted ns n ys → posted ns n ((z ∷ zs) ++ ys) ≡ posted ns n (z ∷ zs) ++ posted ns n ys
+    go (inl r) hyp = rw (r, hyp)
+    go (inr r) hyp = rw (r, hyp)
+
 -- any deed, by its kind
 pub planned-deed : (base : Past) (ns : List NodeId) (c : CircuitId) (n : NodeId) (at : NodeId → Cell) (sent : List Sent) (acts : Definition → List Act) (batches : Definition → List Batch) (deed : Deed) → IsStepOf n sent (at n) deed → SomePast base at sent acts batches → Planned base ns n at sent acts batches (planned (site_at n c) deed)
 planned-deed base ns c n at sent acts batches (Refuses r) fair w = planned-messages base ns n at sent [] acts batches (moved_cell n (at n) move.Keep move.Keep) (moved-keep n (at n)) (λ x h. absurd h) w
@@ -334,16 +343,8 @@ planned-deed base ns c n at sent acts batches (Turns b x y) fair w = (
     others2 : Others n at1 at2
     others2 j r = put_at-other at n _ j r ∙ sym (put_at-other at n (Held mid) j r)
 
-    posted-append : (xs ys : List Outgoing) → posted ns n (xs ++ ys) ≡ posted ns n xs ++ posted ns n ys
-    posted-append [] ys = refl
-    posted-append (z ∷ zs) ys = go (bool_cases (has_node ns z.to)) (posted-append zs ys)
-      where
-        go : (has_node ns z.to ≡ true) ⊎ (has_node ns z.to ≡ false) → posted ns n (zs ++ ys) ≡ posted ns n zs ++ posted ns n ys → posted ns n ((z ∷ zs) ++ ys) ≡ posted ns n (z ∷ zs) ++ posted ns n ys
-        go (inl r) hyp = rw (r, hyp)
-        go (inr r) hyp = rw (r, hyp)
-
     more_sent : (z : Sent) → WasSent z sent2 → WasSent z sent1 ⊎ WasSent z (posted ns n (group_sends (service_lane (site_at n c) b.definition) n q.sends))
-    more_sent z h = was-split z sent1 (posted ns n (group_sends (service_lane (site_at n c) b.definition) n q.sends)) (subst (λ (s : List Sent). WasSent z s) (ap (λ s. sent ++ s) (posted-append (group_sends (admin_lane (site_at n c) b.definition) n p.sends) (group_sends (service_lane (site_at n c) b.definition) n q.sends)) ∙ sym (append_assoc sent (posted ns n (group_sends (admin_lane (site_at n c) b.definition) n p.sends)) (posted ns n (group_sends (service_lane (site_at n c) b.definition) n q.sends)))) h)
+    more_sent z h = was-split z sent1 (posted ns n (group_sends (service_lane (site_at n c) b.definition) n q.sends)) (subst (λ (s : List Sent). WasSent z s) (ap (λ s. sent ++ s) (posted-both ns n (group_sends (admin_lane (site_at n c) b.definition) n p.sends) (group_sends (service_lane (site_at n c) b.definition) n q.sends)) ∙ sym (append_assoc sent (posted ns n (group_sends (admin_lane (site_at n c) b.definition) n p.sends)) (posted ns n (group_sends (service_lane (site_at n c) b.definition) n q.sends)))) h)
 
     before : IsValid b.definition n b.acts b.batches
     before = subst (λ (z : Cell). IsValidCell n z) fair.0 (w.2.valid n)

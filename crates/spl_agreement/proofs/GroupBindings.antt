@@ -1,31 +1,20 @@
 -- What else happens to a group of a definition: messages that count in none are sent, and a cell is purged, stops or is bound.
-use Rattle.std.proofs.Common.{◌≡◌, ◌≢◌, ℕ, ◌<◌, ◌≤◌, ◌⊎◌, true, false, List, [], ◌∷◌, ◌++◌, append-nil, append_assoc, length, refl, sym, ap, subst, ◌∙◌, inl, inr}
-use Rattle.std.specs.Prelude.{None, if◌then◌else◌}
+use Rattle.std.proofs.Common.{◌≡◌, ◌≢◌, ℕ, ◌<◌, ◌⊎◌, true, List, [], ◌∷◌, length, refl, sym, ap, subst, ◌∙◌, inl, inr}
+use Rattle.std.specs.Prelude.{if◌then◌else◌}
 use Rattle.spl_agree.specs.declared.message.CommitMsg.{CommitMsg}
 use Rattle.spl_agree.specs.declared.message.CommitMsg.TheVariants as msg
-use Rattle.spl_agree.specs.declared.event.GroupEvent.{GroupEvent}
-use Rattle.spl_agree.specs.declared.event.GroupEvent.TheVariants as event
-use Rattle.spl_agree.specs.declared.event.GroupChange.{GroupChange}
-use Rattle.spl_agree.specs.declared.event.GroupChange.TheVariants as change
-use Rattle.spl_agree.specs.declared.event.OpenMove.{OpenMove}
-use Rattle.spl_agree.specs.declared.event.OpenMove.TheVariants as move
-use Rattle.spl_agree.specs.Member.{Rules, Group, Member, new_member, values, changed, changed_by, moved, restarted}
-use Rattle.spl_agree.specs.Rows.{row}
-use Rattle.spl_agree.specs.World.{Sent as GroupSent, World as GroupWorld, carried_out as group_carried_out, posted as group_posted, stopped as group_stopped, put, after}
-use Rattle.spl_agree.specs.Agreement.{Lead, lead, Seat, seat, Told, Said, Was, Agrees, MayCome, MayHappen}
+use Rattle.spl_agree.specs.Member.{Member, new_member, values, restarted}
+use Rattle.spl_agree.specs.World.{stopped as group_stopped, put}
 use Rattle.spl_agree.proofs.Tests.{put-same, put-other, if_holds, if_true}
-use Rattle.spl_agree.specs.Fits.{AllGood, generation_of}
-use Rattle.spl_agree.specs.declared.plan.GroupPlan.{GroupPlan}
+use Rattle.spl_agree.specs.Fits.{AllGood}
 use Rattle.spl_circuit.specs.declared.definition.Definition.{Definition}
-use Rattle.spl_circuit.specs.Nodes.{NodeId, has_node, position, node_or}
+use Rattle.spl_circuit.specs.Nodes.{NodeId, position, node_or}
 use Rattle.spl_circuit.specs.Equality.{same_definition}
-use Rattle.spl_group.proofs.Agreement.{agrees-row, agrees-stopped, agrees-start}
-use Rattle.spl_group.proofs.Sound.{values-more}
+use Rattle.spl_group.proofs.Agreement.{agrees-stopped, agrees-start}
 use Rattle.spl_model.proofs.Nodes.{node_cases}
 use Rattle.spl_agreement.proofs.Same.{definition_cases, definition_is, definition_same}
 use Rattle.spl_agreement.proofs.Positions.{position-apart, position-or, member_by}
-use Rattle.spl_agreement.specs.Lists.{committed}
-use Rattle.spl_agreement.proofs.GroupOfDefinition.{Groups, group_of, Presence, GroupMessage, Ever, IsQuiet, Matters, Shows, Says, IsPlaced, SomeWorld, InGroups, there_is, Away, There}
+use Rattle.spl_agreement.proofs.GroupOfDefinition.{each-member, Groups, group_of, Presence, GroupMessage, Ever, IsQuiet, Matters, Shows, Says, IsPlaced, SomeWorld, InGroups, there_is, Away, There}
 
 -- messages that count in no group
 abbrev pub IsHarmless : {V : Type 0} → CommitMsg V → Type 0
@@ -108,22 +97,14 @@ groups-drop {V} groups d past at at2 said list n gone others c = record {
 -- a cell forgets its open round
 pub groups-restart : {V : Type 0} (groups : Groups V) (d e : Definition) (past : List (NodeId × Definition)) (at at2 : NodeId → Presence V) (said : GroupMessage V → Type 0) (list : List V) (n : NodeId) (m : Member V) → at n ≡ There e m → at2 n ≡ There e (restarted m) → ((k : NodeId) → k ≢ n → at2 k ≡ at k) → InGroups groups d past at said list → InGroups groups d past at2 said list
 groups-restart {V} groups d e past at at2 said list n m is new others c = record {
-  ever = split (λ k f x. Ever k f past) (c.ever n e m is) c.ever;
-  quiet = split (λ k f x. IsQuiet x ⊎ Ever (groups.leader f) f past) (c.quiet n e m is) c.quiet;
-  placed = split (λ k f x. IsPlaced groups f k) (c.placed n e m is) c.placed;
+  ever = each-member at at2 n e (restarted m) new others (λ k f x. Ever k f past) (c.ever n e m is) c.ever;
+  quiet = each-member at at2 n e (restarted m) new others (λ k f x. IsQuiet x ⊎ Ever (groups.leader f) f past) (c.quiet n e m is) c.quiet;
+  placed = each-member at at2 n e (restarted m) new others (λ k f x. IsPlaced groups f k) (c.placed n e m is) c.placed;
   shows = c.shows;
   coupled = λ led. coupled (c.coupled led) (definition_cases d e);
   empty = c.empty;
 }
   where
-    split : (P : NodeId → Definition → Member V → Type 0) → P n e (restarted m) → ((k : NodeId) (f : Definition) (x : Member V) → at k ≡ There f x → P k f x) → (k : NodeId) (f : Definition) (x : Member V) → at2 k ≡ There f x → P k f x
-    split P mine old k f x h = go (node_cases k n)
-      where
-        go : (k ≡ n) ⊎ (k ≢ n) → P k f x
-        go (inl q) = let y : (e ≡ f) × (restarted m ≡ x) = there_is e f (restarted m) x (sym new ∙ subst (λ (z : NodeId). at2 z ≡ There f x) q h) in
-            subst (λ (z : NodeId). P z f x) (sym q) (subst (λ (z : Definition). P n z x) y.0 (subst (λ (z : Member V). P n e z) y.1 mine))
-        go (inr q) = old k f x (sym (others k q) ∙ h)
-
     coupled : SomeWorld groups d past at said list → (d ≡ e) ⊎ (d ≢ e) → SomeWorld groups d past at2 said list
     coupled old (inr q) = (old.0, record { agrees = old.1.agrees; there = there; never = old.1.never; known = old.1.known; listed = old.1.listed; good = old.1.good })
       where
@@ -196,22 +177,14 @@ start-new {V} d e = if_holds (λ z. z ≡ new_member) (same_definition e d) new_
 -- a cell is bound, with a member as it is made
 pub groups-fresh : {V : Type 0} (groups : Groups V) (d e : Definition) (past : List (NodeId × Definition)) (at at2 : NodeId → Presence V) (said : GroupMessage V → Type 0) (list : List V) (n : NodeId) → ((f : Definition) → Ever n f past → f.generation ≢ e.generation) → IsPlaced groups e n → at2 n ≡ There e new_member → ((k : NodeId) → k ≢ n → at2 k ≡ at k) → InGroups groups d past at said list → InGroups groups d ((n, e) ∷ past) at2 said list
 groups-fresh {V} groups d e past at at2 said list n fresh spot new others c = record {
-  ever = split (λ k f x. Ever k f ((n, e) ∷ past)) (inl (refl, refl)) (λ k f x h. inr (c.ever k f x h));
-  quiet = split (λ k f x. IsQuiet x ⊎ Ever (groups.leader f) f ((n, e) ∷ past)) (inl (refl, refl)) (λ k f x h. more f x (c.quiet k f x h));
-  placed = split (λ k f x. IsPlaced groups f k) spot c.placed;
+  ever = each-member at at2 n e new_member new others (λ k f x. Ever k f ((n, e) ∷ past)) (inl (refl, refl)) (λ k f x h. inr (c.ever k f x h));
+  quiet = each-member at at2 n e new_member new others (λ k f x. IsQuiet x ⊎ Ever (groups.leader f) f ((n, e) ∷ past)) (inl (refl, refl)) (λ k f x h. more f x (c.quiet k f x h));
+  placed = each-member at at2 n e new_member new others (λ k f x. IsPlaced groups f k) spot c.placed;
   shows = λ l s. shows l.from l.to l.body (c.shows l s);
   coupled = coupled;
   empty = empty c.empty;
 }
   where
-    split : (P : NodeId → Definition → Member V → Type 0) → P n e new_member → ((k : NodeId) (f : Definition) (x : Member V) → at k ≡ There f x → P k f x) → (k : NodeId) (f : Definition) (x : Member V) → at2 k ≡ There f x → P k f x
-    split P mine old k f x h = go (node_cases k n)
-      where
-        go : (k ≡ n) ⊎ (k ≢ n) → P k f x
-        go (inl q) = let y : (e ≡ f) × (new_member ≡ x) = there_is e f new_member x (sym new ∙ subst (λ (z : NodeId). at2 z ≡ There f x) q h) in
-            subst (λ (z : NodeId). P z f x) (sym q) (subst (λ (z : Definition). P n z x) y.0 (subst (λ (z : Member V). P n e z) y.1 mine))
-        go (inr q) = old k f x (sym (others k q) ∙ h)
-
     more : (f : Definition) (x : Member V) → IsQuiet x ⊎ Ever (groups.leader f) f past → IsQuiet x ⊎ Ever (groups.leader f) f ((n, e) ∷ past)
     more f x (inl h) = inl h
     more f x (inr h) = inr (inr h)
@@ -293,7 +266,7 @@ groups-fresh {V} groups d e past at at2 said list n fresh spot new others c = re
         no_list (inr x) = absurd (none_before (groups.leader d) d x refl refl)
 
         is_placed : (k : NodeId) (x : Member V) → at2 k ≡ There d x → IsPlaced groups d k
-        is_placed k x h = split (λ k f x. IsPlaced groups f k) spot c.placed k d x h
+        is_placed k x h = each-member at at2 n e new_member new others (λ k f x. IsPlaced groups f k) spot c.placed k d x h
 
         there : (k : NodeId) (x : Member V) → at2 k ≡ There d x → start (position d.members k) ≡ x
         there k x h = ap (λ (u : NodeId). start_of d (at2 u)) (position-or d.members [] k (is_placed k x h).here_in) ∙ start-there d (at2 k) x h
@@ -306,7 +279,7 @@ groups-fresh {V} groups d e past at at2 said list n fresh spot new others c = re
 
             go : (start_of d (at2 k) ≡ new_member) ⊎ ((m : Member V) × (at2 k ≡ There d m)) → (start (position d.members k) ≡ new_member) ⊎ Ever k d ((n, e) ∷ past)
             go (inl x) = inl (same ∙ x)
-            go (inr x) = inr (split (λ k f x. Ever k f ((n, e) ∷ past)) (inl (refl, refl)) (λ k f x h. inr (c.ever k f x h)) k d x.0 x.1)
+            go (inr x) = inr (each-member at at2 n e new_member new others (λ k f x. Ever k f ((n, e) ∷ past)) (inl (refl, refl)) (λ k f x h. inr (c.ever k f x h)) k d x.0 x.1)
 
         none : (from to : NodeId) (x : CommitMsg V) → Shows groups past from to x → Matters groups d from to x → ⊥
         none from to (msg.VoteRequest gen rr place v) h k = none_before from h.0 h.1 k.0 (h.2 ∙ k.1)

@@ -1,7 +1,7 @@
 -- One group of each definition over cells that are bound late, purged, stopped and cut: for a definition d, a world of its
 -- group that is coupled with the cells.
 use Rattle.std.proofs.Common.{◌≡◌, ◌≢◌, ℕ, ◌<◌, ◌≤◌, ◌⊎◌, true, false, List, [], ◌∷◌, ◌++◌, append-nil, append_assoc, length, refl, sym, ap, subst, ◌∙◌, inl, inr}
-use Rattle.std.specs.Prelude.{None, if◌then◌else◌}
+use Rattle.std.specs.Prelude.{None}
 use Rattle.spl_agree.specs.declared.message.CommitMsg.{CommitMsg}
 use Rattle.spl_agree.specs.declared.message.CommitMsg.TheVariants as msg
 use Rattle.spl_agree.specs.declared.event.GroupEvent.{GroupEvent}
@@ -10,21 +10,20 @@ use Rattle.spl_agree.specs.declared.event.GroupChange.{GroupChange}
 use Rattle.spl_agree.specs.declared.event.GroupChange.TheVariants as change
 use Rattle.spl_agree.specs.declared.event.OpenMove.{OpenMove}
 use Rattle.spl_agree.specs.declared.event.OpenMove.TheVariants as move
-use Rattle.spl_agree.specs.Member.{Rules, Group, Member, new_member, values, changed, changed_by, moved, restarted}
+use Rattle.spl_agree.specs.Member.{Rules, Group, Member, new_member, values, changed, changed_by, moved}
 use Rattle.spl_agree.specs.Rows.{row}
-use Rattle.spl_agree.specs.World.{Sent as GroupSent, World as GroupWorld, carried_out as group_carried_out, posted as group_posted, stopped as group_stopped, put, after}
+use Rattle.spl_agree.specs.World.{Sent as GroupSent, World as GroupWorld, carried_out as group_carried_out, posted as group_posted, put, after}
 use Rattle.spl_agree.specs.Agreement.{Lead, lead, Seat, seat, Told, Said, Was, Agrees, MayCome, MayHappen}
-use Rattle.spl_agree.proofs.Tests.{put-same, put-other, if_holds, if_true}
+use Rattle.spl_agree.proofs.Tests.{put-same, put-other}
 use Rattle.spl_agree.specs.Fits.{AllGood, generation_of}
 use Rattle.spl_agree.specs.declared.plan.GroupPlan.{GroupPlan}
 use Rattle.spl_circuit.specs.declared.definition.Definition.{Definition}
 use Rattle.spl_circuit.specs.Nodes.{NodeId, has_node, position, node_or}
-use Rattle.spl_circuit.specs.Equality.{same_definition}
-use Rattle.spl_group.proofs.Agreement.{agrees-row, agrees-stopped, agrees-start}
+use Rattle.spl_group.proofs.Agreement.{agrees-row}
 use Rattle.spl_group.proofs.Sound.{values-more}
 use Rattle.spl_model.proofs.Nodes.{node_cases}
-use Rattle.spl_agreement.proofs.Same.{definition_cases, definition_is, definition_same}
-use Rattle.spl_agreement.proofs.Positions.{position-apart, position-or, member_by}
+use Rattle.spl_agreement.proofs.Same.{definition_cases}
+use Rattle.spl_agreement.proofs.Positions.{position-apart, position-or}
 use Rattle.spl_agreement.specs.Lists.{committed}
 
 -- one of the two groups that each definition has: its rules and who coordinates it
@@ -359,6 +358,15 @@ after_row groups e n m ev = after (group_of groups e) (position e.members n) m (
 abbrev pub plan_row : {V : Type 0} → Groups V → Definition → NodeId → Member V → GroupEvent V → GroupPlan V
 plan_row groups e n m ev = row (group_of groups e) (position e.members n) m ev
 
+-- where one cell sees a member anew, what holds of that one and of all members before holds of all members
+pub each-member : {V : Type 0} (at at2 : NodeId → Presence V) (n : NodeId) (e : Definition) (new : Member V) → at2 n ≡ There e new → ((k : NodeId) → k ≢ n → at2 k ≡ at k) → (P : NodeId → Definition → Member V → Type 0) → P n e new → ((k : NodeId) (f : Definition) (x : Member V) → at k ≡ There f x → P k f x) → (k : NodeId) (f : Definition) (x : Member V) → at2 k ≡ There f x → P k f x
+each-member {V} at at2 n e new is others P mine old k f x h = go (node_cases k n)
+  where
+    go : (k ≡ n) ⊎ (k ≢ n) → P k f x
+    go (inl q) = let y : (e ≡ f) × (new ≡ x) = there_is e f new x (sym is ∙ subst (λ (z : NodeId). at2 z ≡ There f x) q h) in
+        subst (λ (z : NodeId). P z f x) (sym q) (subst (λ (z : Definition). P n z x) y.0 (subst (λ (z : Member V). P n e z) y.1 mine))
+    go (inr q) = old k f x (sym (others k q) ∙ h)
+
 -- any row
 pub groups-row : {V : Type 0} (groups : Groups V) (d e : Definition) (past : List (NodeId × Definition)) (at at2 : NodeId → Presence V) (said said2 : GroupMessage V → Type 0) (list more : List V) (n back : NodeId) (m : Member V) (ev : GroupEvent V) → IsOne past
     → at n ≡ There e m → MayHear e said n back ev
@@ -386,22 +394,14 @@ groups-row {V} groups d e past at at2 said said2 list more n back m ev law is ma
     spot : IsPlaced groups e n
     spot = c.placed n e m is
 
-    split : (P : NodeId → Definition → Member V → Type 0) → P n e (after_row groups e n m ev) → ((k : NodeId) (f : Definition) (x : Member V) → at k ≡ There f x → P k f x) → (k : NodeId) (f : Definition) (x : Member V) → at2 k ≡ There f x → P k f x
-    split P mine old k f x h = go (node_cases k n)
-      where
-        go : (k ≡ n) ⊎ (k ≢ n) → P k f x
-        go (inl q) = let y : (e ≡ f) × (after_row groups e n m ev ≡ x) = there_is e f (after_row groups e n m ev) x (sym new ∙ subst (λ (z : NodeId). at2 z ≡ There f x) q h) in
-            subst (λ (z : NodeId). P z f x) (sym q) (subst (λ (z : Definition). P n z x) y.0 (subst (λ (z : Member V). P n e z) y.1 mine))
-        go (inr q) = old k f x (sym (others k q) ∙ h)
-
     ever : (k : NodeId) (f : Definition) (x : Member V) → at2 k ≡ There f x → Ever k f past
-    ever = split (λ k f x. Ever k f past) bound c.ever
+    ever = each-member at at2 n e (after_row groups e n m ev) new others (λ k f x. Ever k f past) bound c.ever
 
     quiets : (k : NodeId) (f : Definition) (x : Member V) → at2 k ≡ There f x → IsQuiet x ⊎ Ever (groups.leader f) f past
-    quiets = split (λ k f x. IsQuiet x ⊎ Ever (groups.leader f) f past) quiet c.quiet
+    quiets = each-member at at2 n e (after_row groups e n m ev) new others (λ k f x. IsQuiet x ⊎ Ever (groups.leader f) f past) quiet c.quiet
 
     placed : (k : NodeId) (f : Definition) (x : Member V) → at2 k ≡ There f x → IsPlaced groups f k
-    placed = split (λ k f x. IsPlaced groups f k) spot c.placed
+    placed = each-member at at2 n e (after_row groups e n m ev) new others (λ k f x. IsPlaced groups f k) spot c.placed
 
     shows : (l : GroupMessage V) → said2 l → Shows groups past l.from l.to l.body
     shows l s = go (messages l s)

@@ -129,7 +129,7 @@ free-since d P Q kept Empty g f s = absurd s
 free-since d P Q kept (Purged old) g f s = omega arith
 free-since d P Q kept (Held h) g f s = absurd f
 
--- a fair deed binds only later generations
+-- a deed that is a step binds only later generations
 pub higher-deed : (d : Definition) (P : Member Act → Type 0) (Q : Member Batch → Type 0) (kept : Lasts P Q) (c : CircuitId) (n : NodeId) (sent : List Sent) (k : Cell) (deed : Deed) → IsStepOf n sent k deed → Since d P Q k → BindsHigher d (planned (site_at n c) deed).changes
 higher-deed d P Q kept c n sent k (Binds say g back e) f s = (free-since d P Q kept k g.generation f.2 s, subst (λ (xs : List Change). BindsHigher d xs) (append-nil _) (no_binds-admin d (plan_row admin_groups g n new_member e).changes [] tt))
 higher-deed d P Q kept c n sent k (Acts say b back e) f s = subst (λ (xs : List Change). BindsHigher d xs) (append-nil _) (no_binds-admin d (plan_row admin_groups b.definition n b.acts e).changes [] tt)

@@ -61,11 +61,11 @@ pair-was from to (s ∷ ss) k m h = go (bool_cases (bytes_eq s.from from && byte
     go (inl q) hyp = first k q hyp (rw q at h)
     go (inr q) hyp = inr (hyp k (rw q at h))
 
--- a step is what some fair deed gives
+-- a plan that some deed gives which is a step
 abbrev pub IsDeed : World → NodeId → Plan → Type 0
 IsDeed w n p = (deed : Deed) × IsStepOf n w.sent (w.at n) deed × (c : CircuitId) × (p ≡ planned (site_at n c) deed) × Apt (admin_said w.sent) n deed
 
--- an event at a node is a fair deed
+-- what an event at a node gives is one
 pub due-at : (c : CircuitId) (w : World) (n : NodeId) (e : Event) → IsDue w.sent n e → IsDeed w n (planned (site_at n c) (does (site_at n c) (w.at n) e))
 due-at c w n e due = (does (site_at n c) (w.at n) e, steps-does (site_at n c) w.sent (w.at n) e due, c, refl, apt-does (site_at n c) w.sent (w.at n) e due)
 
@@ -74,7 +74,7 @@ pub plain-due : (sent : List Sent) (n : NodeId) (e : Event) → IsPlainEvent e �
 plain-due sent n (event.Deliver from m) h = absurd h
 plain-due sent n _ h = tt
 
--- a delivery is a fair deed
+-- a delivery is such a plan
 pub delivery-deed : (c : CircuitId) (w : World) (from to : NodeId) (k : ℕ) (o : Option Message) → slice_get (messages w from to) k ≡ o → IsDeed w to (delivery c w from to o)
 delivery-deed c w from to k None h = (Refuses refusal.NoMessage, tt, c, refl, tt)
 delivery-deed c w from to k (Some m) h = due-at c w to (event.Deliver from m) (go (bool_cases (bytes_eq from to)))
@@ -90,7 +90,7 @@ delivery-deed c w from to k (Some m) h = due-at c w to (event.Deliver from m) (g
     go (inl q) = absurd (none_there (messages w from to) k (empty q) h)
     go (inr q) = (pair-was from to w.sent k m (rw q at h), node_not from to q)
 
--- a step is a fair deed
+-- a step is such a plan
 pub step-deed : (w : World) (s : Step) → IsPlainStep s → IsDeed w (step_node s) (step_plan w s)
 step-deed w (step.At n c e) h = if_holds (IsDeed w n) (w.up n) _ _ (λ q. due-at c w n e (plain-due w.sent n e h)) (λ q. (Refuses refusal.Down, tt, c, refl, tt))
 step-deed w (step.Deliver from to c k) h = if_holds (IsDeed w to) (w.up to) _ _ (λ q. delivery-deed c w from to (k - 1) (slice_get (messages w from to) (k - 1)) refl) (λ q. (Refuses refusal.Down, tt, c, refl, tt))

@@ -1,6 +1,6 @@
 -- A planned deed is a step of the acts that the cells keep.
 use Rattle.std.specs.Prelude.{map}
-use Rattle.std.proofs.Common.{◌≡◌, ◌≢◌, ℕ, ◌<◌, ◌⊎◌, true, false, List, [], ◌∷◌, ◌++◌, refl, sym, ap, subst, ◌∙◌, inl, inr, arith}
+use Rattle.std.proofs.Common.{◌≡◌, ◌≢◌, ℕ, ◌<◌, ◌⊎◌, List, [], ◌∷◌, ◌++◌, refl, sym, ap, subst, ◌∙◌, inl, inr, arith}
 use Rattle.spl_agree.specs.declared.message.CommitMsg.{CommitMsg}
 use Rattle.spl_agree.specs.declared.message.CommitMsg.TheVariants as msg
 use Rattle.spl_agree.specs.declared.event.GroupChange.{GroupChange}
@@ -8,7 +8,7 @@ use Rattle.spl_agree.specs.declared.event.GroupEvent.{GroupEvent}
 use Rattle.spl_agree.specs.declared.event.GroupEvent.TheVariants as group
 use Rattle.spl_agree.specs.declared.plan.GroupPlan.{GroupPlan}
 use Rattle.spl_agree.specs.Member.{Member, new_member, changed_by}
-use Rattle.spl_agree.proofs.Tests.{if_holds, bool_cases}
+use Rattle.spl_agree.proofs.Tests.{if_holds}
 use Rattle.spl_circuit.specs.declared.definition.Definition.{Definition}
 use Rattle.spl_circuit.specs.declared.act.Act.{Act}
 use Rattle.spl_circuit.specs.Nodes.{NodeId, CircuitId, has_node}
@@ -18,7 +18,6 @@ use Rattle.spl_command.specs.declared.batch.Batch.{Batch}
 use Rattle.spl_wire.specs.declared.message.Message.{Message}
 use Rattle.spl_wire.specs.declared.message.Message.TheVariants as message
 use Rattle.spl_wire.specs.declared.change.Change.TheVariants as durable
-use Rattle.spl_wire.specs.declared.plan.Outgoing.{Outgoing}
 use Rattle.spl_rules.specs.Cells.{Cell, Held, Deed, Refuses, Tells, Replies, Binds, Acts, Serves, Turns, Abandons, Purges, Bound, fresh}
 use Rattle.spl_rules.specs.Changes.{made, made_one}
 use Rattle.spl_rules.specs.Plans.{planned, group_sends, admin_lane, service_lane}
@@ -28,13 +27,14 @@ use Rattle.spl_agreement.proofs.GroupOfDefinition.{GroupMessage, Ever, IsMessage
 use Rattle.spl_agreement.proofs.GroupWorlds.{admin_groups, service_groups, admin_said, admin_presence, InWorld, Others, WasSent, placed-admin, posted-admin, posted-no_admin, was-split}
 use Rattle.spl_agreement.proofs.CoupledSteps.{Past, IsNew, free-past}
 use Rattle.spl_agreement.proofs.DeedsAreSteps.{IsStepOf}
-use Rattle.spl_agreement.proofs.CoupledDeeds.{made-bind, made-admin, made-service, made-append}
+use Rattle.spl_agreement.proofs.CoupledDeeds.{made-bind, made-admin, made-service, made-append, posted-both}
 use Rattle.spl_agreement.proofs.PendingActLists.{both-not}
 use Rattle.spl_agreement.proofs.PendingActCells.{View, Sight, Sees, Nowhere, view, no_view, sight, view-by, MayJoin, tidy-new, tidy-more, shifted_by}
 use Rattle.spl_agreement.proofs.PendingActMessages.{IsFew, IsNews}
 use Rattle.spl_agreement.proofs.PendingActRows.{IsReady, unknown-is}
 use Rattle.spl_agreement.proofs.PendingActSteps.{sights, step-still, step-drop, step-row}
-use Rattle.spl_agreement.proofs.PendingActsDue.{Forwards, Apt, IsReply, IsReplyOf, IsNextAct, IsFirstAct}
+use Rattle.spl_agreement.proofs.PendingActsDue.{Forwards, Apt, IsNextAct, IsFirstAct}
+use Rattle.spl_agreement.proofs.Does.{IsReply, IsReplyOf}
 
 -- the acts behind changes of the admin group, and behind changes of the service group
 pub sight-admin : (n : NodeId) (b : Bound) (xs : List (GroupChange Act)) → sight (made n (Held b) (map durable.Admin xs)) ≡ Sees b.definition (shifted_by (view b.acts) xs)
@@ -89,15 +89,6 @@ ready-first past see said n back d past2 (group.Submit v) f h first = (join firs
       lively = λ o. absurd (both-not (is_proposal v.kind) first.0 o);
       came = λ o. inr x.2;
     }
-
--- what is posted in two lists
-pub posted-both : (ns : List NodeId) (n : NodeId) (xs ys : List Outgoing) → posted ns n (xs ++ ys) ≡ posted ns n xs ++ posted ns n ys
-posted-both ns n [] ys = refl
-posted-both ns n (z ∷ zs) ys = go (bool_cases (has_node ns z.to)) (posted-both ns n zs ys)
-  where
-    go : (has_node ns z.to ≡ true) ⊎ (has_node ns z.to ≡ false) → posted ns n (zs ++ ys) ≡ posted ns n zs ++ posted ns n ys → posted ns n ((z ∷ zs) ++ ys) ≡ posted ns n (z ∷ zs) ++ posted ns n ys
-    go (inl r) hyp = rw (r, hyp)
-    go (inr r) hyp = rw (r, hyp)
 
 -- a reply is no news
 pub reply-news : (see : NodeId → Sight) (from to : NodeId) (x : CommitMsg Act) → IsReplyOf x → IsNews see from to x

@@ -47,7 +47,7 @@ pub tame-cell-stopped : (n : NodeId) (sent : List Sent) (count : ℕ) (k : Cell)
 tame-cell-stopped n sent count (Held h) t = (tame-restarted admin_groups h.definition n (admin_said sent) count h.acts t.0, tame-restarted service_groups h.definition n (service_said sent) count h.batches t.1)
 tame-cell-stopped n sent count _ t = tt
 
--- a fair deed keeps a valid cell tame
+-- a deed that is a step keeps a valid cell tame
 pub tame-deed : (c : CircuitId) (n : NodeId) (sent : List Sent) (count : ℕ) (k : Cell) (deed : Deed) → IsStepOf n sent k deed → IsValidCell n k → IsTameCell n sent count k → IsTameCell n sent (count + 1) (after_plan n k (planned (site_at n c) deed))
 tame-deed c n sent count k (Binds say d back e) fair v t =
     let x : (u : ℕ) × (_ ≡ Held (record (fresh d) { turn = u; acts = after_row admin_groups d n new_member e })) = after-acts n (fresh d) (plan_row admin_groups d n new_member e) in
