@@ -10,15 +10,14 @@ use Rattle.spl_circuit.specs.declared.definition.Definition.{Definition}
 use Rattle.spl_circuit.specs.declared.act.Act.{Act}
 use Rattle.spl_agree.specs.declared.reason.Admit.TheVariants as admit
 use Rattle.spl_circuit.specs.declared.act.ActKind.TheVariants as kind
-use Rattle.spl_circuit.specs.declared.lifecycle.Mark.{Mark}
-use Rattle.spl_circuit.specs.Nodes.{Node, position, node_or}
+use Rattle.spl_circuit.specs.Nodes.{NodeId, position, node_or}
 use Rattle.spl_circuit.specs.Equality.{same_definition}
 use Rattle.spl_circuit.specs.Acts.{reason, admits_act, admits_kind, act_rules}
 use Rattle.spl_admin.specs.Kept.{LedgerView}
 use Rattle.spl_admin.specs.Same.{definition_is, definition_same}
 use Rattle.spl_commit.specs.Views.{MemberView, IsFixed}
 use Rattle.spl_command.specs.declared.batch.Batch.{Batch}
-use Rattle.spl_rules.specs.Cells.{admin_group, service_group}
+use Rattle.spl_rules.specs.Cells.{Bound, Site, admin_group, service_group}
 use Rattle.spl_rules.specs.Changes.{turn_after}
 use Rattle.spl_cell.specs.Views.{HeldView, IsPlaced}
 use Rattle.spl_cell.specs.Mays.{may_be, queued}
@@ -37,14 +36,7 @@ three false false false = refl
 -- what a change queues may be pending, and it fits beside that
 pub fits_may : {V : Type 0} (rules : Rules V) (may : V → Bool) (m : Member V) (x : GroupChange V) → fits rules may m x ≡ (may_be may (queued x) && fits rules any_value m x)
 fits_may rules may m (change.Queue v) = three (is_none (known rules m v)) (nat_lt (length m.pending) 64) (may v)
-fits_may rules may m (change.Refuse v why) = refl
-fits_may rules may m (change.Begin r) = refl
-fits_may rules may m (change.Seen r) = refl
-fits_may rules may m (change.Promise r v) = refl
-fits_may rules may m change.Abort = refl
-fits_may rules may m (change.Commit r v) = refl
-fits_may rules may m (change.Restore next seen) = refl
-fits_may rules may m (change.Kept v why) = refl
+fits_may rules may m _ = refl
 
 pub fits_any : {V : Type 0} (b : Bool) (rules : Rules V) (may : V → Bool) (m : Member V) (x : GroupChange V) → (b && fits rules may m x) ≡ true → fits rules any_value m x ≡ true
 fits_any b rules may m x h = and_right (may_be may (queued x)) (fits rules any_value m x) (sym (fits_may rules may m x) ∙ and_right b (fits rules may m x) h)
@@ -55,7 +47,7 @@ fits_running b c k rules may m x h = fits_any k rules may m x (and_right c (k &&
 -- ---- the seats stay
 
 -- the rules of two definitions are equal only where these are
-node_or_none : (ms : List Node) (p : ℕ) → length ms ≤ p → node_or ms [] p ≡ []
+node_or_none : (ms : List NodeId) (p : ℕ) → length ms ≤ p → node_or ms [] p ≡ []
 node_or_none [] p l = refl
 node_or_none (m ∷ ms) zero l = absurd (omega (arith, l))
 node_or_none (m ∷ ms) (suc p) l = node_or_none ms p (omega (arith, l))
@@ -81,24 +73,24 @@ pub definition_stays : (old new : MemberView LedgerView Act) → act_rules new.c
 definition_stays old new h = rules_tell new.content.definition old.content.definition h
 
 -- a change of the admin group leaves both at their places
-pub acts_placed : (n : Node) (old new : MemberView LedgerView Act) (b : MemberView (List Batch) Batch) → IsPlaced n old.content.definition old b → act_rules new.content.definition ≡ act_rules old.content.definition → IsFixed old new → IsPlaced n new.content.definition new b
+pub acts_placed : (n : NodeId) (old new : MemberView LedgerView Act) (b : MemberView (List Batch) Batch) → IsPlaced n old.content.definition old b → act_rules new.content.definition ≡ act_rules old.content.definition → IsFixed old new → IsPlaced n new.content.definition new b
 acts_placed n old new b p h f =
     let d : Definition = old.content.definition in
     let k : IsPlaced n d new b = record { member = p.member; acts = seat_stays (admin_group d) (position d.members n) old new p.acts f; batches = p.batches } in
     subst (λ (e : Definition). IsPlaced n e new b) (sym (definition_stays old new h)) k
 
 -- and one of the service group
-pub batches_placed : (n : Node) (d : Definition) (a : MemberView LedgerView Act) (old new : MemberView (List Batch) Batch) → IsPlaced n d a old → IsFixed old new → IsPlaced n d a new
+pub batches_placed : (n : NodeId) (d : Definition) (a : MemberView LedgerView Act) (old new : MemberView (List Batch) Batch) → IsPlaced n d a old → IsFixed old new → IsPlaced n d a new
 batches_placed n d a old new p f = record { member = p.member; acts = p.acts; batches = seat_stays (service_group d) (position d.members n) old new p.batches f }
 
 pub ruleset place_facts = (acts_placed, batches_placed, definition_stays)
 
-abbrev held_by : Node → Node → Definition → Mark → ℕ → Member Act → Member Batch → HeldView
-held_by here c d m turn a b = record { here = here; circuit = c; definition = d; mark = m; turn = turn; acts = a; batches = b }
+abbrev held_by : Site → Bound → HeldView
+held_by site h = record { site = site; bound = h }
 
-same_held : (here c : Node) (d e : Definition) (m : Mark) (t u : ℕ) (a k : Member Act) (b : Member Batch) → d ≡ e → t ≡ u → a ≡ k → held_by here c d m t a b ≡ held_by here c e m u k b
-same_held here c d e m t u a k b p q r = cc
+same_held : (site : Site) (o : Bound) (d e : Definition) (t u : ℕ) (a k : Member Act) → d ≡ e → t ≡ u → a ≡ k → held_by site (record o { definition = d; turn = t; acts = a }) ≡ held_by site (record o { definition = e; turn = u; acts = k })
+same_held site o d e t u a k p q r = cc
 
 -- a bound cell with one change of an act more
-pub held_changed : (here c : Node) (d e : Definition) (m : Mark) (t u : ℕ) (a k : Member Act) (b : Member Batch) (x y : GroupChange Act) (h : HeldView) → held_by here c d m t a b ≡ h → e ≡ d → u ≡ turn_after h.here h.turn x → k ≡ changed (act_rules d) a y → y ≡ x → held_by here c e m u k b ≡ record h { turn = turn_after h.here h.turn x; acts = changed (act_rules h.definition) h.acts x }
-held_changed here c d e m t u a k b x y h v p q r s = subst (λ (z : HeldView). u ≡ turn_after z.here z.turn x → held_by here c e m u k b ≡ record z { turn = turn_after z.here z.turn x; acts = changed (act_rules z.definition) z.acts x }) v (λ w. same_held here c e d m u (turn_after here t x) k (changed (act_rules d) a x) b p w (r ∙ ap (changed (act_rules d) a) s)) q
+pub held_changed : (site : Site) (o : Bound) (e : Definition) (u : ℕ) (k : Member Act) (x y : GroupChange Act) (h : HeldView) → held_by site o ≡ h → e ≡ o.definition → u ≡ turn_after h.site.here h.bound.turn x → k ≡ changed (act_rules o.definition) o.acts y → y ≡ x → held_by site (record o { definition = e; turn = u; acts = k }) ≡ record h { bound = record h.bound { turn = turn_after h.site.here h.bound.turn x; acts = changed (act_rules h.bound.definition) h.bound.acts x } }
+held_changed site o e u k x y h v p q r s = subst (λ (z : HeldView). u ≡ turn_after z.site.here z.bound.turn x → held_by site (record o { definition = e; turn = u; acts = k }) ≡ record z { bound = record z.bound { turn = turn_after z.site.here z.bound.turn x; acts = changed (act_rules z.bound.definition) z.bound.acts x } }) v (λ w. same_held site o e o.definition u (turn_after site.here o.turn x) k (changed (act_rules o.definition) o.acts x) p w (r ∙ ap (changed (act_rules o.definition) o.acts) s)) q

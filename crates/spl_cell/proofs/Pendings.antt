@@ -6,7 +6,7 @@ use Rattle.spl_circuit.specs.declared.definition.Definition.{Definition}
 use Rattle.spl_circuit.specs.declared.act.Act.{Act}
 use Rattle.spl_circuit.specs.declared.act.ActKind.{ActKind}
 use Rattle.spl_circuit.specs.declared.act.ActKind.TheVariants as kind
-use Rattle.spl_circuit.specs.Nodes.{Node}
+use Rattle.spl_circuit.specs.Nodes.{NodeId}
 use Rattle.spl_circuit.specs.Acts.{act_rules}
 use Rattle.spl_rules.specs.Cells.{next_act}
 use Rattle.spl_cell.specs.Mays.{some_is}
@@ -37,5 +37,5 @@ none_of None h = refl
 none_of (Some x) h = absurd cc
 
 -- an act of this node may be submitted where its next one isn't known and fewer than 64 are pending
-pub due_next : (d : Definition) (here : Node) (turn : ℕ) (a : Member Act) (k : ActKind) → length a.pending ≤ 64 → length a.pending ≢ 64 → is_some (known (act_rules d) a (next_act here turn kind.Accept)) ≡ false → (known (act_rules d) a (next_act here turn k) ≡ None) × (length a.pending < 64)
+pub due_next : (d : Definition) (here : NodeId) (turn : ℕ) (a : Member Act) (k : ActKind) → length a.pending ≤ 64 → length a.pending ≢ 64 → is_some (known (act_rules d) a (next_act here turn kind.Accept)) ≡ false → (known (act_rules d) a (next_act here turn k) ≡ None) × (length a.pending < 64)
 due_next d here turn a k few other h = (none_of (known (act_rules d) a (next_act here turn k)) h, omega (arith, few, other))

@@ -1,21 +1,22 @@
 -- Positions of nodes among members.
-use Rattle.std.proofs.Common.{◌≡◌, ◌≢◌, ◌⊎◌, ℕ, zero, suc, ◌+◌, ◌<◌, ◌≤◌, true, false, cond, List, [], ◌∷◌, length, get_or, drop, refl, sym, ap, ◌∙◌, subst, inl, inr, add-one, drop-cons, arith}
+use Rattle.std.proofs.Common.{◌≡◌, ◌≢◌, ◌⊎◌, ℕ, zero, suc, ◌+◌, ◌<◌, ◌≤◌, true, false, cond, List, [], ◌∷◌, length, get_or, drop, refl, sym, ap, ◌∙◌, inl, inr, add-one, drop-cons, arith}
 use Rattle.std.specs.Prelude.{None, if◌then◌else◌, slice_index_or}
 use Rattle.std.specs.Str.{bytes_eq}
 use Rattle.std.proofs.lemmas.Slice.Eq.{bytes_eq-Decides}
 use Rattle.spl_agree.proofs.Tests.{bool_cases}
 use Rattle.spl_circuit.specs.declared.definition.Definition.{Definition}
-use Rattle.spl_circuit.specs.Nodes.{Node, has_node, before_node, position, node_or, lowest}
+use Rattle.spl_circuit.specs.Nodes.{NodeId, has_node, before_node, position, node_or, lowest}
 use Rattle.spl_circuit.specs.Rules.{broken, admin, is_member, ascends}
 use Rattle.spl_circuit.proofs.Sorting.{first_is_lowest}
+use Rattle.spl_rules.proofs.Positions.{position_below, position_apart}
 use Rattle.spl_circuit.proofs.Valid.{few_members, members_ascend}
 
 -- the position among members of which the first has this position
-abbrev pub position_from : ℕ → List Node → Node → ℕ
+abbrev pub position_from : ℕ → List NodeId → NodeId → ℕ
 position_from i [] n = 255
 position_from i (m ∷ ms) n = if bytes_eq m n then i else position_from (suc i) ms n
 
-position_from-is : (i : ℕ) (ms : List Node) (n : Node) → position_from i ms n ≡ (if has_node ms n then i + before_node ms n else 255)
+position_from-is : (i : ℕ) (ms : List NodeId) (n : NodeId) → position_from i ms n ≡ (if has_node ms n then i + before_node ms n else 255)
 position_from-is i [] n = refl
 position_from-is i (m ∷ ms) n = go (bool_cases (bytes_eq m n)) (bool_cases (has_node ms n)) (position_from-is (suc i) ms n)
   where
@@ -33,21 +34,21 @@ position_from-is i (m ∷ ms) n = go (bool_cases (bytes_eq m n)) (bool_cases (ha
 zero_more : (k : ℕ) → 0 + k ≡ k
 zero_more k = omega arith
 
-pub position_start : (ms : List Node) (n : Node) → position_from 0 ms n ≡ position ms n
+pub position_start : (ms : List NodeId) (n : NodeId) → position_from 0 ms n ≡ position ms n
 position_start ms n = position_from-is 0 ms n ∙ ap (λ k. if has_node ms n then k else 255) (zero_more (before_node ms n))
 
-pub position_step : (ms : List Node) (n : Node) (i : ℕ) (m : Node) → i < length ms → m ≡ get_or ms i m → position_from i (drop i ms) n ≡ cond (bytes_eq m n) i (position_from (i + 1) (drop (i + 1) ms) n)
+pub position_step : (ms : List NodeId) (n : NodeId) (i : ℕ) (m : NodeId) → i < length ms → m ≡ get_or ms i m → position_from i (drop i ms) n ≡ cond (bytes_eq m n) i (position_from (i + 1) (drop (i + 1) ms) n)
 position_step ms n i m lt e = rw (add-one, drop-cons ms i m) (ap (λ x. position_from i (x ∷ drop (suc i) ms) n) (sym e))
 
 pub ruleset position_facts = (position_start, position_step)
 
 -- the node at a position
-pub node_or_in : (ms : List Node) (back : Node) (p : ℕ) (x : Node) → p < length ms → node_or ms back p ≡ slice_index_or ms p x
+pub node_or_in : (ms : List NodeId) (back : NodeId) (p : ℕ) (x : NodeId) → p < length ms → node_or ms back p ≡ slice_index_or ms p x
 node_or_in [] back p x l = absurd (omega (arith, l))
 node_or_in (m ∷ ms) back zero x l = refl
 node_or_in (m ∷ ms) back (suc p) x l = node_or_in ms back p x (omega (arith, l))
 
-pub node_or_out : (ms : List Node) (back : Node) (p : ℕ) → length ms ≤ p → node_or ms back p ≡ back
+pub node_or_out : (ms : List NodeId) (back : NodeId) (p : ℕ) → length ms ≤ p → node_or ms back p ≡ back
 node_or_out [] back p l = refl
 node_or_out (m ∷ ms) back zero l = absurd (omega (arith, l))
 node_or_out (m ∷ ms) back (suc p) l = node_or_out ms back p (omega (arith, l))
@@ -56,21 +57,10 @@ pub ruleset node_facts = (node_or_in, node_or_out)
 
 -- ---- a member's position
 
-before_small : (ms : List Node) (n : Node) → has_node ms n ≡ true → before_node ms n < length ms
-before_small [] n h = absurd cc
-before_small (m ∷ ms) n h = go (bool_cases (bytes_eq m n)) (before_small ms n)
-  where
-    go : (bytes_eq m n ≡ true) ⊎ (bytes_eq m n ≡ false) → (has_node ms n ≡ true → before_node ms n < length ms) → before_node (m ∷ ms) n < length (m ∷ ms)
-    go (inl e) ih = rw e (omega arith)
-    go (inr e) ih = rw e (let l : before_node ms n < length ms = ih (rw e at h) in omega arith)
+pub member_placed : (d : Definition) (n : NodeId) → is_member d n ≡ true → position d.members n < length d.members
+member_placed d n h = position_below d.members n h
 
-pub position_is : (ms : List Node) (n : Node) → has_node ms n ≡ true → position ms n ≡ before_node ms n
-position_is ms n h = rw h
-
-pub member_placed : (d : Definition) (n : Node) → is_member d n ≡ true → position d.members n < length d.members
-member_placed d n h = rw h (before_small d.members n h)
-
-first_has : (ms : List Node) → ascends ms ≡ true → 2 ≤ length ms → has_node ms (lowest ms) ≡ true
+first_has : (ms : List NodeId) → ascends ms ≡ true → 2 ≤ length ms → has_node ms (lowest ms) ≡ true
 first_has [] a l = absurd (omega (arith, l))
 first_has (m ∷ ms) a l = rw (first_is_lowest m ms a, (bytes_eq-Decides m m).1 refl)
 
@@ -84,34 +74,7 @@ pub eight_members : (d : Definition) → broken d ≡ None → length d.members 
 eight_members d e = (few_members d e).1
 
 -- another node has another position than a member
-before_same : (ms : List Node) (a b : Node) → has_node ms a ≡ true → has_node ms b ≡ true → before_node ms a ≡ before_node ms b → a ≡ b
-before_same [] a b h k e = absurd cc
-before_same (m ∷ ms) a b h k e = go (bool_cases (bytes_eq m a)) (bool_cases (bytes_eq m b)) (before_same ms a b)
-  where
-    less : (x y : ℕ) → suc x ≡ suc y → x ≡ y
-    less x y q = omega (arith, q)
-
-    go : (bytes_eq m a ≡ true) ⊎ (bytes_eq m a ≡ false) → (bytes_eq m b ≡ true) ⊎ (bytes_eq m b ≡ false) → (has_node ms a ≡ true → has_node ms b ≡ true → before_node ms a ≡ before_node ms b → a ≡ b) → a ≡ b
-    go (inl p) (inl q) ih = sym ((bytes_eq-Decides m a).0 p) ∙ (bytes_eq-Decides m b).0 q
-    go (inl p) (inr q) ih = absurd (let z : 0 ≡ suc (before_node ms b) = rw (p, q) at e in omega (arith, z))
-    go (inr p) (inl q) ih = absurd (let z : suc (before_node ms a) ≡ 0 = rw (p, q) at e in omega (arith, z))
-    go (inr p) (inr q) ih = ih (rw p at h) (rw q at k) (less (before_node ms a) (before_node ms b) (rw (p, q) at e))
-
-pub position_other : (ms : List Node) (a b : Node) → length ms ≤ 8 → has_node ms b ≡ true → bytes_eq a b ≡ false → position ms a ≢ position ms b
-position_other ms a b l h o e = go (bool_cases (has_node ms a))
-  where
-    differ : a ≡ b → ⊥
-    differ q = let z : bytes_eq a b ≡ true = (bytes_eq-Decides a b).1 q in cc
-
-    go : (has_node ms a ≡ true) ⊎ (has_node ms a ≡ false) → ⊥
-    go (inl k) = differ (before_same ms a b k h (sym (position_is ms a k) ∙ (e ∙ position_is ms b h)))
-    go (inr k) =
-        let one : position ms a ≡ 255 = rw k in
-        let two : position ms b < length ms = rw h (before_small ms b h) in
-        let three : position ms a < length ms = subst (λ p. p < length ms) (sym e) two in
-        omega (arith, one, three, l)
-
-pub sender_other : (d : Definition) (from here : Node) → broken d ≡ None → is_member d here ≡ true → bytes_eq from here ≡ false → position d.members from ≢ position d.members here
-sender_other d from here e m o = position_other d.members from here (few_members d e).1 m o
+pub sender_other : (d : Definition) (from here : NodeId) → broken d ≡ None → is_member d here ≡ true → bytes_eq from here ≡ false → position d.members from ≢ position d.members here
+sender_other d from here e m o = position_apart d.members here from (few_members d e).1 m o
 
 pub ruleset sender_facts = (eight_members, sender_other)

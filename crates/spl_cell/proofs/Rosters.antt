@@ -7,7 +7,7 @@ use Rattle.spl_agree.proofs.Tests.{bool_cases, and_left, and_right}
 use Rattle.spl_circuit.specs.declared.definition.Service.{Service}
 use Rattle.spl_circuit.specs.declared.definition.Definition.{Definition}
 use Rattle.spl_circuit.specs.declared.lifecycle.RouteFault.TheVariants as fault
-use Rattle.spl_circuit.specs.Nodes.{Node, has_node, is_below, inserted, sorted, same_nodes, node_or, position}
+use Rattle.spl_circuit.specs.Nodes.{ServiceId, NodeId, has_node, is_below, inserted, sorted, same_nodes, node_or, position}
 use Rattle.spl_circuit.specs.Rules.{first_false, rules_of, broken, ascends, ids_of, nodes_of, serves, service, is_member, service_of_node, node_of_service, leading_node}
 use Rattle.spl_circuit.specs.Routing.{way_between, route}
 use Rattle.spl_circuit.proofs.Sorting.{first_service_is_lowest}
@@ -21,7 +21,7 @@ or_swap true true c = refl
 or_swap true false c = refl
 or_swap false b c = refl
 
-has_inserted : (x : Node) (ys : List Node) (n : Node) → has_node (inserted x ys) n ≡ (bytes_eq x n || has_node ys n)
+has_inserted : (x : NodeId) (ys : List NodeId) (n : NodeId) → has_node (inserted x ys) n ≡ (bytes_eq x n || has_node ys n)
 has_inserted x [] n = refl
 has_inserted x (y ∷ ys) n = go (bool_cases (is_below y x)) (has_inserted x ys n)
   where
@@ -29,17 +29,17 @@ has_inserted x (y ∷ ys) n = go (bool_cases (is_below y x)) (has_inserted x ys 
     go (inl e) h = rw (e, h) (or_swap (bytes_eq y n) (bytes_eq x n) (has_node ys n))
     go (inr e) h = rw e refl
 
-has_sorted : (xs : List Node) (n : Node) → has_node (sorted xs) n ≡ has_node xs n
+has_sorted : (xs : List NodeId) (n : NodeId) → has_node (sorted xs) n ≡ has_node xs n
 has_sorted [] n = refl
 has_sorted (x ∷ xs) n = has_inserted x (sorted xs) n ∙ ap (λ b. bytes_eq x n || b) (has_sorted xs n)
 
-has_same : (xs ys : List Node) (n : Node) → same_nodes xs ys ≡ true → has_node xs n ≡ has_node ys n
+has_same : (xs ys : List NodeId) (n : NodeId) → same_nodes xs ys ≡ true → has_node xs n ≡ has_node ys n
 has_same [] [] n h = refl
 has_same [] (y ∷ ys) n h = absurd cc
 has_same (x ∷ xs) [] n h = absurd cc
 has_same (x ∷ xs) (y ∷ ys) n h = rw ((bytes_eq-Decides x y).0 (and_left (bytes_eq x y) (same_nodes xs ys) h), has_same xs ys n (and_right (bytes_eq x y) (same_nodes xs ys) h)) refl
 
-any_node : (ss : List Service) (n : Node) → has_node (nodes_of ss) n ≡ serves ss n
+any_node : (ss : List Service) (n : NodeId) → has_node (nodes_of ss) n ≡ serves ss n
 any_node [] n = refl
 any_node (s ∷ ss) n = ap (λ b. bytes_eq s.node n || b) (any_node ss n)
 
@@ -49,12 +49,12 @@ test_at zero n (true ∷ bs) e = refl
 test_at (suc k) n (true ∷ bs) e = test_at k (n + 1) bs e
 test_at k n (false ∷ bs) e = absurd cc
 
-pub member_serves : (d : Definition) (n : Node) → broken d ≡ None → is_member d n ≡ serves d.services n
+pub member_serves : (d : Definition) (n : NodeId) → broken d ≡ None → is_member d n ≡ serves d.services n
 member_serves d n e = sym (has_same (sorted (nodes_of d.services)) d.members n (test_at 8 1 (rules_of d) e)) ∙ has_sorted (nodes_of d.services) n ∙ any_node d.services n
 
 -- ---- the service on a member
 
-found_service : (ss : List Service) (n : Node) → serves ss n ≡ true → IsSome (service_of_node ss n)
+found_service : (ss : List Service) (n : NodeId) → serves ss n ≡ true → IsSome (service_of_node ss n)
 found_service [] n h = absurd cc
 found_service (s ∷ ss) n h = go (bool_cases (bytes_eq s.node n)) (found_service ss n)
   where
@@ -62,12 +62,12 @@ found_service (s ∷ ss) n h = go (bool_cases (bytes_eq s.node n)) (found_servic
     go (inl e) f = rw e refl
     go (inr e) f = rw e (f (rw e at h))
 
-pub member_served : (d : Definition) (n : Node) → broken d ≡ None → is_member d n ≡ true → IsSome (service_of_node d.services n)
+pub member_served : (d : Definition) (n : NodeId) → broken d ≡ None → is_member d n ≡ true → IsSome (service_of_node d.services n)
 member_served d n e m = found_service d.services n (sym (member_serves d n e) ∙ m)
 
 -- ---- the node of a service is a member
 
-node_serves : (ss : List Service) (i n : Node) → node_of_service ss i ≡ Some n → serves ss n ≡ true
+node_serves : (ss : List Service) (i : ServiceId) (n : NodeId) → node_of_service ss i ≡ Some n → serves ss n ≡ true
 node_serves [] i n h = absurd cc
 node_serves (s ∷ ss) i n h = go (bool_cases (bytes_eq s.id i)) (bool_cases (bytes_eq s.node n)) (node_serves ss i n)
   where
@@ -78,7 +78,7 @@ node_serves (s ∷ ss) i n h = go (bool_cases (bytes_eq s.id i)) (bool_cases (by
     go (inr e) (inr k) f = rw k (f (rw e at h))
 
 -- a message that goes on comes from a node with a service
-way_from : (ss : List Service) (n i : Node) (r : Option Node) (here : Node) (s : Option Node) → node_of_service ss i ≡ s → way_between n s r here ≡ Ok tt → serves ss n ≡ true
+way_from : (ss : List Service) (n : NodeId) (i : ServiceId) (r : Option NodeId) (here : NodeId) (s : Option NodeId) → node_of_service ss i ≡ s → way_between n s r here ≡ Ok tt → serves ss n ≡ true
 way_from ss n i r here None e w = absurd cc
 way_from ss n i None here (Some m) e w = absurd cc
 way_from ss n i (Some k) here (Some m) e w = go (bool_cases (bytes_eq m n))
@@ -87,7 +87,7 @@ way_from ss n i (Some k) here (Some m) e w = go (bool_cases (bytes_eq m n))
     go (inl p) = node_serves ss i n (e ∙ ap (λ x. Some x) ((bytes_eq-Decides m n).0 p))
     go (inr p) = absurd (let q : Err fault.SenderNotOnNode ≡ Ok tt = rw p at w in cc)
 
-pub sender_is_member : (d : Definition) (active : Bool) (n from to here : Node) → broken d ≡ None → route (Some d) active n from to here ≡ Ok tt → is_member d n ≡ true
+pub sender_is_member : (d : Definition) (active : Bool) (n : NodeId) (from to : ServiceId) (here : NodeId) → broken d ≡ None → route (Some d) active n from to here ≡ Ok tt → is_member d n ≡ true
 sender_is_member d true n from to here e w = member_serves d n e ∙ way_from d.services n from (node_of_service d.services to) here (node_of_service d.services from) refl w
 sender_is_member d false n from to here e w = absurd cc
 
@@ -97,7 +97,7 @@ or_true : (b : Bool) → (b || true) ≡ true
 or_true true = refl
 or_true false = refl
 
-has_node_or : (ms : List Node) (back : Node) (p : ℕ) → has_node ms (node_or ms back p) ≡ true ⊎ (node_or ms back p ≡ back)
+has_node_or : (ms : List NodeId) (back : NodeId) (p : ℕ) → has_node ms (node_or ms back p) ≡ true ⊎ (node_or ms back p ≡ back)
 has_node_or [] back p = inr refl
 has_node_or (m ∷ ms) back zero = inl (rw ((bytes_eq-Decides m m).1 refl) refl)
 has_node_or (m ∷ ms) back (suc p) = go (has_node_or ms back p)
@@ -107,7 +107,7 @@ has_node_or (m ∷ ms) back (suc p) = go (has_node_or ms back p)
     go (inr e) = inr e
 
 -- who is at a position is a member where the other one is
-pub node_or_member : (d : Definition) (back : Node) (p : ℕ) → is_member d back ≡ true → is_member d (node_or d.members back p) ≡ true
+pub node_or_member : (d : Definition) (back : NodeId) (p : ℕ) → is_member d back ≡ true → is_member d (node_or d.members back p) ≡ true
 node_or_member d back p h = go (has_node_or d.members back p)
   where
     go : (has_node d.members (node_or d.members back p) ≡ true) ⊎ (node_or d.members back p ≡ back) → has_node d.members (node_or d.members back p) ≡ true

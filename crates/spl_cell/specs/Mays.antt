@@ -16,11 +16,4 @@ may_be p (Some x) = p x
 -- what a change queues
 abbrev pub queued : {V : Type 0} → GroupChange V → Option V
 queued (change.Queue v) = Some v
-queued (change.Refuse v why) = None
-queued (change.Begin r) = None
-queued (change.Seen r) = None
-queued (change.Promise r v) = None
-queued change.Abort = None
-queued (change.Commit r v) = None
-queued (change.Restore next seen) = None
-queued (change.Kept v why) = None
+queued _ = None

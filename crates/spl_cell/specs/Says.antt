@@ -1,12 +1,9 @@
--- How a note of the admin group is answered.
-use Rattle.spl_agree.specs.declared.event.Note.{Note}
-use Rattle.spl_wire.specs.declared.answer.Answer.{Answer}
-use Rattle.spl_wire.specs.declared.answer.Answer.TheVariants as answer
-use Rattle.spl_rules.specs.Cells.{submitted, alone}
+-- How a note of a group is answered.
+use Rattle.spl_rules.specs.Cells as rules
 use Rattle.spl_cell.specs.declared.plans.Say.{Say}
 use Rattle.spl_cell.specs.declared.plans.Say.TheVariants as say
 
-abbrev pub said : Say → Note → Answer
-said say.Submitted = submitted
-said say.Delivered = answer.Delivered
-said say.Alone = alone
+abbrev pub say_of : Say → rules.Say
+say_of say.Submitted = rules.Submitted
+say_of say.Delivered = rules.Delivered
+say_of say.Alone = rules.Alone

@@ -1,34 +1,26 @@
 -- A cell, and a bound one, as callers see them.
 use Rattle.std.specs.Prelude.{◌≡◌, ℕ, Bool, true, List}
-use Rattle.spl_agree.specs.Member.{Group, Member, new_member}
-use Rattle.spl_agree.specs.Fits.{IsSettled}
+use Rattle.spl_agree.specs.Member.{Group}
 use Rattle.spl_circuit.specs.declared.definition.Definition.{Definition}
 use Rattle.spl_circuit.specs.declared.act.Act.{Act}
-use Rattle.spl_circuit.specs.declared.lifecycle.Mark.{Mark}
-use Rattle.spl_circuit.specs.declared.lifecycle.Mark.TheVariants as mark
-use Rattle.spl_circuit.specs.Nodes.{Node, position}
+use Rattle.spl_circuit.specs.Nodes.{NodeId, position}
 use Rattle.spl_circuit.specs.Rules.{is_member}
 use Rattle.spl_command.specs.declared.batch.Batch.{Batch}
 use Rattle.spl_admin.specs.Kept.{LedgerView}
 use Rattle.spl_commit.specs.Views.{MemberView}
-use Rattle.spl_rules.specs.Cells.{Cell, admin_group, service_group}
+use Rattle.spl_rules.specs.Cells.{Bound, Cell, Held, Site, admin_group, service_group}
+use Rattle.spl_rules.specs.Valid.{IsSettledCell}
 
 -- the cell of a circuit at a node, and whether a change of it was lost for want of memory
 pub record CellView : Type 0 where
-  pub here : Node
-  pub circuit : Node
+  pub site : Site
   pub state : Cell
   pub halted : Bool
 
--- what a bound cell keeps
+-- a bound cell: where it is, and what it keeps
 pub record HeldView : Type 0 where
-  pub here : Node
-  pub circuit : Node
-  pub definition : Definition
-  pub mark : Mark
-  pub turn : ℕ
-  pub acts : Member Act
-  pub batches : Member Batch
+  pub site : Site
+  pub bound : Bound
 
 -- a member of a group at a position
 pub record IsSeated {C V : Type 0} (g : Group V) (at : ℕ) (m : MemberView C V) : Type 0 where
@@ -38,15 +30,11 @@ pub record IsSeated {C V : Type 0} (g : Group V) (at : ℕ) (m : MemberView C V)
   pub here : m.here ≡ at
 
 -- the node is a member of the definition, and at its position in both groups
-pub record IsPlaced (n : Node) (d : Definition) (a : MemberView LedgerView Act) (b : MemberView (List Batch) Batch) : Type 0 where
+pub record IsPlaced (n : NodeId) (d : Definition) (a : MemberView LedgerView Act) (b : MemberView (List Batch) Batch) : Type 0 where
   pub member : is_member d n ≡ true
   pub acts : IsSeated (admin_group d) (position d.members n) a
   pub batches : IsSeated (service_group d) (position d.members n) b
 
--- what a cell keeps that is bound just now
-abbrev pub fresh : Node → Node → Definition → HeldView
-fresh here c d = record { here = here; circuit = c; definition = d; mark = mark.Open; turn = 0; acts = new_member; batches = new_member }
-
 -- in each group no round is open, or one is as it has to be
 abbrev pub IsSettledHeld : HeldView → Type 0
-IsSettledHeld h = IsSettled (admin_group h.definition) (position h.definition.members h.here) h.acts × IsSettled (service_group h.definition) (position h.definition.members h.here) h.batches
+IsSettledHeld h = IsSettledCell h.site.here (Held h.bound)

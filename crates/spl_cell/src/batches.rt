@@ -43,7 +43,7 @@ fn entries_at(alloc: Global, state: &State, addresses: &[Address]) -> Result<Ent
 impl Held {
     /// How many batches are committed here, and the root of their state.
     fn root_told(&self) -> Answer
-        ensures { result ≡ root_told self.now.batches }
+        ensures { result ≡ root_told self.now.bound.batches }
     {
         Answer::Root {
             count: self.batches_committed(),
@@ -53,14 +53,14 @@ impl Held {
 
     /// The ids of the batches.
     fn history_told(&self, alloc: Global) -> Result<Answer, AllocError>
-        ensures { IfOk result (λ a. a ≡ history_told self.now.batches) }
+        ensures { IfOk result (λ a. a ≡ history_told self.now.bound.batches) }
     {
         Ok(Answer::History(self.service().history().copy(alloc)?))
     }
 
     /// The value at an address, if there is one.
     fn value_told(&self, alloc: Global, address: &Address) -> Result<Answer, AllocError>
-        ensures { IfOk result (λ a. a ≡ value_told self.now.batches address.now) }
+        ensures { IfOk result (λ a. a ≡ value_told self.now.bound.batches address.now) }
     {
         let state = self.service().state();
         match state.get(address) {
@@ -72,7 +72,7 @@ impl Held {
     /// The entries under a prefix.
     #[tactic(auto, using(crate::proofs::Entries::listed_by_address))]
     fn listed(&self, alloc: Global, prefix: &Prefix) -> Result<Answer, AllocError>
-        ensures { IfOk result (λ a. a ≡ listed self.now.batches prefix.now) }
+        ensures { IfOk result (λ a. a ≡ listed self.now.bound.batches prefix.now) }
     {
         states_are_in_address_order();
         let state = self.service().state();
@@ -82,7 +82,7 @@ impl Held {
 
     /// Where a batch that isn't committed stands.
     fn status_kept(&self, id: BatchId) -> Answer
-        ensures { tells_only result ≡ planned self.now.here self.now.circuit (status_kept self.now.batches id None) }
+        ensures { tells_only result ≡ planned self.now.site (status_kept self.now.bound.batches id None) }
     {
         match self.batches.waiting(&id) {
             Known::Pending(_) => Answer::Status(BatchStatus::Pending),
@@ -93,7 +93,7 @@ impl Held {
 
     /// Where a batch stands: the history is asked first, then the pending ones, then the refused.
     fn status_told(&self, id: BatchId) -> Answer
-        ensures { tells_only result ≡ planned self.now.here self.now.circuit (status_told self.now.batches id) }
+        ensures { tells_only result ≡ planned self.now.site (status_told self.now.bound.batches id) }
     {
         match self.service().place_of(id) {
             Some(place) => Answer::Status(BatchStatus::Committed(place)),
@@ -103,7 +103,7 @@ impl Held {
 
     /// What a committed batch left.
     fn receipt_told(&self, alloc: Global, id: BatchId) -> Result<Answer, AllocError>
-        ensures { IfOk result (λ a. tells_only a ≡ planned self.now.here self.now.circuit (receipt_told self.now.batches id)) }
+        ensures { IfOk result (λ a. tells_only a ≡ planned self.now.site (receipt_told self.now.bound.batches id)) }
     {
         let service = self.service();
         let Some(place) = service.place_of(id) else {
@@ -121,7 +121,7 @@ impl Held {
 
     /// The answer to a question at an active circuit.
     fn answers(&self, alloc: Global, question: Question) -> Result<Answer, AllocError>
-        ensures { IfOk result (λ a. tells_only a ≡ planned self.now.here self.now.circuit (asks self.now.batches question)) }
+        ensures { IfOk result (λ a. tells_only a ≡ planned self.now.site (asks self.now.bound.batches question)) }
     {
         match question {
             Question::Root => Ok(self.root_told()),
@@ -135,9 +135,9 @@ impl Held {
 
     /// The answer to a question about the batches, at an active circuit alone.
     pub(crate) fn asks(&self, alloc: Global, question: Question) -> Result<Plan, AllocError>
-        ensures { IfOk result (λ p. p ≡ planned self.now.here self.now.circuit (when_active self.now.definition self.now.acts (asks self.now.batches question))) }
+        ensures { IfOk result (λ p. p ≡ planned self.now.site (when_active self.now.bound (asks self.now.bound.batches question))) }
     {
-        if !self.runs() {
+        if !self.is_active() {
             return Ok(refuses(alloc, Refusal::NotActive));
         }
         Ok(tells_only(alloc, self.answers(alloc, question)?))

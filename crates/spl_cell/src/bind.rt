@@ -5,8 +5,9 @@ ghost use Rattle.spl_agree.specs.Fits.{IsDue};
 ghost use Rattle.spl_circuit.specs.Nodes.{position};
 ghost use Rattle.spl_circuit.specs.Rules.{broken, is_member};
 ghost use Rattle.spl_rules.specs.Cells.{Binds, admin_group};
-ghost use Rattle.spl_rules.specs.Plans.{admin_row, planned};
-ghost use Rattle.spl_cell.specs.Says.{said};
+ghost use Rattle.spl_rules.specs.Plans.{admin_lane, group_row, planned};
+ghost use Rattle.spl_cell.specs.Says.{say_of};
+ghost use Rattle.spl_cell.specs.Sites.{site_of};
 
 use crate::held::Held;
 use crate::plans::Say;
@@ -39,7 +40,7 @@ impl Site {
         requires valid { broken definition.now ≡ None }
         requires member { is_member definition.now self.now.here ≡ true }
         requires due { IsDue (admin_group definition.now) (position definition.now.members self.now.here) new_member event.now }
-        ensures { IfOk result (λ p. p ≡ admin_row self.now.here definition.now new_member event.now) }
+        ensures { IfOk result (λ p. p ≡ group_row (admin_lane (site_of self.now) definition.now) new_member event.now) }
     {
         let held = Held::new(alloc, *self, definition.copy(alloc)?);
         held.admin_row(alloc, event)
@@ -58,7 +59,7 @@ impl Site {
         requires valid { broken definition.now ≡ None }
         requires member { is_member definition.now self.now.here ≡ true }
         requires due { IsDue (admin_group definition.now) (position definition.now.members self.now.here) new_member event.now }
-        ensures { IfOk result (λ p. p ≡ planned self.now.here self.now.circuit (Binds (said say) definition.now back.now event.now)) }
+        ensures { IfOk result (λ p. p ≡ planned (site_of self.now) (Binds (say_of say) definition.now back.now event.now)) }
     {
         let plan = self.first_row(alloc, definition, event)?;
         let first = binding(alloc, definition)?;

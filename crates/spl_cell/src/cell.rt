@@ -32,20 +32,21 @@ pub struct Cell {
 
 impl Model for Cell {
     ghost use Rattle.spl_rules.specs.Valid.{IsValid};
+    ghost use Rattle.spl_cell.specs.Sites.{site_of};
     ghost use Rattle.spl_cell.specs.Views.{CellView};
     ghost use Rattle.spl_cell.specs.States.{cell_of, IsAt};
 
     ghost Value = { CellView };
 
-    ghost view = { λ s. record { here = s.site.here; circuit = s.site.circuit; state = cell_of s.state; halted = s.halted } };
+    ghost view = { λ s. record { site = site_of s.site; state = cell_of s.state; halted = s.halted } };
 
-    ghost invariant = { λ s. IsAt s.site.here s.site.circuit s.state × IsValid s.site.here s.site.circuit (cell_of s.state) };
+    ghost invariant = { λ s. IsAt (site_of s.site) s.state × IsValid (site_of s.site) (cell_of s.state) };
 }
 
 impl Cell {
     /// An empty cell.
     pub fn empty(here: NodeId, circuit: CircuitId) -> Cell
-        ensures { result ≡ record { here = here; circuit = circuit; state = Empty; halted = false } }
+        ensures { result ≡ record { site = record { here = here; circuit = circuit }; state = Empty; halted = false } }
     {
         Cell {
             site: Site { here, circuit },
@@ -56,14 +57,14 @@ impl Cell {
 
     /// The node.
     pub fn here(&self) -> NodeId
-        ensures { result ≡ self.now.here }
+        ensures { result ≡ self.now.site.here }
     {
         self.site.here
     }
 
     /// The circuit.
     pub fn circuit(&self) -> CircuitId
-        ensures { result ≡ self.now.circuit }
+        ensures { result ≡ self.now.site.circuit }
     {
         self.site.circuit
     }
@@ -97,9 +98,8 @@ impl Cell {
         ensures { result ≡ is_open_cell self.now.state }
     {
         match &self.state {
-            State::Empty => false,
             State::Held(held) => held.is_open(),
-            State::Purged(_) => false,
+            _ => false,
         }
     }
 
@@ -107,15 +107,15 @@ impl Cell {
     /// messages. Nothing is changed. An error comes for want of memory alone.
     pub fn plan(&self, alloc: Global, event: &Event) -> Result<Plan, AllocError>
         requires running { self.now.halted ≡ false }
-        requires own { IsFor self.now.here self.now.circuit event.now }
-        ensures plan { IfOk result (λ p. p ≡ plan_of self.now.here self.now.circuit self.now.state event.now) }
-        ensures valid { IsValid self.now.here self.now.circuit self.now.state }
+        requires own { IsFor self.now.site event.now }
+        ensures plan { IfOk result (λ p. p ≡ plan_of self.now.site self.now.state event.now) }
+        ensures valid { IsValid self.now.site self.now.state }
 
         // Its changes fit, each behind those before it, and its moves fit behind them.
-        ensures fits { IfOk result (λ p. (applied self.now.here self.now.circuit self.now.state p.changes ≡ made self.now.here self.now.state p.changes) × FitsMoveAt self.now.here (made self.now.here self.now.state p.changes) p.admin p.service) }
+        ensures fits { IfOk result (λ p. (applied self.now.site self.now.state p.changes ≡ made self.now.site.here self.now.state p.changes) × FitsMoveAt self.now.site.here (made self.now.site.here self.now.state p.changes) p.admin p.service) }
 
         // Its changes make a record of at most 64 changes and 16,384 bytes, which can be written.
-        ensures writable { IfOk result (λ p. IsWritable self.now.circuit p.changes) }
+        ensures writable { IfOk result (λ p. IsWritable self.now.site.circuit p.changes) }
 
         // The definitions and the acts in its changes have byte forms.
         ensures formed { IfOk result (λ p. are_formed p.changes ≡ true) }
@@ -134,10 +134,10 @@ impl Cell {
     /// of memory alone, and the cell is halted then.
     pub fn apply(&mut self, alloc: Global, plan: &Plan) -> Result<(), AllocError>
         requires running { self.old.halted ≡ false }
-        requires fits { FitsMoveAt self.old.here (applied self.old.here self.old.circuit self.old.state plan.now.changes) plan.now.admin plan.now.service }
+        requires fits { FitsMoveAt self.old.site.here (applied self.old.site self.old.state plan.now.changes) plan.now.admin plan.now.service }
         requires formed { are_formed plan.now.changes ≡ true }
-        ensures fixed { (self.new.here ≡ self.old.here) × (self.new.circuit ≡ self.old.circuit) }
-        ensures ok { OnOk result (self.new.state ≡ moved_cell self.old.here (applied self.old.here self.old.circuit self.old.state plan.now.changes) plan.now.admin plan.now.service) }
+        ensures fixed { self.new.site ≡ self.old.site }
+        ensures ok { OnOk result (self.new.state ≡ moved_cell self.old.site.here (applied self.old.site self.old.state plan.now.changes) plan.now.admin plan.now.service) }
         ensures running { OnOk result (self.new.halted ≡ false) }
         ensures halted { OnErr result (self.new.halted ≡ true) }
     {
@@ -156,8 +156,8 @@ impl Cell {
         requires running { self.old.halted ≡ false }
         requires still { IsStill self.old.state }
         requires formed { are_formed changes.now ≡ true }
-        ensures fixed { (self.new.here ≡ self.old.here) × (self.new.circuit ≡ self.old.circuit) }
-        ensures ok { OnOk result (self.new.state ≡ applied self.old.here self.old.circuit self.old.state changes.now) }
+        ensures fixed { self.new.site ≡ self.old.site }
+        ensures ok { OnOk result (self.new.state ≡ applied self.old.site self.old.state changes.now) }
         ensures still { OnOk result (IsStill self.new.state) }
         ensures running { OnOk result (self.new.halted ≡ false) }
         ensures halted { OnErr result (self.new.halted ≡ true) }
@@ -174,7 +174,7 @@ impl Cell {
     /// none, and open rounds aren't packed. An error comes for want of memory alone.
     pub fn pack(&self, alloc: Global) -> Result<PackedRecords, AllocError>
         requires running { self.now.halted ≡ false }
-        ensures records { IfOk result (λ rs. rs ≡ records_of self.now.circuit (grouped self.now.circuit (packed self.now.state))) }
+        ensures records { IfOk result (λ rs. rs ≡ records_of self.now.site.circuit (grouped self.now.site.circuit (packed self.now.state))) }
         ensures fits { OnOk result (IsTrue (list_all change_form.fits (packed self.now.state))) }
     {
         packed_cells_have_a_form();

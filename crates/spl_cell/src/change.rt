@@ -4,10 +4,11 @@ ghost use Rattle.spl_agree.specs.Member.{changed};
 ghost use Rattle.spl_agree.specs.Fits.{fits as fits_group, any_value};
 ghost use Rattle.spl_circuit.specs.Acts.{act_rules};
 ghost use Rattle.spl_scabbard.specs.Checks.{batch_rules};
-ghost use Rattle.spl_rules.specs.Cells.{is_open, runs};
+ghost use Rattle.spl_rules.specs.Cells.{is_open, keeps_batches};
 ghost use Rattle.spl_rules.specs.Changes.{turn_after, may_queue, may_serve, may_keep, fits_free, free_after, applied_one, applied};
 ghost use Rattle.spl_cell.specs.States.{cell_of, IsAt};
 ghost use Rattle.spl_cell.specs.Mays.{may_be, queued};
+ghost use Rattle.spl_cell.specs.Sites.{site_of};
 
 use crate::durable::{copy_change, queued};
 use crate::held::Held;
@@ -42,22 +43,15 @@ fn may_keep(change: &GroupChange<Batch>) -> bool
     ensures { result ≡ may_keep change.now }
 {
     match change {
-        GroupChange::Queue(_) => true,
-        GroupChange::Refuse(_, _) => true,
-        GroupChange::Begin(_) => true,
-        GroupChange::Seen(_) => true,
-        GroupChange::Promise(_, _) => true,
-        GroupChange::Abort => true,
-        GroupChange::Commit(_, _) => true,
-        GroupChange::Restore { .. } => true,
         GroupChange::Kept(batch, _) => may_serve(batch),
+        _ => true,
     }
 }
 
 impl Held {
     /// The turn of the node behind a change: an own act that is queued sets it.
     fn turn_after(&self, change: &GroupChange<Act>) -> u32
-        ensures { result ≡ turn_after self.now.here self.now.turn change.now }
+        ensures { result ≡ turn_after self.now.site.here self.now.bound.turn change.now }
     {
         match change {
             GroupChange::Queue(act) => {
@@ -67,20 +61,13 @@ impl Held {
                     self.turn
                 }
             }
-            GroupChange::Refuse(_, _) => self.turn,
-            GroupChange::Begin(_) => self.turn,
-            GroupChange::Seen(_) => self.turn,
-            GroupChange::Promise(_, _) => self.turn,
-            GroupChange::Abort => self.turn,
-            GroupChange::Commit(_, _) => self.turn,
-            GroupChange::Restore { .. } => self.turn,
-            GroupChange::Kept(_, _) => self.turn,
+            _ => self.turn,
         }
     }
 
     /// Whether an act may be pending: one of this node is queued alone, and with no turn behind.
     fn may_queue(&self, act: &Act) -> bool
-        ensures { result ≡ may_queue self.now.here self.now.turn self.now.acts.pending act.now }
+        ensures { result ≡ may_queue self.now.site.here self.now.bound.turn self.now.bound.acts.pending act.now }
     {
         if act.node != self.site.here {
             return true;
@@ -92,8 +79,8 @@ impl Held {
     }
 
     /// Whether what a change of the admin group queues may be pending.
-    fn may(&self, change: &GroupChange<Act>) -> bool
-        ensures { result ≡ may_be (may_queue self.now.here self.now.turn self.now.acts.pending) (queued change.now) }
+    fn may_queue_by(&self, change: &GroupChange<Act>) -> bool
+        ensures { result ≡ may_be (may_queue self.now.site.here self.now.bound.turn self.now.bound.acts.pending) (queued change.now) }
     {
         match queued(change) {
             Some(act) => self.may_queue(act),
@@ -104,12 +91,12 @@ impl Held {
     /// Whether a change of the admin group fits. An error comes for want of memory alone.
     #[tactic(auto, using(crate::proofs::Changes::fits_may))]
     fn fits_admin(&self, alloc: Global, change: &GroupChange<Act>) -> Result<bool, AllocError>
-        ensures { IfOk result (λ b. b ≡ (is_open self.now.mark && fits_group (act_rules self.now.definition) (may_queue self.now.here self.now.turn self.now.acts.pending) self.now.acts change.now)) }
+        ensures { IfOk result (λ b. b ≡ (is_open self.now.bound.mark && fits_group (act_rules self.now.bound.definition) (may_queue self.now.site.here self.now.bound.turn self.now.bound.acts.pending) self.now.bound.acts change.now)) }
     {
         if !self.is_open() {
             return Ok(false);
         }
-        if !self.may(change) {
+        if !self.may_queue_by(change) {
             return Ok(false);
         }
         self.acts.fits(alloc, change)
@@ -119,10 +106,9 @@ impl Held {
     /// the cell is halted then.
     #[tactic(auto, using(crate::proofs::Changes::place_facts))]
     fn makes_admin(&mut self, alloc: Global, change: &GroupChange<Act>) -> Result<(), AllocError>
-        requires { fits_group (act_rules self.old.definition) any_value self.old.acts change.now ≡ true }
-        ensures ok { OnOk result (self.new ≡ record self.old { turn = turn_after self.old.here self.old.turn change.now; acts = changed (act_rules self.old.definition) self.old.acts change.now }) }
-        ensures here { self.new.here ≡ self.old.here }
-        ensures circuit { self.new.circuit ≡ self.old.circuit }
+        requires { fits_group (act_rules self.old.bound.definition) any_value self.old.bound.acts change.now ≡ true }
+        ensures ok { OnOk result (self.new ≡ record self.old { bound = record self.old.bound { turn = turn_after self.old.site.here self.old.bound.turn change.now; acts = changed (act_rules self.old.bound.definition) self.old.bound.acts change.now } }) }
+        ensures site { self.new.site ≡ self.old.site }
     {
         let turn = self.turn_after(change);
         let change = copy_change(alloc, change)?;
@@ -134,12 +120,12 @@ impl Held {
     /// Whether a change of the service group fits. An error comes for want of memory alone.
     #[tactic(auto, using(crate::proofs::Changes::fits_may))]
     fn fits_service(&self, alloc: Global, change: &GroupChange<Batch>) -> Result<bool, AllocError>
-        ensures { IfOk result (λ b. b ≡ (is_open self.now.mark && (runs self.now.definition self.now.acts && (may_keep change.now && fits_group batch_rules may_serve self.now.batches change.now)))) }
+        ensures { IfOk result (λ b. b ≡ (is_open self.now.bound.mark && (keeps_batches self.now.bound && (may_keep change.now && fits_group batch_rules may_serve self.now.bound.batches change.now)))) }
     {
         if !self.is_open() {
             return Ok(false);
         }
-        if !self.runs() {
+        if !self.keeps_batches() {
             return Ok(false);
         }
         if !may_keep(change) {
@@ -159,10 +145,9 @@ impl Held {
         alloc: Global,
         change: &GroupChange<Batch>,
     ) -> Result<(), AllocError>
-        requires { fits_group batch_rules any_value self.old.batches change.now ≡ true }
-        ensures ok { OnOk result (self.new ≡ record self.old { batches = changed batch_rules self.old.batches change.now }) }
-        ensures here { self.new.here ≡ self.old.here }
-        ensures circuit { self.new.circuit ≡ self.old.circuit }
+        requires { fits_group batch_rules any_value self.old.bound.batches change.now ≡ true }
+        ensures ok { OnOk result (self.new ≡ record self.old { bound = record self.old.bound { batches = changed batch_rules self.old.bound.batches change.now } }) }
+        ensures site { self.new.site ≡ self.old.site }
     {
         let change = copy_change(alloc, change)?;
         self.batches.apply(alloc, change)
@@ -178,9 +163,9 @@ impl Site {
         held: Box<Held>,
         change: &Change,
     ) -> Result<State, AllocError>
-        requires at { IsAt self.now.here self.now.circuit (State.Held held) }
-        ensures cell { IfOk result (λ s. cell_of s ≡ applied_one self.now.here self.now.circuit (cell_of (State.Held held)) change.now) }
-        ensures at { IfOk result (λ s. IsAt self.now.here self.now.circuit s) }
+        requires at { IsAt (site_of self.now) (State.Held held) }
+        ensures cell { IfOk result (λ s. cell_of s ≡ applied_one (site_of self.now) (cell_of (State.Held held)) change.now) }
+        ensures at { IfOk result (λ s. IsAt (site_of self.now) s) }
     {
         let mut held = held;
         match change {
@@ -198,7 +183,7 @@ impl Site {
                 Ok(State::Held(held))
             }
             Change::Abandon => {
-                if held.is_open() && held.runs() {
+                if held.is_open() && held.is_active() {
                     held.mark = Mark::Abandoned;
                 }
                 Ok(State::Held(held))
@@ -216,7 +201,7 @@ impl Site {
 
     /// Whether a definition fits an unbound cell.
     fn fits_free(&self, state: &State, definition: &Definition) -> bool
-        ensures { result ≡ fits_free self.now.here self.now.circuit (cell_of state.now) (Change.Bind definition.now) }
+        ensures { result ≡ fits_free (site_of self.now) (cell_of state.now) (Change.Bind definition.now) }
     {
         if !state.is_free(definition.generation) {
             return false;
@@ -238,9 +223,9 @@ impl Site {
         state: State,
         definition: &Definition,
     ) -> Result<State, AllocError>
-        requires at { IsAt self.now.here self.now.circuit state }
-        ensures cell { IfOk result (λ s. cell_of s ≡ (if fits_free self.now.here self.now.circuit (cell_of state) (Change.Bind definition.now) then free_after (cell_of state) (Change.Bind definition.now) else cell_of state)) }
-        ensures at { IfOk result (λ s. IsAt self.now.here self.now.circuit s) }
+        requires at { IsAt (site_of self.now) state }
+        ensures cell { IfOk result (λ s. cell_of s ≡ (if fits_free (site_of self.now) (cell_of state) (Change.Bind definition.now) then free_after (cell_of state) (Change.Bind definition.now) else cell_of state)) }
+        ensures at { IfOk result (λ s. IsAt (site_of self.now) s) }
     {
         if !self.fits_free(&state, definition) {
             return Ok(state);
@@ -251,9 +236,9 @@ impl Site {
 
     /// An unbound cell that was purged with a generation, if that fits.
     fn gone(&self, state: State, old: Generation) -> State
-        requires at { IsAt self.now.here self.now.circuit state }
-        ensures cell { cell_of result ≡ (if fits_free self.now.here self.now.circuit (cell_of state) (Change.Gone old) then free_after (cell_of state) (Change.Gone old) else cell_of state) }
-        ensures at { IsAt self.now.here self.now.circuit result }
+        requires at { IsAt (site_of self.now) state }
+        ensures cell { cell_of result ≡ (if fits_free (site_of self.now) (cell_of state) (Change.Gone old) then free_after (cell_of state) (Change.Gone old) else cell_of state) }
+        ensures at { IsAt (site_of self.now) result }
     {
         match state {
             State::Empty => {
@@ -270,26 +255,22 @@ impl Site {
 
     /// An unbound cell with a change, if it fits.
     fn free_with(&self, alloc: Global, state: State, change: &Change) -> Result<State, AllocError>
-        requires at { IsAt self.now.here self.now.circuit state }
-        ensures cell { IfOk result (λ s. cell_of s ≡ (if fits_free self.now.here self.now.circuit (cell_of state) change.now then free_after (cell_of state) change.now else cell_of state)) }
-        ensures at { IfOk result (λ s. IsAt self.now.here self.now.circuit s) }
+        requires at { IsAt (site_of self.now) state }
+        ensures cell { IfOk result (λ s. cell_of s ≡ (if fits_free (site_of self.now) (cell_of state) change.now then free_after (cell_of state) change.now else cell_of state)) }
+        ensures at { IfOk result (λ s. IsAt (site_of self.now) s) }
     {
         match change {
             Change::Bind(definition) => self.bound_with(alloc, state, definition.get()),
-            Change::Admin(_) => Ok(state),
-            Change::Service(_) => Ok(state),
-            Change::Abandon => Ok(state),
-            Change::Purge => Ok(state),
-            Change::Turn(_) => Ok(state),
             Change::Gone(old) => Ok(self.gone(state, *old)),
+            _ => Ok(state),
         }
     }
 
     /// A cell with a change, if it fits.
     fn applied_one(&self, alloc: Global, state: State, change: &Change) -> Result<State, AllocError>
-        requires at { IsAt self.now.here self.now.circuit state }
-        ensures cell { IfOk result (λ s. cell_of s ≡ applied_one self.now.here self.now.circuit (cell_of state) change.now) }
-        ensures at { IfOk result (λ s. IsAt self.now.here self.now.circuit s) }
+        requires at { IsAt (site_of self.now) state }
+        ensures cell { IfOk result (λ s. cell_of s ≡ applied_one (site_of self.now) (cell_of state) change.now) }
+        ensures at { IfOk result (λ s. IsAt (site_of self.now) s) }
     {
         match state {
             State::Empty => self.free_with(alloc, State::Empty, change),
@@ -306,9 +287,9 @@ impl Site {
         state: State,
         changes: &[Change],
     ) -> Result<State, AllocError>
-        requires at { IsAt self.now.here self.now.circuit state }
-        ensures cell { IfOk result (λ s. cell_of s ≡ applied self.now.here self.now.circuit (cell_of state) changes.now) }
-        ensures at { IfOk result (λ s. IsAt self.now.here self.now.circuit s) }
+        requires at { IsAt (site_of self.now) state }
+        ensures cell { IfOk result (λ s. cell_of s ≡ applied (site_of self.now) (cell_of state) changes.now) }
+        ensures at { IfOk result (λ s. IsAt (site_of self.now) s) }
     {
         let mut state = state;
         for change in changes {

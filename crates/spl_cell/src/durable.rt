@@ -1,7 +1,7 @@
 //! Changes of groups as changes of a cell.
-ghost use Rattle.std.specs.Prelude.{◌≡◌, ◌++◌, IfOk};
+ghost use Rattle.std.specs.Prelude.{◌≡◌, ◌++◌, map, IfOk};
 ghost use Rattle.std.specs.Option.{option_copied};
-ghost use Rattle.spl_rules.specs.Plans.{admin_changes, service_changes};
+ghost use Rattle.spl_wire.specs.declared.change.Change.TheVariants as durable;
 ghost use Rattle.spl_cell.specs.Mays.{queued};
 
 use spl_agree::{GroupChange, GroupChanges};
@@ -44,24 +44,17 @@ pub(crate) fn queued<V>(change: &GroupChange<V>) -> Option<&V>
 {
     match change {
         GroupChange::Queue(value) => Some(value),
-        GroupChange::Refuse(_, _) => None,
-        GroupChange::Begin(_) => None,
-        GroupChange::Seen(_) => None,
-        GroupChange::Promise(_, _) => None,
-        GroupChange::Abort => None,
-        GroupChange::Commit(_, _) => None,
-        GroupChange::Restore { .. } => None,
-        GroupChange::Kept(_, _) => None,
+        _ => None,
     }
 }
 
 /// The changes, and behind them those of the admin group.
-#[tactic(auto, using(crate::proofs::Steps::acts_more))]
+#[tactic(auto, using(crate::proofs::Steps::changes_more))]
 pub(crate) fn with_acts(
     first: ChangeList,
     changes: GroupChanges<Act>,
 ) -> Result<ChangeList, AllocError>
-    ensures { IfOk result (λ cs. cs ≡ first ++ admin_changes changes) }
+    ensures { IfOk result (λ cs. cs ≡ first ++ map durable.Admin changes) }
 {
     let mut all = first;
     for change in changes.into_vec() {
@@ -71,12 +64,12 @@ pub(crate) fn with_acts(
 }
 
 /// The changes, and behind them those of the service group.
-#[tactic(auto, using(crate::proofs::Steps::batches_more))]
+#[tactic(auto, using(crate::proofs::Steps::changes_more))]
 pub(crate) fn with_batches(
     first: ChangeList,
     changes: GroupChanges<Batch>,
 ) -> Result<ChangeList, AllocError>
-    ensures { IfOk result (λ cs. cs ≡ first ++ service_changes changes) }
+    ensures { IfOk result (λ cs. cs ≡ first ++ map durable.Service changes) }
 {
     let mut all = first;
     for change in changes.into_vec() {

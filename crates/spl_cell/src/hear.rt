@@ -4,14 +4,15 @@ ghost use Rattle.std.specs.Str.{bytes_eq};
 ghost use Rattle.spl_agree.specs.Fits.{generation_of};
 ghost use Rattle.spl_circuit.specs.Nodes.{position};
 ghost use Rattle.spl_circuit.specs.Rules.{admin, broken, is_member};
-ghost use Rattle.spl_rules.specs.Cells.{Held as Bound, Acts, admin_group, can_bind, declines, returns_unbound, ignores, asked_first, forwarded_first, hears_first};
+ghost use Rattle.spl_rules.specs.Cells as rules;
+ghost use Rattle.spl_rules.specs.Cells.{Acts, Delivered, admin_group, can_bind, declines, returns_unbound, ignores, asked_first, forwarded_first, hears_first};
 ghost use Rattle.spl_rules.specs.Events.{hears_admin, other_hears};
 ghost use Rattle.spl_rules.specs.Plans.{planned};
 ghost use Rattle.spl_rules.specs.Valid.{IsValid};
-ghost use Rattle.spl_wire.specs.declared.answer.Answer.TheVariants as answer;
 ghost use Rattle.spl_cell.specs.Hears.{hears};
 ghost use Rattle.spl_cell.specs.States.{cell_of, IsAt};
 ghost use Rattle.spl_cell.specs.Views.{IsSettledHeld};
+ghost use Rattle.spl_cell.specs.Sites.{site_of};
 
 use crate::held::Held;
 use crate::node::position;
@@ -49,9 +50,9 @@ impl Held {
     #[tactic(auto, using(crate::proofs::Positions::sender_facts))]
     fn hears(&self, alloc: Global, from: &NodeId, body: CommitMsg<Act>) -> Result<Plan, AllocError>
         requires settled { IsSettledHeld self.now }
-        requires other { bytes_eq from.now self.now.here ≡ false }
-        requires same { generation_of body ≡ self.now.definition.generation }
-        ensures { IfOk result (λ p. p ≡ planned self.now.here self.now.circuit (Acts answer.Delivered self.now.definition self.now.acts from.now (GroupEvent.From (position self.now.definition.members from.now) body))) }
+        requires other { bytes_eq from.now self.now.site.here ≡ false }
+        requires same { generation_of body ≡ self.now.bound.definition.generation }
+        ensures { IfOk result (λ p. p ≡ planned self.now.site (Acts Delivered self.now.bound from.now (GroupEvent.From (position self.now.bound.definition.members from.now) body))) }
     {
         let sender = position(self.definition().members.as_slice(), from);
         let event = GroupEvent::From {
@@ -65,7 +66,7 @@ impl Held {
 impl Site {
     /// Whether a message of a generation can bind the definition.
     fn can_bind(&self, state: &State, generation: Generation, definition: &Definition) -> bool
-        ensures { result ≡ can_bind self.now.here self.now.circuit (cell_of state.now) generation definition.now }
+        ensures { result ≡ can_bind (site_of self.now) (cell_of state.now) generation definition.now }
     {
         if definition.id != self.circuit {
             return false;
@@ -83,7 +84,7 @@ impl Site {
     }
 
     pub(crate) fn ignores(&self, alloc: Global) -> Plan
-        ensures { result ≡ planned self.now.here self.now.circuit ignores }
+        ensures { result ≡ planned (site_of self.now) ignores }
     {
         tells_only(alloc, Answer::Delivered(Note::Ignored))
     }
@@ -96,13 +97,12 @@ impl Site {
         generation: Generation,
         round: Round,
     ) -> Result<Plan, AllocError>
-        ensures { IfOk result (λ p. p ≡ planned self.now.here self.now.circuit (declines self.now.circuit from.now generation round)) }
+        ensures { IfOk result (λ p. p ≡ planned (site_of self.now) (declines (site_of self.now) from.now generation round)) }
     {
-        let yes = false;
         let body = CommitMsg::Vote {
             generation,
             round,
-            yes,
+            yes: false,
         };
         let circuit = self.circuit;
         let vote = Message::Admin { circuit, body };
@@ -117,7 +117,7 @@ impl Site {
         generation: Generation,
         act: &Act,
     ) -> Result<Plan, AllocError>
-        ensures { IfOk result (λ p. p ≡ planned self.now.here self.now.circuit (returns_unbound self.now.circuit from.now generation act.now)) }
+        ensures { IfOk result (λ p. p ≡ planned (site_of self.now) (returns_unbound (site_of self.now) from.now generation act.now)) }
     {
         let body = CommitMsg::Refused {
             generation,
@@ -142,7 +142,7 @@ impl Site {
         act: &Act,
     ) -> Result<Plan, AllocError>
         requires other { bytes_eq from.now self.now.here ≡ false }
-        ensures { IfOk result (λ p. p ≡ planned self.now.here self.now.circuit (asked_first self.now.here self.now.circuit (cell_of state.now) from.now generation round place act.now act.now.kind)) }
+        ensures { IfOk result (λ p. p ≡ planned (site_of self.now) (asked_first (site_of self.now) (cell_of state.now) from.now generation round place act.now act.now.kind)) }
     {
         let ActKind::Propose(definition) = &act.kind else {
             return self.declines(alloc, from, generation, round);
@@ -180,7 +180,7 @@ impl Site {
     ) -> bool
         ensures valid { result ≡ true → broken definition.now ≡ None }
         ensures member { result ≡ true → is_member definition.now self.now.here ≡ true }
-        ensures value { result ≡ (can_bind self.now.here self.now.circuit (cell_of state.now) generation definition.now && (bytes_eq (admin definition.now) self.now.here && (bytes_eq node.now from.now && (is_member definition.now from.now && not (bytes_eq from.now self.now.here))))) }
+        ensures value { result ≡ (can_bind (site_of self.now) (cell_of state.now) generation definition.now && (bytes_eq (admin definition.now) self.now.here && (bytes_eq node.now from.now && (is_member definition.now from.now && not (bytes_eq from.now self.now.here))))) }
     {
         if !self.can_bind(state, generation, definition) {
             return false;
@@ -206,7 +206,7 @@ impl Site {
         generation: Generation,
         act: &Act,
     ) -> Result<Plan, AllocError>
-        ensures { IfOk result (λ p. p ≡ planned self.now.here self.now.circuit (forwarded_first self.now.here self.now.circuit (cell_of state.now) from.now generation act.now act.now.kind)) }
+        ensures { IfOk result (λ p. p ≡ planned (site_of self.now) (forwarded_first (site_of self.now) (cell_of state.now) from.now generation act.now act.now.kind)) }
     {
         let ActKind::Propose(definition) = &act.kind else {
             return Ok(self.ignores(alloc));
@@ -228,7 +228,7 @@ impl Site {
         body: &CommitMsg<Act>,
     ) -> Result<Plan, AllocError>
         requires other { bytes_eq from.now self.now.here ≡ false }
-        ensures { IfOk result (λ p. p ≡ planned self.now.here self.now.circuit (hears_first self.now.here self.now.circuit (cell_of state.now) from.now body.now)) }
+        ensures { IfOk result (λ p. p ≡ planned (site_of self.now) (hears_first (site_of self.now) (cell_of state.now) from.now body.now)) }
     {
         match body {
             CommitMsg::VoteRequest {
@@ -237,13 +237,10 @@ impl Site {
                 place,
                 value,
             } => self.asked_first(alloc, state, from, *generation, *round, *place, value),
-            CommitMsg::Vote { .. } => Ok(self.ignores(alloc)),
-            CommitMsg::Decision { .. } => Ok(self.ignores(alloc)),
-            CommitMsg::DecisionRequest { .. } => Ok(self.ignores(alloc)),
             CommitMsg::Forward { generation, value } => {
                 self.forwarded_first(alloc, state, from, *generation, value)
             }
-            CommitMsg::Refused { .. } => Ok(self.ignores(alloc)),
+            _ => Ok(self.ignores(alloc)),
         }
     }
 
@@ -256,7 +253,7 @@ impl Site {
         message: &Message,
     ) -> Result<Plan, AllocError>
         requires other { bytes_eq from.now self.now.here ≡ false }
-        ensures { IfOk result (λ p. p ≡ planned self.now.here self.now.circuit (other_hears self.now.here self.now.circuit (cell_of state.now) from.now message.now)) }
+        ensures { IfOk result (λ p. p ≡ planned (site_of self.now) (other_hears (site_of self.now) (cell_of state.now) from.now message.now)) }
     {
         match message {
             Message::Admin { body, .. } => self.hears_first(alloc, state, from, body),
@@ -273,12 +270,11 @@ impl Site {
         from: &NodeId,
         body: CommitMsg<Act>,
     ) -> Result<Plan, AllocError>
-        requires here { held.now.here ≡ self.now.here }
-        requires circuit { held.now.circuit ≡ self.now.circuit }
-        requires bound { cell_of state.now ≡ Bound held.now.definition held.now.mark held.now.turn held.now.acts held.now.batches }
+        requires site { held.now.site ≡ site_of self.now }
+        requires bound { cell_of state.now ≡ rules.Held held.now.bound }
         requires settled { IsSettledHeld held.now }
         requires other { bytes_eq from.now self.now.here ≡ false }
-        ensures { IfOk result (λ p. p ≡ planned self.now.here self.now.circuit (hears_admin self.now.here self.now.circuit held.now.definition held.now.mark held.now.turn held.now.acts held.now.batches from.now body)) }
+        ensures { IfOk result (λ p. p ≡ planned (site_of self.now) (hears_admin (site_of self.now) held.now.bound from.now body)) }
     {
         if !held.is_open() {
             return self.hears_first(alloc, state, from, &body);
@@ -297,10 +293,10 @@ impl Site {
         from: &NodeId,
         message: &Message,
     ) -> Result<Plan, AllocError>
-        requires at { IsAt self.now.here self.now.circuit state.now }
-        requires valid { IsValid self.now.here self.now.circuit (cell_of state.now) }
+        requires at { IsAt (site_of self.now) state.now }
+        requires valid { IsValid (site_of self.now) (cell_of state.now) }
         requires other { bytes_eq from.now self.now.here ≡ false }
-        ensures { IfOk result (λ p. p ≡ planned self.now.here self.now.circuit (hears self.now.here self.now.circuit (cell_of state.now) from.now message.now)) }
+        ensures { IfOk result (λ p. p ≡ planned (site_of self.now) (hears (site_of self.now) (cell_of state.now) from.now message.now)) }
     {
         let State::Held(held) = state else {
             return self.other_hears(alloc, state, from, message);

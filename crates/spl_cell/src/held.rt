@@ -4,10 +4,11 @@ ghost use Rattle.spl_agree.specs.Member.{values};
 ghost use Rattle.spl_agree.specs.Fits.{IsDue};
 ghost use Rattle.spl_circuit.specs.Nodes.{position, has_node};
 ghost use Rattle.spl_circuit.specs.Rules.{broken, is_member};
-ghost use Rattle.spl_rules.specs.Cells.{Acts, Serves, admin_group, service_group, own_life, runs, accepted_in_order};
-ghost use Rattle.spl_rules.specs.Plans.{admin_row, service_row, planned};
-ghost use Rattle.spl_cell.specs.Says.{said};
-ghost use Rattle.spl_cell.specs.Views.{IsSettledHeld, fresh};
+ghost use Rattle.spl_rules.specs.Cells.{Acts, Serves, fresh, admin_group, service_group, own_life, is_active_here, runs, keeps_batches, accepted_in_order};
+ghost use Rattle.spl_rules.specs.Plans.{admin_lane, service_lane, group_row, planned};
+ghost use Rattle.spl_cell.specs.Says.{say_of};
+ghost use Rattle.spl_cell.specs.Sites.{site_of};
+ghost use Rattle.spl_cell.specs.Views.{IsSettledHeld};
 
 use crate::node::position;
 use crate::plans::Say;
@@ -35,11 +36,12 @@ pub(crate) struct Held {
 }
 
 impl Model for Held {
+    ghost use Rattle.spl_cell.specs.Sites.{site_of};
     ghost use Rattle.spl_cell.specs.Views.{HeldView, IsPlaced};
 
     ghost Value = { HeldView };
 
-    ghost view = { λ s. record { here = s.site.here; circuit = s.site.circuit; definition = s.acts.content.definition; mark = s.mark; turn = s.turn; acts = s.acts.state; batches = s.batches.state } };
+    ghost view = { λ s. record { site = site_of s.site; bound = record { definition = s.acts.content.definition; mark = s.mark; turn = s.turn; acts = s.acts.state; batches = s.batches.state } } };
 
     ghost invariant = { λ s. IsPlaced s.site.here s.acts.content.definition s.acts s.batches };
 }
@@ -50,7 +52,7 @@ impl Held {
     pub(crate) fn new(alloc: Global, site: Site, definition: Definition) -> Held
         requires valid { broken definition ≡ None }
         requires member { is_member definition site.here ≡ true }
-        ensures { result ≡ fresh site.here site.circuit definition }
+        ensures { result ≡ record { site = site_of site; bound = fresh definition } }
     {
         let generation = definition.generation;
         let members = definition.members.as_slice();
@@ -71,66 +73,80 @@ impl Held {
 
     /// The acts that are committed here, and the definition, which breaks no rule.
     pub(crate) fn ledger(&self) -> &Ledger
-        ensures definition { result.now.definition ≡ self.now.definition }
-        ensures acts { result.now.acts ≡ values self.now.acts.history }
+        ensures definition { result.now.definition ≡ self.now.bound.definition }
+        ensures acts { result.now.acts ≡ values self.now.bound.acts.history }
     {
         self.acts.content()
     }
 
     /// The definition, which breaks no rule, and of which the node is a member.
     pub(crate) fn definition(&self) -> &Definition
-        ensures value { result.now ≡ self.now.definition }
-        ensures valid { broken self.now.definition ≡ None }
-        ensures member { is_member self.now.definition self.now.here ≡ true }
+        ensures value { result.now ≡ self.now.bound.definition }
+        ensures valid { broken self.now.bound.definition ≡ None }
+        ensures member { is_member self.now.bound.definition self.now.site.here ≡ true }
     {
         self.acts.content().definition()
     }
 
     /// The batches that are committed here.
     pub(crate) fn service(&self) -> &Service
-        ensures { result.now ≡ values self.now.batches.history }
+        ensures { result.now ≡ values self.now.bound.batches.history }
     {
         self.batches.content()
     }
 
     /// Where the acts that are committed here have brought the circuit.
     pub(crate) fn lifecycle(&self) -> Lifecycle
-        ensures { result ≡ (own_life self.now.definition self.now.acts).state }
+        ensures { result ≡ (own_life self.now.bound).state }
     {
         self.ledger().lifecycle()
     }
 
     /// The node that proposed the circuit, if one did.
     pub(crate) fn requester(&self) -> Option<NodeId>
-        ensures { result ≡ (own_life self.now.definition self.now.acts).requester }
+        ensures { result ≡ (own_life self.now.bound).requester }
     {
         self.ledger().requester()
     }
 
     /// Whether this node has accepted the circuit.
     pub(crate) fn has_accepted(&self) -> bool
-        ensures { result ≡ has_node (own_life self.now.definition self.now.acts).accepted self.now.here }
+        ensures { result ≡ has_node (own_life self.now.bound).accepted self.now.site.here }
     {
         self.ledger().accepted(&self.site.here)
     }
 
     /// The members that have accepted, in member order.
     pub(crate) fn accepted_in_order(&self, alloc: Global) -> Result<Members, AllocError>
-        ensures { IfOk result (λ ms. ms ≡ accepted_in_order self.now.definition self.now.acts) }
+        ensures { IfOk result (λ ms. ms ≡ accepted_in_order self.now.bound) }
     {
         self.ledger().accepted_members(alloc)
     }
 
     /// Whether the circuit is active here.
-    pub(crate) fn runs(&self) -> bool
-        ensures { result ≡ runs self.now.definition self.now.acts }
+    pub(crate) fn is_active(&self) -> bool
+        ensures { result ≡ is_active_here self.now.bound }
     {
         matches!(self.lifecycle(), Lifecycle::Active)
     }
 
+    /// Whether the service group runs.
+    pub(crate) fn runs(&self) -> bool
+        ensures { result ≡ runs self.now.bound }
+    {
+        self.is_active()
+    }
+
+    /// Whether durable changes of the service group fit.
+    pub(crate) fn keeps_batches(&self) -> bool
+        ensures { result ≡ keeps_batches self.now.bound }
+    {
+        self.is_active()
+    }
+
     /// Whether the node takes part.
     pub(crate) fn is_open(&self) -> bool
-        ensures { result ≡ Rattle.spl_rules.specs.Cells.is_open self.now.mark }
+        ensures { result ≡ Rattle.spl_rules.specs.Cells.is_open self.now.bound.mark }
     {
         matches!(self.mark, Mark::Open)
     }
@@ -143,8 +159,8 @@ impl Held {
         event: &GroupEvent<Act>,
     ) -> Result<GroupPlan<Act>, AllocError>
         requires settled { IsSettledHeld self.now }
-        requires due { IsDue (admin_group self.now.definition) (position self.now.definition.members self.now.here) self.now.acts event.now }
-        ensures { IfOk result (λ p. p ≡ admin_row self.now.here self.now.definition self.now.acts event.now) }
+        requires due { IsDue (admin_group self.now.bound.definition) (position self.now.bound.definition.members self.now.site.here) self.now.bound.acts event.now }
+        ensures { IfOk result (λ p. p ≡ group_row (admin_lane self.now.site self.now.bound.definition) self.now.bound.acts event.now) }
     {
         self.acts.plan(alloc, event)
     }
@@ -157,8 +173,8 @@ impl Held {
         event: &GroupEvent<Batch>,
     ) -> Result<GroupPlan<Batch>, AllocError>
         requires settled { IsSettledHeld self.now }
-        requires due { IsDue (service_group self.now.definition) (position self.now.definition.members self.now.here) self.now.batches event.now }
-        ensures { IfOk result (λ p. p ≡ service_row self.now.here self.now.definition self.now.batches event.now) }
+        requires due { IsDue (service_group self.now.bound.definition) (position self.now.bound.definition.members self.now.site.here) self.now.bound.batches event.now }
+        ensures { IfOk result (λ p. p ≡ group_row (service_lane self.now.site self.now.bound.definition) self.now.bound.batches event.now) }
     {
         self.batches.plan(alloc, event)
     }
@@ -172,8 +188,8 @@ impl Held {
         event: &GroupEvent<Act>,
     ) -> Result<Plan, AllocError>
         requires settled { IsSettledHeld self.now }
-        requires due { IsDue (admin_group self.now.definition) (position self.now.definition.members self.now.here) self.now.acts event.now }
-        ensures { IfOk result (λ p. p ≡ planned self.now.here self.now.circuit (Acts (said say) self.now.definition self.now.acts back.now event.now)) }
+        requires due { IsDue (admin_group self.now.bound.definition) (position self.now.bound.definition.members self.now.site.here) self.now.bound.acts event.now }
+        ensures { IfOk result (λ p. p ≡ planned self.now.site (Acts (say_of say) self.now.bound back.now event.now)) }
     {
         let plan = self.admin_row(alloc, event)?;
         let first = ChangeList::new(alloc);
@@ -190,9 +206,9 @@ impl Held {
         event: &GroupEvent<Batch>,
     ) -> Result<Plan, AllocError>
         requires settled { IsSettledHeld self.now }
-        requires answered { is_member self.now.definition back.now ≡ true }
-        requires due { IsDue (service_group self.now.definition) (position self.now.definition.members self.now.here) self.now.batches event.now }
-        ensures { IfOk result (λ p. p ≡ planned self.now.here self.now.circuit (Serves (said say) self.now.definition self.now.batches back.now event.now)) }
+        requires answered { is_member self.now.bound.definition back.now ≡ true }
+        requires due { IsDue (service_group self.now.bound.definition) (position self.now.bound.definition.members self.now.site.here) self.now.bound.batches event.now }
+        ensures { IfOk result (λ p. p ≡ planned self.now.site (Serves (say_of say) self.now.bound back.now event.now)) }
     {
         let plan = self.service_row(alloc, event)?;
         self.site

@@ -35,9 +35,9 @@ fn leaves(
 impl Held {
     /// The node takes no further part.
     pub(crate) fn abandons(&self, alloc: Global) -> Result<Plan, AllocError>
-        ensures { IfOk result (λ p. p ≡ planned self.now.here self.now.circuit (abandons self.now.definition self.now.mark self.now.acts)) }
+        ensures { IfOk result (λ p. p ≡ planned self.now.site (abandons self.now.bound)) }
     {
-        if !self.runs() {
+        if !self.is_active() {
             return Ok(refuses(alloc, Refusal::NotActive));
         }
         if !self.is_open() {
@@ -54,20 +54,18 @@ impl Held {
 
     /// What keeps an open cell from being purged.
     fn is_waiting(&self) -> bool
-        ensures { result ≡ is_waiting (own_life self.now.definition self.now.acts).state self.now.acts }
+        ensures { result ≡ is_waiting (own_life self.now.bound).state self.now.bound.acts }
     {
         match self.lifecycle() {
             Lifecycle::None => self.acts_pending() > 0 || self.has_promised(),
-            Lifecycle::Proposed => true,
-            Lifecycle::Active => true,
-            Lifecycle::Rejected => false,
-            Lifecycle::Removed => false,
+            Lifecycle::Rejected | Lifecycle::Removed => false,
+            _ => true,
         }
     }
 
     /// The node forgets the circuit, all but its generation.
     pub(crate) fn purges(&self, alloc: Global) -> Result<Plan, AllocError>
-        ensures { IfOk result (λ p. p ≡ planned self.now.here self.now.circuit (purges self.now.definition self.now.mark self.now.acts)) }
+        ensures { IfOk result (λ p. p ≡ planned self.now.site (purges self.now.bound)) }
     {
         if self.is_open() && self.is_waiting() {
             return Ok(refuses(alloc, Refusal::NotPurgeable));

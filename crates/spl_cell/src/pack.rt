@@ -1,8 +1,8 @@
 //! The packed form of a cell.
-ghost use Rattle.std.specs.Prelude.{◌≡◌, ◌++◌, [], ◌∷◌, IfOk};
+ghost use Rattle.std.specs.Prelude.{◌≡◌, ◌++◌, [], ◌∷◌, map, IfOk};
 ghost use Rattle.spl_agree.specs.Pack.{packed_member};
-ghost use Rattle.spl_rules.specs.Cells.{Held as Bound};
-ghost use Rattle.spl_rules.specs.Plans.{admin_changes, service_changes};
+ghost use Rattle.spl_rules.specs.Cells as rules;
+ghost use Rattle.spl_wire.specs.declared.change.Change.TheVariants as durable;
 ghost use Rattle.spl_rules.specs.Pack.{packed_batches, packed_mark, packed};
 ghost use Rattle.spl_cell.specs.States.{cell_of};
 
@@ -16,9 +16,9 @@ use spl_wire::Change;
 use std::alloc::{AllocError, Global};
 
 /// The changes, and behind them those of the admin group.
-#[tactic(auto, using(crate::proofs::Steps::acts_more))]
+#[tactic(auto, using(crate::proofs::Steps::changes_more))]
 fn acts_behind(first: Vec<Change>, changes: GroupChanges<Act>) -> Result<Vec<Change>, AllocError>
-    ensures { IfOk result (λ cs. cs.items ≡ first.items ++ admin_changes changes) }
+    ensures { IfOk result (λ cs. cs.items ≡ first.items ++ map durable.Admin changes) }
 {
     let mut all = first;
     for change in changes.into_vec() {
@@ -28,12 +28,12 @@ fn acts_behind(first: Vec<Change>, changes: GroupChanges<Act>) -> Result<Vec<Cha
 }
 
 /// The changes, and behind them those of the service group.
-#[tactic(auto, using(crate::proofs::Steps::batches_more))]
+#[tactic(auto, using(crate::proofs::Steps::changes_more))]
 fn batches_behind(
     first: Vec<Change>,
     changes: GroupChanges<Batch>,
 ) -> Result<Vec<Change>, AllocError>
-    ensures { IfOk result (λ cs. cs.items ≡ first.items ++ service_changes changes) }
+    ensures { IfOk result (λ cs. cs.items ≡ first.items ++ map durable.Service changes) }
 {
     let mut all = first;
     for change in changes.into_vec() {
@@ -48,9 +48,8 @@ fn mark_behind(first: Vec<Change>, mark: Mark) -> Result<Vec<Change>, AllocError
 {
     let mut all = first;
     match mark {
-        Mark::Open => {}
         Mark::Abandoned => all.push(Change::Abandon)?,
-        Mark::Purged => {}
+        _ => {}
     }
     Ok(all)
 }
@@ -58,9 +57,9 @@ fn mark_behind(first: Vec<Change>, mark: Mark) -> Result<Vec<Change>, AllocError
 impl Held {
     /// The changes, and behind them those of the service group, where it goes on.
     fn batches_packed(&self, alloc: Global, first: Vec<Change>) -> Result<Vec<Change>, AllocError>
-        ensures { IfOk result (λ cs. cs.items ≡ first.items ++ packed_batches self.now.definition self.now.acts self.now.batches) }
+        ensures { IfOk result (λ cs. cs.items ≡ first.items ++ packed_batches self.now.bound) }
     {
-        if !self.runs() {
+        if !self.keeps_batches() {
             return Ok(first);
         }
         batches_behind(first, self.batches.pack(alloc)?)
@@ -68,7 +67,7 @@ impl Held {
 
     /// The changes that bind the cell, and set its turn.
     fn bound_packed(&self, alloc: Global) -> Result<Vec<Change>, AllocError>
-        ensures { IfOk result (λ cs. cs.items ≡ Change.Bind self.now.definition ∷ Change.Turn self.now.turn ∷ []) }
+        ensures { IfOk result (λ cs. cs.items ≡ Change.Bind self.now.bound.definition ∷ Change.Turn self.now.bound.turn ∷ []) }
     {
         let mut all = Vec::new(alloc);
         let bound = Boxed::new(alloc, self.definition().copy(alloc)?)?;
@@ -79,7 +78,7 @@ impl Held {
 
     /// The changes, and behind them those of the admin group.
     fn acts_packed(&self, alloc: Global, first: Vec<Change>) -> Result<Vec<Change>, AllocError>
-        ensures { IfOk result (λ cs. cs.items ≡ first.items ++ admin_changes (packed_member self.now.acts)) }
+        ensures { IfOk result (λ cs. cs.items ≡ first.items ++ map durable.Admin (packed_member self.now.bound.acts)) }
     {
         acts_behind(first, self.acts.pack(alloc)?)
     }
@@ -87,7 +86,7 @@ impl Held {
     /// The changes that make the cell of an empty one.
     #[tactic(auto, using(crate::proofs::Packs::packed_parts))]
     fn packed(&self, alloc: Global) -> Result<Vec<Change>, AllocError>
-        ensures { IfOk result (λ cs. cs.items ≡ packed (Bound self.now.definition self.now.mark self.now.turn self.now.acts self.now.batches)) }
+        ensures { IfOk result (λ cs. cs.items ≡ packed (rules.Held self.now.bound)) }
     {
         let all = self.bound_packed(alloc)?;
         let all = self.acts_packed(alloc, all)?;

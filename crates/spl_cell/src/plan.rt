@@ -5,6 +5,7 @@ ghost use Rattle.spl_rules.specs.Events.{other_does};
 ghost use Rattle.spl_rules.specs.Plans.{planned, plan_of};
 ghost use Rattle.spl_rules.specs.Valid.{IsValid, IsFor};
 ghost use Rattle.spl_cell.specs.States.{cell_of, IsAt};
+ghost use Rattle.spl_cell.specs.Sites.{site_of};
 
 use crate::batches::Question;
 use crate::hear::NO_WAY;
@@ -30,30 +31,16 @@ fn vote_kind(accept: bool) -> ActKind
 impl Site {
     /// What an event gives at a cell that isn't bound.
     fn other_plan(&self, alloc: Global, state: &State, event: &Event) -> Result<Plan, AllocError>
-        requires own { IsFor self.now.here self.now.circuit event.now }
-        ensures { IfOk result (λ p. p ≡ planned self.now.here self.now.circuit (other_does self.now.here self.now.circuit (cell_of state.now) event.now)) }
+        requires own { IsFor (site_of self.now) event.now }
+        ensures { IfOk result (λ p. p ≡ planned (site_of self.now) (other_does (site_of self.now) (cell_of state.now) event.now)) }
     {
         match event {
             Event::Propose(definition) => self.proposes(alloc, state, definition.get()),
             Event::Deliver { from, message } => {
                 self.other_hears(alloc, state, from, message.get())
             }
-            Event::Vote { .. } => Ok(refuses(alloc, Refusal::NoCircuit)),
-            Event::Remove => Ok(refuses(alloc, Refusal::NoCircuit)),
-            Event::Abandon => Ok(refuses(alloc, Refusal::NoCircuit)),
-            Event::Purge => Ok(refuses(alloc, Refusal::NoCircuit)),
-            Event::Submit(_) => Ok(refuses(alloc, Refusal::NoCircuit)),
-            Event::Show => Ok(refuses(alloc, Refusal::NoCircuit)),
-            Event::Detail => Ok(refuses(alloc, Refusal::NoCircuit)),
-            Event::Root => Ok(refuses(alloc, Refusal::NoCircuit)),
-            Event::History => Ok(refuses(alloc, Refusal::NoCircuit)),
-            Event::Get(_) => Ok(refuses(alloc, Refusal::NoCircuit)),
-            Event::List(_) => Ok(refuses(alloc, Refusal::NoCircuit)),
-            Event::Status(_) => Ok(refuses(alloc, Refusal::NoCircuit)),
-            Event::Receipt(_) => Ok(refuses(alloc, Refusal::NoCircuit)),
             Event::Route { .. } => Ok(refuses(alloc, NO_WAY)),
-            Event::Tick => Ok(refuses(alloc, Refusal::NoCircuit)),
-            Event::Expire => Ok(refuses(alloc, Refusal::NoCircuit)),
+            _ => Ok(refuses(alloc, Refusal::NoCircuit)),
         }
     }
 
@@ -64,10 +51,10 @@ impl Site {
         state: &State,
         event: &Event,
     ) -> Result<Plan, AllocError>
-        requires at { IsAt self.now.here self.now.circuit state.now }
-        requires valid { IsValid self.now.here self.now.circuit (cell_of state.now) }
-        requires own { IsFor self.now.here self.now.circuit event.now }
-        ensures { IfOk result (λ p. p ≡ plan_of self.now.here self.now.circuit (cell_of state.now) event.now) }
+        requires at { IsAt (site_of self.now) state.now }
+        requires valid { IsValid (site_of self.now) (cell_of state.now) }
+        requires own { IsFor (site_of self.now) event.now }
+        ensures { IfOk result (λ p. p ≡ plan_of (site_of self.now) (cell_of state.now) event.now) }
     {
         let State::Held(held) = state else {
             return self.other_plan(alloc, state, event);

@@ -1,10 +1,11 @@
 //! Plans of a cell.
-ghost use Rattle.std.specs.Prelude.{◌≡◌, true, None, IfOk};
+ghost use Rattle.std.specs.Prelude.{◌≡◌, [], true, None, IfOk};
 ghost use Rattle.spl_circuit.specs.Rules.{broken, is_member};
 ghost use Rattle.spl_wire.specs.declared.answer.Answer.TheVariants as answer;
-ghost use Rattle.spl_rules.specs.Cells.{Replies};
-ghost use Rattle.spl_rules.specs.Plans.{tells_only, planned, both_plans};
-ghost use Rattle.spl_cell.specs.Says.{said};
+ghost use Rattle.spl_rules.specs.Cells.{Replies, said};
+ghost use Rattle.spl_rules.specs.Plans.{admin_lane, service_lane, group_plan, tells_only, planned, both_plans};
+ghost use Rattle.spl_cell.specs.Says.{say_of};
+ghost use Rattle.spl_cell.specs.Sites.{site_of};
 
 use crate::durable::{with_acts, with_batches};
 use crate::site::Site;
@@ -29,7 +30,7 @@ pub(crate) enum Say {
 impl Say {
     /// The answer.
     pub(crate) fn answer(self, note: Note) -> Answer
-        ensures { result ≡ said self note }
+        ensures { result ≡ said (say_of self) note }
     {
         match self {
             Say::Submitted => Answer::Submitted { known: false },
@@ -71,7 +72,7 @@ impl Site {
         to: &NodeId,
         message: Message,
     ) -> Result<Plan, AllocError>
-        ensures { IfOk result (λ p. p ≡ planned self.now.here self.now.circuit (Replies note to.now message)) }
+        ensures { IfOk result (λ p. p ≡ planned (site_of self.now) (Replies note to.now message)) }
     {
         let mut sends = SendList::new(alloc);
         sends.push(Outgoing { to: *to, message })?;
@@ -95,7 +96,7 @@ impl Site {
         back: &NodeId,
         plan: GroupPlan<Act>,
     ) -> Result<Plan, AllocError>
-        ensures { IfOk result (λ p. p ≡ Rattle.spl_rules.specs.Plans.admin_plan self.now.circuit (said say) first definition.now back.now plan) }
+        ensures { IfOk result (λ p. p ≡ group_plan (admin_lane (site_of self.now) definition.now) (say_of say) first back.now plan) }
     {
         let GroupPlan {
             note,
@@ -125,7 +126,7 @@ impl Site {
         requires valid { broken definition.now ≡ None }
         requires member { is_member definition.now self.now.here ≡ true }
         requires answered { is_member definition.now back.now ≡ true }
-        ensures { IfOk result (λ p. p ≡ Rattle.spl_rules.specs.Plans.service_plan self.now.here self.now.circuit (said say) definition.now back.now plan) }
+        ensures { IfOk result (λ p. p ≡ group_plan (service_lane (site_of self.now) definition.now) (say_of say) [] back.now plan) }
     {
         let GroupPlan {
             note,
@@ -153,7 +154,7 @@ impl Site {
     ) -> Result<Plan, AllocError>
         requires valid { broken definition.now ≡ None }
         requires member { is_member definition.now self.now.here ≡ true }
-        ensures { IfOk result (λ p. p ≡ both_plans self.now.here self.now.circuit definition.now acts batches) }
+        ensures { IfOk result (λ p. p ≡ both_plans (site_of self.now) definition.now acts batches) }
     {
         let changes = with_acts(ChangeList::new(alloc), acts.changes)?;
         let none = SendList::new(alloc);

@@ -1,9 +1,10 @@
 //! A node proposes a circuit.
 ghost use Rattle.std.specs.Prelude.{◌≡◌, true, None, IfOk};
 ghost use Rattle.spl_circuit.specs.Rules.{broken, is_member};
-ghost use Rattle.spl_rules.specs.Cells.{Binds, submitted, proposal, stale_or_held, proposes, proposes_at};
+ghost use Rattle.spl_rules.specs.Cells.{Binds, Submitted, proposal, stale_or_held, proposes, proposes_at};
 ghost use Rattle.spl_rules.specs.Plans.{planned};
 ghost use Rattle.spl_cell.specs.States.{cell_of};
+ghost use Rattle.spl_cell.specs.Sites.{site_of};
 
 use crate::plans::{Say, refuses};
 use crate::site::Site;
@@ -42,7 +43,7 @@ impl Site {
     fn submits(&self, alloc: Global, definition: &Definition) -> Result<Plan, AllocError>
         requires valid { broken definition.now ≡ None }
         requires member { is_member definition.now self.now.here ≡ true }
-        ensures { IfOk result (λ p. p ≡ planned self.now.here self.now.circuit (Binds submitted definition.now self.now.here (GroupEvent.Submit (proposal self.now.here definition.now)))) }
+        ensures { IfOk result (λ p. p ≡ planned (site_of self.now) (Binds Submitted definition.now self.now.here (GroupEvent.Submit (proposal self.now.here definition.now)))) }
     {
         let event = GroupEvent::Submit(self.proposal(alloc, definition)?);
         self.binds(alloc, Say::Submitted, definition, &self.here, &event)
@@ -57,7 +58,7 @@ impl Site {
     ) -> Result<Plan, AllocError>
         requires valid { broken definition.now ≡ None }
         requires member { is_member definition.now self.now.here ≡ true }
-        ensures { IfOk result (λ p. p ≡ planned self.now.here self.now.circuit (proposes_at self.now.here definition.now (cell_of state.now))) }
+        ensures { IfOk result (λ p. p ≡ planned (site_of self.now) (proposes_at (site_of self.now) definition.now (cell_of state.now))) }
     {
         match state {
             State::Empty => self.submits(alloc, definition),
@@ -82,7 +83,7 @@ impl Site {
         state: &State,
         definition: &Definition,
     ) -> Result<Plan, AllocError>
-        ensures { IfOk result (λ p. p ≡ planned self.now.here self.now.circuit (proposes self.now.here definition.now (cell_of state.now) (broken definition.now))) }
+        ensures { IfOk result (λ p. p ≡ planned (site_of self.now) (proposes (site_of self.now) definition.now (cell_of state.now) (broken definition.now))) }
     {
         if let Some(rule) = definition.fault() {
             return Ok(refuses(alloc, Refusal::BadDefinition(rule)));

@@ -1,7 +1,8 @@
 //! Messages of the groups of a circuit.
 ghost use Rattle.std.specs.Prelude.{◌≡◌, ◌++◌, true, None, IfOk};
 ghost use Rattle.spl_circuit.specs.Rules.{broken, is_member};
-ghost use Rattle.spl_rules.specs.Plans.{admin_sends, service_on, service_message, service_sends};
+ghost use Rattle.spl_rules.specs.Plans.{admin_lane, service_lane, service_on, group_sends};
+ghost use Rattle.spl_cell.specs.Sites.{site_of};
 
 use crate::node::node_or;
 use crate::site::Site;
@@ -24,7 +25,7 @@ fn service_on(definition: &Definition, node: &NodeId) -> ServiceId
 
 impl Site {
     /// The messages, and behind them those of the admin group of a definition.
-    #[tactic(auto, using(crate::proofs::Steps::admin_more))]
+    #[tactic(auto, using(crate::proofs::Steps::sends_more))]
     pub(crate) fn with_admin_sends(
         &self,
         first: SendList,
@@ -32,7 +33,7 @@ impl Site {
         back: &NodeId,
         messages: GroupSends<Act>,
     ) -> Result<SendList, AllocError>
-        ensures { IfOk result (λ ss. ss ≡ first ++ admin_sends self.now.circuit definition.now back.now messages) }
+        ensures { IfOk result (λ ss. ss ≡ first ++ group_sends (admin_lane (site_of self.now) definition.now) back.now messages) }
     {
         let mut sends = first;
         for (position, body) in messages.into_vec() {
@@ -54,7 +55,7 @@ impl Site {
         requires valid { broken definition.now ≡ None }
         requires member { is_member definition.now self.now.here ≡ true }
         requires sent { is_member definition.now to ≡ true }
-        ensures { result ≡ service_message self.now.here self.now.circuit definition.now to body }
+        ensures { result ≡ record { to = to; message = (service_lane (site_of self.now) definition.now).message to body } }
     {
         let message = Message::Scabbard {
             circuit: self.circuit,
@@ -66,7 +67,7 @@ impl Site {
     }
 
     /// The messages, and behind them those of the service group of a definition.
-    #[tactic(auto, using(crate::proofs::Steps::service_more, crate::proofs::Rosters::node_or_member))]
+    #[tactic(auto, using(crate::proofs::Steps::sends_more, crate::proofs::Rosters::node_or_member))]
     pub(crate) fn with_service_sends(
         &self,
         first: SendList,
@@ -77,7 +78,7 @@ impl Site {
         requires valid { broken definition.now ≡ None }
         requires member { is_member definition.now self.now.here ≡ true }
         requires answered { is_member definition.now back.now ≡ true }
-        ensures { IfOk result (λ ss. ss ≡ first ++ service_sends self.now.here self.now.circuit definition.now back.now messages) }
+        ensures { IfOk result (λ ss. ss ≡ first ++ group_sends (service_lane (site_of self.now) definition.now) back.now messages) }
     {
         let mut sends = first;
         for (position, body) in messages.into_vec() {

@@ -5,10 +5,11 @@ ghost use Rattle.spl_agree.specs.Fits.{generation_of};
 ghost use Rattle.spl_circuit.specs.Nodes.{position};
 ghost use Rattle.spl_circuit.specs.Rules.{is_member};
 ghost use Rattle.spl_wire.specs.declared.answer.Answer.TheVariants as answer;
-ghost use Rattle.spl_rules.specs.Cells.{Replies, Serves, Tells};
+ghost use Rattle.spl_rules.specs.Cells.{Replies, Serves, Tells, Delivered};
 ghost use Rattle.spl_rules.specs.Batches.{way, routed, serves_other, hears_routed, hears_service};
 ghost use Rattle.spl_rules.specs.Plans.{planned};
 ghost use Rattle.spl_cell.specs.Views.{IsSettledHeld};
+ghost use Rattle.spl_cell.specs.Sites.{site_of};
 
 use crate::hear::generation_of;
 use crate::held::Held;
@@ -33,13 +34,12 @@ impl Site {
         generation: Generation,
         round: Round,
     ) -> Result<Plan, AllocError>
-        ensures { IfOk result (λ p. p ≡ planned self.now.here self.now.circuit (Replies (Note.Declined round) from_node.now (Message.Scabbard self.now.circuit from to (CommitMsg.Vote generation round false)))) }
+        ensures { IfOk result (λ p. p ≡ planned (site_of self.now) (Replies (Note.Declined round) from_node.now (Message.Scabbard self.now.circuit from to (CommitMsg.Vote generation round false)))) }
     {
-        let yes = false;
         let body = CommitMsg::Vote {
             generation,
             round,
-            yes,
+            yes: false,
         };
         let circuit = self.circuit;
         let vote = Message::Scabbard {
@@ -60,7 +60,7 @@ impl Site {
         to: &ServiceId,
         body: &CommitMsg<Batch>,
     ) -> Result<Plan, AllocError>
-        ensures { IfOk result (λ p. p ≡ planned self.now.here self.now.circuit (serves_other self.now.circuit from_node.now from.now to.now body.now)) }
+        ensures { IfOk result (λ p. p ≡ planned (site_of self.now) (serves_other (site_of self.now) from_node.now from.now to.now body.now)) }
     {
         match body {
             CommitMsg::VoteRequest {
@@ -68,11 +68,7 @@ impl Site {
                 round,
                 ..
             } => self.declines_batch(alloc, from_node, *to, *from, *generation, *round),
-            CommitMsg::Vote { .. } => Ok(self.ignores(alloc)),
-            CommitMsg::Decision { .. } => Ok(self.ignores(alloc)),
-            CommitMsg::DecisionRequest { .. } => Ok(self.ignores(alloc)),
-            CommitMsg::Forward { .. } => Ok(self.ignores(alloc)),
-            CommitMsg::Refused { .. } => Ok(self.ignores(alloc)),
+            _ => Ok(self.ignores(alloc)),
         }
     }
 }
@@ -82,8 +78,8 @@ impl Held {
     /// that does comes from a member.
     #[tactic(auto, using(crate::proofs::Rosters::sender_is_member))]
     fn way(&self, from_node: &NodeId, from: &ServiceId, to: &ServiceId) -> Result<(), RouteFault>
-        ensures value { result ≡ way self.now.here self.now.definition self.now.mark self.now.acts from_node.now from.now to.now }
-        ensures member { IsOk result → is_member self.now.definition from_node.now ≡ true }
+        ensures value { result ≡ way self.now.site self.now.bound from_node.now from.now to.now }
+        ensures member { IsOk result → is_member self.now.bound.definition from_node.now ≡ true }
     {
         let active = self.is_open() && self.runs();
         let definition = Some(self.definition());
@@ -98,7 +94,7 @@ impl Held {
         from: &ServiceId,
         to: &ServiceId,
     ) -> Plan
-        ensures { result ≡ planned self.now.here self.now.circuit (routed (way self.now.here self.now.definition self.now.mark self.now.acts from_node.now from.now to.now) (Tells answer.Routed)) }
+        ensures { result ≡ planned self.now.site (routed (way self.now.site self.now.bound from_node.now from.now to.now) (Tells answer.Routed)) }
     {
         match self.way(from_node, from, to) {
             Ok(()) => tells_only(alloc, Answer::Routed),
@@ -115,10 +111,10 @@ impl Held {
         body: CommitMsg<Batch>,
     ) -> Result<Plan, AllocError>
         requires settled { IsSettledHeld self.now }
-        requires other { bytes_eq from_node.now self.now.here ≡ false }
-        requires member { is_member self.now.definition from_node.now ≡ true }
-        requires same { generation_of body ≡ self.now.definition.generation }
-        ensures { IfOk result (λ p. p ≡ planned self.now.here self.now.circuit (Serves answer.Delivered self.now.definition self.now.batches from_node.now (GroupEvent.From (position self.now.definition.members from_node.now) body))) }
+        requires other { bytes_eq from_node.now self.now.site.here ≡ false }
+        requires member { is_member self.now.bound.definition from_node.now ≡ true }
+        requires same { generation_of body ≡ self.now.bound.definition.generation }
+        ensures { IfOk result (λ p. p ≡ planned self.now.site (Serves Delivered self.now.bound from_node.now (GroupEvent.From (position self.now.bound.definition.members from_node.now) body))) }
     {
         let sender = position(self.definition().members.as_slice(), from_node);
         let event = GroupEvent::From {
@@ -138,9 +134,9 @@ impl Held {
         body: CommitMsg<Batch>,
     ) -> Result<Plan, AllocError>
         requires settled { IsSettledHeld self.now }
-        requires other { bytes_eq from_node.now self.now.here ≡ false }
-        requires member { is_member self.now.definition from_node.now ≡ true }
-        ensures { IfOk result (λ p. p ≡ planned self.now.here self.now.circuit (hears_routed self.now.circuit self.now.definition self.now.batches from_node.now from.now to.now body)) }
+        requires other { bytes_eq from_node.now self.now.site.here ≡ false }
+        requires member { is_member self.now.bound.definition from_node.now ≡ true }
+        ensures { IfOk result (λ p. p ≡ planned self.now.site (hears_routed self.now.site self.now.bound from_node.now from.now to.now body)) }
     {
         if generation_of(&body) != self.definition().generation {
             return self.site.serves_other(alloc, from_node, from, to, &body);
@@ -158,8 +154,8 @@ impl Held {
         body: CommitMsg<Batch>,
     ) -> Result<Plan, AllocError>
         requires settled { IsSettledHeld self.now }
-        requires other { bytes_eq from_node.now self.now.here ≡ false }
-        ensures { IfOk result (λ p. p ≡ planned self.now.here self.now.circuit (hears_service self.now.here self.now.circuit self.now.definition self.now.mark self.now.acts self.now.batches from_node.now from.now to.now body)) }
+        requires other { bytes_eq from_node.now self.now.site.here ≡ false }
+        ensures { IfOk result (λ p. p ≡ planned self.now.site (hears_service self.now.site self.now.bound from_node.now from.now to.now body)) }
     {
         match self.way(from_node, from, to) {
             Ok(()) => self.hears_routed(alloc, from_node, from, to, body),

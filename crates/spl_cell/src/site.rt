@@ -1,6 +1,7 @@
 //! A circuit at a node.
 ghost use Rattle.std.specs.Prelude.{◌≡◌};
 ghost use Rattle.spl_rules.specs.Valid.{IsNamed};
+ghost use Rattle.spl_cell.specs.Sites.{site_of};
 
 use spl_base::{CircuitId, NodeId};
 
@@ -15,7 +16,7 @@ impl Site {
     /// The ids are within their grammars.
     #[tactic(auto, using(spl_rules::proofs::Named::named_by))]
     pub fn is_named(&self)
-        ensures { IsNamed self.now.here self.now.circuit }
+        ensures { IsNamed (site_of self.now) }
     {
         let _ = self.here.bytes();
         let _ = self.circuit.bytes();

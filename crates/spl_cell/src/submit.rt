@@ -19,8 +19,8 @@ impl Held {
     /// A batch whose id isn't known here.
     fn submits_new(&self, alloc: Global, batch: &Batch) -> Result<Plan, AllocError>
         requires settled { IsSettledHeld self.now }
-        requires fresh { known batch_rules self.now.batches batch.now ≡ None }
-        ensures { IfOk result (λ p. p ≡ planned self.now.here self.now.circuit (submits_new self.now.here self.now.definition self.now.batches batch.now)) }
+        requires fresh { known batch_rules self.now.bound.batches batch.now ≡ None }
+        ensures { IfOk result (λ p. p ≡ planned self.now.site (submits_new self.now.site self.now.bound batch.now)) }
     {
         if self.batches_pending() == 64 {
             return Ok(refuses(alloc, Refusal::QueueFull));
@@ -32,7 +32,7 @@ impl Held {
     /// A batch that breaks no rule.
     fn submits_known(&self, alloc: Global, batch: &Batch) -> Result<Plan, AllocError>
         requires settled { IsSettledHeld self.now }
-        ensures { IfOk result (λ p. p ≡ planned self.now.here self.now.circuit (submits_known self.now.here self.now.definition self.now.batches batch.now (known batch_rules self.now.batches batch.now))) }
+        ensures { IfOk result (λ p. p ≡ planned self.now.site (submits_known self.now.site self.now.bound batch.now (known batch_rules self.now.bound.batches batch.now))) }
     {
         let Some(there) = self.batches.known(&batch.id) else {
             return self.submits_new(alloc, batch);
@@ -46,9 +46,9 @@ impl Held {
     /// The node submits a batch: it is queued, or the first reason against it is told.
     pub(crate) fn submits(&self, alloc: Global, batch: &Batch) -> Result<Plan, AllocError>
         requires settled { IsSettledHeld self.now }
-        ensures { IfOk result (λ p. p ≡ planned self.now.here self.now.circuit (submits self.now.here self.now.definition self.now.mark self.now.acts self.now.batches batch.now)) }
+        ensures { IfOk result (λ p. p ≡ planned self.now.site (submits self.now.site self.now.bound batch.now)) }
     {
-        if !self.runs() {
+        if !self.is_active() {
             return Ok(refuses(alloc, Refusal::NotActive));
         }
         if !self.is_open() {

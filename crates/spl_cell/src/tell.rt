@@ -25,44 +25,44 @@ fn pending_len<M: Agreed>(member: &Member<M>) -> u32
 impl Held {
     /// How many acts are committed here.
     fn acts_committed(&self) -> u32
-        ensures { result ≡ length self.now.acts.history }
+        ensures { result ≡ length self.now.bound.acts.history }
     {
         self.acts.history_len().0
     }
 
     /// How many acts are pending here.
     pub(crate) fn acts_pending(&self) -> u32
-        ensures value { result ≡ length self.now.acts.pending }
-        ensures few { length self.now.acts.pending ≤ 64 }
+        ensures value { result ≡ length self.now.bound.acts.pending }
+        ensures few { length self.now.bound.acts.pending ≤ 64 }
     {
         pending_len(&self.acts)
     }
 
     /// How many batches are committed here.
     pub(crate) fn batches_committed(&self) -> u32
-        ensures { result ≡ length self.now.batches.history }
+        ensures { result ≡ length self.now.bound.batches.history }
     {
         self.batches.history_len().0
     }
 
     /// How many batches are pending here.
     pub(crate) fn batches_pending(&self) -> u32
-        ensures value { result ≡ length self.now.batches.pending }
-        ensures few { length self.now.batches.pending ≤ 64 }
+        ensures value { result ≡ length self.now.bound.batches.pending }
+        ensures few { length self.now.bound.batches.pending ≤ 64 }
     {
         pending_len(&self.batches)
     }
 
     /// Whether a value is promised.
     pub(crate) fn has_promised(&self) -> bool
-        ensures { result ≡ is_some self.now.acts.promise }
+        ensures { result ≡ is_some self.now.bound.acts.promise }
     {
         self.acts.promised().is_some()
     }
 
     /// What the cell keeps, in numbers.
     pub(crate) fn shows(&self, alloc: Global) -> Result<Plan, AllocError>
-        ensures { IfOk result (λ p. p ≡ planned self.now.here self.now.circuit (Tells (shows self.now.definition self.now.mark self.now.acts self.now.batches))) }
+        ensures { IfOk result (λ p. p ≡ planned self.now.site (Tells (shows self.now.bound))) }
     {
         let answer = Answer::Show {
             generation: self.definition().generation,
@@ -80,7 +80,7 @@ impl Held {
     /// The definition, and where the circuit stands here.
     #[tactic(auto, using(spl_circuit::proofs::Valid::bounded_from_valid))]
     pub(crate) fn details(&self, alloc: Global) -> Result<Plan, AllocError>
-        ensures { IfOk result (λ p. p ≡ planned self.now.here self.now.circuit (Tells (details self.now.definition self.now.mark self.now.acts))) }
+        ensures { IfOk result (λ p. p ≡ planned self.now.site (Tells (details self.now.bound))) }
     {
         let definition = self.definition();
         let hash = definition.hash(alloc)?;

@@ -24,9 +24,9 @@ impl Held {
         batch: &GroupEvent<Batch>,
     ) -> Result<Plan, AllocError>
         requires settled { IsSettledHeld self.now }
-        requires admin { IsDue (admin_group self.now.definition) (position self.now.definition.members self.now.here) self.now.acts act.now }
-        requires service { IsDue (service_group self.now.definition) (position self.now.definition.members self.now.here) self.now.batches batch.now }
-        ensures { IfOk result (λ p. p ≡ planned self.now.here self.now.circuit (Turns self.now.definition self.now.acts self.now.batches act.now batch.now)) }
+        requires admin { IsDue (admin_group self.now.bound.definition) (position self.now.bound.definition.members self.now.site.here) self.now.bound.acts act.now }
+        requires service { IsDue (service_group self.now.bound.definition) (position self.now.bound.definition.members self.now.site.here) self.now.bound.batches batch.now }
+        ensures { IfOk result (λ p. p ≡ planned self.now.site (Turns self.now.bound act.now batch.now)) }
     {
         let acts = self.admin_row(alloc, act)?;
         let batches = self.service_row(alloc, batch)?;
@@ -42,9 +42,9 @@ impl Held {
         batch: &GroupEvent<Batch>,
     ) -> Result<Plan, AllocError>
         requires settled { IsSettledHeld self.now }
-        requires admin { IsDue (admin_group self.now.definition) (position self.now.definition.members self.now.here) self.now.acts act.now }
-        requires service { IsDue (service_group self.now.definition) (position self.now.definition.members self.now.here) self.now.batches batch.now }
-        ensures { IfOk result (λ p. p ≡ planned self.now.here self.now.circuit (turns self.now.here self.now.definition self.now.mark self.now.acts self.now.batches act.now batch.now)) }
+        requires admin { IsDue (admin_group self.now.bound.definition) (position self.now.bound.definition.members self.now.site.here) self.now.bound.acts act.now }
+        requires service { IsDue (service_group self.now.bound.definition) (position self.now.bound.definition.members self.now.site.here) self.now.bound.batches batch.now }
+        ensures { IfOk result (λ p. p ≡ planned self.now.site (turns self.now.site self.now.bound act.now batch.now)) }
     {
         if !self.is_open() {
             return Ok(refuses(alloc, Refusal::Closed));

@@ -26,7 +26,7 @@ impl Held {
     /// Whether the pending act at a position is one of a node.
     #[tactic(auto, using(crate::proofs::Pendings::get_seconds))]
     fn is_pending_of(&self, at: u32, node: &NodeId) -> bool
-        ensures { result ≡ some_is (λ v. bytes_eq v.node node.now) (slice_get self.now.acts.pending at) }
+        ensures { result ≡ some_is (λ v. bytes_eq v.node node.now) (slice_get self.now.bound.acts.pending at) }
     {
         match self.acts.queue().pending_at(at) {
             Some(act) => act.node == *node,
@@ -37,7 +37,7 @@ impl Held {
     /// Whether an act of a node is pending here.
     #[tactic(auto, using(crate::proofs::Pendings::any_step))]
     pub(crate) fn has_pending_of(&self, node: &NodeId) -> bool
-        ensures { result ≡ list_any (λ v. bytes_eq v.node node.now) self.now.acts.pending }
+        ensures { result ≡ list_any (λ v. bytes_eq v.node node.now) self.now.bound.acts.pending }
     {
         for i in 0..self.acts_pending() {
             if self.is_pending_of(i, node) {
@@ -49,8 +49,8 @@ impl Held {
 
     /// Whether the next act of this node is known here.
     fn knows_next(&self) -> bool
-        requires { self.now.turn < 2 ^ 32 - 1 }
-        ensures { result ≡ is_some (known (act_rules self.now.definition) self.now.acts (next_act self.now.here self.now.turn ActKind.Accept)) }
+        requires { self.now.bound.turn < 2 ^ 32 - 1 }
+        ensures { result ≡ is_some (known (act_rules self.now.bound.definition) self.now.bound.acts (next_act self.now.site.here self.now.bound.turn ActKind.Accept)) }
     {
         let key = ActKey {
             node: self.site.here,
@@ -61,9 +61,9 @@ impl Held {
 
     /// Whether no further act of this node may be pending here.
     fn is_act_pending(&self) -> bool
-        ensures pending { result ≡ is_act_pending self.now.definition self.now.here self.now.turn self.now.acts }
-        ensures turn { result ≡ false → self.now.turn < 2 ^ 32 - 1 }
-        ensures due { result ≡ false → (k : Kind) → IsDue (admin_group self.now.definition) (position self.now.definition.members self.now.here) self.now.acts (GroupEvent.Submit (next_act self.now.here self.now.turn k)) }
+        ensures pending { result ≡ is_act_pending self.now.site self.now.bound }
+        ensures turn { result ≡ false → self.now.bound.turn < 2 ^ 32 - 1 }
+        ensures due { result ≡ false → (k : Kind) → IsDue (admin_group self.now.bound.definition) (position self.now.bound.definition.members self.now.site.here) self.now.bound.acts (GroupEvent.Submit (next_act self.now.site.here self.now.bound.turn k)) }
     {
         if self.has_pending_of(&self.site.here) {
             return true;
@@ -79,8 +79,8 @@ impl Held {
 
     /// The next act of this node.
     fn next_act(&self, kind: ActKind) -> Act
-        requires { self.now.turn < 2 ^ 32 - 1 }
-        ensures { result ≡ next_act self.now.here self.now.turn kind }
+        requires { self.now.bound.turn < 2 ^ 32 - 1 }
+        ensures { result ≡ next_act self.now.site.here self.now.bound.turn kind }
     {
         Act {
             node: self.site.here,
@@ -91,14 +91,14 @@ impl Held {
 
     /// Whether the circuit is proposed here.
     fn is_proposed(&self) -> bool
-        ensures { result ≡ is_proposed (own_life self.now.definition self.now.acts).state }
+        ensures { result ≡ is_proposed (own_life self.now.bound).state }
     {
         matches!(self.lifecycle(), Lifecycle::Proposed)
     }
 
     /// Whether this node proposed the circuit.
     fn is_requester(&self) -> bool
-        ensures { result ≡ is_node (own_life self.now.definition self.now.acts).requester self.now.here }
+        ensures { result ≡ is_node (own_life self.now.bound).requester self.now.site.here }
     {
         match self.requester() {
             Some(node) => node == self.site.here,
@@ -109,7 +109,7 @@ impl Held {
     /// The node accepts or rejects.
     pub(crate) fn votes(&self, alloc: Global, kind: ActKind) -> Result<Plan, AllocError>
         requires settled { IsSettledHeld self.now }
-        ensures { IfOk result (λ p. p ≡ planned self.now.here self.now.circuit (votes self.now.here self.now.definition self.now.turn self.now.acts kind)) }
+        ensures { IfOk result (λ p. p ≡ planned self.now.site (votes self.now.site self.now.bound kind)) }
     {
         if self.is_act_pending() {
             return Ok(refuses(alloc, Refusal::ActPending));
@@ -127,7 +127,7 @@ impl Held {
     /// The node takes back what it proposed.
     pub(crate) fn removes(&self, alloc: Global) -> Result<Plan, AllocError>
         requires settled { IsSettledHeld self.now }
-        ensures { IfOk result (λ p. p ≡ planned self.now.here self.now.circuit (removes self.now.here self.now.definition self.now.turn self.now.acts)) }
+        ensures { IfOk result (λ p. p ≡ planned self.now.site (removes self.now.site self.now.bound)) }
     {
         if self.is_act_pending() {
             return Ok(refuses(alloc, Refusal::ActPending));

@@ -2,7 +2,7 @@
 use Rattle.std.proofs.Common.{◌≡◌, ℕ, zero, suc, ◌+◌, ◌⊎◌, inl, inr, true, false, true≢false, ◌||◌, List, [], ◌∷◌, ◌++◌, refl, ap, sym, ◌∙◌, arith}
 use Rattle.std.specs.Str.{bytes_eq}
 use Rattle.spl_base.specs.FormLaws.{both_true}
-use Rattle.spl_circuit.specs.Nodes.{Node, has_node, is_below, inserted, sorted}
+use Rattle.spl_circuit.specs.Nodes.{NodeId, CircuitId, has_node, is_below, inserted, sorted}
 use Rattle.spl_circuit.specs.Rules.{ascends, ascends_after}
 use Rattle.spl_circuit.proofs.Order.{below_turned}
 use Rattle.spl_wire.specs.declared.event.Event.TheVariants as event
@@ -15,11 +15,11 @@ use Rattle.spl_world.proofs.Sends.{bool_cases, bytes_are}
 
 -- ---- one more of each
 
-pub ticks_more : (c : Node) (z : Calming) (ns : List Node) (n : Node) → ticks c z (ns ++ n ∷ []) ≡ calming_step (ticks c z ns) (step.At n c event.Tick)
+pub ticks_more : (c : CircuitId) (z : Calming) (ns : List NodeId) (n : NodeId) → ticks c z (ns ++ n ∷ []) ≡ calming_step (ticks c z ns) (step.At n c event.Tick)
 ticks_more c z [] n = refl
 ticks_more c z (m ∷ ms) n = ticks_more c (calming_step z (step.At m c event.Tick)) ms n
 
-pub delivers_more : (c : Node) (z : Calming) (a b : Node) (number k : ℕ) → delivers c z a b number (suc k) ≡ calming_step (delivers c z a b number k) (step.Deliver a b c (number + k))
+pub delivers_more : (c : CircuitId) (z : Calming) (a b : NodeId) (number k : ℕ) → delivers c z a b number (suc k) ≡ calming_step (delivers c z a b number k) (step.Deliver a b c (number + k))
 delivers_more c z a b number zero = ap (λ (i : ℕ). calming_step z (step.Deliver a b c i)) (sym (plus_nothing number))
   where
     plus_nothing : (i : ℕ) → i + 0 ≡ i
@@ -29,27 +29,27 @@ delivers_more c z a b number (suc k) = delivers_more c (calming_step z (step.Del
     next : (i j : ℕ) → (i + 1) + j ≡ i + suc j
     next i j = omega arith
 
-pub to_all_more : (c : Node) (z : Calming) (a : Node) (ns : List Node) (n : Node) → to_all c z a (ns ++ n ∷ []) ≡ pair_turn c (to_all c z a ns) a n
+pub to_all_more : (c : CircuitId) (z : Calming) (a : NodeId) (ns : List NodeId) (n : NodeId) → to_all c z a (ns ++ n ∷ []) ≡ pair_turn c (to_all c z a ns) a n
 to_all_more c z a [] n = refl
 to_all_more c z a (m ∷ ms) n = to_all_more c (pair_turn c z a m) a ms n
 
-pub from_all_more : (c : Node) (z : Calming) (all ns : List Node) (n : Node) → from_all c z all (ns ++ n ∷ []) ≡ to_all c (from_all c z all ns) n all
+pub from_all_more : (c : CircuitId) (z : Calming) (all ns : List NodeId) (n : NodeId) → from_all c z all (ns ++ n ∷ []) ≡ to_all c (from_all c z all ns) n all
 from_all_more c z all [] n = refl
 from_all_more c z all (m ∷ ms) n = from_all_more c (to_all c z m all) all ms n
 
-passes_more : (c : Node) (ns : List Node) (k : ℕ) (z : Calming) → passes c ns (suc k) z ≡ pass c ns (passes c ns k z)
+passes_more : (c : CircuitId) (ns : List NodeId) (k : ℕ) (z : Calming) → passes c ns (suc k) z ≡ pass c ns (passes c ns k z)
 passes_more c ns zero z = refl
 passes_more c ns (suc k) z = passes_more c ns k (pass c ns z)
 
 next : (k : ℕ) → k + 1 ≡ suc k
 next k = omega arith
 
-pub passes_next : (c : Node) (ns : List Node) (k : ℕ) (z : Calming) → passes c ns (k + 1) z ≡ pass c ns (passes c ns k z)
+pub passes_next : (c : CircuitId) (ns : List NodeId) (k : ℕ) (z : Calming) → passes c ns (k + 1) z ≡ pass c ns (passes c ns k z)
 passes_next c ns k z = ap (λ (i : ℕ). passes c ns i z) (next k) ∙ passes_more c ns k z
 
 -- ---- what ticks leave as it was
 
-pub ticks_at : (c : Node) (z : Calming) (ns : List Node) (n : Node) → has_node ns n ≡ false → (ticks c z ns).world.at n ≡ z.world.at n
+pub ticks_at : (c : CircuitId) (z : Calming) (ns : List NodeId) (n : NodeId) → has_node ns n ≡ false → (ticks c z ns).world.at n ≡ z.world.at n
 ticks_at c z [] n h = refl
 ticks_at c z (m ∷ ms) n h = go (bool_cases (bytes_eq n m)) (bool_cases (bytes_eq m n)) (ticks_at c (calming_step z (step.At m c event.Tick)) ms n)
   where
@@ -58,22 +58,22 @@ ticks_at c z (m ∷ ms) n h = go (bool_cases (bytes_eq n m)) (bool_cases (bytes_
 
     go : (bytes_eq n m ≡ true) ⊎ (bytes_eq n m ≡ false) → (bytes_eq m n ≡ true) ⊎ (bytes_eq m n ≡ false) → (has_node ms n ≡ false → (ticks c (calming_step z (step.At m c event.Tick)) ms).world.at n ≡ (calming_step z (step.At m c event.Tick)).world.at n) → (ticks c z (m ∷ ms)).world.at n ≡ z.world.at n
     go p (inl q) rest = absurd (true≢false (sym (ap (λ t. t || has_node ms n) q) ∙ h))
-    go (inl p) (inr q) rest = absurd (true≢false (sym p ∙ ap (λ (k : Node). bytes_eq k m) (bytes_are n m p) ∙ ap (λ (k : Node). bytes_eq m k) (sym (bytes_are n m p)) ∙ q))
+    go (inl p) (inr q) rest = absurd (true≢false (sym p ∙ ap (λ (k : NodeId). bytes_eq k m) (bytes_are n m p) ∙ ap (λ (k : NodeId). bytes_eq m k) (sym (bytes_are n m p)) ∙ q))
     go (inr p) (inr q) rest = rest (off q) ∙ put_at-other z.world.at m n (after_plan m (z.world.at m) (step_plan z.world (step.At m c event.Tick))) p
 
 -- ---- ids that ascend
 
-below_not_in : (n : Node) (ns : List Node) → ascends_after n ns ≡ true → sorted ns ≡ ns → inserted n ns ≡ n ∷ ns
+below_not_in : (n : NodeId) (ns : List NodeId) → ascends_after n ns ≡ true → sorted ns ≡ ns → inserted n ns ≡ n ∷ ns
 below_not_in n [] h e = refl
 below_not_in n (m ∷ ms) h e = rw (below_turned n m (both_true (is_below n m) (ascends_after m ms) h).0) refl
 
-sorted_after : (p : Node) (ns : List Node) → ascends_after p ns ≡ true → sorted ns ≡ ns
+sorted_after : (p : NodeId) (ns : List NodeId) → ascends_after p ns ≡ true → sorted ns ≡ ns
 sorted_after p [] h = refl
 sorted_after p (n ∷ ns) h =
     let q = both_true (is_below p n) (ascends_after n ns) h in
     let e = sorted_after n ns q.1 in
     ap (inserted n) e ∙ below_not_in n ns q.1 e
 
-pub sorted_already : (ns : List Node) → ascends ns ≡ true → sorted ns ≡ ns
+pub sorted_already : (ns : List NodeId) → ascends ns ≡ true → sorted ns ≡ ns
 sorted_already [] h = refl
 sorted_already (n ∷ ns) h = let e = sorted_after n ns h in ap (inserted n) e ∙ below_not_in n ns h e

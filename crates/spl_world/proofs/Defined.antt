@@ -10,7 +10,7 @@ use Rattle.spl_base.specs.Ids.{is_lower, is_digit, is_node_byte, is_graphic, is_
 use Rattle.spl_circuit.specs.declared.definition.Service.{Service}
 use Rattle.spl_circuit.specs.declared.definition.Definition.{Definition}
 use Rattle.spl_circuit.specs.Forms.{node_id, label, service_id, circuit_id, byte, word, service, definition}
-use Rattle.spl_circuit.specs.Nodes.{Node}
+use Rattle.spl_circuit.specs.Nodes.{NodeId, CircuitId}
 use Rattle.spl_sched.specs.Grammar.{is_name, is_type, is_service, is_definition}
 use Rattle.spl_rules.proofs.Named.{named_node, named_circuit, named_service}
 use Rattle.spl_rules.proofs.Positions.{node_is}
@@ -55,9 +55,9 @@ service_form s h =
     let c = both_true (is_service_id s.id) (is_type s.kind) b.0 in
     and_true (service_id.fits s.id) _ (named_service s.id c.0) (and_true (label.fits s.kind) (node_id.fits s.node) (label_of_type s.kind c.1) (named_node s.node b.1))
 
-pub defined_by : (c : Node) (d : Definition) → IsTrue (is_circuit_id c) → bytes_eq d.id c ≡ true → is_definition d ≡ true → IsTrue (definition.fits d)
+pub defined_by : (c : CircuitId) (d : Definition) → IsTrue (is_circuit_id c) → bytes_eq d.id c ≡ true → is_definition d ≡ true → IsTrue (definition.fits d)
 defined_by c d k own h =
-    let id : IsTrue (circuit_id.fits d.id) = subst (λ (n : Node). IsTrue (circuit_id.fits n)) (sym (node_is d.id c own)) (named_circuit c k) in
+    let id : IsTrue (circuit_id.fits d.id) = subst (λ (n : NodeId). IsTrue (circuit_id.fits n)) (sym (node_is d.id c own)) (named_circuit c k) in
     let f = both_true _ ((nat_le 1 (length d.services) && nat_le (length d.services) 16) && list_all is_service d.services) h in
     let e = both_true _ ((nat_le 1 (length d.members) && nat_le (length d.members) 16) && list_all is_node_id d.members) f.0 in
     let name = both_true _ (is_name d.name) e.0 in

@@ -1,7 +1,7 @@
 -- A delivery in the world of its circuit.
 use Rattle.std.proofs.Common.{◌≡◌, ℕ, ◌+◌, ◌-◌, ◌⊎◌, inl, inr, true, false, List, [], ◌∷◌, ◌++◌, Some, None, slice_get, refl, ap, sym, ◌∙◌, subst, arith}
 use Rattle.std.specs.Str.{bytes_eq}
-use Rattle.spl_circuit.specs.Nodes.{Node}
+use Rattle.spl_circuit.specs.Nodes.{NodeId, CircuitId}
 use Rattle.spl_wire.specs.declared.message.Message.{Message}
 use Rattle.spl_wire.specs.declared.event.Event.TheVariants as event
 use Rattle.spl_wire.specs.declared.answer.Answer.{Answer}
@@ -10,10 +10,10 @@ use Rattle.spl_wire.specs.declared.answer.Refusal.TheVariants as refusal
 use Rattle.spl_sched.specs.declared.line.Step.{Step}
 use Rattle.spl_sched.specs.declared.line.Step.TheVariants as step
 use Rattle.spl_sched.specs.Grammar.{step_node}
-use Rattle.spl_rules.specs.Cells.{Cell, Empty, Held, Purged}
+use Rattle.spl_rules.specs.Cells.{Cell, Held}
 use Rattle.spl_rules.specs.Plans.{plan_of, tells_only}
 use Rattle.spl_rules.specs.Changes.{after_plan}
-use Rattle.spl_model.specs.Worlds.{World as CircuitWorld, Sent, messages, delivery, on_pair, put_at, carried_out, step_plan, step_world}
+use Rattle.spl_model.specs.Worlds.{site_at, World as CircuitWorld, Sent, messages, delivery, on_pair, put_at, carried_out, step_plan, step_world}
 use Rattle.spl_model.specs.Puts.{put_at-here, put_at-other}
 use Rattle.spl_world.specs.Kept.{NodeView}
 use Rattle.spl_world.specs.Views.{Holds, Moves}
@@ -23,14 +23,14 @@ use Rattle.spl_world.proofs.Sends.{bool_cases, bytes_are}
 number : (index : ℕ) → (index + 1) - 1 ≡ index
 number index = omega arith
 
-pub delivery_is : (m : CircuitWorld) (c a b : Node) (index : ℕ) (x : Message) → slice_get (messages m a b) index ≡ Some x → m.up b ≡ true → plan_of b c (m.at b) (event.Deliver a x) ≡ step_plan m (step.Deliver a b c (index + 1))
+pub delivery_is : (m : CircuitWorld) (c : CircuitId) (a b : NodeId) (index : ℕ) (x : Message) → slice_get (messages m a b) index ≡ Some x → m.up b ≡ true → plan_of (site_at b c) (m.at b) (event.Deliver a x) ≡ step_plan m (step.Deliver a b c (index + 1))
 delivery_is m c a b index x found up = sym (step_up m (step.Deliver a b c (index + 1)) up ∙ (ap (λ (k : ℕ). delivery c m a b (slice_get (messages m a b) k)) (number index) ∙ ap (delivery c m a b) found))
 
-pub no_delivery : (m : CircuitWorld) (c a b : Node) (index : ℕ) → slice_get (messages m a b) index ≡ None → m.up b ≡ true → step_plan m (step.Deliver a b c (index + 1)) ≡ tells_only (answer.Refused refusal.NoMessage)
+pub no_delivery : (m : CircuitWorld) (c : CircuitId) (a b : NodeId) (index : ℕ) → slice_get (messages m a b) index ≡ None → m.up b ≡ true → step_plan m (step.Deliver a b c (index + 1)) ≡ tells_only (answer.Refused refusal.NoMessage)
 no_delivery m c a b index found up = step_up m (step.Deliver a b c (index + 1)) up ∙ ap (λ (k : ℕ). delivery c m a b (slice_get (messages m a b) k)) (number index) ∙ ap (delivery c m a b) found
 
 -- the same by other words
-pub moves_as : (c : Node) (f g : CircuitWorld → CircuitWorld) (xs ys : List NodeView) → ((m : CircuitWorld) → Holds c m xs → f m ≡ g m) → Moves c f xs ys → Moves c g xs ys
+pub moves_as : (c : CircuitId) (f g : CircuitWorld → CircuitWorld) (xs ys : List NodeView) → ((m : CircuitWorld) → Holds c m xs → f m ≡ g m) → Moves c f xs ys → Moves c g xs ys
 moves_as c f g xs ys same mv = record {
   own = λ m h. subst (λ (k : CircuitWorld). Holds c k ys) (same m h) (mv.own m h);
   others = mv.others;
@@ -38,23 +38,22 @@ moves_as c f g xs ys same mv = record {
 
 -- ---- an answer alone moves nothing
 
-quiet : (here : Node) (k : Cell) (a : Answer) → after_plan here k (tells_only a) ≡ k
-quiet here Empty a = refl
-quiet here (Purged old) a = refl
-quiet here (Held d m turn acts batches) a = refl
+quiet : (here : NodeId) (k : Cell) (a : Answer) → after_plan here k (tells_only a) ≡ k
+quiet here (Held h) a = refl
+quiet here _ a = refl
 
 append_nothing : (xs : List Sent) → xs ++ [] ≡ xs
 append_nothing [] = refl
 append_nothing (x ∷ xs) = ap (λ ys. x ∷ ys) (append_nothing xs)
 
-quiet_at : (m : CircuitWorld) (n z : Node) (a : Answer) → put_at m.at n (after_plan n (m.at n) (tells_only a)) z ≡ m.at z
+quiet_at : (m : CircuitWorld) (n z : NodeId) (a : Answer) → put_at m.at n (after_plan n (m.at n) (tells_only a)) z ≡ m.at z
 quiet_at m n z a = go (bool_cases (bytes_eq z n))
   where
     go : (bytes_eq z n ≡ true) ⊎ (bytes_eq z n ≡ false) → put_at m.at n (after_plan n (m.at n) (tells_only a)) z ≡ m.at z
     go (inl q) = put_at-here m.at n z (after_plan n (m.at n) (tells_only a)) q ∙ quiet n (m.at n) a ∙ ap m.at (sym (bytes_are z n q))
     go (inr q) = put_at-other m.at n z (after_plan n (m.at n) (tells_only a)) q
 
-pub quiet_holds : (c n : Node) (m : CircuitWorld) (a : Answer) (xs : List NodeView) → Holds c m xs → Holds c (carried_out m n (tells_only a)) xs
+pub quiet_holds : (c : CircuitId) (n : NodeId) (m : CircuitWorld) (a : Answer) (xs : List NodeView) → Holds c m xs → Holds c (carried_out m n (tells_only a)) xs
 quiet_holds c n m a xs h = record {
   ordered = h.ordered;
   nodes = h.nodes;
@@ -66,7 +65,7 @@ quiet_holds c n m a xs h = record {
 }
 
 -- so a step at a node that is down
-pub down_moves : (c : Node) (s : Step) (xs : List NodeView) → ((m : CircuitWorld) → Holds c m xs → m.up (step_node s) ≡ false) → Moves c (λ m. step_world m s) xs xs
+pub down_moves : (c : CircuitId) (s : Step) (xs : List NodeView) → ((m : CircuitWorld) → Holds c m xs → m.up (step_node s) ≡ false) → Moves c (λ m. step_world m s) xs xs
 down_moves c s xs down = record {
   own = λ m h. subst (λ (w : CircuitWorld). Holds c w xs) (sym (world_down m s (down m h))) (quiet_holds c (step_node s) m (answer.Refused refusal.Down) xs h);
   others = λ d m off h. h;

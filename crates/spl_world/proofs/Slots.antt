@@ -3,14 +3,14 @@ use Rattle.std.proofs.Common.{◌≡◌, ℕ, zero, suc, ◌+◌, ◌<◌, ◌�
 use Rattle.std.specs.List.{position_from}
 use Rattle.std.specs.Str.{bytes_eq}
 use Rattle.spl_base.specs.FormLaws.{both_true}
-use Rattle.spl_circuit.specs.Nodes.{Node, has_node, is_below}
+use Rattle.spl_circuit.specs.Nodes.{NodeId, has_node, is_below}
 use Rattle.spl_circuit.specs.Rules.{ascends, ascends_after}
 use Rattle.spl_circuit.proofs.Order.{below_trans, not_below_itself}
 use Rattle.spl_world.specs.Kept.{NodeView}
 use Rattle.spl_world.specs.Views.{ids_in, has_id}
 use Rattle.spl_world.proofs.Sends.{bool_cases, bytes_are}
 
-pub known_is_found : (xs : List NodeView) (n : Node) (k : ℕ) → has_node (ids_in xs) n ≡ true → IsSome (position_from (has_id n) k xs)
+pub known_is_found : (xs : List NodeView) (n : NodeId) (k : ℕ) → has_node (ids_in xs) n ≡ true → IsSome (position_from (has_id n) k xs)
 known_is_found [] n k h = cc
 known_is_found (x ∷ xs) n k h = go (bool_cases (has_id n x)) (known_is_found xs n (k + 1))
   where
@@ -18,7 +18,7 @@ known_is_found (x ∷ xs) n k h = go (bool_cases (has_id n x)) (known_is_found x
     go (inl q) more = rw q refl
     go (inr q) more = rw q (more (rw q at h))
 
-found_from : (xs : List NodeView) (n : Node) (k j : ℕ) → position_from (has_id n) k xs ≡ Some j → (i : ℕ) × (j ≡ k + i) × (slice_get (ids_in xs) i ≡ Some n)
+found_from : (xs : List NodeView) (n : NodeId) (k j : ℕ) → position_from (has_id n) k xs ≡ Some j → (i : ℕ) × (j ≡ k + i) × (slice_get (ids_in xs) i ≡ Some n)
 found_from [] n k j h = cc
 found_from (x ∷ xs) n k j h = go (bool_cases (has_id n x)) (found_from xs n (k + 1) j)
   where
@@ -29,14 +29,14 @@ found_from (x ∷ xs) n k j h = go (bool_cases (has_id n x)) (found_from xs n (k
     go (inl q) more = let here : Some k ≡ Some j = rw q at h in let same : k ≡ j = cc in let e : j ≡ k + 0 = omega (arith, same) in (0, e, ap Some (bytes_are x.id n q))
     go (inr q) more = later (more (rw q at h))
 
-pub found_at : (xs : List NodeView) (n : Node) (j : ℕ) → position_from (has_id n) 0 xs ≡ Some j → slice_get (ids_in xs) j ≡ Some n
+pub found_at : (xs : List NodeView) (n : NodeId) (j : ℕ) → position_from (has_id n) 0 xs ≡ Some j → slice_get (ids_in xs) j ≡ Some n
 found_at xs n j h = let r = found_from xs n 0 j h in let e : r.0 ≡ j = omega (arith, r.1) in subst (λ (i : ℕ). slice_get (ids_in xs) i ≡ Some n) e r.2
 
 pub length_ids : (xs : List NodeView) → length (ids_in xs) ≡ length xs
 length_ids [] = refl
 length_ids (x ∷ xs) = ap suc (length_ids xs)
 
-pub at_below : (xs : List NodeView) (i : ℕ) (n : Node) → slice_get (ids_in xs) i ≡ Some n → i < length xs
+pub at_below : (xs : List NodeView) (i : ℕ) (n : NodeId) → slice_get (ids_in xs) i ≡ Some n → i < length xs
 at_below [] i n h = absurd cc
 at_below (x ∷ xs) zero n h = omega arith
 at_below (x ∷ xs) (suc i) n h = let r : i < length xs = at_below xs i n h in omega (arith, r)
@@ -47,7 +47,7 @@ id_at [] i x h = absurd cc
 id_at (y ∷ xs) zero x h = let same : y ≡ x = cc in ap (λ (z : NodeView). Some z.id) same
 id_at (y ∷ xs) (suc i) x h = id_at xs i x h
 
-pub same_at : (xs : List NodeView) (i : ℕ) (x : NodeView) (n : Node) → slice_get xs i ≡ Some x → slice_get (ids_in xs) i ≡ Some n → x.id ≡ n
+pub same_at : (xs : List NodeView) (i : ℕ) (x : NodeView) (n : NodeId) → slice_get xs i ≡ Some x → slice_get (ids_in xs) i ≡ Some n → x.id ≡ n
 same_at xs i x n h e = let q : Some x.id ≡ Some n = sym (id_at xs i x h) ∙ e in cc
 
 pub same_ids : (xs : List NodeView) (i : ℕ) (x y : NodeView) → slice_get xs i ≡ Some x → y.id ≡ x.id → ids_in (slice_set xs i y) ≡ ids_in xs
@@ -69,36 +69,36 @@ set_cases (x ∷ xs) (suc i) (suc j) y z h = go (set_cases xs i j y z h)
 
 -- ---- ids that ascend are apart
 
-pub below_after : (p : Node) (ns : List Node) (j : ℕ) (b : Node) → ascends_after p ns ≡ true → slice_get ns j ≡ Some b → is_below p b ≡ true
+pub below_after : (p : NodeId) (ns : List NodeId) (j : ℕ) (b : NodeId) → ascends_after p ns ≡ true → slice_get ns j ≡ Some b → is_below p b ≡ true
 below_after p [] j b a e = absurd cc
-below_after p (n ∷ ns) zero b a e = let same : n ≡ b = cc in subst (λ (m : Node). is_below p m ≡ true) same (both_true (is_below p n) (ascends_after n ns) a).0
+below_after p (n ∷ ns) zero b a e = let same : n ≡ b = cc in subst (λ (m : NodeId). is_below p m ≡ true) same (both_true (is_below p n) (ascends_after n ns) a).0
 below_after p (n ∷ ns) (suc j) b a e =
     let h = both_true (is_below p n) (ascends_after n ns) a in
     below_trans p n b h.0 (below_after n ns j b h.1 e)
 
-pub differ : (a b : Node) → is_below a b ≡ true → bytes_eq a b ≡ false
+pub differ : (a b : NodeId) → is_below a b ≡ true → bytes_eq a b ≡ false
 differ a b p = by (bool_cases (bytes_eq a b))
   where
     by : (bytes_eq a b ≡ true) ⊎ (bytes_eq a b ≡ false) → bytes_eq a b ≡ false
-    by (inl q) = absurd (true≢false (sym p ∙ ap (λ (v : Node). is_below v b) (bytes_are a b q) ∙ not_below_itself b))
+    by (inl q) = absurd (true≢false (sym p ∙ ap (λ (v : NodeId). is_below v b) (bytes_are a b q) ∙ not_below_itself b))
     by (inr q) = q
 
-pub differ_back : (a b : Node) → is_below a b ≡ true → bytes_eq b a ≡ false
+pub differ_back : (a b : NodeId) → is_below a b ≡ true → bytes_eq b a ≡ false
 differ_back a b p = by (bool_cases (bytes_eq b a))
   where
     by : (bytes_eq b a ≡ true) ⊎ (bytes_eq b a ≡ false) → bytes_eq b a ≡ false
-    by (inl q) = absurd (true≢false (sym p ∙ ap (λ (v : Node). is_below a v) (bytes_are b a q) ∙ not_below_itself a))
+    by (inl q) = absurd (true≢false (sym p ∙ ap (λ (v : NodeId). is_below a v) (bytes_are b a q) ∙ not_below_itself a))
     by (inr q) = q
 
-pub tail_ascends : (n : Node) (ns : List Node) → ascends (n ∷ ns) ≡ true → ascends ns ≡ true
+pub tail_ascends : (n : NodeId) (ns : List NodeId) → ascends (n ∷ ns) ≡ true → ascends ns ≡ true
 tail_ascends n [] a = refl
 tail_ascends n (m ∷ ms) a = (both_true (is_below n m) (ascends_after m ms) a).1
 
-pub apart : (ns : List Node) (i j : ℕ) (a b : Node) → ascends ns ≡ true → slice_get ns i ≡ Some a → slice_get ns j ≡ Some b → (j ≡ i → ⊥) → bytes_eq b a ≡ false
+pub apart : (ns : List NodeId) (i j : ℕ) (a b : NodeId) → ascends ns ≡ true → slice_get ns i ≡ Some a → slice_get ns j ≡ Some b → (j ≡ i → ⊥) → bytes_eq b a ≡ false
 apart [] i j a b h e f ne = absurd cc
 apart (n ∷ ns) zero zero a b h e f ne = absurd (ne refl)
-apart (n ∷ ns) zero (suc j) a b h e f ne = let same : n ≡ a = cc in subst (λ (m : Node). bytes_eq b m ≡ false) same (differ_back n b (below_after n ns j b h f))
-apart (n ∷ ns) (suc i) zero a b h e f ne = let same : n ≡ b = cc in subst (λ (m : Node). bytes_eq m a ≡ false) same (differ n a (below_after n ns i a h e))
+apart (n ∷ ns) zero (suc j) a b h e f ne = let same : n ≡ a = cc in subst (λ (m : NodeId). bytes_eq b m ≡ false) same (differ_back n b (below_after n ns j b h f))
+apart (n ∷ ns) (suc i) zero a b h e f ne = let same : n ≡ b = cc in subst (λ (m : NodeId). bytes_eq m a ≡ false) same (differ n a (below_after n ns i a h e))
 apart (n ∷ ns) (suc i) (suc j) a b h e f ne = apart ns i j a b (tail_ascends n ns h) e f (λ q. ne (ap suc q))
 
 -- ---- the first ids, and one more
@@ -114,7 +114,7 @@ plus_one i = omega arith
 pub take_one : {X : Type 0} (xs : List X) (i : ℕ) (x : X) → slice_get xs i ≡ Some x → take (i + 1) xs ≡ take i xs ++ x ∷ []
 take_one xs i x e = ap (λ (k : ℕ). take k xs) (plus_one i) ∙ take_suc xs i x e
 
-pub some_at : (xs : List NodeView) (i : ℕ) → i < length xs → (n : Node) × (slice_get (ids_in xs) i ≡ Some n)
+pub some_at : (xs : List NodeView) (i : ℕ) → i < length xs → (n : NodeId) × (slice_get (ids_in xs) i ≡ Some n)
 some_at [] i h = absurd (omega (arith, h))
 some_at (x ∷ xs) zero h = (x.id, refl)
 some_at (x ∷ xs) (suc i) h = let r : i < length xs = omega (arith, h) in some_at xs i r
@@ -122,7 +122,7 @@ some_at (x ∷ xs) (suc i) h = let r : i < length xs = omega (arith, h) in some_
 pub same_length : (xs ys : List NodeView) → ids_in ys ≡ ids_in xs → length ys ≡ length xs
 same_length xs ys e = sym (length_ids ys) ∙ ap length e ∙ length_ids xs
 
-pub not_before : (ns : List Node) (i : ℕ) (n : Node) → ascends ns ≡ true → slice_get ns i ≡ Some n → has_node (take i ns) n ≡ false
+pub not_before : (ns : List NodeId) (i : ℕ) (n : NodeId) → ascends ns ≡ true → slice_get ns i ≡ Some n → has_node (take i ns) n ≡ false
 not_before [] i n a e = absurd cc
 not_before (m ∷ ms) zero n a e = refl
 not_before (m ∷ ms) (suc i) n a e = rw (differ m n (below_after m ms i n a e)) (not_before ms i n (tail_ascends m ms a) e)

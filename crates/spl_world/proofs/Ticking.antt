@@ -3,7 +3,7 @@ use Rattle.std.proofs.Common.{◌≡◌, ℕ, ◌+◌, ◌⊎◌, inl, inr, Bool
 use Rattle.std.specs.List.{filter}
 use Rattle.std.proofs.lemmas.List.Elements.{filter-append}
 use Rattle.std.specs.Str.{bytes_eq}
-use Rattle.spl_circuit.specs.Nodes.{Node, has_node}
+use Rattle.spl_circuit.specs.Nodes.{NodeId, CircuitId, has_node}
 use Rattle.spl_wire.specs.declared.event.Event.TheVariants as event
 use Rattle.spl_sched.specs.declared.line.Step.TheVariants as step
 use Rattle.spl_rules.specs.Cells.{Cell, is_open_cell}
@@ -20,14 +20,14 @@ use Rattle.spl_world.proofs.Sends.{bool_cases}
 use Rattle.spl_world.proofs.Slots.{take_one, not_before}
 
 -- the world behind the ticks of these nodes
-abbrev pub ticked : Node → Calming → List Node → CircuitWorld → CircuitWorld
+abbrev pub ticked : CircuitId → Calming → List NodeId → CircuitWorld → CircuitWorld
 ticked c z ns m = (ticks c (record z { world = m }) (open_nodes m ns)).world
 
-append_nothing : (xs : List Node) → xs ++ [] ≡ xs
+append_nothing : (xs : List NodeId) → xs ++ [] ≡ xs
 append_nothing [] = refl
 append_nothing (x ∷ xs) = ap (λ ys. x ∷ ys) (append_nothing xs)
 
-without : (p : Node → Bool) (xs : List Node) (n : Node) → has_node xs n ≡ false → has_node (filter p xs) n ≡ false
+without : (p : NodeId → Bool) (xs : List NodeId) (n : NodeId) → has_node xs n ≡ false → has_node (filter p xs) n ≡ false
 without p [] n h = refl
 without p (x ∷ xs) n h = go (bool_cases (bytes_eq x n)) (bool_cases (p x)) (without p xs n)
   where
@@ -36,8 +36,8 @@ without p (x ∷ xs) n h = go (bool_cases (bytes_eq x n)) (bool_cases (p x)) (wi
     go (inr q) (inl r) rest = rw (r, q) (rest (rw q at h))
     go (inr q) (inr r) rest = rw r (rest (rw q at h))
 
-module _ (c : Node) (z : Calming) (ids : List Node) (i : ℕ) (n : Node) (m : CircuitWorld) (at : slice_get ids i ≡ Some n) where
-  abbrev is_ticked : Node → Bool
+module _ (c : CircuitId) (z : Calming) (ids : List NodeId) (i : ℕ) (n : NodeId) (m : CircuitWorld) (at : slice_get ids i ≡ Some n) where
+  abbrev is_ticked : NodeId → Bool
   is_ticked k = m.up k && is_open_cell (m.at k)
 
   more : open_nodes m (take (i + 1) ids) ≡ open_nodes m (take i ids) ++ filter is_ticked (n ∷ [])
@@ -48,7 +48,7 @@ module _ (c : Node) (z : Calming) (ids : List Node) (i : ℕ) (n : Node) (m : Ci
 
   -- whether the node is ticked, behind the ticks of others
   now : has_node (take i ids) n ≡ false → ((ticked c z (take i ids) m).up n && is_open_cell ((ticked c z (take i ids) m).at n)) ≡ is_ticked n
-  now h = ap (λ (f : Node → Bool). f n && is_open_cell ((ticked c z (take i ids) m).at n)) (ticks-up c (record z { world = m }) (open_nodes m (take i ids))) ∙ ap (λ (k : Cell). m.up n && is_open_cell k) (untouched h)
+  now h = ap (λ (f : NodeId → Bool). f n && is_open_cell ((ticked c z (take i ids) m).at n)) (ticks-up c (record z { world = m }) (open_nodes m (take i ids))) ∙ ap (λ (k : Cell). m.up n && is_open_cell k) (untouched h)
 
   pub open_more : has_node (take i ids) n ≡ false → ((ticked c z (take i ids) m).up n && is_open_cell ((ticked c z (take i ids) m).at n)) ≡ true → step_world (ticked c z (take i ids) m) (step.At n c event.Tick) ≡ ticked c z (take (i + 1) ids) m
   open_more h opened =
@@ -63,18 +63,18 @@ module _ (c : Node) (z : Calming) (ids : List Node) (i : ℕ) (n : Node) (m : Ci
       sym (ap (λ ns. (ticks c (record z { world = m }) ns).world) (more ∙ ap (λ ns. open_nodes m (take i ids) ++ ns) none ∙ append_nothing (open_nodes m (take i ids))))
 
 -- one node more
-pub tick_more : (c : Node) (z : Calming) (ids : List Node) (i : ℕ) (n : Node) (m : CircuitWorld) → slice_get ids i ≡ Some n → has_node (take i ids) n ≡ false → tick_at c n (ticked c z (take i ids) m) ≡ ticked c z (take (i + 1) ids) m
+pub tick_more : (c : CircuitId) (z : Calming) (ids : List NodeId) (i : ℕ) (n : NodeId) (m : CircuitWorld) → slice_get ids i ≡ Some n → has_node (take i ids) n ≡ false → tick_at c n (ticked c z (take i ids) m) ≡ ticked c z (take (i + 1) ids) m
 tick_more c z ids i n m at h = go (bool_cases ((ticked c z (take i ids) m).up n && is_open_cell ((ticked c z (take i ids) m).at n)))
   where
     go : (((ticked c z (take i ids) m).up n && is_open_cell ((ticked c z (take i ids) m).at n)) ≡ true) ⊎ (((ticked c z (take i ids) m).up n && is_open_cell ((ticked c z (take i ids) m).at n)) ≡ false) → tick_at c n (ticked c z (take i ids) m) ≡ ticked c z (take (i + 1) ids) m
     go (inl q) = rw q (open_more c z ids i n m at h q)
     go (inr q) = rw q (closed_more c z ids i n m at h q)
 
-pub tick_moves : (c : Node) (z : Calming) (xs ys zs : List NodeView) (i : ℕ) (n : Node) → slice_get (ids_in xs) i ≡ Some n → Moves c (ticked c z (take i (ids_in xs))) xs ys → Moves c (tick_at c n) ys zs → Moves c (ticked c z (take (i + 1) (ids_in xs))) xs zs
+pub tick_moves : (c : CircuitId) (z : Calming) (xs ys zs : List NodeView) (i : ℕ) (n : NodeId) → slice_get (ids_in xs) i ≡ Some n → Moves c (ticked c z (take i (ids_in xs))) xs ys → Moves c (tick_at c n) ys zs → Moves c (ticked c z (take (i + 1) (ids_in xs))) xs zs
 tick_moves c z xs ys zs i n at so_far tick =
     moves_as c (λ m. tick_at c n (ticked c z (take i (ids_in xs)) m)) (ticked c z (take (i + 1) (ids_in xs))) xs zs
     (λ m h. tick_more c z (ids_in xs) i n m at (not_before (ids_in xs) i n h.ordered at))
     (moves_then c (ticked c z (take i (ids_in xs))) (tick_at c n) xs ys zs so_far tick)
 
-pub opened_tick : (c n : Node) (m : CircuitWorld) → (m.up n && is_open_cell (m.at n)) ≡ true → step_world m (step.At n c event.Tick) ≡ tick_at c n m
+pub opened_tick : (c : CircuitId) (n : NodeId) (m : CircuitWorld) → (m.up n && is_open_cell (m.at n)) ≡ true → step_world m (step.At n c event.Tick) ≡ tick_at c n m
 opened_tick c n m h = rw h refl

@@ -1,6 +1,6 @@
 -- Where a node is up.
 use Rattle.std.proofs.Common.{◌≡◌, ℕ, zero, suc, Bool, true, false, List, [], ◌∷◌, Some, slice_get, slice_set, if◌then◌else◌, refl, ap, sym, ◌∙◌}
-use Rattle.spl_circuit.specs.Nodes.{Node}
+use Rattle.spl_circuit.specs.Nodes.{NodeId, CircuitId}
 use Rattle.spl_wire.specs.declared.answer.Answer.TheVariants as answer
 use Rattle.spl_wire.specs.declared.answer.Refusal.TheVariants as refusal
 use Rattle.spl_sched.specs.declared.line.Step.{Step}
@@ -35,10 +35,10 @@ found (y ∷ xs) zero h = (y, refl)
 found (y ∷ xs) (suc i) h = found xs i h
 
 -- it is up in each world that the nodes stand for
-pub up_as : (c : Node) (m : CircuitWorld) (xs : List NodeView) (i : ℕ) (x : NodeView) (n : Node) → Holds c m xs → slice_get xs i ≡ Some x → slice_get (ids_in xs) i ≡ Some n → x.up ≡ m.up n
+pub up_as : (c : CircuitId) (m : CircuitWorld) (xs : List NodeView) (i : ℕ) (x : NodeView) (n : NodeId) → Holds c m xs → slice_get xs i ≡ Some x → slice_get (ids_in xs) i ≡ Some n → x.up ≡ m.up n
 up_as c m xs i x n h there at = (h.each i x there).up ∙ ap m.up (same_at xs i x n there at)
 
-pub node_up : (c : Node) (m : CircuitWorld) (xs : List NodeView) (i : ℕ) (n : Node) → Holds c m xs → slice_get (ids_in xs) i ≡ Some n → IsUp xs i → m.up n ≡ true
+pub node_up : (c : CircuitId) (m : CircuitWorld) (xs : List NodeView) (i : ℕ) (n : NodeId) → Holds c m xs → slice_get (ids_in xs) i ≡ Some n → IsUp xs i → m.up n ≡ true
 node_up c m xs i n h at up =
     let x = found xs i up in
     let is : Some x.0.up ≡ Some true = sym (up_at xs i x.0 x.1) ∙ up in

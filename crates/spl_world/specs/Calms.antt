@@ -1,23 +1,23 @@
 -- What the nodes do in a calm, and how many messages of each pair need no delivery any more (docs/RULES.md, Calm).
 use Rattle.std.specs.Prelude.{◌≡◌, ℕ, ◌&&◌, List, [], ◌∷◌, length, Some, slice_get, if◌then◌else◌}
 use Rattle.std.specs.Global.{Vec}
-use Rattle.spl_circuit.specs.Nodes.{Node}
+use Rattle.spl_circuit.specs.Nodes.{NodeId, CircuitId}
 use Rattle.spl_wire.specs.declared.event.Event.TheVariants as event
 use Rattle.spl_sched.specs.declared.line.Step.TheVariants as step
 use Rattle.spl_rules.specs.Cells.{is_open_cell}
 use Rattle.spl_model.specs.Worlds.{World as CircuitWorld, messages, step_world}
 
 -- a tick, where the node is up and the circuit bound and open there
-abbrev pub tick_at : Node → Node → CircuitWorld → CircuitWorld
+abbrev pub tick_at : CircuitId → NodeId → CircuitWorld → CircuitWorld
 tick_at c n m = if m.up n && is_open_cell (m.at n) then step_world m (step.At n c event.Tick) else m
 
 -- what a count has for one sender, by recipient
-abbrev pub row_of : (Node → Node → ℕ) → Node → List Node → List ℕ
+abbrev pub row_of : (NodeId → NodeId → ℕ) → NodeId → List NodeId → List ℕ
 row_of f a [] = []
 row_of f a (b ∷ bs) = f a b ∷ row_of f a bs
 
 -- how many messages each pair has
-abbrev pub sent_count : CircuitWorld → Node → Node → ℕ
+abbrev pub sent_count : CircuitWorld → NodeId → NodeId → ℕ
 sent_count m a b = length (messages m a b)
 
 -- a row for each node, with a number for each node
@@ -26,5 +26,5 @@ pub record IsSquare (n : ℕ) (rows : List (Vec ℕ)) : Type 0 where
   pub wide : (i : ℕ) (r : Vec ℕ) → slice_get rows i ≡ Some r → length r.items ≡ n
 
 -- the rows have what a count has
-abbrev pub AreRows : (Node → Node → ℕ) → List Node → List (Vec ℕ) → Type 0
-AreRows f ids rows = (i : ℕ) (a : Node) (r : Vec ℕ) → slice_get ids i ≡ Some a → slice_get rows i ≡ Some r → r.items ≡ row_of f a ids
+abbrev pub AreRows : (NodeId → NodeId → ℕ) → List NodeId → List (Vec ℕ) → Type 0
+AreRows f ids rows = (i : ℕ) (a : NodeId) (r : Vec ℕ) → slice_get ids i ≡ Some a → slice_get rows i ≡ Some r → r.items ≡ row_of f a ids

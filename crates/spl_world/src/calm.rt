@@ -1,7 +1,7 @@
 //! A calm: passes of ticks and deliveries.
 ghost use Rattle.std.specs.Prelude.{◌≡◌, ◌+◌, ◌-◌, ◌<◌, length, false, IfOk, OnOk};
 ghost use Rattle.std.specs.Str.{bytes_eq};
-ghost use Rattle.spl_circuit.specs.Nodes.{Node as Id};
+ghost use Rattle.spl_circuit.specs.Nodes.{NodeId as Id};
 ghost use Rattle.spl_model.specs.Worlds.{World as CircuitWorld};
 ghost use Rattle.spl_model.specs.Calm.{Calming, ticks, open_nodes, delivers, pair_turn, to_all, from_all, pass, calm};
 ghost use Rattle.spl_world.specs.Calms.{tick_at, AreRows, IsSquare, row_of, sent_count};

@@ -6,11 +6,12 @@ ghost use Rattle.std.specs.Cmp.Lexicographic.{slice_cmp};
 ghost use Rattle.std.specs.BTreeMap.{is_at};
 ghost use Rattle.std.specs.Map.{lookup};
 ghost use Rattle.std.specs.Str.{bytes_eq};
-ghost use Rattle.spl_circuit.specs.Nodes.{Node as Id};
+ghost use Rattle.spl_circuit.specs.Nodes.{NodeId as Id};
+ghost use Rattle.spl_model.specs.Worlds.{site_at};
 ghost use Rattle.spl_rules.specs.Cells.{Empty, is_open_cell};
 ghost use Rattle.spl_rules.specs.Plans.{plan_of};
 ghost use Rattle.spl_rules.specs.Valid.{IsFor};
-ghost use Rattle.spl_world.specs.Kept.{IsDone, IsOwn, fresh_place, place_or_fresh, AllBelong, place_of, sent_to};
+ghost use Rattle.spl_world.specs.Kept.{IsDone, fresh_place, place_or_fresh, AllBelong, place_of, sent_to};
 
 use crate::place::Place;
 use spl_base::{CircuitId, NodeId};
@@ -47,10 +48,10 @@ fn does_something(plan: &Plan) -> bool
 
 // An event at a place, and its answer.
 fn handle_at(place: &mut Place, alloc: Global, event: &Event) -> Result<Answer, AllocError>
-    requires { IsFor place.old.here place.old.circuit event.now }
-    ensures fixed { (place.new.here ≡ place.old.here) × (place.new.circuit ≡ place.old.circuit) }
-    ensures answer { IfOk result (λ a. a ≡ (plan_of place.old.here place.old.circuit place.old.state event.now).answer) }
-    ensures done { OnOk result (IsDone place.old.here (plan_of place.old.here place.old.circuit place.old.state event.now) place.old place.new) }
+    requires { IsFor place.old.site event.now }
+    ensures fixed { place.new.site ≡ place.old.site }
+    ensures answer { IfOk result (λ a. a ≡ (plan_of place.old.site place.old.state event.now).answer) }
+    ensures done { OnOk result (IsDone place.old.site.here (plan_of place.old.site place.old.state event.now) place.old place.new) }
 {
     let plan = place.plan(alloc, event)?;
     place.carry_out(alloc, &plan)?;
@@ -64,10 +65,10 @@ fn handle_first(
     circuit: CircuitId,
     event: &Event,
 ) -> Result<(Answer, Option<Place>), AllocError>
-    requires { IsFor here circuit event.now }
-    ensures answer { IfOk result (λ r. r.0 ≡ (plan_of here circuit Empty event.now).answer) }
-    ensures own { IfOk result (λ r. IsOwn here circuit (place_or_fresh here circuit r.1)) }
-    ensures done { IfOk result (λ r. IsDone here (plan_of here circuit Empty event.now) (fresh_place here circuit) (place_or_fresh here circuit r.1)) }
+    requires { IsFor (site_at here circuit) event.now }
+    ensures answer { IfOk result (λ r. r.0 ≡ (plan_of (site_at here circuit) Empty event.now).answer) }
+    ensures own { IfOk result (λ r. (place_or_fresh (site_at here circuit) r.1).site ≡ site_at here circuit) }
+    ensures done { IfOk result (λ r. IsDone here (plan_of (site_at here circuit) Empty event.now) (fresh_place (site_at here circuit)) (place_or_fresh (site_at here circuit) r.1)) }
 {
     let mut first = Place::new(alloc, here, circuit);
     let plan = first.plan(alloc, event)?;
@@ -130,11 +131,11 @@ impl Node {
         circuit: CircuitId,
         event: &Event,
     ) -> Result<Answer, AllocError>
-        requires { IsFor self.old.id circuit event.now }
+        requires { IsFor (site_at self.old.id circuit) event.now }
         ensures id { self.new.id ≡ self.old.id }
         ensures up { self.new.up ≡ self.old.up }
-        ensures answer { IfOk result (λ a. a ≡ (plan_of self.old.id circuit (place_of self.old circuit).state event.now).answer) }
-        ensures done { OnOk result (IsDone self.old.id (plan_of self.old.id circuit (place_of self.old circuit).state event.now) (place_of self.old circuit) (place_of self.new circuit)) }
+        ensures answer { IfOk result (λ a. a ≡ (plan_of (site_at self.old.id circuit) (place_of self.old circuit).state event.now).answer) }
+        ensures done { OnOk result (IsDone self.old.id (plan_of (site_at self.old.id circuit) (place_of self.old circuit).state event.now) (place_of self.old circuit) (place_of self.new circuit)) }
         ensures others { OnOk result ((c : Id) → bytes_eq circuit c ≡ false → place_of self.new c ≡ place_of self.old c) }
     {
         if let Some(place) = self.places.get_mut(&circuit) {

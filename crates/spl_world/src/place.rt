@@ -1,6 +1,7 @@
 //! One circuit at one node.
 ghost use Rattle.std.specs.Prelude.{◌≡◌, length, slice_get, true, IfOk, OnOk};
 ghost use Rattle.std.specs.Option.{option_copied};
+ghost use Rattle.spl_model.specs.Worlds.{site_at};
 ghost use Rattle.spl_rules.specs.Cells.{is_open_cell};
 ghost use Rattle.spl_rules.specs.Plans.{plan_of};
 ghost use Rattle.spl_rules.specs.Valid.{IsFor};
@@ -23,20 +24,20 @@ pub struct Place {
 
 impl Model for Place {
     ghost use Rattle.std.specs.Prelude.{◌≡◌, false};
-    ghost use Rattle.spl_circuit.specs.Nodes.{Node as Id};
+    ghost use Rattle.spl_circuit.specs.Nodes.{NodeId as Id};
     ghost use Rattle.spl_world.specs.Kept.{PlaceView, AllBelong, sent_to};
 
     ghost Value = { PlaceView };
 
-    ghost view = { λ s. record { here = s.cell.here; circuit = s.cell.circuit; state = s.cell.state; sent = s.sent } };
+    ghost view = { λ s. record { site = s.cell.site; state = s.cell.state; sent = s.sent } };
 
-    ghost invariant = { λ s. (s.cell.halted ≡ false) × ((b : Id) → AllBelong s.cell.circuit (sent_to s.sent b)) };
+    ghost invariant = { λ s. (s.cell.halted ≡ false) × ((b : Id) → AllBelong s.cell.site.circuit (sent_to s.sent b)) };
 }
 
 impl Place {
     /// Nothing is kept, and nothing was sent.
     pub fn new(alloc: Global, here: NodeId, circuit: CircuitId) -> Place
-        ensures { result ≡ fresh_place here circuit }
+        ensures { result ≡ fresh_place (site_at here circuit) }
     {
         Place {
             cell: Cell::empty(here, circuit),
@@ -46,8 +47,8 @@ impl Place {
 
     /// What an event gives.
     pub fn plan(&self, alloc: Global, event: &Event) -> Result<Plan, AllocError>
-        requires { IsFor self.now.here self.now.circuit event.now }
-        ensures plan { IfOk result (λ p. p ≡ plan_of self.now.here self.now.circuit self.now.state event.now) }
+        requires { IsFor self.now.site event.now }
+        ensures plan { IfOk result (λ p. p ≡ plan_of self.now.site self.now.state event.now) }
         ensures suits { IfOk result (λ p. Suits self.now p) }
     {
         self.cell.plan(alloc, event)
@@ -57,8 +58,8 @@ impl Place {
     /// memory alone; what was kept is lost then.
     pub fn carry_out(&mut self, alloc: Global, plan: &Plan) -> Result<(), AllocError>
         requires { Suits self.old plan.now }
-        ensures fixed { (self.new.here ≡ self.old.here) × (self.new.circuit ≡ self.old.circuit) }
-        ensures done { OnOk result (IsDone self.old.here plan.now self.old self.new) }
+        ensures fixed { self.new.site ≡ self.old.site }
+        ensures done { OnOk result (IsDone self.old.site.here plan.now self.old self.new) }
     {
         match self.cell.apply(alloc, plan) {
             Ok(()) => {}
@@ -88,7 +89,7 @@ impl Place {
     /// there are fewer.
     pub fn message(&self, to: &NodeId, index: usize) -> Option<&Message>
         ensures value { option_copied result ≡ slice_get (sent_to self.now.sent to.now) index }
-        ensures about { AllBelong self.now.circuit (sent_to self.now.sent to.now) }
+        ensures about { AllBelong self.now.site.circuit (sent_to self.now.sent to.now) }
     {
         self.sent.message(to, index)
     }

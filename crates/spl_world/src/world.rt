@@ -2,13 +2,13 @@
 ghost use Rattle.std.specs.Prelude.{◌≡◌, ◌+◌, ◌<◌, ◌&&◌, [], length, true, false, IsTrue, IfOk, OnOk};
 ghost use Rattle.std.specs.List.{position_from};
 ghost use Rattle.std.specs.Str.{bytes_eq};
-ghost use Rattle.spl_circuit.specs.Nodes.{Node as Id, has_node};
+ghost use Rattle.spl_circuit.specs.Nodes.{NodeId as Id, has_node};
 ghost use Rattle.spl_circuit.specs.Rules.{ascends};
 ghost use Rattle.spl_sched.specs.declared.line.Step.TheVariants as step;
 ghost use Rattle.spl_rules.specs.Cells.{is_open_cell};
 ghost use Rattle.spl_rules.specs.Plans.{plan_of};
 ghost use Rattle.spl_rules.specs.Valid.{IsFor};
-ghost use Rattle.spl_model.specs.Worlds.{World as CircuitWorld, messages, carried_out, step_plan, step_world};
+ghost use Rattle.spl_model.specs.Worlds.{site_at, World as CircuitWorld, messages, carried_out, step_plan, step_world};
 ghost use Rattle.spl_world.specs.Views.{Holds, IsAt, IsUp, Moves, Stands, has_id, ids_of, is_halted, ups_of};
 
 use crate::node::Node;
@@ -88,11 +88,11 @@ impl World {
         event: &Event,
     ) -> Result<Answer, AllocError>
         requires below { slot < length self.old.nodes.items }
-        requires own { (n : Id) → IsAt self.old.nodes.items slot n → IsFor n circuit event.now }
+        requires own { (n : Id) → IsAt self.old.nodes.items slot n → IsFor (site_at n circuit) event.now }
         ensures ids { ids_of self.new ≡ ids_of self.old }
         ensures ups { ups_of self.new ≡ ups_of self.old }
-        ensures answer { (m : CircuitWorld) (n : Id) → Holds circuit m self.old.nodes.items → IsAt self.old.nodes.items slot n → IfOk result (λ a. a ≡ (plan_of n circuit (m.at n) event.now).answer) }
-        ensures moves { (n : Id) → IsAt self.old.nodes.items slot n → OnOk result (Moves circuit (λ m. carried_out m n (plan_of n circuit (m.at n) event.now)) self.old.nodes.items self.new.nodes.items) }
+        ensures answer { (m : CircuitWorld) (n : Id) → Holds circuit m self.old.nodes.items → IsAt self.old.nodes.items slot n → IfOk result (λ a. a ≡ (plan_of (site_at n circuit) (m.at n) event.now).answer) }
+        ensures moves { (n : Id) → IsAt self.old.nodes.items slot n → OnOk result (Moves circuit (λ m. carried_out m n (plan_of (site_at n circuit) (m.at n) event.now)) self.old.nodes.items self.new.nodes.items) }
     {
         self.nodes[slot].handle(alloc, circuit, event)
     }

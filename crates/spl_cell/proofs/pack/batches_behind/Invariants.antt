@@ -1,7 +1,8 @@
 use Rattle.std.proofs.Common.{◌≡◌, ◌++◌}
-use Rattle.spl_rules.specs.Plans.{service_changes}
+use Rattle.std.specs.Prelude.{map}
+use Rattle.spl_wire.specs.declared.change.Change.TheVariants as durable
 use Rattle.spl_cell.proofs.pack.batches_behind.Given as goal
 
 -- those so far
 abbrev pub invariant-loop-change : goal.invariant-loop-change
-invariant-loop-change l = l.all.items ≡ l.fn.first.items ++ service_changes l.yielded
+invariant-loop-change l = l.all.items ≡ l.fn.first.items ++ map durable.Service l.yielded

@@ -3,6 +3,7 @@ use Rattle.spl_wire.specs.declared.plan.Plan.{Plan}
 use Rattle.spl_wire.specs.Bounds.{IsWritable, AllSendable}
 use Rattle.spl_rules.specs.Plans.{plan_of}
 use Rattle.spl_rules.specs.Valid.{are_formed, are_legal}
+use Rattle.spl_cell.specs.Sites.{site_of}
 use Rattle.spl_cell.specs.States.{cell_of}
 use Rattle.spl_cell.proofs.cell.Cell.plan.Goals as goal
 
@@ -18,26 +19,26 @@ pub returns-clause-writable : goal.returns-clause-writable
 returns-clause-writable c =
     let s = c.self.inside in
     let own = rw (← c.self.view_is) at c.requires.own in
-    rw (← c.self.view_is) (of_plan (λ (p : Plan). IsWritable s.site.circuit p.changes) c.plan.result (plan_of s.site.here s.site.circuit (cell_of s.state) c.args.event.now) c.plan.ensures
-    (c.plans_have_bounds.ensures.writable s.site.here s.site.circuit (cell_of s.state) c.args.event.now c.is_named.ensures own c.self.invariant.1))
+    rw (← c.self.view_is) (of_plan (λ (p : Plan). IsWritable s.site.circuit p.changes) c.plan.result (plan_of (site_of s.site) (cell_of s.state) c.args.event.now) c.plan.ensures
+    (c.plans_have_bounds.ensures.writable (site_of s.site) (cell_of s.state) c.args.event.now c.is_named.ensures own c.self.invariant.1))
 
 pub returns-clause-formed : goal.returns-clause-formed
 returns-clause-formed c =
     let s = c.self.inside in
     let own = rw (← c.self.view_is) at c.requires.own in
-    of_plan (λ (p : Plan). are_formed p.changes ≡ true) c.plan.result (plan_of s.site.here s.site.circuit (cell_of s.state) c.args.event.now) c.plan.ensures
-    (c.plans_have_bounds.ensures.formed s.site.here s.site.circuit (cell_of s.state) c.args.event.now c.is_named.ensures own c.self.invariant.1)
+    of_plan (λ (p : Plan). are_formed p.changes ≡ true) c.plan.result (plan_of (site_of s.site) (cell_of s.state) c.args.event.now) c.plan.ensures
+    (c.plans_have_bounds.ensures.formed (site_of s.site) (cell_of s.state) c.args.event.now c.is_named.ensures own c.self.invariant.1)
 
 pub returns-clause-legal : goal.returns-clause-legal
 returns-clause-legal c =
     let s = c.self.inside in
     let own = rw (← c.self.view_is) at c.requires.own in
-    of_plan (λ (p : Plan). are_legal p.sends ≡ true) c.plan.result (plan_of s.site.here s.site.circuit (cell_of s.state) c.args.event.now) c.plan.ensures
-    (c.plans_fit_cells.ensures.legal s.site.here s.site.circuit (cell_of s.state) c.args.event.now c.is_named.ensures own c.self.invariant.1)
+    of_plan (λ (p : Plan). are_legal p.sends ≡ true) c.plan.result (plan_of (site_of s.site) (cell_of s.state) c.args.event.now) c.plan.ensures
+    (c.plans_fit_cells.ensures.legal (site_of s.site) (cell_of s.state) c.args.event.now c.is_named.ensures own c.self.invariant.1)
 
 pub returns-clause-sends : goal.returns-clause-sends
 returns-clause-sends c =
     let s = c.self.inside in
     let own = rw (← c.self.view_is) at c.requires.own in
-    of_plan (λ (p : Plan). AllSendable p.sends) c.plan.result (plan_of s.site.here s.site.circuit (cell_of s.state) c.args.event.now) c.plan.ensures
-    (c.plans_have_bounds.ensures.sends s.site.here s.site.circuit (cell_of s.state) c.args.event.now c.is_named.ensures own c.self.invariant.1)
+    of_plan (λ (p : Plan). AllSendable p.sends) c.plan.result (plan_of (site_of s.site) (cell_of s.state) c.args.event.now) c.plan.ensures
+    (c.plans_have_bounds.ensures.sends (site_of s.site) (cell_of s.state) c.args.event.now c.is_named.ensures own c.self.invariant.1)

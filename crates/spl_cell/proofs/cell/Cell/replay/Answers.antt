@@ -1,6 +1,7 @@
 use Rattle.std.proofs.Common.{sym, ap, subst, ◌∙◌}
 use Rattle.spl_rules.specs.Changes.{applied}
 use Rattle.spl_rules.specs.Valid.{IsValid}
+use Rattle.spl_cell.specs.Sites.{site_of}
 use Rattle.spl_cell.specs.Views.{CellView}
 use Rattle.spl_cell.specs.States.{cell_of, IsStill}
 use Rattle.spl_cell.proofs.Lists.{kept_list, still_list, settled_still}
@@ -10,17 +11,17 @@ pub invariant_of-self-2 : goal.invariant_of-self-2
 invariant_of-self-2 c =
     let old = c.self.inside in
     let changes = c.args.changes.now in
-    let kept = kept_list old.site.here old.site.circuit c.cells_stay_valid.ensures.change (cell_of old.state) changes c.requires.formed c.self.invariant.1.kept in
-    let still = still_list old.site.here old.site.circuit (cell_of old.state) changes (subst (λ (v : CellView). IsStill v.state) (sym c.self.view_is) c.requires.still) in
-    let made = c.in_ok-self-inside.ensures.cell ∙ (ap (λ s. applied old.site.here old.site.circuit (cell_of s) c.as_slice.result.now) c.replace-state.ensures.value ∙ ap (applied old.site.here old.site.circuit (cell_of old.state)) c.as_slice.ensures) in (
+    let kept = kept_list (site_of old.site) c.cells_stay_valid.ensures.change (cell_of old.state) changes c.requires.formed c.self.invariant.1.kept in
+    let still = still_list (site_of old.site) (cell_of old.state) changes (subst (λ (v : CellView). IsStill v.state) (sym c.self.view_is) c.requires.still) in
+    let made = c.in_ok-self-inside.ensures.cell ∙ (ap (λ s. applied (site_of old.site) (cell_of s) c.as_slice.result.now) c.replace-state.ensures.value ∙ ap (applied (site_of old.site) (cell_of old.state)) c.as_slice.ensures) in (
       c.in_ok-self-inside.ensures.at,
-      subst (IsValid old.site.here old.site.circuit) (sym made) (record { kept = kept; settled = settled_still old.site.here (applied old.site.here old.site.circuit (cell_of old.state) changes) still }),
+      subst (IsValid (site_of old.site)) (sym made) (record { kept = kept; settled = settled_still old.site.here (applied (site_of old.site) (cell_of old.state) changes) still }),
     )
 
 pub returns-clause-still : goal.returns-clause-still
 returns-clause-still c =
     let old = c.self.inside in
     let changes = c.args.changes.now in
-    let still = still_list old.site.here old.site.circuit (cell_of old.state) changes (subst (λ (v : CellView). IsStill v.state) (sym c.self.view_is) c.requires.still) in
-    let made = c.in_ok-self-inside.ensures.cell ∙ (ap (λ s. applied old.site.here old.site.circuit (cell_of s) c.as_slice.result.now) c.replace-state.ensures.value ∙ ap (applied old.site.here old.site.circuit (cell_of old.state)) c.as_slice.ensures) in
+    let still = still_list (site_of old.site) (cell_of old.state) changes (subst (λ (v : CellView). IsStill v.state) (sym c.self.view_is) c.requires.still) in
+    let made = c.in_ok-self-inside.ensures.cell ∙ (ap (λ s. applied (site_of old.site) (cell_of s) c.as_slice.result.now) c.replace-state.ensures.value ∙ ap (applied (site_of old.site) (cell_of old.state)) c.as_slice.ensures) in
     subst IsStill (sym made) still

@@ -1,7 +1,9 @@
 use Rattle.std.proofs.Common.{◌∙◌, ap, sym, subst, rules, Some, None}
-use Rattle.spl_circuit.specs.Nodes.{Node as Id}
+use Rattle.spl_circuit.specs.Nodes.{NodeId as Id}
+use Rattle.spl_model.specs.Worlds.{site_at}
 use Rattle.spl_wire.specs.declared.plan.Plan.{Plan}
 use Rattle.spl_rules.specs.Valid.{IsFor}
+use Rattle.spl_rules.specs.Cells.{Site}
 use Rattle.spl_world.specs.Kept.{place_or_fresh}
 use Rattle.spl_world.proofs.Entries.{others_stay}
 use Rattle.spl_world.proofs.Places.{own_step, known_plan, known_done, first_plan, first_done}
@@ -13,14 +15,14 @@ use Rattle.spl_world.proofs.node.Node.handle.Goals as goal
 pub handle_at-requires : goal.handle_at-requires
 handle_at-requires c =
     let mine = c.self.invariant c.args.circuit c.in-Some.place.now (sym c.in-Some.ensures.value) in
-    subst (λ (i : Id). IsFor c.in-Some.place.now.here i c.args.event.now) (sym mine.1) (subst (λ (h : Id). IsFor h c.args.circuit c.args.event.now) (sym mine.0) (rw (← c.self.view_is) at c.requires))
+    subst (λ (z : Site). IsFor z c.args.event.now) (sym mine) (rw (← c.self.view_is) at c.requires)
 
 pub invariant_of-self : goal.invariant_of-self
 invariant_of-self c =
     let mine = c.self.invariant c.args.circuit c.in-Some.place.now (sym c.in-Some.ensures.value) in
     let w = c.handle_at.new.place in
     let u = (c.get_mut.follows.holds w).3 (search rules) in
-    own_step c.self.inside.id c.args.circuit w c.self.inside.places.entries (c.get_mut.follows.lender w).entries c.self.invariant (c.handle_at.ensures.fixed.0 ∙ mine.0, c.handle_at.ensures.fixed.1 ∙ mine.1) u.1
+    own_step c.self.inside.id c.args.circuit w c.self.inside.places.entries (c.get_mut.follows.lender w).entries c.self.invariant (c.handle_at.ensures.fixed ∙ mine) u.1
     (others_stay c.self.inside.places (c.get_mut.follows.lender w) c.args.circuit (Some w) u)
 
 pub returns-in-Some-clause-answer : goal.returns-in-Some-clause-answer
@@ -37,7 +39,7 @@ returns-in-Some-clause-done c =
 pub returns-in-Some-clause-others : goal.returns-in-Some-clause-others
 returns-in-Some-clause-others c = at_ok c.handle_at.result (λ _ d h.
     let w = c.handle_at.new.place in
-    rw (← c.self.view_is) (ap (place_or_fresh c.self.inside.id d) (others_stay c.self.inside.places (c.get_mut.follows.lender w) c.args.circuit (Some w) ((c.get_mut.follows.holds w).3 (search rules)) d h))) c.handle_at.ensures.done
+    rw (← c.self.view_is) (ap (place_or_fresh (site_at c.self.inside.id d)) (others_stay c.self.inside.places (c.get_mut.follows.lender w) c.args.circuit (Some w) ((c.get_mut.follows.holds w).3 (search rules)) d h))) c.handle_at.ensures.done
 
 -- ---- at a fresh one
 

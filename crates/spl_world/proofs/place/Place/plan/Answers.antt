@@ -12,6 +12,6 @@ returns-clause-suits c = all_ok c.plan.result (λ p is fits formed legal. rw (�
   fits = fits.0;
   moves = fits.1;
   formed = formed;
-  about = ap (λ (q : Plan). list_all (send_belongs c.self.inside.cell.circuit) q.sends) is
-      ∙ plan_about c.self.inside.cell.here c.self.inside.cell.circuit c.self.inside.cell.state c.args.event.now (ap (λ (q : Plan). are_legal q.sends) (sym is) ∙ legal);
+  about = ap (λ (q : Plan). list_all (send_belongs c.self.inside.cell.site.circuit) q.sends) is
+      ∙ plan_about c.self.inside.cell.site c.self.inside.cell.state c.args.event.now (ap (λ (q : Plan). are_legal q.sends) (sym is) ∙ legal);
 })) c.plan.ensures.plan c.plan.ensures.fits c.plan.ensures.formed c.plan.ensures.legal

@@ -1,5 +1,5 @@
 use Rattle.std.proofs.Common.{◌≡◌, ◌∙◌, ap, sym, subst, ℕ, List, arith, refl}
-use Rattle.spl_circuit.specs.Nodes.{Node, sorted}
+use Rattle.spl_circuit.specs.Nodes.{NodeId, sorted}
 use Rattle.spl_model.specs.Calm.{Calming, pass, passes, calming}
 use Rattle.spl_world.specs.Calms.{AreRows, IsSquare}
 use Rattle.spl_world.specs.Views.{Holds, ids_of}
@@ -21,9 +21,9 @@ loop-preserved c =
       λ m h.
           let so_far = c.loop.invariant.3 m h in
           let y : Calming = passes c.args.circuit (ids_of c.args.self.now) c.loop.counter (calming m) in
-          let rows = subst (λ (ns : List Node). AreRows y.taken ns c.loop.rows.items) (sym c.loop.invariant.1) so_far.1 in
+          let rows = subst (λ (ns : List NodeId). AreRows y.taken ns c.loop.rows.items) (sym c.loop.invariant.1) so_far.1 in
           subst (λ (w : Calming). Holds c.args.circuit w.world c.pass.new.self.nodes.items × AreRows w.taken (ids_of c.args.self.now) c.pass.new.rows.items) (sym (passes_next c.args.circuit (ids_of c.args.self.now) c.loop.counter (calming m)))
-          (subst (λ (ns : List Node). Holds c.args.circuit (pass c.args.circuit ns y).world c.pass.new.self.nodes.items × AreRows (pass c.args.circuit ns y).taken ns c.pass.new.rows.items) c.loop.invariant.1 (c.in_ok-pass.ensures.own y so_far.0 rows)),
+          (subst (λ (ns : List NodeId). Holds c.args.circuit (pass c.args.circuit ns y).world c.pass.new.self.nodes.items × AreRows (pass c.args.circuit ns y).taken ns c.pass.new.rows.items) c.loop.invariant.1 (c.in_ok-pass.ensures.own y so_far.0 rows)),
       spares_then c.args.circuit xs c.loop.self.nodes.items c.pass.new.self.nodes.items c.loop.invariant.4 c.in_ok-pass.ensures.others,
     )
 
@@ -31,7 +31,7 @@ pub returns-clause-moves : goal.returns-clause-moves
 returns-clause-moves c =
     let all : c.loop.counter ≡ c.args.passes = omega (arith, c.loop.auto, c.loop-test.false) in
     record {
-      own = λ m h. subst (λ (ns : List Node). Holds c.args.circuit (passes c.args.circuit ns c.args.passes (calming m)).world c.loop.self.nodes.items) (sym (ap sorted h.nodes ∙ sorted_already (ids_of c.args.self.now) h.ordered))
+      own = λ m h. subst (λ (ns : List NodeId). Holds c.args.circuit (passes c.args.circuit ns c.args.passes (calming m)).world c.loop.self.nodes.items) (sym (ap sorted h.nodes ∙ sorted_already (ids_of c.args.self.now) h.ordered))
           (subst (λ (k : ℕ). Holds c.args.circuit (passes c.args.circuit (ids_of c.args.self.now) k (calming m)).world c.loop.self.nodes.items) all (c.loop.invariant.3 m h).0);
       others = c.loop.invariant.4;
     }

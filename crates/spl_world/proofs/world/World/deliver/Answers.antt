@@ -1,6 +1,6 @@
 use Rattle.std.proofs.Common.{◌≡◌, ◌∙◌, ◌+◌, true, refl, length, ap, sym, subst, Some, slice_get, List}
 use Rattle.std.proofs.lemmas.Option.{slice_get_read}
-use Rattle.spl_circuit.specs.Nodes.{Node}
+use Rattle.spl_circuit.specs.Nodes.{NodeId}
 use Rattle.spl_wire.specs.declared.message.Message.{Message}
 use Rattle.spl_wire.specs.declared.event.Event.TheVariants as event
 use Rattle.spl_wire.specs.declared.plan.Plan.{Plan}
@@ -8,7 +8,7 @@ use Rattle.spl_wire.specs.declared.answer.Answer.TheVariants as answer
 use Rattle.spl_wire.specs.declared.answer.Refusal.TheVariants as refusal
 use Rattle.spl_sched.specs.declared.line.Step.TheVariants as step
 use Rattle.spl_rules.specs.Plans.{plan_of, tells_only}
-use Rattle.spl_model.specs.Worlds.{World as CircuitWorld, messages, carried_out, step_plan, step_world}
+use Rattle.spl_model.specs.Worlds.{site_at, World as CircuitWorld, messages, carried_out, step_plan, step_world}
 use Rattle.spl_rules.specs.Valid.{is_legal}
 use Rattle.spl_wire.specs.Messages.{circuit_of}
 use Rattle.spl_base.specs.FormLaws.{both_true}
@@ -24,35 +24,35 @@ use Rattle.spl_world.proofs.Up.{node_up}
 use Rattle.spl_world.proofs.world.World.deliver.Goals as goal
 
 -- what was sent, by the world of the circuit
-abbrev none_sent : (c : goal.In-None) (m : CircuitWorld) (a b : Node) → Holds c.args.circuit m c.args.self.now.nodes.items → slice_get (ids_in c.args.self.now.nodes.items) c.args.from ≡ Some a → slice_get (ids_in c.args.self.now.nodes.items) c.args.to ≡ Some b
+abbrev none_sent : (c : goal.In-None) (m : CircuitWorld) (a b : NodeId) → Holds c.args.circuit m c.args.self.now.nodes.items → slice_get (ids_in c.args.self.now.nodes.items) c.args.from ≡ Some a → slice_get (ids_in c.args.self.now.nodes.items) c.args.to ≡ Some b
     → sent_to (place_of c.index-3.result.now c.args.circuit).sent c.id-recipient.result ≡ messages m a b
 none_sent c m a b h at to =
     let xs = c.args.self.now.nodes.items in
     let there = slice_get_read xs (length xs) c.args.from c.index-3.result.now refl c.requires.from_below c.index-3.ensures in
     let also = slice_get_read xs (length xs) c.args.to c.index-2.result.now refl c.requires.to_below c.index-2.ensures in
-    ap (λ (i : Node). sent_to (place_of c.index-3.result.now c.args.circuit).sent i) c.id-recipient.ensures
+    ap (λ (i : NodeId). sent_to (place_of c.index-3.result.now c.args.circuit).sent i) c.id-recipient.ensures
     ∙ messages_as xs c.args.from c.args.to c.index-3.result.now c.index-2.result.now c.args.circuit a b m there also at to h (c.requires.apart a b at to)
 
-abbrev one_sent : (c : goal.Joined-event) (m : CircuitWorld) (a b : Node) → Holds c.args.circuit m c.args.self.now.nodes.items → slice_get (ids_in c.args.self.now.nodes.items) c.args.from ≡ Some a → slice_get (ids_in c.args.self.now.nodes.items) c.args.to ≡ Some b
+abbrev one_sent : (c : goal.Joined-event) (m : CircuitWorld) (a b : NodeId) → Holds c.args.circuit m c.args.self.now.nodes.items → slice_get (ids_in c.args.self.now.nodes.items) c.args.from ≡ Some a → slice_get (ids_in c.args.self.now.nodes.items) c.args.to ≡ Some b
     → sent_to (place_of c.index-3.result.now c.args.circuit).sent c.id-recipient.result ≡ messages m a b
 one_sent c m a b h at to =
     let xs = c.args.self.now.nodes.items in
     let there = slice_get_read xs (length xs) c.args.from c.index-3.result.now refl c.requires.from_below c.index-3.ensures in
     let also = slice_get_read xs (length xs) c.args.to c.index-2.result.now refl c.requires.to_below c.index-2.ensures in
-    ap (λ (i : Node). sent_to (place_of c.index-3.result.now c.args.circuit).sent i) c.id-recipient.ensures
+    ap (λ (i : NodeId). sent_to (place_of c.index-3.result.now c.args.circuit).sent i) c.id-recipient.ensures
     ∙ messages_as xs c.args.from c.args.to c.index-3.result.now c.index-2.result.now c.args.circuit a b m there also at to h (c.requires.apart a b at to)
 
-abbrev none : (c : goal.In-None) (m : CircuitWorld) (a b : Node) → Holds c.args.circuit m c.args.self.now.nodes.items → slice_get (ids_in c.args.self.now.nodes.items) c.args.from ≡ Some a → slice_get (ids_in c.args.self.now.nodes.items) c.args.to ≡ Some b
+abbrev none : (c : goal.In-None) (m : CircuitWorld) (a b : NodeId) → Holds c.args.circuit m c.args.self.now.nodes.items → slice_get (ids_in c.args.self.now.nodes.items) c.args.from ≡ Some a → slice_get (ids_in c.args.self.now.nodes.items) c.args.to ≡ Some b
     → step_plan m (step.Deliver a b c.args.circuit (c.args.index + 1)) ≡ tells_only (answer.Refused refusal.NoMessage)
 none c m a b h at to = no_delivery m c.args.circuit a b c.args.index (ap (λ (ms : List Message). slice_get ms c.args.index) (sym (none_sent c m a b h at to)) ∙ sym c.in-None.ensures.value) (node_up c.args.circuit m c.args.self.now.nodes.items c.args.to b h to c.requires.up)
 
-abbrev one : (c : goal.Joined-event) (m : CircuitWorld) (a b : Node) → Holds c.args.circuit m c.args.self.now.nodes.items → slice_get (ids_in c.args.self.now.nodes.items) c.args.from ≡ Some a → slice_get (ids_in c.args.self.now.nodes.items) c.args.to ≡ Some b
-    → plan_of b c.args.circuit (m.at b) (event.Deliver c.id-sender.result c.in_ok-message-in-Some.message) ≡ step_plan m (step.Deliver a b c.args.circuit (c.args.index + 1))
+abbrev one : (c : goal.Joined-event) (m : CircuitWorld) (a b : NodeId) → Holds c.args.circuit m c.args.self.now.nodes.items → slice_get (ids_in c.args.self.now.nodes.items) c.args.from ≡ Some a → slice_get (ids_in c.args.self.now.nodes.items) c.args.to ≡ Some b
+    → plan_of (site_at b c.args.circuit) (m.at b) (event.Deliver c.id-sender.result c.in_ok-message-in-Some.message) ≡ step_plan m (step.Deliver a b c.args.circuit (c.args.index + 1))
 one c m a b h at to =
     let xs = c.args.self.now.nodes.items in
     let here = same_at xs c.args.from c.index.result.now a (slice_get_read xs (length xs) c.args.from c.index.result.now refl c.requires.from_below c.index.ensures) at in
     let found : slice_get (messages m a b) c.args.index ≡ Some c.in_ok-message-in-Some.message = ap (λ (ms : List Message). slice_get ms c.args.index) (sym (one_sent c m a b h at to)) ∙ sym c.in-Some.ensures.value ∙ ap Some (sym c.in_ok-message-in-Some.ensures) in
-    ap (λ (i : Node). plan_of b c.args.circuit (m.at b) (event.Deliver i c.in_ok-message-in-Some.message)) (c.id-sender.ensures ∙ here)
+    ap (λ (i : NodeId). plan_of (site_at b c.args.circuit) (m.at b) (event.Deliver i c.in_ok-message-in-Some.message)) (c.id-sender.ensures ∙ here)
     ∙ delivery_is m c.args.circuit a b c.args.index c.in_ok-message-in-Some.message found (node_up c.args.circuit m xs c.args.to b h to c.requires.up)
 
 pub returns-in-None-clause-answer : goal.returns-in-None-clause-answer
@@ -78,5 +78,5 @@ returns-clause-answer c = λ m a b h at to. when_ok c.handle.result (λ r e. e �
 
 pub returns-clause-moves : goal.returns-clause-moves
 returns-clause-moves c = λ a b at to. at_ok c.handle.result (λ moves.
-    moves_as c.args.circuit (λ m. carried_out m b (plan_of b c.args.circuit (m.at b) (event.Deliver c.id-sender.result c.in_ok-message-in-Some.message))) (λ m. step_world m (step.Deliver a b c.args.circuit (c.args.index + 1))) c.args.self.now.nodes.items c.handle.new.self.nodes.items
+    moves_as c.args.circuit (λ m. carried_out m b (plan_of (site_at b c.args.circuit) (m.at b) (event.Deliver c.id-sender.result c.in_ok-message-in-Some.message))) (λ m. step_world m (step.Deliver a b c.args.circuit (c.args.index + 1))) c.args.self.now.nodes.items c.handle.new.self.nodes.items
     (λ m h. ap (carried_out m b) (one c m a b h at to)) moves) (c.handle.ensures.moves b to)

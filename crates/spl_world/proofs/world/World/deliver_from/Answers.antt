@@ -1,5 +1,5 @@
 use Rattle.std.proofs.Common.{◌≡◌, ◌+◌, ◌-◌, ◌<◌, ℕ, ◌∙◌, ap, sym, subst, slice_get, Some, Bool, true, List, arith}
-use Rattle.spl_circuit.specs.Nodes.{Node}
+use Rattle.spl_circuit.specs.Nodes.{NodeId}
 use Rattle.spl_sched.specs.declared.line.Step.TheVariants as step
 use Rattle.spl_model.specs.Worlds.{step_world}
 use Rattle.spl_world.specs.Views.{Moves}
@@ -16,7 +16,7 @@ pub deliver-requires-clause-to_below : goal.deliver-requires-clause-to_below
 deliver-requires-clause-to_below c = subst (λ (n : ℕ). c.args.to < n) (sym c.loop-index.invariant.0) c.requires.to_below
 
 pub deliver-requires-clause-apart : goal.deliver-requires-clause-apart
-deliver-requires-clause-apart c = λ a b at to. c.requires.apart a b (subst (λ (ns : List Node). slice_get ns c.args.from ≡ Some a) c.loop-index.invariant.1 at) (subst (λ (ns : List Node). slice_get ns c.args.to ≡ Some b) c.loop-index.invariant.1 to)
+deliver-requires-clause-apart c = λ a b at to. c.requires.apart a b (subst (λ (ns : List NodeId). slice_get ns c.args.from ≡ Some a) c.loop-index.invariant.1 at) (subst (λ (ns : List NodeId). slice_get ns c.args.to ≡ Some b) c.loop-index.invariant.1 to)
 
 pub deliver-requires-clause-up : goal.deliver-requires-clause-up
 deliver-requires-clause-up c = subst (λ (us : List Bool). slice_get us c.args.to ≡ Some true) (sym c.loop-index.invariant.2) c.requires.up
@@ -31,8 +31,8 @@ loop-index-preserved c =
       omega (arith, c.loop-index.invariant.3),
       omega (arith, c.loop-index.invariant.3, c.loop-index.invariant.4, c.loop-index-test.true),
       λ z a b at to.
-          let first = ap (λ (ns : List Node). slice_get ns c.args.from) c.loop-index.invariant.1 ∙ at in
-          let second = ap (λ (ns : List Node). slice_get ns c.args.to) c.loop-index.invariant.1 ∙ to in
+          let first = ap (λ (ns : List NodeId). slice_get ns c.args.from) c.loop-index.invariant.1 ∙ at in
+          let second = ap (λ (ns : List NodeId). slice_get ns c.args.to) c.loop-index.invariant.1 ∙ to in
           moves_as c.args.circuit (λ m. step_world (delivered c.args.circuit z a b (c.args.taken + 1) (c.loop-index.index - c.args.taken) m) (step.Deliver a b c.args.circuit (c.loop-index.index + 1))) (delivered c.args.circuit z a b (c.args.taken + 1) ((c.loop-index.index + 1) - c.args.taken)) xs c.deliver.new.self.nodes.items
           (λ m h. deliver_more c.args.circuit z a b c.args.taken c.loop-index.index m c.loop-index.invariant.3)
           (moves_then c.args.circuit (delivered c.args.circuit z a b (c.args.taken + 1) (c.loop-index.index - c.args.taken)) (λ m. step_world m (step.Deliver a b c.args.circuit (c.loop-index.index + 1))) xs c.loop-index.self.nodes.items c.deliver.new.self.nodes.items

@@ -1,11 +1,11 @@
 use Rattle.std.proofs.Common.{◌≡◌, ℕ, ◌∙◌, ap, sym, subst, Some, false, IfOk, OnOk}
 use Rattle.std.specs.Str.{bytes_eq}
-use Rattle.spl_circuit.specs.Nodes.{Node}
+use Rattle.spl_circuit.specs.Nodes.{NodeId}
 use Rattle.spl_wire.specs.declared.answer.Answer.{Answer}
 use Rattle.spl_wire.specs.declared.plan.Plan.{Plan}
 use Rattle.spl_rules.specs.Plans.{plan_of}
 use Rattle.spl_sched.specs.declared.line.Step.TheVariants as step
-use Rattle.spl_model.specs.Worlds.{carried_out, step_plan, step_world}
+use Rattle.spl_model.specs.Worlds.{site_at, carried_out, step_plan, step_world}
 use Rattle.spl_world.specs.Views.{Moves, ids_of}
 use Rattle.spl_world.proofs.Delivery.{moves_as, down_moves}
 use Rattle.spl_world.proofs.Results.{at_ok, when_ok}
@@ -25,7 +25,7 @@ deliver-requires-clause-apart c = λ a b at to.
     let recipient : Some c.in-Deliver.to ≡ Some b = sym c.slot-recipient.ensures.at ∙ to in
     let from_is : c.in-Deliver.from ≡ a = cc in
     let to_is : c.in-Deliver.to ≡ b = cc in
-    subst (λ (y : Node). bytes_eq a y ≡ false) to_is (subst (λ (x : Node). bytes_eq x c.in-Deliver.to ≡ false) from_is (pair_apart c.in-Deliver.from c.in-Deliver.to c.in-Deliver.circuit c.in-Deliver.number (rw (c.in-Deliver.is) at c.requires.fits)))
+    subst (λ (y : NodeId). bytes_eq a y ≡ false) to_is (subst (λ (x : NodeId). bytes_eq x c.in-Deliver.to ≡ false) from_is (pair_apart c.in-Deliver.from c.in-Deliver.to c.in-Deliver.circuit c.in-Deliver.number (rw (c.in-Deliver.is) at c.requires.fits)))
 
 -- ---- an event at a node
 
@@ -45,7 +45,7 @@ returns-else-not-is_up-clause-moves c =
     let circuit = c.in-At.circuit in
     let s = step.At c.in-At.node circuit c.in-At.event in
     rw (c.in-At.is) (at_ok c.handle.result
-    (λ moves. moves_as circuit (λ m. carried_out m c.in-At.node (plan_of c.in-At.node circuit (m.at c.in-At.node) c.in-At.event)) (λ m. step_world m s) c.args.self.now.nodes.items c.handle.new.self.nodes.items (λ m h. sym (world_up m s (sym (c.is_up.ensures.world circuit m c.in-At.node h c.slot-slot.ensures.at) ∙ c.if-not-is_up.false))) moves)
+    (λ moves. moves_as circuit (λ m. carried_out m c.in-At.node (plan_of (site_at c.in-At.node circuit) (m.at c.in-At.node) c.in-At.event)) (λ m. step_world m s) c.args.self.now.nodes.items c.handle.new.self.nodes.items (λ m h. sym (world_up m s (sym (c.is_up.ensures.world circuit m c.in-At.node h c.slot-slot.ensures.at) ∙ c.if-not-is_up.false))) moves)
     (c.handle.ensures.moves c.in-At.node c.slot-slot.ensures.at))
 
 -- ---- a delivery

@@ -1,6 +1,6 @@
 use Rattle.std.proofs.Common.{◌≡◌, ◌≤◌, ℕ, ◌∙◌, ap, sym, subst, refl, take, slice_get, get_or, Some, List}
 use Rattle.std.proofs.lemmas.List.{take_all}
-use Rattle.spl_circuit.specs.Nodes.{Node}
+use Rattle.spl_circuit.specs.Nodes.{NodeId}
 use Rattle.spl_model.specs.Calm.{Calming, to_all}
 use Rattle.spl_world.specs.Calms.{row_of}
 use Rattle.spl_world.specs.Views.{Holds, ids_of}
@@ -15,15 +15,15 @@ loop-to-preserved c =
     let ids = c.pair_turn.ensures.ids ∙ c.loop-to.invariant.1 in
     let recipient = some_at xs c.loop-to.to (rw (c.len-to-end.ensures) at c.loop-to-test.true) in
     let sender = some_at xs c.args.from c.requires.below in
-    let to : slice_get (ids_of c.loop-to.self) c.loop-to.to ≡ Some recipient.0 = ap (λ (ns : List Node). slice_get ns c.loop-to.to) c.loop-to.invariant.1 ∙ recipient.1 in
-    let from : slice_get (ids_of c.loop-to.self) c.args.from ≡ Some sender.0 = ap (λ (ns : List Node). slice_get ns c.args.from) c.loop-to.invariant.1 ∙ sender.1 in (
+    let to : slice_get (ids_of c.loop-to.self) c.loop-to.to ≡ Some recipient.0 = ap (λ (ns : List NodeId). slice_get ns c.loop-to.to) c.loop-to.invariant.1 ∙ recipient.1 in
+    let from : slice_get (ids_of c.loop-to.self) c.args.from ≡ Some sender.0 = ap (λ (ns : List NodeId). slice_get ns c.args.from) c.loop-to.invariant.1 ∙ sender.1 in (
       same_length xs c.pair_turn.new.self.nodes.items ids,
       ids,
       set_length c.loop-to.row.items c.loop-to.to c.in_ok-row.field-0 ∙ c.loop-to.invariant.2,
       λ z a h at row.
           let so_far = c.loop-to.invariant.3 z a h at row in
           let y : Calming = to_all c.args.circuit z a (take c.loop-to.to (ids_of c.args.self.now)) in
-          let here : slice_get (ids_of c.loop-to.self) c.args.from ≡ Some a = ap (λ (ns : List Node). slice_get ns c.args.from) c.loop-to.invariant.1 ∙ at in
+          let here : slice_get (ids_of c.loop-to.self) c.args.from ≡ Some a = ap (λ (ns : List NodeId). slice_get ns c.args.from) c.loop-to.invariant.1 ∙ at in
           let taken : y.taken a recipient.0 ≡ c.index.result.now = sym (c.index.ensures ∙ ap (λ (r : List ℕ). get_or r c.loop-to.to c.index.result.now) so_far.1 ∙ row_at y.taken a (ids_of c.args.self.now) c.loop-to.to recipient.0 c.index.result.now recipient.1) in
           turn_own c.args.circuit z a (ids_of c.args.self.now) c.loop-to.to recipient.0 c.loop-to.self.nodes.items c.pair_turn.new.self.nodes.items c.loop-to.row.items c.in_ok-row.field-0 h.ordered recipient.1 so_far
           (c.in_ok-row.ensures.moves y a recipient.0 here to taken) (c.in_ok-row.ensures.count y a recipient.0 so_far.0 here to taken),
@@ -32,5 +32,5 @@ loop-to-preserved c =
 
 pub returns-clause-own : goal.returns-clause-own
 returns-clause-own c = λ z a h at row.
-    subst (λ (ns : List Node). Holds c.args.circuit (to_all c.args.circuit z a ns).world c.loop-to.self.nodes.items × (c.loop-to.row.items ≡ row_of (to_all c.args.circuit z a ns).taken a (ids_of c.args.self.now)))
+    subst (λ (ns : List NodeId). Holds c.args.circuit (to_all c.args.circuit z a ns).world c.loop-to.self.nodes.items × (c.loop-to.row.items ≡ row_of (to_all c.args.circuit z a ns).taken a (ids_of c.args.self.now)))
     (take_all c.loop-to.to (ids_of c.args.self.now) (subst (λ (k : ℕ). k ≤ c.loop-to.to) (c.len-to-end.ensures ∙ sym (length_ids c.args.self.now.nodes.items)) c.loop-to-test.false)) (c.loop-to.invariant.3 z a h at row)
