@@ -1,5 +1,5 @@
 -- What stands where a step was refused.
-use Rattle.std.proofs.Common.{◌≡◌, ◌⊎◌, inl, inr, true, false, List, Some, Result, Ok, Err, OnOk, IfOk, sym, ap, subst, ◌∙◌}
+use Rattle.std.proofs.Common.{◌≡◌, ◌⊎◌, inl, inr, true, false, List, Result, Ok, Err, OnOk, IfOk, sym, ap, subst, ◌∙◌}
 use Rattle.std.specs.Str.{bytes_eq}
 use Rattle.spl_circuit.specs.Nodes.{NodeId, CircuitId, has_node}
 use Rattle.spl_wire.specs.declared.answer.Answer.{Answer}
@@ -8,7 +8,7 @@ use Rattle.spl_wire.specs.declared.answer.Refusal.{Refusal}
 use Rattle.spl_sched.specs.declared.line.Step.{Step}
 use Rattle.spl_model.specs.Worlds.{Sent, World as CircuitWorld, IsUnmoved, on_pair, step_plan, step_world}
 use Rattle.spl_model.proofs.Unmoved.{unmoved-step}
-use Rattle.spl_world.specs.Kept.{NodeView, place_of, sent_to}
+use Rattle.spl_world.specs.Kept.{NodeView}
 use Rattle.spl_world.specs.Views.{IsAs, Holds, Moves, Stays}
 use Rattle.spl_world.proofs.Sends.{bool_cases, bytes_are}
 

@@ -1,5 +1,4 @@
 use Rattle.std.proofs.Common.{◌∙◌, ap, sym, subst, rules, Some, None}
-use Rattle.spl_circuit.specs.Nodes.{NodeId as Id}
 use Rattle.spl_model.specs.Worlds.{site_at}
 use Rattle.spl_wire.specs.declared.plan.Plan.{Plan}
 use Rattle.spl_rules.specs.Valid.{IsFor}
