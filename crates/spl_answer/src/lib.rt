@@ -9,7 +9,5 @@ mod nodes;
 mod note;
 mod part;
 mod receipts;
-#[cfg(test)]
-mod tests;
 
 pub use answer::{append_text, text};

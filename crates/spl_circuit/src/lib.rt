@@ -15,6 +15,3 @@ pub use codec::{
 };
 pub use definition::{Definition, Members, Service, Services};
 pub use lifecycle::{Lifecycle, Mark, RouteFault};
-
-#[cfg(test)]
-mod tests;

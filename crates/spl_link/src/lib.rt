@@ -9,6 +9,3 @@ mod opening;
 pub use fault::LinkFault;
 pub use laws::{a_greeting_is_read_back, a_greeting_is_read_one_way, a_peer_is_heard};
 pub use opening::{Named, Opening};
-
-#[cfg(test)]
-mod tests;

@@ -5,6 +5,3 @@ mod way;
 
 pub use spl_circuit::RouteFault;
 pub use way::route;
-
-#[cfg(test)]
-mod tests;

@@ -19,6 +19,3 @@ pub use message::Message;
 pub use packing::{PackedRecords, packed_records};
 pub use plan::{Outgoing, Plan, SendList};
 pub use record::{ChangeList, Record};
-
-#[cfg(test)]
-mod tests;
