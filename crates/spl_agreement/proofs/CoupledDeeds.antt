@@ -28,8 +28,8 @@ use Rattle.spl_rules.specs.Changes.{made, made_one, moved_cell, stopped_cell, af
 use Rattle.spl_rules.specs.Plans.{planned, group_sends, admin_lane, service_lane}
 use Rattle.spl_model.proofs.Puts.{put_at-same, put_at-other, put_at-still}
 use Rattle.spl_model.proofs.Unmoved.{moved-keep}
-use Rattle.spl_model.proofs.Nodes.{node_is, node_same, node_other}
-use Rattle.spl_agreement.proofs.Same.{definition_same, definition_is}
+use Rattle.spl_model.proofs.Nodes.{node_other}
+use Rattle.spl_circuit.specs.Same.{node_is, node_same, definition_same, definition_is}
 use Rattle.spl_model.specs.Worlds.{Sent, put_at, posted, site_at}
 use Rattle.spl_agreement.specs.Lists.{committed, act_of, batch_of, acts_in, batches_in, is_bound_to}
 use Rattle.spl_agreement.proofs.GroupOfDefinition.{MayHear, Ever, InGroups, all_committed, after_row, plan_row, group_of}

@@ -23,7 +23,7 @@ use Rattle.spl_rules.specs.Cells.{Cell, Empty, Held, Purged, Bound, fresh}
 use Rattle.spl_rules.specs.Changes.{stopped_cell}
 use Rattle.spl_model.proofs.Nodes.{node_cases}
 use Rattle.spl_agreement.proofs.Positions.{position-apart}
-use Rattle.spl_agreement.proofs.Same.{act_same}
+use Rattle.spl_circuit.specs.Same.{act_same}
 use Rattle.spl_model.specs.Worlds.{Sent, posted, site_at}
 use Rattle.spl_agreement.proofs.GroupOfDefinition.{GroupMessage, Ever, IsOne, IsPlaced, IsMessageOf, MayHear, all_committed, after_row, plan_row, groups-row, Groups, group_of}
 use Rattle.spl_agreement.proofs.GroupBindings.{IsHarmless, groups-messages, groups-drop, groups-restart, groups-fresh}

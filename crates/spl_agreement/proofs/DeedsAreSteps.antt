@@ -1,8 +1,9 @@
 -- What an event does is one of the steps, and its conditions hold.
 use Rattle.std.proofs.Common.{◌≡◌, ◌≢◌, ℕ, true, false, List, [], length, refl, sym, subst, ◌∙◌}
-use Rattle.std.specs.Prelude.{Option, Some, None, ◌==◌, is_some}
+use Rattle.std.specs.Prelude.{Option, None, ◌==◌, is_some}
 use Rattle.std.specs.List.{list_any}
 use Rattle.std.specs.Str.{bytes_eq}
+use Rattle.spl_base.specs.Booleans.{none_of}
 use Rattle.spl_agree.specs.Rows.{on_submit}
 use Rattle.spl_agree.specs.declared.plan.GroupPlan.{GroupPlan}
 use Rattle.spl_agree.specs.declared.event.GroupEvent.TheVariants as group
@@ -49,16 +50,12 @@ IsDue sent n e = Hears (WasHeard sent n) e
 pub submit-commits : {V : Type 0} (g : Group V) (here : ℕ) (v : V) → all_committed (on_submit g here v).changes ≡ []
 submit-commits g here v = if_holds (λ (p : GroupPlan _). all_committed p.changes ≡ []) (here == g.coordinator) _ _ (λ q. refl) (λ q. refl)
 
-pub not_some : {A : Type 0} (o : Option A) → is_some o ≡ false → o ≡ None
-not_some None h = refl
-not_some (Some x) h = cc
-
 -- where no act of the node is pending, its next one is new
 pub next-new : (site : Site) (b : Bound) (w : ActKind) → is_act_pending site b ≡ false → IsNew (act_rules b.definition) b.acts (group.Submit (next_act site.here b.turn w))
 next-new site b w h =
     let r1 : _ ≡ false = or_right (list_any (λ v. bytes_eq v.node site.here) b.acts.pending) _ h in
     let r2 : _ ≡ false = or_right (length b.acts.pending == 64) _ r1 in (
-      not_some (known (act_rules b.definition) b.acts (next_act site.here b.turn w)) (or_left (is_some (known (act_rules b.definition) b.acts (next_act site.here b.turn kind.Accept))) _ r2),
+      none_of (known (act_rules b.definition) b.acts (next_act site.here b.turn w)) (or_left (is_some (known (act_rules b.definition) b.acts (next_act site.here b.turn kind.Accept))) _ r2),
       or_left (length b.acts.pending == 64) _ r1,
     )
 

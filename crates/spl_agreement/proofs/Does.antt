@@ -3,6 +3,7 @@
 use Rattle.std.proofs.Common.{◌≡◌, ℕ, ◌⊎◌, Bool, true, false, not, ◌&&◌, List, length, refl, sym, ap, subst, inl, inr}
 use Rattle.std.specs.Prelude.{Option, Some, None, ◌==◌, nat_lt, is_none, is_some, Ok, Err}
 use Rattle.std.specs.Str.{bytes_eq}
+use Rattle.spl_base.specs.Booleans.{none_is}
 use Rattle.spl_agree.specs.declared.reason.Reason.{Reason}
 use Rattle.spl_agree.specs.declared.message.CommitMsg.{CommitMsg}
 use Rattle.spl_agree.specs.declared.message.CommitMsg.TheVariants as msg
@@ -20,6 +21,7 @@ use Rattle.spl_circuit.specs.Rules.{broken, admin, is_member}
 use Rattle.spl_circuit.specs.Acts.{is_node}
 use Rattle.spl_circuit.specs.Lifecycle.{is_proposed}
 use Rattle.spl_circuit.specs.Routing.{Way, route}
+use Rattle.spl_circuit.specs.Same.{node_is}
 use Rattle.spl_command.specs.declared.batch.Batch.{Batch}
 use Rattle.spl_command.specs.Rules.{broken_batch}
 use Rattle.spl_command.specs.Equality.{same_batch}
@@ -34,7 +36,6 @@ use Rattle.spl_wire.specs.declared.event.Event.TheVariants as event
 use Rattle.spl_rules.specs.Cells.{Cell, Empty, Held, Purged, Deed, Refuses, Submitted, Alone, Tells, Replies, Binds, Acts, Serves, Turns, Abandons, Purges, is_open, own_life, runs, is_free, can_bind, proposes, proposes_at, votes, removes, is_act_pending, is_waiting, next_act, proposal, asked_first, forwarded_first, hears_first, Bound, Site, Delivered}
 use Rattle.spl_rules.specs.Batches.{submits, submits_ruled, submits_known, when_active, status_kept, status_refused, receipt_kept, has_the_id, routed, way, hears_routed, serves_other}
 use Rattle.spl_rules.specs.Events.{turns, held_hears, held_does, other_does, does}
-use Rattle.spl_model.proofs.Nodes.{node_is}
 use Rattle.spl_agreement.proofs.CoupledSteps.{IsIdle, IsFree}
 use Rattle.spl_agree.specs.declared.event.Note.{Note}
 use Rattle.spl_agree.specs.declared.event.Note.TheVariants as note
@@ -97,10 +98,6 @@ bind-facts site k gen d h =
     let r3 : _ ≡ true = and_right (is_none (broken d)) _ r2 in
     ((none_is (broken d) (and_left (is_none (broken d)) _ r2), and_left (is_member d site.here) _ r3, subst (λ (g : ℕ). IsFree k g) (sym same) (free_is k gen (and_right (is_member d site.here) _ r3))), same)
   where
-    none_is : (o : Option ℕ) → is_none o ≡ true → o ≡ None
-    none_is None x = refl
-    none_is (Some y) x = cc
-
     free_is : (k : Cell) (g : ℕ) → is_free k g ≡ true → IsFree k g
     free_is Empty g x = tt
     free_is (Held e) g x = cc

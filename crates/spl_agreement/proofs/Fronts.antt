@@ -6,16 +6,12 @@ use Rattle.std.proofs.Math.Seq.{take-append_seam}
 use Rattle.std.proofs.lemmas.List.Quantifiers.{position-Some}
 use Rattle.spl_agree.specs.Member.{values}
 use Rattle.spl_agree.specs.World.{IsPrefixOf}
+use Rattle.spl_agree.proofs.Tests.{length-values}
 use Rattle.spl_state.specs.Entries.{Entry}
 use Rattle.spl_command.specs.declared.batch.Batch.{Batch}
 use Rattle.spl_command.specs.Execution.{verdict_on}
 use Rattle.spl_command.specs.Lists.{receipts_in, after_batch, receipts_at}
 use Rattle.spl_scabbard.specs.Readers.{ids_of, place_of, receipts_from, receipts_of}
-
--- as many values as rounds
-pub length-values : {V : Type 0} (h : List (ℕ × V)) → length (values h) ≡ length h
-length-values [] = refl
-length-values (e ∷ es) = ap suc (length-values es)
 
 -- the front that a history is
 pub take-prefix : {V : Type 0} (h : List (ℕ × V)) (list : List V) → IsPrefixOf (values h) list → take (length h) list ≡ values h

@@ -12,8 +12,10 @@ use Rattle.spl_circuit.specs.Nodes.{NodeId, position, node_or}
 use Rattle.spl_circuit.specs.Equality.{same_definition}
 use Rattle.spl_group.proofs.Agreement.{agrees-stopped, agrees-start}
 use Rattle.spl_model.proofs.Nodes.{node_cases}
-use Rattle.spl_agreement.proofs.Same.{definition_cases, definition_is, definition_same}
-use Rattle.spl_agreement.proofs.Positions.{position-apart, position-or, member_by}
+use Rattle.spl_circuit.specs.Same.{definition_is, definition_same}
+use Rattle.spl_agreement.proofs.Same.{definition_cases}
+use Rattle.spl_circuit.specs.Positions.{node_at_position, member_below}
+use Rattle.spl_agreement.proofs.Positions.{position-apart}
 use Rattle.spl_agreement.proofs.GroupOfDefinition.{each-member, Groups, group_of, Presence, GroupMessage, Ever, IsQuiet, Matters, Shows, Says, IsPlaced, SomeWorld, InGroups, there_is, Away, There}
 
 -- messages that count in no group
@@ -256,7 +258,7 @@ groups-fresh {V} groups d e past at at2 said list n fresh spot new others c = re
         calm i = start-quiet d (at2 (node_or d.members [] i)) (quiet_one (node_or d.members [] i))
 
         at_lead : node_or d.members [] (position d.members (groups.leader d)) ≡ n
-        at_lead = position-or d.members [] (groups.leader d) fits.lead_in ∙ q
+        at_lead = node_at_position d.members [] (groups.leader d) fits.lead_in ∙ q
 
         begins : start (position d.members (groups.leader d)) ≡ new_member
         begins = ap (λ (u : NodeId). start_of d (at2 u)) at_lead ∙ (ap (λ (u : Presence V). start_of d u) new ∙ start-new d e)
@@ -269,13 +271,13 @@ groups-fresh {V} groups d e past at at2 said list n fresh spot new others c = re
         is_placed k x h = each-member at at2 n e new_member new others (λ k f x. IsPlaced groups f k) spot c.placed k d x h
 
         there : (k : NodeId) (x : Member V) → at2 k ≡ There d x → start (position d.members k) ≡ x
-        there k x h = ap (λ (u : NodeId). start_of d (at2 u)) (position-or d.members [] k (is_placed k x h).here_in) ∙ start-there d (at2 k) x h
+        there k x h = ap (λ (u : NodeId). start_of d (at2 u)) (node_at_position d.members [] k (is_placed k x h).here_in) ∙ start-there d (at2 k) x h
 
         never : (k : NodeId) → position d.members k < length d.members → (start (position d.members k) ≡ new_member) ⊎ Ever k d ((n, e) ∷ past)
         never k l = go (start-other d (at2 k))
           where
             same : start (position d.members k) ≡ start_of d (at2 k)
-            same = ap (λ (u : NodeId). start_of d (at2 u)) (position-or d.members [] k (member_by d.members k fits.few l))
+            same = ap (λ (u : NodeId). start_of d (at2 u)) (node_at_position d.members [] k (member_below d.members k fits.few l))
 
             go : (start_of d (at2 k) ≡ new_member) ⊎ ((m : Member V) × (at2 k ≡ There d m)) → (start (position d.members k) ≡ new_member) ⊎ Ever k d ((n, e) ∷ past)
             go (inl x) = inl (same ∙ x)

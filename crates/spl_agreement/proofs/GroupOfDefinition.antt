@@ -23,7 +23,8 @@ use Rattle.spl_group.proofs.Agreement.{agrees-row}
 use Rattle.spl_group.proofs.Sound.{values-more}
 use Rattle.spl_model.proofs.Nodes.{node_cases}
 use Rattle.spl_agreement.proofs.Same.{definition_cases}
-use Rattle.spl_agreement.proofs.Positions.{position-apart, position-or}
+use Rattle.spl_circuit.specs.Positions.{node_at_position}
+use Rattle.spl_agreement.proofs.Positions.{position-apart}
 use Rattle.spl_agreement.specs.Lists.{committed}
 
 -- one of the two groups that each definition has: its rules and who coordinates it
@@ -324,7 +325,7 @@ coupled-other {V} groups d e past at at2 said said2 list w n back ss new other l
     no q from to (msg.VoteRequest gen r place v) f a b h = leads from a h.0 (sym f.0 ∙ h.1)
     no q from to (msg.Decision gen r commit) f a b h = leads from a h.0 (sym f ∙ h.1)
     no q from to (msg.Vote gen r true) f a b h =
-        let x : to ≡ groups.leader e = b ∙ (ap (λ (z : ℕ). node_or e.members back z) f.1 ∙ position-or e.members back (groups.leader e) p.lead_in) in
+        let x : to ≡ groups.leader e = b ∙ (ap (λ (z : ℕ). node_or e.members back z) f.1 ∙ node_at_position e.members back (groups.leader e) p.lead_in) in
         let y : groups.leader e ≡ groups.leader d = sym x ∙ h.0 in
         other (law (groups.leader d) d e led (subst (λ (z : NodeId). Ever z e past) y (ledby quiet f.2)) (sym (sym f.0 ∙ h.1)))
     no q from to _ f a b h = h
@@ -341,7 +342,7 @@ pub shows-message : {V : Type 0} (groups : Groups V) (e : Definition) (past : Li
 shows-message groups e past n back new q from to (msg.VoteRequest gen r place v) ever p quiet f a b = (e, subst (λ (z : NodeId). Ever z e past) (sym a) ever, sym f.0, f.1)
 shows-message groups e past n back new q from to (msg.Decision gen r commit) ever p quiet f a b = (e, subst (λ (z : NodeId). Ever z e past) (sym a) ever, sym f)
 shows-message {V} groups e past n back new q from to (msg.Vote gen r true) ever p quiet f a b =
-    let x : to ≡ groups.leader e = b ∙ (ap (λ (z : ℕ). node_or e.members back z) f.1 ∙ position-or e.members back (groups.leader e) p.lead_in) in
+    let x : to ≡ groups.leader e = b ∙ (ap (λ (z : ℕ). node_or e.members back z) f.1 ∙ node_at_position e.members back (groups.leader e) p.lead_in) in
     (e, subst (λ (z : NodeId). Ever z e past) (sym x) (ledby quiet), sym f.0)
   where
     ledby : IsQuiet new ⊎ Ever (groups.leader e) e past → Ever (groups.leader e) e past

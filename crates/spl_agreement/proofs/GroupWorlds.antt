@@ -26,8 +26,9 @@ use Rattle.spl_group.proofs.Agreement.{prefix-agrees}
 use Rattle.spl_rules.specs.Cells.{Cell, Held}
 use Rattle.spl_rules.specs.Plans.{service_on, group_sends, admin_lane, service_lane}
 use Rattle.spl_model.proofs.Nodes.{node_cases}
-use Rattle.spl_agreement.proofs.Same.{definition_is}
-use Rattle.spl_agreement.proofs.Positions.{position-apart, position-below}
+use Rattle.spl_circuit.specs.Same.{definition_is}
+use Rattle.spl_circuit.specs.Positions.{position_below}
+use Rattle.spl_agreement.proofs.Positions.{position-apart}
 use Rattle.spl_agreement.proofs.Rosters.{IsRoster, roster}
 use Rattle.spl_model.specs.Worlds.{Sent, posted, site_at}
 use Rattle.spl_agreement.proofs.GroupOfDefinition.{Presence, Away, There, GroupMessage, Ever, IsOne, IsQuiet, IsPlaced, SomeWorld, InGroups, IsMessageOf, MayHear, after_row, Groups, group_of}
@@ -91,11 +92,11 @@ Others n at at2 = (k : NodeId) → k ≢ n → at2 k ≡ at k
 
 -- placed by validity
 pub placed-admin : (d : Definition) (n : NodeId) → broken d ≡ None → has_node d.members n ≡ true → IsPlaced admin_groups d n
-placed-admin d n h m = let r : IsRoster d = roster d h in record { few = r.few; here_in = m; lead_in = r.admin_in; here = position-below d.members n m; leads = position-below d.members (admin d) r.admin_in }
+placed-admin d n h m = let r : IsRoster d = roster d h in record { few = r.few; here_in = m; lead_in = r.admin_in; here = position_below d.members n m; leads = position_below d.members (admin d) r.admin_in }
 
 -- a member has its position in the service group
 pub placed-service : (d : Definition) (n : NodeId) → broken d ≡ None → has_node d.members n ≡ true → IsPlaced service_groups d n
-placed-service d n h m = let r : IsRoster d = roster d h in record { few = r.few; here_in = m; lead_in = r.service_in; here = position-below d.members n m; leads = position-below d.members (service d) r.service_in }
+placed-service d n h m = let r : IsRoster d = roster d h in record { few = r.few; here_in = m; lead_in = r.service_in; here = position_below d.members n m; leads = position_below d.members (service d) r.service_in }
 
 -- what is proposed first is the definition itself
 pub first_kind : (d : Definition) (n : NodeId) (k : ActKind) → misfit_kind d [] n k ≡ None → (x : Definition) × (k ≡ kind.Propose x) × (x ≡ d)
@@ -178,7 +179,7 @@ active-ever e past at said list n other a is active mem c = go (c.quiet n e a is
     by_world w = pick (w.1.never other below) (node_cases other (admin e))
       where
         below : position e.members other < length e.members
-        below = position-below e.members other mem
+        below = position_below e.members other mem
 
         mine : w.0.at (position e.members n) ≡ a
         mine = w.1.there n a is

@@ -14,7 +14,8 @@ use Rattle.spl_command.specs.declared.batch.Batch.{Batch}
 use Rattle.spl_command.specs.Rules.{broken_batch}
 use Rattle.spl_scabbard.specs.Checks.{is_taken, unless_broken, misfit_valid, misfit_batch, batch_rules}
 use Rattle.spl_model.proofs.Nodes.{node_cases}
-use Rattle.spl_agreement.proofs.Positions.{position-apart, position-below}
+use Rattle.spl_circuit.specs.Positions.{position_below}
+use Rattle.spl_agreement.proofs.Positions.{position-apart}
 use Rattle.spl_agreement.proofs.Rosters.{IsRoster, roster}
 use Rattle.spl_model.specs.Worlds.{Occurrence, world_behind}
 use Rattle.spl_agreement.specs.Lists.{act_list, batch_list}
@@ -89,7 +90,7 @@ all-ever d past at said list n ruled some mem c = go c.empty
     by_world r w = pick (w.1.never n below) (node_cases n (admin d))
       where
         below : position d.members n < length d.members
-        below = position-below d.members n mem
+        below = position_below d.members n mem
 
         lead_not : (w.0.at (position d.members (admin d))).history ≡ [] → ⊥
         lead_not h = some (sym w.1.listed ∙ ap (λ (x : List (ℕ × Act)). values x) h)

@@ -12,11 +12,11 @@ use Rattle.spl_circuit.specs.declared.definition.Definition.{Definition}
 use Rattle.spl_circuit.specs.Nodes.{NodeId}
 use Rattle.spl_circuit.specs.Acts.{act_rules}
 use Rattle.spl_circuit.specs.declared.act.Act.{Act}
+use Rattle.spl_circuit.specs.Same.{node_is}
 use Rattle.spl_command.specs.declared.batch.Batch.{Batch}
 use Rattle.spl_scabbard.specs.Checks.{batch_rules}
 use Rattle.spl_group.proofs.Sound.{values-more}
 use Rattle.spl_rules.specs.Cells.{Held, Bound}
-use Rattle.spl_model.proofs.Nodes.{node_is}
 use Rattle.spl_agreement.proofs.HistoriesGrow.{Lasts, stays-run, kept-prefix, prefix-same}
 use Rattle.spl_model.specs.Worlds.{World, Occurrence, occur}
 use Rattle.spl_model.specs.Plain.{AllPlain}

@@ -12,6 +12,7 @@ use Rattle.spl_circuit.specs.Nodes.{NodeId, CircuitId, position}
 use Rattle.spl_circuit.specs.Rules.{admin, service}
 use Rattle.spl_circuit.specs.Acts.{act_rules}
 use Rattle.spl_circuit.specs.declared.act.ActKind.TheVariants as kind
+use Rattle.spl_circuit.specs.Same.{node_is}
 use Rattle.spl_command.specs.declared.batch.Batch.{Batch}
 use Rattle.spl_wire.specs.declared.message.Message.{Message}
 use Rattle.spl_wire.specs.declared.event.Event.{Event}
@@ -26,7 +27,7 @@ use Rattle.spl_rules.specs.Plans.{planned}
 use Rattle.spl_sched.specs.declared.line.Step.{Step}
 use Rattle.spl_sched.specs.declared.line.Step.TheVariants as step
 use Rattle.spl_sched.specs.Grammar.{step_node}
-use Rattle.spl_model.proofs.Nodes.{node_is, node_not}
+use Rattle.spl_model.proofs.Nodes.{node_not}
 use Rattle.spl_model.specs.Worlds.{Sent, World, first_world, put_at, on_pair, messages, posted, delivery, step_plan, stopped, started, halted, Occurrence, Steps, Stops, Starts, Halts, happens, occur, world_behind, site_at}
 use Rattle.spl_agreement.specs.Lists.{acts_in, batches_in, adds, acts_from, batches_from, act_list, batch_list}
 use Rattle.spl_agreement.proofs.GroupOfDefinition.{GroupMessage, Presence, Away, There, Ever, IsQuiet, SomeWorld, InGroups, Groups, group_of}

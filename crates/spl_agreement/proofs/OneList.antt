@@ -4,7 +4,7 @@ use Rattle.std.specs.Prelude.{if◌then◌else◌}
 use Rattle.std.proofs.lemmas.List.{map-append}
 use Rattle.spl_agree.specs.Member.{values}
 use Rattle.spl_agree.specs.World.{IsPrefixOf}
-use Rattle.spl_agree.proofs.Tests.{bool_cases}
+use Rattle.spl_agree.proofs.Tests.{bool_cases, length-values}
 use Rattle.spl_state.specs.Root.{node_at}
 use Rattle.spl_command.specs.declared.batch.Batch.{Batch}
 use Rattle.spl_command.specs.Lists.{state_of}
@@ -25,8 +25,7 @@ use Rattle.spl_model.specs.Projection.{Ran, lines_fit}
 use Rattle.spl_agreement.specs.Lists.{is_bound_to, batches_in, adds, batches_from, batch_list}
 use Rattle.spl_agreement.specs.Told.{answered}
 use Rattle.spl_agreement.specs.OneList.{asking, IsTold, TellOneList}
-use Rattle.spl_agreement.proofs.Same.{definition_is}
-use Rattle.spl_agreement.proofs.Fronts.{length-values}
+use Rattle.spl_circuit.specs.Same.{definition_is}
 use Rattle.spl_agreement.proofs.Occurrences.{begins-batches}
 use Rattle.spl_agreement.proofs.Tells.{held-answers, active-answer, inactive-answer}
 use Rattle.spl_projection.specs.Whole.{whole_from, whole_world}

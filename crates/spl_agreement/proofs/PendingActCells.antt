@@ -20,7 +20,8 @@ use Rattle.spl_agreement.proofs.GroupOfDefinition.{GroupMessage, Ever}
 use Rattle.spl_agreement.proofs.CoupledSteps.{Past}
 use Rattle.spl_agreement.proofs.KnownStays.{found-more, found-last, refused-more, refused-last}
 use Rattle.spl_agreement.proofs.PendingActsDue.{IsOther, Forwards}
-use Rattle.spl_agreement.proofs.PendingActLists.{Among, Pairs, OtherKey, NotBoth, among-split, among-more, among-without, pairs-last, pairs-without, without-keeps, found-none, found-none_more, refused-none_more, key-back, key-parts, keys-one, keys-without, both-not}
+use Rattle.spl_circuit.specs.Same.{key_parts}
+use Rattle.spl_agreement.proofs.PendingActLists.{Among, Pairs, OtherKey, NotBoth, among-split, among-more, among-without, pairs-last, pairs-without, without-keeps, found-none, found-none_more, refused-none_more, key-back, keys-one, keys-without, both-not}
 
 -- what a cell keeps of acts: the committed, the pending and the refused ones
 pub record View : Type 0 where
@@ -77,7 +78,7 @@ of_key n t x = same_act_key (record { node = n; turn = t; kind = x.kind }) x
 -- it hangs on the key alone
 pub settled-key : (w : View) (u v : Act) → same_act_key u v ≡ true → Settled w u → Settled w v
 settled-key w u v h s =
-    let k : (u.node ≡ v.node) × (u.turn ≡ v.turn) = key-parts u v h in
+    let k : (u.node ≡ v.node) × (u.turn ≡ v.turn) = key_parts u v h in
     subst (λ (n : NodeId). (is_some (found (of_key n v.turn) w.done) ≡ true) ⊎ (is_some (found_refused (of_key n v.turn) w.refused) ≡ true)) k.0
     (subst (λ (t : ℕ). (is_some (found (of_key u.node t) w.done) ≡ true) ⊎ (is_some (found_refused (of_key u.node t) w.refused) ≡ true)) k.1 s)
 

@@ -1,19 +1,14 @@
 -- Lists of acts: what is among them, what differs pairwise, and what is left without one.
-use Rattle.std.proofs.Common.{◌≡◌, ℕ, ◌≤◌, ◌⊎◌, Bool, true, false, ◌&&◌, eqb, List, [], ◌∷◌, ◌++◌, length, refl, sym, ap, subst, ◌∙◌, inl, inr, arith}
+use Rattle.std.proofs.Common.{◌≡◌, ◌≤◌, ◌⊎◌, Bool, true, false, List, [], ◌∷◌, ◌++◌, length, refl, sym, subst, ◌∙◌, inl, inr, arith}
 use Rattle.std.specs.Prelude.{Some, None}
 use Rattle.std.specs.List.{filter}
-use Rattle.std.specs.Str.{bytes_eq}
 use Rattle.spl_agree.specs.declared.reason.Reason.{Reason}
 use Rattle.spl_agree.specs.Member.{without, found, found_refused}
-use Rattle.spl_agree.proofs.Tests.{bool_cases, and_left, and_right, eqb_is, eqb_same}
+use Rattle.spl_agree.proofs.Tests.{bool_cases}
 use Rattle.spl_circuit.specs.declared.act.Act.{Act}
-use Rattle.spl_circuit.specs.declared.act.ActKind.{ActKind}
-use Rattle.spl_circuit.specs.declared.act.ActKind.TheVariants as kind
-use Rattle.spl_circuit.specs.declared.definition.Definition.{Definition}
 use Rattle.spl_circuit.specs.Nodes.{NodeId}
-use Rattle.spl_circuit.specs.Equality.{same_act_key, same_act, same_kind}
-use Rattle.spl_model.proofs.Nodes.{node_is, node_same}
-use Rattle.spl_agreement.proofs.Same.{definition_is}
+use Rattle.spl_circuit.specs.Equality.{same_act_key}
+use Rattle.spl_circuit.specs.Same.{key_parts, key_from}
 
 -- it is one of these
 abbrev pub Among : {A : Type 0} → A → List A → Type 0
@@ -148,40 +143,14 @@ refused-none_more p z (y ∷ ys) h q = go (bool_cases (p y.0)) (refused-none_mor
     go (inr r) hyp = rw r (hyp (rw r at h) q)
 
 -- keys
-pub key-parts : (u v : Act) → same_act_key u v ≡ true → (u.node ≡ v.node) × (u.turn ≡ v.turn)
-key-parts u v h = (node_is u.node v.node (and_left (bytes_eq u.node v.node) (eqb u.turn v.turn) h), eqb_is u.turn v.turn (and_right (bytes_eq u.node v.node) (eqb u.turn v.turn) h))
-
-pub key-of : (u v : Act) → u.node ≡ v.node → u.turn ≡ v.turn → same_act_key u v ≡ true
-key-of u v p q = subst (λ (n : NodeId). (bytes_eq u.node n && eqb u.turn v.turn) ≡ true) p (subst (λ (t : ℕ). (bytes_eq u.node u.node && eqb u.turn t) ≡ true) q (rw (node_same u.node) (eqb_same u.turn)))
-
 pub key-same : (u : Act) → same_act_key u u ≡ true
-key-same u = key-of u u refl refl
+key-same u = key_from u u refl refl
 
 pub key-back : (u v : Act) → same_act_key u v ≡ true → same_act_key v u ≡ true
-key-back u v h = let k : (u.node ≡ v.node) × (u.turn ≡ v.turn) = key-parts u v h in key-of v u (sym k.0) (sym k.1)
+key-back u v h = let k : (u.node ≡ v.node) × (u.turn ≡ v.turn) = key_parts u v h in key_from v u (sym k.0) (sym k.1)
 
 pub key-over : (u v x : Act) → same_act_key u v ≡ true → same_act_key v x ≡ true → same_act_key u x ≡ true
-key-over u v x p q = let k : (u.node ≡ v.node) × (u.turn ≡ v.turn) = key-parts u v p in let l : (v.node ≡ x.node) × (v.turn ≡ x.turn) = key-parts v x q in key-of u x (k.0 ∙ l.0) (k.1 ∙ l.1)
-
--- acts by their parts
-abbrev made_act : NodeId → ℕ → ActKind → Act
-made_act n t k = record { node = n; turn = t; kind = k }
-
-made_act_is : (n n2 : NodeId) (t t2 : ℕ) (k k2 : ActKind) → n ≡ n2 → t ≡ t2 → k ≡ k2 → made_act n t k ≡ made_act n2 t2 k2
-made_act_is n n2 t t2 k k2 p q r = cc
-
-kind-is : (k l : ActKind) → same_kind k l ≡ true → k ≡ l
-kind-is (kind.Propose d) (kind.Propose e) h = ap (λ (z : Definition). kind.Propose z) (definition_is d e h)
-kind-is kind.Accept kind.Accept h = refl
-kind-is kind.Reject kind.Reject h = refl
-kind-is kind.Remove kind.Remove h = refl
-kind-is _ _ h = cc
-
--- equal acts are one
-pub act-is : (u v : Act) → same_act u v ≡ true → u ≡ v
-act-is u v h =
-    let k : (u.node ≡ v.node) × (u.turn ≡ v.turn) = key-parts u v (and_left (same_act_key u v) (same_kind u.kind v.kind) h) in
-    made_act_is u.node v.node u.turn v.turn u.kind v.kind k.0 k.1 (kind-is u.kind v.kind (and_right (same_act_key u v) (same_kind u.kind v.kind) h))
+key-over u v x p q = let k : (u.node ≡ v.node) × (u.turn ≡ v.turn) = key_parts u v p in let l : (v.node ≡ x.node) × (v.turn ≡ x.turn) = key_parts v x q in key_from u x (k.0 ∙ l.0) (k.1 ∙ l.1)
 
 -- two acts have two keys
 abbrev pub OtherKey : Act → Act → Type 0

@@ -24,15 +24,15 @@ use Rattle.spl_circuit.specs.Rules.{admin}
 use Rattle.spl_circuit.specs.Acts.{act_rules, admits_act, admits_kind, stray_act}
 use Rattle.spl_circuit.specs.Equality.{same_act_key, same_act}
 use Rattle.spl_agreement.specs.Agreement.{is_proposal}
-use Rattle.spl_model.proofs.Nodes.{node_is}
-use Rattle.spl_agreement.proofs.Same.{act_same}
-use Rattle.spl_agreement.proofs.Positions.{member_by, position-apart, position-or}
+use Rattle.spl_circuit.specs.Same.{node_is, act_same, key_parts, act_is}
+use Rattle.spl_circuit.specs.Positions.{member_below, node_at_position}
+use Rattle.spl_agreement.proofs.Positions.{position-apart}
 use Rattle.spl_agreement.proofs.GroupOfDefinition.{GroupMessage, Ever, IsPlaced, AllPosts, group_of}
 use Rattle.spl_agreement.proofs.SentByRule.{posts-to_each, posts-abort_each}
 use Rattle.spl_agreement.proofs.GroupWorlds.{admin_groups}
 use Rattle.spl_agreement.proofs.CoupledSteps.{Past}
 use Rattle.spl_agreement.proofs.KnownStays.{refused-last}
-use Rattle.spl_agreement.proofs.PendingActLists.{Among, among-last, found-among, key-same, key-back, key-parts, act-is, both-not}
+use Rattle.spl_agreement.proofs.PendingActLists.{Among, among-last, found-among, key-same, key-back, both-not}
 use Rattle.spl_agreement.proofs.PendingActsDue.{Forwards}
 use Rattle.spl_agreement.proofs.PendingActCells.{View, Sight, view, Settled, Returns, IsTidy, MayJoin, IsUnknown, MeetsOne, shifted, shifted_by}
 use Rattle.spl_agreement.proofs.PendingActMessages.{IsFew}
@@ -180,7 +180,7 @@ fit-strayed past said n e a sender v (Some why) h = (tt, ((refl, inl (by_kind v.
 -- an act comes back
 pub fit-taken_back : (past : Past) (said : GroupMessage Act → Type 0) (n : NodeId) (e : Definition) (a : Member Act) (o : Option Act) (v : Act) (why : Reason) → found (same_act_key v) a.pending ≡ o → Returns said (admin e) n e.generation v why → Fit past said n e a (taken_back (act_rules e) o v why)
 fit-taken_back past said n e a None v why h was = (tt, tt)
-fit-taken_back past said n e a (Some u) v why h was = if_holds (Fit past said n e a) (same_act u v) _ _ (λ q. (inr (subst (λ (z : Act). Among z a.pending) (act-is u v q) (found-among (same_act_key v) u a.pending h).0, was), tt)) (λ q. (tt, tt))
+fit-taken_back past said n e a (Some u) v why h was = if_holds (Fit past said n e a) (same_act u v) _ _ (λ q. (inr (subst (λ (z : Act). Among z a.pending) (act_is u v q) (found-among (same_act_key v) u a.pending h).0, was), tt)) (λ q. (tt, tt))
 
 -- a forwarded act comes from the coordinator's group
 pub fit-forward : (past past2 : Past) (see : NodeId → Sight) (said : GroupMessage Act → Type 0) (n back : NodeId) (e : Definition) (a : Member Act) (sender gen : ℕ) (v : Act) → IsFew past see said → Ever n e past2 → IsPlaced admin_groups e n → IsTidy past2 said n e (view a) → n ≡ admin e → has sender (others (group e) (position e.members n)) ≡ true
@@ -191,7 +191,7 @@ fit-forward past past2 see said n back e a sender gen v f ever p t lead member r
     below = subst (λ (i : ℕ). i < length e.members) ready.0 (has-below_but-other (length e.members) (position e.members n) sender member).0
 
     at_sender : node_or e.members [] sender ≡ back
-    at_sender = ap (λ (i : ℕ). node_or e.members [] i) ready.0 ∙ position-or e.members [] back (member_by e.members back p.few below)
+    at_sender = ap (λ (i : ℕ). node_or e.members [] i) ready.0 ∙ node_at_position e.members [] back (member_below e.members back p.few below)
 
     sent : Forwards said back n e.generation v
     sent = subst (λ (i : ℕ). Forwards said back n i v) ready.2 ready.1
@@ -203,7 +203,7 @@ fit-forward past past2 see said n back e a sender gen v f ever p t lead member r
         from = sym h ∙ at_sender
 
         same : u.node ≡ v.node
-        same = (key-parts u v (key-back v u q)).0
+        same = (key_parts u v (key-back v u q)).0
 
         go : (u.node ≡ n) ⊎ Forwards said u.node n e.generation u → u ≡ v
         go (inl x) = absurd (ready.3 (sym from ∙ (sym same ∙ x)))

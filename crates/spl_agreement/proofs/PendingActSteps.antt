@@ -18,7 +18,7 @@ use Rattle.spl_rules.specs.Cells.{Cell, Held}
 use Rattle.spl_agreement.specs.Agreement.{is_proposal}
 use Rattle.spl_model.specs.Worlds.{Sent}
 use Rattle.spl_model.proofs.Nodes.{node_cases}
-use Rattle.spl_agreement.proofs.Positions.{position-or}
+use Rattle.spl_circuit.specs.Positions.{node_at_position}
 use Rattle.spl_agreement.proofs.GroupOfDefinition.{GroupMessage, There, Ever, IsPlaced, IsMessageOf, SomeWorld, plan_row, message-by_rule, group_of}
 use Rattle.spl_agreement.proofs.GroupWorlds.{admin_groups, admin_said, admin_presence, InWorld, Others, WasSent}
 use Rattle.spl_agreement.proofs.CoupledSteps.{Past}
@@ -130,7 +130,7 @@ mild-news see n back e w q from to (msg.Forward g u) is p m a b = (
   w,
   subst (λ (z : NodeId). see z ≡ Sees e w) (sym a) is,
   sym m.0,
-  b ∙ (ap (λ (z : ℕ). node_or e.members back z) m.1 ∙ position-or e.members back (admin e) p.lead_in),
+  b ∙ (ap (λ (z : ℕ). node_or e.members back z) m.1 ∙ node_at_position e.members back (admin e) p.lead_in),
   subst (λ (z : NodeId). z ≢ admin e) (sym a) m.2,
   m.3,
 )

@@ -19,14 +19,15 @@ use Rattle.spl_sched.specs.Grammar.{step_node}
 use Rattle.spl_model.specs.Worlds.{Sent, World, Occurrence, Steps, Stops, Starts, Halts, put_at, posted, step_plan, stopped, started, halted, happens, occur, first_world, world_behind}
 use Rattle.spl_agreement.specs.Agreement.{AtEach, AreFew, is_proposal, is_proposal_of, is_other_act_of}
 use Rattle.spl_model.specs.Plain.{AllPlain, IsPlain}
-use Rattle.spl_model.proofs.Nodes.{node_is, node_cases}
+use Rattle.spl_model.proofs.Nodes.{node_cases}
 use Rattle.spl_agreement.proofs.GroupOfDefinition.{GroupMessage, Ever, group_of}
 use Rattle.spl_agreement.proofs.GroupWorlds.{InWorld, Others, WasSent, admin_groups, admin_said, was-split, was-left}
 use Rattle.spl_agreement.proofs.CoupledSteps.{Past}
 use Rattle.spl_agreement.proofs.CoupledDeeds.{SomePast, put-others}
 use Rattle.spl_model.proofs.Puts.{put_at-same}
 use Rattle.spl_agreement.proofs.Occurrences.{IsDeed, step-deed, happens-keeps, world-start}
-use Rattle.spl_agreement.proofs.PendingActLists.{Among, OtherKey, pairs-map, single-one, filter-few, key-of, key-same, both-not}
+use Rattle.spl_circuit.specs.Same.{node_is, key_from}
+use Rattle.spl_agreement.proofs.PendingActLists.{Among, OtherKey, pairs-map, single-one, filter-few, key-same, both-not}
 use Rattle.spl_agreement.proofs.PendingActsDue.{IsOther, Forwards}
 use Rattle.spl_agreement.proofs.PendingActCells.{View, Sight, Sees, Nowhere, view, sight, sees_not, settled-not, IsTidy}
 use Rattle.spl_agreement.proofs.PendingActMessages.{IsFew, IsOneOf}
@@ -149,7 +150,7 @@ are-few past see said n d w f is lead = record {
     proposals q x y h k o a b =
         let i : x.turn ≡ 1 = tidy.first x h (and_right (bytes_eq x.node q) (is_proposal x.kind) a) in
         let j : y.turn ≡ 1 = tidy.first y k (and_right (bytes_eq y.node q) (is_proposal y.kind) b) in
-        both-not (same_act_key y x) (key-of y x (of_node q y (is_proposal y.kind) b ∙ sym (of_node q x (is_proposal x.kind) a)) (j ∙ sym i)) o
+        both-not (same_act_key y x) (key_from y x (of_node q y (is_proposal y.kind) b ∙ sym (of_node q x (is_proposal x.kind) a)) (j ∙ sym i)) o
 
     other_kind : (q : NodeId) (x : Act) → is_other_act_of q x ≡ true → IsOther x
     other_kind q x a = not_true (is_proposal x.kind) (and_right (bytes_eq x.node q) (not (is_proposal x.kind)) a)

@@ -17,6 +17,7 @@ use Rattle.spl_circuit.specs.declared.act.Act.{Act}
 use Rattle.spl_circuit.specs.Nodes.{NodeId, CircuitId, ServiceId, position}
 use Rattle.spl_circuit.specs.Equality.{same_act_key}
 use Rattle.spl_circuit.specs.Acts.{act_rules}
+use Rattle.spl_circuit.specs.Same.{node_same}
 use Rattle.spl_command.specs.declared.batch.Batch.{Batch}
 use Rattle.spl_scabbard.specs.Checks.{batch_rules}
 use Rattle.spl_wire.specs.declared.message.Message.{Message}
@@ -40,7 +41,6 @@ use Rattle.spl_model.specs.Worlds.{World, messages, delivery, plan_up, step_plan
 use Rattle.spl_model.proofs.Puts.{put_at-same}
 use Rattle.spl_agreement.proofs.Does.{Hears, Does, Refused, Told, Replied, Proposed, Asked, Handed, Acted, Taken, Heard, Served, GoesOn, BothGoOn, Left, Forgot, does-at}
 use Rattle.spl_agreement.specs.Queued.{Value, OfActs, OfBatches, knows, handed_on, handed_over, brought_to, brought, IsQueued, KnowsQueued}
-use Rattle.spl_model.proofs.Nodes.{node_same}
 use Rattle.spl_agreement.proofs.CoupledDeeds.{made-bind}
 use Rattle.spl_agreement.proofs.KnownStays.{known-in, found-last}
 use Rattle.spl_agreement.proofs.NotedQueued.{handed, IsNoted, noted-message}

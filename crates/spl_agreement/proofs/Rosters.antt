@@ -1,68 +1,14 @@
 -- What a valid definition gives.
-use Rattle.std.proofs.Common.{◌≡◌, ℕ, ◌+◌, ◌≤◌, ◌⊎◌, Bool, true, false, ◌&&◌, List, [], ◌∷◌, length, refl, sym, ap, subst, inl, inr, arith}
-use Rattle.std.specs.Prelude.{None, nat_le}
-use Rattle.std.proofs.lemmas.Bool.Decides.{nat_tests}
-use Rattle.std.specs.Str.{bytes_eq}
-use Rattle.spl_agree.proofs.Tests.{if_holds, and_left, and_right, or_cases, or_true}
+use Rattle.std.proofs.Common.{◌≡◌, ◌≤◌, true, List, [], ◌∷◌, length, None, refl, sym, ap, ◌∙◌, arith}
+use Rattle.std.specs.Prelude.{slice_index_or}
+use Rattle.spl_base.specs.Rules.{test_at}
 use Rattle.spl_circuit.specs.declared.definition.Service.{Service}
 use Rattle.spl_circuit.specs.declared.definition.Definition.{Definition}
-use Rattle.spl_circuit.specs.Nodes.{NodeId, has_node, is_below, lowest, inserted, sorted, same_nodes}
-use Rattle.spl_circuit.specs.Rules.{first_false, rules_of, broken, admin, service, lowest_service, leading_node, nodes_of}
-use Rattle.spl_model.proofs.Nodes.{node_same}
-use Rattle.spl_agreement.proofs.Same.{same_nodes_is}
-use Rattle.spl_agreement.proofs.Positions.{has-lowest}
-
--- each test is passed
-abbrev pub AllTrue : List Bool → Type 0
-AllTrue [] = Unit {0}
-AllTrue (b ∷ bs) = (b ≡ true) × AllTrue bs
-
--- no test fails first where each is passed
-pub all_true : (n : ℕ) (bs : List Bool) → first_false n bs ≡ None → AllTrue bs
-all_true n [] h = tt
-all_true n (true ∷ bs) h = (refl, all_true (n + 1) bs h)
-all_true n (false ∷ bs) h = cc
-
--- what is at most, by its test
-pub leb_is : (a b : ℕ) → nat_le a b ≡ true → a ≤ b
-leb_is a b h = grind (arith, nat_tests)
-
--- what is inserted is there, and all that was
-pub has-inserted : (x : NodeId) (ys : List NodeId) (z : NodeId) → has_node (x ∷ ys) z ≡ true → has_node (inserted x ys) z ≡ true
-has-inserted x [] z h = h
-has-inserted x (y ∷ ys) z h = if_holds (λ r. has_node r z ≡ true) (is_below y x) _ _ (λ q. go (has-inserted x ys z) (or_cases (bytes_eq x z) (has_node (y ∷ ys) z) h)) (λ q. h)
-  where
-    go : (has_node (x ∷ ys) z ≡ true → has_node (inserted x ys) z ≡ true) → (bytes_eq x z ≡ true) ⊎ (has_node (y ∷ ys) z ≡ true) → has_node (y ∷ inserted x ys) z ≡ true
-    go hyp (inl q) = let k : has_node (inserted x ys) z ≡ true = hyp (rw q) in rw k (or_true (bytes_eq y z))
-    go hyp (inr q) = deeper hyp (or_cases (bytes_eq y z) (has_node ys z) q)
-      where
-        deeper : (has_node (x ∷ ys) z ≡ true → has_node (inserted x ys) z ≡ true) → (bytes_eq y z ≡ true) ⊎ (has_node ys z ≡ true) → has_node (y ∷ inserted x ys) z ≡ true
-        deeper f (inl r) = rw r
-        deeper f (inr r) = let k : has_node (inserted x ys) z ≡ true = f (rw r (or_true (bytes_eq x z))) in rw k (or_true (bytes_eq y z))
-
--- sorting loses no node
-pub has-sorted : (xs : List NodeId) (z : NodeId) → has_node xs z ≡ true → has_node (sorted xs) z ≡ true
-has-sorted [] z h = h
-has-sorted (x ∷ xs) z h = has-inserted x (sorted xs) z (go (has-sorted xs z) (or_cases (bytes_eq x z) (has_node xs z) h))
-  where
-    go : (has_node xs z ≡ true → has_node (sorted xs) z ≡ true) → (bytes_eq x z ≡ true) ⊎ (has_node xs z ≡ true) → has_node (x ∷ sorted xs) z ≡ true
-    go hyp (inl q) = rw q
-    go hyp (inr q) = let k : has_node (sorted xs) z ≡ true = hyp q in rw k (or_true (bytes_eq x z))
-
--- the lowest service's node is one of theirs
-pub has-lowest_service : (s : Service) (ts : List Service) → has_node (nodes_of (s ∷ ts)) (lowest_service s ts).node ≡ true
-has-lowest_service s [] = rw (node_same s.node)
-has-lowest_service s (t ∷ ts) = if_holds (λ z. has_node (nodes_of (s ∷ t ∷ ts)) (lowest_service z ts).node ≡ true) (is_below t.id s.id) t s (λ q. later (has-lowest_service t ts)) (λ q. first (has-lowest_service s ts))
-  where
-    later : has_node (nodes_of (t ∷ ts)) (lowest_service t ts).node ≡ true → has_node (nodes_of (s ∷ t ∷ ts)) (lowest_service t ts).node ≡ true
-    later h = rw h (or_true (bytes_eq s.node (lowest_service t ts).node))
-
-    first : has_node (nodes_of (s ∷ ts)) (lowest_service s ts).node ≡ true → has_node (nodes_of (s ∷ t ∷ ts)) (lowest_service s ts).node ≡ true
-    first h = sub (or_cases (bytes_eq s.node (lowest_service s ts).node) (has_node (nodes_of ts) (lowest_service s ts).node) h)
-      where
-        sub : (bytes_eq s.node (lowest_service s ts).node ≡ true) ⊎ (has_node (nodes_of ts) (lowest_service s ts).node ≡ true) → has_node (nodes_of (s ∷ t ∷ ts)) (lowest_service s ts).node ≡ true
-        sub (inl q) = rw q
-        sub (inr q) = rw (q, or_true (bytes_eq t.node (lowest_service s ts).node)) (or_true (bytes_eq s.node (lowest_service s ts).node))
+use Rattle.spl_circuit.specs.Nodes.{NodeId, has_node, sorted}
+use Rattle.spl_circuit.specs.Rules.{rules_of, broken, admin, service, nodes_of}
+use Rattle.spl_circuit.specs.Same.{node_same, nodes_are}
+use Rattle.spl_circuit.proofs.Sorting.{has_sorted}
+use Rattle.spl_circuit.proofs.Valid.{few_members, as_many_services, admin_is_first, service_is_first}
 
 -- what follows from the rules
 pub record IsRoster (d : Definition) : Type 0 where
@@ -70,25 +16,31 @@ pub record IsRoster (d : Definition) : Type 0 where
   pub admin_in : has_node d.members (admin d) ≡ true
   pub service_in : has_node d.members (service d) ≡ true
 
--- the lowest member is one
-pub admin-in : (ms : List NodeId) → 2 ≤ length ms → has_node ms (lowest ms) ≡ true
-admin-in [] h = absurd (omega (arith, h))
-admin-in (x ∷ xs) h = has-lowest x xs
+first-has : (ms : List NodeId) (x : NodeId) → 2 ≤ length ms → has_node ms (slice_index_or ms 0 x) ≡ true
+first-has [] x h = absurd (omega (arith, h))
+first-has (m ∷ ms) x h = rw (node_same m) refl
 
--- the node of the lowest service is a member
-pub service-in : (ss : List Service) (ms : List NodeId) → 2 ≤ length ms → sorted (nodes_of ss) ≡ ms → has_node ms (leading_node ss) ≡ true
-service-in [] ms h e = absurd (let k : length ms ≡ 0 = ap (λ (x : List NodeId). length x) (sym e) in omega arith)
-service-in (s ∷ ss) ms h e = subst (λ (x : List NodeId). has_node x (lowest_service s ss).node ≡ true) e (has-sorted (nodes_of (s ∷ ss)) (lowest_service s ss).node (has-lowest_service s ss))
+first-serves : (ss : List Service) (s : Service) → 2 ≤ length ss → has_node (nodes_of ss) (slice_index_or ss 0 s).node ≡ true
+first-serves [] s h = absurd (omega (arith, h))
+first-serves (t ∷ ts) s h = rw (node_same t.node) refl
+
+-- the nodes of the services are the members
+pub nodes-members : (d : Definition) → broken d ≡ None → sorted (nodes_of d.services) ≡ d.members
+nodes-members d ruled = nodes_are (sorted (nodes_of d.services)) d.members (test_at 8 1 (rules_of d) ruled)
+
+-- whose node has a service is a member, and each member has one
+pub members-serve : (d : Definition) (n : NodeId) → broken d ≡ None → has_node d.members n ≡ has_node (nodes_of d.services) n
+members-serve d n ruled = ap (λ ms. has_node ms n) (sym (nodes-members d ruled)) ∙ has_sorted (nodes_of d.services) n
+
+abbrev no_service : Service
+no_service = record { id = []; kind = []; node = [] }
 
 -- of a definition that breaks no rule
 pub roster : (d : Definition) → broken d ≡ None → IsRoster d
-roster d h =
-    let all : AllTrue (rules_of d) = all_true 1 (rules_of d) h in
-    let both : (nat_le 2 (length d.members) && nat_le (length d.members) 8) ≡ true = all.1.1.1.1.0 in
-    let two : 2 ≤ length d.members = leb_is 2 (length d.members) (and_left (nat_le 2 (length d.members)) (nat_le (length d.members) 8) both) in
-    let nodes : same_nodes (sorted (nodes_of d.services)) d.members ≡ true = all.1.1.1.1.1.1.1.1.0 in
-    record {
-      few = leb_is (length d.members) 8 (and_right (nat_le 2 (length d.members)) (nat_le (length d.members) 8) both);
-      admin_in = admin-in d.members two;
-      service_in = service-in d.services d.members two (same_nodes_is (sorted (nodes_of d.services)) d.members nodes);
-    }
+roster d h = record {
+  few = (few_members d h).1;
+  admin_in = ap (has_node d.members) (sym (admin_is_first d [] h)) ∙ first-has d.members [] (few_members d h).0;
+  service_in =
+      members-serve d (service d) h ∙ ap (has_node (nodes_of d.services)) (sym (service_is_first d no_service h))
+      ∙ first-serves d.services no_service (omega (arith, as_many_services d h, (few_members d h).0));
+}

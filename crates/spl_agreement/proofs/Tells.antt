@@ -3,6 +3,7 @@ use Rattle.std.proofs.Common.{◌≡◌, ℕ, Bool, true, false, List, [], lengt
 use Rattle.std.specs.Prelude.{Option, Some, None, if◌then◌else◌}
 use Rattle.spl_agree.specs.Member.{values}
 use Rattle.spl_agree.specs.World.{IsPrefixOf}
+use Rattle.spl_agree.proofs.Tests.{length-values}
 use Rattle.spl_state.specs.Root.{node_at}
 use Rattle.spl_command.specs.declared.batch.Batch.{Batch}
 use Rattle.spl_command.specs.declared.receipt.Receipt.{Receipt}
@@ -21,7 +22,7 @@ use Rattle.spl_rules.specs.Events.{held_does}
 use Rattle.spl_rules.specs.Plans.{tells_only, planned, plan_of}
 use Rattle.spl_model.specs.Worlds.{World}
 use Rattle.spl_agreement.specs.Told.{answered, accepted_by, TellsLists, TellsFronts}
-use Rattle.spl_agreement.proofs.Fronts.{length-values, take-prefix, receipts-placed}
+use Rattle.spl_agreement.proofs.Fronts.{take-prefix, receipts-placed}
 
 -- where a node is up, it is asked what its cell tells
 pub held-answers : (w : World) (site : Site) (b : Bound) (e : Event) → w.up site.here ≡ true → w.at site.here ≡ Held b → answered w site e ≡ (plan_of site (Held b) e).answer

@@ -1,8 +1,9 @@
 -- Another thing at one node: there, at any other, and where it is what was there.
 use Rattle.std.proofs.Common.{◌≡◌, ◌≢◌, ◌⊎◌, sym, subst, ◌∙◌, inl, inr}
 use Rattle.spl_circuit.specs.Nodes.{NodeId}
+use Rattle.spl_circuit.specs.Same.{node_same}
 use Rattle.spl_model.specs.Worlds.{put_at}
-use Rattle.spl_model.proofs.Nodes.{node_same, node_other, node_cases}
+use Rattle.spl_model.proofs.Nodes.{node_other, node_cases}
 
 pub put_at-same : {A : Type 0} (f : NodeId → A) (n : NodeId) (x : A) → put_at f n x n ≡ x
 unfolding put_at

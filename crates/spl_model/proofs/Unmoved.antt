@@ -5,6 +5,7 @@ use Rattle.spl_agree.proofs.Tests.{if_holds}
 use Rattle.spl_agree.specs.declared.event.Note.{Note}
 use Rattle.spl_agree.specs.declared.event.OpenMove.TheVariants as move
 use Rattle.spl_circuit.specs.Nodes.{NodeId, CircuitId}
+use Rattle.spl_circuit.specs.Same.{node_is}
 use Rattle.spl_wire.specs.declared.message.Message.{Message}
 use Rattle.spl_wire.specs.declared.event.Event.TheVariants as event
 use Rattle.spl_wire.specs.declared.answer.Answer.{Answer}
@@ -25,7 +26,7 @@ use Rattle.spl_rules.specs.Changes.{moved_cell}
 use Rattle.spl_model.specs.Worlds.{World, site_at, IsUnmoved, put_at, messages, delivery, plan_up, step_plan, step_world, carried_out, Halts, happens}
 use Rattle.spl_model.specs.Projection.{names}
 use Rattle.spl_model.specs.Answers.{bit_of, halt_answer, line_answer, line_world}
-use Rattle.spl_model.proofs.Nodes.{node_cases, node_is}
+use Rattle.spl_model.proofs.Nodes.{node_cases}
 use Rattle.spl_model.proofs.Puts.{put_at-same, put_at-other}
 
 -- ---- a refusal is the answer alone

@@ -4,6 +4,7 @@ use Rattle.std.specs.Prelude.{if◌then◌else◌}
 use Rattle.std.specs.Str.{bytes_eq}
 use Rattle.spl_agree.proofs.Tests.{if_holds, bool_cases, and_left, and_right}
 use Rattle.spl_circuit.specs.Nodes.{NodeId, CircuitId, has_node, sorted}
+use Rattle.spl_circuit.specs.Same.{node_is}
 use Rattle.spl_wire.specs.declared.message.Message.{Message}
 use Rattle.spl_wire.specs.declared.event.Event.TheVariants as event
 use Rattle.spl_sched.specs.declared.line.Step.{Step}
@@ -12,7 +13,6 @@ use Rattle.spl_rules.specs.Cells.{Cell, is_open_cell}
 use Rattle.spl_model.specs.Worlds.{World, messages, Occurrence, Steps}
 use Rattle.spl_model.specs.Calm.{Calming, calming_step, calming, open_nodes, ticks, delivers, takes, pair_turn, to_all, from_all, pass, passes, calm}
 use Rattle.spl_model.specs.Plain.{IsPlainStep}
-use Rattle.spl_model.proofs.Nodes.{node_is}
 use Rattle.spl_projection.proofs.Within.{are_within, within-empty, open-within}
 use Rattle.spl_projection.proofs.Confined.{IsConfined, messages-none, IsStepWithin, step-here, confined-step, AllWithin, within-append}
 use Rattle.spl_projection.proofs.Alike.{IsAlike, up-alike, step-alike, AllHere}

@@ -5,6 +5,7 @@ use Rattle.std.specs.List.{list_all}
 use Rattle.std.specs.Str.{bytes_eq}
 use Rattle.spl_agree.proofs.Tests.{if_holds, bool_cases, and_left, and_right}
 use Rattle.spl_circuit.specs.Nodes.{NodeId, CircuitId, has_node}
+use Rattle.spl_circuit.specs.Same.{node_is}
 use Rattle.spl_wire.specs.declared.message.Message.{Message}
 use Rattle.spl_wire.specs.declared.event.Event.{Event}
 use Rattle.spl_wire.specs.declared.event.Event.TheVariants as event
@@ -17,7 +18,7 @@ use Rattle.spl_rules.specs.Changes.{made, stopped_cell, after_plan}
 use Rattle.spl_model.specs.Worlds.{Sent, World, site_at, first_world, put_at, on_pair, messages, posted, delivery, step_plan, carried_out, step_world, stopped, started, halted, Occurrence, Steps, Stops, Starts, Halts, happens, occur}
 use Rattle.spl_model.specs.Projection.{proposed_members, step_concerns}
 use Rattle.spl_model.specs.Plain.{IsPlainEvent, IsPlainStep}
-use Rattle.spl_model.proofs.Nodes.{node_is, node_cases}
+use Rattle.spl_model.proofs.Nodes.{node_cases}
 use Rattle.spl_model.proofs.Puts.{put_at-same, put_at-other}
 use Rattle.spl_projection.proofs.Within.{are_within, is_message_within, IsCellWithin, within-made, within-stopped, within-after, AllGo, is_outgoing_within, IsPlanWithin, IsDueWithin, within-plan}
 

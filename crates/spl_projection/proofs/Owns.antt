@@ -4,6 +4,7 @@ use Rattle.std.specs.Prelude.{Option, Some, None, nat_le, nat_lt, if◌then◌el
 use Rattle.std.specs.Str.{bytes_eq}
 use Rattle.spl_agree.proofs.Tests.{bool_cases, and_left, and_right, or_true}
 use Rattle.spl_circuit.specs.Nodes.{NodeId, CircuitId, has_node}
+use Rattle.spl_circuit.specs.Same.{node_is, node_same}
 use Rattle.spl_wire.specs.declared.answer.Answer.{Answer}
 use Rattle.spl_wire.specs.declared.answer.Answer.TheVariants as answer
 use Rattle.spl_wire.specs.declared.answer.Refusal.TheVariants as refusal
@@ -19,7 +20,6 @@ use Rattle.spl_model.specs.Worlds.{World, first_world, step_plan, happens, Stops
 use Rattle.spl_model.specs.Projection.{Ran, plainly, line_fits, lines_fit, names, names_circuit, line_concerns, concerned, at_one_of, beside, own_line, own_among}
 use Rattle.spl_model.specs.Answers.{bit_of, halt_answer, line_answer, line_world, lines_world, circuit_world, world_before, roll_answer, answer_to}
 use Rattle.spl_projection.specs.Whole.{world_beside, world_after, whole_from, whole_world}
-use Rattle.spl_model.proofs.Nodes.{node_is, node_same}
 use Rattle.spl_model.proofs.LinesAsOccurrences.{plain-step}
 use Rattle.spl_projection.proofs.Within.{are_within, within-empty}
 use Rattle.spl_projection.proofs.Confined.{IsConfined, confined-first, IsStepWithin, step-here, confined-step, confined-happens}

@@ -7,43 +7,23 @@ use Rattle.std.specs.Str.{bytes_eq}
 use Rattle.spl_agree.proofs.Tests.{if_holds, bool_cases, and_left, and_right, or_left, or_right}
 use Rattle.spl_circuit.specs.Nodes.{NodeId, CircuitId, has_node, is_below, inserted, sorted}
 use Rattle.spl_circuit.specs.Rules.{ascends, ascends_after}
-use Rattle.spl_circuit.proofs.Order.{below_trans, same_from_ties, not_below_itself}
+use Rattle.spl_circuit.specs.Same.{node_is, node_same}
+use Rattle.spl_circuit.proofs.Order.{same_from_ties, not_below_itself}
+use Rattle.spl_circuit.proofs.Sorting.{has_sorted, weaken, ascends_on}
 use Rattle.spl_sched.specs.Grammar.{circuit_of}
 use Rattle.spl_rules.specs.Cells.{Empty, is_bound}
 use Rattle.spl_model.specs.Worlds.{World, first_world}
 use Rattle.spl_model.specs.Projection.{Ran, lines_fit, names, names_circuit, own_among}
 use Rattle.spl_model.specs.Answers.{lines_world, circuit_world, and_circuit, circuits_in, bound_at}
 use Rattle.spl_projection.specs.Whole.{whole_world}
-use Rattle.spl_model.proofs.Nodes.{node_is, node_same, node_not}
+use Rattle.spl_model.proofs.Nodes.{node_not}
 use Rattle.spl_projection.proofs.Within.{within-empty}
 use Rattle.spl_projection.proofs.Owns.{IsPair, pair-first, AllConcern, lines-pair, own-pair}
 
 -- ---- lists of ids
 
-or_more : (a b : Bool) → b ≡ true → (a || b) ≡ true
-or_more true b h = refl
-or_more false b h = h
-
 or_both : (a b : Bool) → a ≡ false → b ≡ false → (a || b) ≡ false
 or_both a b h k = rw (h, k)
-
--- an id at the front, or behind it
-has_inserted : (x : NodeId) (ys : List NodeId) (m : NodeId) → has_node (inserted x ys) m ≡ (bytes_eq x m || has_node ys m)
-has_inserted x [] m = refl
-has_inserted x (y ∷ ys) m = go (bool_cases (is_below y x)) (has_inserted x ys m)
-  where
-    swap : (a b c : Bool) → (a || (b || c)) ≡ (b || (a || c))
-    swap true true c = refl
-    swap true false c = refl
-    swap false b c = refl
-
-    go : (is_below y x ≡ true) ⊎ (is_below y x ≡ false) → has_node (inserted x ys) m ≡ (bytes_eq x m || has_node ys m) → has_node (inserted x (y ∷ ys)) m ≡ (bytes_eq x m || has_node (y ∷ ys) m)
-    go (inl q) hyp = rw (q, hyp) (swap (bytes_eq y m) (bytes_eq x m) (has_node ys m))
-    go (inr q) hyp = rw q
-
-has_sorted : (xs : List NodeId) (m : NodeId) → has_node (sorted xs) m ≡ has_node xs m
-has_sorted [] m = refl
-has_sorted (x ∷ xs) m = has_inserted x (sorted xs) m ∙ ap (λ (b : Bool). bytes_eq x m || b) (has_sorted xs m)
 
 has_filter : (p : NodeId → Bool) (xs : List NodeId) (m : NodeId) → has_node (filter p xs) m ≡ (has_node xs m && p m)
 has_filter p [] m = refl
@@ -64,10 +44,6 @@ has_filter p (x ∷ xs) m = go (bool_cases (p x)) (bool_cases (bytes_eq x m)) (h
 
 -- ---- ids in order
 
-weaken : (m k : NodeId) (ks : List NodeId) → is_below m k ≡ true → ascends_after k ks ≡ true → ascends_after m ks ≡ true
-weaken m k [] p h = refl
-weaken m k (j ∷ js) p h = rw (below_trans m k j p (and_left (is_below k j) (ascends_after j js) h)) (and_right (is_below k j) (ascends_after j js) h)
-
 filter-after : (p : NodeId → Bool) (m : NodeId) (xs : List NodeId) → ascends_after m xs ≡ true → ascends_after m (filter p xs) ≡ true
 filter-after p m [] h = refl
 filter-after p m (x ∷ xs) h = go (bool_cases (p x)) (filter-after p x xs (and_right (is_below m x) (ascends_after x xs) h))
@@ -79,17 +55,13 @@ filter-after p m (x ∷ xs) h = go (bool_cases (p x)) (filter-after p x xs (and_
     go (inl q) hyp = rw (q, below) hyp
     go (inr q) hyp = rw q (weaken m x (filter p xs) below hyp)
 
-after-ascends : (m : NodeId) (xs : List NodeId) → ascends_after m xs ≡ true → ascends xs ≡ true
-after-ascends m [] h = refl
-after-ascends m (x ∷ xs) h = and_right (is_below m x) (ascends_after x xs) h
-
 filter-ascends : (p : NodeId → Bool) (xs : List NodeId) → ascends xs ≡ true → ascends (filter p xs) ≡ true
 filter-ascends p [] h = refl
 filter-ascends p (x ∷ xs) h = go (bool_cases (p x)) (filter-after p x xs h)
   where
     go : (p x ≡ true) ⊎ (p x ≡ false) → ascends_after x (filter p xs) ≡ true → ascends (filter p (x ∷ xs)) ≡ true
     go (inl q) hyp = rw q hyp
-    go (inr q) hyp = rw q (after-ascends x (filter p xs) hyp)
+    go (inr q) hyp = rw q (ascends_on x (filter p xs) hyp)
 
 -- of two ids one is below the other
 below_or : (x y : NodeId) → is_below y x ≡ false → bytes_eq y x ≡ false → is_below x y ≡ true
@@ -144,7 +116,7 @@ ascending-same (x ∷ xs) [] h k e = let p : (bytes_eq x x || has_node xs x) ≡
   where
     no : false ≡ true → ⊥
     no z = cc
-ascending-same (x ∷ xs) (y ∷ ys) h k e = ap (λ (z : NodeId). z ∷ xs) first ∙ ap (λ (zs : List NodeId). y ∷ zs) (ascending-same xs ys (after-ascends x xs h) (after-ascends y ys k) rest)
+ascending-same (x ∷ xs) (y ∷ ys) h k e = ap (λ (z : NodeId). z ∷ xs) first ∙ ap (λ (zs : List NodeId). y ∷ zs) (ascending-same xs ys (ascends_on x xs h) (ascends_on y ys k) rest)
   where
     no : {b : Bool} → b ≡ true → b ≡ false → ⊥
     no p q = cc

@@ -4,6 +4,7 @@ use Rattle.std.specs.Prelude.{if◌then◌else◌}
 use Rattle.std.specs.Str.{bytes_eq}
 use Rattle.spl_agree.proofs.Tests.{if_holds}
 use Rattle.spl_circuit.specs.Nodes.{NodeId, CircuitId, sorted}
+use Rattle.spl_circuit.specs.Same.{node_is}
 use Rattle.spl_wire.specs.declared.event.Event.TheVariants as event
 use Rattle.spl_sched.specs.declared.line.Step.{Step}
 use Rattle.spl_sched.specs.declared.line.Step.TheVariants as step
@@ -15,7 +16,6 @@ use Rattle.spl_model.specs.Calm.{Calming, calming_step, calming, open_nodes, tic
 use Rattle.spl_model.specs.Projection.{Ran, names}
 use Rattle.spl_model.specs.Answers.{line_world, up_after, up_from, is_up}
 use Rattle.spl_projection.specs.Whole.{world_beside, world_after, whole_from, whole_world}
-use Rattle.spl_model.proofs.Nodes.{node_is}
 
 -- ---- a calm leaves the nodes up and down
 

@@ -28,7 +28,8 @@ use Rattle.spl_rules.specs.Plans.{admin_lane, group_row}
 use Rattle.spl_rules.specs.Changes.{may_queue, may_serve, fits_free}
 use Rattle.spl_rules.specs.Valid.{carries, is_legal}
 use Rattle.spl_rules.proofs.Carried.{Brings}
-use Rattle.spl_rules.proofs.Positions.{node_is, member_below, node_at_position, position_apart}
+use Rattle.spl_circuit.specs.Same.{node_is}
+use Rattle.spl_circuit.specs.Positions.{member_below, node_at_position, position_apart}
 
 -- the event is due at the member; and what it lets in may be queued, or its row changes nothing
 pub record FitsRow {V : Type 0} (g : Group V) (may : V → Bool) (here : ℕ) (m : Member V) (e : GroupEvent V) : Type 0 where

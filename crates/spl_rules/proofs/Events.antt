@@ -45,7 +45,7 @@ use Rattle.spl_rules.specs.Plans.{admin_lane, group_row}
 use Rattle.spl_rules.specs.Changes.{may_queue, may_serve, fits_free}
 use Rattle.spl_wire.specs.Bounds.{has_form}
 use Rattle.spl_rules.specs.Valid.{IsHeld, IsKept, IsNamed, IsFor, carries, is_legal}
-use Rattle.spl_rules.proofs.Positions.{node_is, node_same}
+use Rattle.spl_circuit.specs.Same.{node_is, node_same}
 use Rattle.spl_rules.proofs.Carried.{Brings}
 use Rattle.spl_rules.proofs.Still.{still-tick, still-expire}
 use Rattle.spl_rules.proofs.Deeds.{FitsEvent, FitsServed, BindsAt, ActsAt, FitsDeed, may-other, acts-at, serves-at, abandons-at, purges-at, fits-message, fits-served}

@@ -1,5 +1,4 @@
 pub mod Positions
-pub mod SameActs
 pub mod Members
 pub mod Lawful
 pub mod Cells

@@ -3,15 +3,16 @@ use Rattle.std.proofs.Common.{◌≡◌, ◌⊎◌, ℕ, ◌<◌, true, false, �
 use Rattle.std.specs.Prelude.{map, Option, Some, None, nat_lt, nat_le, is_none, ◌==◌}
 use Rattle.std.specs.List.{list_all}
 use Rattle.std.specs.Str.{bytes_eq}
+use Rattle.std.proofs.lemmas.Bool.{eq-eqb}
 use Rattle.std.proofs.lemmas.Bool.Decides.{nat_tests}
+use Rattle.spl_base.specs.Booleans.{none_is}
 use Rattle.spl_agree.specs.declared.reason.Reason.{Reason}
 use Rattle.spl_agree.specs.declared.event.GroupChange.{GroupChange}
 use Rattle.spl_agree.specs.declared.event.GroupChange.TheVariants as change
 use Rattle.spl_agree.specs.Member.{Member, new_member, changed, changed_by}
 use Rattle.spl_agree.specs.Fits.{is_new, fits as fits_group}
 use Rattle.spl_agree.specs.Pack.{kept_each, committed_each, queued_each, promised_one, packed_member}
-use Rattle.spl_agree.proofs.Tests.{if_holds, bool_cases, and_left, and_right, eqb_is, eqb_same, ltb_is, lt_is}
-use Rattle.spl_group.proofs.Sound.{is_none_is}
+use Rattle.spl_agree.proofs.Tests.{if_holds, bool_cases, and_left, and_right, eqb_is, ltb_is, lt_is}
 use Rattle.spl_circuit.specs.declared.definition.Definition.{Definition}
 use Rattle.spl_circuit.specs.declared.act.Act.{Act}
 use Rattle.spl_circuit.specs.declared.lifecycle.Mark.{Mark}
@@ -20,6 +21,7 @@ use Rattle.spl_circuit.specs.Nodes.{NodeId}
 use Rattle.spl_circuit.specs.Rules.{broken, is_member}
 use Rattle.spl_circuit.specs.Acts.{act_rules}
 use Rattle.spl_circuit.specs.Equality.{same_act_key, same_kind}
+use Rattle.spl_circuit.specs.Same.{key_parts, key_from}
 use Rattle.spl_command.specs.declared.batch.Batch.{Batch}
 use Rattle.spl_command.specs.Equality.{same_list, same_transaction}
 use Rattle.spl_scabbard.specs.Checks.{batch_rules}
@@ -28,7 +30,6 @@ use Rattle.spl_wire.specs.declared.change.Change.TheVariants as durable
 use Rattle.spl_rules.specs.Cells.{Bound, Cell, Empty, Held, Purged, Site, fresh, is_open, is_free, is_active_here}
 use Rattle.spl_rules.specs.Changes.{turn_after, may_queue, may_serve, may_keep, fits_free, applied_one, applied, stopped_cell}
 use Rattle.spl_rules.specs.Pack.{packed_batches, packed_mark, packed}
-use Rattle.spl_rules.proofs.Positions.{node_is, node_same}
 use Rattle.spl_rules.proofs.Members.{pending-changed}
 use Rattle.spl_rules.proofs.Lawful.{pending-lawful}
 use Rattle.spl_rules.proofs.Plans.{applied-append}
@@ -40,26 +41,17 @@ use Rattle.spl_rules.proofs.Final.{runs-changed}
 
 -- ---- the keys of acts and of batches
 
-act-parts : (u v : Act) → same_act_key u v ≡ true → (u.node ≡ v.node) × (u.turn ≡ v.turn)
-act-parts u v h = (node_is u.node v.node (and_left (bytes_eq u.node v.node) (u.turn == v.turn) h), eqb_is u.turn v.turn (and_right (bytes_eq u.node v.node) (u.turn == v.turn) h))
-
-act-join : (u v : Act) → u.node ≡ v.node → u.turn ≡ v.turn → same_act_key u v ≡ true
-act-join u v p q = rw (p, q, node_same v.node) (eqb_same v.turn)
-
 act-keys : (d : Definition) → HasKeys (act_rules d)
 act-keys d = record {
-  back = λ u v h. let k = act-parts u v h in act-join v u (sym k.0) (sym k.1);
-  along = λ u v w h k. let x = act-parts u v h in let y = act-parts v w k in act-join u w (x.0 ∙ y.0) (x.1 ∙ y.1);
+  back = λ u v h. let k = key_parts u v h in key_from v u (sym k.0) (sym k.1);
+  along = λ u v w h k. let x = key_parts u v h in let y = key_parts v w k in key_from u w (x.0 ∙ y.0) (x.1 ∙ y.1);
   same = λ u v h. and_left (same_act_key u v) (same_kind u.kind v.kind) h;
 }
 
-eqb-join : (a b : ℕ) → a ≡ b → (a == b) ≡ true
-eqb-join a b e = rw e (eqb_same b)
-
 batch-keys : HasKeys batch_rules
 batch-keys = record {
-  back = λ u v h. eqb-join v.id u.id (sym (eqb_is u.id v.id h));
-  along = λ u v w h k. eqb-join u.id w.id (eqb_is u.id v.id h ∙ eqb_is v.id w.id k);
+  back = λ u v h. eq-eqb v.id u.id (sym (eqb_is u.id v.id h));
+  along = λ u v w h k. eq-eqb u.id w.id (eqb_is u.id v.id h ∙ eqb_is v.id w.id k);
   same = λ u v h. and_left (u.id == v.id) (same_list same_transaction u.transactions v.transactions) h;
 }
 
@@ -104,7 +96,7 @@ made-bound site k d h =
     let own : (bytes_eq d.id site.circuit && (is_none (broken d) && is_member d site.here)) ≡ true = and_right (is_free k d.generation) _ h in
     let ruled : (is_none (broken d) && is_member d site.here) ≡ true = and_right (bytes_eq d.id site.circuit) _ own in
     record {
-      ruled = is_none_is (broken d) (and_left (is_none (broken d)) (is_member d site.here) ruled);
+      ruled = none_is (broken d) (and_left (is_none (broken d)) (is_member d site.here) ruled);
       own = and_left (bytes_eq d.id site.circuit) _ own;
       member = and_right (is_none (broken d)) (is_member d site.here) ruled;
       marked = λ e. cc;

@@ -31,7 +31,7 @@ use Rattle.spl_rules.specs.Plans.{Lane, admin_lane, service_lane, group_row, gro
 use Rattle.spl_rules.specs.Changes.{turn_after, may_queue, may_serve, may_keep, fits_free, made_one, made, applied_one, applied}
 use Rattle.spl_wire.specs.Bounds.{has_form}
 use Rattle.spl_rules.specs.Valid.{IsKeptMember, AllMeet, IsHeld, IsNamed, IsSettledCell, IsValid, FitsMoveAt, carries, is_legal, are_legal}
-use Rattle.spl_rules.proofs.SameActs.{act_same}
+use Rattle.spl_circuit.specs.Same.{act_same}
 use Rattle.spl_rules.proofs.Members.{checked-new, meets-new}
 use Rattle.spl_rules.proofs.Services.{short-service_on}
 use Rattle.spl_rules.proofs.Events.{short-circuit}
