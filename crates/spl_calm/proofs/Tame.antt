@@ -20,9 +20,8 @@ use Rattle.spl_scabbard.specs.Checks.{batch_rules}
 use Rattle.spl_scabbard.specs.Same.{same_batches}
 use Rattle.spl_settle.specs.Bound.{IsKeyed}
 use Rattle.spl_settle.proofs.Steady.{IsSteady, IsFair, Asks, steady-new, steady-more, steady-restarted, steady-row, seen-row}
-use Rattle.spl_model.proofs.Nodes.{node_is, node_same}
 use Rattle.spl_agreement.proofs.Positions.{position-apart}
-use Rattle.spl_agreement.proofs.Same.{act_same}
+use Rattle.spl_circuit.specs.Same.{node_is, node_same, act_same}
 use Rattle.spl_agreement.proofs.GroupOfDefinition.{Groups, GroupMessage, IsPlaced, MayHear, after_row, group_of}
 use Rattle.spl_agreement.proofs.CoupledSteps.{IsNew}
 
