@@ -1,6 +1,8 @@
 -- The cells of one circuit id, beside a world of each group of each definition.
 use Rattle.std.proofs.Common.{◌≡◌, ◌≢◌, ℕ, ◌<◌, ◌⊎◌, true, false, List, [], ◌∷◌, ◌++◌, length, refl, sym, ap, subst, ◌∙◌, inl, inr}
 use Rattle.std.specs.Prelude.{Some, None}
+use Rattle.std.proofs.lemmas.Option.{none-some}
+use Rattle.spl_agree.specs.declared.reason.Reason.{Reason}
 use Rattle.spl_agree.specs.declared.message.CommitMsg.{CommitMsg}
 use Rattle.spl_agree.specs.declared.message.CommitMsg.TheVariants as msg
 use Rattle.spl_agree.specs.declared.event.GroupEvent.{GroupEvent}
@@ -98,16 +100,16 @@ placed-admin d n h m = let r : IsRoster d = roster d h in record { few = r.few; 
 pub placed-service : (d : Definition) (n : NodeId) → broken d ≡ None → has_node d.members n ≡ true → IsPlaced service_groups d n
 placed-service d n h m = let r : IsRoster d = roster d h in record { few = r.few; here_in = m; lead_in = r.service_in; here = position_below d.members n m; leads = position_below d.members (service d) r.service_in }
 
+no_reason : {why : Reason} → Some why ≡ None → ⊥
+no_reason e = cc
+
 -- what is proposed first is the definition itself
 pub first_kind : (d : Definition) (n : NodeId) (k : ActKind) → misfit_kind d [] n k ≡ None → (x : Definition) × (k ≡ kind.Propose x) × (x ≡ d)
 first_kind d n (kind.Propose x) h = go (bool_cases (same_definition x d))
   where
     go : (same_definition x d ≡ true) ⊎ (same_definition x d ≡ false) → (y : Definition) × (kind.Propose x ≡ kind.Propose y) × (y ≡ d)
     go (inl q) = (x, refl, definition_is x d q)
-    go (inr q) = absurd (some_not _ (rw q at h))
-      where
-        some_not : (z : Rattle.spl_agree.specs.declared.reason.Reason.Reason) → Some z ≡ None → ⊥
-        some_not z y = cc
+    go (inr q) = absurd (no_reason (rw q at h))
 first_kind d n kind.Accept h = cc
 first_kind d n _ h = cc
 
@@ -117,10 +119,7 @@ first_act d v h = go (bool_cases (is_member d v.node))
   where
     go : (is_member d v.node ≡ true) ⊎ (is_member d v.node ≡ false) → (x : Definition) × (v.kind ≡ kind.Propose x) × (x ≡ d)
     go (inl q) = first_kind d v.node v.kind (rw q at h)
-    go (inr q) = absurd (some_not _ (rw q at h))
-      where
-        some_not : (z : Rattle.spl_agree.specs.declared.reason.Reason.Reason) → Some z ≡ None → ⊥
-        some_not z y = cc
+    go (inr q) = absurd (no_reason (rw q at h))
 
 -- so it is good first in one definition alone
 pub same_first : (d e : Definition) (v : Act) → misfit d [] v ≡ None → misfit e [] v ≡ None → d ≡ e
@@ -200,10 +199,7 @@ active-ever e past at said list n other a is active mem c = go (c.quiet n e a is
 
             none : ((w.0.at (position e.members other)).history ≡ (w.0.at (position e.members (admin e))).history) ⊎ ((p : ℕ × Act) × ((w.0.at (position e.members other)).promise ≡ Some p) × ((w.0.at (position e.members (admin e))).history ≡ (w.0.at (position e.members other)).history ++ p ∷ [])) → ⊥
             none (inl h) = lead_not (sym h ∙ ap (λ (z : Member Act). z.history) x)
-            none (inr h) = some_not h.0 (sym h.1 ∙ ap (λ (z : Member Act). z.promise) x)
-              where
-                some_not : (z : ℕ × Act) → Some z ≡ None → ⊥
-                some_not z u = cc
+            none (inr h) = none-some h.0 (sym (ap (λ (z : Member Act). z.promise) x) ∙ h.1)
 
     go : IsQuiet a ⊎ Ever (admin e) e past → Ever other e past
     go (inl x) = absurd (not_empty x.0)

@@ -1,6 +1,7 @@
 -- The ids of a circuit's batches differ, and definitions that share a member are one or have no acts.
 use Rattle.std.proofs.Common.{◌≡◌, ◌≢◌, ℕ, ◌<◌, ◌⊎◌, true, false, eqb, List, [], ◌∷◌, ◌++◌, length, refl, sym, ap, subst, ◌∙◌, inl, inr}
 use Rattle.std.specs.Prelude.{Option, Some, None}
+use Rattle.std.proofs.lemmas.Option.{none-some}
 use Rattle.spl_agree.specs.declared.reason.Reason.{Reason}
 use Rattle.spl_agree.specs.Member.{Member, new_member, values}
 use Rattle.spl_agree.specs.Agreement.{Follows, lead, seat}
@@ -105,10 +106,7 @@ all-ever d past at said list n ruled some mem c = go c.empty
 
             none : ((w.0.at (position d.members n)).history ≡ (w.0.at (position d.members (admin d))).history) ⊎ ((p : ℕ × Act) × ((w.0.at (position d.members n)).promise ≡ Some p) × ((w.0.at (position d.members (admin d))).history ≡ (w.0.at (position d.members n)).history ++ p ∷ [])) → ⊥
             none (inl h) = lead_not (sym h ∙ ap (λ (z : Member Act). z.history) x)
-            none (inr h) = some_not h.0 (sym h.1 ∙ ap (λ (z : Member Act). z.promise) x)
-              where
-                some_not : (z : ℕ × Act) → Some z ≡ None → ⊥
-                some_not z u = cc
+            none (inr h) = none-some h.0 (sym (ap (λ (z : Member Act). z.promise) x) ∙ h.1)
 
     go : (list ≡ []) ⊎ Ever (admin d) d past → Ever n d past
     go (inl h) = absurd (some h)

@@ -58,18 +58,14 @@ Settled w u = (is_some (found (same_act_key u) w.done) ≡ true) ⊎ (is_some (f
 abbrev pub Unsettled : View → Act → Type 0
 Unsettled w u = (found (same_act_key u) w.done ≡ None) × (found_refused (same_act_key u) w.refused ≡ None)
 
+some_not : {A : Type 0} (o : Option A) → is_some o ≡ true → o ≡ None → ⊥
+some_not (Some x) p q = cc
+some_not None p q = cc
+
 -- it is not both
 pub settled-not : (w : View) (u : Act) → Settled w u → Unsettled w u → ⊥
 settled-not w u (inl h) k = some_not (found (same_act_key u) w.done) h k.0
-  where
-    some_not : (o : Option Act) → is_some o ≡ true → o ≡ None → ⊥
-    some_not (Some x) p q = cc
-    some_not None p q = cc
 settled-not w u (inr h) k = some_not (found_refused (same_act_key u) w.refused) h k.1
-  where
-    some_not : (o : Option (Act × Reason)) → is_some o ≡ true → o ≡ None → ⊥
-    some_not (Some x) p q = cc
-    some_not None p q = cc
 
 -- the test of a key, by its parts
 abbrev of_key : NodeId → ℕ → Act → Bool

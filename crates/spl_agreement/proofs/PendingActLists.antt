@@ -106,16 +106,16 @@ found-among {A} p x (y ∷ ys) h = go (bool_cases (p y)) (found-among p x ys)
     go (inl q) hyp = first q (rw q at h)
     go (inr q) hyp = let k : Among x ys × (p x ≡ true) = hyp (rw q at h) in (inr k.0, k.1)
 
+some_not : {A : Type 0} (y : A) → Some y ≡ None → ⊥
+some_not y e = cc
+
 -- what is not found is not there
 pub found-none : {A : Type 0} (p : A → Bool) (x : A) (ys : List A) → found p ys ≡ None → Among x ys → p x ≡ false
 found-none p x [] h k = absurd k
 found-none {A} p x (y ∷ ys) h k = go (bool_cases (p y)) k (found-none p x ys)
   where
-    some_not : Some y ≡ None → ⊥
-    some_not e = cc
-
     go : (p y ≡ true) ⊎ (p y ≡ false) → (x ≡ y) ⊎ Among x ys → (found p ys ≡ None → Among x ys → p x ≡ false) → p x ≡ false
-    go (inl q) z hyp = absurd (some_not (rw q at h))
+    go (inl q) z hyp = absurd (some_not y (rw q at h))
     go (inr q) (inl e) hyp = subst (λ (z : A). p z ≡ false) (sym e) q
     go (inr q) (inr z) hyp = hyp (rw q at h) z
 
@@ -124,22 +124,16 @@ pub found-none_more : {A : Type 0} (p : A → Bool) (z : A) (ys : List A) → fo
 found-none_more p z [] h q = rw q
 found-none_more {A} p z (y ∷ ys) h q = go (bool_cases (p y)) (found-none_more p z ys)
   where
-    some_not : Some y ≡ None → ⊥
-    some_not e = cc
-
     go : (p y ≡ true) ⊎ (p y ≡ false) → (found p ys ≡ None → p z ≡ false → found p (ys ++ z ∷ []) ≡ None) → found p ((y ∷ ys) ++ z ∷ []) ≡ None
-    go (inl r) hyp = absurd (some_not (rw r at h))
+    go (inl r) hyp = absurd (some_not y (rw r at h))
     go (inr r) hyp = rw r (hyp (rw r at h) q)
 
 pub refused-none_more : (p : Act → Bool) (z : Act × Reason) (ys : List (Act × Reason)) → found_refused p ys ≡ None → p z.0 ≡ false → found_refused p (ys ++ z ∷ []) ≡ None
 refused-none_more p z [] h q = rw q
 refused-none_more p z (y ∷ ys) h q = go (bool_cases (p y.0)) (refused-none_more p z ys)
   where
-    some_not : Some y ≡ None → ⊥
-    some_not e = cc
-
     go : (p y.0 ≡ true) ⊎ (p y.0 ≡ false) → (found_refused p ys ≡ None → p z.0 ≡ false → found_refused p (ys ++ z ∷ []) ≡ None) → found_refused p ((y ∷ ys) ++ z ∷ []) ≡ None
-    go (inl r) hyp = absurd (some_not (rw r at h))
+    go (inl r) hyp = absurd (some_not y (rw r at h))
     go (inr r) hyp = rw r (hyp (rw r at h) q)
 
 -- keys

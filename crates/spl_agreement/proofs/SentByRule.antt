@@ -1,6 +1,7 @@
 -- What a row sends, and that a member without history and promise gets one only by a first request of the coordinator.
 use Rattle.std.proofs.Common.{◌≡◌, ◌≢◌, ℕ, ◌-◌, ◌^◌, ◌⊎◌, Bool, true, false, ◌&&◌, List, [], ◌∷◌, length, refl, sym, ap, subst, ◌∙◌, inl, inr, arith}
 use Rattle.std.specs.Prelude.{Option, Some, None, ◌==◌, nat_lt, is_none}
+use Rattle.std.proofs.lemmas.Option.{none-some}
 use Rattle.spl_agree.specs.Member.{Group, Member, values, has_round, others, has, but, decision, found, found_refused, is_spent, none_left}
 use Rattle.spl_agree.specs.Rows.{row, requested, fits_here, on_vote, counted_vote, commit_open, abort_open, decided, told, strayed, admitted, forwarded, forwarded_pending, forwarded_refused, taken_back, on_message, coordinator_tick, ask_again, try_first, judge_first, member_tick, forward_first, expire_open, to_each, abort_each, vote_no}
 use Rattle.spl_agree.specs.World.{after}
@@ -42,18 +43,12 @@ first_good {V} g h v c e = subst (λ (z : List V). g.rules.check z v ≡ None) (
 
 -- VoteRequest
 pub fine-requested : {V : Type 0} (g : Group V) (here : ℕ) (m : Member V) (p : Option (ℕ × V)) (sender r place : ℕ) (v : V) → m.promise ≡ p → sender ≡ g.coordinator → Fine g here m (requested g m p sender r place v)
-fine-requested {V} g here m (Some p) sender r place v e s = if_holds (Fine g here m) (p.0 == r) _ _ (λ q. ((refl, s, λ h. some_not p (sym e ∙ h)), tt)) (λ q. (tt, tt))
-  where
-    some_not : (x : ℕ × V) → Some x ≡ None → ⊥
-    some_not x h = cc
+fine-requested {V} g here m (Some p) sender r place v e s = if_holds (Fine g here m) (p.0 == r) _ _ (λ q. ((refl, s, λ h. none-some p (sym h ∙ e)), tt)) (λ q. (tt, tt))
 fine-requested {V} g here m None sender r place v e s =
     if_holds (Fine g here m) (nat_lt r m.seen) _ _ (λ q. tt) (λ q.
     if_holds (Fine g here m) (r == m.seen && has_round r m.history) _ _ (λ q. tt) (λ q.
     if_holds (Fine g here m) (r == m.seen) _ _ (λ q. (tt, tt)) (λ q.
-    if_holds (Fine g here m) (fits_here g.rules m.history place v) _ _ (λ f. ((refl, s, λ h. some_not (r, v) h), tt)) (λ f. (tt, tt)))))
-  where
-    some_not : (x : ℕ × V) → Some x ≡ None → ⊥
-    some_not x h = cc
+    if_holds (Fine g here m) (fits_here g.rules m.history place v) _ _ (λ f. ((refl, s, λ h. none-some (r, v) (sym h)), tt)) (λ f. (tt, tt)))))
 
 -- Decision
 pub fine-decided : {V : Type 0} (g : Group V) (here : ℕ) (m : Member V) (p : Option (ℕ × V)) (r : ℕ) (commit : Bool) → Fine g here m (decided p r commit)
@@ -185,10 +180,7 @@ Stays g here m e p = IsQuiet (after g here m p) ⊎ IsFirst g e
 
 -- a request of the coordinator
 pub quiet-requested : {V : Type 0} (g : Group V) (here : ℕ) (m : Member V) (p : Option (ℕ × V)) (gen sender r place : ℕ) (v : V) → m.promise ≡ p → IsQuiet m → sender ≡ g.coordinator → Stays g here m (event.From sender (msg.VoteRequest gen r place v)) (requested g m p sender r place v)
-quiet-requested {V} g here m (Some p) gen sender r place v e k s = absurd (some_not p (sym e ∙ k.1))
-  where
-    some_not : (x : ℕ × V) → Some x ≡ None → ⊥
-    some_not x h = cc
+quiet-requested {V} g here m (Some p) gen sender r place v e k s = absurd (none-some p (sym k.1 ∙ e))
 quiet-requested {V} g here m None gen sender r place v e k s =
     if_holds (Stays g here m (event.From sender (msg.VoteRequest gen r place v))) (nat_lt r m.seen) _ _ (λ q. inl k) (λ q.
     if_holds (Stays g here m (event.From sender (msg.VoteRequest gen r place v))) (r == m.seen && has_round r m.history) _ _ (λ q. inl k) (λ q.
@@ -207,10 +199,7 @@ quiet-requested {V} g here m None gen sender r place v e k s =
 -- a decision
 pub quiet-decided : {V : Type 0} (g : Group V) (here : ℕ) (m : Member V) (p : Option (ℕ × V)) (e : GroupEvent V) (r : ℕ) (commit : Bool) → m.promise ≡ p → IsQuiet m → Stays g here m e (decided p r commit)
 quiet-decided g here m None e r commit q k = inl k
-quiet-decided {V} g here m (Some p) e r commit q k = absurd (some_not p (sym q ∙ k.1))
-  where
-    some_not : (x : ℕ × V) → Some x ≡ None → ⊥
-    some_not x h = cc
+quiet-decided {V} g here m (Some p) e r commit q k = absurd (none-some p (sym k.1 ∙ q))
 
 -- a vote
 pub quiet-vote : {V : Type 0} (g : Group V) (here : ℕ) (m : Member V) (e : GroupEvent V) (o : Option (ℕ × List ℕ)) (sender r : ℕ) (aye : Bool) → here ≢ g.coordinator → IsQuiet m → Stays g here m e (on_vote g here m o sender r aye)

@@ -25,8 +25,8 @@ use Rattle.spl_rules.specs.Batches.{routed, way, hears_routed, serves_other}
 use Rattle.spl_rules.specs.Plans.{planned, plan_of, group_sends, admin_lane, service_lane}
 use Rattle.spl_settle.specs.Calm.{mail}
 use Rattle.spl_settle.proofs.Strangers.{AllTo, LeavesBe, stranger-leaves}
-use Rattle.spl_model.proofs.Nodes.{node_same}
-use Rattle.spl_agreement.proofs.Positions.{position-below}
+use Rattle.spl_circuit.specs.Positions.{position_below}
+use Rattle.spl_circuit.specs.Same.{node_same}
 use Rattle.spl_agreement.proofs.Rosters.{roster}
 use Rattle.spl_agreement.proofs.GroupOfDefinition.{AllPosts, There, there_is, after_row, plan_row, group_of}
 use Rattle.spl_agreement.proofs.GroupWorlds.{admin_groups, service_groups, admin_presence}
@@ -117,13 +117,13 @@ acts-tick d c n t a b ruled = if_holds (λ (deed : Deed). ActGives d n (Held (op
 pub acts-hear : (d : Definition) (c : CircuitId) (n from : NodeId) (t : ℕ) (a : Member Act) (b : Member Batch) (i : CircuitId) (x : CommitMsg Act) → broken d ≡ None → has_node d.members from ≡ true → (generation_of x == d.generation) ≡ true → Gives act_shape d n (Held (open_at d t a b)) (plan_of (site_at n c) (Held (open_at d t a b)) (event.Deliver from (message.Admin i x))) (after_row admin_groups d n a (group.From (position d.members from) x)) (plan_row admin_groups d n a (group.From (position d.members from) x)).sends
 acts-hear d c n from t a b i x ruled h g = if_true (λ (deed : Deed). ActGives d n (Held (open_at d t a b)) c deed (after_row admin_groups d n a (group.From (position d.members from) x)) (plan_row admin_groups d n a (group.From (position d.members from) x)).sends) (generation_of x == d.generation) _ _ g
     (acts-acts d c n from t a b Delivered (group.From (position d.members from) x) ruled
-    (posts-more (IsPost (group_of admin_groups d)) (Lands d n from) (plan_row admin_groups d n a (group.From (position d.members from) x)).sends (λ q y k. (k.0, inl k.1)) (posts-message (group_of admin_groups d) (position d.members n) a (position d.members from) x (position-below d.members from h))))
+    (posts-more (IsPost (group_of admin_groups d)) (Lands d n from) (plan_row admin_groups d n a (group.From (position d.members from) x)).sends (λ q y k. (k.0, inl k.1)) (posts-message (group_of admin_groups d) (position d.members n) a (position d.members from) x (position_below d.members from h))))
 
 -- a message of acts from a node that is no member
 pub acts-stranger : (d : Definition) (c : CircuitId) (n from : NodeId) (t : ℕ) (a : Member Act) (b : Member Batch) (x : CommitMsg Act) → broken d ≡ None → has_node d.members from ≡ false → ActGives d n (Held (open_at d t a b)) c (Acts Delivered (open_at d t a b) from (group.From (position d.members from) x)) a []
 acts-stranger d c n from t a b x ruled none =
     let p : GroupPlan Act = plan_row admin_groups d n a (group.From (position d.members from) x) in
-    let be : LeavesBe (group_of admin_groups d) (position d.members n) a (position d.members from) p = stranger-leaves (group_of admin_groups d) (position d.members n) a (position d.members from) x (position-below d.members (admin d) (roster d ruled).admin_in) (outside d from ruled none) in
+    let be : LeavesBe (group_of admin_groups d) (position d.members n) a (position d.members from) p = stranger-leaves (group_of admin_groups d) (position d.members n) a (position d.members from) x (position_below d.members (admin d) (roster d ruled).admin_in) (outside d from ruled none) in
     let y : (u : ℕ) × (_ ≡ Held (open_at d u (after (group_of admin_groups d) (position d.members n) a p) b)) = after-acts n (open_at d t a b) p in record {
       stands = ap admin_presence y.1 ∙ ap (λ (z : Member Act). There d z) be.same;
       sends = λ z h dif. back-acts d c n from z (position d.members from) p.sends (outside d from ruled none) h none be.back;

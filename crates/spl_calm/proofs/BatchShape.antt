@@ -23,8 +23,8 @@ use Rattle.spl_rules.specs.Cells.{Cell, Held, is_open_cell, Deed, Acts, Serves, 
 use Rattle.spl_rules.specs.Batches.{routed, way, hears_routed, serves_other}
 use Rattle.spl_rules.specs.Plans.{planned, plan_of, service_on, group_sends, admin_lane, service_lane}
 use Rattle.spl_settle.specs.Calm.{mail}
-use Rattle.spl_model.proofs.Nodes.{node_same}
-use Rattle.spl_agreement.proofs.Positions.{position-below}
+use Rattle.spl_circuit.specs.Positions.{position_below}
+use Rattle.spl_circuit.specs.Same.{node_same}
 use Rattle.spl_agreement.proofs.GroupOfDefinition.{AllPosts, There, there_is, after_row, plan_row, group_of}
 use Rattle.spl_agreement.proofs.GroupWorlds.{admin_groups, service_groups, service_presence}
 use Rattle.spl_calm.specs.Settled.{is_active_by}
@@ -133,7 +133,7 @@ batches-hear d c n from t a b i s u x ruled here there h g w =
     subst (λ (z : Way). BatchGives d n (Held (open_at d t a b)) c (routed z (hears_routed (site_at n c) (open_at d t a b) from s u x)) (after_row service_groups d n b (group.From (position d.members from) x)) (plan_row service_groups d n b (group.From (position d.members from) x)).sends) (sym (way-active d c n from s u t a b h ∙ goes-on (route (Some d) true from s u n) w))
     (if_true (λ (deed : Deed). BatchGives d n (Held (open_at d t a b)) c deed (after_row service_groups d n b (group.From (position d.members from) x)) (plan_row service_groups d n b (group.From (position d.members from) x)).sends) (generation_of x == d.generation) _ _ g
     (batches-serves d c n from t a b Delivered (group.From (position d.members from) x) ruled here
-    (posts-more (IsPost (group_of service_groups d)) (Lands d n from) (plan_row service_groups d n b (group.From (position d.members from) x)).sends (λ q y k. (k.0, inl k.1)) (posts-message (group_of service_groups d) (position d.members n) b (position d.members from) x (position-below d.members from there)))))
+    (posts-more (IsPost (group_of service_groups d)) (Lands d n from) (plan_row service_groups d n b (group.From (position d.members from) x)).sends (λ q y k. (k.0, inl k.1)) (posts-message (group_of service_groups d) (position d.members n) b (position d.members from) x (position_below d.members from there)))))
 
 -- nothing happens
 pub batches-still : (d : Definition) (c : CircuitId) (n : NodeId) (t : ℕ) (a : Member Act) (b : Member Batch) (deed : Deed) → IsIdle batch_shape d n deed → BatchGives d n (Held (open_at d t a b)) c deed b []

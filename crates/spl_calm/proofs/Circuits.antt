@@ -14,8 +14,8 @@ use Rattle.spl_settle.specs.Bound.{InHistory, IsPending, IsRefused, Settles}
 use Rattle.spl_model.specs.Worlds.{Sent, World, first_world, Occurrence, world_behind}
 use Rattle.spl_model.specs.Calm.{calm}
 use Rattle.spl_model.specs.Plain.{AllPlain}
-use Rattle.spl_model.proofs.Nodes.{node_same}
-use Rattle.spl_agreement.proofs.Positions.{position-below}
+use Rattle.spl_circuit.specs.Positions.{position_below}
+use Rattle.spl_circuit.specs.Same.{node_same}
 use Rattle.spl_agreement.proofs.Rosters.{roster}
 use Rattle.spl_agreement.proofs.GroupOfDefinition.{Groups, There, there_is, group_of}
 use Rattle.spl_agreement.proofs.GroupBindings.{away_not}
@@ -88,10 +88,10 @@ some-member d = go d.members refl
 
 -- a settled group shows in what the members keep
 pub settled-from : {V : Type 0} (groups : Groups V) (d : Definition) (v : V) (w : GroupWorld V) (kept : NodeId → Member V) → broken d ≡ None → has_node d.members (groups.leader d) ≡ true → ((n : NodeId) → has_node d.members n ≡ true → kept n ≡ w.at (position d.members n)) → Settles (group_of groups d) v w → IsSettled d (groups.leader d) v kept
-settled-from {V} groups d v w kept ruled leads same (inl h) = inl (λ n m. subst (λ (z : Member V). InHistory v z) (sym (same n m)) (h (position d.members n) (position-below d.members n m)))
+settled-from {V} groups d v w kept ruled leads same (inl h) = inl (λ n m. subst (λ (z : Member V). InHistory v z) (sym (same n m)) (h (position d.members n) (position_below d.members n m)))
 settled-from {V} groups d v w kept ruled leads same (inr h) = inr (
   subst (λ (z : Member V). IsRefused v z) (sym (same (groups.leader d) leads)) h.0,
-  λ n m p. h.1 (position d.members n) (position-below d.members n m) (subst (λ (z : Member V). IsPending v z) (same n m) p),
+  λ n m p. h.1 (position d.members n) (position_below d.members n m) (subst (λ (z : Member V). IsPending v z) (same n m) p),
 )
 
 -- ---- acts

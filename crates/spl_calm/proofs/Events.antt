@@ -18,7 +18,8 @@ use Rattle.spl_rules.specs.Plans.{plan_of}
 use Rattle.spl_settle.specs.Calm.{Calm, left, ticked, delivered, deliver, turn_by}
 use Rattle.spl_settle.proofs.Moves.{left-same, left-cases}
 use Rattle.spl_model.specs.Worlds.{World, messages, carried_out, delivery, step_plan, step_world, site_at}
-use Rattle.spl_agreement.proofs.Positions.{position-apart, position-below}
+use Rattle.spl_circuit.specs.Positions.{position_below}
+use Rattle.spl_agreement.proofs.Positions.{position-apart}
 use Rattle.spl_agreement.proofs.GroupOfDefinition.{group_of}
 use Rattle.spl_calm.proofs.Shapes.{Shape, owned, owns, Gives, IsMet}
 use Rattle.spl_calm.proofs.Idles.{gives-still}
@@ -104,7 +105,7 @@ sim-deliver {V} s IsOn d Inv run c from to w taken k number t x e tk l get next 
     met = met-at s IsOn d Inv run w taken k to q ht
 
     apart : (u v i : NodeId) → has_node d.members i ≡ true → position d.members u ≡ position d.members i → u ≡ i
-    apart u v i h z = sym (position-apart d.members i u (few_members d run.ruled).1 (position-below d.members i h) (sym z))
+    apart u v i h z = sym (position-apart d.members i u (few_members d run.ruled).1 (position_below d.members i h) (sym z))
 
     go : (z : Option (CommitMsg V)) → s.own d from to x ≡ z → (k2 : Calm V) × Sim s d Inv (step_world w (step.Deliver from to c number)) (took taken from to (suc t)) k2 × ((ms : List (CommitMsg V)) → turn_by (group_of s.groups d) a b (owned z ms) k ≡ turn_by (group_of s.groups d) a b ms k2) × ((k2 ≡ k) ⊎ (k2 ≡ deliver (group_of s.groups d) a b k))
     go None z = (

@@ -21,11 +21,11 @@ use Rattle.spl_rules.specs.Cells.{Cell, Held, Bound}
 use Rattle.spl_rules.specs.Changes.{made, moved_cell}
 use Rattle.spl_rules.specs.Plans.{}
 use Rattle.spl_model.proofs.Nodes.{node_other}
-use Rattle.spl_agreement.proofs.Positions.{position-or}
+use Rattle.spl_circuit.specs.Positions.{node_at_position, node_or_out}
 use Rattle.spl_agreement.proofs.GroupOfDefinition.{AllPosts, group_of}
 use Rattle.spl_agreement.proofs.GroupWorlds.{admin_groups, service_groups}
 use Rattle.spl_agreement.proofs.CoupledDeeds.{made-admin, made-service, made-append}
-use Rattle.spl_calm.proofs.Places.{position-at, or-back}
+use Rattle.spl_calm.proofs.Places.{position-at}
 
 -- a message of the generation, to a member or back to this node
 abbrev pub Lands : {V : Type 0} → Definition → NodeId → NodeId → ℕ → CommitMsg V → Type 0
@@ -37,7 +37,7 @@ posts-more P Q (s ∷ ss) f a = (f s.0 s.1 a.0, posts-more P Q ss f a.1)
 
 -- it goes to a member where the position is the member's
 pub lands-there : (d : Definition) (back y : NodeId) (q : ℕ) → has_node d.members y ≡ true → q ≡ position d.members y → node_or d.members back q ≡ y
-lands-there d back y q h e = ap (λ (i : ℕ). node_or d.members back i) e ∙ position-or d.members back y h
+lands-there d back y q h e = ap (λ (i : ℕ). node_or d.members back i) e ∙ node_at_position d.members back y h
 
 pub lands-elsewhere : (d : Definition) (n back y : NodeId) (q : ℕ) → broken d ≡ None → y ≢ n → (q < length d.members) ⊎ (back ≡ n) → q ≢ position d.members y → bytes_eq (node_or d.members back q) y ≡ false
 lands-elsewhere d n back y q ruled dif f other = node_other (node_or d.members back q) y (λ e. go f (bool_cases (nat_lt q (length d.members))) e)
@@ -48,11 +48,11 @@ lands-elsewhere d n back y q ruled dif f other = node_other (node_or d.members b
     go : (q < length d.members) ⊎ (back ≡ n) → (nat_lt q (length d.members) ≡ true) ⊎ (nat_lt q (length d.members) ≡ false) → node_or d.members back q ≡ y → ⊥
     go (inl l) t e = near l e
     go (inr b) (inl t) e = near (ltb_is q (length d.members) t) e
-    go (inr b) (inr t) e = dif (sym e ∙ (or-back d.members back q (ltb_not q (length d.members) t) ∙ b))
+    go (inr b) (inr t) e = dif (sym e ∙ (node_or_out d.members back q (ltb_not q (length d.members) t) ∙ b))
 
 -- nothing comes to a member where all goes back to a node that is none
 pub lands-back : (d : Definition) (from y : NodeId) (q : ℕ) → length d.members ≤ q → has_node d.members y ≡ true → has_node d.members from ≡ false → bytes_eq (node_or d.members from q) y ≡ false
-lands-back d from y q l h none = node_other (node_or d.members from q) y (λ e. let z : from ≡ y = sym (or-back d.members from q l) ∙ e in let k : has_node d.members y ≡ false = subst (λ (u : NodeId). has_node d.members u ≡ false) z none in cc)
+lands-back d from y q l h none = node_other (node_or d.members from q) y (λ e. let z : from ≡ y = sym (node_or_out d.members from q l) ∙ e in let k : has_node d.members y ≡ false = subst (λ (u : NodeId). has_node d.members u ≡ false) z none in cc)
 
 -- ---- cells behind a plan of a group
 

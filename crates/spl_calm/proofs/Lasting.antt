@@ -6,11 +6,11 @@ use Rattle.spl_agree.proofs.Tests.{if_holds, and_left, and_right}
 use Rattle.spl_circuit.specs.declared.definition.Definition.{Definition}
 use Rattle.spl_circuit.specs.Nodes.{NodeId, CircuitId, has_node}
 use Rattle.spl_circuit.specs.Rules.{broken}
+use Rattle.spl_circuit.specs.Same.{node_is, node_same}
 use Rattle.spl_wire.specs.declared.event.Event.TheVariants as event
 use Rattle.spl_sched.specs.declared.line.Step.TheVariants as step
 use Rattle.spl_rules.specs.Cells.{Cell}
 use Rattle.spl_model.specs.Worlds.{World, messages, step_world}
-use Rattle.spl_model.proofs.Nodes.{node_is, node_same}
 use Rattle.spl_calm.proofs.Shapes.{Shape, IsShaped}
 
 -- so many are taken of a pair

@@ -4,11 +4,12 @@ use Rattle.std.specs.Prelude.{Some, if◌then◌else◌, slice_get}
 use Rattle.std.specs.Str.{bytes_eq}
 use Rattle.spl_agree.proofs.Tests.{bool_cases}
 use Rattle.spl_circuit.specs.Nodes.{NodeId, has_node}
+use Rattle.spl_circuit.specs.Same.{node_is, node_same}
 use Rattle.spl_wire.specs.declared.message.Message.{Message}
 use Rattle.spl_wire.specs.declared.plan.Outgoing.{Outgoing}
 use Rattle.spl_wire.specs.declared.plan.Plan.{Plan}
 use Rattle.spl_model.specs.Worlds.{Sent, World, on_pair, messages, posted, carried_out}
-use Rattle.spl_model.proofs.Nodes.{node_is, node_same, node_other}
+use Rattle.spl_model.proofs.Nodes.{node_other}
 
 -- what goes to a node, in order
 abbrev pub to_node : NodeId → List Outgoing → List Message

@@ -15,8 +15,10 @@ use Rattle.spl_settle.specs.Calm as group
 use Rattle.spl_settle.proofs.Orders.{pairs-more, pair-left, pair-right}
 use Rattle.spl_model.specs.Worlds.{World}
 use Rattle.spl_model.specs.Calm.{Calming, calming_step, open_nodes, ticks, pair_turn, to_all, from_all, pass, passes}
-use Rattle.spl_model.proofs.Nodes.{node_is, node_cases}
-use Rattle.spl_agreement.proofs.Positions.{position-apart, position-below}
+use Rattle.spl_model.proofs.Nodes.{node_cases}
+use Rattle.spl_circuit.specs.Positions.{position_below}
+use Rattle.spl_circuit.specs.Same.{node_is}
+use Rattle.spl_agreement.proofs.Positions.{position-apart}
 use Rattle.spl_agreement.proofs.GroupOfDefinition.{group_of}
 use Rattle.spl_calm.proofs.Places.{or-member, position-at}
 use Rattle.spl_calm.proofs.Shapes.{Shape}
@@ -49,7 +51,7 @@ sim-ticks {V} s IsOn d Inv run c (n ∷ ns) z k q = go (bool_cases (has_node d.m
     go (inl h) hyp =
         let r : Ticked s d Inv ns (ticks c z2 ns) (ticked (group_of s.groups d) (position d.members n) k) = hyp (ticked (group_of s.groups d) (position d.members n) k) (sim-tick s IsOn d Inv run c n z.world z.taken k h q) in record {
           positions = position d.members n ∷ r.positions;
-          below = (position-below d.members n h, r.below);
+          below = (position_below d.members n h, r.below);
           each = λ m x g. each r m g (or_cases (bytes_eq n m) (has_node ns m) x);
           sim = r.sim;
         }
@@ -110,7 +112,7 @@ sim-to_all {V} s IsOn d Inv run c from (n ∷ ns) z k q = go (pair-kind d from n
     go (inl h) hyp =
         let r : Rest (turn (group_of s.groups d) (position d.members from) (position d.members n) k) = hyp (turn (group_of s.groups d) (position d.members from) (position d.members n) k) (sim-turn s IsOn d Inv run c from n z k h.0.0 h.0.1 h.1 q) in record {
           pairs = (position d.members from, position d.members n) ∷ r.pairs;
-          among = ((position-below d.members from h.0.0, position-below d.members n h.0.1, λ e. h.1 (position-apart d.members from n (few_members d run.ruled).1 (position-below d.members from h.0.0) e)), r.among);
+          among = ((position_below d.members from h.0.0, position_below d.members n h.0.1, λ e. h.1 (position-apart d.members from n (few_members d run.ruled).1 (position_below d.members from h.0.0) e)), r.among);
           every = λ x y i hx hy off. every r x y i hx hy off (or_cases (bytes_eq n y) (has_node ns y) i.1);
           sim = r.sim;
         }

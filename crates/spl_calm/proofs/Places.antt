@@ -2,20 +2,20 @@
 use Rattle.std.proofs.Common.{◌≡◌, ℕ, zero, suc, ◌<◌, ◌≤◌, ◌⊎◌, true, false, List, [], ◌∷◌, length, refl, sym, ap, subst, ◌∙◌, inl, inr, arith}
 use Rattle.std.specs.Prelude.{Option, Some, None, Ok, Err}
 use Rattle.std.specs.Str.{bytes_eq}
-use Rattle.spl_agree.proofs.Tests.{if_holds, bool_cases, and_left, and_right, or_cases, or_true}
+use Rattle.spl_agree.proofs.Tests.{if_holds, bool_cases, and_left, and_right, or_true}
 use Rattle.spl_circuit.specs.declared.definition.Service.{Service}
 use Rattle.spl_circuit.specs.declared.definition.Definition.{Definition}
 use Rattle.spl_circuit.specs.declared.lifecycle.RouteFault.TheVariants as fault
-use Rattle.spl_circuit.specs.Nodes.{NodeId, CircuitId, ServiceId, has_node, before_node, position, node_or, is_below, inserted, sorted}
-use Rattle.spl_circuit.specs.Rules.{broken, rules_of, ascends, ascends_after, nodes_of, ids_of, service_of_node, node_of_service}
+use Rattle.spl_circuit.specs.Nodes.{NodeId, CircuitId, ServiceId, has_node, before_node, position, node_or, is_below}
+use Rattle.spl_circuit.specs.Rules.{broken, ascends, ascends_after, nodes_of, ids_of, service_of_node, node_of_service}
 use Rattle.spl_circuit.specs.Routing.{Way, way_between, route}
-use Rattle.spl_circuit.proofs.Order.{below_trans, not_below_itself}
+use Rattle.spl_circuit.specs.Same.{node_is, node_same}
+use Rattle.spl_circuit.specs.Positions.{position_member}
+use Rattle.spl_circuit.proofs.Order.{below_trans}
+use Rattle.spl_circuit.proofs.Sorting.{weaken, differ, ascends_on}
 use Rattle.spl_circuit.proofs.Valid.{members_ascend, services_ascend, few_members}
 use Rattle.spl_rules.specs.Plans.{or_none, service_on}
-use Rattle.spl_model.proofs.Nodes.{node_is, node_same, node_other}
-use Rattle.spl_agreement.proofs.Positions.{position-member, position-none}
-use Rattle.spl_agreement.proofs.Same.{same_nodes_is}
-use Rattle.spl_agreement.proofs.Rosters.{AllTrue, all_true, has-sorted}
+use Rattle.spl_agreement.proofs.Rosters.{members-serve}
 
 -- ---- positions
 
@@ -25,20 +25,12 @@ above-after m [] back q a l = absurd (omega (arith, l))
 above-after m (k ∷ ks) back zero a l = and_left (is_below m k) (ascends_after k ks) a
 above-after m (k ∷ ks) back (suc q) a l = below_trans m k (node_or ks back q) (and_left (is_below m k) (ascends_after k ks) a) (above-after k ks back q (and_right (is_below m k) (ascends_after k ks) a) (omega (arith, l)))
 
--- what is above is another
-pub above-other : (m k : NodeId) → is_below m k ≡ true → bytes_eq m k ≡ false
-above-other m k h = node_other m k (λ e. let p : is_below k k ≡ true = subst (λ (z : NodeId). is_below z k ≡ true) e h in let q : is_below k k ≡ false = not_below_itself k in cc)
-
-pub ascends-rest : (m : NodeId) (ms : List NodeId) → ascends_after m ms ≡ true → ascends ms ≡ true
-ascends-rest m [] a = refl
-ascends-rest m (k ∷ ks) a = and_right (is_below m k) (ascends_after k ks) a
-
 -- the node at a position stands behind so many
 pub before-or : (ms : List NodeId) (back : NodeId) (q : ℕ) → ascends ms ≡ true → q < length ms → before_node ms (node_or ms back q) ≡ q
 before-or [] back q a l = absurd (omega (arith, l))
 before-or (m ∷ ms) back zero a l = rw (node_same m)
 before-or (m ∷ ms) back (suc q) a l =
-    rw (above-other m (node_or ms back q) (above-after m ms back q a (omega (arith, l)))) (ap suc (before-or ms back q (ascends-rest m ms a) (omega (arith, l))))
+    rw (differ m (node_or ms back q) (above-after m ms back q a (omega (arith, l)))) (ap suc (before-or ms back q (ascends_on m ms a) (omega (arith, l))))
 
 -- it is a member
 pub or-member : (ms : List NodeId) (back : NodeId) (q : ℕ) → q < length ms → has_node ms (node_or ms back q) ≡ true
@@ -46,19 +38,13 @@ or-member [] back q l = absurd (omega (arith, l))
 or-member (m ∷ ms) back zero l = rw (node_same m)
 or-member (m ∷ ms) back (suc q) l = rw (or-member ms back q (omega (arith, l))) (or_true (bytes_eq m (node_or ms back q)))
 
--- a position that is no member's stands for the node that a message came from
-pub or-back : (ms : List NodeId) (back : NodeId) (q : ℕ) → length ms ≤ q → node_or ms back q ≡ back
-or-back [] back q l = refl
-or-back (m ∷ ms) back zero l = absurd (omega (arith, l))
-or-back (m ∷ ms) back (suc q) l = or-back ms back q (omega (arith, l))
-
 -- the position of the node at a position
 pub position-at : (d : Definition) (back : NodeId) (q : ℕ) → broken d ≡ None → q < length d.members → position d.members (node_or d.members back q) ≡ q
-position-at d back q ruled l = position-member d.members (node_or d.members back q) (or-member d.members back q l) ∙ before-or d.members back q (members_ascend d ruled) l
+position-at d back q ruled l = position_member d.members (node_or d.members back q) (or-member d.members back q l) ∙ before-or d.members back q (members_ascend d ruled) l
 
 -- a node that is no member has a position behind all
 pub outside : (d : Definition) (n : NodeId) → broken d ≡ None → has_node d.members n ≡ false → length d.members ≤ position d.members n
-outside d n ruled h = let p : position d.members n ≡ 255 = position-none d.members n h in omega (arith, p, (few_members d ruled).1)
+outside d n ruled h = let p : position d.members n ≡ 255 = rw h in omega (arith, p, (few_members d ruled).1)
 
 -- ---- services
 
@@ -70,13 +56,9 @@ id-other i (s ∷ ss) n a h = go (bool_cases (bytes_eq s.node n)) (id-other i ss
     near : is_below i s.id ≡ true
     near = and_left (is_below i s.id) (ascends_after s.id (ids_of ss)) a
 
-    rest : (xs : List NodeId) → ascends_after s.id xs ≡ true → ascends_after i xs ≡ true
-    rest [] z = refl
-    rest (k ∷ ks) z = let p : is_below i k ≡ true = below_trans i s.id k near (and_left (is_below s.id k) (ascends_after k ks) z) in rw p (and_right (is_below s.id k) (ascends_after k ks) z)
-
     go : (bytes_eq s.node n ≡ true) ⊎ (bytes_eq s.node n ≡ false) → (ascends_after i (ids_of ss) ≡ true → has_node (nodes_of ss) n ≡ true → bytes_eq i (or_none (service_of_node ss n)) ≡ false) → bytes_eq i (or_none (service_of_node (s ∷ ss) n)) ≡ false
-    go (inl q) hyp = rw q (above-other i s.id near)
-    go (inr q) hyp = rw q (hyp (rest (ids_of ss) (and_right (is_below i s.id) (ascends_after s.id (ids_of ss)) a)) (rw q at h))
+    go (inl q) hyp = rw q (differ i s.id near)
+    go (inr q) hyp = rw q (hyp (weaken i s.id (ids_of ss) near (and_right (is_below i s.id) (ascends_after s.id (ids_of ss)) a)) (rw q at h))
 
 -- the service on a node stands on it
 pub service-stands : (ss : List Service) (n : NodeId) → ascends (ids_of ss) ≡ true → has_node (nodes_of ss) n ≡ true → node_of_service ss (or_none (service_of_node ss n)) ≡ Some n
@@ -85,7 +67,7 @@ service-stands (s ∷ ss) n a h = go (bool_cases (bytes_eq s.node n)) (service-s
   where
     go : (bytes_eq s.node n ≡ true) ⊎ (bytes_eq s.node n ≡ false) → (ascends (ids_of ss) ≡ true → has_node (nodes_of ss) n ≡ true → node_of_service ss (or_none (service_of_node ss n)) ≡ Some n) → node_of_service (s ∷ ss) (or_none (service_of_node (s ∷ ss) n)) ≡ Some n
     go (inl q) hyp = rw (q, node_same s.id) (ap (λ (z : NodeId). Some z) (node_is s.node n q))
-    go (inr q) hyp = let k : has_node (nodes_of ss) n ≡ true = rw q at h in rw (q, id-other s.id ss n a k) (hyp (ascends-rest s.id (ids_of ss) a) k)
+    go (inr q) hyp = let k : has_node (nodes_of ss) n ≡ true = rw q at h in rw (q, id-other s.id ss n a k) (hyp (ascends_on s.id (ids_of ss) a) k)
 
 -- a service stands on one of the nodes
 pub service-node : (ss : List Service) (i n : NodeId) → node_of_service ss i ≡ Some n → has_node (nodes_of ss) n ≡ true
@@ -99,36 +81,11 @@ service-node (s ∷ ss) i n h = go (bool_cases (bytes_eq s.id i)) (service-node 
     go (inl q) hyp = rw (mine (rw q at h))
     go (inr q) hyp = rw (hyp (rw q at h)) (or_true (bytes_eq s.node n))
 
--- the nodes of the services are the members
-pub nodes-members : (d : Definition) → broken d ≡ None → sorted (nodes_of d.services) ≡ d.members
-nodes-members d ruled = let all : AllTrue (rules_of d) = all_true 1 (rules_of d) ruled in same_nodes_is (sorted (nodes_of d.services)) d.members all.1.1.1.1.1.1.1.1.0
-
--- what is inserted is there, or was
-pub inserted-has : (x : NodeId) (ys : List NodeId) (z : NodeId) → has_node (inserted x ys) z ≡ true → has_node (x ∷ ys) z ≡ true
-inserted-has x [] z h = h
-inserted-has x (y ∷ ys) z h = if_holds (λ r. has_node r z ≡ true → has_node (x ∷ y ∷ ys) z ≡ true) (is_below y x) _ _ (λ q k. go (inserted-has x ys z) (or_cases (bytes_eq y z) (has_node (inserted x ys) z) k)) (λ q k. k) h
-  where
-    deep : (bytes_eq x z ≡ true) ⊎ (has_node ys z ≡ true) → has_node (x ∷ y ∷ ys) z ≡ true
-    deep (inl q) = rw q
-    deep (inr q) = rw (q, or_true (bytes_eq y z)) (or_true (bytes_eq x z))
-
-    go : (has_node (inserted x ys) z ≡ true → has_node (x ∷ ys) z ≡ true) → (bytes_eq y z ≡ true) ⊎ (has_node (inserted x ys) z ≡ true) → has_node (x ∷ y ∷ ys) z ≡ true
-    go hyp (inl q) = rw q (or_true (bytes_eq x z))
-    go hyp (inr q) = deep (or_cases (bytes_eq x z) (has_node ys z) (hyp q))
-
-pub sorted-has : (xs : List NodeId) (z : NodeId) → has_node (sorted xs) z ≡ true → has_node xs z ≡ true
-sorted-has [] z h = h
-sorted-has (x ∷ xs) z h = go (sorted-has xs z) (or_cases (bytes_eq x z) (has_node (sorted xs) z) (inserted-has x (sorted xs) z h))
-  where
-    go : (has_node (sorted xs) z ≡ true → has_node xs z ≡ true) → (bytes_eq x z ≡ true) ⊎ (has_node (sorted xs) z ≡ true) → has_node (x ∷ xs) z ≡ true
-    go hyp (inl q) = rw q
-    go hyp (inr q) = rw (hyp q) (or_true (bytes_eq x z))
-
 pub member-served : (d : Definition) (n : NodeId) → broken d ≡ None → has_node d.members n ≡ true → has_node (nodes_of d.services) n ≡ true
-member-served d n ruled h = sorted-has (nodes_of d.services) n (subst (λ (z : List NodeId). has_node z n ≡ true) (sym (nodes-members d ruled)) h)
+member-served d n ruled h = sym (members-serve d n ruled) ∙ h
 
 pub served-member : (d : Definition) (n : NodeId) → broken d ≡ None → has_node (nodes_of d.services) n ≡ true → has_node d.members n ≡ true
-served-member d n ruled h = subst (λ (z : List NodeId). has_node z n ≡ true) (nodes-members d ruled) (has-sorted (nodes_of d.services) n h)
+served-member d n ruled h = members-serve d n ruled ∙ h
 
 -- a message between the services of two members is routed
 pub route-members : (d : Definition) (n y : NodeId) → broken d ≡ None → has_node d.members n ≡ true → has_node d.members y ≡ true → route (Some d) true n (service_on d n) (service_on d y) y ≡ Ok tt

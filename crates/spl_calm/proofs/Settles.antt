@@ -19,8 +19,8 @@ use Rattle.spl_settle.proofs.Milestones.{orders-settle}
 use Rattle.spl_settle.proofs.Idle.{idle-calm}
 use Rattle.spl_model.specs.Worlds.{World, messages}
 use Rattle.spl_model.specs.Calm.{Calming, calming, calm}
-use Rattle.spl_agreement.proofs.Positions.{position-below}
-use Rattle.spl_agreement.proofs.Rosters.{has-sorted}
+use Rattle.spl_circuit.specs.Positions.{position_below}
+use Rattle.spl_circuit.proofs.Sorting.{has_sorted}
 use Rattle.spl_agreement.proofs.GroupOfDefinition.{Groups, Presence, There, GroupMessage, Matters, SomeWorld, InGroups, group_of, says-told}
 use Rattle.spl_calm.proofs.Places.{or-member, position-at}
 use Rattle.spl_calm.proofs.Pairs.{drop-all}
@@ -61,7 +61,7 @@ reached-groups {V} groups d count past at said list leads there tame c = go (c.c
 
 -- it is fit
 pub fit-groups : {V : Type 0} (groups : Groups V) (d : Definition) (count : ℕ) (at : NodeId → Presence V) (w : GroupWorld V) → IsKeyed (groups.rules d) → broken d ≡ None → has_node d.members (groups.leader d) ≡ true → count ≤ 32768 → IsReached groups d count at w → IsFit (group_of groups d) w
-fit-groups {V} groups d count at w keyed ruled leads few r = fit-by (group_of groups d) keyed (few_members d ruled).0 (position-below d.members (groups.leader d) leads) count w few r.agrees
+fit-groups {V} groups d count at w keyed ruled leads few r = fit-by (group_of groups d) keyed (few_members d ruled).0 (position_below d.members (groups.leader d) leads) count w few r.agrees
     (λ i l. subst (λ (j : ℕ). IsSteady (group_of groups d) count (w.at j)) (position-at d [] i ruled l) (r.steady (node_or d.members [] i) (or-member d.members [] i l)))
     (λ i l off. subst (λ (j : ℕ). (w.at j).seen < (w.at (position d.members (groups.leader d))).next) (position-at d [] i ruled l) (r.heard (node_or d.members [] i) (or-member d.members [] i l) (λ e. off (sym (position-at d [] i ruled l) ∙ ap (λ (z : NodeId). position d.members z) e))))
 
@@ -96,7 +96,7 @@ pub record IsCalm {V : Type 0} (s : Shape V) (d : Definition) (Inv : World → (
   pub idles : ((n : NodeId) → has_node d.members n ≡ true → (g.at (position d.members n)).pending ≡ []) → (g.at (position d.members (s.groups.leader d))).opened ≡ None → (group.at (position d.members (s.groups.leader d))).history ≡ (g.at (position d.members (s.groups.leader d))).history
 
 pub calm-group : {V : Type 0} (s : Shape V) (IsOn : Definition → Cell → Type 0) (d : Definition) (Inv : World → (NodeId → NodeId → ℕ) → Type 0) → IsCarried s IsOn d Inv → (c : CircuitId) (k : ℕ) (w : World) (g : GroupWorld V) → Inv w (all_taken w) → IsCalmed s d w g → IsCalm s d Inv k (calm c w k) g
-calm-group {V} s IsOn d Inv run c k w g inv q = go (sim-passes s IsOn d Inv run c (sorted w.nodes) k (calming w) (begins g) (λ n h. has-sorted w.nodes n (q.registered n h)) (sim-start s d Inv w g inv q))
+calm-group {V} s IsOn d Inv run c k w g inv q = go (sim-passes s IsOn d Inv run c (sorted w.nodes) k (calming w) (begins g) (λ n h. has_sorted w.nodes n ∙ q.registered n h) (sim-start s d Inv w g inv q))
   where
     go : AllPassed s d Inv k (calm c w k) (begins g) → IsCalm s d Inv k (calm c w k) g
     go p = record {

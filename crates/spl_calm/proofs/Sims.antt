@@ -13,7 +13,8 @@ use Rattle.spl_settle.specs.Calm.{Calm, mail, move}
 use Rattle.spl_settle.proofs.Moves.{mailed-here, mailed-other}
 use Rattle.spl_model.specs.Worlds.{World, messages, carried_out, put_at}
 use Rattle.spl_model.proofs.Nodes.{node_cases}
-use Rattle.spl_agreement.proofs.Positions.{position-apart, position-below}
+use Rattle.spl_circuit.specs.Positions.{position_below}
+use Rattle.spl_agreement.proofs.Positions.{position-apart}
 use Rattle.spl_agreement.proofs.GroupOfDefinition.{There, after_row, plan_row, group_of}
 use Rattle.spl_model.proofs.Puts.{put_at-same, put_at-other}
 use Rattle.spl_calm.proofs.Pairs.{to_node, messages-mine, messages-other, drop-front}
@@ -117,7 +118,7 @@ sim-moves {V} s d Inv w taken taken2 k n p e due eight member inv gives stands q
     ss = (plan_row s.groups d n (k.world.at (position d.members n)) e).sends
 
     apart : (x : NodeId) → x ≢ n → position d.members x ≢ i
-    apart x off z = off (sym (position-apart d.members n x eight (position-below d.members n member) (sym z)))
+    apart x off z = off (sym (position-apart d.members n x eight (position_below d.members n member) (sym z)))
 
 -- the group stays
 pub sim-stays : {V : Type 0} (s : Shape V) (d : Definition) (Inv : World → (NodeId → NodeId → ℕ) → Type 0) (w : World) (taken taken2 : NodeId → NodeId → ℕ) (k : Calm V) (n : NodeId) (p : Plan) → Inv (carried_out w n p) taken2 → (has_node d.members n ≡ true → Gives s d n (w.at n) p (k.world.at (position d.members n)) []) → Stands s d w taken2 k.due → Sim s d Inv w taken k → Sim s d Inv (carried_out w n p) taken2 k

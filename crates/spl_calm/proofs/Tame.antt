@@ -2,27 +2,23 @@
 -- in an event, and a member has seen no round but one that its coordinator has asked for.
 use Rattle.std.proofs.Common.{◌≡◌, ◌≢◌, ℕ, ◌+◌, ◌⊎◌, true, eqb, refl, sym, ap, subst, ◌∙◌, inl, inr}
 use Rattle.std.specs.Prelude.{Option, None}
-use Rattle.std.specs.Str.{bytes_eq}
 use Rattle.spl_agree.specs.declared.reason.Reason.{Reason}
 use Rattle.spl_agree.specs.declared.message.CommitMsg.TheVariants as msg
 use Rattle.spl_agree.specs.declared.event.GroupEvent.{GroupEvent}
 use Rattle.spl_agree.specs.declared.event.GroupEvent.TheVariants as event
 use Rattle.spl_agree.specs.Member.{Rules, Member, new_member, restarted, values, found, found_refused, known, or_else, value_of}
-use Rattle.spl_agree.proofs.Tests.{and_left, and_right, eqb_is, eqb_same}
+use Rattle.spl_agree.proofs.Tests.{eqb_is, eqb_same}
 use Rattle.spl_circuit.specs.declared.definition.Definition.{Definition}
-use Rattle.spl_circuit.specs.declared.act.Act.{Act}
 use Rattle.spl_circuit.specs.Nodes.{NodeId, position}
 use Rattle.spl_circuit.specs.Rules.{broken}
 use Rattle.spl_circuit.specs.Acts.{act_rules}
-use Rattle.spl_circuit.specs.Equality.{same_act_key}
 use Rattle.spl_circuit.proofs.Valid.{few_members}
 use Rattle.spl_scabbard.specs.Checks.{batch_rules}
 use Rattle.spl_scabbard.specs.Same.{same_batches}
 use Rattle.spl_settle.specs.Bound.{IsKeyed}
 use Rattle.spl_settle.proofs.Steady.{IsSteady, IsFair, Asks, steady-new, steady-more, steady-restarted, steady-row, seen-row}
-use Rattle.spl_model.proofs.Nodes.{node_is, node_same}
 use Rattle.spl_agreement.proofs.Positions.{position-apart}
-use Rattle.spl_agreement.proofs.Same.{act_same}
+use Rattle.spl_circuit.specs.Same.{act_same, key_parts, key_from}
 use Rattle.spl_agreement.proofs.GroupOfDefinition.{Groups, GroupMessage, IsPlaced, MayHear, after_row, group_of}
 use Rattle.spl_agreement.proofs.CoupledSteps.{IsNew}
 
@@ -30,20 +26,11 @@ use Rattle.spl_agreement.proofs.CoupledSteps.{IsNew}
 
 pub keyed-acts : (d : Definition) → IsKeyed (act_rules d)
 keyed-acts d = record {
-  self = λ v. rw (node_same v.node, eqb_same v.turn);
-  turned = λ u v h. let n : u.node ≡ v.node = node u v h in let t : u.turn ≡ v.turn = turn u v h in both v u (sym n) (sym t);
-  through = λ u v w h k. both u w (node u v h ∙ node v w k) (turn u v h ∙ turn v w k);
+  self = λ v. key_from v v refl refl;
+  turned = λ u v h. let k = key_parts u v h in key_from v u (sym k.0) (sym k.1);
+  through = λ u v w h k. let x = key_parts u v h in let y = key_parts v w k in key_from u w (x.0 ∙ y.0) (x.1 ∙ y.1);
   same = act_same;
 }
-  where
-    node : (u v : Act) → same_act_key u v ≡ true → u.node ≡ v.node
-    node u v h = node_is u.node v.node (and_left (bytes_eq u.node v.node) (eqb u.turn v.turn) h)
-
-    turn : (u v : Act) → same_act_key u v ≡ true → u.turn ≡ v.turn
-    turn u v h = eqb_is u.turn v.turn (and_right (bytes_eq u.node v.node) (eqb u.turn v.turn) h)
-
-    both : (u v : Act) → u.node ≡ v.node → u.turn ≡ v.turn → same_act_key u v ≡ true
-    both u v n t = let a : bytes_eq u.node v.node ≡ true = subst (λ (z : NodeId). bytes_eq u.node z ≡ true) n (node_same u.node) in let b : eqb u.turn v.turn ≡ true = subst (λ (z : ℕ). eqb u.turn z ≡ true) t (eqb_same u.turn) in rw (a, b)
 
 pub keyed-batches : IsKeyed batch_rules
 keyed-batches = record {

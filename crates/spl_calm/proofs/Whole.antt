@@ -4,12 +4,12 @@ use Rattle.spl_circuit.specs.declared.definition.Definition.{Definition}
 use Rattle.spl_circuit.specs.declared.act.Act.{Act}
 use Rattle.spl_circuit.specs.Nodes.{NodeId, CircuitId}
 use Rattle.spl_circuit.specs.Rules.{admin, service}
+use Rattle.spl_circuit.specs.Same.{node_same}
 use Rattle.spl_command.specs.declared.batch.Batch.{Batch}
 use Rattle.spl_sched.specs.declared.line.Line.TheVariants as line
 use Rattle.spl_model.specs.Worlds.{World, first_world, world_behind}
 use Rattle.spl_model.specs.Calm.{calm}
 use Rattle.spl_model.specs.Projection.{Ran, plainly, lines_fit}
-use Rattle.spl_model.proofs.Nodes.{node_same}
 use Rattle.spl_projection.specs.Whole.{whole_world}
 use Rattle.spl_projection.specs.Apart.{moves-own}
 use Rattle.spl_projection.specs.Happened.{whole_happened}

@@ -1,13 +1,13 @@
 -- Once a circuit is active, no act follows.
-use Rattle.std.proofs.Common.{◌≡◌, ◌⊎◌, ◌-◌, ◌^◌, Bool, true, false, List, [], ◌∷◌, length, refl, inl, inr}
-use Rattle.std.specs.Prelude.{None, Some, nat_lt, is_none}
-use Rattle.spl_agree.specs.declared.reason.Reason.{Reason}
+use Rattle.std.proofs.Common.{◌≡◌, ◌⊎◌, ◌-◌, ◌^◌, Bool, true, false, List, [], ◌∷◌, length, refl, sym, inl, inr}
+use Rattle.std.specs.Prelude.{None, nat_lt, is_none}
+use Rattle.std.proofs.lemmas.Option.{none-some}
+use Rattle.spl_base.specs.Booleans.{none_is}
 use Rattle.spl_agree.specs.declared.event.GroupChange.{GroupChange}
 use Rattle.spl_agree.specs.declared.event.GroupChange.TheVariants as change
 use Rattle.spl_agree.specs.Member.{values, changed}
 use Rattle.spl_agree.specs.Fits.{fits as fits_group}
 use Rattle.spl_agree.proofs.Tests.{bool_cases, and_right}
-use Rattle.spl_group.proofs.Sound.{is_none_is}
 use Rattle.spl_circuit.specs.declared.definition.Definition.{Definition}
 use Rattle.spl_circuit.specs.declared.lifecycle.Lifecycle.{Lifecycle}
 use Rattle.spl_circuit.specs.declared.lifecycle.Lifecycle.TheVariants as lifecycle
@@ -29,25 +29,22 @@ active-later : (d : Definition) (acts : List Act) → is_active (life d acts).st
 active-later d [] h = cc
 active-later d (a ∷ rest) h = refl
 
-some_not : (why : Reason) → Some why ≡ None → ⊥
-some_not why h = cc
-
 final-kind : (d : Definition) (acts : List Act) (n : NodeId) (k : ActKind) → is_active (life d acts).state ≡ true → misfit_kind d acts n k ≡ None → ⊥
 final-kind d acts n (kind.Propose e) h m = go (bool_cases (same_definition e d))
   where
     go : (same_definition e d ≡ true) ⊎ (same_definition e d ≡ false) → ⊥
-    go (inl q) = some_not (reason 2) (rw (q, active-later d acts h) at m)
-    go (inr q) = some_not (reason 5) (rw q at m)
-final-kind d acts n _ h m = some_not (reason 2) (rw (active-proposed (life d acts).state h) at m)
+    go (inl q) = none-some (reason 2) (sym (rw (q, active-later d acts h) at m))
+    go (inr q) = none-some (reason 5) (sym (rw q at m))
+final-kind d acts n _ h m = none-some (reason 2) (sym (rw (active-proposed (life d acts).state h) at m))
 
-final : (d : Definition) (acts : List Act) (v : Act) → is_active (life d acts).state ≡ true → misfit d acts v ≡ None → ⊥
+pub final : (d : Definition) (acts : List Act) (v : Act) → is_active (life d acts).state ≡ true → misfit d acts v ≡ None → ⊥
 final d acts v h m = go (bool_cases (is_member d v.node))
   where
     go : (is_member d v.node ≡ true) ⊎ (is_member d v.node ≡ false) → ⊥
     go (inl q) = final-kind d acts v.node v.kind h (rw q at m)
-    go (inr q) = some_not (reason 1) (rw q at m)
+    go (inr q) = none-some (reason 1) (sym (rw q at m))
 
 -- a change that fits leaves an active circuit active
 pub runs-changed : (h : Bound) (may : Act → Bool) (x : GroupChange Act) → is_active_here h ≡ true → fits_group (act_rules h.definition) may h.acts x ≡ true → is_active_here (record h { acts = changed (act_rules h.definition) h.acts x }) ≡ true
-runs-changed h may (change.Commit r v) a f = absurd (final h.definition (values h.acts.history) v a (is_none_is (misfit h.definition (values h.acts.history) v) (and_right (nat_lt (length h.acts.history) (2 ^ 32 - 1)) (is_none (misfit h.definition (values h.acts.history) v)) f)))
+runs-changed h may (change.Commit r v) a f = absurd (final h.definition (values h.acts.history) v a (none_is (misfit h.definition (values h.acts.history) v) (and_right (nat_lt (length h.acts.history) (2 ^ 32 - 1)) (is_none (misfit h.definition (values h.acts.history) v)) f)))
 runs-changed h may _ a f = a
