@@ -1,0 +1,141 @@
+-- Two disks whose calls leave what has a property.
+use Rattle.std.proofs.Common.{◌≡◌, ◌⊎◌, inl, inr, ℕ, ◌≤◌, ◌<◌, Bool, true, false, List, length, get_or, Option, Some, None, IfSome, refl, sym, ◌∙◌, ap, subst, arith, add-zero}
+use Rattle.std.proofs.lemmas.Bool.{cases_lt}
+use Rattle.std.specs.Option.{option_map}
+use Rattle.spl_edge.specs.Image.{Image, MayLeave, IsSettled}
+use Rattle.spl_edge.specs.Picks.{Picked}
+use Rattle.spl_edge.specs.declared.disk.Armed.{Armed}
+use Rattle.spl_journal.proofs.Images.{only_settled}
+use Rattle.spl_journal.specs.Clear.{IsAtRest}
+use Rattle.spl_journal.specs.Gate.{ByCalls}
+use Rattle.spl_journal.specs.Journals.{Stands}
+use Rattle.spl_journal.specs.Reads.{Stays}
+use Rattle.spl_snapshot.specs.declared.pairing.Pairing.{Pairing}
+use Rattle.spl_snapshot.specs.Counting.{chosen, IfBoth, PairLeaves, PairLeavesInTurn, Onward}
+use Rattle.spl_snapshot.specs.Pairs.{PairStands}
+
+pub both_if : (o p : Option Image) (P Q : Image → Image → Type 0) → IfBoth o p P → ((i j : Image) → P i j → Q i j) → IfBoth o p Q
+both_if None p P Q h f = tt
+both_if (Some i) None P Q h f = tt
+both_if (Some i) (Some j) P Q h f = f i j h
+
+pub safe_map : (P Q : List ℕ → List ℕ → Type 0) → ((c d : List ℕ) → P c d → Q c d) → (o p : Option Image)
+    → IfBoth o p (λ i j. (c d : List ℕ) → MayLeave i c → MayLeave j d → P c d) → IfBoth o p (λ i j. (c d : List ℕ) → MayLeave i c → MayLeave j d → Q c d)
+safe_map P Q f o p h = both_if o p (λ i j. (c d : List ℕ) → MayLeave i c → MayLeave j d → P c d) (λ i j. (c d : List ℕ) → MayLeave i c → MayLeave j d → Q c d) h (λ i j safe c d x y. f c d (safe c d x y))
+
+pub leaves_map : (at other : ℕ → Option Image) (from to start end : ℕ) (P Q : List ℕ → List ℕ → Type 0) → ((c d : List ℕ) → P c d → Q c d) → PairLeaves at from to other start end P → PairLeaves at from to other start end Q
+leaves_map at other from to start end P Q f h k l a b c d = safe_map P Q f (at k) (other l) (h k l a b c d)
+
+pub turn_map : (second : Bool) (at other : ℕ → Option Image) (from to start end : ℕ) (P Q : List ℕ → List ℕ → Type 0) → ((c d : List ℕ) → P c d → Q c d) → PairLeavesInTurn second at from to other start end P → PairLeavesInTurn second at from to other start end Q
+turn_map second at other from to start end P Q f h k l a b c d turn = safe_map P Q f (at k) (other l) (h k l a b c d turn)
+
+settled_both : (second : Bool) (o p : Option Image) → IfSome (chosen second o p) IsSettled → IfSome (chosen second p o) IsSettled → IfSome o IsSettled × IfSome p IsSettled
+settled_both false o p a b = (a, b)
+settled_both true o p a b = (b, a)
+
+some_map : (o : Option Image) (P Q : Image → Type 0) → IfSome o P → ((i : Image) → P i → Q i) → IfSome o Q
+some_map None P Q h f = tt
+some_map (Some i) P Q h f = f i h
+
+-- nothing is pending on the disks of a pairing
+pub settled_pair : {R : Type 0} (fits : List ℕ → Bool) (q : Pairing R) (o p : Option Image) → PairStands fits q o p → IfSome o IsSettled × IfSome p IsSettled
+settled_pair fits q o p stands = settled_both q.second o p
+    (some_map (chosen q.second o p) (Stands fits q.journal) IsSettled stands.counting (λ i s. s.holds.settled))
+    (some_map (chosen q.second p o) (IsAtRest q.other) IsSettled stands.other (λ i s. s.settled))
+
+pub own_bytes : (i : Image) → IsSettled i → MayLeave i i.bytes
+own_bytes i settled = record {
+  no_shorter = subst (λ (n : ℕ). n ≤ length i.bytes) (sym settled.least) (omega arith);
+  no_longer = subst (λ (n : ℕ). length i.bytes ≤ n) (sym settled.greatest) (omega arith);
+  same = λ k a b outside. ap (λ (bs : List ℕ). get_or bs k 0) (sym settled.same);
+}
+
+-- ---- disks of which no call was made
+
+still : (P : List ℕ → List ℕ → Type 0) (i j : Image) → IsSettled i → IsSettled j → P i.bytes j.bytes → (c d : List ℕ) → MayLeave i c → MayLeave j d → P c d
+still P i j a b h c d x y = subst (λ (e : List ℕ). P e d) (sym (only_settled i c a x)) (subst (λ (e : List ℕ). P i.bytes e) (sym (only_settled j d b y)) h)
+
+module _ (at other : ℕ → Option Image) (m n : ℕ) where
+  pub rest_leaves : IfSome (at m) IsSettled → IfSome (other n) IsSettled → (P : Image → Image → Type 0) (Q : List ℕ → List ℕ → Type 0) → ((i j : Image) → P i j → Q i.bytes j.bytes)
+      → IfBoth (at m) (other n) (λ i j. P i j → PairLeaves at m m other n n Q)
+  rest_leaves a b P Q f = by (at m) (other n) a b refl refl
+    where
+      by : (o p : Option Image) → IfSome o IsSettled → IfSome p IsSettled → at m ≡ o → other n ≡ p → IfBoth o p (λ i j. P i j → PairLeaves at m m other n n Q)
+      by None p a b x y = tt
+      by (Some i) None a b x y = tt
+      by (Some i) (Some j) a b x y = λ h k l low high low2 high2.
+          let here : at k ≡ Some i = subst (λ (t : ℕ). at t ≡ Some i) (let e : m ≡ k = omega arith in e) x in
+          let there : other l ≡ Some j = subst (λ (t : ℕ). other t ≡ Some j) (let e : n ≡ l = omega arith in e) y in
+          subst (λ (o : Option Image). IfBoth o (other l) (λ i j. (c d : List ℕ) → MayLeave i c → MayLeave j d → Q c d)) (sym here)
+          (subst (λ (p : Option Image). IfBoth (Some i) p (λ i j. (c d : List ℕ) → MayLeave i c → MayLeave j d → Q c d)) (sym there) (still Q i j a b (f i j h)))
+
+-- what is left at the last moments is what a read gives
+pub left_now : (at other : ℕ → Option Image) (m n : ℕ) (Q : List ℕ → List ℕ → Type 0) → IfSome (at m) IsSettled → IfSome (other n) IsSettled → PairLeaves at m m other n n Q → IfBoth (at m) (other n) (λ i j. Q i.bytes j.bytes)
+left_now at other m n Q a b left = by (at m) (other n) a b (left m n (omega arith) (omega arith) (omega arith) (omega arith))
+  where
+    by : (o p : Option Image) → IfSome o IsSettled → IfSome p IsSettled → IfBoth o p (λ i j. (c d : List ℕ) → MayLeave i c → MayLeave j d → Q c d) → IfBoth o p (λ i j. Q i.bytes j.bytes)
+    by None p a b h = tt
+    by (Some i) None a b h = tt
+    by (Some i) (Some j) a b h = h i.bytes j.bytes (own_bytes i a) (own_bytes j b)
+
+pub onward_same : (at : ℕ → Option Image) (m faults : ℕ) (armed : Armed) (picks : List Picked) → Onward at at m m faults faults armed armed picks picks
+onward_same at m faults armed picks = record { past = λ t h. refl; later = omega arith; no_less = omega arith; armed = refl; picks = refl }
+
+pub onward_join : (a b c : ℕ → Option Image) (l m n : ℕ) (x y z : ℕ) (p q r : Armed) (s t u : List Picked) → Onward a b l m x y p q s t → Onward b c m n y z q r t u → Onward a c l n x z p r s u
+onward_join a b c l m n x y z p q r s t u f g = record {
+  past = λ k h. g.past k (let le : l ≤ m = f.later in omega arith) ∙ f.past k h;
+  later = let one : l ≤ m = f.later in let two : m ≤ n = g.later in omega arith;
+  no_less = let one : x ≤ y = f.no_less in let two : y ≤ z = g.no_less in omega arith;
+  armed = g.armed ∙ f.armed;
+  picks = g.picks ∙ f.picks;
+}
+
+pub stays_same : (at : ℕ → Option Image) (m : ℕ) → Stays at m at m
+stays_same at m = record { past = λ t h. refl; still = λ k low high. ap at (let e : k ≡ m = omega arith in e); later = omega arith }
+
+pub stays_join : (a b c : ℕ → Option Image) (l m n : ℕ) → Stays a l b m → Stays b m c n → Stays a l c n
+stays_join a b c l m n f g = record {
+  past = λ k h. g.past k (let le : l ≤ m = f.later in omega arith) ∙ f.past k h;
+  still = λ k low high. by k low high (cases_lt k m);
+  later = let one : l ≤ m = f.later in let two : m ≤ n = g.later in omega arith;
+}
+  where
+    by : (k : ℕ) → l ≤ k → k ≤ n → (k < m) ⊎ (m ≤ k) → c k ≡ a l
+    by k low high (inl h) = g.past k (omega arith) ∙ f.still k low (omega arith)
+    by k low high (inr h) = g.still k h high ∙ f.still m f.later (omega arith)
+
+-- a fault that came before the first call
+pub no_calls : (at : ℕ → Option Image) (m : ℕ) (f : ℕ → Image → Image) (armed : Armed) (ok failed : Type 0) → ((i : Image) → f 0 i ≡ i) → (ok → ⊥) → (failed → ⊥) → ByCalls 4 at m m f (at m) armed ok failed
+no_calls at m f armed ok failed none no_ok no_failed = record {
+  calls = 0;
+  at_most = omega arith;
+  stands = ap at (add-zero m) ∙ by (at m);
+  last = omega arith;
+  passed = λ j h. absurd (omega arith);
+  still = λ h. ap at (sym (add-zero m));
+  named = λ h. absurd (no_failed h);
+  whole = λ h. absurd (no_ok h);
+}
+  where
+    by : (o : Option Image) → o ≡ option_map (f 0) o
+    by None = refl
+    by (Some i) = ap (λ (k : Image). Some k) (sym (none i))
+
+-- the same calls, told of by another answer
+pub calls_as : (most : ℕ) (at : ℕ → Option Image) (first now : ℕ) (f : ℕ → Image → Image) (told : Option Image) (armed : Armed) (ok failed other_ok other_failed : Type 0) → (other_ok → ok) → (other_failed → failed)
+    → ByCalls most at first now f told armed ok failed → ByCalls most at first now f told armed other_ok other_failed
+calls_as most at first now f told armed ok failed other_ok other_failed oks fails c = record {
+  calls = c.calls;
+  at_most = c.at_most;
+  stands = c.stands;
+  last = c.last;
+  passed = c.passed;
+  still = c.still;
+  named = λ h. c.named (fails h);
+  whole = λ h. c.whole (oks h);
+}
+
+pub either_calls : (most : ℕ) (at : ℕ → Option Image) (first now : ℕ) (f : ℕ → Image → Image) (told : Option Image) (armed : Armed) (ok failed other_ok other_failed rest_ok rest_failed : Type 0) → (other_ok → ok) → (other_failed → failed)
+    → ByCalls most at first now f told armed ok failed ⊎ ByCalls most at first now f told armed rest_ok rest_failed → ByCalls most at first now f told armed other_ok other_failed ⊎ ByCalls most at first now f told armed rest_ok rest_failed
+either_calls most at first now f told armed ok failed other_ok other_failed rest_ok rest_failed oks fails (inl c) = inl (calls_as most at first now f told armed ok failed other_ok other_failed oks fails c)
+either_calls most at first now f told armed ok failed other_ok other_failed rest_ok rest_failed oks fails (inr c) = inr c

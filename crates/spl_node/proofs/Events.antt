@@ -1,0 +1,74 @@
+-- What was handed over for an event.
+use Rattle.std.proofs.Common.{◌≡◌, ℕ, Bool, true, false, List, [], ◌∷◌, ◌++◌, ◌||◌, Option, Some, None, IfSome, Ok, Err, refl, sym, ◌∙◌, ap, subst}
+use Rattle.std.specs.Prelude.{IsErrOf}
+use Rattle.std.specs.Map.{keys_of}
+use Rattle.std.specs.List.Sorted.{IsStrictlySortedBy}
+use Rattle.spl_circuit.specs.Nodes.{NodeId, CircuitId}
+use Rattle.spl_wire.specs.declared.change.Change.{Change}
+use Rattle.spl_wire.specs.declared.event.Event.{Event}
+use Rattle.spl_wire.specs.Grouping.{record_of}
+use Rattle.spl_rules.specs.Cells.{Cell}
+use Rattle.spl_rules.specs.Changes.{stopped_cell}
+use Rattle.spl_rules.specs.Plans.{plan_of}
+use Rattle.spl_edge.specs.Image.{Image}
+use Rattle.spl_snapshot.specs.Counting.{IfBoth}
+use Rattle.spl_snapshot.specs.Pairs.{PairStands}
+use Rattle.spl_node.specs.declared.done.Done.{Done}
+use Rattle.spl_node.specs.declared.node.Node.{Node}
+use Rattle.spl_node.specs.Done.{IsGiven, record_of_changes}
+use Rattle.spl_node.specs.Kept.{CellsView, AreOwn, cell_at, cells_after, packed_node}
+use Rattle.spl_node.specs.Records.{is_record, record_in, record_bytes, recorded_cell, site_at}
+use Rattle.spl_node.specs.Stands.{Make, StandFor, NodeStands, here_of, cell_of}
+use Rattle.spl_node.proofs.Maps.{order}
+use Rattle.spl_node.proofs.Packs.{made_again}
+use Rattle.spl_node.proofs.Disks.{both_if}
+use Rattle.spl_node.proofs.Standing.{more_made, stand_same}
+
+pub or_right : (a b : Bool) → (a || b) ≡ false → b ≡ false
+or_right true b h = cc
+or_right false b h = h
+
+-- the error of a call, handed on by another
+pub same_error : {A B E : Type 0} {x y : E} → IsErrOf {T = A} (Err x) y → IsErrOf {T = B} (Err x) y
+same_error {x = x} {y = y} h = let is : x ≡ y = cc in ap Err is
+
+pub no_error : {A E : Type 0} {x : A} {y : E} → IsErrOf (Ok x) y → ⊥
+no_error h = cc
+
+-- ---- what an event gave
+
+none_in : (c : CircuitId) (xs : List Change) → None ≡ record_of_changes c xs → xs ≡ []
+none_in c [] h = refl
+none_in c (x ∷ xs) h = cc
+
+some_in : (c : CircuitId) (xs : List Change) (bytes : List ℕ) → Some bytes ≡ record_of_changes c xs → bytes ≡ record_bytes (record_of c xs)
+some_in c [] bytes h = cc
+some_in c (x ∷ xs) bytes h = cc
+
+module _ (here : NodeId) (c : CircuitId) (before : CircuitId → Cell) (e : Event) (d : Done) (given : IsGiven (site_at here c) (before c) (plan_of (site_at here c) (before c) e) d) where
+  pub none_changed : d.bytes ≡ None → (plan_of (site_at here c) (before c) e).changes ≡ []
+  none_changed none = none_in c (plan_of (site_at here c) (before c) e).changes (sym none ∙ given.bytes_is)
+
+  pub bytes_are_of : (bytes : List ℕ) → d.bytes ≡ Some bytes → bytes ≡ record_bytes (record_of c (plan_of (site_at here c) (before c) e).changes)
+  bytes_are_of bytes some = some_in c (plan_of (site_at here c) (before c) e).changes bytes (sym some ∙ given.bytes_is)
+
+  pub more_kept : (bytes : List ℕ) → d.bytes ≡ Some bytes → (rs : List (List ℕ)) → Make here before rs → Make here (cells_after here before c e) (rs ++ bytes ∷ [])
+  more_kept bytes some = more_made here c before e bytes (subst (λ (o : Option (List ℕ)). IfSome o (λ b. record_in b ≡ Some (record_of c (plan_of (site_at here c) (before c) e).changes))) some given.read) given.fits
+
+-- the cells behind an event pack into records that make them
+pub again_made : (here : NodeId) (after : CircuitId → Cell) (v : CellsView) → v.here ≡ here → ((c : CircuitId) → cell_at v.entries c ≡ after c) → IsStrictlySortedBy order (keys_of v.entries) → AreOwn v.here v.entries → Make here after (packed_node v.entries)
+again_made here after v same cells ordered own c = subst (λ (n : NodeId). recorded_cell n c (packed_node v.entries) ≡ stopped_cell (cell_at v.entries c)) same (made_again v.here c v.entries ordered own) ∙ ap stopped_cell (cells c)
+
+-- ---- the node behind it
+
+stand_like : (here other : NodeId) (cells like : CircuitId → Cell) (c d : List ℕ) → other ≡ here → ((i : CircuitId) → like i ≡ cells i) → StandFor here cells c d → StandFor other like c d
+stand_like here other cells like c d same all stands = subst (λ (n : NodeId). StandFor n like c d) (sym same) (stand_same here cells like c d (λ i. ap stopped_cell (sym (all i))) stands)
+
+pub node_stands : (m : Node) (here : NodeId) (before after : CircuitId → Cell) (o p x y : Option Image) → here_of m ≡ here → ((c : CircuitId) → cell_of m c ≡ after c) → PairStands is_record m.pairing x y
+    → IfBoth o p (λ i j. StandFor here before i.bytes j.bytes → IfBoth x y (λ k l. StandFor here after k.bytes l.bytes))
+    → IfBoth o p (λ i j. StandFor here before i.bytes j.bytes → NodeStands m x y)
+node_stands m here before after o p x y same cells pair left = both_if o p (λ i j. StandFor here before i.bytes j.bytes → IfBoth x y (λ k l. StandFor here after k.bytes l.bytes)) (λ i j. StandFor here before i.bytes j.bytes → NodeStands m x y) left
+    (λ i j h stands. record {
+      pair = pair;
+      cells = both_if x y (λ k l. StandFor here after k.bytes l.bytes) (λ k l. StandFor (here_of m) (cell_of m) k.bytes l.bytes) (h stands) (λ k l. stand_like here (here_of m) after (cell_of m) k.bytes l.bytes same cells);
+    })

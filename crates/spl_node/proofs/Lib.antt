@@ -1,0 +1,14 @@
+pub mod Booleans
+pub mod Disks
+pub mod Reading
+pub mod Stops
+pub mod Groups
+pub mod Packs
+pub mod Maps
+pub mod Carrying
+pub mod Standing
+pub mod Events
+pub mod Recorded
+pub mod Changing
+pub mod Rolls
+pub mod Walking

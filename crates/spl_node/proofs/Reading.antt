@@ -1,0 +1,91 @@
+-- The changes of records, behind one another.
+use Rattle.std.proofs.Common.{◌≡◌, ℕ, ◌+◌, List, [], ◌∷◌, ◌++◌, length, true, false, ◌==◌, if◌then◌else◌, Option, Some, Result, Ok, Err, refl, sym, ◌∙◌, ap, subst, inl, inr, ◌⊎◌, append_assoc, append-nil, zero-add, arith}
+use Rattle.std.specs.Prelude.{IsTrue, is_some}
+use Rattle.std.specs.Str.{bytes_eq}
+use Rattle.spl_base.specs.Input.{Input, ◌>>=◌}
+use Rattle.spl_base.specs.Front.{front_of}
+use Rattle.spl_circuit.specs.Nodes.{NodeId, CircuitId}
+use Rattle.spl_wire.specs.declared.change.Change.{Change}
+use Rattle.spl_wire.specs.declared.record.Record.{Record}
+use Rattle.spl_wire.specs.Forms.{record_form, exact_record}
+use Rattle.spl_rules.specs.Cells.{Cell, Empty, Site}
+use Rattle.spl_rules.specs.Changes.{applied, applied_one}
+use Rattle.spl_node.specs.Records.{whole, record_in, is_record, record_bytes, changes_about, changes_in, recorded_cell, site_at}
+use Rattle.spl_agree.proofs.Tests.{bool_cases}
+
+same_size : (n : ℕ) (r : Record) → whole n (Ok (r, n)) ≡ Some r
+same_size n r = rw (let e : (n == n) ≡ true = grind arith in e) refl
+
+-- a record that was written is read
+pub record_again : (r : Record) → IsTrue (record_form.fits r) → record_in (record_bytes r) ≡ Some r
+unfolding record_in record_bytes
+record_again r fits =
+    ap (λ (x : Result (Record × ℕ) ℕ). whole (length (record_form.spell r)) x) (front) ∙ same_size (length (record_form.spell r)) r
+  where
+    read : record_form.parse (record { rest = record_form.spell r; place = 0 }) ≡ Ok (r, record { rest = []; place = 0 + length (record_form.spell r) })
+    read = subst (λ (bs : List ℕ). record_form.parse (record { rest = bs; place = 0 }) ≡ Ok (r, record { rest = []; place = 0 + length (record_form.spell r) })) (append-nil (record_form.spell r)) (exact_record.again r [] 0 fits)
+
+    front : front_of record_form (record_form.spell r) ≡ Ok (r, length (record_form.spell r))
+    front = ap (λ (x : Result (Record × Input) ℕ). x >>= λ y. Ok (y.0, y.1.place)) read ∙ ap (λ (n : ℕ). Ok (r, n)) (zero-add (length (record_form.spell r)))
+
+pub is_record_again : (r : Record) → IsTrue (record_form.fits r) → is_record (record_bytes r) ≡ true
+is_record_again r fits = ap (λ (o : Option Record). is_some o) (record_again r fits)
+
+-- ---- changes behind changes
+
+pub applied-append : (site : Site) (k : Cell) (xs ys : List Change) → applied site k (xs ++ ys) ≡ applied site (applied site k xs) ys
+applied-append site k [] ys = refl
+applied-append site k (x ∷ xs) ys = applied-append site (applied_one site k x) xs ys
+
+pub changes_in-append : (c : CircuitId) (xs ys : List (List ℕ)) → changes_in c (xs ++ ys) ≡ changes_in c xs ++ changes_in c ys
+changes_in-append c [] ys = refl
+changes_in-append c (x ∷ xs) ys = ap (λ (l : List Change). changes_about c (record_in x) ++ l) (changes_in-append c xs ys) ∙ sym (append_assoc (changes_about c (record_in x)) (changes_in c xs) (changes_in c ys))
+
+pub recorded-append : (here : NodeId) (c : CircuitId) (xs ys : List (List ℕ)) → recorded_cell here c (xs ++ ys) ≡ applied (site_at here c) (recorded_cell here c xs) (changes_in c ys)
+recorded-append here c xs ys = ap (λ (l : List Change). applied (site_at here c) Empty l) (changes_in-append c xs ys) ∙ applied-append (site_at here c) Empty (changes_in c xs) (changes_in c ys)
+
+-- one record more
+pub changes_one : (c : CircuitId) (bytes : List ℕ) (r : Record) → record_in bytes ≡ Some r → changes_in c (bytes ∷ []) ≡ (if bytes_eq r.circuit c then r.changes else [])
+changes_one c bytes r is = append-nil (changes_about c (record_in bytes)) ∙ ap (λ (o : Option Record). changes_about c o) is
+
+pub recorded_more : (here : NodeId) (c : CircuitId) (rs : List (List ℕ)) (bytes : List ℕ) (r : Record) → record_in bytes ≡ Some r
+    → recorded_cell here c (rs ++ bytes ∷ []) ≡ (if bytes_eq r.circuit c then applied (site_at here c) (recorded_cell here c rs) r.changes else recorded_cell here c rs)
+recorded_more here c rs bytes r is = recorded-append here c rs (bytes ∷ []) ∙ (ap (λ (l : List Change). applied (site_at here c) (recorded_cell here c rs) l) (changes_one c bytes r is) ∙ by (bool_cases (bytes_eq r.circuit c)))
+  where
+    by : (bytes_eq r.circuit c ≡ true) ⊎ (bytes_eq r.circuit c ≡ false) → applied (site_at here c) (recorded_cell here c rs) (if bytes_eq r.circuit c then r.changes else []) ≡ (if bytes_eq r.circuit c then applied (site_at here c) (recorded_cell here c rs) r.changes else recorded_cell here c rs)
+    by (inl e) = rw e refl
+    by (inr e) = rw e refl
+
+-- what was read of bytes that are a record is that record
+whole_is : (size : ℕ) (found : Result (Record × ℕ) ℕ) (r : Record) (n : ℕ) → found ≡ Ok (r, n) → is_some (whole size found) ≡ true → whole size found ≡ Some r
+whole_is size found r n is so = ap (λ (x : Result (Record × ℕ) ℕ). whole size x) is ∙ by (bool_cases (n == size))
+  where
+    by : ((n == size) ≡ true) ⊎ ((n == size) ≡ false) → whole size (Ok (r, n)) ≡ Some r
+    by (inl h) = rw h refl
+    by (inr h) =
+        let none : is_some (whole size (Ok (r, n))) ≡ false = rw h refl in
+        let never : true ≡ false = sym so ∙ (ap (λ (x : Result (Record × ℕ) ℕ). is_some (whole size x)) is ∙ none) in
+        absurd (cc)
+
+pub record_read : (bytes : List ℕ) (r : Record) (n : ℕ) → is_record bytes ≡ true → front_of record_form bytes ≡ Ok (r, n) → record_in bytes ≡ Some r
+unfolding record_in
+record_read bytes r n so is = whole_is (length bytes) (front_of record_form bytes) r n is so
+
+pub never_malformed : (bytes : List ℕ) (at : ℕ) → is_record bytes ≡ true → front_of record_form bytes ≡ Err at → ⊥
+unfolding record_in
+never_malformed bytes at so is =
+    let none : is_some (whole (length bytes) (front_of record_form bytes)) ≡ false = ap (λ (x : Result (Record × ℕ) ℕ). is_some (whole (length bytes) x)) is in
+    let never : true ≡ false = sym so ∙ none in
+    absurd (cc)
+
+pub is_record_by : (bytes : List ℕ) (r : Record) (n : ℕ) → front_of record_form bytes ≡ Ok (r, n) → is_record bytes ≡ (n == length bytes)
+unfolding record_in
+is_record_by bytes r n is = ap (λ (x : Result (Record × ℕ) ℕ). is_some (whole (length bytes) x)) is ∙ by (bool_cases (n == length bytes))
+  where
+    by : ((n == length bytes) ≡ true) ⊎ ((n == length bytes) ≡ false) → is_some (whole (length bytes) (Ok (r, n))) ≡ (n == length bytes)
+    by (inl h) = rw h refl
+    by (inr h) = rw h refl
+
+pub no_record_by : (bytes : List ℕ) (at : ℕ) → front_of record_form bytes ≡ Err at → is_record bytes ≡ false
+unfolding record_in
+no_record_by bytes at is = ap (λ (x : Result (Record × ℕ) ℕ). is_some (whole (length bytes) x)) is

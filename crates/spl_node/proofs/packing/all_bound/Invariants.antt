@@ -1,0 +1,7 @@
+use Rattle.std.proofs.Common.{◌≡◌, ◌++◌}
+use Rattle.std.specs.Map.{values_of}
+use Rattle.spl_node.specs.Kept.{AreSound, bound_ids}
+use Rattle.spl_node.proofs.packing.all_bound.Given as goal
+
+abbrev pub invariant-loop-id : goal.invariant-loop-id
+invariant-loop-id l = AreSound (values_of l.id-iterator) × (l.ids ++ bound_ids l.id-iterator ≡ bound_ids l.map.entries)

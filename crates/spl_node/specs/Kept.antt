@@ -1,0 +1,98 @@
+-- What a node keeps in memory, and the records into which it packs.
+use Rattle.std.specs.Prelude.{◌≡◌, ℕ, false, IsTrue, List, [], ◌∷◌, ◌++◌, Option, Some, None, if◌then◌else◌}
+use Rattle.std.specs.List.{list_all}
+use Rattle.std.specs.Ordering.{nat_cmp}
+use Rattle.std.specs.Cmp.Lexicographic.{slice_cmp}
+use Rattle.std.specs.BTreeMap.{is_at}
+use Rattle.std.specs.Map.{lookup, values_of}
+use Rattle.std.specs.Str.{bytes_eq}
+use Rattle.spl_circuit.specs.Forms.{circuit_id}
+use Rattle.spl_circuit.specs.Nodes.{NodeId, CircuitId}
+use Rattle.spl_wire.specs.declared.change.Change.{Change}
+use Rattle.spl_wire.specs.declared.event.Event.{Event}
+use Rattle.spl_wire.specs.Changes.{change_form}
+use Rattle.spl_wire.specs.declared.record.Record.{Record}
+use Rattle.spl_wire.specs.Forms.{record_form}
+use Rattle.spl_wire.specs.Grouping.{grouped, records_of}
+use Rattle.spl_rules.specs.Cells.{Cell, Empty, is_bound}
+use Rattle.spl_rules.specs.Changes.{applied, stopped_cell, after_plan}
+use Rattle.spl_rules.specs.Pack.{packed}
+use Rattle.spl_rules.specs.Plans.{plan_of}
+use Rattle.spl_cell.specs.Views.{CellView}
+use Rattle.spl_node.specs.Records.{record_bytes, site_at}
+
+-- cells by their circuits, in the order of the ids
+abbrev pub Entries : Type 0
+Entries = List (CircuitId × CellView)
+
+-- the id of the node, and its cells
+pub record CellsView : Type 0 where
+  pub here : NodeId
+  pub entries : Entries
+
+abbrev pub state_or_empty : Option CellView → Cell
+state_or_empty None = Empty
+state_or_empty (Some v) = v.state
+
+-- the cell of a circuit
+abbrev pub cell_at : Entries → CircuitId → Cell
+cell_at es c = state_or_empty (lookup (is_at (slice_cmp nat_cmp c)) es)
+
+-- the cells behind an event at a circuit: its plan is carried out there, and the others stay
+abbrev pub cells_after : NodeId → (CircuitId → Cell) → CircuitId → Event → CircuitId → Cell
+cells_after here cells c e id = if bytes_eq c id then after_plan here (cells c) (plan_of (site_at here c) (cells c) e) else cells id
+
+-- the cells behind changes of a circuit that were read
+abbrev pub cells_with : NodeId → (CircuitId → Cell) → CircuitId → List Change → CircuitId → Cell
+cells_with here cells c xs id = if bytes_eq c id then applied (site_at here c) (cells c) xs else cells id
+
+-- ---- packed cells
+
+abbrev pub spelled : List Record → List (List ℕ)
+spelled [] = []
+spelled (r ∷ rs) = record_bytes r ∷ spelled rs
+
+-- the records of a packed cell
+abbrev pub packed_cell : CellView → List (List ℕ)
+packed_cell v = spelled (records_of v.site.circuit (grouped v.site.circuit (packed v.state)))
+
+-- and those of cells, one behind the other
+abbrev pub packed_cells : List CellView → List (List ℕ)
+packed_cells [] = []
+packed_cells (v ∷ vs) = packed_cell v ++ packed_cells vs
+
+-- and those of a node, in the order of the ids
+abbrev pub packed_node : Entries → List (List ℕ)
+packed_node es = packed_cells (values_of es)
+
+-- a cell goes on; its packed form can be written, and makes it again but for its open rounds
+pub record IsSound (v : CellView) : Type 0 where
+  pub running : v.halted ≡ false
+  pub named : IsTrue (circuit_id.fits v.site.circuit)
+  pub written : IsTrue (list_all change_form.fits (packed v.state))
+  pub again : applied v.site Empty (packed v.state) ≡ stopped_cell v.state
+
+-- a sound cell that stands at its node and circuit
+pub record IsOwn (here : NodeId) (c : CircuitId) (v : CellView) : Type 0 where
+  pub site_is : v.site ≡ site_at here c
+  pub sound : IsSound v
+
+abbrev pub AreOwn : NodeId → Entries → Type 0
+AreOwn here [] = Unit {0}
+AreOwn here (e ∷ es) = IsOwn here e.0 e.1 × AreOwn here es
+
+abbrev pub AreSound : List CellView → Type 0
+AreSound [] = Unit {0}
+AreSound (v ∷ vs) = IsSound v × AreSound vs
+
+-- each record has a byte form
+abbrev pub AreFit : List Record → Type 0
+AreFit [] = Unit {0}
+AreFit (r ∷ rs) = IsTrue (record_form.fits r) × AreFit rs
+
+-- ---- the roll
+
+-- the ids of the bound cells, in order
+abbrev pub bound_ids : Entries → List CircuitId
+bound_ids [] = []
+bound_ids (e ∷ es) = if is_bound e.1.state then e.0 ∷ bound_ids es else bound_ids es

@@ -1,0 +1,5 @@
+pub mod Records
+pub mod Kept
+pub mod Done
+pub mod Stands
+pub mod Opening

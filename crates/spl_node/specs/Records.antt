@@ -1,0 +1,45 @@
+-- The records of a node's journal, and the cells that they make.
+use Rattle.std.specs.Prelude.{ℕ, Bool, ◌==◌, List, [], ◌∷◌, ◌++◌, length, if◌then◌else◌, Option, Some, None, is_some, Result, Ok, Err}
+use Rattle.std.specs.Str.{bytes_eq}
+use Rattle.spl_base.specs.Front.{front_of}
+use Rattle.spl_circuit.specs.Nodes.{NodeId, CircuitId}
+use Rattle.spl_wire.specs.declared.change.Change.{Change}
+use Rattle.spl_wire.specs.declared.record.Record.{Record}
+use Rattle.spl_wire.specs.Forms.{record_form}
+use Rattle.spl_rules.specs.Cells.{Cell, Empty, Site}
+use Rattle.spl_rules.specs.Changes.{applied}
+
+-- a circuit at a node
+abbrev pub site_at : NodeId → CircuitId → Site
+site_at n c = record { here = n; circuit = c }
+
+-- what was read, where it took so many bytes
+abbrev pub whole : ℕ → Result (Record × ℕ) ℕ → Option Record
+whole size (Ok x) = if x.1 == size then Some x.0 else None
+whole size (Err at) = None
+
+-- the record that bytes are, with nothing behind it
+unfoldable pub record_in : List ℕ → Option Record
+record_in bytes = whole (length bytes) (front_of record_form bytes)
+
+-- bytes are exactly one record
+abbrev pub is_record : List ℕ → Bool
+is_record bytes = is_some (record_in bytes)
+
+-- the byte form of a record
+unfoldable pub record_bytes : Record → List ℕ
+record_bytes r = record_form.spell r
+
+-- the changes of a record that is about the circuit
+abbrev pub changes_about : CircuitId → Option Record → List Change
+changes_about c None = []
+changes_about c (Some r) = if bytes_eq r.circuit c then r.changes else []
+
+-- those of all records, in order
+abbrev pub changes_in : CircuitId → List (List ℕ) → List Change
+changes_in c [] = []
+changes_in c (bytes ∷ rs) = changes_about c (record_in bytes) ++ changes_in c rs
+
+-- the cell that the records make of an empty one
+abbrev pub recorded_cell : NodeId → CircuitId → List (List ℕ) → Cell
+recorded_cell here c rs = applied (site_at here c) Empty (changes_in c rs)

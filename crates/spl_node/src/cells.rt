@@ -1,0 +1,136 @@
+//! The cells of a node.
+ghost use Rattle.std.specs.Prelude.{◌≡◌, IsTrue, [], Some, IfOk, OnOk, OnErr};
+ghost use Rattle.std.specs.Ordering.{nat_cmp};
+ghost use Rattle.std.specs.Cmp.Lexicographic.{slice_cmp};
+ghost use Rattle.std.specs.BTreeMap.{insert_entry};
+ghost use Rattle.std.specs.List.Sorted.{IsStrictlySortedBy};
+ghost use Rattle.std.specs.Map.{keys_of};
+ghost use Rattle.spl_circuit.specs.Nodes.{NodeId, CircuitId};
+ghost use Rattle.spl_wire.specs.Forms.{record_form};
+ghost use Rattle.spl_rules.specs.Cells.{Empty};
+ghost use Rattle.spl_rules.specs.Plans.{plan_of};
+ghost use Rattle.spl_rules.specs.Valid.{IsFor};
+ghost use Rattle.spl_cell.specs.States.{IsStill};
+ghost use Rattle.spl_node.specs.Done.{IsGiven};
+ghost use Rattle.spl_node.specs.Kept.{cell_at, cells_after, cells_with, AreOwn, IsOwn};
+ghost use Rattle.spl_node.specs.Records.{site_at};
+
+use crate::done::{Done, handled, replayed};
+use spl_base::{CircuitId, NodeId};
+use spl_cell::Cell;
+use spl_rules::records_are_formed;
+use spl_wire::{Event, Record};
+use std::alloc::{AllocError, Global};
+use std::collections::BTreeMap;
+use std::marker::Model;
+
+/// The cells of a node by their circuits, those that aren't empty. Contracts see the node, and the
+/// cells in the order of the ids.
+#[derive(Drop)]
+pub struct Cells {
+    here: NodeId,
+    pub(crate) map: BTreeMap<CircuitId, Cell>,
+}
+
+impl Model for Cells {
+    ghost use Rattle.spl_node.specs.Kept.{CellsView, AreOwn};
+
+    ghost Value = { CellsView };
+
+    ghost view = { λ s. record { here = s.here; entries = s.map.entries } };
+
+    ghost invariant = { λ s. AreOwn s.here s.map.entries };
+}
+
+/// A cell more is kept, unless it is empty. An error comes for want of memory alone.
+fn keep(
+    map: &mut BTreeMap<CircuitId, Cell>,
+    circuit: CircuitId,
+    cell: Cell,
+) -> Result<(), AllocError>
+    ensures kept { OnOk result (map.new.entries ≡ insert_entry (slice_cmp nat_cmp) map.old.entries circuit cell) }
+    ensures err { OnErr result (map.new.entries ≡ map.old.entries) }
+{
+    match map.insert(circuit, cell) {
+        Ok(_) => Ok(()),
+        Err(_) => Err(AllocError),
+    }
+}
+
+/// An empty cell, whose circuit has an id that can be written.
+#[tactic(auto, using(spl_rules::proofs::Named::named_circuit))]
+fn fresh(here: NodeId, circuit: CircuitId) -> Cell
+    ensures empty { result.state ≡ Empty }
+    ensures own { IsOwn here circuit result }
+{
+    let _ = circuit.bytes();
+    Cell::empty(here, circuit)
+}
+
+impl Cells {
+    /// No cell is kept; nothing is allocated.
+    pub fn new(alloc: Global, here: NodeId) -> Cells
+        ensures here { result.here ≡ here }
+        ensures none { result.entries ≡ [] }
+    {
+        Cells {
+            here,
+            map: BTreeMap::new(alloc),
+        }
+    }
+
+    /// The cells are those of the node, and in the order of the ids.
+    pub fn is_ordered(&self)
+        ensures own { AreOwn self.now.here self.now.entries }
+        ensures ordered { IsStrictlySortedBy (slice_cmp nat_cmp) (keys_of self.now.entries) }
+    {
+        let _ = self.map.len();
+    }
+
+    /// Carries out the plan of an event at the cell of a circuit. After an error, which comes for
+    /// want of memory alone, that cell is lost.
+    pub fn handle(
+        &mut self,
+        alloc: Global,
+        circuit: CircuitId,
+        event: &Event,
+    ) -> Result<Done, AllocError>
+        requires { IsFor (site_at self.old.here circuit) event.now }
+        ensures here { self.new.here ≡ self.old.here }
+        ensures cells { OnOk result ((c : CircuitId) → cell_at self.new.entries c ≡ cells_after self.old.here (cell_at self.old.entries) circuit event.now c) }
+        ensures given { IfOk result (λ done. IsGiven (site_at self.old.here circuit) (cell_at self.old.entries circuit) (plan_of (site_at self.old.here circuit) (cell_at self.old.entries circuit) event.now) done) }
+    {
+        if let Some(cell) = self.map.get_mut(&circuit) {
+            return handled(cell, alloc, event);
+        }
+        let mut cell = fresh(self.here, circuit);
+        let done = handled(&mut cell, alloc, event)?;
+        if cell.is_empty() {
+            return Ok(done);
+        }
+        keep(&mut self.map, circuit, cell)?;
+        Ok(done)
+    }
+
+    /// Makes the changes of a record that was read at the cell of its circuit. After an error,
+    /// which comes for want of memory alone, that cell is lost.
+    pub fn replay(&mut self, alloc: Global, found: Record) -> Result<(), AllocError>
+        requires still { (c : CircuitId) → IsStill (cell_at self.old.entries c) }
+        requires written { IsTrue (record_form.fits found) }
+        ensures here { self.new.here ≡ self.old.here }
+        ensures cells { OnOk result ((c : CircuitId) → cell_at self.new.entries c ≡ cells_with self.old.here (cell_at self.old.entries) found.circuit found.changes c) }
+        ensures still { OnOk result ((c : CircuitId) → IsStill (cell_at self.new.entries c)) }
+    {
+        records_are_formed();
+        let Record { circuit, changes } = found;
+        if let Some(cell) = self.map.get_mut(&circuit) {
+            return replayed(cell, alloc, &changes);
+        }
+        let mut cell = fresh(self.here, circuit);
+        replayed(&mut cell, alloc, &changes)?;
+        if cell.is_empty() {
+            return Ok(());
+        }
+        keep(&mut self.map, circuit, cell)
+    }
+}

@@ -1,0 +1,12 @@
+//! A node over its disks: the cells of all circuits, and the journal that makes them again.
+#![tactic(auto)]
+
+mod cells;
+mod done;
+mod form;
+mod node;
+mod opening;
+mod packing;
+
+pub use form::CellForm;
+pub use node::{Node, Outcome};

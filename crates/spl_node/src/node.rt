@@ -1,0 +1,183 @@
+//! A node over its two disks.
+ghost use Rattle.std.specs.Prelude.{◌≡◌, ◌≢◌, ◌⊎◌, ◌<◌, ◌+◌, ◌-◌, ◌*◌, ◌^◌, [], ℕ, true, false, not, ⊤, length, IsTrue, OnOk, OnErr, IfOk, IfSome, IsOk, IsErrOf};
+ghost use Rattle.std.specs.List.{list_any};
+ghost use Rattle.std.specs.List.Sorted.{IsStrictlySortedBy};
+ghost use Rattle.std.specs.Ordering.{nat_cmp};
+ghost use Rattle.std.specs.Cmp.Lexicographic.{slice_cmp};
+ghost use Rattle.std.specs.Str.{bytes_eq};
+ghost use Rattle.spl_circuit.specs.Nodes.{NodeId, CircuitId};
+ghost use Rattle.spl_edge.specs.Calls.{fails_at};
+ghost use Rattle.spl_edge.specs.Causes.{Rose};
+ghost use Rattle.spl_journal.specs.Gate.{ByCalls, opened};
+ghost use Rattle.spl_journal.specs.Journals.{end_of, len_of, base_of, epoch_of, has_room};
+ghost use Rattle.spl_journal.specs.Make.{IsBlank};
+ghost use Rattle.spl_journal.specs.Records.{blocks, sized};
+ghost use Rattle.spl_snapshot.specs.Counting.{chosen, IfBoth, PairLeaves, PairLeavesInTurn, Onward};
+ghost use Rattle.spl_snapshot.specs.Pairs.{PairStands, is_second, journal_in};
+ghost use Rattle.spl_wire.specs.Bounds.{AllSendable};
+ghost use Rattle.spl_wire.specs.Grouping.{record_of};
+ghost use Rattle.spl_rules.specs.Cells.{Empty, is_bound};
+ghost use Rattle.spl_rules.specs.Plans.{plan_of};
+ghost use Rattle.spl_rules.specs.Valid.{IsFor, are_legal};
+ghost use Rattle.spl_node.specs.Kept.{cells_after, packed_node};
+ghost use Rattle.spl_node.specs.Records.{is_record, record_bytes, site_at};
+ghost use Rattle.spl_node.specs.Stands.{NodeStands, StandFor, here_of, cell_of, is_halted};
+
+use crate::CellForm;
+use crate::cells::Cells;
+use crate::done::Done;
+use spl_base::{CircuitId, Listing, NodeId};
+use spl_edge::{Disk, Pair};
+use spl_journal::JournalFault;
+use spl_snapshot::{Pairing, format_pair};
+use spl_wire::{Answer, Event, SendList};
+use std::alloc::{AllocError, Global};
+
+/// A node: its cells, and the journals on its disks, which make them again.
+#[derive(Drop)]
+pub struct Node {
+    pub(crate) cells: Cells,
+    pub(crate) pairing: Pairing<CellForm>,
+    pub(crate) halted: bool,
+}
+
+/// What an event gave: an answer, and messages in the order in which they are sent.
+#[derive(Debug, Drop)]
+pub struct Outcome {
+    pub answer: Answer,
+    pub sends: SendList,
+}
+
+impl Node {
+    /// A node where nothing happened, over two blank disks; the journal is made on the first, by
+    /// four calls.
+    pub fn create<D: Disk>(
+        alloc: Global,
+        here: NodeId,
+        disks: &mut Pair<D>,
+    ) -> Result<Node, JournalFault>
+        requires first { IfSome (D.image_at disks.old.first (D.moment disks.old.first)) IsBlank }
+        requires second { IfSome (D.image_at disks.old.second (D.moment disks.old.second)) IsBlank }
+        ensures here { IfOk result (λ n. here_of n ≡ here) }
+        ensures empty { IfOk result (λ n. (c : CircuitId) → cell_of n c ≡ Empty) }
+        ensures running { IfOk result (λ n. is_halted n ≡ false) }
+        ensures stands { IfOk result (λ n. NodeStands n (D.image_at disks.new.first (D.moment disks.new.first)) (D.image_at disks.new.second (D.moment disks.new.second))) }
+        ensures base { IfOk result (λ n. (is_second n.pairing ≡ false) × (epoch_of (journal_in n.pairing) ≡ 1) × (base_of (journal_in n.pairing) ≡ 18)) }
+        ensures not { (at : ℕ) → IsErrOf result (JournalFault.NotAJournal at) → ⊥ }
+        ensures failed { IsErrOf result JournalFault.Disk → Rose (D.faults disks.old.first) (D.faults disks.new.first) }
+        ensures on_first { Onward (D.image_at disks.old.first) (D.image_at disks.new.first) (D.moment disks.old.first) (D.moment disks.new.first) (D.faults disks.old.first) (D.faults disks.new.first)
+            (D.armed disks.old.first) (D.armed disks.new.first) (D.picks disks.old.first) (D.picks disks.new.first) }
+        ensures second { disks.new.second ≡ disks.old.second }
+    {
+        let pairing = format_pair::<CellForm, D>(alloc, disks)?;
+        Ok(Node {
+            cells: Cells::new(alloc, here),
+            pairing,
+            halted: false,
+        })
+    }
+
+    /// Whether a call failed, so that the disks have to be read again.
+    pub fn is_halted(&self) -> bool
+        ensures { result ≡ is_halted self.now }
+    {
+        self.halted || self.pairing.halted()
+    }
+
+    /// 0 where the journal on the first disk counts, and 1 where that on the second does.
+    pub fn counting(&self) -> u8
+        ensures { result ≡ chosen (is_second self.now.pairing) 0 1 }
+    {
+        self.pairing.counting()
+    }
+
+    /// An event at the cell of a circuit. Where it changes the cell, the record of the changes is
+    /// kept before the answer comes, and where that leaves no room for more, all cells are written
+    /// anew on the other disk. After an error the node is halted.
+    pub fn step<D: Disk>(
+        &mut self,
+        alloc: Global,
+        disks: &mut Pair<D>,
+        circuit: &CircuitId,
+        event: &Event,
+    ) -> Result<Outcome, JournalFault>
+        requires running { is_halted self.old ≡ false }
+        requires own { IsFor (site_at (here_of self.old) circuit.now) event.now }
+        requires pair { PairStands is_record self.old.pairing (D.image_at disks.old.first (D.moment disks.old.first)) (D.image_at disks.old.second (D.moment disks.old.second)) }
+        ensures here { here_of self.new ≡ here_of self.old }
+        ensures answer { IfOk result (λ o. o.answer ≡ (plan_of (site_at (here_of self.old) circuit.now) (cell_of self.old circuit.now) event.now).answer) }
+        ensures sends { IfOk result (λ o. o.sends ≡ (plan_of (site_at (here_of self.old) circuit.now) (cell_of self.old circuit.now) event.now).sends) }
+        ensures legal { IfOk result (λ o. are_legal o.sends ≡ true) }
+        ensures sendable { IfOk result (λ o. AllSendable o.sends) }
+
+        // The plan is carried out at the cell of the circuit, and the other cells stay.
+        ensures cells { OnOk result ((c : CircuitId) → cell_of self.new c ≡ cells_after (here_of self.old) (cell_of self.old) circuit.now event.now c) }
+
+        // A stop at any moment of the call leaves disks that stand for the cells before the event or for those after it; after Ok for those after it.
+        ensures any_moment { IfBoth (D.image_at disks.old.first (D.moment disks.old.first)) (D.image_at disks.old.second (D.moment disks.old.second)) (λ i j. StandFor (here_of self.old) (cell_of self.old) i.bytes j.bytes →
+            PairLeavesInTurn (is_second self.old.pairing) (D.image_at disks.new.first) (D.moment disks.old.first) (D.moment disks.new.first) (D.image_at disks.new.second) (D.moment disks.old.second) (D.moment disks.new.second)
+            (λ c d. StandFor (here_of self.old) (cell_of self.old) c d ⊎ StandFor (here_of self.old) (cells_after (here_of self.old) (cell_of self.old) circuit.now event.now) c d)) }
+        ensures after { OnOk result (IfBoth (D.image_at disks.old.first (D.moment disks.old.first)) (D.image_at disks.old.second (D.moment disks.old.second)) (λ i j. StandFor (here_of self.old) (cell_of self.old) i.bytes j.bytes →
+            PairLeaves (D.image_at disks.new.first) (D.moment disks.new.first) (D.moment disks.new.first) (D.image_at disks.new.second) (D.moment disks.new.second) (D.moment disks.new.second)
+            (StandFor (here_of self.old) (cells_after (here_of self.old) (cell_of self.old) circuit.now event.now)))) }
+        ensures pair { OnOk result (PairStands is_record self.new.pairing (D.image_at disks.new.first (D.moment disks.new.first)) (D.image_at disks.new.second (D.moment disks.new.second))) }
+        ensures stands { OnOk result (IfBoth (D.image_at disks.old.first (D.moment disks.old.first)) (D.image_at disks.old.second (D.moment disks.old.second)) (λ i j. StandFor (here_of self.old) (cell_of self.old) i.bytes j.bytes → NodeStands self.new (D.image_at disks.new.first (D.moment disks.new.first)) (D.image_at disks.new.second (D.moment disks.new.second)))) }
+
+        // Without changes no call of a disk is made. With changes the record of them is kept, by four calls of the disk that counts, each of which succeeded or the last of which ended the step.
+        ensures no_calls { (plan_of (site_at (here_of self.old) circuit.now) (cell_of self.old circuit.now) event.now).changes ≡ [] → disks.new ≡ disks.old }
+        ensures by_calls { (plan_of (site_at (here_of self.old) circuit.now) (cell_of self.old circuit.now) event.now).changes ≢ [] →
+            ByCalls 4 (D.image_at (chosen (is_second self.old.pairing) disks.new.first disks.new.second)) (D.moment (chosen (is_second self.old.pairing) disks.old.first disks.old.second)) (D.moment (chosen (is_second self.old.pairing) disks.new.first disks.new.second))
+            (opened (end_of (journal_in self.old.pairing)) (sized (record_bytes (record_of circuit.now (plan_of (site_at (here_of self.old) circuit.now) (cell_of self.old circuit.now) event.now).changes)))) (D.image_at (chosen (is_second self.old.pairing) disks.old.first disks.old.second) (D.moment (chosen (is_second self.old.pairing) disks.old.first disks.old.second))) (D.armed (chosen (is_second self.old.pairing) disks.old.first disks.old.second)) (IsOk result) (IsErrOf result JournalFault.Disk)
+            ⊎ ByCalls 4 (D.image_at (chosen (is_second self.old.pairing) disks.new.first disks.new.second)) (D.moment (chosen (is_second self.old.pairing) disks.old.first disks.old.second)) (D.moment (chosen (is_second self.old.pairing) disks.new.first disks.new.second))
+            (opened (end_of (journal_in self.old.pairing)) (sized (record_bytes (record_of circuit.now (plan_of (site_at (here_of self.old) circuit.now) (cell_of self.old circuit.now) event.now).changes)))) (D.image_at (chosen (is_second self.old.pairing) disks.old.first disks.old.second) (D.moment (chosen (is_second self.old.pairing) disks.old.first disks.old.second))) (D.armed (chosen (is_second self.old.pairing) disks.old.first disks.old.second)) ⊤ ⊥ }
+
+        // Where the record leaves no room the other disk counts behind Ok, and none of its eight calls was one that it is armed for.
+        ensures turned { OnOk result ((plan_of (site_at (here_of self.old) circuit.now) (cell_of self.old circuit.now) event.now).changes ≢ [] → 2 * base_of (journal_in self.old.pairing) + 65536 < len_of (journal_in self.old.pairing) + 5 + length (record_bytes (record_of circuit.now (plan_of (site_at (here_of self.old) circuit.now) (cell_of self.old circuit.now) event.now).changes)) → epoch_of (journal_in self.old.pairing) < 2 ^ 64 - 1
+            → is_second self.new.pairing ≡ not (is_second self.old.pairing)) }
+        ensures passed { OnOk result ((is_second self.new.pairing ≡ is_second self.old.pairing) ⊎ ((n : ℕ) → n < 8 → IsTrue (fails_at (D.armed (chosen (is_second self.old.pairing) disks.old.second disks.old.first)) (D.moment (chosen (is_second self.old.pairing) disks.old.second disks.old.first) + n)) → ⊥)) }
+
+        // The journal that counts is within its bound: it has room, and its base is what it was or the length of the packed cells.
+        ensures room { OnOk result ((plan_of (site_at (here_of self.old) circuit.now) (cell_of self.old circuit.now) event.now).changes ≢ [] → epoch_of (journal_in self.new.pairing) < 2 ^ 64 - 1 → has_room (journal_in self.new.pairing) ≡ true) }
+        ensures base { OnOk result ((base_of (journal_in self.new.pairing) ≡ base_of (journal_in self.old.pairing)) ⊎ (base_of (journal_in self.new.pairing) ≡ 18 + length (blocks (packed_node self.new.cells.entries)))) }
+        ensures halted { OnErr result (is_halted self.new ≡ true) }
+        ensures running { OnOk result (is_halted self.new ≡ false) }
+        ensures not { (at : ℕ) → IsErrOf result (JournalFault.NotAJournal at) → ⊥ }
+        ensures failed { IsErrOf result JournalFault.Disk → Rose (D.faults disks.old.first) (D.faults disks.new.first) ⊎ Rose (D.faults disks.old.second) (D.faults disks.new.second) }
+        ensures on_first { Onward (D.image_at disks.old.first) (D.image_at disks.new.first) (D.moment disks.old.first) (D.moment disks.new.first) (D.faults disks.old.first) (D.faults disks.new.first)
+            (D.armed disks.old.first) (D.armed disks.new.first) (D.picks disks.old.first) (D.picks disks.new.first) }
+        ensures on_second { Onward (D.image_at disks.old.second) (D.image_at disks.new.second) (D.moment disks.old.second) (D.moment disks.new.second) (D.faults disks.old.second) (D.faults disks.new.second)
+            (D.armed disks.old.second) (D.armed disks.new.second) (D.picks disks.old.second) (D.picks disks.new.second) }
+    {
+        let done = match self.cells.handle(alloc, *circuit, event) {
+            Ok(done) => done,
+            Err(AllocError) => {
+                self.halted = true;
+                return Err(JournalFault::NoMemory);
+            }
+        };
+        let Done {
+            answer,
+            bytes,
+            sends,
+        } = done;
+        let Some(bytes) = bytes else {
+            return Ok(Outcome { answer, sends });
+        };
+        self.cells.is_ordered();
+        if let Err(fault) = self.pairing.keep(alloc, disks, bytes.bytes(), &self.cells) {
+            self.halted = true;
+            return Err(fault);
+        }
+        Ok(Outcome { answer, sends })
+    }
+
+    /// The ids of the circuits that are bound here, in order. An error comes for want of memory
+    /// alone.
+    pub fn roll(&self, alloc: Global) -> Result<Listing<CircuitId>, AllocError>
+        ensures sorted { IfOk result (λ ids. IsStrictlySortedBy (slice_cmp nat_cmp) ids) }
+        ensures bound { IfOk result (λ ids. (c : CircuitId) → list_any (bytes_eq c) ids ≡ is_bound (cell_of self.now c)) }
+    {
+        self.cells.is_ordered();
+        self.cells.bound(alloc)
+    }
+}
