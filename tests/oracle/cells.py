@@ -1,9 +1,10 @@
 """A cell, and what an event does there, as docs/RULES.md has it (Cells, Routing)."""
+import json
 from dataclasses import dataclass, field
 from typing import Any, NamedTuple
 
 from groups import LAST_ROUND, MOST_PENDING, NO_POSITION, Body, Group, Member, Reason, expire, hear, submit, tick
-from values import Act, Acts, Batches, Definition, life, root_of, state_of
+from values import Act, Acts, Batches, Definition, life, receipts_of, root_of, state_of
 
 LAST_TURN = 2**32 - 1
 
@@ -13,6 +14,11 @@ class Refused(Exception):
 
     def __init__(self, *words):
         super().__init__(" ".join(map(str, ("refused", *words))))
+
+
+def in_json(value):
+    """Compact, with the keys of each object in byte order."""
+    return json.dumps(value, separators=(",", ":"), sort_keys=True)
 
 
 class Message(NamedTuple):
@@ -144,6 +150,25 @@ class Site:
             raise Refused(10)
         return self.queue_act(cell, act)
 
+    # ---- leaving
+
+    def abandon(self):
+        cell = self.running()
+        if not cell.is_open:
+            raise Refused(12)
+        cell.is_open = False
+        cell.restart()
+        return "ok abandoned"
+
+    def purge(self):
+        cell = self.bound()
+        state = cell.life().state
+        waits = state == "none" and (cell.acts.pending or cell.acts.promise is not None)
+        if cell.is_open and (state in ("proposed", "active") or waits):
+            raise Refused(16)
+        self.cell = Purged(cell.generation)
+        return "ok purged"
+
     # ---- batches and reading
 
     def submit(self, batch):
@@ -173,6 +198,34 @@ class Site:
         return "ok circuit generation {} lifecycle {} mark {} accepted {} acts {} {} batches {} {}".format(
             cell.generation, now.state, mark, accepted, *counts
         )
+
+    def detail(self):
+        cell = self.bound()
+        d, now = cell.definition, cell.life()
+        return "ok detail " + in_json(
+            {
+                "accepted": [m for m in d.members if m in now.accepted],
+                "generation": d.generation,
+                "hash": d.hash(),
+                "id": d.id,
+                "lifecycle": now.state,
+                "management": d.management,
+                "mark": "open" if cell.is_open else "abandoned",
+                "members": list(d.members),
+                "name": d.name,
+                "requester": now.requester,
+                "services": [{"node": s.node, "service": s.id, "type": s.kind} for s in d.services],
+                "version": d.version,
+            }
+        )
+
+    def receipt(self, id):
+        batches = self.running().batches.values()
+        place = next((place for place, batch in enumerate(batches) if batch.id == id), None)
+        if place is None:
+            raise Refused(19)
+        receipts = receipts_of(state_of(batches[:place]), batches[place])
+        return "ok receipt " + in_json({"batch": id, "place": place, "transactions": receipts})
 
     def root(self):
         batches = self.running().batches.values()

@@ -66,6 +66,7 @@ class Draw:
             self.step: 20,
             self.deliver: 30,
             self.calm: 3,
+            self.leave: 2,
         }
         return self.random.choices(list(kinds), list(kinds.values()))[0](circuit, node)
 
@@ -73,7 +74,7 @@ class Draw:
         if self.random.random() < 0.2:
             version, members = self.one([(2, "alpha,beta"), (1, "beta,alpha"), (1, "alpha"), (1, "alpha,gamma")])
             return f"propose {node} {circuit} 1 {version} grid trade {members} aaaa:scabbard:alpha,bbbb:scabbard:beta"
-        return self.propose(circuit, node, self.one([NODES, NODES[:2], NODES[1:]]), self.one([1, 1, 1, 2]))
+        return self.propose(circuit, node, self.one([NODES, NODES[:2], NODES[1:]]), self.one([1, 1, 1, 2, 2, 3]))
 
     def vote(self, circuit, node):
         return self.one([f"vote {node} {circuit} accept"] * 4 + [f"vote {node} {circuit} reject", f"remove {node} {circuit}"])
@@ -98,7 +99,8 @@ class Draw:
     def ask(self, circuit, node):
         asked = [f"{word} {node} {circuit}" for word in ("show", "show", "root", "root", "history")]
         asked += [f"get {node} {circuit} {self.one(ADDRESSES)}", f"list {node} {circuit} {self.one(['-', '00', 'ff'])}"]
-        asked.append(f"status {node} {circuit} {self.random.randint(1, 9)}")
+        asked += [f"{word} {node} {circuit} {self.random.randint(1, 9)}" for word in ("status", "receipt")]
+        asked.append(f"detail {node} {circuit}")
         services = self.one(["aaaa", "bbbb", "cccc", "zzzz"]), self.one(["aaaa", "bbbb", "cccc"])
         asked.append(f"route {node} {circuit} {self.one(NODES)} {services[0]} {services[1]}")
         return self.one(asked)
@@ -112,6 +114,9 @@ class Draw:
         sender, to = self.one([pair for pair in pairs if count(pair)] or pairs)
         back = self.random.choices([0, 1, 2, 5, -1], [10, 4, 2, 2, 1])[0]
         return f"deliver {sender} {to} {circuit} {max(1, count((sender, to)) - back)}"
+
+    def leave(self, circuit, node):
+        return self.one([f"abandon {node} {circuit}", f"purge {node} {circuit}", f"purge {node} {circuit}"])
 
     def calm(self, circuit, node):
         return f"calm {circuit} {self.one([1, 1, 2, 4, 8])}"

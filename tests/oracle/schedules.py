@@ -114,12 +114,16 @@ def batch_id(word):
 # What an event of a cell asks: the readers of its words, and what is called.
 EVENTS = {
     "remove": ([], Site.remove),
+    "abandon": ([], Site.abandon),
+    "purge": ([], Site.purge),
     "show": ([], Site.show),
+    "detail": ([], Site.detail),
     "root": ([], Site.root),
     "history": ([], Site.history),
     "get": ([lambda w: bytes.fromhex(match(ADDRESS, w)[0])], Site.get),
     "list": ([prefix], Site.list),
     "status": ([batch_id], Site.status),
+    "receipt": ([batch_id], Site.receipt),
     "route": ([lambda w: match(NODE, w)[0], lambda w: match(SERVICE, w)[0], lambda w: match(SERVICE, w)[0]], Site.route),
     "tick": ([], Site.tick),
     "expire": ([], Site.expire),

@@ -42,6 +42,15 @@ class Definition(NamedTuple):
     def node_of(self, service):
         return next((s.node for s in self.services if s.id == service), None)
 
+    def hash(self):
+        """SHA-256 of the byte form, in digits."""
+        text = lambda t: len(t).to_bytes(2, "big") + t.encode()
+        many = lambda items: len(items).to_bytes(2, "big") + b"".join(items)
+        head = self.id.encode() + self.generation.to_bytes(4, "big") + bytes([self.version])
+        roster = many([s.id.encode() + text(s.kind) + text(s.node) for s in self.services])
+        members = many([text(m) for m in self.members])
+        return hashlib.sha256(head + text(self.management) + text(self.name) + members + roster).hexdigest()
+
 
 class Act(NamedTuple):
     node: str
@@ -169,6 +178,27 @@ def state_of(batches):
             elif c.kind == "Delete":
                 state.pop(c.name, None)
     return state
+
+
+def receipts_of(state, batch):
+    """The receipts of a valid batch on a state, as JSON values."""
+    found = []
+    for t in batch.transactions:
+        receipt = {"changes": [], "data": [], "events": []}
+        for c in t.commands:
+            if c.kind == "Set":
+                state[c.name] = c.data
+                receipt["changes"].append({"address": c.name.hex(), "value": c.data.hex()})
+            elif c.kind == "Delete" and state.pop(c.name, None) is not None:
+                receipt["changes"].append({"address": c.name.hex(), "value": None})
+            elif c.kind == "Get" and c.name in state:
+                receipt["data"].append(state[c.name].hex())
+            elif c.kind == "Data":
+                receipt["data"].append(c.data.hex())
+            elif c.kind == "Event":
+                receipt["events"].append({"data": c.data.hex(), "type": c.name})
+        found.append(receipt)
+    return found
 
 
 def root_of(state):

@@ -1,6 +1,5 @@
 //! What a line of a schedule says.
 ghost use Rattle.std.specs.Prelude.{◌≡◌};
-ghost use Rattle.spl_sched.specs.Taken.{is_event_taken};
 
 use crate::known::{event_known, is_known};
 use spl_base::{CircuitId, NodeId};
@@ -28,27 +27,6 @@ pub enum Step {
         circuit: CircuitId,
         number: u32,
     },
-}
-
-fn is_event_taken(event: &Event) -> bool
-    ensures { result ≡ is_event_taken event.now }
-{
-    matches!(
-        event,
-        Event::Propose(_)
-            | Event::Vote { .. }
-            | Event::Remove
-            | Event::Submit(_)
-            | Event::Show
-            | Event::Root
-            | Event::History
-            | Event::Get(_)
-            | Event::List(_)
-            | Event::Status(_)
-            | Event::Route { .. }
-            | Event::Tick
-            | Event::Expire
-    )
 }
 
 /// A line of a schedule (docs/RULES.md, Schedules).
@@ -146,11 +124,6 @@ impl Line {
     pub fn is_taken(&self) -> bool
         ensures { result ≡ is_taken self.now }
     {
-        match self {
-            Line::Step(Step::At { event, .. }) => is_event_taken(event),
-            Line::Step(Step::Deliver { .. }) => true,
-            Line::Calm { .. } => true,
-            _ => false,
-        }
+        matches!(self, Line::Step(_) | Line::Calm { .. })
     }
 }

@@ -359,13 +359,13 @@ const SAID: [(&[u8], &[u8], bool, [bool; 3]); 20] = [
     (
         b"abandon alpha Ab3dE-00001",
         b"Ab3dE-00001",
-        false,
+        true,
         [true, false, false],
     ),
     (
         b"detail alpha Ab3dE-00001",
         b"Ab3dE-00001",
-        false,
+        true,
         [true, false, false],
     ),
     (
@@ -401,7 +401,7 @@ const SAID: [(&[u8], &[u8], bool, [bool; 3]); 20] = [
     (
         b"receipt alpha Ab3dE-00001 7",
         b"Ab3dE-00001",
-        false,
+        true,
         [true, false, false],
     ),
     (

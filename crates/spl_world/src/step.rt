@@ -5,7 +5,7 @@ ghost use Rattle.spl_circuit.specs.Nodes.{has_node};
 ghost use Rattle.spl_model.specs.Projection.{Ran};
 ghost use Rattle.spl_model.specs.Outcomes.{by_rule};
 ghost use Rattle.spl_sched.specs.Grammar.{nodes_of, step_nodes, step_circuit, is_line, is_step};
-ghost use Rattle.spl_sched.specs.Taken.{is_taken, is_step_taken};
+ghost use Rattle.spl_sched.specs.Taken.{is_taken};
 ghost use Rattle.spl_model.specs.Worlds.{World as CircuitWorld, step_plan, step_world};
 ghost use Rattle.spl_model.specs.Answers.{answer_to};
 ghost use Rattle.spl_world.specs.Views.{Holds, Moves, Stands, Stays, ids_of, is_halted};
@@ -20,7 +20,6 @@ impl World {
     fn run(&mut self, alloc: Global, step: &Step) -> Result<Answer, AllocError>
         requires known { list_all (has_node (ids_of self.old)) (step_nodes step.now) ≡ true }
         requires fits { is_step step.now ≡ true }
-        requires taken { is_step_taken step.now ≡ true }
         ensures ids { ids_of self.new ≡ ids_of self.old }
         ensures answer { (m : CircuitWorld) → Holds (step_circuit step.now) m self.old.nodes.items → IfOk result (λ a. a ≡ (step_plan m step.now).answer) }
         ensures moves { OnOk result (Moves (step_circuit step.now) (λ m. step_world m step.now) self.old.nodes.items self.new.nodes.items) }
