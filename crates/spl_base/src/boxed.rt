@@ -1,4 +1,4 @@
-//! Values on the heap.
+//! Values on the heap, shared by their copies.
 ghost use Rattle.std.specs.Prelude.{◌≡◌, IfOk};
 
 use crate::fault::Malformed;
@@ -8,11 +8,13 @@ use crate::value::Value;
 use crate::writer::Writer;
 use std::alloc::{AllocError, Global};
 use std::marker::Model;
+use std::rc::Rc;
 
-/// A value on the heap, so that what holds it stays small. Contracts see the value.
+/// A value on the heap, so that what holds it stays small. Copies share it: a copy costs a count.
+/// Contracts see the value.
 #[derive(Debug, Drop)]
 pub struct Boxed<T> {
-    inner: Box<T>,
+    inner: Rc<T>,
 }
 
 impl<T> Model for Boxed<T> {
@@ -29,7 +31,7 @@ impl<T> Boxed<T> {
         ensures { IfOk result (λ b. b ≡ x) }
     {
         Ok(Boxed {
-            inner: Box::new(alloc, x)?,
+            inner: Rc::new(alloc, x)?,
         })
     }
 
@@ -38,13 +40,6 @@ impl<T> Boxed<T> {
         ensures { result.now ≡ self.now }
     {
         &self.inner
-    }
-
-    /// The value, moved from the heap.
-    pub fn into_inner(self) -> T
-        ensures { result ≡ self }
-    {
-        Box::into_inner(self.inner)
     }
 }
 
@@ -68,8 +63,9 @@ impl<T: Value> Value for Boxed<T> {
         self.get().same(other.get())
     }
 
-    fn copy(&self, alloc: Global) -> Result<Boxed<T>, AllocError> {
-        let x = self.get().copy(alloc)?;
-        Boxed::new(alloc, x)
+    fn copy(&self, _alloc: Global) -> Result<Boxed<T>, AllocError> {
+        Ok(Boxed {
+            inner: self.inner.clone()?,
+        })
     }
 }

@@ -26,8 +26,8 @@ impl Model for Piece {
 }
 
 impl Piece {
-    /// The bytes of a vector.
-    pub(crate) fn from_vec(bytes: Vec<u8>) -> Piece
+    /// The bytes of a vector, which moves into it.
+    pub fn from_vec(bytes: Vec<u8>) -> Piece
         ensures { result ≡ bytes.items }
     {
         Piece { bytes }

@@ -1,5 +1,6 @@
 //! A short list of bytes that lies in the value itself.
 ghost use Rattle.std.specs.Prelude.{◌≡◌, ℕ, ◌<◌, ◌≤◌, List, length, Some, nat_eq, refl};
+ghost use Rattle.spl_base.specs.Cells.{spelled_from};
 ghost use Rattle.std.specs.Ordering.{nat_cmp};
 ghost use Rattle.std.specs.Cmp.{partial_equiv_from_equiv};
 ghost use Rattle.std.specs.Cmp.Lexicographic.{pointwise, slice_cmp, nat_list_eq_equiv, nat_list_cmp_total, texts_po, texts_ties};
@@ -57,6 +58,15 @@ impl<const CAP: usize> Short<CAP> {
     {
         &self.cells[..self.len as usize]
     }
+
+    /// The first eight cells as one number, the highest byte first.
+    fn head(&self) -> u64
+        requires { 8 ≤ CAP }
+        ensures { result ≡ spelled_from self.now 0 8 0 }
+    {
+        let c = &self.cells;
+        u64::from_be_bytes([c[0], c[1], c[2], c[3], c[4], c[5], c[6], c[7]])
+    }
 }
 
 impl<const CAP: usize> PartialEq for Short<CAP> {
@@ -93,7 +103,24 @@ impl<const CAP: usize> Ord for Short<CAP> {
     ghost matches_eq = { texts_ties };
 
     fn cmp(&self, other: &Self) -> Ordering {
-        self.bytes().cmp(other.bytes())
+        if CAP >= 8 {
+            order(self.head(), other.head(), self.bytes(), other.bytes())
+        } else {
+            self.bytes().cmp(other.bytes())
+        }
+    }
+}
+
+// Most texts differ in their heads, so that one compare of numbers settles them.
+fn order(first: u64, second: u64, these: &[u8], those: &[u8]) -> Ordering
+    requires first { first ≡ spelled_from these.now 0 8 0 }
+    requires second { second ≡ spelled_from those.now 0 8 0 }
+    ensures { result ≡ slice_cmp nat_cmp these.now those.now }
+{
+    if first == second {
+        these.cmp(those)
+    } else {
+        first.cmp(&second)
     }
 }
 

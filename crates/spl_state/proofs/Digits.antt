@@ -1,5 +1,5 @@
 -- The order of the digits from one on, step by step.
-use Rattle.std.proofs.Common.{◌≡◌, ◌≢◌, ℕ, suc, ◌+◌, ◌-◌, ◌<◌, ◌≤◌, ◌==◌, ◌&&◌, Bool, true, false, nat_cmp, Ordering, Less, Equal, Greater, refl, sym, ap, ◌∙◌, arith}
+use Rattle.std.proofs.Common.{◌≡◌, ◌≢◌, ℕ, zero, suc, ◌+◌, ◌-◌, ◌<◌, ◌≤◌, ◌==◌, ◌&&◌, Bool, true, false, nat_cmp, Ordering, Less, Equal, Greater, refl, sym, ap, ◌∙◌, arith}
 use Rattle.std.specs.Ordering.{ordering_then, is_eq}
 use Rattle.std.proofs.lemmas.Grind.{common_steps}
 use Rattle.spl_state.specs.declared.address.Address.{Address}
@@ -67,6 +67,17 @@ tail_end_is d a b e = ap is_eq (ap (λ k. tail_cmp k a b) e ∙ tail_end a b)
 
 pub tail_next : (d : ℕ) (a b : Address) → d < 70 → digit_of a.0 d ≡ digit_of b.0 d → is_eq (tail_cmp (d + 1) a b) ≡ is_eq (tail_cmp d a b)
 tail_next d a b low h = ap is_eq (sym (tail_same d a b low h))
+
+digits_alike : (n k : ℕ) (a b : Address) → a.0 ≡ b.0 → digits_cmp n k a b ≡ Equal
+digits_alike zero k a b e = cmp_none k a b
+digits_alike (suc n) k a b e =
+    cmp_more n k a b
+    ∙ ap (λ r. ordering_then r (digits_cmp n (k + 1) a b)) (equal_of _ _ (ap (λ l. digit_of l k) e))
+    ∙ digits_alike n (k + 1) a b e
+
+-- the same bytes have the same digits
+pub tail_alike : (d : ℕ) (a b : Address) → a.0 ≡ b.0 → is_eq (tail_cmp d a b) ≡ true
+tail_alike d a b e = ap is_eq (digits_alike (70 - d) d a b e)
 
 -- The same between two digits.
 
