@@ -98,7 +98,7 @@ fn read_batch(alloc: Global, words: &mut WordReader) -> Result<Step, LineFault>
     let node = take(alloc, words)?;
     let circuit = take(alloc, words)?;
     let id = take(alloc, words)?;
-    let transactions = read_transactions(alloc, words)?;
+    let transactions = Boxed::new(alloc, read_transactions(alloc, words)?)?;
     let batch = Boxed::new(alloc, Batch { id, transactions })?;
     Ok(Step::At {
         node,
