@@ -203,7 +203,7 @@ fn receipts(alloc: Global, rest: &str) -> Result<Answer, RowFault> {
     let (place, line) = halves(rest, ' ')?;
     let batch = batch(alloc, line)?;
     let mut receipts = Listing::new(alloc);
-    for transaction in batch.transactions.as_slice() {
+    for transaction in batch.transactions.get().as_slice() {
         receipts.push(receipt(alloc, transaction)?)?;
     }
     Ok(Answer::Receipt {

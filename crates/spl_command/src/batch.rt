@@ -4,7 +4,7 @@ ghost use Rattle.std.specs.Prelude.{◌≡◌};
 use crate::address::{put_address, take_address};
 use crate::prefixes::Prefixes;
 use spl_base::{
-    BatchId, Field, Label, Listing, Malformed, Piece, Reader, Writer, put_list, take_list,
+    BatchId, Boxed, Field, Label, Listing, Malformed, Piece, Reader, Writer, put_list, take_list,
 };
 use spl_state::Address;
 use std::alloc::{AllocError, Global};
@@ -46,11 +46,11 @@ pub struct Transaction {
 pub type Transactions = Listing<Transaction>;
 
 /// Transactions that take effect together or not at all (docs/RULES.md, Batches). Its key is
-/// its id.
+/// its id. Copies share the transactions.
 #[derive(Debug, Drop)]
 pub struct Batch {
     pub id: BatchId,
-    pub transactions: Transactions,
+    pub transactions: Boxed<Transactions>,
 }
 
 impl Field for Command {
@@ -148,12 +148,12 @@ impl Field for Batch {
 
     fn put_parts(&self, w: &mut Writer) -> Result<(), AllocError> {
         self.id.0.put_parts(w)?;
-        put_list(self.transactions.as_slice(), w)
+        put_list(self.transactions.get().as_slice(), w)
     }
 
     fn take_parts(alloc: Global, r: &mut Reader) -> Result<Batch, Malformed> {
         let id = BatchId(u64::take_parts(alloc, r)?);
-        let transactions = take_list(alloc, r, MOST_ITEMS)?;
+        let transactions = Boxed::new(alloc, take_list(alloc, r, MOST_ITEMS)?)?;
         Ok(Batch { id, transactions })
     }
 

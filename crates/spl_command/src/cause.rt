@@ -81,6 +81,6 @@ impl Batch {
         ensures cause { result ≡ cause_of self.now }
         ensures everywhere { (m : List Entry) → told_cause (verdict_on m self.now) ≡ result }
     {
-        first_cause(self.transactions.as_slice())
+        first_cause(self.transactions.get().as_slice())
     }
 }

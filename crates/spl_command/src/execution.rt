@@ -162,7 +162,7 @@ pub fn execute(alloc: Global, state: &State, batch: &Batch) -> Result<Verdict, A
     match batch.cause() {
         Some((transaction, cause)) => Ok(Verdict::Invalid { transaction, cause }),
         None => {
-            let receipts = receipts(alloc, state, batch.transactions.as_slice())?;
+            let receipts = receipts(alloc, state, batch.transactions.get().as_slice())?;
             Ok(Verdict::Valid(receipts))
         }
     }

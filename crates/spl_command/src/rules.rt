@@ -84,7 +84,7 @@ impl Batch {
     pub fn fault(&self) -> Option<u8>
         ensures { result ≡ broken_batch self.now }
     {
-        let transactions = self.transactions.as_slice();
+        let transactions = self.transactions.get().as_slice();
         if transactions.is_empty() {
             Some(1)
         } else if MOST_TRANSACTIONS < transactions.len() {

@@ -77,6 +77,6 @@ impl Batch {
     pub(crate) fn size(&self) -> usize
         ensures { result ≡ capped (size_of self.now) }
     {
-        list_size(self.transactions.as_slice()).saturating_add(8)
+        list_size(self.transactions.get().as_slice()).saturating_add(8)
     }
 }

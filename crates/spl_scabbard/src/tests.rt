@@ -2,7 +2,7 @@ ghost use Rattle.std.specs.Prelude.{◌<◌, length};
 
 use super::*;
 use spl_agree::{Agreed, Place, Reason};
-use spl_base::{BatchId, Label, Piece};
+use spl_base::{BatchId, Boxed, Label, Piece};
 use spl_command::{Batch, Command, Commands, Prefixes, Receipts, Transaction, Transactions};
 use spl_state::{Address, Prefix, State};
 use std::alloc::{AllocError, Global};
@@ -105,7 +105,7 @@ fn batch(alloc: Global, id: u64, rows: &[&[Step]]) -> Result<Batch, Fail> {
     }
     Ok(Batch {
         id: BatchId(id),
-        transactions,
+        transactions: Boxed::new(alloc, transactions)?,
     })
 }
 

@@ -9,3 +9,4 @@ mod TransactionLaws
 mod GrammarLaws
 mod LineLaws
 mod Items
+mod ByName

@@ -19,7 +19,7 @@ use Rattle.spl_sched.specs.declared.line.Line.{Line}
 use Rattle.spl_sched.specs.declared.line.Line.TheVariants as line
 use Rattle.spl_sched.specs.Words.{Words, number, joined, end, Reads, that, kind, ◌&◌, hex, split}
 use Rattle.spl_sched.specs.Transactions.{is_address, is_prefix}
-use Rattle.spl_sched.specs.Grammar.{step_words, words_of, spelling, is_definition, is_event, is_step, is_fill, is_passes, is_line, fill_words, fill_kinds, fill_parts, read_fill, fill, Home, home, Terms, terms, terms_of, definition_of, proposed, plain, answer, voted, work, submitted, place, got, places, listed, batch, about, way, routed, delivery, delivered, step_kinds, read_step, step, calm, node, cut, failing, line_kinds, read_words, line_words, line_of}
+use Rattle.spl_sched.specs.Grammar.{event_name, plain_kind, step_words, words_of, spelling, is_definition, is_event, is_step, is_fill, is_passes, is_line, fill_words, fill_kinds, fill_parts, read_fill, fill, Home, home, Terms, terms, terms_of, definition_of, proposed, plain, answer, voted, work, submitted, place, got, places, listed, batch, about, way, routed, delivery, delivered, step_kinds, read_step, step, calm, node, cut, failing, line_kinds, read_words, line_words, line_of}
 use Rattle.spl_sched.proofs.Splits.{lacks, lacks_from}
 use Rattle.spl_sched.proofs.WordLaws.{IsExact, Lacks, IsKind, AllKinds, is_kind, kinds_only, read_as, exact_number, exact_and, exact_joined, exact_end, joined_lacks, map_some, same_bytes, itself}
 use Rattle.spl_sched.proofs.HexLaws.{exact_hex, hex_lacks}
@@ -141,8 +141,8 @@ step_seen (Deliver from to id number) h =
     seen (codes "deliver") delivery delivered sound_delivery refl (λ xs. refl) (λ xs. refl) (from, (to, (id, (number, tt)))) _
     (delivery_fits (is_node_id from) (is_node_id to) (is_circuit_id id) (leb 1 number && ltb number (2 ^ 32)) (not (bytes_eq from to)) h) refl refl
 
-plain_kind : (name : List ℕ) (e : Event) → ((x : Home (Unit {0})) → name ∷ (home end).spell x ≡ step_words (plain e x)) → ((x : Home (Unit {0})) → IsTrue (is_event x.1.0 e)) → IsKind step_words is_step (kind name (home end) (plain e))
-plain_kind name e words free = is_kind step_words is_step name (home end) (plain e) (sound_home end sound_end).exact (λ x h. (words x, fits_home x.0 x.1.0 true (is_event x.1.0 e) (λ k. free x) h))
+plain_is : (e : Event) → ((x : Home (Unit {0})) → event_name e ∷ (home end).spell x ≡ step_words (plain e x)) → ((x : Home (Unit {0})) → IsTrue (is_event x.1.0 e)) → IsKind step_words is_step (plain_kind e)
+plain_is e words free = is_kind step_words is_step (event_name e) (home end) (plain e) (sound_home end sound_end).exact (λ x h. (words x, fits_home x.0 x.1.0 true (is_event x.1.0 e) (λ k. free x) h))
 
 batch_kind : (name : List ℕ) (to : ℕ → Event) → ((x : Home (ℕ × Unit {0})) → name ∷ (home batch).spell x ≡ step_words (about to x)) → ((x : Home (ℕ × Unit {0})) → IsTrue (ltb x.1.1.0 (2 ^ 64)) → IsTrue (is_event x.1.0 (to x.1.1.0)))
     → IsKind step_words is_step (kind name (home batch) (about to))
@@ -174,23 +174,23 @@ deliveries = is_kind step_words is_step (codes "deliver") delivery delivered sou
 
 all_steps : AllKinds step_words is_step step_kinds
 all_steps =
-    proposals
+    plain_is event.Show (λ x. refl) (λ x. refl)
+    ▹ plain_is event.Root (λ x. refl) (λ x. refl)
+    ▹ plain_is event.History (λ x. refl) (λ x. refl)
+    ▹ plain_is event.Tick (λ x. refl) (λ x. refl)
+    ▹ plain_is event.Expire (λ x. refl) (λ x. refl)
+    ▹ plain_is event.Remove (λ x. refl) (λ x. refl)
+    ▹ plain_is event.Abandon (λ x. refl) (λ x. refl)
+    ▹ plain_is event.Purge (λ x. refl) (λ x. refl)
+    ▹ plain_is event.Detail (λ x. refl) (λ x. refl)
+    ▹ proposals
     ▹ votes
-    ▹ plain_kind (codes "remove") event.Remove (λ x. refl) (λ x. refl)
-    ▹ plain_kind (codes "abandon") event.Abandon (λ x. refl) (λ x. refl)
-    ▹ plain_kind (codes "purge") event.Purge (λ x. refl) (λ x. refl)
     ▹ submissions
-    ▹ plain_kind (codes "show") event.Show (λ x. refl) (λ x. refl)
-    ▹ plain_kind (codes "detail") event.Detail (λ x. refl) (λ x. refl)
-    ▹ plain_kind (codes "root") event.Root (λ x. refl) (λ x. refl)
-    ▹ plain_kind (codes "history") event.History (λ x. refl) (λ x. refl)
     ▹ gets
     ▹ lists
     ▹ batch_kind (codes "status") event.Status (λ x. refl) (λ x k. k)
     ▹ batch_kind (codes "receipt") event.Receipt (λ x. refl) (λ x k. k)
     ▹ routes
-    ▹ plain_kind (codes "tick") event.Tick (λ x. refl) (λ x. refl)
-    ▹ plain_kind (codes "expire") event.Expire (λ x. refl) (λ x. refl)
     ▹ deliveries
     ▹ tt
 

@@ -291,27 +291,34 @@ delivery = that is_between_two (text is_node_id & text is_node_id & text is_circ
 abbrev pub delivered : Delivery → Step
 delivered x = Deliver x.0 x.1.0 x.1.1.0 x.1.1.1.0
 
-abbrev pub step_kinds : List (Kind Step)
-step_kinds =
+-- the events that have no words behind node and circuit
+abbrev pub plain_events : List Event
+plain_events = event.Show ∷ event.Root ∷ event.History ∷ event.Tick ∷ event.Expire ∷ event.Remove ∷ event.Abandon ∷ event.Purge ∷ event.Detail ∷ []
+
+abbrev pub plain_kind : Event → Kind Step
+plain_kind e = kind (event_name e) (home end) (plain e)
+
+-- the first of these events that has the name
+abbrev pub named : List Event → List ℕ → Option Event
+named [] name = None
+named (e ∷ es) name = if bytes_eq name (event_name e) then Some e else named es name
+
+-- the steps that have such words
+abbrev pub worded_kinds : List (Kind Step)
+worded_kinds =
     kind (codes "propose") (home terms) proposed
     ∷ kind (codes "vote") (home answer) voted
-    ∷ kind (codes "remove") (home end) (plain event.Remove)
-    ∷ kind (codes "abandon") (home end) (plain event.Abandon)
-    ∷ kind (codes "purge") (home end) (plain event.Purge)
     ∷ kind (codes "submit") (home work) submitted
-    ∷ kind (codes "show") (home end) (plain event.Show)
-    ∷ kind (codes "detail") (home end) (plain event.Detail)
-    ∷ kind (codes "root") (home end) (plain event.Root)
-    ∷ kind (codes "history") (home end) (plain event.History)
     ∷ kind (codes "get") (home place) got
     ∷ kind (codes "list") (home places) listed
     ∷ kind (codes "status") (home batch) (about event.Status)
     ∷ kind (codes "receipt") (home batch) (about event.Receipt)
     ∷ kind (codes "route") (home way) routed
-    ∷ kind (codes "tick") (home end) (plain event.Tick)
-    ∷ kind (codes "expire") (home end) (plain event.Expire)
     ∷ kind (codes "deliver") delivery delivered
     ∷ []
+
+abbrev pub step_kinds : List (Kind Step)
+step_kinds = map plain_kind plain_events ++ worded_kinds
 
 abbrev pub read_step : List (List ℕ) → Option Step
 read_step [] = None

@@ -1,6 +1,6 @@
 -- Words, and words in a row: how a value is spelled, which values have a spelling, and what is read (docs/RULES.md, Schedules).
 use Rattle.std.specs.Prelude.{ℕ, ◌+◌, ◌-◌, ◌*◌, ◌/◌, ◌%◌, Bool, true, false, not, ◌&&◌, ◌||◌, ◌==◌, nat_le, nat_lt, List, [], ◌∷◌, length, map, take, drop, slice_index, Option, Some, None, Result, Ok, Err, ◌≡◌, if◌then◌else◌, decimal}
-use Rattle.std.specs.List.{list_all, flat_map, slice_split, join_with_byte}
+use Rattle.std.specs.List.{list_all, list_any, flat_map, slice_split, join_with_byte}
 use Rattle.std.specs.Option.{option_map, option_and_then}
 use Rattle.std.specs.Str.{bytes_eq}
 use Rattle.spl_base.specs.Ids.{is_digit, within}
@@ -141,6 +141,10 @@ kind name ws to = record { name = name; read = λ xs. option_map to (ws.read xs)
 abbrev pub read_kind : {A : Type 0} → List (Kind A) → Option A → List ℕ → List (List ℕ) → Option A
 read_kind [] other name xs = other
 read_kind (k ∷ ks) other name xs = if bytes_eq name k.name then k.read xs else read_kind ks other name xs
+
+-- one of these kinds has the name
+abbrev pub has_kind : {A : Type 0} → List (Kind A) → List ℕ → Bool
+has_kind ks name = list_any (λ k. bytes_eq name k.name) ks
 
 -- what stands behind these bytes, where a word begins with them
 abbrev pub behind : List ℕ → List ℕ → Option (List ℕ)

@@ -77,7 +77,7 @@ pub(crate) fn read_bytes(alloc: Global, digits: &[u8]) -> Result<Piece, LineFaul
         return Err(LineFault::BadLine);
     }
     match decode(alloc, digits) {
-        Ok(bytes) => Ok(Piece::from(alloc, &bytes)?),
+        Ok(bytes) => Ok(Piece::from_vec(bytes)),
         Err(fault) => Err(LineFault::from(fault)),
     }
 }

@@ -3,8 +3,8 @@ ghost use Rattle.std.specs.Prelude.{◌≡◌, ◌∷◌, IfOk, IsTrue, Some, No
 ghost use Rattle.std.specs.Result.{IsErrOf};
 ghost use Rattle.std.specs.Option.{option_map};
 ghost use Rattle.spl_sched.specs.declared.line.Line.TheVariants as line;
-ghost use Rattle.spl_sched.specs.Words.{Reads, Takes, read_first, read_kind, that, number};
-ghost use Rattle.spl_sched.specs.Grammar.{is_line, is_passes, spelling, calm, cut, failing, node, step, read_words, line_of};
+ghost use Rattle.spl_sched.specs.Words.{Reads, Takes, read_first, read_kind, has_kind, that, number};
+ghost use Rattle.spl_sched.specs.Grammar.{is_line, is_passes, spelling, calm, cut, failing, node, step, line_kinds, read_words, line_of};
 
 use crate::fault::LineFault;
 use crate::line::{Line, MOST_PASSES, Step};
@@ -81,8 +81,21 @@ fn read_failing(alloc: Global, words: &mut WordReader) -> Result<Line, LineFault
     Ok(Line::Fail { call, step })
 }
 
-fn read_named(alloc: Global, name: &[u8], words: &mut WordReader) -> Result<Line, LineFault>
-    ensures { Reads result (read_words (name.now ∷ words.old)) }
+/// Whether a line of this name is another one than a step.
+fn is_no_step(name: &[u8]) -> bool
+    ensures { result ≡ has_kind line_kinds name.now }
+{
+    name == b"calm".as_slice()
+        || name == b"stop".as_slice()
+        || name == b"start".as_slice()
+        || name == b"roll".as_slice()
+        || name == b"cut".as_slice()
+        || name == b"fail".as_slice()
+}
+
+/// The line that the words behind its name spell, where it is another one than a step.
+fn read_no_step(alloc: Global, name: &[u8], words: &mut WordReader) -> Result<Line, LineFault>
+    ensures { Reads result (read_kind line_kinds None name.now words.old) }
 {
     if name == b"calm".as_slice() {
         read_calm(alloc, words)
@@ -97,7 +110,25 @@ fn read_named(alloc: Global, name: &[u8], words: &mut WordReader) -> Result<Line
     } else if name == b"fail".as_slice() {
         read_failing(alloc, words)
     } else {
-        Ok(Line::Step(read_step(alloc, name, words)?))
+        Err(LineFault::BadLine)
+    }
+}
+
+/// The step that the words behind its name spell, as a line.
+fn read_step_line(alloc: Global, name: &[u8], words: &mut WordReader) -> Result<Line, LineFault>
+    ensures { Reads result (option_map line.Step (step.read (name.now ∷ words.old))) }
+{
+    Ok(Line::Step(read_step(alloc, name, words)?))
+}
+
+// Steps are most lines, and pay for no other one.
+fn read_named(alloc: Global, name: &[u8], words: &mut WordReader) -> Result<Line, LineFault>
+    ensures { Reads result (read_words (name.now ∷ words.old)) }
+{
+    if is_no_step(name) {
+        read_no_step(alloc, name, words)
+    } else {
+        read_step_line(alloc, name, words)
     }
 }
 

@@ -3,7 +3,7 @@ ghost use Rattle.std.specs.Prelude.{◌≡◌, None, nat_le, ◌^◌};
 ghost use Rattle.std.specs.Option.{option_map};
 ghost use Rattle.spl_wire.specs.declared.event.Event.TheVariants as event;
 ghost use Rattle.spl_sched.specs.Words.{Reads, Takes, read_first, read_kind, that, number, end};
-ghost use Rattle.spl_sched.specs.Grammar.{accept_or_reject, home, terms, proposed, answer, voted, plain, work, submitted, place, got, places, listed, batch, about, way, routed, delivery, delivered, step_kinds};
+ghost use Rattle.spl_sched.specs.Grammar.{accept_or_reject, home, terms, proposed, answer, voted, plain, work, submitted, place, got, places, listed, batch, about, way, routed, delivery, delivered, plain_events, named, worded_kinds, step_kinds};
 
 use crate::address::take_dashed;
 use crate::fault::LineFault;
@@ -98,7 +98,7 @@ fn read_batch(alloc: Global, words: &mut WordReader) -> Result<Step, LineFault>
     let node = take(alloc, words)?;
     let circuit = take(alloc, words)?;
     let id = take(alloc, words)?;
-    let transactions = read_transactions(alloc, words)?;
+    let transactions = Boxed::new(alloc, read_transactions(alloc, words)?)?;
     let batch = Boxed::new(alloc, Batch { id, transactions })?;
     Ok(Step::At {
         node,
@@ -213,34 +213,43 @@ fn read_delivery(alloc: Global, words: &mut WordReader) -> Result<Step, LineFaul
     })
 }
 
-/// The step that the words behind its name spell.
-pub(crate) fn read_step(
-    alloc: Global,
-    name: &[u8],
-    words: &mut WordReader,
-) -> Result<Step, LineFault>
-    ensures { Reads result (read_kind step_kinds None name.now words.old) }
+/// The event of this name, where it is one without words behind node and circuit.
+fn plain_event(name: &[u8]) -> Option<Event>
+    ensures { result ≡ named plain_events name.now }
+{
+    if name == b"show".as_slice() {
+        Some(Event::Show)
+    } else if name == b"root".as_slice() {
+        Some(Event::Root)
+    } else if name == b"history".as_slice() {
+        Some(Event::History)
+    } else if name == b"tick".as_slice() {
+        Some(Event::Tick)
+    } else if name == b"expire".as_slice() {
+        Some(Event::Expire)
+    } else if name == b"remove".as_slice() {
+        Some(Event::Remove)
+    } else if name == b"abandon".as_slice() {
+        Some(Event::Abandon)
+    } else if name == b"purge".as_slice() {
+        Some(Event::Purge)
+    } else if name == b"detail".as_slice() {
+        Some(Event::Detail)
+    } else {
+        None
+    }
+}
+
+/// The step that the words behind its name spell, where it is one with such words.
+fn read_worded(alloc: Global, name: &[u8], words: &mut WordReader) -> Result<Step, LineFault>
+    ensures { Reads result (read_kind worded_kinds None name.now words.old) }
 {
     if name == b"propose".as_slice() {
         read_proposal(alloc, words)
     } else if name == b"vote".as_slice() {
         read_vote(alloc, words)
-    } else if name == b"remove".as_slice() {
-        read_plain(alloc, words, Event::Remove)
-    } else if name == b"abandon".as_slice() {
-        read_plain(alloc, words, Event::Abandon)
-    } else if name == b"purge".as_slice() {
-        read_plain(alloc, words, Event::Purge)
     } else if name == b"submit".as_slice() {
         read_batch(alloc, words)
-    } else if name == b"show".as_slice() {
-        read_plain(alloc, words, Event::Show)
-    } else if name == b"detail".as_slice() {
-        read_plain(alloc, words, Event::Detail)
-    } else if name == b"root".as_slice() {
-        read_plain(alloc, words, Event::Root)
-    } else if name == b"history".as_slice() {
-        read_plain(alloc, words, Event::History)
     } else if name == b"get".as_slice() {
         read_get(alloc, words)
     } else if name == b"list".as_slice() {
@@ -251,13 +260,24 @@ pub(crate) fn read_step(
         read_receipt(alloc, words)
     } else if name == b"route".as_slice() {
         read_route(alloc, words)
-    } else if name == b"tick".as_slice() {
-        read_plain(alloc, words, Event::Tick)
-    } else if name == b"expire".as_slice() {
-        read_plain(alloc, words, Event::Expire)
     } else if name == b"deliver".as_slice() {
         read_delivery(alloc, words)
     } else {
         Err(LineFault::BadLine)
+    }
+}
+
+/// The step that the words behind its name spell. Those without more words come first, so that
+/// they pay for no others.
+pub(crate) fn read_step(
+    alloc: Global,
+    name: &[u8],
+    words: &mut WordReader,
+) -> Result<Step, LineFault>
+    ensures { Reads result (read_kind step_kinds None name.now words.old) }
+{
+    match plain_event(name) {
+        Some(event) => read_plain(alloc, words, event),
+        None => read_worded(alloc, name, words),
     }
 }

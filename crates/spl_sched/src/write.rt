@@ -47,7 +47,7 @@ fn put_batch(batch: &Batch, w: &mut Writer) -> Result<(), AllocError>
     ensures { OnOk result (w.new ≡ w.old ++ behind_spaces (decimal batch.now.id ∷ words_of_transactions batch.now.transactions)) }
 {
     put_next(&batch.id, w)?;
-    put_transactions(batch.transactions.as_slice(), w)
+    put_transactions(batch.transactions.get().as_slice(), w)
 }
 
 fn event_name(event: &Event) -> &'static [u8]

@@ -3,7 +3,7 @@ use crate::{
     Batch, Changes, Command, Commands, Events, Pieces, Prefixes, Receipt, Receipts, StateChange,
     StateEvent, Transaction, Transactions,
 };
-use spl_base::{BatchId, Label, Piece};
+use spl_base::{BatchId, Boxed, Label, Piece};
 use spl_state::{Address, Prefix};
 use std::alloc::Global;
 use std::test::Fail;
@@ -86,7 +86,7 @@ pub fn batch(alloc: Global, id: u64, rows: &[Row]) -> Result<Batch, Fail> {
     }
     Ok(Batch {
         id: BatchId(id),
-        transactions,
+        transactions: Boxed::new(alloc, transactions)?,
     })
 }
 

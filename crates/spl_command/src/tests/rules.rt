@@ -1,7 +1,7 @@
 //! The rules of a batch, each at its edge.
 use super::build::{self, Step};
 use crate::{Batch, Commands, Prefixes, Transaction, Transactions};
-use spl_base::{BatchId, Writer};
+use spl_base::{BatchId, Boxed, Writer};
 use spl_state::Prefix;
 use std::alloc::Global;
 use std::test::Fail;
@@ -64,7 +64,7 @@ fn batch(alloc: Global, counts: [usize; 4], step: Step) -> Result<Batch, Fail> {
     }
     Ok(Batch {
         id: BatchId(1),
-        transactions,
+        transactions: Boxed::new(alloc, transactions)?,
     })
 }
 
