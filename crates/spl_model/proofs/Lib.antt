@@ -2,3 +2,4 @@ pub mod Nodes
 pub mod Puts
 pub mod LinesAsOccurrences
 pub mod Unmoved
+pub mod Quiet

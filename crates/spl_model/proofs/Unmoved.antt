@@ -73,8 +73,12 @@ pub moved-keep : (n : NodeId) (k : Cell) → moved_cell n k move.Keep move.Keep 
 moved-keep n Empty = refl
 moved-keep n _ = refl
 
+-- what stays as it was is the same
+pub unmoved-is : (w v : World) → IsUnmoved w v → v ≡ w
+unmoved-is w v u = λ i. record { nodes = u.nodes i; up = λ n. u.up n i; at = λ n. u.at n i; sent = u.sent i }
+
 -- an answer alone
-unmoved-tells : (w : World) (n : NodeId) (a : Answer) → IsUnmoved w (carried_out w n (tells_only a))
+pub unmoved-tells : (w : World) (n : NodeId) (a : Answer) → IsUnmoved w (carried_out w n (tells_only a))
 unmoved-tells w n a = record { nodes = refl; up = λ j. refl; at = λ j. there j (node_cases j n); sent = append-nil w.sent }
   where
     there : (j : NodeId) → (j ≡ n) ⊎ (j ≢ n) → put_at w.at n (moved_cell n (w.at n) move.Keep move.Keep) j ≡ w.at j

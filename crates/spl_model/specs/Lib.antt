@@ -1,7 +1,9 @@
 pub mod Worlds
 pub mod Puts
 pub mod Calm
+pub mod Quiet
 pub mod Plain
 pub mod Projection
 pub mod Outcomes
 pub mod Answers
+pub mod Counts

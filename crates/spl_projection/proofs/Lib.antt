@@ -12,3 +12,4 @@ pub mod Outcomes
 pub mod Happens
 pub mod Refusals
 pub mod Examples
+pub mod Counts

@@ -8,7 +8,7 @@ use Rattle.spl_sched.specs.declared.line.Step.TheVariants as step
 use Rattle.spl_sched.specs.declared.line.Line.{Line}
 use Rattle.spl_sched.specs.declared.line.Line.TheVariants as line
 use Rattle.spl_rules.specs.Cells.{Cell}
-use Rattle.spl_model.specs.Worlds.{World, first_world, messages, Occurrence, Steps, occur}
+use Rattle.spl_model.specs.Worlds.{World, messages, Occurrence, Steps, occur}
 use Rattle.spl_model.specs.Calm.{Calming, calming_step, open_nodes, ticks, delivers, takes, pair_turn, to_all, from_all, pass, passes, calm}
 use Rattle.spl_model.specs.Projection.{Ran, plainly, lines_fit, names, concerned}
 use Rattle.spl_model.specs.Answers.{occurrences_in, circuit_world, world_before}
@@ -19,7 +19,7 @@ use Rattle.spl_projection.specs.Moments.{IsMoment, AreAtMoment}
 use Rattle.spl_projection.proofs.Confined.{step-here}
 use Rattle.spl_projection.proofs.Alike.{IsAlike, AllHere, run-alike, same-alike}
 use Rattle.spl_projection.proofs.Calms.{calm-alike}
-use Rattle.spl_projection.proofs.Owns.{IsPair, pair-first, IsLineWithin, named-within, AllConcern, all-concern, within-same, lines-pair, fits-left, concern-left, own-same}
+use Rattle.spl_projection.proofs.Owns.{IsPair, IsLineWithin, named-within, AllConcern, all-concern, within-same, fits-left, concern-left, pair-before, own-same}
 
 module _ (ns : List NodeId) where
   -- the same happens in a line
@@ -51,16 +51,13 @@ module _ (ns : List NodeId) where
 
 -- a moment of a line in the world behind all lines is one in the world of the circuit
 pub moment-whole : (ns : List NodeId) (c : CircuitId) (before : List Ran) (r : Ran) (m : World) → lines_fit (before ++ r ∷ []) ≡ true → names c r.line ≡ true → IsMoment (whole_world ns c before) r m → (n : World) × IsMoment (world_before ns c before r) r n × IsSameFor (concerned c (before ++ r ∷ [])) n m
-moment-whole ns c before r m f q i = moment-alike all (world_before ns c before r) (whole_world ns c before) m r (named-within all c r.line q (k.1.0 q)) p i
+moment-whole ns c before r m f q i = moment-alike all (world_before ns c before r) (whole_world ns c before) m r (named-within all c r.line q (k.1.0 q)) (pair-before ns c before r f) i
   where
     all : List NodeId
     all = concerned c (before ++ r ∷ [])
 
     k : AllConcern all c before × AllConcern all c (r ∷ [])
     k = concern-left all c before (r ∷ []) (all-concern all c (before ++ r ∷ []) (within-same all))
-
-    p : IsPair all (world_before ns c before r) (whole_world ns c before)
-    p = lines-pair all c (first_world ns) (first_world ns) before (fits-left before (r ∷ []) f) k.0 (pair-first all ns)
 
 -- so what nodes keep at a moment
 pub cells-whole : (ns : List NodeId) (before : List Ran) (r : Ran) (cells : CircuitId → NodeId → Cell) → lines_fit (before ++ r ∷ []) ≡ true → AreAtMoment (λ c. whole_world ns c before) (λ c. whole_world ns c before) r cells → AreAtMoment (λ c. world_before ns c before r) (λ c. circuit_world ns c before) r cells

@@ -193,6 +193,16 @@ pub concern-left : (ns : List NodeId) (c : CircuitId) (xs ys : List Ran) → All
 concern-left ns c [] ys h = (tt, h)
 concern-left ns c (x ∷ xs) ys h = let k = concern-left ns c xs ys h.1 in ((h.0, k.0), k.1)
 
+-- the worlds in which a line runs, behind the own lines and behind all
+pub pair-before : (ns : List NodeId) (c : CircuitId) (before : List Ran) (r : Ran) → lines_fit (before ++ r ∷ []) ≡ true → IsPair (concerned c (before ++ r ∷ [])) (world_before ns c before r) (whole_world ns c before)
+pair-before ns c before r f = lines-pair all c (first_world ns) (first_world ns) before (fits-left before (r ∷ []) f) k.0 (pair-first all ns)
+  where
+    all : List NodeId
+    all = concerned c (before ++ r ∷ [])
+
+    k : AllConcern all c before × AllConcern all c (r ∷ [])
+    k = concern-left all c before (r ∷ []) (all-concern all c (before ++ r ∷ []) (within-same all))
+
 -- which circuit a line names
 pub names-is : (c : CircuitId) (l : Line) → names c l ≡ true → circuit_of l ≡ Some c
 names-is c l h = go (circuit_of l) h

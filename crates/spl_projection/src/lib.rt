@@ -1,7 +1,7 @@
 //! A circuit's own lines suffice: laws of the worlds of circuits.
 #![tactic(auto)]
 
-ghost use Rattle.std.specs.Prelude.{◌≡◌, Bool, true, false, List, [], ◌∷◌, ◌++◌};
+ghost use Rattle.std.specs.Prelude.{◌≡◌, ◌+◌, ◌≤◌, Bool, true, false, List, [], ◌∷◌, ◌++◌, length};
 ghost use Rattle.spl_circuit.specs.Nodes.{NodeId, CircuitId, has_node};
 ghost use Rattle.spl_circuit.specs.Rules.{ascends};
 ghost use Rattle.spl_wire.specs.declared.answer.Refusal.{Refusal};
@@ -11,7 +11,9 @@ ghost use Rattle.spl_rules.specs.Cells.{Cell, Empty, is_bound};
 ghost use Rattle.spl_model.specs.Worlds.{World, IsUnmoved, Halts, step_plan, happens};
 ghost use Rattle.spl_model.specs.Projection.{Ran, lines_fit, names, concerned, beside, own};
 ghost use Rattle.spl_model.specs.Answers.{line_answer, line_world, circuit_world, world_before, is_up, bound_at, roll_answer, answer_to, answers_about};
+ghost use Rattle.spl_model.specs.Counts.{line_events, events_of};
 ghost use Rattle.spl_projection.specs.Whole.{world_beside, whole_world};
+ghost use Rattle.spl_projection.specs.Happened.{whole_happened};
 ghost use Rattle.spl_projection.specs.Same.{IsSameFor};
 ghost use Rattle.spl_projection.specs.Moments.{IsMoment, AreAtMoment};
 
@@ -59,4 +61,11 @@ pub fn refusals_move_no_world()
 /// Where an event without changes is cut off, it doesn't matter whether its record is kept.
 pub fn nothing_is_lost_of_nothing()
     ensures { (w : World) (s : Step) (kept wanted : Bool) → (step_plan w s).changes ≡ [] → happens w (Halts kept s) ≡ happens w (Halts wanted s) }
+{}
+
+/// A line more has as many events as in the worlds behind all lines. No more happens in the world of
+/// a circuit than the lines have events.
+pub fn events_are_counted()
+    ensures more { (ns : List NodeId) (before : List Ran) (r : Ran) → lines_fit (before ++ r ∷ []) ≡ true → events_of ns (before ++ r ∷ []) ≡ events_of ns before + line_events (λ c. whole_world ns c before) r.line }
+    ensures happened { (ns : List NodeId) (c : CircuitId) (rs : List Ran) → lines_fit rs ≡ true → length (whole_happened ns c rs) ≤ events_of ns rs }
 {}

@@ -9,6 +9,7 @@ pub mod Messages
 pub mod Read
 pub mod Named
 pub mod Still
+pub mod Idle
 pub mod Deeds
 pub mod Events
 pub mod Plans

@@ -5,3 +5,4 @@ pub mod Plans
 pub mod Changes
 pub mod Valid
 pub mod Pack
+pub mod Idle

@@ -1,0 +1,80 @@
+-- A line more has the events that it has in the worlds behind all lines.
+use Rattle.std.proofs.Common.{◌≡◌, ℕ, ◌+◌, ◌≤◌, Bool, true, List, [], ◌∷◌, ◌++◌, append-nil, append_assoc, length, length-append, refl, sym, ap, subst, ◌∙◌, arith}
+use Rattle.spl_agree.proofs.Tests.{if_holds}
+use Rattle.spl_circuit.specs.Nodes.{NodeId, CircuitId}
+use Rattle.spl_circuit.specs.Same.{node_same, node_is}
+use Rattle.spl_sched.specs.declared.line.Line.{Line}
+use Rattle.spl_sched.specs.declared.line.Line.TheVariants as line
+use Rattle.spl_model.specs.Worlds.{World, Occurrence, first_world}
+use Rattle.spl_model.specs.Projection.{Ran, lines_fit, names, concerned}
+use Rattle.spl_model.specs.Calm.{calm}
+use Rattle.spl_model.specs.Answers.{occurrences_in, world_before}
+use Rattle.spl_model.specs.Counts.{line_events, events_behind, events_of}
+use Rattle.spl_projection.specs.Whole.{world_after, whole_world}
+use Rattle.spl_projection.specs.Happened.{happened_beside, happened_in, happened_from, whole_happened}
+use Rattle.spl_projection.specs.Apart.{whole_from-append}
+use Rattle.spl_projection.proofs.Calms.{calm-alike}
+use Rattle.spl_projection.proofs.Owns.{IsPair, fits-left, pair-before}
+
+-- the events of a line, in the worlds of the circuit behind the own lines and behind all
+events-same : (ns : CircuitId → List NodeId) (ws vs : CircuitId → World) (l : Line) → ((c : CircuitId) → names c l ≡ true → IsPair (ns c) (ws c) (vs c)) → line_events ws l ≡ line_events vs l
+events-same ns ws vs (line.Calm c k) h =
+    let p : IsPair (ns c) (ws c) (vs c) = h c (node_same c) in
+    ap (λ (es : List Occurrence). length es) (calm-alike (ns c) c (ws c) (vs c) k p.alike p.confined).happened
+events-same ns ws vs _ h = refl
+
+events-append : (ns : List NodeId) (before xs : List Ran) (r : Ran) → events_behind ns before (xs ++ r ∷ []) ≡ events_behind ns before xs + line_events (λ c. world_before ns c (before ++ xs) r) r.line
+events-append ns before [] r =
+    let same : line_events (λ c. world_before ns c before r) r.line ≡ line_events (λ c. world_before ns c (before ++ []) r) r.line = ap (λ (bs : List Ran). line_events (λ c. world_before ns c bs r) r.line) (sym (append-nil before)) in
+    omega (arith, same)
+events-append ns before (x ∷ xs) r =
+    let rest = events-append ns (before ++ x ∷ []) xs r in
+    let same : line_events (λ c. world_before ns c ((before ++ x ∷ []) ++ xs) r) r.line ≡ line_events (λ c. world_before ns c (before ++ x ∷ xs) r) r.line = ap (λ (bs : List Ran). line_events (λ c. world_before ns c bs r) r.line) (append_assoc before (x ∷ []) xs) in
+    omega (arith, rest, same)
+
+line-whole : (ns : List NodeId) (before : List Ran) (r : Ran) → lines_fit (before ++ r ∷ []) ≡ true → line_events (λ c. world_before ns c before r) r.line ≡ line_events (λ c. whole_world ns c before) r.line
+line-whole ns before r f = events-same (λ c. concerned c (before ++ r ∷ [])) (λ c. world_before ns c before r) (λ c. whole_world ns c before) r.line (λ c q. pair-before ns c before r f)
+
+pub events-none : (ns : List NodeId) → events_of ns [] ≡ 0
+unfolding events_of
+events-none ns = refl
+
+pub events-more : (ns : List NodeId) (before : List Ran) (r : Ran) → lines_fit (before ++ r ∷ []) ≡ true → events_of ns (before ++ r ∷ []) ≡ events_of ns before + line_events (λ c. whole_world ns c before) r.line
+unfolding events_of
+events-more ns before r f = events-append ns [] before r ∙ ap (λ (n : ℕ). events_behind ns [] before + n) (line-whole ns before r f)
+
+-- ---- what happens in the world of a circuit
+
+few-beside : (worlds : CircuitId → World) (l : Line) → length (happened_beside l) ≤ line_events worlds l
+few-beside worlds (line.Calm d k) = omega arith
+few-beside worlds (line.Step s) = omega arith
+few-beside worlds (line.Stop n) = omega arith
+few-beside worlds (line.Start n) = omega arith
+few-beside worlds (line.Roll n) = omega arith
+few-beside worlds (line.Cut calls f s) = omega arith
+few-beside worlds (line.Fail call s) = omega arith
+
+few-named : (worlds : CircuitId → World) (c : CircuitId) (l : Line) (kept : Bool) → names c l ≡ true → length (occurrences_in (worlds c) l kept) ≤ line_events worlds l
+few-named worlds c (line.Calm d k) kept q = subst (λ (e : CircuitId). length (calm d (worlds e) k).happened ≤ length (calm d (worlds d) k).happened) (node_is d c q) (omega arith)
+few-named worlds c (line.Step s) kept q = omega arith
+few-named worlds c (line.Stop n) kept q = omega arith
+few-named worlds c (line.Start n) kept q = omega arith
+few-named worlds c (line.Roll n) kept q = omega arith
+few-named worlds c (line.Cut calls f s) kept q = omega arith
+few-named worlds c (line.Fail call s) kept q = omega arith
+
+few-in : (worlds : CircuitId → World) (c : CircuitId) (r : Ran) → length (happened_in c (worlds c) r) ≤ line_events worlds r.line
+few-in worlds c r = if_holds (λ (es : List Occurrence). length es ≤ line_events worlds r.line) (names c r.line) _ _ (λ q. few-named worlds c r.line r.kept q) (λ q. few-beside worlds r.line)
+
+few-behind : (ns : List NodeId) (c : CircuitId) (before rs : List Ran) → lines_fit (before ++ rs) ≡ true → length (happened_from c (whole_world ns c before) rs) ≤ events_behind ns before rs
+few-behind ns c before [] f = omega arith
+few-behind ns c before (r ∷ rs) f =
+    let all : lines_fit ((before ++ r ∷ []) ++ rs) ≡ true = subst (λ (xs : List Ran). lines_fit xs ≡ true) (sym (append_assoc before (r ∷ []) rs)) f in
+    let same : line_events (λ d. world_before ns d before r) r.line ≡ line_events (λ d. whole_world ns d before) r.line = line-whole ns before r (fits-left (before ++ r ∷ []) rs all) in
+    let next : whole_world ns c (before ++ r ∷ []) ≡ world_after c (whole_world ns c before) r = whole_from-append c (first_world ns) before (r ∷ []) in
+    let rest : length (happened_from c (world_after c (whole_world ns c before) r) rs) ≤ events_behind ns (before ++ r ∷ []) rs = subst (λ (w : World). length (happened_from c w rs) ≤ events_behind ns (before ++ r ∷ []) rs) next (few-behind ns c (before ++ r ∷ []) rs all) in
+    omega (arith, same, rest, few-in (λ d. whole_world ns d before) c r, length-append (happened_in c (whole_world ns c before) r) (happened_from c (world_after c (whole_world ns c before) r) rs))
+
+pub happened-few : (ns : List NodeId) (c : CircuitId) (rs : List Ran) → lines_fit rs ≡ true → length (whole_happened ns c rs) ≤ events_of ns rs
+unfolding events_of
+happened-few ns c rs f = few-behind ns c [] rs f
