@@ -8,6 +8,7 @@ mod message;
 mod number;
 mod plan;
 mod reason;
+mod renew;
 
 pub use agreed::Agreed;
 pub use event::{GroupChange, GroupEvent, Note, OpenMove};
@@ -16,3 +17,4 @@ pub use message::CommitMsg;
 pub use number::{Generation, Place, Round};
 pub use plan::{GroupChanges, GroupPlan, GroupSends};
 pub use reason::{Admit, Reason};
+pub use renew::Renew;

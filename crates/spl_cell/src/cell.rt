@@ -182,6 +182,16 @@ impl Cell {
         packed_records(alloc, self.site.circuit, changes)
     }
 
+    /// Keeps the digests of the state anew, so that telling its root costs nothing; nothing that is
+    /// seen changes.
+    pub fn renew(&mut self)
+        ensures { self.new ≡ self.old }
+    {
+        if let State::Held(held) = &mut self.state {
+            held.renew();
+        }
+    }
+
     /// A stop forgets the open rounds, and nothing else.
     pub fn restart(&mut self)
         requires running { self.old.halted ≡ false }

@@ -71,6 +71,13 @@ impl Held {
         }
     }
 
+    /// Keeps the digests of the state anew.
+    pub(crate) fn renew(&mut self)
+        ensures { self.new ≡ self.old }
+    {
+        self.batches.renew();
+    }
+
     /// The acts that are committed here, and the definition, which breaks no rule.
     pub(crate) fn ledger(&self) -> &Ledger
         ensures definition { result.now.definition ≡ self.now.bound.definition }

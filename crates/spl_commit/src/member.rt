@@ -5,7 +5,7 @@ ghost use Rattle.spl_coord.specs.Positions.{positions};
 ghost use Rattle.spl_commit.specs.Views.{IsFixed};
 
 use crate::history::History;
-use spl_agree::{Agreed, Generation, Round};
+use spl_agree::{Agreed, Generation, Renew, Round};
 use spl_coord::{first_positions, without_position};
 use spl_part::Promised;
 use spl_queue::Queue;
@@ -112,5 +112,14 @@ impl<M: Agreed> Member<M> {
         ensures { result ≡ length self.now.state.history }
     {
         self.history.len() as u32
+    }
+}
+
+impl<M: Agreed + Renew> Member<M> {
+    /// Makes anew what its content keeps beside the list; nothing that is seen changes.
+    pub fn renew(&mut self)
+        ensures { self.new ≡ self.old }
+    {
+        self.content.renew();
     }
 }

@@ -8,7 +8,7 @@ ghost use Rattle.spl_scabbard.specs.Checks.{is_taken, misfit_valid, misfit_batch
 ghost use Rattle.spl_scabbard.specs.Readers.{ids_of, place_of, receipts_of};
 
 use indexmap::IndexMap;
-use spl_agree::{Place, Reason};
+use spl_agree::{Place, Reason, Renew};
 use spl_base::{BatchId, BatchIds, Listing};
 use spl_command::{Batch, Receipts, Verdict, execute};
 use spl_state::State;
@@ -58,18 +58,12 @@ impl Service {
         &self.state
     }
 
-    /// The root of the state, without memory. What is stale is computed and not kept.
+    /// The root of the state, without memory. What is stale is computed and not kept, which `renew`
+    /// does.
     pub fn root(&self) -> [u8; 32]
         ensures { result ≡ node_at 70 [] (state_of self.now) }
     {
         self.state.root()
-    }
-
-    /// Makes the state's stale digests anew, so that the next root costs nothing.
-    pub fn renew(&mut self)
-        ensures { self.new ≡ self.old }
-    {
-        self.state.renew();
     }
 
     /// The ids of the batches, in the order in which they were applied.
@@ -138,5 +132,12 @@ impl Service {
             Verdict::Valid(receipts) => Ok(receipts),
             Verdict::Invalid { .. } => Ok(Receipts::new(alloc)),
         }
+    }
+}
+
+impl Renew for Service {
+    /// Makes the state's stale digests anew.
+    fn renew(&mut self) {
+        self.state.renew();
     }
 }

@@ -1,7 +1,7 @@
 ghost use Rattle.std.specs.Prelude.{◌<◌, length};
 
 use super::*;
-use spl_agree::{Agreed, Place, Reason};
+use spl_agree::{Agreed, Place, Reason, Renew};
 use spl_base::{BatchId, Boxed, Label, Piece};
 use spl_command::{Batch, Command, Commands, Prefixes, Receipts, Transaction, Transactions};
 use spl_state::{Address, Prefix, State};
