@@ -1,6 +1,12 @@
 -- Nodes in ascending order, and the test that the nodes of the services are the members.
-use Rattle.std.proofs.Common.{◌≡◌, suc, Bool, true, false, true≢false, if◌then◌else◌, ◌&&◌, ◌||◌, ◌==◌, List, [], ◌∷◌, length, refl, sym, ap, ◌∙◌, arith}
-use Rattle.std.specs.List.{list_all, list_any}
+use Rattle.std.proofs.Common.{◌≡◌, ◌≢◌, ℕ, zero, suc, ◌<◌, Bool, true, false, true≢false, if◌then◌else◌, ◌&&◌, ◌||◌, ◌==◌, List, [], ◌∷◌, length, get_or, refl, sym, ap, ◌∙◌, add-one, arith}
+use Rattle.std.specs.List.{list_all, list_any, All, AllPairs}
+use Rattle.std.specs.List.Sorted.{IsPermutation, IsSortedBy}
+use Rattle.std.proofs.lemmas.List.Sorted.{All-permutation, length_permutation}
+use Rattle.std.proofs.lemmas.List.Sums.{list_all-from_AllPass}
+use Rattle.std.proofs.lemmas.Map.Keys.{IsDistinct-IsPermutation}
+use Rattle.std.proofs.lemmas.Map.Made.{AllPairs-from_IsDistinct, IsDistinct-from_AllPairs}
+use Rattle.std.proofs.lemmas.Slice.Eq.{bytes_eq-Decides}
 use Rattle.std.specs.Str.{bytes_eq}
 use Rattle.std.specs.Cmp.{both_ways}
 use Rattle.std.proofs.lemmas.Bool.{eqb-true, eq-eqb, and_parts, and_from, or_left, or_right}
@@ -195,3 +201,32 @@ first_service_is_lowest s [] a = refl
 first_service_is_lowest s (t ∷ ts) a =
     let b = and_parts (is_below s.id t.id) (ascends_after t.id (ids_of ts)) a in
     rw (below_turned s.id t.id b.0) (first_service_is_lowest s ts (weaken s.id t.id (ids_of ts) b.0 b.1))
+
+-- ---- what a sort gives
+
+next_is_above : (x y : Node) (b : Bool) → is_below x y ≡ b → is_below y x ≡ false → x ≢ y → b ≡ true
+next_is_above x y true e above differs = refl
+next_is_above x y false e above differs = absurd (differs (same_from_ties x y e above))
+
+-- none is below the one before it, and no two are equal
+sorted_ascends : (xs : List Node) → IsSortedBy is_below xs → AllPairs (λ a b. a ≢ b) xs → ascends xs ≡ true
+sorted_ascends [] up apart = refl
+sorted_ascends (x ∷ []) up apart = refl
+sorted_ascends (x ∷ y ∷ ys) up apart =
+    and_from (is_below x y) (ascends_after y ys)
+    (next_is_above x y (is_below x y) refl (up 0 x (omega arith) (omega arith)) (apart 0 1 x (omega arith) (omega arith)))
+    (sorted_ascends (y ∷ ys) (λ k d low lt. simp add-one (simp add-one at (up (suc k) d (omega arith) (omega (arith, lt))))) (λ i j d lt end. apart (suc i) (suc j) d (omega (arith, lt)) (omega (arith, end))))
+
+each_stands : (ns : List Node) (k : ℕ) (d : Node) → k < length ns → has_node ns (get_or ns k d) ≡ true
+each_stands [] k d lt = absurd (omega (arith, lt))
+each_stands (n ∷ ns) zero d lt = or_left (bytes_eq n n) (has_node ns n) (node_same n)
+each_stands (n ∷ ns) (suc k) d lt = or_right (bytes_eq n (get_or ns k d)) (has_node ns (get_or ns k d)) (each_stands ns k d (omega (arith, lt)))
+
+-- nodes of which no two are equal, sorted in whatever way, are the sorted list, and that ascends
+pub sort_is_sorted : (ns ms : List Node) → AllPairs (λ a b. a ≢ b) ns → IsPermutation ns ms → IsSortedBy is_below ms → (sorted ns ≡ ms) × (ascends ms ≡ true)
+sort_is_sorted ns ms apart moved up =
+    let flips : (a b : Node) → bytes_eq a b ≡ bytes_eq b a = λ a b. both_ways (bytes_eq a b) (bytes_eq b a) (λ e. (bytes_eq-Decides b a).1 (sym ((bytes_eq-Decides a b).0 e))) (λ e. (bytes_eq-Decides a b).1 (sym ((bytes_eq-Decides b a).0 e))) in
+    let kept_apart : AllPairs (λ a b. a ≢ b) ms = AllPairs-from_IsDistinct bytes_eq-Decides ms (IsDistinct-IsPermutation bytes_eq flips ns ms moved (IsDistinct-from_AllPairs bytes_eq-Decides ns apart)) in
+    let rises : ascends ms ≡ true = sorted_ascends ms up kept_apart in
+    let stand : All (λ m. has_node ns m ≡ true) ms = All-permutation (λ m. has_node ns m ≡ true) ns ms moved (each_stands ns) in
+    (all_served ms ns rises (sym (length_permutation ns ms moved)) (list_all-from_AllPass (has_node ns) ms stand), rises)

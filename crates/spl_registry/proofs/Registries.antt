@@ -10,7 +10,7 @@ use Rattle.std.proofs.lemmas.Slice.Eq.{bytes_eq-Decides}
 use Rattle.toml.specs.Data.{Items, no_items, item}
 use Rattle.spl_registry.specs.Tree.{entries_from, entry_of, items_len}
 use Rattle.spl_registry.specs.declared.fault.RegistryFault.TheVariants.{BadEntry, Repeated}
-use Rattle.spl_registry.specs.Nodes.{Entry, Differ, IsRegistry, knows, is_of, local, made}
+use Rattle.spl_registry.specs.Nodes.{Entry, Differ, IsRegistry, knows, is_of, ids_of, local, made}
 
 bool_cases : (b : Bool) → (b ≡ true) ⊎ (b ≡ false)
 bool_cases true = inl refl
@@ -44,6 +44,14 @@ read_apart (item d ds) found es i apart e = go (entry_of d) e (λ x. read_apart 
 
 pub read_is_registry : (ds : Items) (es : List Entry) → items_len ds ≤ 16 → entries_from [] 1 ds ≡ Ok es → IsRegistry es
 read_is_registry ds es few e = let all = read_apart ds [] es 1 (λ i j d lt end. absurd (omega (arith, end))) e in record { few = omega (arith, all.1, few); apart = all.0 }
+
+-- the ids of nodes that differ
+pub ids_apart : (es : List Entry) → AllPairs Differ es → AllPairs (λ a b. a ≢ b) (ids_of es)
+ids_apart es apart = λ i j d lt end same.
+    let none : Entry = record { identity = d; endpoint = [] } in
+    let last : j < length es = omega (arith, end, length-map es (λ (e : Entry). e.identity)) in
+    let at : (k : ℕ) → k < length es → get_or (ids_of es) k d ≡ (get_or es k none).identity = λ k within. get_or-map (λ (e : Entry). e.identity) es k none d within in
+    apart i j none lt last (sym (at i (omega (arith, lt, last))) ∙ same ∙ at j last)
 
 -- nodes of different ids
 pub made_is_registry : (ids : List (List ℕ)) → length ids ≤ 16 → AllPairs (λ a b. a ≢ b) ids → IsRegistry (made ids)

@@ -26,6 +26,10 @@ node_at es slot = option_map (λ e. e.identity) (slice_get es slot)
 abbrev pub endpoint_at : List Entry → ℕ → Option (List ℕ)
 endpoint_at es slot = option_map (λ e. e.endpoint) (slice_get es slot)
 
+-- the ids of the nodes
+abbrev pub ids_of : List Entry → List (List ℕ)
+ids_of es = map (λ e. e.identity) es
+
 abbrev pub Differ : Entry → Entry → Type 0
 Differ a b = a.identity ≢ b.identity
 

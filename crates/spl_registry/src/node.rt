@@ -1,6 +1,6 @@
 //! The nodes of a registry.
 ghost use Rattle.std.specs.Prelude.{◌≡◌, ◌<◌, length, IfOk, IfSome};
-ghost use Rattle.spl_registry.specs.Nodes.{is_of, knows, slot_of, made};
+ghost use Rattle.spl_registry.specs.Nodes.{is_of, knows, slot_of, ids_of, made};
 
 use spl_base::{NodeId, Piece};
 use std::alloc::{AllocError, Global};
@@ -74,6 +74,17 @@ pub(crate) fn slot_of(nodes: &[Node], identity: &NodeId) -> Option<usize>
     ensures within { IfSome result (λ slot. slot < length nodes.now) }
 {
     nodes.iter().position(|node| node.is(identity))
+}
+
+/// The ids of nodes.
+pub(crate) fn ids_of(alloc: Global, nodes: &[Node]) -> Result<Vec<NodeId>, AllocError>
+    ensures { IfOk result (λ v. v.items ≡ ids_of nodes.now) }
+{
+    let mut ids = Vec::new(alloc);
+    for node in nodes {
+        ids.push(*node.identity())?;
+    }
+    Ok(ids)
 }
 
 /// Equal nodes.

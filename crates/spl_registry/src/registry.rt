@@ -1,12 +1,12 @@
 //! The registry.
 ghost use Rattle.std.specs.Prelude.{◌≡◌, ◌≢◌, ◌≤◌, ◌<◌, Ok, Err, Some, length, IfSome, IfOk, IfErr};
 ghost use Rattle.std.specs.List.{AllPairs};
-ghost use Rattle.spl_registry.specs.Nodes.{IsRegistry, knows, slot_of, node_at, endpoint_at, made};
+ghost use Rattle.spl_registry.specs.Nodes.{IsRegistry, knows, slot_of, node_at, endpoint_at, ids_of, made};
 ghost use Rattle.spl_registry.specs.Tree.{registry_of};
 
 use crate::entries::nodes_of_bytes;
 use crate::fault::RegistryFault;
-use crate::node::{Node, copies, knows, made, slot_of};
+use crate::node::{Node, copies, ids_of, knows, made, slot_of};
 use spl_base::NodeId;
 use std::alloc::{AllocError, Global};
 use std::marker::Model;
@@ -85,6 +85,15 @@ impl Registry {
         ensures registry { IsRegistry self.now }
     {
         self.nodes.len() as u8
+    }
+
+    /// The ids of its nodes, of which no two are equal, in the order of the document.
+    #[tactic(auto, using(crate::proofs::Registries::ids_apart))]
+    pub fn ids(&self, alloc: Global) -> Result<Vec<NodeId>, AllocError>
+        ensures ids { IfOk result (λ v. v.items ≡ ids_of self.now) }
+        ensures apart { AllPairs (λ a b. a ≢ b) (ids_of self.now) }
+    {
+        ids_of(alloc, self.nodes.as_slice())
     }
 
     /// The node at a position.
