@@ -86,7 +86,9 @@ impl Run {
         ensures text { (before : List Ran) → Stands before self.old.world → OnOk result (self.new.text.items ≡ text_of (answer_to registered before (by_rule said.now))) }
         ensures output { self.new.output ≡ self.old.output }
     {
-        let answer = self.world.step(alloc, said)?;
+        let Ok(answer) = self.world.step(alloc, said) else {
+            return Err(AllocError);
+        };
         self.text.clear();
         append_text(&answer, &mut self.text)
     }

@@ -1,5 +1,6 @@
 -- Calms, a tick and a delivery at a time.
-use Rattle.std.proofs.Common.{◌≡◌, ℕ, zero, suc, ◌+◌, ◌⊎◌, inl, inr, true, false, true≢false, ◌||◌, List, [], ◌∷◌, ◌++◌, refl, ap, sym, ◌∙◌, arith}
+use Rattle.std.proofs.Common.{◌≡◌, ℕ, zero, suc, ◌+◌, ◌-◌, ◌≤◌, ◌⊎◌, inl, inr, true, false, true≢false, ◌||◌, List, [], ◌∷◌, ◌++◌, length, take, drop, refl, ap, sym, subst, ◌∙◌, arith}
+use Rattle.std.proofs.lemmas.List.{take-append-drop}
 use Rattle.std.specs.Str.{bytes_eq}
 use Rattle.spl_base.specs.FormLaws.{both_true}
 use Rattle.spl_circuit.specs.Nodes.{NodeId, CircuitId, has_node, is_below, inserted, sorted}
@@ -9,8 +10,9 @@ use Rattle.spl_wire.specs.declared.event.Event.TheVariants as event
 use Rattle.spl_sched.specs.declared.line.Step.TheVariants as step
 use Rattle.spl_rules.specs.Changes.{after_plan}
 use Rattle.spl_model.specs.Worlds.{step_plan}
-use Rattle.spl_model.specs.Calm.{Calming, calming_step, ticks, delivers, pair_turn, to_all, from_all, pass, passes}
+use Rattle.spl_model.specs.Calm.{Calming, calming_step, open_nodes, ticks, delivers, pair_turn, to_all, from_all, pass, passes}
 use Rattle.spl_model.specs.Puts.{put_at-other}
+use Rattle.spl_model.proofs.Quiet.{to_all-grows, from_all-grows, passes-grow, ticks-length}
 use Rattle.spl_world.proofs.Sends.{bool_cases, bytes_are}
 
 -- ---- one more of each
@@ -36,6 +38,46 @@ to_all_more c z a (m ∷ ms) n = to_all_more c (pair_turn c z a m) a ms n
 pub from_all_more : (c : CircuitId) (z : Calming) (all ns : List NodeId) (n : NodeId) → from_all c z all (ns ++ n ∷ []) ≡ to_all c (from_all c z all ns) n all
 from_all_more c z all [] n = refl
 from_all_more c z all (m ∷ ms) n = from_all_more c (to_all c z m all) all ms n
+
+-- ---- a front of each
+
+to_all_split : (c : CircuitId) (z : Calming) (a : NodeId) (xs ys : List NodeId) → to_all c z a (xs ++ ys) ≡ to_all c (to_all c z a xs) a ys
+to_all_split c z a [] ys = refl
+to_all_split c z a (x ∷ xs) ys = to_all_split c (pair_turn c z a x) a xs ys
+
+pub to_all_front : (c : CircuitId) (z : Calming) (a : NodeId) (ns : List NodeId) (i : ℕ) → length (to_all c z a (take i ns)).happened ≤ length (to_all c z a ns).happened
+to_all_front c z a ns i =
+    subst (λ (y : Calming). length (to_all c z a (take i ns)).happened ≤ length y.happened) (sym (to_all_split c z a (take i ns) (drop i ns)) ∙ ap (to_all c z a) (take-append-drop i ns))
+    (to_all-grows c (to_all c z a (take i ns)) a (drop i ns))
+
+from_all_split : (c : CircuitId) (z : Calming) (all xs ys : List NodeId) → from_all c z all (xs ++ ys) ≡ from_all c (from_all c z all xs) all ys
+from_all_split c z all [] ys = refl
+from_all_split c z all (x ∷ xs) ys = from_all_split c (to_all c z x all) all xs ys
+
+pub from_all_front : (c : CircuitId) (z : Calming) (all ns : List NodeId) (i : ℕ) → length (from_all c z all (take i ns)).happened ≤ length (from_all c z all ns).happened
+from_all_front c z all ns i =
+    subst (λ (y : Calming). length (from_all c z all (take i ns)).happened ≤ length y.happened) (sym (from_all_split c z all (take i ns) (drop i ns)) ∙ ap (from_all c z all) (take-append-drop i ns))
+    (from_all-grows c (from_all c z all (take i ns)) all (drop i ns))
+
+pub pass_ticks : (c : CircuitId) (ns : List NodeId) (z : Calming) → length z.happened + length (open_nodes z.world ns) ≤ length (pass c ns z).happened
+pass_ticks c ns z = omega (arith, ticks-length c z (open_nodes z.world ns), from_all-grows c (ticks c z (open_nodes z.world ns)) ns ns)
+
+pub passes_split : (c : CircuitId) (ns : List NodeId) (i j : ℕ) (z : Calming) → passes c ns (i + j) z ≡ passes c ns j (passes c ns i z)
+passes_split c ns zero j z = ap (λ (k : ℕ). passes c ns k z) (none j)
+  where
+    none : (k : ℕ) → 0 + k ≡ k
+    none k = omega arith
+passes_split c ns (suc i) j z = ap (λ (k : ℕ). passes c ns k z) (one i j) ∙ passes_split c ns i j (pass c ns z)
+  where
+    one : (m n : ℕ) → suc m + n ≡ suc (m + n)
+    one m n = omega arith
+
+pub passes_front : (c : CircuitId) (ns : List NodeId) (i k : ℕ) (z : Calming) → i ≤ k → length (passes c ns i z).happened ≤ length (passes c ns k z).happened
+passes_front c ns i k z h =
+    subst (λ (y : Calming). length (passes c ns i z).happened ≤ length y.happened) (sym (passes_split c ns i (k - i) z) ∙ ap (λ (n : ℕ). passes c ns n z) rest) (passes-grow c ns (k - i) (passes c ns i z))
+  where
+    rest : i + (k - i) ≡ k
+    rest = omega arith
 
 passes_more : (c : CircuitId) (ns : List NodeId) (k : ℕ) (z : Calming) → passes c ns (suc k) z ≡ pass c ns (passes c ns k z)
 passes_more c ns zero z = refl

@@ -1,11 +1,13 @@
 mod About
 mod Calms
 mod Composed
+mod Counting
 mod Delivery
 mod Entries
 mod Fresh
 mod Moving
 mod Places
+mod Quieting
 mod Reading
 mod Results
 mod Sends

@@ -1,5 +1,5 @@
 -- A node goes down or comes up, in each world that the nodes stand for.
-use Rattle.std.proofs.Common.{◌≡◌, ℕ, ◌⊎◌, Bool, true, false, List, [], ◌∷◌, ◌++◌, Some, slice_get, slice_set, if◌then◌else◌, inl, inr, refl, ap, sym, ◌∙◌, subst}
+use Rattle.std.proofs.Common.{◌≡◌, ℕ, ◌+◌, ◌⊎◌, Bool, true, false, List, [], ◌∷◌, ◌++◌, Some, slice_get, slice_set, if◌then◌else◌, inl, inr, refl, ap, sym, ◌∙◌, subst}
 use Rattle.std.specs.Str.{bytes_eq}
 use Rattle.spl_agree.proofs.Tests.{if_true, if_false}
 use Rattle.spl_circuit.specs.Nodes.{NodeId, CircuitId, has_node}
@@ -14,6 +14,8 @@ use Rattle.spl_model.specs.Puts.{put_at-here, put_at-other}
 use Rattle.spl_model.specs.Projection.{Ran, lines_fit, names, names_circuit}
 use Rattle.spl_model.specs.Answers.{line_world}
 use Rattle.spl_model.proofs.LinesAsOccurrences.{fit-append}
+use Rattle.spl_model.specs.Counts.{line_events, events_of}
+use Rattle.spl_projection.proofs.Counts.{events-more}
 use Rattle.spl_projection.specs.Whole.{world_beside, whole_world}
 use Rattle.spl_projection.specs.Apart.{moves-own, moves-beside}
 use Rattle.spl_world.specs.Kept.{NodeView, place_of, sent_to}
@@ -93,31 +95,40 @@ start_none c m xs n h up = if_true (λ (w : CircuitWorld). Holds c w xs) (m.up n
 
 -- ---- lines
 
-module _ (before : List Ran) (old new : World) (ids : ids_of new ≡ ids_of old) (stands : Stands before old) where
+module _ (before : List Ran) (old new : World) (ids : ids_of new ≡ ids_of old) (one : new.events ≡ old.events + 1) (stands : Stands before old) where
   fits : (r : Ran) → is_line r.line ≡ true → lines_fit (before ++ r ∷ []) ≡ true
   fits r k = fit-append before (r ∷ []) stands.fit (rw k)
 
+  -- the line is one event
+  abbrev IsOne : Ran → Type 0
+  IsOne r = line_events (λ c. whole_world (ids_of old) c before) r.line ≡ 1
+
+  counted : (r : Ran) → is_line r.line ≡ true → IsOne r → new.events ≡ events_of (ids_of new) (before ++ r ∷ [])
+  counted r k n =
+      one ∙ ap (λ (e : ℕ). e + 1) stands.counted ∙ ap (λ (e : ℕ). events_of (ids_of old) before + e) (sym n)
+      ∙ sym (events-more (ids_of old) before r (fits r k)) ∙ ap (λ (ns : List NodeId). events_of ns (before ++ r ∷ [])) (sym ids)
+
   -- any line, by what it does in each world
-  stands_by : (r : Ran) → is_line r.line ≡ true → ((c : CircuitId) → Holds c (whole_world (ids_of old) c (before ++ r ∷ [])) new.nodes.items) → Stands (before ++ r ∷ []) new
-  stands_by r k h = record { fit = fits r k; each = λ c. subst (λ (ns : List NodeId). Holds c (whole_world ns c (before ++ r ∷ [])) new.nodes.items) (sym ids) (h c) }
+  stands_by : (r : Ran) → is_line r.line ≡ true → IsOne r → ((c : CircuitId) → Holds c (whole_world (ids_of old) c (before ++ r ∷ [])) new.nodes.items) → Stands (before ++ r ∷ []) new
+  stands_by r k n h = record { fit = fits r k; counted = counted r k n; each = λ c. subst (λ (ns : List NodeId). Holds c (whole_world ns c (before ++ r ∷ [])) new.nodes.items) (sym ids) (h c) }
 
   beside : (r : Ran) (c : CircuitId) → names c r.line ≡ false → Holds c (world_beside (whole_world (ids_of old) c before) r.line) new.nodes.items → Holds c (whole_world (ids_of old) c (before ++ r ∷ [])) new.nodes.items
   beside r c miss h = subst (λ (m : CircuitWorld). Holds c m new.nodes.items) (sym (moves-beside (ids_of old) before r c miss)) h
 
   pub stands_stop : (n : NodeId) (kept : Bool) → is_line (line.Stop n) ≡ true → ((c : CircuitId) (m : CircuitWorld) → Holds c m old.nodes.items → Holds c (happens m (Stops n)) new.nodes.items) → Stands (before ++ record { line = line.Stop n; kept = kept } ∷ []) new
-  stands_stop n kept k h = stands_by (record { line = line.Stop n; kept = kept }) k (λ c. beside (record { line = line.Stop n; kept = kept }) c refl (h c (whole_world (ids_of old) c before) (stands.each c)))
+  stands_stop n kept k h = stands_by (record { line = line.Stop n; kept = kept }) k refl (λ c. beside (record { line = line.Stop n; kept = kept }) c refl (h c (whole_world (ids_of old) c before) (stands.each c)))
 
   pub stands_start : (n : NodeId) (kept : Bool) → is_line (line.Start n) ≡ true → ((c : CircuitId) (m : CircuitWorld) → Holds c m old.nodes.items → Holds c (happens m (Starts n)) new.nodes.items) → Stands (before ++ record { line = line.Start n; kept = kept } ∷ []) new
-  stands_start n kept k h = stands_by (record { line = line.Start n; kept = kept }) k (λ c. beside (record { line = line.Start n; kept = kept }) c refl (h c (whole_world (ids_of old) c before) (stands.each c)))
+  stands_start n kept k h = stands_by (record { line = line.Start n; kept = kept }) k refl (λ c. beside (record { line = line.Start n; kept = kept }) c refl (h c (whole_world (ids_of old) c before) (stands.each c)))
 
   pub stands_roll : (n : NodeId) (kept : Bool) → is_line (line.Roll n) ≡ true → ((c : CircuitId) (m : CircuitWorld) → Holds c m old.nodes.items → Holds c m new.nodes.items) → Stands (before ++ record { line = line.Roll n; kept = kept } ∷ []) new
-  stands_roll n kept k h = stands_by (record { line = line.Roll n; kept = kept }) k (λ c. beside (record { line = line.Roll n; kept = kept }) c refl (h c (whole_world (ids_of old) c before) (stands.each c)))
+  stands_roll n kept k h = stands_by (record { line = line.Roll n; kept = kept }) k refl (λ c. beside (record { line = line.Roll n; kept = kept }) c refl (h c (whole_world (ids_of old) c before) (stands.each c)))
 
   -- a cut or a fail: in its circuit's world the node stops in the event, in each other it stops
-  stands_halt : (r : Ran) (s : Step) → is_line r.line ≡ true → circuit_of r.line ≡ Some (step_circuit s) → ((w : CircuitWorld) → line_world w r.line r.kept ≡ happens w (Halts r.kept s)) → ((w : CircuitWorld) → world_beside w r.line ≡ happens w (Stops (step_node s)))
+  stands_halt : (r : Ran) (s : Step) → is_line r.line ≡ true → IsOne r → circuit_of r.line ≡ Some (step_circuit s) → ((w : CircuitWorld) → line_world w r.line r.kept ≡ happens w (Halts r.kept s)) → ((w : CircuitWorld) → world_beside w r.line ≡ happens w (Stops (step_node s)))
       → ((m : CircuitWorld) → Holds (step_circuit s) m old.nodes.items → Holds (step_circuit s) (happens m (Halts r.kept s)) new.nodes.items)
       → ((d : CircuitId) (m : CircuitWorld) → bytes_eq (step_circuit s) d ≡ false → Holds d m old.nodes.items → Holds d (happens m (Stops (step_node s))) new.nodes.items) → Stands (before ++ r ∷ []) new
-  stands_halt r s k about own_is other_is own others = stands_by r k (λ d. go d (bool_cases (bytes_eq (step_circuit s) d)))
+  stands_halt r s k n about own_is other_is own others = stands_by r k n (λ d. go d (bool_cases (bytes_eq (step_circuit s) d)))
     where
       ns : List NodeId
       ns = ids_of old
@@ -136,9 +147,9 @@ module _ (before : List Ran) (old new : World) (ids : ids_of new ≡ ids_of old)
   pub stands_cut : (calls : ℕ) (f : Fill) (s : Step) (kept : Bool) → is_line (line.Cut calls f s) ≡ true
       → ((m : CircuitWorld) → Holds (step_circuit s) m old.nodes.items → Holds (step_circuit s) (happens m (Halts kept s)) new.nodes.items)
       → ((d : CircuitId) (m : CircuitWorld) → bytes_eq (step_circuit s) d ≡ false → Holds d m old.nodes.items → Holds d (happens m (Stops (step_node s))) new.nodes.items) → Stands (before ++ record { line = line.Cut calls f s; kept = kept } ∷ []) new
-  stands_cut calls f s kept k own others = stands_halt (record { line = line.Cut calls f s; kept = kept }) s k refl (λ w. refl) (λ w. refl) own others
+  stands_cut calls f s kept k own others = stands_halt (record { line = line.Cut calls f s; kept = kept }) s k refl refl (λ w. refl) (λ w. refl) own others
 
   pub stands_fail : (call : ℕ) (s : Step) (kept : Bool) → is_line (line.Fail call s) ≡ true
       → ((m : CircuitWorld) → Holds (step_circuit s) m old.nodes.items → Holds (step_circuit s) (happens m (Halts kept s)) new.nodes.items)
       → ((d : CircuitId) (m : CircuitWorld) → bytes_eq (step_circuit s) d ≡ false → Holds d m old.nodes.items → Holds d (happens m (Stops (step_node s))) new.nodes.items) → Stands (before ++ record { line = line.Fail call s; kept = kept } ∷ []) new
-  stands_fail call s kept k own others = stands_halt (record { line = line.Fail call s; kept = kept }) s k refl (λ w. refl) (λ w. refl) own others
+  stands_fail call s kept k own others = stands_halt (record { line = line.Fail call s; kept = kept }) s k refl refl (λ w. refl) (λ w. refl) own others

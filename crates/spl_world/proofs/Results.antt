@@ -6,6 +6,10 @@ pub at_ok : {A E : Type 0} {P Q : Type 0} (r : Result A E) → (P → Q) → OnO
 at_ok (Ok a) f p = f p
 at_ok (Err e) f p = p
 
+pub on_ok : {A E : Type 0} {P : Type 0} (r : Result A E) → P → OnOk r P
+on_ok (Ok a) p = p
+on_ok (Err e) p = tt
+
 pub when_ok : {A E : Type 0} {P Q : A → Type 0} (r : Result A E) → ((a : A) → P a → Q a) → IfOk r P → IfOk r Q
 when_ok (Ok a) f p = f a p
 when_ok (Err e) f p = p

@@ -1,5 +1,6 @@
 -- What stands behind a line more.
-use Rattle.std.proofs.Common.{◌≡◌, ◌⊎◌, inl, inr, ℕ, Bool, true, false, List, [], ◌∷◌, ◌++◌, Some, Result, IfOk, ap, sym, ◌∙◌, subst}
+use Rattle.std.proofs.Common.{◌≡◌, ◌⊎◌, inl, inr, ℕ, ◌+◌, ◌<◌, ◌≤◌, Bool, true, false, List, [], ◌∷◌, ◌++◌, Some, Result, IfOk, ap, sym, ◌∙◌, subst, arith}
+use Rattle.std.specs.Prelude.{IsErrOf}
 use Rattle.std.specs.Str.{bytes_eq}
 use Rattle.spl_circuit.specs.Nodes.{NodeId, CircuitId}
 use Rattle.spl_wire.specs.declared.answer.Answer.{Answer}
@@ -15,7 +16,13 @@ use Rattle.spl_model.specs.Answers.{line_world, answer_to}
 use Rattle.spl_model.proofs.LinesAsOccurrences.{fit-append}
 use Rattle.spl_projection.specs.Whole.{world_beside, whole_world}
 use Rattle.spl_projection.specs.Apart.{moves-own, moves-beside}
+use Rattle.spl_model.specs.declared.TheConstants.{MOST_EVENTS}
+use Rattle.spl_model.specs.Counts.{line_events, events_of}
+use Rattle.spl_projection.proofs.Counts.{events-more}
 use Rattle.spl_projection.proofs.Owns.{answer-whole}
+use Rattle.spl_world.specs.declared.fault.WorldFault.{WorldFault}
+use Rattle.spl_world.specs.declared.fault.WorldFault.TheVariants.{TooMany}
+use Rattle.spl_world.specs.Counts.{Counts}
 use Rattle.spl_world.specs.Views.{Holds, Moves, Stands, ids_of}
 use Rattle.spl_world.specs.declared.world.World.{World}
 use Rattle.spl_world.proofs.Results.{when_ok}
@@ -25,10 +32,28 @@ use Rattle.spl_world.proofs.Sends.{bool_cases, bytes_are}
 pub fits_after : (before : List Ran) (l : Line) → lines_fit before ≡ true → is_line l ≡ true → lines_fit (before ++ by_rule l ∷ []) ≡ true
 fits_after before l h k = fit-append before (by_rule l ∷ []) h (rw k)
 
--- a line of a circuit moved its world, and no other
-pub stands_after : (before : List Ran) (l : Line) (c : CircuitId) (old new : World) → circuit_of l ≡ Some c → is_line l ≡ true → ((w : CircuitWorld) → world_beside w l ≡ w) → ids_of new ≡ ids_of old → Stands before old → Moves c (λ m. line_world m l (keeps_record l)) old.nodes.items new.nodes.items → Stands (before ++ by_rule l ∷ []) new
-stands_after before l c old new about fits still ids stands moves = record {
+-- the events of lines, and of one more, which are so many in the world behind all lines
+events_after : (old : World) (before : List Ran) (l : Line) (n : ℕ) → Stands before old → is_line l ≡ true → line_events (λ c. whole_world (ids_of old) c before) l ≡ n → events_of (ids_of old) (before ++ by_rule l ∷ []) ≡ old.events + n
+events_after old before l n stands fits e =
+    events-more (ids_of old) before (by_rule l) (fits_after before l stands.fit fits)
+    ∙ ap (λ (k : ℕ). k + line_events (λ c. whole_world (ids_of old) c before) l) (sym stands.counted) ∙ ap (λ (k : ℕ). old.events + k) e
+
+-- they are counted
+pub counted_line : (new : ℕ) (old : World) (before : List Ran) (l : Line) (n : ℕ) → Stands before old → is_line l ≡ true → line_events (λ c. whole_world (ids_of old) c before) l ≡ n → new + 0 ≡ old.events + n → new ≡ events_of (ids_of old) (before ++ by_rule l ∷ [])
+counted_line new old before l n stands fits e k = let sum : new ≡ old.events + n = omega (arith, k) in sum ∙ sym (events_after old before l n stands fits e)
+
+-- or they are too many
+pub over_line : {A : Type 0} (r : Result A WorldFault) (new which : ℕ) (old : World) (before : List Ran) (l : Line) (n : ℕ) → Stands before old → is_line l ≡ true → line_events (λ c. whole_world (ids_of old) c before) l ≡ n → Counts r old.events new 0 n → IsErrOf r (TooMany which) → (which ≡ 1) × (MOST_EVENTS < events_of (ids_of old) (before ++ by_rule l ∷ []))
+over_line r new which old before l n stands fits e k q =
+    let p = k.many which q in
+    let over : MOST_EVENTS < old.events + n = omega (arith, p.1) in
+    (p.0, subst (λ (t : ℕ). MOST_EVENTS < t) (sym (events_after old before l n stands fits e)) over)
+
+-- a line of a circuit moved its world, and no other, and was counted
+pub stands_after : (before : List Ran) (l : Line) (c : CircuitId) (old new : World) → circuit_of l ≡ Some c → is_line l ≡ true → ((w : CircuitWorld) → world_beside w l ≡ w) → ids_of new ≡ ids_of old → Stands before old → new.events ≡ events_of (ids_of old) (before ++ by_rule l ∷ []) → Moves c (λ m. line_world m l (keeps_record l)) old.nodes.items new.nodes.items → Stands (before ++ by_rule l ∷ []) new
+stands_after before l c old new about fits still ids stands counted moves = record {
   fit = fits_after before l stands.fit fits;
+  counted = counted ∙ ap (λ (ns : List NodeId). events_of ns (before ++ by_rule l ∷ [])) (sym ids);
   each = λ d. subst (λ (ns : List NodeId). Holds d (whole_world ns d (before ++ by_rule l ∷ [])) new.nodes.items) (sym ids) (go d (bool_cases (bytes_eq c d)));
 }
   where
@@ -46,7 +71,11 @@ stands_after before l c old new about fits still ids stands moves = record {
 
 -- whether the world is halted says nothing of what stands
 pub stands_still : (before : List Ran) (w : World) (b : Bool) → Stands before w → Stands before (record w { halted = b })
-stands_still before w b stands = record { fit = stands.fit; each = stands.each }
+stands_still before w b stands = record { fit = stands.fit; counted = stands.counted; each = stands.each }
+
+-- lines that stand are within the limit
+pub within_line : (before : List Ran) (w : World) (ns : List NodeId) → ids_of w ≡ ns → Stands before w → w.events ≤ MOST_EVENTS → events_of ns before ≤ MOST_EVENTS
+within_line before w ns ids stands within = subst (λ (xs : List NodeId). events_of xs before ≤ MOST_EVENTS) ids (subst (λ (k : ℕ). k ≤ MOST_EVENTS) stands.counted within)
 
 -- a step is answered in the world of its circuit
 pub step_answered : (ns : List NodeId) (before : List Ran) (s : Step) → lines_fit (before ++ by_rule (line.Step s) ∷ []) ≡ true → answer_to ns before (by_rule (line.Step s)) ≡ (step_plan (whole_world ns (step_circuit s) before) s).answer

@@ -1,16 +1,25 @@
 -- The ticks of a pass, one node more.
-use Rattle.std.proofs.Common.{◌≡◌, ℕ, ◌+◌, ◌⊎◌, inl, inr, Bool, true, false, true≢false, ◌&&◌, ◌||◌, List, [], ◌∷◌, ◌++◌, take, Some, slice_get, refl, ap, sym, ◌∙◌}
-use Rattle.std.specs.List.{filter}
+use Rattle.std.proofs.Common.{◌≡◌, ℕ, ◌+◌, ◌⊎◌, inl, inr, Bool, true, false, true≢false, not, ◌&&◌, ◌||◌, List, [], ◌∷◌, ◌++◌, take, drop, ◌≤◌, length, length-append, Some, slice_get, refl, ap, sym, subst, ◌∙◌, if◌then◌else◌, arith}
+use Rattle.std.specs.List.{filter, AllByRecursion}
+use Rattle.std.proofs.lemmas.List.{take-append-drop}
 use Rattle.std.proofs.lemmas.List.Elements.{filter-append}
 use Rattle.std.specs.Str.{bytes_eq}
 use Rattle.spl_circuit.specs.Nodes.{NodeId, CircuitId, has_node}
 use Rattle.spl_wire.specs.declared.event.Event.TheVariants as event
 use Rattle.spl_sched.specs.declared.line.Step.TheVariants as step
 use Rattle.spl_rules.specs.Cells.{Cell, is_open_cell}
-use Rattle.spl_model.specs.Worlds.{World as CircuitWorld, step_world}
+use Rattle.spl_wire.specs.declared.answer.Answer.{Answer}
+use Rattle.spl_wire.specs.declared.answer.Answer.TheVariants as answer
+use Rattle.spl_wire.specs.declared.answer.Refusal.TheVariants as refusal
+use Rattle.spl_wire.specs.declared.plan.Plan.{Plan}
+use Rattle.spl_agree.proofs.Tests.{and_left}
+use Rattle.spl_rules.specs.Idle.{is_idle}
+use Rattle.spl_rules.specs.Plans.{tells_only, plan_of}
+use Rattle.spl_model.specs.Worlds.{World as CircuitWorld, site_at, step_world}
 use Rattle.spl_model.specs.Calm.{Calming, open_nodes, ticks}
+use Rattle.spl_model.specs.Quiet.{IsIdleAt}
 use Rattle.spl_world.specs.Kept.{NodeView}
-use Rattle.spl_world.specs.Calms.{tick_at}
+use Rattle.spl_world.specs.Calms.{tick_at, tick_count, IsIdleTick}
 use Rattle.spl_world.specs.Views.{Moves, ids_in}
 use Rattle.spl_projection.proofs.Ups.{ticks-up}
 use Rattle.spl_world.proofs.Calms.{ticks_more, ticks_at}
@@ -18,10 +27,15 @@ use Rattle.spl_world.proofs.Composed.{moves_then}
 use Rattle.spl_world.proofs.Delivery.{moves_as}
 use Rattle.spl_world.proofs.Sends.{bool_cases}
 use Rattle.spl_world.proofs.Slots.{take_one, not_before}
+use Rattle.spl_world.proofs.Up.{step_up}
 
 -- the world behind the ticks of these nodes
 abbrev pub ticked : CircuitId → Calming → List NodeId → CircuitWorld → CircuitWorld
 ticked c z ns m = (ticks c (record z { world = m }) (open_nodes m ns)).world
+
+all_append : (P : NodeId → Type 0) (xs ys : List NodeId) → AllByRecursion P xs → AllByRecursion P ys → AllByRecursion P (xs ++ ys)
+all_append P [] ys h k = k
+all_append P (x ∷ xs) ys h k = (h.0, all_append P xs ys h.1 k)
 
 append_nothing : (xs : List NodeId) → xs ++ [] ≡ xs
 append_nothing [] = refl
@@ -35,6 +49,13 @@ without p (x ∷ xs) n h = go (bool_cases (bytes_eq x n)) (bool_cases (p x)) (wi
     go (inl q) r rest = absurd (true≢false (sym (ap (λ t. t || has_node xs n) q) ∙ h))
     go (inr q) (inl r) rest = rw (r, q) (rest (rw q at h))
     go (inr q) (inr r) rest = rw r (rest (rw q at h))
+
+-- a front of the nodes has no more ticks
+pub open_front : (m : CircuitWorld) (ids : List NodeId) (i : ℕ) → length (open_nodes m (take i ids)) ≤ length (open_nodes m ids)
+open_front m ids i =
+    let parts : length (open_nodes m ids) ≡ length (open_nodes m (take i ids)) + length (open_nodes m (drop i ids)) =
+    ap (λ ns. length (open_nodes m ns)) (sym (take-append-drop i ids)) ∙ ap (λ ns. length ns) (filter-append (λ (n : NodeId). m.up n && is_open_cell (m.at n)) (take i ids) (drop i ids)) ∙ length-append (open_nodes m (take i ids)) (open_nodes m (drop i ids)) in
+    omega (arith, parts)
 
 module _ (c : CircuitId) (z : Calming) (ids : List NodeId) (i : ℕ) (n : NodeId) (m : CircuitWorld) (at : slice_get ids i ≡ Some n) where
   abbrev is_ticked : NodeId → Bool
@@ -62,6 +83,28 @@ module _ (c : CircuitId) (z : Calming) (ids : List NodeId) (i : ℕ) (n : NodeId
       let none : filter is_ticked (n ∷ []) ≡ [] = rw here refl in
       sym (ap (λ ns. (ticks c (record z { world = m }) ns).world) (more ∙ ap (λ ns. open_nodes m (take i ids) ++ ns) none ∙ append_nothing (open_nodes m (take i ids))))
 
+  -- how many ticks that is
+  pub count_more : has_node (take i ids) n ≡ false → length (open_nodes m (take (i + 1) ids)) ≡ length (open_nodes m (take i ids)) + tick_count (ticked c z (take i ids) m) n
+  count_more h = ap (λ ns. length ns) more ∙ length-append (open_nodes m (take i ids)) (filter is_ticked (n ∷ [])) ∙ ap (λ (k : ℕ). length (open_nodes m (take i ids)) + k) (single (bool_cases (is_ticked n)) ∙ sym (ap (λ (b : Bool). if b then 1 else 0) (now h)))
+    where
+      single : (is_ticked n ≡ true) ⊎ (is_ticked n ≡ false) → length (filter is_ticked (n ∷ [])) ≡ (if is_ticked n then 1 else 0)
+      single (inl q) = rw q refl
+      single (inr q) = rw q refl
+
+  -- whether they are idle
+  pub idle_more : has_node (take i ids) n ≡ false → AllByRecursion (IsIdleAt c m) (open_nodes m (take i ids)) → IsIdleTick c (ticked c z (take i ids) m) n → AllByRecursion (IsIdleAt c m) (open_nodes m (take (i + 1) ids))
+  idle_more h so_far idle = subst (λ ns. AllByRecursion (IsIdleAt c m) ns) (sym more) (all_append (IsIdleAt c m) (open_nodes m (take i ids)) (filter is_ticked (n ∷ [])) so_far (last (bool_cases (is_ticked n))))
+    where
+      told : Bool → Cell → Answer
+      told b k = (if b then plan_of (site_at n c) k event.Tick else tells_only (answer.Refused refusal.Down)).answer
+
+      there : IsIdleAt c (ticked c z (take i ids) m) n → IsIdleAt c m n
+      there q = sym (ap (λ (f : NodeId → Bool). is_idle (told (f n) ((ticked c z (take i ids) m).at n))) (ticks-up c (record z { world = m }) (open_nodes m (take i ids))) ∙ ap (λ (k : Cell). is_idle (told (m.up n) k)) (untouched h)) ∙ q
+
+      last : (is_ticked n ≡ true) ⊎ (is_ticked n ≡ false) → AllByRecursion (IsIdleAt c m) (filter is_ticked (n ∷ []))
+      last (inl q) = rw q (there (idle (now h ∙ q)), tt)
+      last (inr q) = rw q tt
+
 -- one node more
 pub tick_more : (c : CircuitId) (z : Calming) (ids : List NodeId) (i : ℕ) (n : NodeId) (m : CircuitWorld) → slice_get ids i ≡ Some n → has_node (take i ids) n ≡ false → tick_at c n (ticked c z (take i ids) m) ≡ ticked c z (take (i + 1) ids) m
 tick_more c z ids i n m at h = go (bool_cases ((ticked c z (take i ids) m).up n && is_open_cell ((ticked c z (take i ids) m).at n)))
@@ -78,3 +121,15 @@ tick_moves c z xs ys zs i n at so_far tick =
 
 pub opened_tick : (c : CircuitId) (n : NodeId) (m : CircuitWorld) → (m.up n && is_open_cell (m.at n)) ≡ true → step_world m (step.At n c event.Tick) ≡ tick_at c n m
 opened_tick c n m h = rw h refl
+
+-- what a node is told by a tick where it is up
+pub idle_told : (c : CircuitId) (n : NodeId) (m : CircuitWorld) (a : Answer) → (m.up n && is_open_cell (m.at n)) ≡ true → a ≡ (plan_of (site_at n c) (m.at n) event.Tick).answer → is_idle a ≡ true → IsIdleAt c m n
+idle_told c n m a ready told idle = ap (λ (p : Plan). is_idle p.answer) (step_up m (step.At n c event.Tick) (and_left (m.up n) (is_open_cell (m.at n)) ready)) ∙ ap is_idle (sym told) ∙ idle
+
+pub not_false : (b : Bool) → not b ≡ false → b ≡ true
+not_false true h = refl
+not_false false h = cc
+
+pub or_false : (a b : Bool) → (a || b) ≡ false → (a ≡ false) × (b ≡ false)
+or_false true b h = cc
+or_false false b h = (refl, h)

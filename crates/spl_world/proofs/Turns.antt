@@ -1,5 +1,5 @@
 -- The turns of pairs, and the rows of what is taken.
-use Rattle.std.proofs.Common.{◌≡◌, ℕ, zero, suc, ◌+◌, ◌-◌, ◌≤◌, ◌⊎◌, inl, inr, Bool, true, false, ◌&&◌, List, [], ◌∷◌, ◌++◌, length, take, Some, slice_get, slice_set, get_or, refl, ap, sym, ◌∙◌, subst, arith}
+use Rattle.std.proofs.Common.{◌≡◌, ℕ, zero, suc, ◌+◌, ◌-◌, ◌≤◌, ◌⊎◌, inl, inr, Bool, true, false, ◌&&◌, List, [], ◌∷◌, ◌++◌, length, take, Some, slice_get, slice_set, get_or, refl, ap, sym, ◌∙◌, subst, if◌then◌else◌, arith}
 use Rattle.std.specs.Global.{Vec}
 use Rattle.std.specs.Str.{bytes_eq}
 use Rattle.spl_circuit.specs.Nodes.{NodeId, CircuitId}
@@ -8,6 +8,7 @@ use Rattle.spl_sched.specs.declared.line.Step.TheVariants as step
 use Rattle.spl_wire.specs.declared.event.Event.TheVariants as event
 use Rattle.spl_model.specs.Worlds.{World as CircuitWorld, first_world, messages, step_world}
 use Rattle.spl_model.specs.Calm.{Calming, calming_step, delivers, ticks, pair_turn, to_all, from_all}
+use Rattle.spl_model.proofs.Quiet.{turn-length}
 use Rattle.spl_world.specs.Kept.{NodeView}
 use Rattle.spl_world.specs.Views.{Holds, Moves}
 use Rattle.spl_world.specs.Calms.{AreRows, IsSquare, row_of, sent_count}
@@ -47,6 +48,15 @@ same_turn c z a b m same = if_holds (λ (w : Calming). m ≡ w.world) (m.up b) _
 pub turn_is : (c : CircuitId) (z : Calming) (a b : NodeId) (m : CircuitWorld) (taken all : ℕ) → z.taken a b ≡ taken → all ≡ sent_count m a b → m.up b ≡ true → delivered c z a b (taken + 1) (all - taken) m ≡ (pair_turn c (record z { world = m }) a b).world
 turn_is c z a b m taken all e f up =
     ap (λ (t : ℕ). delivered c z a b (t + 1) (all - t) m) (sym e) ∙ (ap (λ (k : ℕ). delivered c z a b (z.taken a b + 1) (k - z.taken a b) m) f ∙ rw up)
+
+-- how many deliveries a turn has, where the recipient is up
+pub turns_count : (c : CircuitId) (z : Calming) (a b : NodeId) (all taken : ℕ) → z.world.up b ≡ true → sent_count z.world a b ≡ all → z.taken a b ≡ taken → length z.happened + (all - taken) ≡ length (pair_turn c z a b).happened
+turns_count c z a b all taken up e f =
+    let count : length (pair_turn c z a b).happened ≡ length z.happened + (sent_count z.world a b - z.taken a b) = turn-length c z a b ∙ ap (λ (u : Bool). length z.happened + (if u then sent_count z.world a b - z.taken a b else 0)) up in
+    sym (count ∙ ap (λ (k : ℕ). length z.happened + (k - z.taken a b)) e ∙ ap (λ (k : ℕ). length z.happened + (all - k)) f)
+
+pub none_delivered : (so_far taken all : ℕ) → so_far + (0 - taken) ≡ all → so_far ≡ all
+none_delivered so_far taken all e = omega (arith, e)
 
 -- ---- what is taken
 
@@ -174,13 +184,19 @@ rows_set c z ids rows i a r up at h new j b q to e = go (set_cases rows i j r q 
 
 -- ---- a turn more, a sender more
 
+pub to_all_next : (c : CircuitId) (z : Calming) (a : NodeId) (ids : List NodeId) (i : ℕ) (n : NodeId) → slice_get ids i ≡ Some n → to_all c z a (take (i + 1) ids) ≡ pair_turn c (to_all c z a (take i ids)) a n
+to_all_next c z a ids i n at = ap (to_all c z a) (take_one ids i n at) ∙ to_all_more c z a (take i ids) n
+
+pub from_all_next : (c : CircuitId) (z : Calming) (ids : List NodeId) (i : ℕ) (a : NodeId) → slice_get ids i ≡ Some a → from_all c z ids (take (i + 1) ids) ≡ to_all c (from_all c z ids (take i ids)) a ids
+from_all_next c z ids i a at = ap (from_all c z ids) (take_one ids i a at) ∙ from_all_more c z ids (take i ids) a
+
 pub turn_own : (c : CircuitId) (z : Calming) (a : NodeId) (ids : List NodeId) (i : ℕ) (n : NodeId) (ys zs : List NodeView) (row : List ℕ) (k : ℕ) → ascends ids ≡ true → slice_get ids i ≡ Some n
     → Holds c (to_all c z a (take i ids)).world ys × (row ≡ row_of (to_all c z a (take i ids)).taken a ids)
     → Moves c (λ m. (pair_turn c (record (to_all c z a (take i ids)) { world = m }) a n).world) ys zs → k ≡ (pair_turn c (to_all c z a (take i ids)) a n).taken a n
     → Holds c (to_all c z a (take (i + 1) ids)).world zs × (slice_set row i k ≡ row_of (to_all c z a (take (i + 1) ids)).taken a ids)
 turn_own c z a ids i n ys zs row k up at so_far moves count =
     let y : Calming = to_all c z a (take i ids) in
-    let e : to_all c z a (take (i + 1) ids) ≡ pair_turn c y a n = ap (to_all c z a) (take_one ids i n at) ∙ to_all_more c z a (take i ids) n in (
+    let e : to_all c z a (take (i + 1) ids) ≡ pair_turn c y a n = to_all_next c z a ids i n at in (
       subst (λ (w : Calming). Holds c w.world zs) (sym e) (moves.own y.world so_far.0),
       ap (λ (r : List ℕ). slice_set r i k) so_far.1 ∙ row_set y.taken (pair_turn c y a n).taken a ids i n k up at count (λ b off. turn_keeps c y a n b off)
           ∙ ap (λ (w : Calming). row_of w.taken a ids) (sym e),
@@ -192,7 +208,7 @@ pub sender_own : (c : CircuitId) (z : Calming) (ids : List NodeId) (i : ℕ) (a 
     → Holds c (from_all c z ids (take (i + 1) ids)).world zs × AreRows (from_all c z ids (take (i + 1) ids)).taken ids (slice_set rows i r)
 sender_own c z ids i a zs rows r up at so_far own =
     let y : Calming = from_all c z ids (take i ids) in
-    let e : from_all c z ids (take (i + 1) ids) ≡ to_all c y a ids = ap (from_all c z ids) (take_one ids i a at) ∙ from_all_more c z ids (take i ids) a in
+    let e : from_all c z ids (take (i + 1) ids) ≡ to_all c y a ids = from_all_next c z ids i a at in
     (subst (λ (w : Calming). Holds c w.world zs) (sym e) own.0, subst (λ (w : Calming). AreRows w.taken ids (slice_set rows i r)) (sym e) (rows_set c y ids rows i a r up at so_far own.1))
 
 pub rows_same : (f g : NodeId → NodeId → ℕ) (ids : List NodeId) (rows : List (Vec ℕ)) → ((x y : NodeId) → f x y ≡ g x y) → AreRows f ids rows → AreRows g ids rows

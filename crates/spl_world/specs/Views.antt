@@ -5,6 +5,7 @@ use Rattle.spl_circuit.specs.Nodes.{NodeId, CircuitId, has_node}
 use Rattle.spl_circuit.specs.Rules.{ascends}
 use Rattle.spl_model.specs.Worlds.{World as CircuitWorld, on_pair}
 use Rattle.spl_model.specs.Projection.{Ran, lines_fit}
+use Rattle.spl_model.specs.Counts.{events_of}
 use Rattle.spl_projection.specs.Whole.{whole_world}
 use Rattle.spl_world.specs.Kept.{NodeView, place_of, sent_to}
 use Rattle.spl_world.specs.declared.world.World.{World}
@@ -21,7 +22,7 @@ has_id n x = bytes_eq x.id n
 abbrev pub ids_of : World → List NodeId
 ids_of w = ids_in w.nodes.items
 
--- a line found no memory, so that nothing more is asked
+-- a line has no answer, so that nothing more is asked
 abbrev pub is_halted : World → Bool
 is_halted w = w.halted
 
@@ -39,9 +40,10 @@ pub record Holds (c : CircuitId) (m : CircuitWorld) (xs : List NodeView) : Type 
   pub each : (i : ℕ) (x : NodeView) → slice_get xs i ≡ Some x → IsAs c m x
 
 -- behind these lines each node keeps, about each circuit, what the world of that circuit behind all of them has there; and
--- what it sent to each other is what was sent in that world
+-- what it sent to each other is what was sent in that world. Their events are counted
 pub record Stands (before : List Ran) (w : World) : Type 0 where
   pub fit : lines_fit before ≡ true
+  pub counted : w.events ≡ events_of (ids_of w) before
   pub each : (c : CircuitId) → Holds c (whole_world (ids_of w) c before) w.nodes.items
 
 -- the worlds of the other circuits stay

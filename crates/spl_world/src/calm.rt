@@ -1,16 +1,39 @@
 //! A calm: passes of ticks and deliveries.
-ghost use Rattle.std.specs.Prelude.{◌≡◌, ◌+◌, ◌-◌, ◌<◌, length, false, IfOk, OnOk};
+ghost use Rattle.std.specs.Prelude.{◌≡◌, ◌+◌, ◌-◌, ◌<◌, ◌&&◌, length, false, true, IfOk, OnOk};
+ghost use Rattle.std.specs.List.{AllByRecursion};
 ghost use Rattle.std.specs.Str.{bytes_eq};
 ghost use Rattle.spl_circuit.specs.Nodes.{NodeId as Id};
 ghost use Rattle.spl_model.specs.Worlds.{World as CircuitWorld};
 ghost use Rattle.spl_model.specs.Calm.{Calming, ticks, open_nodes, delivers, pair_turn, to_all, from_all, pass, calm};
-ghost use Rattle.spl_world.specs.Calms.{tick_at, AreRows, IsSquare, row_of, sent_count};
+ghost use Rattle.spl_model.specs.Quiet.{IsIdleAt, IsQuiet};
+ghost use Rattle.spl_rules.specs.Idle.{is_idle_note, is_idle};
+ghost use Rattle.spl_world.specs.Calms.{tick_at, tick_count, IsIdleTick, AreRows, IsSquare, row_of, sent_count};
+ghost use Rattle.spl_world.specs.Counts.{Counts};
 ghost use Rattle.spl_world.specs.Views.{Holds, IsAt, IsUp, Moves, Spares, ids_of};
 
+use crate::fault::WorldFault;
 use crate::world::World;
+use spl_agree::Note;
 use spl_base::CircuitId;
-use spl_wire::Event;
+use spl_wire::{Answer, Event};
 use std::alloc::{AllocError, Global};
+
+// A group has nothing to do, or it isn't there.
+fn is_idle_note(note: Note) -> bool
+    ensures { result ≡ is_idle_note note }
+{
+    matches!(note, Note::Idle | Note::Off)
+}
+
+// No group of the cell has anything to do.
+fn is_idle(answer: &Answer) -> bool
+    ensures { result ≡ is_idle answer.now }
+{
+    match answer {
+        Answer::Notes { admin, service } => is_idle_note(*admin) && is_idle_note(*service),
+        _ => false,
+    }
+}
 
 impl World {
     // How many messages about a circuit a node sent to each node.
@@ -38,28 +61,37 @@ impl World {
         Ok(rows)
     }
 
-    // A tick at a node, where it is up and the circuit bound and open there.
-    fn tick(&mut self, alloc: Global, circuit: CircuitId, slot: usize) -> Result<(), AllocError>
+    // A tick at a node, where it is up and the circuit bound and open there. Answers whether there
+    // was anything to do.
+    fn tick(&mut self, alloc: Global, circuit: CircuitId, slot: usize) -> Result<bool, WorldFault>
         requires below { slot < length self.old.nodes.items }
         ensures ids { ids_of self.new ≡ ids_of self.old }
+        ensures counts { (m : CircuitWorld) (n : Id) → Holds circuit m self.old.nodes.items → IsAt self.old.nodes.items slot n → Counts result self.old.events self.new.events 0 (tick_count m n) }
+        ensures idle { (m : CircuitWorld) (n : Id) → Holds circuit m self.old.nodes.items → IsAt self.old.nodes.items slot n → IfOk result (λ moved. moved ≡ false → IsIdleTick circuit m n) }
         ensures moves { (n : Id) → IsAt self.old.nodes.items slot n → OnOk result (Moves circuit (tick_at circuit n) self.old.nodes.items self.new.nodes.items) }
     {
         if !self.is_open(slot, &circuit) {
-            return Ok(());
+            return Ok(false);
         }
-        self.handle(alloc, slot, circuit, &Event::Tick)?;
-        Ok(())
+        self.events.add(1)?;
+        let answer = self.handle(alloc, slot, circuit, &Event::Tick)?;
+        Ok(!is_idle(&answer))
     }
 
-    // A tick at each node that is up and where the circuit is bound and open.
-    fn tick_all(&mut self, alloc: Global, circuit: CircuitId) -> Result<(), AllocError>
+    // A tick at each node that is up and where the circuit is bound and open. Answers whether there
+    // was anything to do.
+    fn tick_all(&mut self, alloc: Global, circuit: CircuitId) -> Result<bool, WorldFault>
         ensures ids { ids_of self.new ≡ ids_of self.old }
+        ensures counts { (m : CircuitWorld) → Holds circuit m self.old.nodes.items → Counts result self.old.events self.new.events 0 (length (open_nodes m (ids_of self.old))) }
+        ensures idle { (m : CircuitWorld) → Holds circuit m self.old.nodes.items → IfOk result (λ moved. moved ≡ false → AllByRecursion (IsIdleAt circuit m) (open_nodes m (ids_of self.old))) }
         ensures moves { (z : Calming) → OnOk result (Moves circuit (λ m. (ticks circuit (record z { world = m }) (open_nodes m (ids_of self.old))).world) self.old.nodes.items self.new.nodes.items) }
     {
+        let mut moved = false;
         for slot in 0..self.len() {
-            self.tick(alloc, circuit, slot)?;
+            let one = self.tick(alloc, circuit, slot)?;
+            moved |= one;
         }
-        Ok(())
+        Ok(moved)
     }
 
     // The messages of a pair from one index to another are delivered.
@@ -71,15 +103,17 @@ impl World {
         to: usize,
         taken: usize,
         all: usize,
-    ) -> Result<(), AllocError>
+    ) -> Result<(), WorldFault>
         requires from_below { from < length self.old.nodes.items }
         requires to_below { to < length self.old.nodes.items }
         requires apart { (a b : Id) → IsAt self.old.nodes.items from a → IsAt self.old.nodes.items to b → bytes_eq a b ≡ false }
         requires up { IsUp self.old.nodes.items to }
         ensures ids { ids_of self.new ≡ ids_of self.old }
+        ensures counts { Counts result self.old.events self.new.events 0 (all - taken) }
         ensures moves { (z : Calming) (a b : Id) → IsAt self.old.nodes.items from a → IsAt self.old.nodes.items to b → OnOk result (Moves circuit (λ m. (delivers circuit (record z { world = m }) a b (taken + 1) (all - taken)).world) self.old.nodes.items self.new.nodes.items) }
     {
         for index in taken..all {
+            self.events.add(1)?;
             self.deliver(alloc, from, to, circuit, index)?;
         }
         Ok(())
@@ -94,10 +128,11 @@ impl World {
         from: usize,
         to: usize,
         taken: usize,
-    ) -> Result<usize, AllocError>
+    ) -> Result<usize, WorldFault>
         requires from_below { from < length self.old.nodes.items }
         requires to_below { to < length self.old.nodes.items }
         ensures ids { ids_of self.new ≡ ids_of self.old }
+        ensures counts { (z : Calming) (a b : Id) → Holds circuit z.world self.old.nodes.items → IsAt self.old.nodes.items from a → IsAt self.old.nodes.items to b → z.taken a b ≡ taken → Counts result self.old.events self.new.events (length z.happened) (length (pair_turn circuit z a b).happened) }
         ensures count { (z : Calming) (a b : Id) → Holds circuit z.world self.old.nodes.items → IsAt self.old.nodes.items from a → IsAt self.old.nodes.items to b → z.taken a b ≡ taken → IfOk result (λ k. k ≡ (pair_turn circuit z a b).taken a b) }
         ensures moves { (z : Calming) (a b : Id) → IsAt self.old.nodes.items from a → IsAt self.old.nodes.items to b → z.taken a b ≡ taken → OnOk result (Moves circuit (λ m. (pair_turn circuit (record z { world = m }) a b).world) self.old.nodes.items self.new.nodes.items) }
     {
@@ -119,11 +154,12 @@ impl World {
         circuit: CircuitId,
         from: usize,
         row: &mut Vec<usize>,
-    ) -> Result<(), AllocError>
+    ) -> Result<(), WorldFault>
         requires below { from < length self.old.nodes.items }
         requires wide { length row.old.items ≡ length self.old.nodes.items }
         ensures ids { ids_of self.new ≡ ids_of self.old }
         ensures wide { length row.new.items ≡ length row.old.items }
+        ensures counts { (z : Calming) (a : Id) → Holds circuit z.world self.old.nodes.items → IsAt self.old.nodes.items from a → row.old.items ≡ row_of z.taken a (ids_of self.old) → Counts result self.old.events self.new.events (length z.happened) (length (to_all circuit z a (ids_of self.old)).happened) }
         ensures own { (z : Calming) (a : Id) → Holds circuit z.world self.old.nodes.items → IsAt self.old.nodes.items from a → row.old.items ≡ row_of z.taken a (ids_of self.old) → OnOk result (Holds circuit (to_all circuit z a (ids_of self.old)).world self.new.nodes.items × (row.new.items ≡ row_of (to_all circuit z a (ids_of self.old)).taken a (ids_of self.old))) }
         ensures others { OnOk result (Spares circuit self.old.nodes.items self.new.nodes.items) }
     {
@@ -139,10 +175,11 @@ impl World {
         alloc: Global,
         circuit: CircuitId,
         rows: &mut Vec<Vec<usize>>,
-    ) -> Result<(), AllocError>
+    ) -> Result<(), WorldFault>
         requires square { IsSquare (length self.old.nodes.items) rows.old.items }
         ensures ids { ids_of self.new ≡ ids_of self.old }
         ensures square { IsSquare (length self.old.nodes.items) rows.new.items }
+        ensures counts { (z : Calming) → Holds circuit z.world self.old.nodes.items → AreRows z.taken (ids_of self.old) rows.old.items → Counts result self.old.events self.new.events (length z.happened) (length (from_all circuit z (ids_of self.old) (ids_of self.old)).happened) }
         ensures own { (z : Calming) → Holds circuit z.world self.old.nodes.items → AreRows z.taken (ids_of self.old) rows.old.items → OnOk result (Holds circuit (from_all circuit z (ids_of self.old) (ids_of self.old)).world self.new.nodes.items × AreRows (from_all circuit z (ids_of self.old) (ids_of self.old)).taken (ids_of self.old) rows.new.items) }
         ensures others { OnOk result (Spares circuit self.old.nodes.items self.new.nodes.items) }
     {
@@ -152,36 +189,47 @@ impl World {
         Ok(())
     }
 
-    // A pass: the ticks, and then the turns of all pairs.
+    // A pass: the ticks, and then the turns of all pairs. Answers whether there was anything to do.
     fn pass(
         &mut self,
         alloc: Global,
         circuit: CircuitId,
         rows: &mut Vec<Vec<usize>>,
-    ) -> Result<(), AllocError>
+    ) -> Result<bool, WorldFault>
         requires square { IsSquare (length self.old.nodes.items) rows.old.items }
         ensures ids { ids_of self.new ≡ ids_of self.old }
         ensures square { IsSquare (length self.old.nodes.items) rows.new.items }
+        ensures counts { (z : Calming) → Holds circuit z.world self.old.nodes.items → AreRows z.taken (ids_of self.old) rows.old.items → Counts result self.old.events self.new.events (length z.happened) (length (pass circuit (ids_of self.old) z).happened) }
+        ensures quiet { (z : Calming) → Holds circuit z.world self.old.nodes.items → AreRows z.taken (ids_of self.old) rows.old.items → IfOk result (λ moved. moved ≡ false → IsQuiet circuit (ids_of self.old) z) }
         ensures own { (z : Calming) → Holds circuit z.world self.old.nodes.items → AreRows z.taken (ids_of self.old) rows.old.items → OnOk result (Holds circuit (pass circuit (ids_of self.old) z).world self.new.nodes.items × AreRows (pass circuit (ids_of self.old) z).taken (ids_of self.old) rows.new.items) }
         ensures others { OnOk result (Spares circuit self.old.nodes.items self.new.nodes.items) }
     {
-        self.tick_all(alloc, circuit)?;
-        self.from_all(alloc, circuit, rows)
+        let moved = self.tick_all(alloc, circuit)?;
+        let ticked = self.events.count();
+        self.from_all(alloc, circuit, rows)?;
+        let delivered = self.events.grew_since(ticked);
+        Ok(moved | delivered)
     }
 
-    // So many passes. After want of memory the world is done.
+    // So many passes. Behind one in which there was nothing to do the others have its ticks alone,
+    // which are counted. After an error the world is done.
     pub(crate) fn calm(
         &mut self,
         alloc: Global,
         circuit: CircuitId,
         passes: u8,
-    ) -> Result<(), AllocError>
+    ) -> Result<(), WorldFault>
         ensures ids { ids_of self.new ≡ ids_of self.old }
+        ensures counts { (m : CircuitWorld) → Holds circuit m self.old.nodes.items → Counts result self.old.events self.new.events 0 (length (calm circuit m passes).happened) }
         ensures moves { OnOk result (Moves circuit (λ m. (calm circuit m passes).world) self.old.nodes.items self.new.nodes.items) }
     {
         let mut rows = self.rows(alloc, &circuit)?;
-        for _ in 0..passes {
-            self.pass(alloc, circuit, &mut rows)?;
+        for done in 0..passes {
+            let before = self.events.count();
+            if !self.pass(alloc, circuit, &mut rows)? {
+                let ticks = self.events.count().saturating_sub(before);
+                return self.events.add(ticks * (passes - done - 1) as u32);
+            }
         }
         Ok(())
     }

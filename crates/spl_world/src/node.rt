@@ -53,6 +53,9 @@ fn handle_at(place: &mut Place, alloc: Global, event: &Event) -> Result<Answer, 
     ensures answer { IfOk result (λ a. a ≡ (plan_of place.old.site place.old.state event.now).answer) }
     ensures done { OnOk result (IsDone place.old.site.here (plan_of place.old.site place.old.state event.now) place.old place.new) }
 {
+    if matches!(event, Event::Root) {
+        place.renew();
+    }
     let plan = place.plan(alloc, event)?;
     place.carry_out(alloc, &plan)?;
     Ok(plan.answer)

@@ -54,6 +54,13 @@ impl Place {
         self.cell.plan(alloc, event)
     }
 
+    /// Keeps the digests of the state anew, so that telling its root costs nothing.
+    pub fn renew(&mut self)
+        ensures { self.new ≡ self.old }
+    {
+        self.cell.renew();
+    }
+
     /// Makes the changes and the moves of a plan, and sends its messages. An error comes for want of
     /// memory alone; what was kept is lost then.
     pub fn carry_out(&mut self, alloc: Global, plan: &Plan) -> Result<(), AllocError>

@@ -1,5 +1,5 @@
 //! A line of a schedule in the world.
-ghost use Rattle.std.specs.Prelude.{◌≡◌, ◌++◌, ◌∷◌, [], List, true, false, IsTrue, IfOk, OnOk, OnErr};
+ghost use Rattle.std.specs.Prelude.{◌≡◌, ◌++◌, ◌∷◌, [], ℕ, ◌<◌, ◌≤◌, List, true, false, IsTrue, IfOk, OnOk, OnErr, IsErrOf};
 ghost use Rattle.std.specs.List.{list_all};
 ghost use Rattle.spl_circuit.specs.Nodes.{has_node};
 ghost use Rattle.spl_model.specs.Projection.{Ran};
@@ -8,9 +8,12 @@ ghost use Rattle.spl_sched.specs.Grammar.{nodes_of, step_nodes, step_circuit, is
 ghost use Rattle.spl_sched.specs.Taken.{is_taken};
 ghost use Rattle.spl_model.specs.Worlds.{World as CircuitWorld, step_plan, step_world};
 ghost use Rattle.spl_model.specs.Answers.{answer_to};
+ghost use Rattle.spl_model.specs.Counts.{events_of};
 ghost use Rattle.spl_world.specs.Views.{Holds, Moves, Stands, Stays, ids_of, is_halted};
 
+use crate::fault::WorldFault;
 use crate::world::World;
+use spl_model::MOST_EVENTS;
 use spl_sched::{Line, Step};
 use spl_wire::{Answer, Refusal};
 use std::alloc::{AllocError, Global};
@@ -21,6 +24,7 @@ impl World {
         requires known { list_all (has_node (ids_of self.old)) (step_nodes step.now) ≡ true }
         requires fits { is_step step.now ≡ true }
         ensures ids { ids_of self.new ≡ ids_of self.old }
+        ensures events { self.new.events ≡ self.old.events }
         ensures answer { (m : CircuitWorld) → Holds (step_circuit step.now) m self.old.nodes.items → IfOk result (λ a. a ≡ (step_plan m step.now).answer) }
         ensures moves { OnOk result (Moves (step_circuit step.now) (λ m. step_world m step.now) self.old.nodes.items self.new.nodes.items) }
     {
@@ -53,9 +57,10 @@ impl World {
         }
     }
 
-    /// Runs a line and answers it. `before` are the lines that ran so far. An error comes for want of
-    /// memory alone, and the world is halted then.
-    pub fn step(&mut self, alloc: Global, line: &Line) -> Result<Answer, AllocError>
+    /// Runs a line and answers it. `before` are the lines that ran so far. `TooMany` comes exactly
+    /// where the events of these lines and of this one are more than `MOST_EVENTS`, and is about
+    /// them; any other error is want of memory. After an error the world is halted.
+    pub fn step(&mut self, alloc: Global, line: &Line) -> Result<Answer, WorldFault>
         requires running { is_halted self.old ≡ false }
         requires known { IsTrue (list_all (has_node (ids_of self.old)) (nodes_of line.now)) }
         requires fits { IsTrue (is_line line.now) }
@@ -63,6 +68,8 @@ impl World {
         ensures ids { ids_of self.new ≡ ids_of self.old }
         ensures answer { (before : List Ran) → Stands before self.old → IfOk result (λ a. a ≡ answer_to (ids_of self.old) before (by_rule line.now)) }
         ensures stands { (before : List Ran) → Stands before self.old → OnOk result (Stands (before ++ by_rule line.now ∷ []) self.new) }
+        ensures few { (before : List Ran) → Stands before self.old → OnOk result (events_of (ids_of self.old) (before ++ by_rule line.now ∷ []) ≤ MOST_EVENTS) }
+        ensures many { (before : List Ran) (which : ℕ) → Stands before self.old → IsErrOf result (WorldFault.TooMany which) → (which ≡ 1) × (MOST_EVENTS < events_of (ids_of self.old) (before ++ by_rule line.now ∷ [])) }
         // Where a line is refused, whatever the refusal, no node keeps anything else, and nothing is
         // sent.
         ensures refused { (why : Refusal) → IfOk result (λ a. a ≡ Answer.Refused why → Stays self.old.nodes.items self.new.nodes.items) }
@@ -70,23 +77,28 @@ impl World {
         ensures halted { OnErr result (is_halted self.new ≡ true) }
     {
         let answered = self.run_line(alloc, line);
+        self.events.are_within();
         let failed = answered.is_err();
         self.halted = failed;
         answered
     }
 
     // Runs a line, whether the world is halted or not.
-    fn run_line(&mut self, alloc: Global, line: &Line) -> Result<Answer, AllocError>
+    fn run_line(&mut self, alloc: Global, line: &Line) -> Result<Answer, WorldFault>
         requires known { IsTrue (list_all (has_node (ids_of self.old)) (nodes_of line.now)) }
         requires fits { IsTrue (is_line line.now) }
         requires taken { is_taken line.now ≡ true }
         ensures ids { ids_of self.new ≡ ids_of self.old }
         ensures answer { (before : List Ran) → Stands before self.old → IfOk result (λ a. a ≡ answer_to (ids_of self.old) before (by_rule line.now)) }
         ensures stands { (before : List Ran) → Stands before self.old → OnOk result (Stands (before ++ by_rule line.now ∷ []) self.new) }
+        ensures many { (before : List Ran) (which : ℕ) → Stands before self.old → IsErrOf result (WorldFault.TooMany which) → (which ≡ 1) × (MOST_EVENTS < events_of (ids_of self.old) (before ++ by_rule line.now ∷ [])) }
         ensures refused { (why : Refusal) → IfOk result (λ a. a ≡ Answer.Refused why → Stays self.old.nodes.items self.new.nodes.items) }
     {
         match line {
-            Line::Step(step) => self.run(alloc, step),
+            Line::Step(step) => {
+                self.events.add(1)?;
+                Ok(self.run(alloc, step)?)
+            }
             Line::Calm { circuit, passes } => {
                 self.calm(alloc, *circuit, *passes)?;
                 Ok(Answer::Calm { passes: *passes })

@@ -11,17 +11,19 @@ ghost use Rattle.spl_rules.specs.Valid.{IsFor};
 ghost use Rattle.spl_model.specs.Worlds.{site_at, World as CircuitWorld, messages, carried_out, step_plan, step_world};
 ghost use Rattle.spl_world.specs.Views.{Holds, IsAt, IsUp, Moves, Stands, has_id, ids_of, is_halted, ups_of};
 
+use crate::events::Events;
 use crate::node::Node;
 use spl_base::{Boxed, CircuitId, NodeId};
 use spl_wire::{Answer, Event, Message, Refusal};
 use std::alloc::{AllocError, Global};
 
 /// The nodes of a run, in the order of their ids. Each keeps its cells, and what it sent, by
-/// itself. The world is halted where a line found no memory: what was kept may be lost then, and
-/// nothing more may be asked.
+/// itself. Beside them is how many events ran. The world is halted where a line found no memory or
+/// no room for an event: what was kept may be lost then, and nothing more may be asked.
 #[derive(Drop)]
 pub struct World {
     nodes: Vec<Node>,
+    pub(crate) events: Events,
     pub(crate) halted: bool,
 }
 
@@ -52,11 +54,19 @@ impl World {
         }
         Ok(World {
             nodes,
+            events: Events::new(),
             halted: false,
         })
     }
 
-    /// Whether a line found no memory.
+    /// How many events ran.
+    pub fn events(&self) -> u32
+        ensures { result ≡ self.now.events }
+    {
+        self.events.count()
+    }
+
+    /// Whether a line has no answer.
     pub fn is_halted(&self) -> bool
         ensures { result ≡ is_halted self.now }
     {
@@ -91,6 +101,7 @@ impl World {
         requires own { (n : Id) → IsAt self.old.nodes.items slot n → IsFor (site_at n circuit) event.now }
         ensures ids { ids_of self.new ≡ ids_of self.old }
         ensures ups { ups_of self.new ≡ ups_of self.old }
+        ensures events { self.new.events ≡ self.old.events }
         ensures answer { (m : CircuitWorld) (n : Id) → Holds circuit m self.old.nodes.items → IsAt self.old.nodes.items slot n → IfOk result (λ a. a ≡ (plan_of (site_at n circuit) (m.at n) event.now).answer) }
         ensures moves { (n : Id) → IsAt self.old.nodes.items slot n → OnOk result (Moves circuit (λ m. carried_out m n (plan_of (site_at n circuit) (m.at n) event.now)) self.old.nodes.items self.new.nodes.items) }
     {
@@ -155,6 +166,7 @@ impl World {
         requires up { IsUp self.old.nodes.items to }
         ensures ids { ids_of self.new ≡ ids_of self.old }
         ensures ups { ups_of self.new ≡ ups_of self.old }
+        ensures events { self.new.events ≡ self.old.events }
         ensures answer { (m : CircuitWorld) (a b : Id) → Holds circuit m self.old.nodes.items → IsAt self.old.nodes.items from a → IsAt self.old.nodes.items to b → IfOk result (λ r. r ≡ (step_plan m (step.Deliver a b circuit (index + 1))).answer) }
         ensures moves { (a b : Id) → IsAt self.old.nodes.items from a → IsAt self.old.nodes.items to b → OnOk result (Moves circuit (λ m. step_world m (step.Deliver a b circuit (index + 1))) self.old.nodes.items self.new.nodes.items) }
     {

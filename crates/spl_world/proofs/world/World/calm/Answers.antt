@@ -1,40 +1,104 @@
-use Rattle.std.proofs.Common.{◌≡◌, ◌∙◌, ap, sym, subst, ℕ, List, arith, refl}
+use Rattle.std.proofs.Common.{◌≡◌, ◌+◌, ◌-◌, ◌≤◌, ◌∙◌, ap, sym, subst, ℕ, Bool, List, length, arith, refl}
 use Rattle.spl_circuit.specs.Nodes.{NodeId, sorted}
-use Rattle.spl_model.specs.Calm.{Calming, pass, passes, calming}
+use Rattle.spl_model.specs.Calm.{Calming, pass, passes, calming, calm}
+use Rattle.spl_model.specs.Worlds.{World as CircuitWorld}
+use Rattle.spl_model.specs.Quiet.{IsQuiet}
 use Rattle.spl_world.specs.Calms.{AreRows, IsSquare}
 use Rattle.spl_world.specs.Views.{Holds, ids_of}
-use Rattle.spl_world.proofs.Calms.{passes_next, sorted_already}
+use Rattle.spl_world.specs.Counts.{Counts}
+use Rattle.spl_world.proofs.Calms.{passes_next, passes_front, sorted_already}
+use Rattle.spl_world.proofs.Counting.{counts_done, counts_then, counts_failed, failed, counts_memory, counts_to, at_most}
+use Rattle.spl_world.proofs.Quieting.{calm_is, left_world, left_counts}
 use Rattle.spl_world.proofs.Composed.{spares_then}
+use Rattle.spl_world.proofs.Results.{on_ok}
 use Rattle.spl_world.proofs.Slots.{same_length}
 use Rattle.spl_world.proofs.world.World.calm.Goals as goal
 
 pub pass-requires : goal.pass-requires
-pass-requires c = record { square = subst (λ (n : ℕ). IsSquare n c.loop.rows.items) (sym c.loop.invariant.0) c.loop.invariant.2 }
+pass-requires c = record { square = subst (λ (n : ℕ). IsSquare n c.loop-done.rows.items) (sym c.loop-done.invariant.0) c.loop-done.invariant.2 }
 
-pub loop-preserved : goal.loop-preserved
-loop-preserved c =
+pub loop-done-preserved : goal.loop-done-preserved
+loop-done-preserved c =
     let xs = c.args.self.now.nodes.items in
-    let ids = c.pass.ensures.ids ∙ c.loop.invariant.1 in (
+    let ids = c.pass.ensures.ids ∙ c.loop-done.invariant.1 in (
       same_length xs c.pass.new.self.nodes.items ids,
       ids,
-      subst (λ (n : ℕ). IsSquare n c.pass.new.rows.items) c.loop.invariant.0 c.pass.ensures.square,
+      subst (λ (n : ℕ). IsSquare n c.pass.new.rows.items) c.loop-done.invariant.0 c.pass.ensures.square,
       λ m h.
-          let so_far = c.loop.invariant.3 m h in
-          let y : Calming = passes c.args.circuit (ids_of c.args.self.now) c.loop.counter (calming m) in
-          let rows = subst (λ (ns : List NodeId). AreRows y.taken ns c.loop.rows.items) (sym c.loop.invariant.1) so_far.1 in
-          subst (λ (w : Calming). Holds c.args.circuit w.world c.pass.new.self.nodes.items × AreRows w.taken (ids_of c.args.self.now) c.pass.new.rows.items) (sym (passes_next c.args.circuit (ids_of c.args.self.now) c.loop.counter (calming m)))
-          (subst (λ (ns : List NodeId). Holds c.args.circuit (pass c.args.circuit ns y).world c.pass.new.self.nodes.items × AreRows (pass c.args.circuit ns y).taken ns c.pass.new.rows.items) c.loop.invariant.1 (c.in_ok-pass.ensures.own y so_far.0 rows)),
-      spares_then c.args.circuit xs c.loop.self.nodes.items c.pass.new.self.nodes.items c.loop.invariant.4 c.in_ok-pass.ensures.others,
+          let so_far = c.loop-done.invariant.3 m h in
+          let y : Calming = passes c.args.circuit (ids_of c.args.self.now) c.loop-done.done (calming m) in
+          let rows = subst (λ (ns : List NodeId). AreRows y.taken ns c.loop-done.rows.items) (sym c.loop-done.invariant.1) so_far.1 in
+          subst (λ (w : Calming). Holds c.args.circuit w.world c.pass.new.self.nodes.items × AreRows w.taken (ids_of c.args.self.now) c.pass.new.rows.items) (sym (passes_next c.args.circuit (ids_of c.args.self.now) c.loop-done.done (calming m)))
+          (subst (λ (ns : List NodeId). Holds c.args.circuit (pass c.args.circuit ns y).world c.pass.new.self.nodes.items × AreRows (pass c.args.circuit ns y).taken ns c.pass.new.rows.items) c.loop-done.invariant.1 (c.in_ok-pass.ensures.own y so_far.0 rows)),
+      spares_then c.args.circuit xs c.loop-done.self.nodes.items c.pass.new.self.nodes.items c.loop-done.invariant.4 c.in_ok-pass.ensures.others,
+      λ m h.
+          let so_far = c.loop-done.invariant.3 m h in
+          let y : Calming = passes c.args.circuit (ids_of c.args.self.now) c.loop-done.done (calming m) in
+          let rows = subst (λ (ns : List NodeId). AreRows y.taken ns c.loop-done.rows.items) (sym c.loop-done.invariant.1) so_far.1 in
+          let next : length (passes c.args.circuit (ids_of c.args.self.now) (c.loop-done.done + 1) (calming m)).happened ≡ length (pass c.args.circuit (ids_of c.args.self.now) y).happened = ap (λ (w : Calming). length w.happened) (passes_next c.args.circuit (ids_of c.args.self.now) c.loop-done.done (calming m)) in
+          let counts = subst (λ (ns : List NodeId). c.pass.new.self.events + length y.happened ≡ c.loop-done.self.events + length (pass c.args.circuit ns y).happened) c.loop-done.invariant.1 (c.in_ok-pass.ensures.counts y so_far.0 rows).ok in
+          omega (arith, next, c.loop-done.invariant.5 m h, counts),
     )
 
 pub returns-clause-moves : goal.returns-clause-moves
 returns-clause-moves c =
-    let all : c.loop.counter ≡ c.args.passes = omega (arith, c.loop.auto, c.loop-test.false) in
+    let all : c.loop-done.done ≡ c.args.passes = omega (arith, c.loop-done.auto, c.loop-done-test.false) in
     record {
-      own = λ m h. subst (λ (ns : List NodeId). Holds c.args.circuit (passes c.args.circuit ns c.args.passes (calming m)).world c.loop.self.nodes.items) (sym (ap sorted h.nodes ∙ sorted_already (ids_of c.args.self.now) h.ordered))
-          (subst (λ (k : ℕ). Holds c.args.circuit (passes c.args.circuit (ids_of c.args.self.now) k (calming m)).world c.loop.self.nodes.items) all (c.loop.invariant.3 m h).0);
-      others = c.loop.invariant.4;
+      own = λ m h. subst (λ (ns : List NodeId). Holds c.args.circuit (passes c.args.circuit ns c.args.passes (calming m)).world c.loop-done.self.nodes.items) (sym (ap sorted h.nodes ∙ sorted_already (ids_of c.args.self.now) h.ordered))
+          (subst (λ (k : ℕ). Holds c.args.circuit (passes c.args.circuit (ids_of c.args.self.now) k (calming m)).world c.loop-done.self.nodes.items) all (c.loop-done.invariant.3 m h).0);
+      others = c.loop-done.invariant.4;
     }
 
-pub loop-init : goal.loop-init
-loop-init c = (refl, refl, c.in_ok-rows.ensures.square, λ m h. (h, c.in_ok-rows.ensures.counts m h), λ d m off h. h)
+pub loop-done-init : goal.loop-done-init
+loop-done-init c = (refl, refl, c.in_ok-rows.ensures.square, λ m h. (h, c.in_ok-rows.ensures.counts m h), λ d m off h. h, λ m h. refl)
+
+-- ---- how many events
+
+pub returns-in_err-rows-clause-counts : goal.returns-in_err-rows-clause-counts
+returns-in_err-rows-clause-counts c = λ m h. counts_memory c.from_residual.result c.from_residual.ensures _ _ 0 (length (calm c.args.circuit m c.args.passes).happened)
+
+pub returns-in_err-pass-clause-counts : goal.returns-in_err-pass-clause-counts
+returns-in_err-pass-clause-counts c = λ m h.
+    let ids = ids_of c.args.self.now in
+    let so_far = c.loop-done.invariant.3 m h in
+    let y : Calming = passes c.args.circuit ids c.loop-done.done (calming m) in
+    let rows = subst (λ (ns : List NodeId). AreRows y.taken ns c.loop-done.rows.items) (sym c.loop-done.invariant.1) so_far.1 in
+    let next : length (passes c.args.circuit ids (c.loop-done.done + 1) (calming m)).happened ≡ length (pass c.args.circuit ids y).happened = ap (λ (w : Calming). length w.happened) (passes_next c.args.circuit ids c.loop-done.done (calming m)) in
+    let counts = subst (λ (ns : List NodeId). Counts (failed Bool c.in_err-pass.field-0.0) c.loop-done.self.events c.pass.new.self.events (length y.happened) (length (pass c.args.circuit ns y).happened)) c.loop-done.invariant.1 (c.in_err-pass.ensures.counts y so_far.0 rows) in
+    let most : c.loop-done.done + 1 ≤ c.args.passes = omega (arith, c.loop-done-test.true) in
+    let whole = subst (λ (w : Calming). length (pass c.args.circuit ids y).happened ≤ length w.happened) (calm_is c.args.circuit m c.args.self.now.nodes.items c.args.passes h) (at_most _ _ _ next (passes_front c.args.circuit ids (c.loop-done.done + 1) c.args.passes (calming m) most)) in
+    counts_failed c.from_residual-in_err-pass.result _ c.from_residual-in_err-pass.ensures c.args.self.now.events _ _ 0 _ _ (counts_then _ c.args.self.now.events c.loop-done.self.events _ 0 (length y.happened) _ (c.loop-done.invariant.5 m h) counts) whole
+
+pub returns-clause-counts : goal.returns-clause-counts
+returns-clause-counts c = λ m h.
+    let all : c.loop-done.done ≡ c.args.passes = omega (arith, c.loop-done.auto, c.loop-done-test.false) in
+    counts_done _ c.args.self.now.events c.loop-done.self.events 0 _
+    (subst (λ (w : Calming). c.loop-done.self.events + 0 ≡ c.args.self.now.events + length w.happened) (calm_is c.args.circuit m c.args.self.now.nodes.items c.args.passes h)
+    (subst (λ (k : ℕ). c.loop-done.self.events + 0 ≡ c.args.self.now.events + length (passes c.args.circuit (ids_of c.args.self.now) k (calming m)).happened) all (c.loop-done.invariant.5 m h)))
+
+-- ---- behind a quiet pass
+
+pub returns-then-not-branch-clause-counts : goal.returns-then-not-branch-clause-counts
+returns-then-not-branch-clause-counts c = λ m h.
+    let ids = ids_of c.args.self.now in
+    let so_far = c.loop-done.invariant.3 m h in
+    let y : Calming = passes c.args.circuit ids c.loop-done.done (calming m) in
+    let rows = subst (λ (ns : List NodeId). AreRows y.taken ns c.loop-done.rows.items) (sym c.loop-done.invariant.1) so_far.1 in
+    let quiet : IsQuiet c.args.circuit ids y = subst (λ (ns : List NodeId). IsQuiet c.args.circuit ns y) c.loop-done.invariant.1 (c.in_ok-pass.ensures.quiet y so_far.0 rows c.if-not-branch.true) in
+    let passed = subst (λ (ns : List NodeId). c.pass.new.self.events + length y.happened ≡ c.loop-done.self.events + length (pass c.args.circuit ns y).happened) c.loop-done.invariant.1 (c.in_ok-pass.ensures.counts y so_far.0 rows).ok in
+    let ticks : c.saturating_sub-ticks.result ≡ c.pass.new.self.events - c.loop-done.self.events = omega (arith, c.saturating_sub-ticks.ensures, c.count.ensures.count, c.count-before.ensures.count) in
+    counts_to c.add.result c.args.self.now.events _ 0 _ _ (ap (λ (w : Calming). length w.happened) (calm_is c.args.circuit m c.args.self.now.nodes.items c.args.passes h))
+    (left_counts c.args.circuit ids (calming m) c.loop-done.done c.args.passes c.loop-done-test.true quiet c.add.result c.args.self.now.events c.loop-done.self.events c.pass.new.self.events _ c.saturating_sub-ticks.result ((c.args.passes - c.loop-done.done) - 1) refl (c.loop-done.invariant.5 m h) passed ticks c.add.ensures.counts)
+
+pub returns-then-not-branch-clause-moves : goal.returns-then-not-branch-clause-moves
+returns-then-not-branch-clause-moves c = on_ok c.add.result (record {
+  own = λ m h.
+      let ids = ids_of c.args.self.now in
+      let so_far = c.loop-done.invariant.3 m h in
+      let y : Calming = passes c.args.circuit ids c.loop-done.done (calming m) in
+      let rows = subst (λ (ns : List NodeId). AreRows y.taken ns c.loop-done.rows.items) (sym c.loop-done.invariant.1) so_far.1 in
+      let quiet : IsQuiet c.args.circuit ids y = subst (λ (ns : List NodeId). IsQuiet c.args.circuit ns y) c.loop-done.invariant.1 (c.in_ok-pass.ensures.quiet y so_far.0 rows c.if-not-branch.true) in
+      let behind = subst (λ (ns : List NodeId). Holds c.args.circuit (pass c.args.circuit ns y).world c.pass.new.self.nodes.items) c.loop-done.invariant.1 (c.in_ok-pass.ensures.own y so_far.0 rows).0 in
+      subst (λ (w : CircuitWorld). Holds c.args.circuit w c.pass.new.self.nodes.items) (sym (left_world c.args.circuit ids (calming m) c.loop-done.done c.args.passes c.loop-done-test.true quiet) ∙ ap (λ (w : Calming). w.world) (calm_is c.args.circuit m c.args.self.now.nodes.items c.args.passes h)) behind;
+  others = spares_then c.args.circuit c.args.self.now.nodes.items c.loop-done.self.nodes.items c.pass.new.self.nodes.items c.loop-done.invariant.4 c.in_ok-pass.ensures.others;
+})

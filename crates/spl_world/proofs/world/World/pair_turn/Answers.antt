@@ -1,9 +1,11 @@
-use Rattle.std.proofs.Common.{◌+◌, ◌-◌, ◌∙◌, ap, sym, length}
+use Rattle.std.proofs.Common.{◌≡◌, ◌+◌, ◌-◌, true, false, ◌∙◌, ap, sym, refl, length, arith}
+use Rattle.spl_model.specs.Worlds.{messages}
 use Rattle.spl_model.specs.Calm.{Calming, pair_turn}
 use Rattle.spl_world.proofs.Composed.{moves_nothing}
+use Rattle.spl_world.proofs.Counting.{counts_none, counts_done, counts_more, counts_failed, counts_to, at_least}
 use Rattle.spl_world.proofs.Delivery.{moves_as}
 use Rattle.spl_world.proofs.Reading.{no_messages}
-use Rattle.spl_world.proofs.Turns.{delivered, same_turn, turn_is, turn_none, turn_taken}
+use Rattle.spl_world.proofs.Turns.{delivered, same_turn, turn_is, turn_none, turn_taken, turns_count, none_delivered}
 use Rattle.spl_world.proofs.world.World.pair_turn.Goals as goal
 
 -- the recipient is down
@@ -40,3 +42,29 @@ returns-clause-moves c = λ z a b at to e.
     let xs = c.args.self.now.nodes.items in
     moves_as c.args.circuit (delivered c.args.circuit z a b (c.args.taken + 1) (c.count-all.result - c.args.taken)) (λ m. (pair_turn c.args.circuit (record z { world = m }) a b).world) xs c.deliver_from.new.self.nodes.items
     (λ m h. turn_is c.args.circuit z a b m c.args.taken c.count-all.result e (c.count-all.ensures m a b h at to) (sym (c.is_up.ensures.world c.args.circuit m b h to) ∙ c.if-not-is_up.false)) (c.in_ok-deliver_from.ensures.moves z a b at to)
+
+-- ---- how many deliveries
+
+pub returns-then-not-is_up-clause-counts : goal.returns-then-not-is_up-clause-counts
+returns-then-not-is_up-clause-counts c = λ z a b h at to e.
+    let down : z.world.up b ≡ false = sym (c.is_up.ensures.world c.args.circuit z.world b h to) ∙ c.if-not-is_up.true in
+    counts_to _ c.args.self.now.events c.args.self.now.events (length z.happened) (length z.happened) _ (sym (ap (λ (y : Calming). length y.happened) (turn_none c.args.circuit z a b down))) (counts_none _ c.args.self.now.events (length z.happened))
+
+pub returns-then-is_same-clause-counts : goal.returns-then-is_same-clause-counts
+returns-then-is_same-clause-counts c = λ z a b h at to e.
+    let none : length (messages z.world a b) ≡ 0 = ap length (no_messages z.world a b (sym (c.is_same.ensures a b at to) ∙ c.if-is_same.true)) in
+    let up : z.world.up b ≡ true = sym (c.is_up.ensures.world c.args.circuit z.world b h to) ∙ c.if-not-is_up.false in
+    counts_to _ c.args.self.now.events c.args.self.now.events (length z.happened) (length z.happened) _ (none_delivered (length z.happened) c.args.taken _ (turns_count c.args.circuit z a b 0 c.args.taken up none e)) (counts_none _ c.args.self.now.events (length z.happened))
+
+pub returns-in_err-deliver_from-clause-counts : goal.returns-in_err-deliver_from-clause-counts
+returns-in_err-deliver_from-clause-counts c = λ z a b h at to e.
+    let up : z.world.up b ≡ true = sym (c.is_up.ensures.world c.args.circuit z.world b h to) ∙ c.if-not-is_up.false in
+    let all : length (messages z.world a b) ≡ c.count-all.result = sym (c.count-all.ensures z.world a b h at to) in
+    counts_failed c.from_residual.result _ c.from_residual.ensures c.args.self.now.events _ _ (length z.happened) _ _ (counts_more _ c.args.self.now.events c.args.self.now.events _ (length z.happened) (length z.happened) (c.count-all.result - c.args.taken) refl c.in_err-deliver_from.ensures.counts) (at_least _ _ (turns_count c.args.circuit z a b c.count-all.result c.args.taken up all e))
+
+pub returns-clause-counts : goal.returns-clause-counts
+returns-clause-counts c = λ z a b h at to e.
+    let up : z.world.up b ≡ true = sym (c.is_up.ensures.world c.args.circuit z.world b h to) ∙ c.if-not-is_up.false in
+    let all : length (messages z.world a b) ≡ c.count-all.result = sym (c.count-all.ensures z.world a b h at to) in
+    let done = c.in_ok-deliver_from.ensures.counts.ok in
+    counts_done _ c.args.self.now.events c.deliver_from.new.self.events (length z.happened) _ (omega (arith, done, turns_count c.args.circuit z a b c.count-all.result c.args.taken up all e))

@@ -1,7 +1,8 @@
 use Rattle.std.proofs.Common.{◌++◌, ◌∷◌, []}
 use Rattle.spl_model.specs.Outcomes.{by_rule}
+use Rattle.spl_world.specs.Views.{ids_of}
 use Rattle.spl_world.proofs.Results.{at_ok, ok_is, err_is}
-use Rattle.spl_world.proofs.Standing.{stands_still}
+use Rattle.spl_world.proofs.Standing.{stands_still, within_line}
 use Rattle.spl_world.proofs.world.World.step.Goals as goal
 
 pub returns-clause-stands : goal.returns-clause-stands
@@ -12,3 +13,6 @@ returns-clause-running c = ok_is c.run_line-answered.result c.is_err-failed.resu
 
 pub returns-clause-halted : goal.returns-clause-halted
 returns-clause-halted c = err_is c.run_line-answered.result c.is_err-failed.result c.is_err-failed.ensures.value
+
+pub returns-clause-few : goal.returns-clause-few
+returns-clause-few c = λ before stands. at_ok c.run_line-answered.result (λ standing. within_line (before ++ by_rule c.args.line.now ∷ []) c.run_line-answered.new.self (ids_of c.args.self.now) c.run_line-answered.ensures.ids standing c.are_within.ensures) (c.run_line-answered.ensures.stands before stands)

@@ -1,9 +1,16 @@
-use Rattle.std.proofs.Common.{◌≤◌, ℕ, ◌∙◌, ap, sym, subst, slice_get, List}
+use Rattle.std.proofs.Common.{◌≡◌, ◌+◌, ◌≤◌, ℕ, ◌∙◌, ap, sym, subst, take, length, slice_get, Some, List, arith}
+use Rattle.std.specs.List.{AllByRecursion}
 use Rattle.std.proofs.lemmas.List.{take_all}
 use Rattle.spl_circuit.specs.Nodes.{NodeId}
+use Rattle.spl_model.specs.Worlds.{World as CircuitWorld}
+use Rattle.spl_model.specs.Calm.{Calming, open_nodes}
+use Rattle.spl_model.specs.Quiet.{IsIdleAt}
+use Rattle.spl_world.specs.Calms.{tick_count}
 use Rattle.spl_world.specs.Views.{Moves, ids_of}
-use Rattle.spl_world.proofs.Slots.{some_at, same_length, length_ids}
-use Rattle.spl_world.proofs.Ticking.{ticked, tick_moves}
+use Rattle.spl_world.proofs.Counting.{counts_done, counts_more, counts_failed, at_most}
+use Rattle.spl_world.proofs.Slots.{some_at, same_length, length_ids, not_before}
+use Rattle.spl_world.proofs.Ticking.{ticked, tick_moves, count_more, idle_more, open_front, or_false}
+use Rattle.spl_world.proofs.Turns.{some_calming}
 use Rattle.spl_world.proofs.world.World.tick_all.Goals as goal
 
 pub loop-slot-preserved : goal.loop-slot-preserved
@@ -13,10 +20,46 @@ loop-slot-preserved c =
       c.tick.ensures.ids ∙ c.loop-slot.invariant.1,
       λ z.
           let n = some_at xs c.loop-slot.slot (rw (c.len-slot-end.ensures) at c.loop-slot-test.true) in
-          tick_moves c.args.circuit z xs c.loop-slot.self.nodes.items c.tick.new.self.nodes.items c.loop-slot.slot n.0 n.1 (c.loop-slot.invariant.2 z) (c.in_ok-tick.ensures.moves n.0 (ap (λ (ns : List NodeId). slice_get ns c.loop-slot.slot) c.loop-slot.invariant.1 ∙ n.1)),
+          tick_moves c.args.circuit z xs c.loop-slot.self.nodes.items c.tick.new.self.nodes.items c.loop-slot.slot n.0 n.1 (c.loop-slot.invariant.2 z) (c.in_ok-one.ensures.moves n.0 (ap (λ (ns : List NodeId). slice_get ns c.loop-slot.slot) c.loop-slot.invariant.1 ∙ n.1)),
+      λ m h.
+          let n = some_at xs c.loop-slot.slot (rw (c.len-slot-end.ensures) at c.loop-slot-test.true) in
+          let there : slice_get (ids_of c.loop-slot.self) c.loop-slot.slot ≡ Some n.0 = ap (λ (ns : List NodeId). slice_get ns c.loop-slot.slot) c.loop-slot.invariant.1 ∙ n.1 in
+          let z : Calming = some_calming 0 in
+          let w : CircuitWorld = ticked c.args.circuit z (take c.loop-slot.slot (ids_of c.args.self.now)) m in
+          let one = (c.in_ok-one.ensures.counts w n.0 ((c.loop-slot.invariant.2 z).own m h) there).ok in
+          omega (arith, c.loop-slot.invariant.3 m h, one, count_more c.args.circuit z (ids_of c.args.self.now) c.loop-slot.slot n.0 m n.1 (not_before (ids_of c.args.self.now) c.loop-slot.slot n.0 h.ordered n.1)),
+      λ m h still.
+          let n = some_at xs c.loop-slot.slot (rw (c.len-slot-end.ensures) at c.loop-slot-test.true) in
+          let there : slice_get (ids_of c.loop-slot.self) c.loop-slot.slot ≡ Some n.0 = ap (λ (ns : List NodeId). slice_get ns c.loop-slot.slot) c.loop-slot.invariant.1 ∙ n.1 in
+          let z : Calming = some_calming 0 in
+          let w : CircuitWorld = ticked c.args.circuit z (take c.loop-slot.slot (ids_of c.args.self.now)) m in
+          let b = or_false c.loop-slot.moved c.in_ok-one.one still in
+          idle_more c.args.circuit z (ids_of c.args.self.now) c.loop-slot.slot n.0 m n.1 (not_before (ids_of c.args.self.now) c.loop-slot.slot n.0 h.ordered n.1) (c.loop-slot.invariant.4 m h b.0)
+          (c.in_ok-one.ensures.idle w n.0 ((c.loop-slot.invariant.2 z).own m h) there b.1),
     )
 
 pub returns-clause-moves : goal.returns-clause-moves
 returns-clause-moves c = λ z.
     let xs = c.args.self.now.nodes.items in
     subst (λ (ns : List NodeId). Moves c.args.circuit (ticked c.args.circuit z ns) xs c.loop-slot.self.nodes.items) (take_all c.loop-slot.slot (ids_of c.args.self.now) (subst (λ (k : ℕ). k ≤ c.loop-slot.slot) (c.len-slot-end.ensures ∙ sym (length_ids xs)) c.loop-slot-test.false)) (c.loop-slot.invariant.2 z)
+
+pub returns-in_err-one-clause-counts : goal.returns-in_err-one-clause-counts
+returns-in_err-one-clause-counts c = λ m h.
+    let xs = c.args.self.now.nodes.items in
+    let n = some_at xs c.loop-slot.slot (rw (c.len-slot-end.ensures) at c.loop-slot-test.true) in
+    let there : slice_get (ids_of c.loop-slot.self) c.loop-slot.slot ≡ Some n.0 = ap (λ (ns : List NodeId). slice_get ns c.loop-slot.slot) c.loop-slot.invariant.1 ∙ n.1 in
+    let z : Calming = some_calming 0 in
+    let w : CircuitWorld = ticked c.args.circuit z (take c.loop-slot.slot (ids_of c.args.self.now)) m in
+    let so_far = counts_more _ c.args.self.now.events c.loop-slot.self.events c.tick.new.self.events 0 (length (open_nodes m (take c.loop-slot.slot (ids_of c.args.self.now)))) (tick_count w n.0) (c.loop-slot.invariant.3 m h)
+    (c.in_err-one.ensures.counts w n.0 ((c.loop-slot.invariant.2 z).own m h) there) in
+    counts_failed c.from_residual.result _ c.from_residual.ensures c.args.self.now.events _ _ 0 _ (length (open_nodes m (ids_of c.args.self.now))) so_far
+    (at_most _ _ _ (count_more c.args.circuit z (ids_of c.args.self.now) c.loop-slot.slot n.0 m n.1 (not_before (ids_of c.args.self.now) c.loop-slot.slot n.0 h.ordered n.1)) (open_front m (ids_of c.args.self.now) (c.loop-slot.slot + 1)))
+
+pub returns-clause-counts : goal.returns-clause-counts
+returns-clause-counts c = λ m h.
+    counts_done _ c.args.self.now.events c.loop-slot.self.events 0 (length (open_nodes m (ids_of c.args.self.now)))
+    (subst (λ (ns : List NodeId). c.loop-slot.self.events + 0 ≡ c.args.self.now.events + length (open_nodes m ns)) (take_all c.loop-slot.slot (ids_of c.args.self.now) (subst (λ (k : ℕ). k ≤ c.loop-slot.slot) (c.len-slot-end.ensures ∙ sym (length_ids c.args.self.now.nodes.items)) c.loop-slot-test.false)) (c.loop-slot.invariant.3 m h))
+
+pub returns-clause-idle : goal.returns-clause-idle
+returns-clause-idle c = λ m h still.
+    subst (λ (ns : List NodeId). AllByRecursion (IsIdleAt c.args.circuit m) (open_nodes m ns)) (take_all c.loop-slot.slot (ids_of c.args.self.now) (subst (λ (k : ℕ). k ≤ c.loop-slot.slot) (c.len-slot-end.ensures ∙ sym (length_ids c.args.self.now.nodes.items)) c.loop-slot-test.false)) (c.loop-slot.invariant.4 m h still)

@@ -1,12 +1,14 @@
-use Rattle.std.proofs.Common.{◌≡◌, ◌≤◌, ℕ, ◌∙◌, ap, sym, subst, refl, take, slice_get, get_or, Some, List}
+use Rattle.std.proofs.Common.{◌≡◌, ◌+◌, ◌≤◌, ℕ, ◌∙◌, ap, sym, subst, refl, take, slice_get, get_or, Some, List, length, arith}
 use Rattle.std.proofs.lemmas.List.{take_all}
 use Rattle.spl_circuit.specs.Nodes.{NodeId}
-use Rattle.spl_model.specs.Calm.{Calming, to_all}
+use Rattle.spl_model.specs.Calm.{Calming, pair_turn, to_all}
 use Rattle.spl_world.specs.Calms.{row_of}
 use Rattle.spl_world.specs.Views.{Holds, ids_of}
+use Rattle.spl_world.proofs.Calms.{to_all_front}
 use Rattle.spl_world.proofs.Composed.{spares_then}
+use Rattle.spl_world.proofs.Counting.{counts_done, counts_then, counts_failed, at_most}
 use Rattle.spl_world.proofs.Slots.{some_at, same_length, length_ids, set_length}
-use Rattle.spl_world.proofs.Turns.{turn_own, row_at, some_calming}
+use Rattle.spl_world.proofs.Turns.{turn_own, to_all_next, row_at, some_calming}
 use Rattle.spl_world.proofs.world.World.to_all.Goals as goal
 
 pub loop-to-preserved : goal.loop-to-preserved
@@ -28,9 +30,35 @@ loop-to-preserved c =
           turn_own c.args.circuit z a (ids_of c.args.self.now) c.loop-to.to recipient.0 c.loop-to.self.nodes.items c.pair_turn.new.self.nodes.items c.loop-to.row.items c.in_ok-row.field-0 h.ordered recipient.1 so_far
           (c.in_ok-row.ensures.moves y a recipient.0 here to taken) (c.in_ok-row.ensures.count y a recipient.0 so_far.0 here to taken),
       spares_then c.args.circuit xs c.loop-to.self.nodes.items c.pair_turn.new.self.nodes.items c.loop-to.invariant.4 (c.in_ok-row.ensures.moves (some_calming c.index.result.now) sender.0 recipient.0 from to refl).others,
+      λ z a h at row.
+          let y : Calming = to_all c.args.circuit z a (take c.loop-to.to (ids_of c.args.self.now)) in
+          let so_far = c.loop-to.invariant.3 z a h at row in
+          let here : slice_get (ids_of c.loop-to.self) c.args.from ≡ Some a = ap (λ (ns : List NodeId). slice_get ns c.args.from) c.loop-to.invariant.1 ∙ at in
+          let taken : y.taken a recipient.0 ≡ c.index.result.now = sym (c.index.ensures ∙ ap (λ (r : List ℕ). get_or r c.loop-to.to c.index.result.now) so_far.1 ∙ row_at y.taken a (ids_of c.args.self.now) c.loop-to.to recipient.0 c.index.result.now recipient.1) in
+          let next : length (to_all c.args.circuit z a (take (c.loop-to.to + 1) (ids_of c.args.self.now))).happened ≡ length (pair_turn c.args.circuit y a recipient.0).happened = ap (λ (w : Calming). length w.happened) (to_all_next c.args.circuit z a (ids_of c.args.self.now) c.loop-to.to recipient.0 recipient.1) in
+          omega (arith, next, c.loop-to.invariant.5 z a h at row, (c.in_ok-row.ensures.counts y a recipient.0 so_far.0 here to taken).ok),
     )
 
 pub returns-clause-own : goal.returns-clause-own
 returns-clause-own c = λ z a h at row.
     subst (λ (ns : List NodeId). Holds c.args.circuit (to_all c.args.circuit z a ns).world c.loop-to.self.nodes.items × (c.loop-to.row.items ≡ row_of (to_all c.args.circuit z a ns).taken a (ids_of c.args.self.now)))
     (take_all c.loop-to.to (ids_of c.args.self.now) (subst (λ (k : ℕ). k ≤ c.loop-to.to) (c.len-to-end.ensures ∙ sym (length_ids c.args.self.now.nodes.items)) c.loop-to-test.false)) (c.loop-to.invariant.3 z a h at row)
+
+pub returns-in_err-row-clause-counts : goal.returns-in_err-row-clause-counts
+returns-in_err-row-clause-counts c = λ z a h at row.
+    let recipient = some_at c.args.self.now.nodes.items c.loop-to.to (rw (c.len-to-end.ensures) at c.loop-to-test.true) in
+    let to : slice_get (ids_of c.loop-to.self) c.loop-to.to ≡ Some recipient.0 = ap (λ (ns : List NodeId). slice_get ns c.loop-to.to) c.loop-to.invariant.1 ∙ recipient.1 in
+    let y : Calming = to_all c.args.circuit z a (take c.loop-to.to (ids_of c.args.self.now)) in
+    let so_far = c.loop-to.invariant.3 z a h at row in
+    let here : slice_get (ids_of c.loop-to.self) c.args.from ≡ Some a = ap (λ (ns : List NodeId). slice_get ns c.args.from) c.loop-to.invariant.1 ∙ at in
+    let taken : y.taken a recipient.0 ≡ c.index.result.now = sym (c.index.ensures ∙ ap (λ (r : List ℕ). get_or r c.loop-to.to c.index.result.now) so_far.1 ∙ row_at y.taken a (ids_of c.args.self.now) c.loop-to.to recipient.0 c.index.result.now recipient.1) in
+    let next : length (to_all c.args.circuit z a (take (c.loop-to.to + 1) (ids_of c.args.self.now))).happened ≡ length (pair_turn c.args.circuit y a recipient.0).happened = ap (λ (w : Calming). length w.happened) (to_all_next c.args.circuit z a (ids_of c.args.self.now) c.loop-to.to recipient.0 recipient.1) in
+    counts_failed c.from_residual.result _ c.from_residual.ensures c.args.self.now.events _ _ (length z.happened) _ (length (to_all c.args.circuit z a (ids_of c.args.self.now)).happened)
+    (counts_then _ c.args.self.now.events c.loop-to.self.events _ (length z.happened) (length y.happened) _ (c.loop-to.invariant.5 z a h at row) (c.in_err-row.ensures.counts y a recipient.0 so_far.0 here to taken))
+    (at_most _ _ _ next (to_all_front c.args.circuit z a (ids_of c.args.self.now) (c.loop-to.to + 1)))
+
+pub returns-clause-counts : goal.returns-clause-counts
+returns-clause-counts c = λ z a h at row.
+    counts_done _ c.args.self.now.events c.loop-to.self.events (length z.happened) _
+    (subst (λ (ns : List NodeId). c.loop-to.self.events + length z.happened ≡ c.args.self.now.events + length (to_all c.args.circuit z a ns).happened)
+    (take_all c.loop-to.to (ids_of c.args.self.now) (subst (λ (k : ℕ). k ≤ c.loop-to.to) (c.len-to-end.ensures ∙ sym (length_ids c.args.self.now.nodes.items)) c.loop-to-test.false)) (c.loop-to.invariant.5 z a h at row))

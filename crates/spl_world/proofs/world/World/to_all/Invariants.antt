@@ -1,4 +1,4 @@
-use Rattle.std.proofs.Common.{◌≡◌, length, take}
+use Rattle.std.proofs.Common.{◌≡◌, ◌+◌, length, take}
 use Rattle.spl_circuit.specs.Nodes.{NodeId}
 use Rattle.spl_model.specs.Calm.{Calming, to_all}
 use Rattle.spl_world.specs.Calms.{row_of}
@@ -11,3 +11,5 @@ invariant-loop-to l = (length l.self.nodes.items ≡ length l.fn.self.nodes.item
     × ((z : Calming) (a : NodeId) → Holds l.circuit z.world l.fn.self.nodes.items → IsAt l.fn.self.nodes.items l.from a → l.fn.row.items ≡ row_of z.taken a (ids_of l.fn.self)
     → Holds l.circuit (to_all l.circuit z a (take l.to (ids_of l.fn.self))).world l.self.nodes.items × (l.row.items ≡ row_of (to_all l.circuit z a (take l.to (ids_of l.fn.self))).taken a (ids_of l.fn.self)))
     × Spares l.circuit l.fn.self.nodes.items l.self.nodes.items
+    × ((z : Calming) (a : NodeId) → Holds l.circuit z.world l.fn.self.nodes.items → IsAt l.fn.self.nodes.items l.from a → l.fn.row.items ≡ row_of z.taken a (ids_of l.fn.self)
+    → l.self.events + length z.happened ≡ l.fn.self.events + length (to_all l.circuit z a (take l.to (ids_of l.fn.self))).happened)

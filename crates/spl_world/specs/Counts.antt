@@ -1,0 +1,11 @@
+-- How a call counts the events of a line (docs/RULES.md, Limits).
+use Rattle.std.specs.Prelude.{◌≡◌, ◌+◌, ◌<◌, ℕ, Result, OnOk, IsErrOf}
+use Rattle.spl_model.specs.declared.TheConstants.{MOST_EVENTS}
+use Rattle.spl_world.specs.declared.fault.WorldFault.{WorldFault}
+use Rattle.spl_world.specs.declared.fault.WorldFault.TheVariants.{TooMany}
+
+-- a call that takes a line with so many events to one with as many more counts these: behind success they are counted, and it
+-- finds no room only where there are too many
+pub record Counts {A : Type 0} (r : Result A WorldFault) (old new before after : ℕ) : Type 0 where
+  pub ok : OnOk r (new + before ≡ old + after)
+  pub many : (which : ℕ) → IsErrOf r (TooMany which) → (which ≡ 1) × (MOST_EVENTS + before < old + after)
