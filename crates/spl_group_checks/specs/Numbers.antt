@@ -1,4 +1,4 @@
--- Numbers as the values of a group, for tests: the key is the rest by 100.
+-- Numbers as the values of a group: the key is the rest by 100.
 use Rattle.std.specs.Prelude.{◌≡◌, ◌↔◌, ℕ, ◌%◌, true, List, Option, Some, None, ◌==◌, nat_lt, if◌then◌else◌}
 use Rattle.std.specs.List.{list_any}
 use Rattle.std.proofs.Common.{arith}

@@ -1,4 +1,4 @@
-//! Numbers as the values of a group, for tests.
+//! Numbers as the values of a group.
 ghost use Rattle.std.specs.Prelude.{◌≡◌};
 
 use spl_agree::{Admit, Agreed, Reason};
@@ -12,7 +12,7 @@ pub struct Numbers {
 
 impl Agreed for Numbers {
     ghost use Rattle.std.specs.Prelude.{◌≡◌, ◌%◌, ◌==◌, refl};
-    ghost use Rattle.spl_commit.specs.Numbers.{number_rules, stray_number, same_number};
+    ghost use Rattle.spl_group_checks.specs.Numbers.{number_rules, stray_number, same_number};
 
     type Key = u64;
 
