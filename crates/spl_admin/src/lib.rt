@@ -8,6 +8,3 @@ mod standing;
 
 pub use key::ActKey;
 pub use ledger::Ledger;
-
-#[cfg(test)]
-mod tests;

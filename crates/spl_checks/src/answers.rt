@@ -1,15 +1,14 @@
 //! Texts of answers. A row has the kind of the answer and what it says.
-use crate::batches::batch;
 use crate::definitions::definition;
-use crate::row::{
-    Answered, RowFault, address, byte, bytes, circuit, halves, long, node, nodes, number, reason,
-    text_of, words,
-};
 use spl_agree::{Generation, Note, Place, Round};
 use spl_answer::text;
 use spl_base::{BatchId, Boxed, Listing, Piece, Value};
 use spl_circuit::{Lifecycle, Mark, Members, RouteFault};
 use spl_command::{Command, Receipt, StateChange, StateEvent, Transaction};
+use spl_rows::{
+    Answered, RowFault, address, batch, byte, bytes, circuit, halves, long, name_and_rest, node,
+    nodes, number, reason, text_of, words,
+};
 use spl_wire::{Answer, BatchStatus, Bit, Entry, Refusal};
 use std::alloc::Global;
 
@@ -26,7 +25,7 @@ fn round(word: &str) -> Result<Round, RowFault> {
 
 /// idle, asked:ROUND, refused:CODE:TRANSACTION ..
 fn note(word: &str) -> Result<Note, RowFault> {
-    let (name, rest) = word.split_once(':').unwrap_or((word, ""));
+    let (name, rest) = name_and_rest(word);
     Ok(match name {
         "idle" => Note::Idle,
         "asked" => Note::Asked(round(rest)?),
@@ -63,7 +62,7 @@ fn route_fault(word: &str) -> Result<RouteFault, RowFault> {
 
 /// down, no-circuit, bad-definition:RULE ..
 fn refusal(word: &str) -> Result<Refusal, RowFault> {
-    let (name, rest) = word.split_once(':').unwrap_or((word, ""));
+    let (name, rest) = name_and_rest(word);
     Ok(match name {
         "down" => Refusal::Down,
         "no-circuit" => Refusal::NoCircuit,

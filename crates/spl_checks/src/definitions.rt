@@ -1,9 +1,8 @@
 //! Definitions of circuits. A row has the line that proposes one, or form and the bytes of one.
-use crate::row::{Answered, RowFault, bytes, event, halves, hex_text, node, service, text_of};
 use spl_base::{Malformed, Reader, Value};
 use spl_circuit::{Definition, valid_definitions_have_a_form};
 use spl_router::route;
-use spl_wire::Event;
+use spl_rows::{Answered, RowFault, bytes, halves, hex_text, node, service, text_of};
 use std::alloc::Global;
 
 /// The definition of a row.
@@ -17,10 +16,7 @@ pub fn definition(alloc: Global, text: &str) -> Result<Definition, RowFault> {
             Err(_) => Err(RowFault::BadRow),
         };
     }
-    match event(alloc, text)? {
-        Event::Propose(definition) => Ok(definition.get().copy(alloc)?),
-        _ => Err(RowFault::BadRow),
-    }
+    spl_rows::definition(alloc, text)
 }
 
 /// The first broken rule, or the hash and the nodes that lead: DEFINITION.
@@ -34,6 +30,19 @@ pub fn judged(alloc: Global, text: &str) -> Answered {
     let acts = text_of(alloc, definition.admin_coordinator().bytes())?;
     let batches = text_of(alloc, definition.service_coordinator().bytes())?;
     Ok(format!(in alloc; "good, {hash}, acts by {acts}, batches by {batches}")?)
+}
+
+/// Whether a definition and the copy of another are equal: DEFINITION / DEFINITION.
+pub fn compared(alloc: Global, text: &str) -> Answered {
+    let (first, second) = halves(text, '/')?;
+    let first = definition(alloc, first.trim())?;
+    let second = definition(alloc, second.trim())?.copy(alloc)?;
+    let same = if first.same(&second) {
+        "equal"
+    } else {
+        "different"
+    };
+    Ok(String::from_str(alloc, same)?)
 }
 
 /// Whether a node is a member, and its service: NODE DEFINITION.

@@ -1,9 +1,9 @@
 //! Byte forms: a row has the kind of a value and bytes in hex.
-use crate::row::{Answered, RowFault, bytes, halves};
 use crate::runs::Runs;
 use spl_base::{Malformed, Reader};
 use spl_circuit::{Act, Definition};
 use spl_command::Batch;
+use spl_rows::{Answered, RowFault, bytes, halves};
 use spl_wire::{Message, Record};
 use std::alloc::Global;
 

@@ -1,8 +1,9 @@
 //! Streams of frames, and greetings.
-use crate::row::{Answered, RowFault, add, bytes, halves, hex_text, node, text_of, words};
-use spl_frame::{FrameFault, Framer};
+use spl_base::{LONGEST_BODY, Piece};
+use spl_frame::{FrameFault, Framer, frames_in, write_frame};
 use spl_link::{LinkFault, Opening};
 use spl_registry::Registry;
+use spl_rows::{Answered, RowFault, add, bytes, halves, hex_text, node, text_of, words};
 use std::alloc::Global;
 
 fn fed(alloc: Global, framer: &mut Framer, piece: &[u8]) -> Answered {
@@ -30,6 +31,32 @@ pub fn framed(alloc: Global, text: &str) -> Answered {
         }
     }
     Ok(told)
+}
+
+/// The bodies of a stream in pieces, and its fault, where it has one: HEX HEX ..
+pub fn streamed(alloc: Global, text: &str) -> Answered {
+    let mut pieces = Vec::new(alloc);
+    for word in words(alloc, text)? {
+        pieces.push(Piece::from(alloc, &bytes(alloc, word)?)?)?;
+    }
+    let (bodies, fault) = frames_in(alloc, &pieces)?;
+    let mut told = String::new(alloc);
+    for body in bodies.as_slice() {
+        add(&mut told, " ", hex_text(alloc, body.bytes())?.as_str())?;
+    }
+    if let Some(fault) = fault {
+        add(&mut told, " ", format!(in alloc; "{fault:?}")?.as_str())?;
+    }
+    Ok(told)
+}
+
+/// The frame of a body: HEX.
+pub fn written(alloc: Global, text: &str) -> Answered {
+    let body = bytes(alloc, text)?;
+    if body.len() > LONGEST_BODY {
+        return Err(RowFault::BadRow);
+    }
+    hex_text(alloc, write_frame(alloc, &body)?.bytes())
 }
 
 /// The registry of alpha and beta.

@@ -1,5 +1,5 @@
 //! Lines of schedules.
-use crate::row::{Answered, RowFault, halves, nodes, text_of};
+use spl_rows::{Answered, RowFault, halves, nodes, text_of};
 use spl_sched::{Line, LineFault, Step, read_line, write_line};
 use std::alloc::Global;
 

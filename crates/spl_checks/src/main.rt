@@ -5,13 +5,15 @@
 mod answers;
 mod batches;
 mod definitions;
+mod devices;
 mod forms;
 mod frames;
 mod lines;
-mod row;
+mod registries;
 mod runs;
+mod states;
 
-use row::{Answered, RowFault};
+use spl_rows::{Answered, RowFault, print_answer, row_of};
 use std::alloc::Global;
 use std::io;
 
@@ -23,32 +25,37 @@ fn answer(alloc: Global, table: &str, rest: &str) -> Answered {
         "cuts" => forms::cuts(alloc, rest),
         "changes" => forms::changes(alloc, rest),
         "definition" => definitions::judged(alloc, rest),
+        "same-definition" => definitions::compared(alloc, rest),
         "member" => definitions::service_at(alloc, rest),
         "route" => definitions::routed(alloc, rest),
         "batch" => batches::judged(alloc, rest),
+        "same-batch" => batches::compared(alloc, rest),
+        "execute" => batches::executed(alloc, rest),
         "answer" => answers::printed(alloc, rest),
         "frames" => frames::framed(alloc, rest),
+        "stream" => frames::streamed(alloc, rest),
+        "frame" => frames::written(alloc, rest),
         "hello" => frames::greeted(alloc, rest),
+        "roots" => states::roots(alloc, rest),
+        "digest" => states::digest(alloc, rest),
+        "value" => states::value(alloc, rest),
+        "under" => states::under(alloc, rest),
+        "copy" => states::copied(alloc, rest),
+        "sha256" => states::sha256(alloc, rest),
+        "registry" => registries::read(alloc, rest),
+        "source" => devices::taken(alloc, rest),
+        "sink" => devices::kept(alloc, rest),
         _ => Err(RowFault::BadRow),
-    }
-}
-
-fn print_row(rt: &HostRuntime, line: &str) -> io::Result<()> {
-    println!(rt; "{line}")?;
-    if line.is_empty() || line.starts_with('#') {
-        return Ok(());
-    }
-    let (table, rest) = line.split_once(' ').unwrap_or((line, ""));
-    match answer(rt.alloc(), table, rest) {
-        Ok(text) => println!(rt; "  {text}"),
-        Err(RowFault::BadRow) => println!(rt; "  bad row"),
-        Err(RowFault::NoMemory) => println!(rt; "  no memory"),
     }
 }
 
 fn main(rt: HostRuntime) -> io::Result<()> {
     for line in rt.lines(rt.alloc()) {
-        print_row(&rt, line?.as_str())?;
+        let line = line?;
+        println!(rt; "{}", line.as_str())?;
+        if let Some((table, rest)) = row_of(line.as_str()) {
+            print_answer(&rt, answer(rt.alloc(), table, rest))?;
+        }
     }
     Ok(())
 }

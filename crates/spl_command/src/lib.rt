@@ -26,6 +26,3 @@ pub use laws::{
 pub use prefixes::Prefixes;
 pub use receipt::{Changes, Events, Pieces, Receipt, Receipts, StateChange, StateEvent, Verdict};
 pub use rules::{LONGEST_BATCH, LONGEST_DATA, MOST_COMMANDS, MOST_PREFIXES, MOST_TRANSACTIONS};
-
-#[cfg(test)]
-mod tests;

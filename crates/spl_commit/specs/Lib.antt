@@ -1,4 +1,3 @@
 pub mod Places
 pub mod Views
 pub mod Waiting
-pub mod Numbers

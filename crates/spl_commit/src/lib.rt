@@ -7,16 +7,12 @@ mod forwards;
 mod history;
 mod member;
 mod messages;
-#[cfg(test)]
-mod numbers;
 mod packing;
 mod plan;
 mod plans;
 mod readers;
 mod requests;
 mod sends;
-#[cfg(test)]
-mod tests;
 mod ticks;
 mod votes;
 

@@ -11,6 +11,3 @@ pub use fault::FrameFault;
 pub use framer::{Framer, write_frame};
 pub use laws::{a_stream_is_read_one_way, frames_are_read_back};
 pub use stream::frames_in;
-
-#[cfg(test)]
-mod tests;

@@ -10,6 +10,3 @@ mod tree;
 pub use fault::RegistryFault;
 pub use node::Node;
 pub use registry::Registry;
-
-#[cfg(test)]
-mod tests;

@@ -8,6 +8,3 @@ mod service;
 pub use laws::receipts_are_those_at_the_place;
 pub use service::Service;
 pub use spl_base::BatchIds;
-
-#[cfg(test)]
-mod tests;

@@ -14,8 +14,6 @@ mod number;
 mod read;
 mod service;
 mod step;
-#[cfg(test)]
-mod tests;
 mod transaction;
 mod word;
 mod words;

@@ -14,6 +14,3 @@ pub use address::Address;
 pub use draft::Draft;
 pub use prefix::Prefix;
 pub use state::State;
-
-#[cfg(test)]
-mod tests;

@@ -1,5 +1,0 @@
-mod build;
-mod codec;
-mod executed;
-mod plain;
-mod rules;

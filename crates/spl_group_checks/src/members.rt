@@ -1,0 +1,193 @@
+//! What a member of a group of three plans, tells and knows. A row has the position of the member, the changes that it
+//! was given, and open:1,2 where its round is open, with those that have not voted yes. The first member leads.
+ghost use Rattle.std.specs.Prelude.{◌≡◌, ◌<◌, IfOk};
+ghost use Rattle.spl_agree.specs.Fits.{generation_of};
+ghost use Rattle.spl_group_checks.specs.Seats.{IsReady};
+
+use crate::numbers::Numbers;
+use crate::plans::plan_text;
+use crate::seats::{GENERATION, change, seat, wait_for};
+use spl_agree::{CommitMsg, GroupChange, GroupEvent, GroupPlan, Place, Round};
+use spl_commit::Member;
+use spl_rows::{Answered, RowFault, byte, halves, long, number, reason, words};
+use std::alloc::Global;
+
+/// The position of a row, and the changes and the round behind it.
+fn placed<'a>(alloc: Global, text: &'a str) -> Result<(u8, Vec<&'a str>), RowFault>
+    ensures { IfOk result (λ p. p.0 < 3) }
+{
+    let (here, rest) = text.split_once(' ').unwrap_or((text, ""));
+    let here = byte(here)?;
+    if here >= 3 {
+        return Err(RowFault::BadRow);
+    }
+    Ok((here, words(alloc, rest)?))
+}
+
+/// The member that a row has.
+#[tactic(auto, using(crate::proofs::Seating::seat_ready))]
+fn member(alloc: Global, here: u8, given: &[&str]) -> Result<Member<Numbers>, RowFault>
+    requires { here < 3 }
+    ensures { IfOk result (λ m. IsReady here m) }
+{
+    if let Some((last, before)) = given.split_last() {
+        if let Some(waited) = last.strip_prefix("open:") {
+            if here != 0 {
+                return Err(RowFault::BadRow);
+            }
+            let mut member = seat(alloc, 0, before)?;
+            wait_for(alloc, &mut member, waited)?;
+            return Ok(member);
+        }
+    }
+    seat(alloc, here, given)
+}
+
+fn truth(word: &str, yes: &str, no: &str) -> Result<bool, RowFault> {
+    if word == yes {
+        return Ok(true);
+    }
+    if word == no {
+        Ok(false)
+    } else {
+        Err(RowFault::BadRow)
+    }
+}
+
+/// request ROUND PLACE VALUE, vote ROUND yes, decision ROUND commit, ask ROUND, forward VALUE or refused VALUE CODE:AT.
+fn message(words: &[&str]) -> Result<CommitMsg<u64>, RowFault>
+    ensures { IfOk result (λ m. generation_of m ≡ 7) }
+{
+    let generation = GENERATION;
+    match words {
+        ["request", round, place, value] => Ok(CommitMsg::VoteRequest {
+            generation,
+            round: Round(number(round)?),
+            place: Place(long(place)?),
+            value: number(value)?,
+        }),
+        ["vote", round, yes] => Ok(CommitMsg::Vote {
+            generation,
+            round: Round(number(round)?),
+            yes: truth(yes, "yes", "no")?,
+        }),
+        ["decision", round, commit] => Ok(CommitMsg::Decision {
+            generation,
+            round: Round(number(round)?),
+            commit: truth(commit, "commit", "abort")?,
+        }),
+        ["ask", round] => Ok(CommitMsg::DecisionRequest {
+            generation,
+            round: Round(number(round)?),
+        }),
+        ["forward", value] => Ok(CommitMsg::Forward {
+            generation,
+            value: number(value)?,
+        }),
+        ["refused", value, why] => Ok(CommitMsg::Refused {
+            generation,
+            value: number(value)?,
+            reason: reason(why)?,
+        }),
+        _ => Err(RowFault::BadRow),
+    }
+}
+
+/// The plan for a value of the member's own node, which is one that it doesn't know.
+fn submitted(
+    alloc: Global,
+    member: &Member<Numbers>,
+    here: u8,
+    value: u64,
+) -> Result<GroupPlan<u64>, RowFault>
+    requires { IsReady here member.now }
+{
+    if !member.fits(alloc, &GroupChange::Queue(value))? {
+        return Err(RowFault::BadRow);
+    }
+    Ok(member.plan(alloc, &GroupEvent::Submit(value))?)
+}
+
+/// The plan for a message from another position.
+fn heard(
+    alloc: Global,
+    member: &Member<Numbers>,
+    here: u8,
+    sender: u8,
+    message: CommitMsg<u64>,
+) -> Result<GroupPlan<u64>, RowFault>
+    requires ready { IsReady here member.now }
+    requires generation { generation_of message ≡ 7 }
+{
+    if sender == here {
+        return Err(RowFault::BadRow);
+    }
+    Ok(member.plan(alloc, &GroupEvent::From { sender, message })?)
+}
+
+/// The plan for an event: tick, expire, submit VALUE, or from SENDER MESSAGE.
+fn plan(
+    alloc: Global,
+    member: &Member<Numbers>,
+    here: u8,
+    event: &[&str],
+) -> Result<GroupPlan<u64>, RowFault>
+    requires { IsReady here member.now }
+{
+    match event {
+        ["tick"] => Ok(member.plan(alloc, &GroupEvent::Tick)?),
+        ["expire"] => Ok(member.plan(alloc, &GroupEvent::Expire)?),
+        ["submit", value] => submitted(alloc, member, here, number(value)?),
+        ["from", sender, rest @ ..] => heard(alloc, member, here, byte(sender)?, message(rest)?),
+        _ => Err(RowFault::BadRow),
+    }
+}
+
+/// What a member plans: MEMBER / EVENT.
+pub fn planned(alloc: Global, text: &str) -> Answered {
+    let (before, event) = halves(text, '/')?;
+    let (here, given) = placed(alloc, before)?;
+    let member = member(alloc, here, &given)?;
+    let event = words(alloc, event)?;
+    let plan = plan(alloc, &member, here, &event)?;
+    plan_text(alloc, &plan)
+}
+
+/// What a member tells of itself behind a stop: MEMBER.
+pub fn told(alloc: Global, text: &str) -> Answered {
+    let (here, given) = placed(alloc, text)?;
+    let mut member = member(alloc, here, &given)?;
+    member.restart();
+    let promised = match member.promise() {
+        Some((round, value)) => format!(in alloc; "promised {} {value}", round.0)?,
+        None => format!(in alloc; "free")?,
+    };
+    Ok(format!(in alloc;
+        "{} committed, {}, seen {}, next {}, {} pending",
+        member.history_len().0,
+        promised.as_str(),
+        member.seen().0,
+        member.next().0,
+        member.queue().len()
+    )?)
+}
+
+/// What a member knows of a key: KEY MEMBER.
+pub fn known(alloc: Global, text: &str) -> Answered {
+    let (key, rest) = halves(text, ' ')?;
+    let (here, given) = placed(alloc, rest)?;
+    let member = member(alloc, here, &given)?;
+    match member.known(&number(key)?) {
+        Some(value) => Ok(format!(in alloc; "{value}")?),
+        None => Ok(String::from_str(alloc, "nothing")?),
+    }
+}
+
+/// Whether a change fits a member: MEMBER / CHANGE.
+pub fn fitting(alloc: Global, text: &str) -> Answered {
+    let (before, word) = halves(text, '/')?;
+    let (here, given) = placed(alloc, before)?;
+    let member = member(alloc, here, &given)?;
+    let fits = member.fits(alloc, &change(word.trim())?)?;
+    Ok(format!(in alloc; "{fits}")?)
+}

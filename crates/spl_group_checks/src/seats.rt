@@ -1,0 +1,130 @@
+//! A member of a group of three with numbers as its values, brought where a row has it.
+ghost use Rattle.std.specs.Prelude.{◌≡◌, ◌<◌, ◌∷◌, [], IfOk, OnOk, slice_get};
+ghost use Rattle.spl_group_checks.specs.Seats.{IsSeat, IsReady, missing};
+
+use crate::numbers::Numbers;
+use spl_agree::{Generation, GroupChange, OpenMove, Round};
+use spl_commit::Member;
+use spl_rows::{RowFault, halves, name_and_rest, number, reason};
+use std::alloc::Global;
+
+/// The generation of the group and of each message.
+pub const GENERATION: Generation = Generation(7);
+
+fn round(word: &str) -> Result<Round, RowFault> {
+    Ok(Round(number(word)?))
+}
+
+fn round_and_value(words: &str) -> Result<(Round, u64), RowFault> {
+    let (at, value) = halves(words, ':')?;
+    Ok((round(at)?, number(value)?))
+}
+
+/// queue:VALUE, refuse:VALUE:CODE:AT, begin:ROUND, seen:ROUND, promise:ROUND:VALUE, abort, commit:ROUND:VALUE or
+/// rounds:NEXT:SEEN.
+pub fn change(word: &str) -> Result<GroupChange<u64>, RowFault> {
+    let (name, rest) = name_and_rest(word);
+    match name {
+        "queue" => Ok(GroupChange::Queue(number(rest)?)),
+        "refuse" => {
+            let (value, why) = halves(rest, ':')?;
+            Ok(GroupChange::Refuse(number(value)?, reason(why)?))
+        }
+        "begin" => Ok(GroupChange::Begin(round(rest)?)),
+        "seen" => Ok(GroupChange::Seen(round(rest)?)),
+        "promise" => {
+            let (round, value) = round_and_value(rest)?;
+            Ok(GroupChange::Promise(round, value))
+        }
+        "abort" => Ok(GroupChange::Abort),
+        "commit" => {
+            let (round, value) = round_and_value(rest)?;
+            Ok(GroupChange::Commit(round, value))
+        }
+        "rounds" => {
+            let (next, seen) = halves(rest, ':')?;
+            Ok(GroupChange::Restore {
+                next: round(next)?,
+                seen: round(seen)?,
+            })
+        }
+        _ => Err(RowFault::BadRow),
+    }
+}
+
+/// Makes a change, where it fits.
+#[tactic(auto, using(crate::proofs::Seating::shut_still))]
+fn give(alloc: Global, member: &mut Member<Numbers>, here: u8, word: &str) -> Result<(), RowFault>
+    requires { IsSeat here member.old }
+    ensures { IsSeat here member.new }
+{
+    let change = change(word)?;
+    if !member.fits(alloc, &change)? {
+        return Err(RowFault::BadRow);
+    }
+    member.apply(alloc, change)?;
+    Ok(())
+}
+
+/// The member at a position, of which the first leads, with these changes made in order.
+pub fn seat(alloc: Global, here: u8, given: &[&str]) -> Result<Member<Numbers>, RowFault>
+    requires { here < 3 }
+    ensures { IfOk result (λ m. IsSeat here m) }
+{
+    let content = Numbers {
+        applied: Vec::new(alloc),
+    };
+    let mut member = Member::new(alloc, content, GENERATION, 3, 0, here);
+    for word in given {
+        give(alloc, &mut member, here, word)?;
+    }
+    Ok(member)
+}
+
+/// The first pending value.
+#[tactic(auto, using(spl_commit::proofs::Keyed::view_facts))]
+fn first(member: &Member<Numbers>) -> Option<u64>
+    ensures { result ≡ slice_get member.now.state.pending 0 }
+{
+    match member.queue().first() {
+        Some(value) => Some(*value),
+        None => None,
+    }
+}
+
+/// Opens the round that was begun last, about the first pending value.
+fn open(alloc: Global, member: &mut Member<Numbers>) -> Result<(), RowFault>
+    requires { IsSeat 0 member.old }
+    ensures ready { OnOk result (IsReady 0 member.new) }
+    ensures asked { OnOk result (missing member.new.state.opened ≡ 1 ∷ 2 ∷ []) }
+{
+    let Some(value) = first(member) else {
+        return Err(RowFault::BadRow);
+    };
+    let next = member.next();
+    if next.0 == 0 || !member.fits(alloc, &GroupChange::Commit(next, value))? {
+        return Err(RowFault::BadRow);
+    }
+    member.move_open(OpenMove::Begin(Round(next.0 - 1)));
+    Ok(())
+}
+
+/// Opens the round that was begun last, and counts the yes of one that isn't among those that are waited for.
+pub fn wait_for(alloc: Global, member: &mut Member<Numbers>, waited: &str) -> Result<(), RowFault>
+    requires { IsSeat 0 member.old }
+    ensures { OnOk result (IsReady 0 member.new) }
+{
+    open(alloc, member)?;
+    match waited {
+        "1,2" => Ok(()),
+        "1" => {
+            member.move_open(OpenMove::Yes(2));
+            Ok(())
+        }
+        "2" => {
+            member.move_open(OpenMove::Yes(1));
+            Ok(())
+        }
+        _ => Err(RowFault::BadRow),
+    }
+}
