@@ -105,7 +105,7 @@ fn ledger(alloc: Global, steps: &[Step]) -> Result<Ledger, Fail> {
     if let Some(rule) = definition.fault() {
         return Err(Fail::new(rule));
     }
-    let mut ledger = Ledger::new(alloc, definition);
+    let mut ledger = Ledger::new(alloc, Boxed::new(alloc, definition)?);
     for step in steps {
         if let Some(reason) = offer_step(alloc, &mut ledger, *step)? {
             return Err(Fail::new(reason.code));
