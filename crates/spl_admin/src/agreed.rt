@@ -71,7 +71,7 @@ impl Agreed for Ledger {
     #[tactic(auto, using(crate::proofs::Lives::life_more))]
     fn apply(&mut self, alloc: Global, value: Act) -> Result<(), AllocError> {
         self.acts.reserve(1)?;
-        self.standing.take(alloc, &self.definition, &value)?;
+        self.standing.take(alloc, self.definition.get(), &value)?;
         self.acts.push(value).unwrap();
         Ok(())
     }

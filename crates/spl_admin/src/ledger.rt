@@ -10,7 +10,7 @@ ghost use Rattle.spl_admin.specs.Kept.{accepted_members};
 
 use crate::standing::Standing;
 use spl_agree::{Admit, Reason};
-use spl_base::{NodeId, Value};
+use spl_base::{Boxed, NodeId, Value};
 use spl_circuit::{Act, ActKind, Definition, Lifecycle, Members};
 use std::alloc::{AllocError, Global};
 use std::marker::Model;
@@ -19,7 +19,7 @@ use std::marker::Model;
 /// (docs/RULES.md, Lifecycle). Contracts see the definition and the acts.
 #[derive(Drop)]
 pub struct Ledger {
-    pub(crate) definition: Definition,
+    pub(crate) definition: Boxed<Definition>,
     pub(crate) acts: Vec<Act>,
     pub(crate) standing: Standing,
 }
@@ -39,7 +39,7 @@ impl Model for Ledger {
 
 impl Ledger {
     /// No acts, of a circuit of this definition.
-    pub fn new(alloc: Global, definition: Definition) -> Ledger
+    pub fn new(alloc: Global, definition: Boxed<Definition>) -> Ledger
         requires valid { broken definition ≡ None }
         ensures { result ≡ record { definition = definition; acts = [] } }
     {
@@ -54,6 +54,13 @@ impl Ledger {
     pub fn definition(&self) -> &Definition
         ensures value { result.now ≡ self.now.definition }
         ensures valid { broken self.now.definition ≡ None }
+    {
+        self.definition.get()
+    }
+
+    /// The same definition, to be shared.
+    pub fn shared_definition(&self) -> &Boxed<Definition>
+        ensures { result.now ≡ self.now.definition }
     {
         &self.definition
     }
@@ -92,7 +99,7 @@ impl Ledger {
         ensures { IfOk result (λ ms. ms ≡ accepted_members self.now) }
     {
         let mut members = Members::new(alloc);
-        for member in self.definition.members.as_slice() {
+        for member in self.definition().members.as_slice() {
             if self.accepted(member) {
                 members.push(*member)?;
             }
@@ -104,7 +111,7 @@ impl Ledger {
     pub(crate) fn misfit(&self, act: &Act) -> Option<Reason>
         ensures { result ≡ misfit self.now.definition self.now.acts act.now }
     {
-        if self.definition.is_member(&act.node) {
+        if self.definition().is_member(&act.node) {
             self.misfit_kind(&act.node, &act.kind)
         } else {
             Some(Reason::NOT_A_MEMBER)
@@ -116,7 +123,7 @@ impl Ledger {
     {
         match kind {
             ActKind::Propose(proposed) => {
-                if !is_same(proposed.get(), &self.definition) {
+                if !is_same(proposed.get(), self.definition()) {
                     return Some(Reason::OTHER_DEFINITION);
                 }
                 if self.acts.is_empty() {
@@ -145,7 +152,7 @@ impl Ledger {
     {
         match kind {
             ActKind::Propose(proposed) => {
-                if is_same(proposed.get(), &self.definition) {
+                if is_same(proposed.get(), self.definition()) {
                     Admit::Take
                 } else {
                     Admit::Return(Reason::OTHER_DEFINITION)
@@ -160,7 +167,7 @@ impl Ledger {
     pub(crate) fn is_at(&self, position: u8, node: &NodeId) -> bool
         ensures { result ≡ bytes_eq (node_or self.now.definition.members [] position) node.now }
     {
-        match self.definition.members.get(position as usize) {
+        match self.definition().members.get(position as usize) {
             Some(member) => *member == *node,
             None => node.bytes().is_empty(),
         }

@@ -1,8 +1,10 @@
 -- A member at its seat.
 use Rattle.std.proofs.Common.{◌≡◌, ℕ, sym, ap, subst, ◌∙◌}
 use Rattle.spl_agree.specs.declared.event.OpenMove.{OpenMove}
-use Rattle.spl_agree.specs.Member.{Rules, Group, new_member, moved}
-use Rattle.spl_agree.specs.Fits.{IsSettled, FitsMove}
+use Rattle.spl_agree.specs.declared.event.GroupEvent.{GroupEvent}
+use Rattle.spl_agree.specs.Member.{Rules, Group, Member, new_member, moved}
+use Rattle.spl_agree.specs.Rows.{row}
+use Rattle.spl_agree.specs.Fits.{IsSettled, IsDue, FitsMove}
 use Rattle.spl_commit.specs.Views.{MemberView, IsFixed, group_by}
 use Rattle.spl_cell.specs.Views.{IsSeated}
 
@@ -22,6 +24,25 @@ settled_seat {C} {V} g at m s h = subst (λ (p : ℕ). IsSettled (group_by g.rul
 -- no round is open in a new member
 pub settled_new : {V : Type 0} (g : Group V) (at : ℕ) → IsSettled g at new_member
 settled_new g at o e = cc
+
+-- a new member at its seat stands as the group has it
+module _ {C V : Type 0} (g : Group V) (at : ℕ) (m : MemberView C V) (rules : Rules V) (same : rules ≡ g.rules) (new : m.state ≡ new_member) (seat : IsSeated g at m) where
+  here_is : group_by rules m ≡ g
+  here_is = ap (λ (r : Rules V). group_by r m) same ∙ group_here g at m seat
+
+  stands : (P : Group V → ℕ → Member V → Type 0) → P g at new_member → P (group_by rules m) m.here m.state
+  stands P h =
+      subst (λ (k : Group V). P k m.here m.state) (sym here_is)
+      (subst (λ (p : ℕ). P g p m.state) (sym seat.here) (subst (λ (s : Member V). P g at s) (sym new) h))
+
+  pub new_is_settled : IsSettled (group_by rules m) m.here m.state
+  new_is_settled = stands (λ k p s. IsSettled k p s) (settled_new g at)
+
+  pub new_is_due : (e : GroupEvent V) → IsDue g at new_member e → IsDue (group_by rules m) m.here m.state e
+  new_is_due e h = stands (λ k p s. IsDue k p s e) h
+
+  pub new_row : (e : GroupEvent V) → row (group_by rules m) m.here m.state e ≡ row g at new_member e
+  new_row e = ap (λ (k : Group V). row k m.here m.state e) here_is ∙ ap (λ (p : ℕ). row g p m.state e) seat.here ∙ ap (λ (s : Member V). row g at s e) new
 
 -- a move that fits, and what it leaves
 pub move_seat : {C V : Type 0} (g : Group V) (at : ℕ) (m : MemberView C V) (x : OpenMove) → IsSeated g at m → FitsMove g at m.state x → FitsMove (group_by g.rules m) m.here m.state x

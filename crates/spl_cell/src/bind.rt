@@ -9,7 +9,7 @@ ghost use Rattle.spl_rules.specs.Plans.{admin_lane, group_row, planned};
 ghost use Rattle.spl_cell.specs.Says.{say_of};
 ghost use Rattle.spl_cell.specs.Sites.{site_of};
 
-use crate::held::Held;
+use crate::held::first_acts;
 use crate::plans::Say;
 use crate::site::Site;
 use spl_agree::{GroupEvent, GroupPlan};
@@ -19,22 +19,21 @@ use spl_wire::{Change, ChangeList, Plan};
 use std::alloc::{AllocError, Global};
 
 /// The change that binds a cell to a definition.
-fn binding(alloc: Global, definition: &Definition) -> Result<ChangeList, AllocError>
+fn binding(alloc: Global, definition: &Boxed<Definition>) -> Result<ChangeList, AllocError>
     ensures { IfOk result (λ cs. cs ≡ Change.Bind definition.now ∷ []) }
 {
-    let bound = Boxed::new(alloc, definition.copy(alloc)?)?;
     let mut changes = ChangeList::new(alloc);
-    changes.push(Change::Bind(bound))?;
+    changes.push(Change::Bind(definition.copy(alloc)?))?;
     Ok(changes)
 }
 
 impl Site {
     /// What an event gives in the admin group of a cell that is bound just now.
-    #[tactic(auto, using(crate::proofs::Seats::settled_new))]
+    #[tactic(auto, using(crate::proofs::Seats::settled_new, crate::proofs::Seats::group_here))]
     fn first_row(
         &self,
         alloc: Global,
-        definition: &Definition,
+        definition: &Boxed<Definition>,
         event: &GroupEvent<Act>,
     ) -> Result<GroupPlan<Act>, AllocError>
         requires valid { broken definition.now ≡ None }
@@ -42,8 +41,8 @@ impl Site {
         requires due { IsDue (admin_group definition.now) (position definition.now.members self.now.here) new_member event.now }
         ensures { IfOk result (λ p. p ≡ group_row (admin_lane (site_of self.now) definition.now) new_member event.now) }
     {
-        let held = Held::new(alloc, *self, definition.copy(alloc)?);
-        held.admin_row(alloc, event)
+        let acts = first_acts(alloc, &self.here, definition.copy(alloc)?);
+        acts.plan(alloc, event)
     }
 
     /// The cell is bound to a definition, and its admin group goes on by an event. A message came
@@ -52,7 +51,7 @@ impl Site {
         &self,
         alloc: Global,
         say: Say,
-        definition: &Definition,
+        definition: &Boxed<Definition>,
         back: &NodeId,
         event: &GroupEvent<Act>,
     ) -> Result<Plan, AllocError>
@@ -63,6 +62,6 @@ impl Site {
     {
         let plan = self.first_row(alloc, definition, event)?;
         let first = binding(alloc, definition)?;
-        self.admin_plan(alloc, say, first, definition, back, plan)
+        self.admin_plan(alloc, say, first, definition.get(), back, plan)
     }
 }

@@ -221,13 +221,13 @@ impl Site {
         &self,
         alloc: Global,
         state: State,
-        definition: &Definition,
+        definition: &Boxed<Definition>,
     ) -> Result<State, AllocError>
         requires at { IsAt (site_of self.now) state }
         ensures cell { IfOk result (λ s. cell_of s ≡ (if fits_free (site_of self.now) (cell_of state) (Change.Bind definition.now) then free_after (cell_of state) (Change.Bind definition.now) else cell_of state)) }
         ensures at { IfOk result (λ s. IsAt (site_of self.now) s) }
     {
-        if !self.fits_free(&state, definition) {
+        if !self.fits_free(&state, definition.get()) {
             return Ok(state);
         }
         let held = Held::new(alloc, *self, definition.copy(alloc)?);
@@ -260,7 +260,7 @@ impl Site {
         ensures at { IfOk result (λ s. IsAt (site_of self.now) s) }
     {
         match change {
-            Change::Bind(definition) => self.bound_with(alloc, state, definition.get()),
+            Change::Bind(definition) => self.bound_with(alloc, state, definition),
             Change::Gone(old) => Ok(self.gone(state, *old)),
             _ => Ok(state),
         }

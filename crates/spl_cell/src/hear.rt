@@ -1,5 +1,5 @@
 //! A message comes from another node.
-ghost use Rattle.std.specs.Prelude.{◌≡◌, ◌&&◌, true, false, not, None, IfOk};
+ghost use Rattle.std.specs.Prelude.{◌==◌, ◌≡◌, ◌&&◌, true, false, not, None, IfOk};
 ghost use Rattle.std.specs.Str.{bytes_eq};
 ghost use Rattle.spl_agree.specs.Fits.{generation_of};
 ghost use Rattle.spl_circuit.specs.Nodes.{position};
@@ -129,6 +129,30 @@ impl Site {
         self.replies(alloc, Note::Returned(UNBOUND), from, refused)
     }
 
+    /// Whether a request for a proposal can bind the definition.
+    #[tactic(auto, using(crate::proofs::Binds::bind_facts))]
+    fn can_bind_asked(
+        &self,
+        state: &State,
+        from: &NodeId,
+        generation: Generation,
+        place: Place,
+        definition: &Definition,
+    ) -> bool
+        ensures valid { result ≡ true → broken definition.now ≡ None }
+        ensures member { result ≡ true → is_member definition.now self.now.here ≡ true }
+        ensures generation { result ≡ true → definition.now.generation ≡ generation }
+        ensures value { result ≡ (place == 0 && (can_bind (site_of self.now) (cell_of state.now) generation definition.now && bytes_eq (admin definition.now) from.now)) }
+    {
+        if place.0 != 0 {
+            return false;
+        }
+        if !self.can_bind(state, generation, definition) {
+            return false;
+        }
+        definition.admin_coordinator() == *from
+    }
+
     /// A request at a cell that isn't bound to its generation, or not open.
     #[tactic(auto, using(crate::proofs::Positions::sender_facts, crate::proofs::Binds::bind_facts))]
     fn asked_first(
@@ -147,14 +171,8 @@ impl Site {
         let ActKind::Propose(definition) = &act.kind else {
             return self.declines(alloc, from, generation, round);
         };
-        let definition = definition.get();
-        if place.0 != 0 {
-            return self.declines(alloc, from, generation, round);
-        }
-        if !self.can_bind(state, generation, definition) {
-            return self.declines(alloc, from, generation, round);
-        }
-        if definition.admin_coordinator() != *from {
+        let terms = definition.get();
+        if !self.can_bind_asked(state, from, generation, place, terms) {
             return self.declines(alloc, from, generation, round);
         }
         let message = CommitMsg::VoteRequest {
@@ -163,7 +181,7 @@ impl Site {
             place,
             value: act.copy(alloc)?,
         };
-        let sender = position(definition.members.as_slice(), from);
+        let sender = position(terms.members.as_slice(), from);
         let event = GroupEvent::From { sender, message };
         self.binds(alloc, Say::Delivered, definition, from, &event)
     }
@@ -211,8 +229,7 @@ impl Site {
         let ActKind::Propose(definition) = &act.kind else {
             return Ok(self.ignores(alloc));
         };
-        let definition = definition.get();
-        if !self.can_bind_forwarded(state, from, generation, &act.node, definition) {
+        if !self.can_bind_forwarded(state, from, generation, &act.node, definition.get()) {
             return self.returns_unbound(alloc, from, generation, act);
         }
         let event = GroupEvent::Submit(act.copy(alloc)?);

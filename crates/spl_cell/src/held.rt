@@ -1,6 +1,6 @@
 //! A bound cell.
 ghost use Rattle.std.specs.Prelude.{◌≡◌, ◌&&◌, [], true, None, length, IfOk};
-ghost use Rattle.spl_agree.specs.Member.{values};
+ghost use Rattle.spl_agree.specs.Member.{values, new_member};
 ghost use Rattle.spl_agree.specs.Fits.{IsDue};
 ghost use Rattle.spl_circuit.specs.Nodes.{position, has_node};
 ghost use Rattle.spl_circuit.specs.Rules.{broken, is_member};
@@ -8,14 +8,14 @@ ghost use Rattle.spl_rules.specs.Cells.{Acts, Serves, fresh, admin_group, servic
 ghost use Rattle.spl_rules.specs.Plans.{admin_lane, service_lane, group_row, planned};
 ghost use Rattle.spl_cell.specs.Says.{say_of};
 ghost use Rattle.spl_cell.specs.Sites.{site_of};
-ghost use Rattle.spl_cell.specs.Views.{IsSettledHeld};
+ghost use Rattle.spl_cell.specs.Views.{IsSettledHeld, IsSeated};
 
 use crate::node::position;
 use crate::plans::Say;
 use crate::site::Site;
 use spl_admin::Ledger;
 use spl_agree::{Generation, GroupEvent, GroupPlan};
-use spl_base::NodeId;
+use spl_base::{Boxed, NodeId};
 use spl_circuit::{Act, Definition, Lifecycle, Mark, Members};
 use spl_command::Batch;
 use spl_commit::Member;
@@ -46,28 +46,69 @@ impl Model for Held {
     ghost invariant = { λ s. IsPlaced s.site.here s.acts.content.definition s.acts s.batches };
 }
 
+/// The fresh member of a node in the admin group of a definition.
+#[tactic(auto, using(crate::proofs::Rosters::seat_facts))]
+pub(crate) fn first_acts(
+    alloc: Global,
+    here: &NodeId,
+    definition: Boxed<Definition>,
+) -> Member<Ledger>
+    requires valid { broken definition ≡ None }
+    requires member { is_member definition here.now ≡ true }
+    ensures content { result.content ≡ record { definition = definition; acts = [] } }
+    ensures fresh { result.state ≡ new_member }
+    ensures seated { IsSeated (admin_group definition) (position definition.members here.now) result }
+{
+    let terms = definition.get();
+    let generation = terms.generation;
+    let members = terms.members.as_slice();
+    let count = members.len() as u8;
+    let coordinator = position(members, &terms.admin_coordinator());
+    let here = position(members, here);
+    let ledger = Ledger::new(alloc, definition);
+    Member::new(alloc, ledger, generation, count, coordinator, here)
+}
+
+/// The fresh member of a node in the service group of a definition.
+#[tactic(auto, using(crate::proofs::Rosters::seat_facts))]
+fn first_batches(alloc: Global, here: &NodeId, definition: &Definition) -> Member<Service>
+    requires valid { broken definition.now ≡ None }
+    requires member { is_member definition.now here.now ≡ true }
+    ensures content { result.content ≡ [] }
+    ensures fresh { result.state ≡ new_member }
+    ensures seated { IsSeated (service_group definition.now) (position definition.now.members here.now) result }
+{
+    let members = definition.members.as_slice();
+    let count = members.len() as u8;
+    let coordinator = position(members, &definition.service_coordinator());
+    let here = position(members, here);
+    let service = Service::new(alloc);
+    Member::new(
+        alloc,
+        service,
+        definition.generation,
+        count,
+        coordinator,
+        here,
+    )
+}
+
 impl Held {
     /// A cell that is bound to a definition, open and fresh.
     #[tactic(auto, using(crate::proofs::Rosters::seat_facts))]
-    pub(crate) fn new(alloc: Global, site: Site, definition: Definition) -> Held
+    pub(crate) fn new(alloc: Global, site: Site, definition: Boxed<Definition>) -> Held
         requires valid { broken definition ≡ None }
         requires member { is_member definition site.here ≡ true }
         ensures { result ≡ record { site = site_of site; bound = fresh definition } }
     {
-        let generation = definition.generation;
-        let members = definition.members.as_slice();
-        let count = members.len() as u8;
-        let admin = position(members, &definition.admin_coordinator());
-        let service = position(members, &definition.service_coordinator());
-        let here = position(members, &site.here);
-        let ledger = Ledger::new(alloc, definition);
-        let batches = Service::new(alloc);
+        let batches = first_batches(alloc, &site.here, definition.get());
+        let acts = first_acts(alloc, &site.here, definition);
         Held {
             site,
             mark: Mark::Open,
             turn: 0,
-            acts: Member::new(alloc, ledger, generation, count, admin, here),
-            batches: Member::new(alloc, batches, generation, count, service, here),
+            acts,
+            batches,
         }
     }
 
@@ -93,6 +134,13 @@ impl Held {
         ensures member { is_member self.now.bound.definition self.now.site.here ≡ true }
     {
         self.acts.content().definition()
+    }
+
+    /// The same definition, to be shared.
+    pub(crate) fn shared_definition(&self) -> &Boxed<Definition>
+        ensures { result.now ≡ self.now.bound.definition }
+    {
+        self.acts.content().shared_definition()
     }
 
     /// The batches that are committed here.

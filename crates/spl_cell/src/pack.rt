@@ -9,7 +9,7 @@ ghost use Rattle.spl_cell.specs.States.{cell_of};
 use crate::held::Held;
 use crate::state::State;
 use spl_agree::GroupChanges;
-use spl_base::{Boxed, Value};
+use spl_base::Value;
 use spl_circuit::{Act, Mark};
 use spl_command::Batch;
 use spl_wire::Change;
@@ -70,8 +70,8 @@ impl Held {
         ensures { IfOk result (λ cs. cs.items ≡ Change.Bind self.now.bound.definition ∷ Change.Turn self.now.bound.turn ∷ []) }
     {
         let mut all = Vec::new(alloc);
-        let bound = Boxed::new(alloc, self.definition().copy(alloc)?)?;
-        all.push(Change::Bind(bound))?;
+        let definition = self.shared_definition().copy(alloc)?;
+        all.push(Change::Bind(definition))?;
         all.push(Change::Turn(self.turn))?;
         Ok(all)
     }

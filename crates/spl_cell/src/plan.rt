@@ -35,7 +35,7 @@ impl Site {
         ensures { IfOk result (λ p. p ≡ planned (site_of self.now) (other_does (site_of self.now) (cell_of state.now) event.now)) }
     {
         match event {
-            Event::Propose(definition) => self.proposes(alloc, state, definition.get()),
+            Event::Propose(definition) => self.proposes(alloc, state, definition),
             Event::Deliver { from, message } => {
                 self.other_hears(alloc, state, from, message.get())
             }
@@ -60,7 +60,7 @@ impl Site {
             return self.other_plan(alloc, state, event);
         };
         match event {
-            Event::Propose(definition) => self.proposes(alloc, state, definition.get()),
+            Event::Propose(definition) => self.proposes(alloc, state, definition),
             Event::Vote { accept } => held.votes(alloc, vote_kind(*accept)),
             Event::Remove => held.removes(alloc),
             Event::Abandon => held.abandons(alloc),

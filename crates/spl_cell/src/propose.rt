@@ -28,19 +28,18 @@ fn stale_or_held(bound: Generation, definition: &Definition) -> Refusal
 
 impl Site {
     /// The proposal of a definition by the node: its first act.
-    fn proposal(&self, alloc: Global, definition: &Definition) -> Result<Act, AllocError>
+    fn proposal(&self, alloc: Global, definition: &Boxed<Definition>) -> Result<Act, AllocError>
         ensures { IfOk result (λ a. a ≡ proposal self.now.here definition.now) }
     {
-        let proposed = Boxed::new(alloc, definition.copy(alloc)?)?;
         Ok(Act {
             node: self.here,
             turn: 1,
-            kind: ActKind::Propose(proposed),
+            kind: ActKind::Propose(definition.copy(alloc)?),
         })
     }
 
     /// The cell is bound, and the proposal is submitted.
-    fn submits(&self, alloc: Global, definition: &Definition) -> Result<Plan, AllocError>
+    fn submits(&self, alloc: Global, definition: &Boxed<Definition>) -> Result<Plan, AllocError>
         requires valid { broken definition.now ≡ None }
         requires member { is_member definition.now self.now.here ≡ true }
         ensures { IfOk result (λ p. p ≡ planned (site_of self.now) (Binds Submitted definition.now self.now.here (GroupEvent.Submit (proposal self.now.here definition.now)))) }
@@ -54,7 +53,7 @@ impl Site {
         &self,
         alloc: Global,
         state: &State,
-        definition: &Definition,
+        definition: &Boxed<Definition>,
     ) -> Result<Plan, AllocError>
         requires valid { broken definition.now ≡ None }
         requires member { is_member definition.now self.now.here ≡ true }
@@ -64,10 +63,10 @@ impl Site {
             State::Empty => self.submits(alloc, definition),
             State::Held(held) => {
                 let bound = held.definition().generation;
-                Ok(refuses(alloc, stale_or_held(bound, definition)))
+                Ok(refuses(alloc, stale_or_held(bound, definition.get())))
             }
             State::Purged(old) => {
-                if old.0 < definition.generation.0 {
+                if old.0 < definition.get().generation.0 {
                     return self.submits(alloc, definition);
                 }
                 let bound = *old;
@@ -81,14 +80,14 @@ impl Site {
         &self,
         alloc: Global,
         state: &State,
-        definition: &Definition,
+        definition: &Boxed<Definition>,
     ) -> Result<Plan, AllocError>
         ensures { IfOk result (λ p. p ≡ planned (site_of self.now) (proposes (site_of self.now) definition.now (cell_of state.now) (broken definition.now))) }
     {
-        if let Some(rule) = definition.fault() {
+        if let Some(rule) = definition.get().fault() {
             return Ok(refuses(alloc, Refusal::BadDefinition(rule)));
         }
-        if !definition.is_member(&self.here) {
+        if !definition.get().is_member(&self.here) {
             return Ok(refuses(alloc, Refusal::NotMember));
         }
         self.proposes_at(alloc, state, definition)

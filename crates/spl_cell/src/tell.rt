@@ -6,7 +6,7 @@ ghost use Rattle.spl_rules.specs.Plans.{planned};
 use crate::held::Held;
 use crate::plans::tells_only;
 use spl_agree::Agreed;
-use spl_base::{Boxed, Value};
+use spl_base::Value;
 use spl_commit::Member;
 use spl_wire::{Answer, Plan};
 use std::alloc::{AllocError, Global};
@@ -82,11 +82,9 @@ impl Held {
     pub(crate) fn details(&self, alloc: Global) -> Result<Plan, AllocError>
         ensures { IfOk result (λ p. p ≡ planned self.now.site (Tells (details self.now.bound))) }
     {
-        let definition = self.definition();
-        let hash = definition.hash(alloc)?;
-        let definition = Boxed::new(alloc, definition.copy(alloc)?)?;
+        let hash = self.definition().hash(alloc)?;
         let answer = Answer::Detail {
-            definition,
+            definition: self.shared_definition().copy(alloc)?,
             hash,
             lifecycle: self.lifecycle(),
             mark: self.mark,

@@ -1,19 +1,35 @@
 use Rattle.std.proofs.Common.{◌≡◌, sym, ap, subst, ◌∙◌}
 use Rattle.std.specs.Prelude.{IfOk}
+use Rattle.spl_agree.specs.declared.plan.GroupPlan.{GroupPlan}
 use Rattle.spl_agree.specs.Fits.{IsDue}
+use Rattle.spl_agree.specs.Member.{new_member}
+use Rattle.spl_agree.specs.Rows.{row}
+use Rattle.spl_circuit.specs.declared.act.Act.{Act}
 use Rattle.spl_circuit.specs.declared.definition.Definition.{Definition}
 use Rattle.spl_circuit.specs.Nodes.{position}
-use Rattle.spl_rules.specs.Cells.{Site, fresh, admin_group}
-use Rattle.spl_rules.specs.Plans.{admin_lane, group_row}
-use Rattle.spl_cell.specs.Sites.{site_of}
-use Rattle.spl_cell.specs.Views.{HeldView}
+use Rattle.spl_circuit.specs.Acts.{act_rules}
+use Rattle.spl_admin.specs.Kept.{LedgerView}
+use Rattle.spl_rules.specs.Cells.{admin_group}
+use Rattle.spl_cell.proofs.Seats.{new_is_settled, new_is_due, new_row}
 use Rattle.spl_cell.proofs.site.Site.first_row.Goals as goal
 
-abbrev new_view : Site → Definition → HeldView
-new_view site d = record { site = site; bound = fresh d }
+pub plan-requires-clause-settled : goal.plan-requires-clause-settled
+plan-requires-clause-settled c =
+    let m = c.first_acts-acts.result in
+    let s = c.first_acts-acts.ensures in
+    new_is_settled _ _ m (act_rules m.content.definition) (ap (λ (l : LedgerView). act_rules l.definition) s.content) s.fresh s.seated
 
-pub admin_row-requires-clause-due : goal.admin_row-requires-clause-due
-admin_row-requires-clause-due c = subst (λ (h : HeldView). IsDue (admin_group h.bound.definition) (position h.bound.definition.members h.site.here) h.bound.acts c.args.event.now) (sym (c.new-held.ensures ∙ ap (new_view (site_of c.args.self.now)) c.in_ok-copy.ensures)) c.requires.due
+pub plan-requires-clause-due : goal.plan-requires-clause-due
+plan-requires-clause-due c =
+    let m = c.first_acts-acts.result in
+    let s = c.first_acts-acts.ensures in
+    new_is_due _ _ m (act_rules m.content.definition) (ap (λ (l : LedgerView). act_rules l.definition) s.content) s.fresh s.seated c.args.event.now
+    (subst (λ (d : Definition). IsDue (admin_group d) (position d.members c.args.self.now.here) new_member c.args.event.now) (sym c.in_ok-copy.ensures) c.requires.due)
 
 pub returns : goal.returns
-returns c = subst (λ (h : HeldView). IfOk c.admin_row.result (λ p. p ≡ group_row (admin_lane h.site h.bound.definition) h.bound.acts c.args.event.now)) (c.new-held.ensures ∙ ap (new_view (site_of c.args.self.now)) c.in_ok-copy.ensures) c.admin_row.ensures
+returns c =
+    let m = c.first_acts-acts.result in
+    let s = c.first_acts-acts.ensures in
+    let is = new_row _ _ m (act_rules m.content.definition) (ap (λ (l : LedgerView). act_rules l.definition) s.content) s.fresh s.seated c.args.event.now
+    ∙ ap (λ (d : Definition). row (admin_group d) (position d.members c.args.self.now.here) new_member c.args.event.now) c.in_ok-copy.ensures in
+    subst (λ (p : GroupPlan Act). IfOk c.plan.result (λ q. q ≡ p)) is c.plan.ensures

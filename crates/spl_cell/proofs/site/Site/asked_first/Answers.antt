@@ -1,0 +1,16 @@
+use Rattle.std.proofs.Common.{◌≡◌, ℕ, sym, ap, ◌∙◌}
+use Rattle.spl_circuit.specs.declared.definition.Definition.{Definition}
+use Rattle.spl_circuit.specs.Nodes.{NodeId, position}
+use Rattle.spl_cell.proofs.Positions.{sender_other}
+use Rattle.spl_cell.proofs.site.Site.asked_first.Goals as goal
+
+pub binds-requires-clause-due : goal.binds-requires-clause-due
+binds-requires-clause-due c =
+    let yes = c.if-not-can_bind_asked.false in
+    let can = c.can_bind_asked.ensures in
+    let from : NodeId = c.args.from.now in
+    let here : NodeId = c.args.self.now.here in
+    let apart = sender_other c.get-terms.result.now from here (can.valid yes) (can.member yes) c.requires.other in (
+      sym (can.generation yes) ∙ ap (λ (d : Definition). d.generation) c.get-terms.ensures,
+      λ q. apart (sym (c.position-sender.ensures ∙ ap (λ ms. position ms from) c.as_slice.ensures) ∙ q ∙ ap (λ (d : Definition). position d.members here) (sym c.get-terms.ensures)),
+    )
