@@ -72,7 +72,7 @@ fn carried_out(cell: &mut Cell, alloc: Global, event: &Event) -> Result<Done, Al
     })
 }
 
-/// The same, but after an error the cell is empty.
+/// The same, but a root keeps the digests that it makes, and after an error the cell is empty.
 pub(crate) fn handled(cell: &mut Cell, alloc: Global, event: &Event) -> Result<Done, AllocError>
     requires sound { IsSound cell.old }
     requires own { IsFor cell.old.site event.now }
@@ -81,6 +81,9 @@ pub(crate) fn handled(cell: &mut Cell, alloc: Global, event: &Event) -> Result<D
     ensures sound { IsSound cell.new }
     ensures given { IfOk result (λ done. IsGiven cell.old.site cell.old.state (plan_of cell.old.site cell.old.state event.now) done) }
 {
+    if matches!(event, Event::Root) {
+        cell.renew();
+    }
     match carried_out(cell, alloc, event) {
         Ok(done) => Ok(done),
         Err(AllocError) => {
