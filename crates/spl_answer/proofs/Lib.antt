@@ -1,1 +1,3 @@
+mod Ascii
 mod Chains
+mod Floats
