@@ -12,7 +12,7 @@ use Rattle.spl_command.specs.declared.receipt.StateChange.{StateChange}
 use Rattle.spl_command.specs.declared.receipt.StateChange.TheVariants.{Set, Delete}
 use Rattle.spl_command.specs.declared.receipt.StateEvent.{StateEvent}
 use Rattle.spl_command.specs.declared.receipt.Receipt.{Receipt}
-use Rattle.spl_answer.specs.Json.{digits, list, text_or_null, service_value, detail_value}
+use Rattle.spl_answer.specs.Json.{digits, list, text_or_null, service_value, fields_to_management, fields_from_mark, detail_value}
 use Rattle.spl_answer.specs.Receipts.{change_value, event_value, receipt_value, receipts_value}
 
 list_has_none : {A : Type 0} (value : A → Data) → ((x : A) → has_float (value x) ≡ false) → (xs : List A) → has_float (list value xs) ≡ false
@@ -31,7 +31,7 @@ requester_has_none None = refl
 requester_has_none (Some r) = refl
 
 pub detail_has_none : (d : Definition) (hash : List ℕ) (lifecycle : Lifecycle) (mark : Mark) (accepted : List (List ℕ)) (requester : Option (List ℕ)) → has_float (detail_value d hash lifecycle mark accepted requester) ≡ false
-unfolding detail_value
+unfolding fields_to_management fields_from_mark detail_value
 detail_has_none d hash lifecycle mark accepted requester =
     rw (texts_have_none accepted, texts_have_none d.members, requester_has_none requester, list_has_none service_value service_has_none d.services) refl
 

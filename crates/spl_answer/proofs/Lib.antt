@@ -1,3 +1,4 @@
 mod Ascii
 mod Chains
 mod Floats
+mod Keys

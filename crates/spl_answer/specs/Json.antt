@@ -1,7 +1,7 @@
 -- JSON values of texts, bytes, lists and objects, and that of a circuit at a node (docs/RULES.md, Answers).
-use Rattle.std.specs.Prelude.{ℕ, List, [], ◌∷◌, Option, Some, None, map, codes}
+use Rattle.std.specs.Prelude.{ℕ, List, [], ◌∷◌, ◌++◌, Option, Some, None, map, codes}
 use Rattle.hex.specs.Hex.{encode_lower}
-use Rattle.serde_json.specs.Data.{Data, null, number, unsigned, string, array, object, Members, no_members, member}
+use Rattle.serde_json.specs.Data.{Data, null, number, unsigned, string, array, object, Members, no_members, member, put}
 use Rattle.serde_json.specs.View.{items_of}
 use Rattle.spl_circuit.specs.declared.definition.Service.{Service}
 use Rattle.spl_circuit.specs.declared.definition.Definition.{Definition}
@@ -27,6 +27,11 @@ abbrev pub members : List (List ℕ × Data) → Members
 members [] = no_members
 members (m ∷ ms) = member m.0 m.1 (members ms)
 
+-- the members, with these put in one after the other
+abbrev pub put_all : List (List ℕ × Data) → Members → Members
+put_all [] into = into
+put_all (m ∷ ms) into = put_all ms (put m.0 m.1 into)
+
 -- keys with their values, written in byte order
 abbrev pub fields : List (List ℕ × Data) → Data
 fields ms = object (members ms)
@@ -38,18 +43,25 @@ service_value s = fields (
     ∷ (codes "type", string s.kind)
     ∷ [])
 
-unfoldable pub detail_value : Definition → List ℕ → Lifecycle → Mark → List (List ℕ) → Option (List ℕ) → Data
-detail_value d hash lifecycle mark accepted requester = fields (
+unfoldable pub fields_to_management : Definition → List ℕ → Lifecycle → List (List ℕ) → List (List ℕ × Data)
+fields_to_management d hash lifecycle accepted =
     (codes "accepted", list string accepted)
     ∷ (codes "generation", natural d.generation)
     ∷ (codes "hash", digits hash)
     ∷ (codes "id", string d.id)
     ∷ (codes "lifecycle", string (lifecycle_text lifecycle))
     ∷ (codes "management", string d.management)
-    ∷ (codes "mark", string (mark_text mark))
+    ∷ []
+
+unfoldable pub fields_from_mark : Definition → Mark → Option (List ℕ) → List (List ℕ × Data)
+fields_from_mark d mark requester =
+    (codes "mark", string (mark_text mark))
     ∷ (codes "members", list string d.members)
     ∷ (codes "name", string d.name)
     ∷ (codes "requester", text_or_null requester)
     ∷ (codes "services", list service_value d.services)
     ∷ (codes "version", natural d.version)
-    ∷ [])
+    ∷ []
+
+unfoldable pub detail_value : Definition → List ℕ → Lifecycle → Mark → List (List ℕ) → Option (List ℕ) → Data
+detail_value d hash lifecycle mark accepted requester = fields (fields_to_management d hash lifecycle accepted ++ fields_from_mark d mark requester)
