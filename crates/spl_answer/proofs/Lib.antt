@@ -1,1 +1,4 @@
+mod Ascii
 mod Chains
+mod Floats
+mod Keys

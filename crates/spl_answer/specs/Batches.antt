@@ -1,12 +1,16 @@
 -- The texts of answers about batches and the state that they left (docs/RULES.md, Answers).
 use Rattle.std.specs.Prelude.{ℕ, List, ◌∷◌, ◌++◌, length, Option, Some, None, codes, decimal}
 use Rattle.std.specs.List.{flat_map}
+use Rattle.hex.specs.Hex.{encode_lower}
 use Rattle.spl_wire.specs.declared.answer.Entry.{Entry}
-use Rattle.spl_answer.specs.Json.{hex_text}
 
 -- each item behind a space
 abbrev pub spaced : {A : Type 0} → (A → List ℕ) → List A → List ℕ
 spaced text xs = flat_map (λ x. 32 ∷ text x) xs
+
+-- two digits of 0 to 9 and a to f for each byte
+abbrev pub hex_text : List ℕ → List ℕ
+hex_text bytes = encode_lower bytes
 
 abbrev pub root_text : ℕ → List ℕ → List ℕ
 root_text count root = codes "ok root " ++ (decimal count ++ (32 ∷ hex_text root))

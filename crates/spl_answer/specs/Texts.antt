@@ -1,5 +1,7 @@
 -- The texts of answers (docs/RULES.md, Answers).
 use Rattle.std.specs.Prelude.{ℕ, List, [], ◌∷◌, ◌++◌, if◌then◌else◌, codes, decimal}
+use Rattle.std.specs.List.{flat_map}
+use Rattle.serde_json.specs.Written.{compact_text}
 use Rattle.spl_agree.specs.declared.reason.Reason.{Reason}
 use Rattle.spl_agree.specs.declared.event.Note.{Note}
 use Rattle.spl_agree.specs.declared.event.Note.TheVariants as note
@@ -12,10 +14,14 @@ use Rattle.spl_wire.specs.declared.answer.BatchStatus.TheVariants as status
 use Rattle.spl_wire.specs.declared.answer.Answer.{Answer}
 use Rattle.spl_wire.specs.declared.answer.Answer.TheVariants.{Submitted, Left, Show, Detail, Root, History, Value, Listed, Status, Receipt, Routed, Notes, Delivered, Calm, Power, Roll, Cut, Fault, Refused}
 use Rattle.spl_answer.specs.Names.{lifecycle_text, mark_text, fault_text, bit_text}
-use Rattle.spl_answer.specs.Json.{others, detail}
-use Rattle.spl_answer.specs.Receipts.{receipts_json}
+use Rattle.spl_answer.specs.Json.{detail_value}
+use Rattle.spl_answer.specs.Receipts.{receipts_value}
 use Rattle.spl_answer.specs.Nodes.{power_text, roll_text}
 use Rattle.spl_answer.specs.Batches.{root_text, history_text, value_text, entries_text}
+
+-- each item behind a `,`
+abbrev pub others : {A : Type 0} → (A → List ℕ) → List A → List ℕ
+others text xs = flat_map (λ x. 44 ∷ text x) xs
 
 -- the nodes with `,` between them, or `-` where there are none
 abbrev pub nodes_text : List (List ℕ) → List ℕ
@@ -84,13 +90,13 @@ text (Submitted known) = if known then codes "ok known" else codes "ok queued"
 text (Left purged) = if purged then codes "ok purged" else codes "ok abandoned"
 text (Show generation lifecycle mark accepted acts acts_pending batches batches_pending) =
     codes "ok circuit " ++ standing_text generation lifecycle mark ++ codes " accepted " ++ nodes_text accepted ++ counts_text (codes " acts ") acts acts_pending ++ counts_text (codes " batches ") batches batches_pending
-text (Detail definition hash lifecycle mark accepted requester) = codes "ok detail " ++ detail definition hash lifecycle mark accepted requester
+text (Detail definition hash lifecycle mark accepted requester) = codes "ok detail " ++ compact_text (detail_value definition hash lifecycle mark accepted requester)
 text (Root count root) = root_text count root
 text (History ids) = history_text ids
 text (Value value) = value_text value
 text (Listed entries) = entries_text entries
 text (Status s) = status_text s
-text (Receipt batch place receipts) = codes "ok receipt " ++ receipts_json batch place receipts
+text (Receipt batch place receipts) = codes "ok receipt " ++ compact_text (receipts_value batch place receipts)
 text Routed = codes "ok routed"
 text (Notes admin service) = codes "ok " ++ (note_text admin ++ (codes " / " ++ note_text service))
 text (Delivered n) = codes "ok " ++ note_text n

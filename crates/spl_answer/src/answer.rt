@@ -4,7 +4,7 @@ ghost use Rattle.spl_answer.specs.Names.{lifecycle_text, mark_text};
 ghost use Rattle.spl_answer.specs.Texts.{text, refusal_text, counts_text, standing_text};
 
 use crate::batches::{append_entries, append_history, append_root, append_status, append_value};
-use crate::json::append_detail;
+use crate::detail::append_detail;
 use crate::names::{bit_name, fault_name, lifecycle_name, mark_name};
 use crate::nodes::{append_power, append_roll};
 use crate::note::append_note;
@@ -19,13 +19,13 @@ use std::alloc::{AllocError, Global};
 fn append_lifecycle(lifecycle: Lifecycle, out: &mut Vec<u8>) -> Result<(), AllocError>
     ensures { OnOk result (out.new.items ≡ out.old.items ++ lifecycle_text lifecycle) }
 {
-    append(lifecycle_name(lifecycle), out)
+    append(lifecycle_name(lifecycle).as_bytes(), out)
 }
 
 fn append_mark(mark: Mark, out: &mut Vec<u8>) -> Result<(), AllocError>
     ensures { OnOk result (out.new.items ≡ out.old.items ++ mark_text mark) }
 {
-    append(mark_name(mark), out)
+    append(mark_name(mark).as_bytes(), out)
 }
 
 fn append_generation(generation: Generation, out: &mut Vec<u8>) -> Result<(), AllocError>
@@ -136,7 +136,7 @@ pub fn append_text(answer: &Answer, out: &mut Vec<u8>) -> Result<(), AllocError>
                 hash,
                 *lifecycle,
                 *mark,
-                accepted.as_slice(),
+                accepted,
                 requester,
                 out,
             )
@@ -152,7 +152,7 @@ pub fn append_text(answer: &Answer, out: &mut Vec<u8>) -> Result<(), AllocError>
             receipts,
         } => {
             append(b"ok receipt ", out)?;
-            append_receipts(*batch, *place, receipts.as_slice(), out)
+            append_receipts(*batch, *place, receipts, out)
         }
         Answer::Routed => append(b"ok routed", out),
         Answer::Notes { admin, service } => {

@@ -1,14 +1,22 @@
 //! The texts of answers about batches and the state that they left.
 ghost use Rattle.std.specs.Prelude.{◌≡◌, ◌++◌, OnOk, decimal};
-ghost use Rattle.spl_answer.specs.Batches.{spaced, root_text, history_text, value_text, entry_text, entries_text};
+ghost use Rattle.spl_answer.specs.Batches.{spaced, hex_text, root_text, history_text, value_text, entry_text, entries_text};
 ghost use Rattle.spl_answer.specs.Texts.{status_text};
 
-use crate::json::append_hex;
 use crate::note::append_reason;
 use crate::part::{append, append_number, append_numbered};
+use hex::encode;
 use spl_base::{BatchId, Piece};
 use spl_wire::{BatchStatus, Entry};
 use std::alloc::AllocError;
+
+/// Appends the bytes as lower-case digits.
+fn append_hex(bytes: &[u8], out: &mut Vec<u8>) -> Result<(), AllocError>
+    ensures { OnOk result (out.new.items ≡ out.old.items ++ hex_text bytes.now) }
+{
+    let text = encode(*out.allocator(), bytes)?;
+    append(text.as_bytes(), out)
+}
 
 /// Appends the text of a root.
 pub(crate) fn append_root(count: u32, root: &[u8], out: &mut Vec<u8>) -> Result<(), AllocError>

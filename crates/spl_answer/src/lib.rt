@@ -3,6 +3,7 @@
 
 mod answer;
 mod batches;
+mod detail;
 mod json;
 mod names;
 mod nodes;

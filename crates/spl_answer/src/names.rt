@@ -5,25 +5,25 @@ ghost use Rattle.spl_answer.specs.Names.{lifecycle_text, mark_text, fault_text, 
 use spl_circuit::{Lifecycle, Mark, RouteFault};
 use spl_wire::Bit;
 
-pub(crate) fn lifecycle_name(lifecycle: Lifecycle) -> &'static [u8]
+pub(crate) fn lifecycle_name(lifecycle: Lifecycle) -> &'static str
     ensures { result.now ≡ lifecycle_text lifecycle }
 {
     match lifecycle {
-        Lifecycle::None => b"none",
-        Lifecycle::Proposed => b"proposed",
-        Lifecycle::Active => b"active",
-        Lifecycle::Rejected => b"rejected",
-        Lifecycle::Removed => b"removed",
+        Lifecycle::None => "none",
+        Lifecycle::Proposed => "proposed",
+        Lifecycle::Active => "active",
+        Lifecycle::Rejected => "rejected",
+        Lifecycle::Removed => "removed",
     }
 }
 
-pub(crate) fn mark_name(mark: Mark) -> &'static [u8]
+pub(crate) fn mark_name(mark: Mark) -> &'static str
     ensures { result.now ≡ mark_text mark }
 {
     match mark {
-        Mark::Open => b"open",
-        Mark::Abandoned => b"abandoned",
-        Mark::Purged => b"purged",
+        Mark::Open => "open",
+        Mark::Abandoned => "abandoned",
+        Mark::Purged => "purged",
     }
 }
 

@@ -1,7 +1,6 @@
 //! Appending pieces of text.
 ghost use Rattle.std.specs.Prelude.{◌≡◌, ◌++◌, OnOk, decimal};
-ghost use Rattle.spl_answer.specs.Json.{others};
-ghost use Rattle.spl_answer.specs.Texts.{nodes_text};
+ghost use Rattle.spl_answer.specs.Texts.{others, nodes_text};
 
 use spl_base::NodeId;
 use spl_circuit::Members;

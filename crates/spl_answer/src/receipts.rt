@@ -1,134 +1,91 @@
 //! The JSON of the receipts of a batch.
-ghost use Rattle.std.specs.Prelude.{◌≡◌, ◌++◌, ◌∷◌, OnOk, decimal, codes};
-ghost use Rattle.spl_answer.specs.Json.{array, field};
-ghost use Rattle.spl_answer.specs.Receipts.{digits, change_json, receipt_json, receipts_json};
+ghost use Rattle.std.specs.Prelude.{◌≡◌, ◌++◌, IfOk, OnOk};
+ghost use Rattle.serde_json.specs.View.{view};
+ghost use Rattle.serde_json.specs.Written.{compact_text};
+ghost use Rattle.spl_answer.specs.Receipts.{receipts_value};
 
-use crate::json::{
-    Json, append_array, append_array_field, append_digits, append_digits_field, append_key,
-    append_number_field, append_text_field,
-};
-use crate::part::{append, append_number};
+use crate::json::{Json, append_json, digits_of};
+use serde_json::{Value, json};
 use spl_agree::Place;
-use spl_base::{BatchId, Piece};
-use spl_command::{Receipt, StateChange, StateEvent};
-use spl_state::Address;
-use std::alloc::AllocError;
-
-impl Json for Piece {
-    ghost use Rattle.spl_answer.specs.Receipts.{digits};
-
-    ghost json = { digits };
-
-    fn append_json(&self, out: &mut Vec<u8>) -> Result<(), AllocError> {
-        append_digits(self.bytes(), out)
-    }
-}
-
-#[tactic(auto, unfolding(crate::specs::Json::field))]
-fn append_address_field(address: &Address, out: &mut Vec<u8>) -> Result<(), AllocError>
-    ensures { OnOk result (out.new.items ≡ out.old.items ++ field (codes "address") (digits address.now.0)) }
-{
-    append_key(b"address", out)?;
-    append_digits(&address.0, out)
-}
-
-#[tactic(auto, unfolding(crate::specs::Json::field))]
-fn append_no_value(out: &mut Vec<u8>) -> Result<(), AllocError>
-    ensures { OnOk result (out.new.items ≡ out.old.items ++ (44 ∷ field (codes "value") (codes "null"))) }
-{
-    append(b",", out)?;
-    append_key(b"value", out)?;
-    append(b"null", out)
-}
+use spl_base::BatchId;
+use spl_command::{Receipt, Receipts, StateChange, StateEvent};
+use std::alloc::{AllocError, Global};
 
 impl Json for StateChange {
-    ghost use Rattle.spl_answer.specs.Receipts.{change_json};
+    ghost use Rattle.spl_answer.specs.Receipts.{change_value};
 
-    ghost json = { change_json };
+    ghost json = { change_value };
 
-    #[tactic(auto, unfolding(crate::specs::Receipts::change_json))]
-    fn append_json(&self, out: &mut Vec<u8>) -> Result<(), AllocError> {
-        append(b"{", out)?;
+    #[tactic(auto, unfolding(crate::specs::Receipts::change_value))]
+    fn to_json(&self, alloc: Global) -> Result<Value, AllocError> {
         match self {
-            StateChange::Set(address, value) => {
-                append_address_field(address, out)?;
-                append_digits_field(b"value", value.bytes(), out)?;
-            }
-            StateChange::Delete(address) => {
-                append_address_field(address, out)?;
-                append_no_value(out)?;
-            }
+            StateChange::Set(address, value) => json!(in alloc; {
+                "address": digits_of(alloc, &address.0)?,
+                "value": value.to_json(alloc)?,
+            }),
+            StateChange::Delete(address) => json!(in alloc; {
+                "address": digits_of(alloc, &address.0)?,
+                "value": null,
+            }),
         }
-        append(b"}", out)
     }
-}
-
-#[tactic(auto, unfolding(crate::specs::Json::field))]
-fn append_data_field(data: &Piece, out: &mut Vec<u8>) -> Result<(), AllocError>
-    ensures { OnOk result (out.new.items ≡ out.old.items ++ field (codes "data") (digits «data».now)) }
-{
-    append_key(b"data", out)?;
-    append_digits(data.bytes(), out)
 }
 
 impl Json for StateEvent {
-    ghost use Rattle.spl_answer.specs.Receipts.{event_json};
+    ghost use Rattle.spl_answer.specs.Receipts.{event_value};
 
-    ghost json = { event_json };
+    ghost json = { event_value };
 
-    #[tactic(auto, unfolding(crate::specs::Receipts::event_json))]
-    fn append_json(&self, out: &mut Vec<u8>) -> Result<(), AllocError> {
-        append(b"{", out)?;
-        append_data_field(&self.data, out)?;
-        append_text_field(b"type", self.kind.bytes(), out)?;
-        append(b"}", out)
+    #[tactic(auto, unfolding(crate::specs::Receipts::event_value))]
+    fn to_json(&self, alloc: Global) -> Result<Value, AllocError> {
+        json!(in alloc; {
+            "data": self.data.to_json(alloc)?,
+            "type": self.kind.to_json(alloc)?,
+        })
     }
-}
-
-#[tactic(auto, unfolding(crate::specs::Json::field))]
-fn append_changes_field(changes: &[StateChange], out: &mut Vec<u8>) -> Result<(), AllocError>
-    ensures { OnOk result (out.new.items ≡ out.old.items ++ field (codes "changes") (array change_json changes.now)) }
-{
-    append_key(b"changes", out)?;
-    append_array(changes, out)
 }
 
 impl Json for Receipt {
-    ghost use Rattle.spl_answer.specs.Receipts.{receipt_json};
+    ghost use Rattle.spl_answer.specs.Receipts.{receipt_value};
 
-    ghost json = { receipt_json };
+    ghost json = { receipt_value };
 
-    #[tactic(auto, unfolding(crate::specs::Receipts::receipt_json))]
-    fn append_json(&self, out: &mut Vec<u8>) -> Result<(), AllocError> {
-        append(b"{", out)?;
-        append_changes_field(self.changes.as_slice(), out)?;
-        append_array_field(b"data", self.returned.as_slice(), out)?;
-        append_array_field(b"events", self.events.as_slice(), out)?;
-        append(b"}", out)
+    #[tactic(auto, unfolding(crate::specs::Receipts::receipt_value))]
+    fn to_json(&self, alloc: Global) -> Result<Value, AllocError> {
+        json!(in alloc; {
+            "changes": self.changes.to_json(alloc)?,
+            "data": self.returned.to_json(alloc)?,
+            "events": self.events.to_json(alloc)?,
+        })
     }
 }
 
-#[tactic(auto, unfolding(crate::specs::Json::field))]
-fn append_batch_field(batch: BatchId, out: &mut Vec<u8>) -> Result<(), AllocError>
-    ensures { OnOk result (out.new.items ≡ out.old.items ++ field (codes "batch") (decimal batch)) }
+#[tactic(auto, unfolding(crate::specs::Receipts::receipts_value))]
+fn receipts_of(
+    alloc: Global,
+    batch: BatchId,
+    place: Place,
+    receipts: &Receipts,
+) -> Result<Value, AllocError>
+    ensures { IfOk result (λ v. view v ≡ receipts_value batch place receipts.now) }
 {
-    append_key(b"batch", out)?;
-    append_number(batch.0, out)
+    json!(in alloc; {
+        "batch": batch.0,
+        "place": place.0,
+        "transactions": receipts.to_json(alloc)?,
+    })
 }
 
 /// Appends the JSON of the receipts of the batch at this place.
-#[tactic(auto, unfolding(crate::specs::Receipts::receipts_json))]
+#[tactic(auto, using(crate::proofs::Floats::receipts_have_none))]
 pub(crate) fn append_receipts(
     batch: BatchId,
     place: Place,
-    receipts: &[Receipt],
+    receipts: &Receipts,
     out: &mut Vec<u8>,
 ) -> Result<(), AllocError>
-    ensures { OnOk result (out.new.items ≡ out.old.items ++ receipts_json batch place receipts.now) }
+    ensures { OnOk result (out.new.items ≡ out.old.items ++ compact_text (receipts_value batch place receipts.now)) }
 {
-    append(b"{", out)?;
-    append_batch_field(batch, out)?;
-    append_number_field(b"place", u64::from(place.0), out)?;
-    append_array_field(b"transactions", receipts, out)?;
-    append(b"}", out)
+    let value = receipts_of(*out.allocator(), batch, place, receipts)?;
+    append_json(&value, out)
 }

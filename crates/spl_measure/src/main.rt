@@ -1,6 +1,8 @@
 //! Runs parts of splinter by themselves, as often as asked, for bench/run to measure.
 #![tactic(auto)]
 
+mod answers;
+
 use spl_base::{Malformed, Reader};
 use spl_command::{Batch, execute};
 use spl_frame::{FrameFault, Framer};
@@ -128,6 +130,8 @@ fn run(rt: &HostRuntime) -> io::Result<Option<u64>> {
         "encode" => encode(rt.alloc(), &bytes, number),
         "frames" => frames(rt.alloc(), &bytes, number),
         "root" => root(rt.alloc(), &bytes, number),
+        "detail" => answers::detail(rt.alloc(), &bytes, number),
+        "receipt" => answers::receipt(rt.alloc(), &bytes, number),
         "execute" => execution(rt.alloc(), &bytes, number),
         _ => return Ok(None),
     };

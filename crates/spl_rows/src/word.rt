@@ -112,7 +112,7 @@ pub fn event(alloc: Global, text: &str) -> Result<Event, RowFault> {
 /// The definition of a line that proposes one.
 pub fn definition(alloc: Global, line: &str) -> Result<Definition, RowFault> {
     match event(alloc, line)? {
-        Event::Propose(definition) => Ok(definition.into_inner()),
+        Event::Propose(definition) => Ok(definition.get().copy(alloc)?),
         _ => Err(RowFault::BadRow),
     }
 }
@@ -120,7 +120,7 @@ pub fn definition(alloc: Global, line: &str) -> Result<Definition, RowFault> {
 /// The batch of a line that submits one.
 pub fn batch(alloc: Global, line: &str) -> Result<Batch, RowFault> {
     match event(alloc, line)? {
-        Event::Submit(batch) => Ok(batch.into_inner()),
+        Event::Submit(batch) => Ok(batch.get().copy(alloc)?),
         _ => Err(RowFault::BadRow),
     }
 }

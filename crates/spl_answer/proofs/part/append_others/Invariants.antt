@@ -1,5 +1,5 @@
 use Rattle.std.proofs.Common.{◌≡◌, ◌++◌, take}
-use Rattle.spl_answer.specs.Json.{others}
+use Rattle.spl_answer.specs.Texts.{others}
 use Rattle.spl_answer.proofs.part.append_others.Given as goal
 
 abbrev pub invariant-loop-node : goal.invariant-loop-node
