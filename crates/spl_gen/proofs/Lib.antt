@@ -1,0 +1,5 @@
+mod Items
+mod Bounds
+mod Counts
+mod Texts
+mod Parts

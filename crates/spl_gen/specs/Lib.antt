@@ -1,0 +1,4 @@
+pub mod Draws
+pub mod Circuits
+pub mod Batches
+pub mod Generated
