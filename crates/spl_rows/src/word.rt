@@ -2,7 +2,7 @@
 use crate::answer::RowFault;
 use hex::FromHexError;
 use spl_agree::Reason;
-use spl_base::{CircuitId, NodeId, ServiceId};
+use spl_base::{CircuitId, NodeId, ServiceId, Value};
 use spl_circuit::Definition;
 use spl_command::Batch;
 use spl_sched::{Line, Step, read_line};
