@@ -8,6 +8,7 @@ mod definitions;
 mod devices;
 mod forms;
 mod frames;
+mod generated;
 mod lines;
 mod registries;
 mod runs;
@@ -45,6 +46,7 @@ fn answer(alloc: Global, table: &str, rest: &str) -> Answered {
         "registry" => registries::read(alloc, rest),
         "source" => devices::taken(alloc, rest),
         "sink" => devices::kept(alloc, rest),
+        "generated" => generated::summed(alloc, rest),
         _ => Err(RowFault::BadRow),
     }
 }
