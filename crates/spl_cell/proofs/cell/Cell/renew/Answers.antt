@@ -8,7 +8,7 @@ use Rattle.spl_cell.proofs.cell.Cell.renew.Goals.{in-Held, in_default}
 
 pub invariant_of-self : goal.invariant_of-self
 invariant_of-self c = elim c.match-self.branch [
-  in-Held w ↦ rw w.self-inside-is
+  | in-Held w ↦ rw w.self-inside-is
       (subst (λ (v : HeldView). (v.site ≡ site_of c.self.inside.site) × IsValid (site_of c.self.inside.site) (Held v.bound)) (sym (w.renew.ensures ∙ w.deref_mut.ensures.value)) (rw w.in-Held.is at c.self.invariant))
   | in_default w ↦ rw w.self-inside-is c.self.invariant
 ]
