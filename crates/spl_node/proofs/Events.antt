@@ -61,7 +61,8 @@ again_made here after v same cells ordered own c = subst (λ (n : NodeId). recor
 
 -- ---- the node behind it
 
-stand_like : (here other : NodeId) (cells like : CircuitId → Cell) (c d : List ℕ) → other ≡ here → ((i : CircuitId) → like i ≡ cells i) → StandFor here cells c d → StandFor other like c d
+-- the same cells, told otherwise
+pub stand_like : (here other : NodeId) (cells like : CircuitId → Cell) (c d : List ℕ) → other ≡ here → ((i : CircuitId) → like i ≡ cells i) → StandFor here cells c d → StandFor other like c d
 stand_like here other cells like c d same all stands = subst (λ (n : NodeId). StandFor n like c d) (sym same) (stand_same here cells like c d (λ i. ap stopped_cell (sym (all i))) stands)
 
 pub node_stands : (m : Node) (here : NodeId) (before after : CircuitId → Cell) (o p x y : Option Image) → here_of m ≡ here → ((c : CircuitId) → cell_of m c ≡ after c) → PairStands is_record m.pairing x y

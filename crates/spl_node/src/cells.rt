@@ -7,7 +7,7 @@ ghost use Rattle.std.specs.List.Sorted.{IsStrictlySortedBy};
 ghost use Rattle.std.specs.Map.{keys_of};
 ghost use Rattle.spl_circuit.specs.Nodes.{NodeId, CircuitId};
 ghost use Rattle.spl_wire.specs.Forms.{record_form};
-ghost use Rattle.spl_rules.specs.Cells.{Empty};
+ghost use Rattle.spl_rules.specs.Cells.{Empty, is_open_cell};
 ghost use Rattle.spl_rules.specs.Plans.{plan_of};
 ghost use Rattle.spl_rules.specs.Valid.{IsFor};
 ghost use Rattle.spl_cell.specs.States.{IsStill};
@@ -85,6 +85,16 @@ impl Cells {
         ensures ordered { IsStrictlySortedBy (slice_cmp nat_cmp) (keys_of self.now.entries) }
     {
         let _ = self.map.len();
+    }
+
+    /// Whether the cell of a circuit is bound and open.
+    pub fn is_open(&self, circuit: &CircuitId) -> bool
+        ensures { result ≡ is_open_cell (cell_at self.now.entries circuit.now) }
+    {
+        match self.map.get(circuit) {
+            Some(cell) => cell.is_open(),
+            None => false,
+        }
     }
 
     /// Carries out the plan of an event at the cell of a circuit. After an error, which comes for

@@ -16,7 +16,7 @@ ghost use Rattle.spl_snapshot.specs.Counting.{chosen, IfBoth, PairLeaves, PairLe
 ghost use Rattle.spl_snapshot.specs.Pairs.{PairStands, is_second, journal_in};
 ghost use Rattle.spl_wire.specs.Bounds.{AllSendable};
 ghost use Rattle.spl_wire.specs.Grouping.{record_of};
-ghost use Rattle.spl_rules.specs.Cells.{Empty, is_bound};
+ghost use Rattle.spl_rules.specs.Cells.{Empty, is_bound, is_open_cell};
 ghost use Rattle.spl_rules.specs.Plans.{plan_of};
 ghost use Rattle.spl_rules.specs.Valid.{IsFor, are_legal};
 ghost use Rattle.spl_node.specs.Kept.{cells_after, packed_node};
@@ -82,6 +82,13 @@ impl Node {
         ensures { result ≡ is_halted self.now }
     {
         self.halted || self.pairing.halted()
+    }
+
+    /// Whether a circuit is bound here and open.
+    pub fn is_open(&self, circuit: &CircuitId) -> bool
+        ensures { result ≡ is_open_cell (cell_of self.now circuit.now) }
+    {
+        self.cells.is_open(circuit)
     }
 
     /// 0 where the journal on the first disk counts, and 1 where that on the second does.
