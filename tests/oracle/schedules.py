@@ -6,6 +6,7 @@ from cells import Bound, Refused, Site
 from values import Batch, Command, Definition, Service, Transaction
 
 LONGEST_LINE = 2048
+MOST_EVENTS = 32768
 NODE = "[a-z0-9-]{1,32}"
 CIRCUIT = "[0-9A-Za-z]{5}-[0-9A-Za-z]{5}"
 SERVICE = "[0-9A-Za-z]{4}"
@@ -18,6 +19,10 @@ TEXT = "[!-<>-~]{1,64}"
 
 class BadLine(Exception):
     """The line isn't one of a schedule."""
+
+
+class TooManyEvents(Exception):
+    """An event more than a run has."""
 
 
 def match(pattern, word):
@@ -137,6 +142,7 @@ class World:
     nodes: list
     sites: dict = field(default_factory=dict)
     sent: dict = field(default_factory=dict)
+    events: int = 0
 
     def known(self, *names):
         for name in names:
@@ -146,6 +152,12 @@ class World:
 
     def at(self, node, circuit):
         return self.sites.setdefault((node, circuit), Site(node, circuit))
+
+    def counted(self):
+        """One event more."""
+        if self.events == MOST_EVENTS:
+            raise TooManyEvents
+        self.events += 1
 
     def happens(self, site, does, *arguments):
         """An event at a site: its answer; what it sends is posted."""
@@ -173,7 +185,9 @@ class World:
         node, circuit, *words = rest
         match(NODE, node), match(CIRCUIT, circuit)
         does, arguments = self.event(word, circuit, words)
-        return self.happens(self.at(self.known(node), circuit), does, *arguments)
+        site = self.at(self.known(node), circuit)
+        self.counted()
+        return self.happens(site, does, *arguments)
 
     def exactly(self, words, count):
         if len(words) != count:
@@ -203,6 +217,7 @@ class World:
         if sender == to:
             raise BadLine
         self.known(sender, to)
+        self.counted()
         return self.deliver(sender, to, circuit, index)
 
     def deliver(self, sender, to, circuit, index):
@@ -223,10 +238,12 @@ class World:
         sites = [self.at(n, circuit) for n in order]
         for _ in range(passes):
             for site in [s for s in sites if isinstance(s.cell, Bound) and s.cell.is_open]:
+                self.counted()
                 self.happens(site, Site.tick)
             for a, b in handed:
                 while handed[a, b] < count(a, b):
                     handed[a, b] += 1
+                    self.counted()
                     self.deliver(a, b, circuit, handed[a, b])
 
 
@@ -242,6 +259,8 @@ def replay(nodes, schedule):
                 written.append(f"{count} {world.run(line.decode('latin-1'))}\n")
         except BadLine:
             return "".join(written), 3, f"bad schedule: line {count}\n"
+        except TooManyEvents:
+            return "".join(written), 4, "too many events\n"
     if rest:
         return "".join(written), 3, f"bad schedule: line {len(lines) + 1}\n"
     return "".join(written), 0, ""
