@@ -6,6 +6,7 @@ from cells import Bound, Refused, Site
 from values import Batch, Command, Definition, Service, Transaction
 
 LONGEST_LINE = 2048
+MOST_EVENTS = 32768
 NODE = "[a-z0-9-]{1,32}"
 CIRCUIT = "[0-9A-Za-z]{5}-[0-9A-Za-z]{5}"
 SERVICE = "[0-9A-Za-z]{4}"
@@ -18,6 +19,10 @@ TEXT = "[!-<>-~]{1,64}"
 
 class BadLine(Exception):
     """The line isn't one of a schedule."""
+
+
+class TooManyEvents(Exception):
+    """The run would have more events than it may."""
 
 
 def match(pattern, word):
@@ -137,6 +142,13 @@ class World:
     nodes: list
     sites: dict = field(default_factory=dict)
     sent: dict = field(default_factory=dict)
+    events: int = 0
+
+    def counted(self):
+        """One event more."""
+        if self.events == MOST_EVENTS:
+            raise TooManyEvents
+        self.events += 1
 
     def known(self, *names):
         for name in names:
@@ -149,6 +161,7 @@ class World:
 
     def happens(self, site, does, *arguments):
         """An event at a site: its answer; what it sends is posted."""
+        self.counted()
         try:
             return does(site, *arguments)
         except Refused as refused:
@@ -208,6 +221,7 @@ class World:
     def deliver(self, sender, to, circuit, index):
         messages = self.sent.get((circuit, sender, to), [])
         if index > len(messages):
+            self.counted()
             return str(Refused(17))
         return self.happens(self.at(to, circuit), Site.deliver, sender, messages[index - 1])
 
@@ -242,6 +256,8 @@ def replay(nodes, schedule):
                 written.append(f"{count} {world.run(line.decode('latin-1'))}\n")
         except BadLine:
             return "".join(written), 3, f"bad schedule: line {count}\n"
+        except TooManyEvents:
+            return "".join(written), 4, "too many events\n"
     if rest:
         return "".join(written), 3, f"bad schedule: line {len(lines) + 1}\n"
     return "".join(written), 0, ""
