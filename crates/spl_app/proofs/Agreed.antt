@@ -6,8 +6,7 @@ use Rattle.spl_base.specs.FormLaws.{and_true}
 use Rattle.spl_sched.specs.declared.line.Line.{Line}
 use Rattle.spl_sched.specs.Grammar.{line_of, spelling, is_line}
 use Rattle.spl_app.specs.Lines.{is_silent}
-use Rattle.spl_app.specs.Run.{said, with_number, numbered}
-use Rattle.spl_app.specs.Behind.{ran}
+use Rattle.spl_app.specs.Run.{said, with_number, numbered, ran}
 
 spelled : (b : Bool) (o : Option Line) (l : Line) → (if b then None else o) ≡ Some l → o ≡ Some l
 spelled true o l e = absurd cc

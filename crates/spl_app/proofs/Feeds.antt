@@ -53,7 +53,7 @@ onto_more b [] more = (onto_line b more, refl)
 onto_more b (x ∷ xs) more = (more, refl)
 
 -- the lines of a front of a text are a front of its lines
-lines_front : (a b : List ℕ) → (rest : List (List ℕ)) × (lines_of (a ++ b) ≡ lines_of a ++ rest)
+pub lines_front : (a b : List ℕ) → (rest : List (List ℕ)) × (lines_of (a ++ b) ≡ lines_of a ++ rest)
 lines_front [] b = (lines_of b, refl)
 lines_front (c ∷ a) b = ⊎_elim
     (λ (is : c ≡ 10). let (rest, same) = lines_front a b in (rest, subst (λ (d : ℕ). lines_of (d ∷ a ++ b) ≡ lines_of (d ∷ a) ++ rest) (sym is) (ap (λ (ls : List (List ℕ)). [] ∷ ls) same)))
@@ -63,13 +63,9 @@ lines_front (c ∷ a) b = ⊎_elim
     (more, lines-other c (a ++ b) other ∙ ap (onto_line c) same ∙ onto ∙ ap (λ (ls : List (List ℕ)). ls ++ more) (sym (lines-other c a other))))
     (cases_eq c 10)
 
-all_front : (P : List ℕ → Type 0) (xs ys : List (List ℕ)) → AllByRecursion P (xs ++ ys) → AllByRecursion P xs
+pub all_front : (P : List ℕ → Type 0) (xs ys : List (List ℕ)) → AllByRecursion P (xs ++ ys) → AllByRecursion P xs
 all_front P [] ys all = tt
 all_front P (x ∷ xs) ys all = (all.0, all_front P xs ys all.1)
-
--- where each line of a text has P, each line of its fronts has it
-pub lines_all_front : (P : List ℕ → Type 0) (a b : List ℕ) → AllByRecursion P (lines_of (a ++ b)) → AllByRecursion P (lines_of a)
-lines_all_front P a b all = let (rest, same) = lines_front a b in all_front P (lines_of a) rest (subst (AllByRecursion P) same all)
 
 -- a text is what stands before a place, the byte there and what stands behind it
 pub split_at : (bytes : List ℕ) (i : ℕ) → i < length bytes → get_or bytes i 0 ≡ 10 → bytes ≡ take i bytes ++ 10 ∷ drop (i + 1) bytes

@@ -1,21 +1,14 @@
 -- What a run over the bytes that were read says of the bytes that a source gave.
-use Rattle.std.proofs.Common.{◌≡◌, ◌≢◌, Bool, true, false, ◌==◌, ℕ, zero, suc, ◌+◌, ◌-◌, ◌<◌, ◌≤◌, ◌⊎◌, List, [], ◌∷◌, ◌++◌, Option, None, Some, length, length-append, take, drop, refl, sym, ◌∙◌, ap, subst, arith}
+use Rattle.std.proofs.Common.{◌≡◌, ◌≢◌, Bool, true, false, ◌==◌, ℕ, ◌+◌, ◌-◌, ◌<◌, ◌≤◌, ◌⊎◌, List, [], ◌∷◌, ◌++◌, Option, None, Some, length, length-append, take, drop, refl, sym, ◌∙◌, ap, subst, arith}
 use Rattle.std.proofs.lemmas.List.{drop_at, take_all}
 use Rattle.std.proofs.lemmas.Bool.Decides.{nat_tests}
-use Rattle.std.specs.List.{AllByRecursion}
 use Rattle.std.specs.Io.{appended_bytes}
 use Rattle.std.specs.Io.KnownBytes.{Appends, Consumes, IsAtEnd}
 use Rattle.spl_edge.specs.Causes.{AppendsPart}
 use Rattle.spl_app.specs.Lines.{lines_of, rest_of, longest_line}
-use Rattle.spl_app.specs.Run.{IsLine, answers, IsFirstBad}
+use Rattle.spl_app.specs.Run.{IsRun, Reason, StopsAt, answers}
 use Rattle.spl_app.specs.Schedule.{run_of, limit, IsSchedule, HadSchedule, IsUnfinished, IsCut, IsBadRest}
-use Rattle.spl_app.proofs.Feeds.{lines_all_front}
-
-all_at : (lines : List (List ℕ)) (n : ℕ) (line : List ℕ) (behind : List (List ℕ)) → drop n lines ≡ line ∷ behind → AllByRecursion IsLine lines → IsLine line
-all_at [] zero line behind place good = absurd (cc)
-all_at [] (suc n) line behind place good = absurd (cc)
-all_at (l ∷ lines) zero line behind place good = let same : l ≡ line = cc in subst IsLine same good.0
-all_at (l ∷ lines) (suc n) line behind place good = all_at lines n line behind place good.1
+use Rattle.spl_app.proofs.Events.{run_text_front, no_stop}
 
 pub limit_is : limit ≡ 67108864
 unfolding limit
@@ -36,14 +29,14 @@ rest_more text lent test same is fails = λ none.
 
 -- what a source gave of a schedule
 record IsFront (given : List ℕ) : Type 0 where
-  pub lines : AllByRecursion IsLine (lines_of given)
+  pub lines : IsRun (lines_of given)
   pub short : length given ≤ limit
 
 front_of : (old new : Option (List ℕ)) (given : List ℕ) → Consumes old new given → HadSchedule old given → IsFront given
 front_of None new given consumed had = record { lines = had.lines; short = had.short }
 front_of (Some all) None given consumed had = absurd consumed
 front_of (Some all) (Some rest) given consumed had = record {
-  lines = lines_all_front IsLine given rest (subst (λ (l : List ℕ). AllByRecursion IsLine (lines_of l)) consumed had.lines);
+  lines = run_text_front given rest (subst (λ (l : List ℕ). IsRun (lines_of l)) consumed had.lines);
   short = omega (arith, had.short, ap length consumed, length-append given rest);
 }
 
@@ -71,14 +64,14 @@ module _ {before after bytes text : List ℕ} (r : Gave before after bytes text)
   pub part_run : (a b : Option (List ℕ)) → AppendsPart a b (answers (lines_of text)) → AppendsPart a b (answers (run_of (appended_bytes before after)))
   part_run a b part = subst (λ (ls : List (List ℕ)). AppendsPart a b (answers ls)) lines_run part
 
-  pub bad_run : (a b : Option (List ℕ)) (number line : ℕ) → number ≡ line → IsFirstBad (lines_of text) number × Appends a b (answers (take (number - 1) (lines_of text)))
-      → IsFirstBad (run_of (appended_bytes before after)) line × Appends a b (answers (take (line - 1) (run_of (appended_bytes before after))))
-  bad_run a b number line same found = subst (λ (n : ℕ). IsFirstBad (run_of (appended_bytes before after)) n × Appends a b (answers (take (n - 1) (run_of (appended_bytes before after))))) same
-      (subst (λ (ls : List (List ℕ)). IsFirstBad ls number × Appends a b (answers (take (number - 1) ls))) lines_run found)
+  pub stop_run : (why : Reason) (a b : Option (List ℕ)) (number line : ℕ) → number ≡ line → StopsAt why (lines_of text) number × Appends a b (answers (take (number - 1) (lines_of text)))
+      → StopsAt why (run_of (appended_bytes before after)) line × Appends a b (answers (take (line - 1) (run_of (appended_bytes before after))))
+  stop_run why a b number line same found = subst (λ (n : ℕ). StopsAt why (run_of (appended_bytes before after)) n × Appends a b (answers (take (n - 1) (run_of (appended_bytes before after))))) same
+      (subst (λ (ls : List (List ℕ)). StopsAt why ls number × Appends a b (answers (take (number - 1) ls))) lines_run found)
 
-  pub good_run : (a b : Option (List ℕ)) → AllByRecursion IsLine (lines_of text) → Appends a b (answers (lines_of text))
-      → AllByRecursion IsLine (run_of (appended_bytes before after)) × Appends a b (answers (run_of (appended_bytes before after)))
-  good_run a b good wrote = subst (λ (ls : List (List ℕ)). AllByRecursion IsLine ls × Appends a b (answers ls)) lines_run (good, wrote)
+  pub good_run : (a b : Option (List ℕ)) → IsRun (lines_of text) → Appends a b (answers (lines_of text))
+      → IsRun (run_of (appended_bytes before after)) × Appends a b (answers (run_of (appended_bytes before after)))
+  good_run a b good wrote = subst (λ (ls : List (List ℕ)). IsRun ls × Appends a b (answers ls)) lines_run (good, wrote)
 
   -- where the source had a schedule it gave a front of one
   module _ (old new : Option (List ℕ)) (consumed : Consumes old new bytes) (had : HadSchedule old (appended_bytes before after)) where
@@ -88,18 +81,16 @@ module _ {before after bytes text : List ℕ} (r : Gave before after bytes text)
     pub had_short : length bytes ≤ limit
     had_short = omega (arith, front.short, given_length)
 
-    pub no_bad : (number : ℕ) → IsFirstBad (lines_of text) number → ⊥
-    no_bad number found =
-        let good = subst (λ (l : List ℕ). AllByRecursion IsLine (lines_of l)) (sym (text_given had_short)) front.lines in
-        found.bad (all_at (lines_of text) (number - 1) found.line found.behind found.place good)
+    pub runs_on : (why : Reason) (number : ℕ) → StopsAt why (lines_of text) number → ⊥
+    runs_on why number found = no_stop why (lines_of text) number (subst (λ (l : List ℕ). IsRun (lines_of l)) (sym (text_given had_short)) front.lines) found
 
-  pub good_given : (a b : Option (List ℕ)) → length bytes ≤ limit → AllByRecursion IsLine (lines_of text) → Appends a b (answers (lines_of text))
-      → AllByRecursion IsLine (lines_of (appended_bytes before after)) × Appends a b (answers (lines_of (appended_bytes before after)))
-  good_given a b short good wrote = subst (λ (l : List ℕ). AllByRecursion IsLine (lines_of l) × Appends a b (answers (lines_of l))) (text_given short) (good, wrote)
+  pub good_given : (a b : Option (List ℕ)) → length bytes ≤ limit → IsRun (lines_of text) → Appends a b (answers (lines_of text))
+      → IsRun (lines_of (appended_bytes before after)) × Appends a b (answers (lines_of (appended_bytes before after)))
+  good_given a b short good wrote = subst (λ (l : List ℕ). IsRun (lines_of l) × Appends a b (answers (lines_of l))) (text_given short) (good, wrote)
 
-  pub schedule_given : length bytes ≤ limit → AllByRecursion IsLine (lines_of text) → rest_of text ≡ [] → IsSchedule (appended_bytes before after)
+  pub schedule_given : length bytes ≤ limit → IsRun (lines_of text) → rest_of text ≡ [] → IsSchedule (appended_bytes before after)
   schedule_given short good ends = record {
-    lines = subst (λ (l : List ℕ). AllByRecursion IsLine (lines_of l)) (text_given short) good;
+    lines = subst (λ (l : List ℕ). IsRun (lines_of l)) (text_given short) good;
     whole = subst (λ (l : List ℕ). rest_of l ≡ []) (text_given short) ends;
     short = omega (arith, short, given_length);
   }
@@ -124,12 +115,12 @@ module _ {before after bytes text : List ℕ} (r : Gave before after bytes text)
   rest_short lent is short = omega (arith, short, rest_head lent is)
 
   -- the line behind those that are run is bad
-  pub bad_rest : (a b left : Option (List ℕ)) (number : ℕ) → AllByRecursion IsLine (lines_of text) → number ≡ length (lines_of text) + 1
+  pub bad_rest : (a b left : Option (List ℕ)) (number : ℕ) → IsRun (lines_of text) → number ≡ length (lines_of text) + 1
       → IsUnfinished (appended_bytes before after) left ⊎ IsCut (appended_bytes before after) → Appends a b (answers (lines_of text))
       → IsBadRest (appended_bytes before after) left number × Appends a b (answers (take (number - 1) (run_of (appended_bytes before after))))
   bad_rest a b left number good is bad wrote = (
     record {
-      lines = subst (AllByRecursion IsLine) lines_run good;
+      lines = subst IsRun lines_run good;
       behind = is ∙ ap (λ (ls : List (List ℕ)). length ls + 1) lines_run;
       bad = bad;
     },

@@ -1,6 +1,7 @@
 mod Agreed
 mod Behinds
 mod Dues
+mod Events
 mod Feeds
 mod Given
 mod Outputs

@@ -6,8 +6,7 @@ use Rattle.spl_model.specs.Projection.{Ran}
 use Rattle.spl_model.specs.Outcomes.{by_rule}
 use Rattle.spl_model.specs.Answers.{answer_to}
 use Rattle.spl_answer.specs.Texts.{text}
-use Rattle.spl_app.specs.Run.{registered, said, with_number, numbered, printed, outputs, answers}
-use Rattle.spl_app.specs.Behind.{ran}
+use Rattle.spl_app.specs.Run.{registered, said, with_number, numbered, ran, printed, outputs, answers}
 
 with-append : (n : ℕ) (o : Option Line) (xs ys : List (ℕ × Line)) → with_number n o (xs ++ ys) ≡ with_number n o xs ++ ys
 with-append n None xs ys = refl
@@ -32,7 +31,7 @@ outputs-append before (x ∷ xs) ys =
 pub answers-append : (xs ys : List (List ℕ)) → answers (xs ++ ys) ≡ answers xs ++ outputs (ran xs) (numbered (1 + length xs) ys)
 answers-append xs ys = ap (outputs []) (numbered-append 1 xs ys) ∙ outputs-append [] (numbered 1 xs) (numbered (1 + length xs) ys)
 
-ran-append : (xs ys : List (List ℕ)) → ran (xs ++ ys) ≡ ran xs ++ map (λ (x : ℕ × Line). by_rule x.1) (numbered (1 + length xs) ys)
+pub ran-append : (xs ys : List (List ℕ)) → ran (xs ++ ys) ≡ ran xs ++ map (λ (x : ℕ × Line). by_rule x.1) (numbered (1 + length xs) ys)
 ran-append xs ys = ap (map (λ (x : ℕ × Line). by_rule x.1)) (numbered-append 1 xs ys) ∙ map-append (λ (x : ℕ × Line). by_rule x.1) (numbered 1 xs) (numbered (1 + length xs) ys)
 
 module _ (lines : List (List ℕ)) (line : List ℕ) where

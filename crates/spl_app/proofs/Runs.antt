@@ -3,8 +3,7 @@ use Rattle.std.proofs.Common.{◌≡◌, ℕ, ◌+◌, ◌-◌, ◌<◌, ◌≤�
 use Rattle.std.proofs.lemmas.List.{length-take-le, drop-drop}
 use Rattle.std.specs.List.{AllByRecursion}
 use Rattle.spl_app.specs.Due.{IsDuePart}
-use Rattle.spl_app.specs.Run.{IsLine, IsFirstBad, numbered, outputs, answers}
-use Rattle.spl_app.specs.Behind.{ran}
+use Rattle.spl_app.specs.Run.{IsLine, IsRun, Reason, StopsFor, StopsAt, numbered, ran, outputs, answers}
 use Rattle.spl_app.proofs.Dues.{part_more}
 use Rattle.spl_app.proofs.Outputs.{answers-append}
 
@@ -45,14 +44,14 @@ module _ (lines : List (List ℕ)) (count : ℕ) (counted : count ≤ length lin
         ap answers (whole (line ∷ rest) left ∙ sym (append_assoc (take count lines) (line ∷ []) rest)) ∙ answers-append front rest in
         subst (IsDuePart a b waiting) (sym all) (part_more a b waiting (answers front) more part)
 
-    pub first_bad : AllByRecursion IsLine (take count lines) → (IsLine line → ⊥) → (number : ℕ) → number ≡ count + 1 → IsFirstBad lines number
-    first_bad good bad number is =
+    pub stops_at : (why : Reason) → IsRun (take count lines) → StopsFor why (take count lines) line → (number : ℕ) → number ≡ count + 1 → StopsAt why lines number
+    stops_at why run stops number is =
         let same : number - 1 ≡ count = omega arith in
         record {
           line = line;
           behind = rest;
           counted = omega arith;
-          before = rw same good;
+          before = rw same run;
           place = rw same left;
-          bad = bad;
+          stops = rw same stops;
         }

@@ -1,5 +1,5 @@
 -- The lines of a schedule, and what a run writes (docs/RULES.md, Schedules, Answers).
-use Rattle.std.specs.Prelude.{true, ◌≡◌, ◌⊎◌, ◌<◌, ◌≤◌, ◌+◌, ◌-◌, ℕ, List, [], ◌∷◌, ◌++◌, Option, Some, None, IsSomeAnd, IsTrue, if◌then◌else◌, take, drop, length, codes, decimal}
+use Rattle.std.specs.Prelude.{true, ◌≡◌, ◌⊎◌, ◌<◌, ◌≤◌, ◌+◌, ◌-◌, ℕ, List, [], ◌∷◌, ◌++◌, Option, Some, None, IsSomeAnd, IsTrue, if◌then◌else◌, take, drop, length, map, codes, decimal}
 use Rattle.std.specs.List.{AllByRecursion, list_all}
 use Rattle.spl_circuit.specs.Nodes.{Node, has_node}
 use Rattle.spl_sched.specs.declared.line.Line.{Line}
@@ -8,6 +8,8 @@ use Rattle.spl_sched.specs.Taken.{is_taken}
 use Rattle.spl_model.specs.Projection.{Ran}
 use Rattle.spl_model.specs.Outcomes.{by_rule}
 use Rattle.spl_model.specs.Answers.{answer_to}
+use Rattle.spl_model.specs.Counts.{events_of}
+use Rattle.spl_model.specs.declared.TheConstants.{MOST_EVENTS}
 use Rattle.spl_answer.specs.Texts.{text}
 use Rattle.spl_app.specs.Lines.{is_silent, longest_line}
 
@@ -42,6 +44,10 @@ abbrev pub numbered : ℕ → List (List ℕ) → List (ℕ × Line)
 numbered n [] = []
 numbered n (line ∷ lines) = with_number n (said line) (numbered (n + 1) lines)
 
+-- the lines that ran
+abbrev pub ran : List (List ℕ) → List Ran
+ran lines = map (λ x. by_rule x.1) (numbered 1 lines)
+
 -- a number, a text and a line feed
 abbrev pub printed : ℕ → List ℕ → List ℕ
 printed n answer = decimal n ++ 32 ∷ answer ++ 10 ∷ []
@@ -55,11 +61,29 @@ outputs before (x ∷ xs) = printed x.0 (text (answer_to registered before (by_r
 abbrev pub answers : List (List ℕ) → List ℕ
 answers lines = outputs [] (numbered 1 lines)
 
--- the line with this number is the first that a schedule may not have
-pub record IsFirstBad (lines : List (List ℕ)) (number : ℕ) : Type 0 where
+-- the events of these lines are within the limit
+abbrev pub IsWithin : List (List ℕ) → Type 0
+IsWithin lines = events_of registered (ran lines) ≤ MOST_EVENTS
+
+-- lines that a run answers: each is one that a schedule may have, and their events are within the limit
+pub record IsRun (ls : List (List ℕ)) : Type 0 where
+  pub lines : AllByRecursion IsLine ls
+  pub few : IsWithin ls
+
+-- why a run stops at a line: a schedule may not have it, or the events of the lines pass the limit with it
+pub data Reason : Type 0 where
+  Bad : Reason
+  Past : Reason
+
+abbrev pub StopsFor : Reason → List (List ℕ) → List ℕ → Type 0
+StopsFor Bad before line = IsLine line → ⊥
+StopsFor Past before line = IsLine line × (MOST_EVENTS < events_of registered (ran (before ++ line ∷ [])))
+
+-- the line with this number is the first at which the run stops, and this is why
+pub record StopsAt (why : Reason) (lines : List (List ℕ)) (number : ℕ) : Type 0 where
   pub line : List ℕ
   pub behind : List (List ℕ)
   pub counted : 0 < number
-  pub before : AllByRecursion IsLine (take (number - 1) lines)
+  pub before : IsRun (take (number - 1) lines)
   pub place : drop (number - 1) lines ≡ line ∷ behind
-  pub bad : IsLine line → ⊥
+  pub stops : StopsFor why (take (number - 1) lines) line

@@ -1,9 +1,8 @@
 -- What the words and the bytes of a schedule ask for (docs/RULES.md, Schedules, Statuses).
-use Rattle.std.specs.Prelude.{◌≡◌, ◌≢◌, ◌≤◌, ◌<◌, ◌+◌, ◌⊎◌, ℕ, List, [], ◌∷◌, length, take, codes, Option, None, Some}
-use Rattle.std.specs.List.{AllByRecursion}
-use Rattle.std.specs.Io.KnownBytes.{IsAtEnd}
+use Rattle.std.specs.Prelude.{◌≡◌, ◌≢◌, ◌≤◌, ◌<◌, ◌+◌, ◌-◌, ◌⊎◌, ℕ, List, [], ◌∷◌, length, take, codes, Option, None, Some}
+use Rattle.std.specs.Io.KnownBytes.{Appends, IsAtEnd}
 use Rattle.spl_app.specs.Lines.{lines_of, rest_of, longest_line}
-use Rattle.spl_app.specs.Run.{IsLine, IsFirstBad}
+use Rattle.spl_app.specs.Run.{IsRun, Bad, Past, StopsAt, answers}
 
 -- replay REGISTRY SCHEDULE
 abbrev pub IsReplay : List (List ℕ) → Type 0
@@ -17,9 +16,9 @@ limit = 67108864
 abbrev pub run_of : List ℕ → List (List ℕ)
 run_of given = lines_of (take limit given)
 
--- a schedule: each line is one that it may have, and nothing stands behind the last
+-- a schedule: a run answers its lines, and nothing stands behind the last
 pub record IsSchedule (text : List ℕ) : Type 0 where
-  pub lines : AllByRecursion IsLine (lines_of text)
+  pub lines : IsRun (lines_of text)
   pub whole : rest_of text ≡ []
   pub short : length text ≤ limit
 
@@ -39,12 +38,18 @@ pub record IsCut (given : List ℕ) : Type 0 where
   pub long : limit < length given
   pub over : longest_line < length (rest_of (take limit given))
 
--- each line that is run is one that a schedule may have, and the one behind them, with this number, is none: it lacks its line feed or is too long
+-- a run answers the lines given, and the one behind them, with this number, is none of a schedule: it lacks its line feed or is too long
 pub record IsBadRest (given : List ℕ) (left : Option (List ℕ)) (number : ℕ) : Type 0 where
-  pub lines : AllByRecursion IsLine (run_of given)
+  pub lines : IsRun (run_of given)
   pub behind : number ≡ length (run_of given) + 1
   pub bad : IsUnfinished given left ⊎ IsCut given
 
 -- the first line that a schedule may not have has this number
 abbrev pub IsBadAt : List ℕ → Option (List ℕ) → ℕ → Type 0
-IsBadAt given left number = IsFirstBad (run_of given) number ⊎ IsBadRest given left number
+IsBadAt given left number = StopsAt Bad (run_of given) number ⊎ IsBadRest given left number
+
+-- the events of the lines given pass the limit with one of them, and the answers to those before it are written
+pub record HasTooMany (given : List ℕ) (old new : Option (List ℕ)) : Type 0 where
+  pub number : ℕ
+  pub stops : StopsAt Past (run_of given) number
+  pub written : Appends old new (answers (take (number - 1) (run_of given)))

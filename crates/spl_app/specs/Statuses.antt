@@ -1,5 +1,5 @@
 -- The number and the text of a status (docs/RULES.md, Statuses).
-use Rattle.std.specs.Prelude.{ℕ, List, [], ◌++◌, codes, decimal}
+use Rattle.std.specs.Prelude.{ℕ, List, [], ◌++◌, ◌==◌, if◌then◌else◌, codes, decimal}
 use Rattle.spl_app.specs.declared.status.Status.{Status}
 use Rattle.spl_app.specs.declared.status.Status.TheVariants as status
 
@@ -8,6 +8,7 @@ abbrev pub code_of : Status → ℕ
 code_of status.Ok = 0
 code_of status.Usage = 1
 code_of (status.BadSchedule line) = 3
+code_of (status.TooMany which) = 4
 code_of status.ReadFault = 5
 code_of status.WriteFault = 6
 code_of status.TooLong = 11
@@ -18,6 +19,7 @@ abbrev pub text_of : Status → List ℕ
 text_of status.Ok = []
 text_of status.Usage = codes "usage: splinter replay REGISTRY SCHEDULE or links REGISTRY SCHEDULE DIR or gen N SEED"
 text_of (status.BadSchedule line) = codes "bad schedule: line " ++ decimal line
+text_of (status.TooMany which) = if which == 1 then codes "too many events" else codes "too many stops"
 text_of status.ReadFault = codes "read failed"
 text_of status.WriteFault = codes "write failed"
 text_of status.TooLong = codes "input too long"

@@ -11,6 +11,8 @@ use std::alloc::AllocError;
 pub enum RunFault {
     /// A schedule may not have the line of this number.
     BadLine(u32),
+    /// The events of the lines pass the limit with the line of this number.
+    TooMany(u32),
     /// An answer could not be written.
     Write,
     /// Memory ran out.

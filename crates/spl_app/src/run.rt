@@ -1,16 +1,16 @@
 //! Runs the lines of a schedule.
 ghost use Rattle.std.specs.Prelude.{◌≡◌, false, ◌≤◌, ◌<◌, ◌+◌, ◌-◌, ◌^◌, ◌++◌, ◌∷◌, [], ℕ, List, Option, IfOk, IfSome, OnOk, IsErrOf, IsTrue, take, length};
-ghost use Rattle.std.specs.List.{AllByRecursion};
 ghost use Rattle.std.specs.Io.KnownBytes.{Appends};
 ghost use Rattle.spl_edge.specs.Causes.{Rose, AppendsPart};
 ghost use Rattle.spl_base.specs.Ids.{is_node_id};
 ghost use Rattle.spl_app.specs.Lines.{lines_of};
 ghost use Rattle.spl_app.specs.Due.{IsDue, IsDuePart};
-ghost use Rattle.spl_app.specs.Run.{IsLine, IsRunnable, IsFirstBad, registered, said, printed, answers};
+ghost use Rattle.spl_app.specs.Run.{IsLine, IsRunnable, IsRun, Bad, Past, StopsAt, registered, said, ran, printed, answers};
 ghost use Rattle.spl_answer.specs.Texts.{text as text_of};
 ghost use Rattle.spl_model.specs.Projection.{Ran};
 ghost use Rattle.spl_model.specs.Outcomes.{by_rule};
 ghost use Rattle.spl_model.specs.Answers.{answer_to};
+ghost use Rattle.spl_model.specs.Counts.{events_of};
 ghost use Rattle.spl_world.specs.Views.{ids_of, is_halted, Stands};
 
 use crate::fault::RunFault;
@@ -19,8 +19,9 @@ use crate::output::Output;
 use spl_answer::append_text;
 use spl_base::NodeId;
 use spl_edge::Sink;
+use spl_model::MOST_EVENTS;
 use spl_sched::{Line, LineFault, read_line};
-use spl_world::World;
+use spl_world::{World, WorldFault};
 use std::alloc::{AllocError, Global};
 
 fn node(name: &[u8]) -> NodeId
@@ -41,7 +42,7 @@ pub struct Run {
 }
 
 impl Run {
-    ghost use Rattle.spl_app.specs.Behind.{IsBehind, ran};
+    ghost use Rattle.spl_app.specs.Behind.{IsBehind};
 
     fn new(alloc: Global) -> Result<Run, AllocError>
         ensures { IfOk result (λ run. (start : Option (List ℕ)) → IsBehind [] run start start) }
@@ -76,7 +77,7 @@ impl Run {
     }
 
     // Runs a line that says this, and keeps the text of the answer.
-    fn ask(&mut self, alloc: Global, said: &Line) -> Result<(), AllocError>
+    fn ask(&mut self, alloc: Global, said: &Line) -> Result<(), WorldFault>
         requires nodes { ids_of self.old.world ≡ registered }
         requires running { is_halted self.old.world ≡ false }
         requires known { IsRunnable said.now }
@@ -84,16 +85,18 @@ impl Run {
         ensures running { OnOk result (is_halted self.new.world ≡ false) }
         ensures stands { (before : List Ran) → Stands before self.old.world → OnOk result (Stands (before ++ by_rule said.now ∷ []) self.new.world) }
         ensures text { (before : List Ran) → Stands before self.old.world → OnOk result (self.new.text.items ≡ text_of (answer_to registered before (by_rule said.now))) }
+        ensures few { (before : List Ran) → Stands before self.old.world → OnOk result (events_of registered (before ++ by_rule said.now ∷ []) ≤ MOST_EVENTS) }
+        ensures many { (before : List Ran) (which : ℕ) → Stands before self.old.world → IsErrOf result (WorldFault.TooMany which) → MOST_EVENTS < events_of registered (before ++ by_rule said.now ∷ []) }
         ensures output { self.new.output ≡ self.old.output }
     {
-        let Ok(answer) = self.world.step(alloc, said) else {
-            return Err(AllocError);
-        };
+        let answer = self.world.step(alloc, said)?;
         self.text.clear();
-        append_text(&answer, &mut self.text)
+        append_text(&answer, &mut self.text)?;
+        Ok(())
     }
 
-    // Runs a line that says this, and lets the answer wait.
+    // Runs a line that says this, and lets the answer wait. Where the events pass the limit with it
+    // there is none.
     fn answer<W: Sink>(
         &mut self,
         alloc: Global,
@@ -112,15 +115,23 @@ impl Run {
         ensures part { (before : List Ran) → Stands before self.old.world → IsDuePart (W.written out.old) (W.written out.new) self.new.output
             (self.old.output ++ printed number (text_of (answer_to registered before (by_rule said.now)))) }
         ensures good { (n : ℕ) → IsErrOf result (RunFault.BadLine n) → ⊥ }
+        ensures few { (before : List Ran) → Stands before self.old.world → OnOk result (events_of registered (before ++ by_rule said.now ∷ []) ≤ MOST_EVENTS) }
+        ensures many { (before : List Ran) (n : ℕ) → Stands before self.old.world → IsErrOf result (RunFault.TooMany n) → MOST_EVENTS < events_of registered (before ++ by_rule said.now ∷ []) }
+        ensures kept { (n : ℕ) → IsErrOf result (RunFault.TooMany n) → (n ≡ number) × (self.new.output ≡ self.old.output) × (W.written out.new ≡ W.written out.old) }
         ensures write { IsErrOf result RunFault.Write → Rose (W.faults out.old) (W.faults out.new) }
         ensures later { W.faults out.old ≤ W.faults out.new }
     {
-        self.ask(alloc, said)?;
+        match self.ask(alloc, said) {
+            Ok(()) => (),
+            Err(WorldFault::TooMany { .. }) => return Err(RunFault::TooMany(number)),
+            Err(WorldFault::NoMemory) => return Err(RunFault::NoMemory),
+        }
         self.output.put(out, number, &self.text)?;
         Ok(())
     }
 
-    // Runs one line. A line that a schedule may not have changes nothing.
+    // Runs one line. A line that a schedule may not have changes nothing, and one with which the
+    // events pass the limit has no answer.
     fn line<W: Sink>(
         &mut self,
         alloc: Global,
@@ -135,6 +146,10 @@ impl Run {
         ensures good { OnOk result (IsLine line.now) }
         ensures bad { (n : ℕ) → IsErrOf result (RunFault.BadLine n)
             → (n ≡ number) × (IsLine line.now → ⊥) × (self.new ≡ self.old) × (W.written out.new ≡ W.written out.old) }
+        ensures many { (n : ℕ) → IsErrOf result (RunFault.TooMany n)
+            → (n ≡ number) × IsLine line.now × (self.new.output ≡ self.old.output) × (W.written out.new ≡ W.written out.old) }
+        ensures past { (lines : List (List ℕ)) (n : ℕ) → Stands (ran lines) self.old.world → IsErrOf result (RunFault.TooMany n)
+            → MOST_EVENTS < events_of registered (ran (lines ++ line.now ∷ [])) }
         ensures part { (lines : List (List ℕ)) → (start : Option (List ℕ)) → IsBehind lines self.old start (W.written out.old) → number ≡ length lines + 1
             → IsDuePart start (W.written out.new) self.new.output (answers (lines ++ line.now ∷ [])) }
         ensures write { IsErrOf result RunFault.Write → Rose (W.faults out.old) (W.faults out.new) }
@@ -148,15 +163,18 @@ impl Run {
         }
     }
 
-    // Runs each line, up to the first that a schedule may not have, and tells how many there were.
+    // Runs each line, up to the first that a schedule may not have or with which the events pass the
+    // limit, and tells how many there were.
     fn lines<W: Sink>(&mut self, alloc: Global, text: &[u8], out: &mut W) -> Result<u32, RunFault>
         requires room { length text.now < 2 ^ 32 - 1 }
         requires fresh { IsBehind [] self.old (W.written out.old) (W.written out.old) }
         ensures count { IfOk result (λ count. count ≡ length (lines_of text.now)) }
         ensures room { IfOk result (λ count. count ≤ length text.now) }
-        ensures good { OnOk result (AllByRecursion IsLine (lines_of text.now)) }
+        ensures good { OnOk result (IsRun (lines_of text.now)) }
         ensures due { OnOk result (IsDue (W.written out.old) (W.written out.new) self.new.output (answers (lines_of text.now))) }
-        ensures bad { (number : ℕ) → IsErrOf result (RunFault.BadLine number) → IsFirstBad (lines_of text.now) number
+        ensures bad { (number : ℕ) → IsErrOf result (RunFault.BadLine number) → StopsAt Bad (lines_of text.now) number
+            × IsDue (W.written out.old) (W.written out.new) self.new.output (answers (take (number - 1) (lines_of text.now))) }
+        ensures many { (number : ℕ) → IsErrOf result (RunFault.TooMany number) → StopsAt Past (lines_of text.now) number
             × IsDue (W.written out.old) (W.written out.new) self.new.output (answers (take (number - 1) (lines_of text.now))) }
         ensures part { IsDuePart (W.written out.old) (W.written out.new) self.new.output (answers (lines_of text.now)) }
         ensures write { IsErrOf result RunFault.Write → Rose (W.faults out.old) (W.faults out.new) }
@@ -175,17 +193,21 @@ impl Run {
     }
 }
 
-/// Runs each line of a text, up to the first that a schedule may not have, writes the answers, and
-/// tells how many lines there were.
+/// Runs each line of a text, up to the first that a schedule may not have or with which the events
+/// pass the limit, writes the answers, and tells how many lines there were.
 pub fn run_lines<W: Sink>(alloc: Global, text: &[u8], out: &mut W) -> Result<u32, RunFault>
     requires { length text.now < 2 ^ 32 - 1 }
     ensures count { IfOk result (λ count. count ≡ length (lines_of text.now)) }
     ensures room { IfOk result (λ count. count ≤ length text.now) }
-    ensures good { OnOk result (AllByRecursion IsLine (lines_of text.now)) }
+    ensures good { OnOk result (IsRun (lines_of text.now)) }
     ensures written { OnOk result (Appends (W.written out.old) (W.written out.new) (answers (lines_of text.now))) }
 
     // The first line that a schedule may not have.
-    ensures bad { (number : ℕ) → IsErrOf result (RunFault.BadLine number) → IsFirstBad (lines_of text.now) number
+    ensures bad { (number : ℕ) → IsErrOf result (RunFault.BadLine number) → StopsAt Bad (lines_of text.now) number
+        × Appends (W.written out.old) (W.written out.new) (answers (take (number - 1) (lines_of text.now))) }
+
+    // The first line with which the events pass the limit.
+    ensures many { (number : ℕ) → IsErrOf result (RunFault.TooMany number) → StopsAt Past (lines_of text.now) number
         × Appends (W.written out.old) (W.written out.new) (answers (take (number - 1) (lines_of text.now))) }
 
     // Whatever the end.

@@ -13,6 +13,9 @@ pub enum Status {
     Usage,
     /// This is the first line that a schedule may not have.
     BadSchedule { line: u32 },
+    /// With a line the run would have more than the limit of this number allows: 1 is events, 2 is
+    /// stops.
+    TooMany { which: u8 },
     /// The schedule could not be read.
     ReadFault,
     /// The answers could not be written.
@@ -34,6 +37,7 @@ impl Status {
             Status::Ok => 0,
             Status::Usage => 1,
             Status::BadSchedule { .. } => 3,
+            Status::TooMany { .. } => 4,
             Status::ReadFault => 5,
             Status::WriteFault => 6,
             Status::TooLong => 11,
@@ -55,6 +59,8 @@ impl Status {
                 let text = format!(in alloc; "bad schedule: line {line}")?;
                 Piece::from(alloc, text.as_bytes())
             }
+            Status::TooMany { which: 1 } => Piece::from(alloc, b"too many events"),
+            Status::TooMany { .. } => Piece::from(alloc, b"too many stops"),
             Status::ReadFault => Piece::from(alloc, b"read failed"),
             Status::WriteFault => Piece::from(alloc, b"write failed"),
             Status::TooLong => Piece::from(alloc, b"input too long"),

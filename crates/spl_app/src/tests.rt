@@ -192,6 +192,8 @@ fn statuses(rt: HostRuntime) -> Result<(), Fail> {
             "usage: splinter replay REGISTRY SCHEDULE or links REGISTRY SCHEDULE DIR or gen N SEED",
         ),
         (Status::BadSchedule { line: 12 }, 3, "bad schedule: line 12"),
+        (Status::TooMany { which: 1 }, 4, "too many events"),
+        (Status::TooMany { which: 2 }, 4, "too many stops"),
         (Status::ReadFault, 5, "read failed"),
         (Status::WriteFault, 6, "write failed"),
         (Status::TooLong, 11, "input too long"),

@@ -1,15 +1,13 @@
 //! The call that does all that the program does.
 ghost use Rattle.std.specs.Prelude.{◌≡◌, ◌<◌, ◌≤◌, ◌↔◌, ◌⊎◌, ◌-◌, ℕ, List, [], IsTrue, take, length, map, string_bytes};
-ghost use Rattle.std.specs.List.{AllByRecursion};
 ghost use Rattle.std.specs.Io.{appended_bytes};
 ghost use Rattle.std.specs.Io.KnownBytes.{Appends, Consumes, IsAtEnd};
 ghost use Rattle.spl_edge.specs.Causes.{Rose, AppendsPart};
 ghost use Rattle.spl_app.specs.Lines.{lines_of, rest_of, longest_line};
 ghost use Rattle.spl_agreement.specs.Agreement.{Agree};
 ghost use Rattle.spl_agreement.specs.OneList.{TellOneList};
-ghost use Rattle.spl_app.specs.Run.{IsLine, registered, answers};
-ghost use Rattle.spl_app.specs.Behind.{ran};
-ghost use Rattle.spl_app.specs.Schedule.{IsReplay, IsSchedule, HadSchedule, IsBadAt, run_of, limit};
+ghost use Rattle.spl_app.specs.Run.{IsRun, registered, ran, answers};
+ghost use Rattle.spl_app.specs.Schedule.{IsReplay, IsSchedule, HadSchedule, IsBadAt, HasTooMany, run_of, limit};
 
 use crate::Status;
 use crate::agree::runs_agree;
@@ -67,9 +65,14 @@ pub fn splinter<S: Source, W: Sink>(
         IsBadAt given (S.left schedule.new) line
         × Appends (W.written out.old) (W.written out.new) (answers (take (line - 1) (run_of given))) }
 
+    // The run has too many events with a line, and not before. The answers to the lines before it
+    // are written.
+    ensures many { (which : ℕ) → result ≡ Status.TooMany which → (which ≡ 1)
+        × HasTooMany (appended_bytes (S.taken schedule.old) (S.taken schedule.new)) (W.written out.old) (W.written out.new) }
+
     // The source failed. The answers to all lines that it gave are written.
     ensures read { result ≡ Status.ReadFault → let given = appended_bytes (S.taken schedule.old) (S.taken schedule.new) in
-        Rose (S.faults schedule.old) (S.faults schedule.new) × AllByRecursion IsLine (lines_of given)
+        Rose (S.faults schedule.old) (S.faults schedule.new) × IsRun (lines_of given)
         × Appends (W.written out.old) (W.written out.new) (answers (lines_of given)) }
 
     // The sink failed.
@@ -78,7 +81,7 @@ pub fn splinter<S: Source, W: Sink>(
     // The source gave more bytes than a schedule may have, and the line that the limit cuts may go
     // on. The answers to the lines up to the limit are written.
     ensures long { result ≡ Status.TooLong → let given = appended_bytes (S.taken schedule.old) (S.taken schedule.new) in
-        (limit < length given) × AllByRecursion IsLine (run_of given) × (length (rest_of (take limit given)) ≤ longest_line)
+        (limit < length given) × IsRun (run_of given) × (length (rest_of (take limit given)) ≤ longest_line)
         × Appends (W.written out.old) (W.written out.new) (answers (run_of given)) }
 
     // With every status the members of each circuit agree, at each moment of the lines given:
@@ -110,6 +113,7 @@ pub fn splinter<S: Source, W: Sink>(
     let text = head(&reading.bytes);
     match run_lines(alloc, text, out) {
         Err(RunFault::BadLine(line)) => Status::BadSchedule { line },
+        Err(RunFault::TooMany(line)) => Status::TooMany { which: 1 },
         Err(RunFault::Write) => Status::WriteFault,
         Err(RunFault::NoMemory) => Status::NoMemory,
         Ok(count) => match reading.end {

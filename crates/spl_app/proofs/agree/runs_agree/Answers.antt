@@ -1,5 +1,4 @@
-use Rattle.spl_app.specs.Run.{registered}
-use Rattle.spl_app.specs.Behind.{ran}
+use Rattle.spl_app.specs.Run.{registered, ran}
 use Rattle.spl_app.proofs.Agreed.{ran_fits}
 use Rattle.spl_app.proofs.agree.runs_agree.Goals as goal
 

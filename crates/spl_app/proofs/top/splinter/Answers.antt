@@ -1,9 +1,9 @@
 use Rattle.std.proofs.Common.{ℕ, ◌≡◌, ◌+◌, ◌≤◌, [], length, ◌<◌, length-take, refl, ap, rules, arith, inl, inr}
 use Rattle.std.specs.Io.{appended_bytes}
 use Rattle.std.proofs.KnownBytes.{Appends-nil}
-use Rattle.spl_app.specs.Run.{answers}
+use Rattle.spl_app.specs.Run.{Bad, Past, answers}
 use Rattle.spl_app.specs.Schedule.{run_of, limit}
-use Rattle.spl_app.proofs.Given.{gave, given_length, part_run, bad_run, good_run, good_given, had_short, no_bad, schedule_given, unfinished, cut, rest_short, rest_empty, rest_more, bad_rest, limit_is}
+use Rattle.spl_app.proofs.Given.{gave, given_length, part_run, stop_run, good_run, good_given, had_short, runs_on, schedule_given, unfinished, cut, rest_short, rest_empty, rest_more, bad_rest, limit_is}
 use Rattle.spl_app.proofs.top.splinter.Goals as goal
 
 pub run_lines-requires : goal.run_lines-requires
@@ -39,13 +39,27 @@ returns-clause-part g c = part_run (gave c.read_all-reading.ensures.taken c.head
 pub returns-in-Err-BadLine-clause-bad : goal.returns-in-Err-BadLine-clause-bad
 returns-in-Err-BadLine-clause-bad g c = λ line is.
     let same : c.in-Err-BadLine.line ≡ line = cc in
-    let found = bad_run (gave c.read_all-reading.ensures.taken c.head-text.ensures c.deref.ensures.value) _ _ c.in-Err-BadLine.line line same (c.in-Err-BadLine.ensures.bad c.in-Err-BadLine.line (search rules)) in
+    let found = stop_run (gave c.read_all-reading.ensures.taken c.head-text.ensures c.deref.ensures.value) Bad _ _ c.in-Err-BadLine.line line same (c.in-Err-BadLine.ensures.bad c.in-Err-BadLine.line (search rules)) in
     (inl found.0, found.1)
 
 pub returns-in-Err-BadLine-clause-complete : goal.returns-in-Err-BadLine-clause-complete
 returns-in-Err-BadLine-clause-complete g c = λ form read wrote schedule.
     let found = c.in-Err-BadLine.ensures.bad c.in-Err-BadLine.line (search rules) in
-    absurd (no_bad (gave c.read_all-reading.ensures.taken c.head-text.ensures c.deref.ensures.value) _ _ c.read_all-reading.ensures.left schedule _ found.0)
+    absurd (runs_on (gave c.read_all-reading.ensures.taken c.head-text.ensures c.deref.ensures.value) _ _ c.read_all-reading.ensures.left schedule Bad _ found.0)
+
+pub returns-in-Err-TooMany-clause-part : goal.returns-in-Err-TooMany-clause-part
+returns-in-Err-TooMany-clause-part g c = part_run (gave c.read_all-reading.ensures.taken c.head-text.ensures c.deref.ensures.value) _ _ c.run_lines.ensures.part
+
+pub returns-in-Err-TooMany-clause-many : goal.returns-in-Err-TooMany-clause-many
+returns-in-Err-TooMany-clause-many g c = λ which is.
+    let number = c.in-Err-TooMany.line in
+    let found = stop_run (gave c.read_all-reading.ensures.taken c.head-text.ensures c.deref.ensures.value) Past _ _ number number refl (c.in-Err-TooMany.ensures.many number (search rules)) in
+    (cc, record { number = number; stops = found.0; written = found.1 })
+
+pub returns-in-Err-TooMany-clause-complete : goal.returns-in-Err-TooMany-clause-complete
+returns-in-Err-TooMany-clause-complete g c = λ form read wrote schedule.
+    let found = c.in-Err-TooMany.ensures.many c.in-Err-TooMany.line (search rules) in
+    absurd (runs_on (gave c.read_all-reading.ensures.taken c.head-text.ensures c.deref.ensures.value) _ _ c.read_all-reading.ensures.left schedule Past _ found.0)
 
 pub returns-in-Fault-clause-read : goal.returns-in-Fault-clause-read
 returns-in-Fault-clause-read g c = λ _.

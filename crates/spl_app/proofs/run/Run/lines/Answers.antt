@@ -1,13 +1,13 @@
 use Rattle.std.proofs.Common.{Err, ◌≡◌, ◌-◌, ℕ, List, take, sym, ◌∙◌, ap, subst, rules, arith}
 use Rattle.std.specs.List.{AllByRecursion}
 use Rattle.spl_app.specs.declared.fault.RunFault.{RunFault}
-use Rattle.spl_app.specs.declared.fault.RunFault.TheVariants.{BadLine}
+use Rattle.spl_app.specs.declared.fault.RunFault.TheVariants.{BadLine, TooMany}
 use Rattle.spl_app.specs.Lines.{lines_of}
-use Rattle.spl_app.specs.Run.{IsLine, answers}
+use Rattle.spl_app.specs.Run.{IsLine, IsRun, Bad, Past, answers}
 use Rattle.spl_app.specs.Due.{IsDue}
 use Rattle.spl_app.specs.Behind.{IsBehind}
 use Rattle.spl_app.proofs.Dues.{due_same, due_whole}
-use Rattle.spl_app.proofs.Runs.{all-push, next_number, within, taken, behind, part_of_all, first_bad, none_left, all_counted}
+use Rattle.spl_app.proofs.Runs.{all-push, next_number, within, taken, behind, part_of_all, stops_at, none_left, all_counted}
 use Rattle.spl_app.proofs.run.Run.lines.Goals as goal
 
 pub returns-in-Err-clause-bad : goal.returns-in-Err-clause-bad
@@ -16,8 +16,22 @@ returns-in-Err-clause-bad g c = λ number is.
     let same : c.in-Err.fault ≡ BadLine number = cc in
     let found = c.in-Err.ensures.bad number (ap (λ (e : RunFault). Err e) same) in
     let before : number - 1 ≡ c.lines.count = omega (arith, found.0) in (
-      first_bad lines c.lines.count c.lines.invariant.counted c.in-Some.line.now (lines_of c.in-Some.behind.now) (sym c.lines.invariant.left ∙ c.in-Some.ensures.0) c.lines.invariant.good found.1 number found.0,
+      stops_at lines c.lines.count c.lines.invariant.counted c.in-Some.line.now (lines_of c.in-Some.behind.now) (sym c.lines.invariant.left ∙ c.in-Some.ensures.0) Bad
+          record { lines = c.lines.invariant.good; few = c.lines.invariant.behind.few } found.1 number found.0,
       rw before (due_same _ _ _ c.lines.self.output _ _ found.3 (search rules) c.lines.invariant.behind.due),
+    )
+
+pub returns-in-Err-clause-many : goal.returns-in-Err-clause-many
+returns-in-Err-clause-many g c = λ number is.
+    let lines = lines_of c.args.text.now in
+    let same : c.in-Err.fault ≡ TooMany number = cc in
+    let failed = ap (λ (e : RunFault). Err e) same in
+    let found = c.in-Err.ensures.many number failed in
+    let over = c.in-Err.ensures.past (take c.lines.count lines) number c.lines.invariant.behind.stands failed in
+    let before : number - 1 ≡ c.lines.count = omega (arith, found.0) in (
+      stops_at lines c.lines.count c.lines.invariant.counted c.in-Some.line.now (lines_of c.in-Some.behind.now) (sym c.lines.invariant.left ∙ c.in-Some.ensures.0) Past
+          record { lines = c.lines.invariant.good; few = c.lines.invariant.behind.few } (found.1, over) number found.0,
+      rw before (due_same _ _ _ c.lines.self.output _ _ found.3 found.2 c.lines.invariant.behind.due),
     )
 
 pub returns-in-Err-clause-part : goal.returns-in-Err-clause-part
@@ -48,7 +62,9 @@ pub returns-clause-count : goal.returns-clause-count
 returns-clause-count g c = all_counted (lines_of c.args.text.now) c.lines.count c.lines.invariant.counted (sym c.lines.invariant.left ∙ c.in_default.ensures)
 
 pub returns-clause-good : goal.returns-clause-good
-returns-clause-good g c = subst (AllByRecursion IsLine) (none_left (lines_of c.args.text.now) c.lines.count c.lines.invariant.counted (sym c.lines.invariant.left ∙ c.in_default.ensures)) c.lines.invariant.good
+returns-clause-good g c =
+    let all = none_left (lines_of c.args.text.now) c.lines.count c.lines.invariant.counted (sym c.lines.invariant.left ∙ c.in_default.ensures) in
+    subst IsRun all record { lines = c.lines.invariant.good; few = c.lines.invariant.behind.few }
 
 pub returns-clause-due : goal.returns-clause-due
 returns-clause-due g c =
