@@ -2,7 +2,7 @@
 ghost use Rattle.std.specs.Prelude.{◌≡◌, ◌∷◌, [], IfOk};
 ghost use Rattle.spl_gen.specs.Batches.{address, batch};
 
-use spl_base::{BatchId, Listing, Piece};
+use spl_base::{BatchId, Boxed, Listing, Piece};
 use spl_command::{Batch, Command, Prefixes, Transaction};
 use spl_state::{Address, Prefix};
 use std::alloc::{AllocError, Global};
@@ -38,6 +38,6 @@ pub(crate) fn batch(alloc: Global, number: u64, place: u32, value: u32) -> Resul
     })?;
     Ok(Batch {
         id: BatchId(number),
-        transactions,
+        transactions: Boxed::new(alloc, transactions)?,
     })
 }

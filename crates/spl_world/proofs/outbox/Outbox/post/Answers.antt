@@ -4,6 +4,12 @@ use Rattle.spl_world.proofs.Entries.{others_stay, written_back}
 use Rattle.spl_world.proofs.Results.{at_ok, at_err}
 use Rattle.spl_world.proofs.outbox.Outbox.post.Goals as goal
 
+pub returns-in-Some-clause-recipient : goal.returns-in-Some-clause-recipient
+returns-in-Some-clause-recipient c = at_ok c.push.result (λ more.
+    let w = c.push.new.self in
+    let kept = (c.get_mut.follows.holds w).3 (search rules) in
+    ap list_or_none kept.1 ∙ more ∙ ap (λ ms. ms ++ c.args.message ∷ []) (ap list_or_none c.in-Some.ensures.value ∙ ap (λ es. sent_to es c.args.to) c.self.view_is)) c.push.ensures.ok
+
 pub returns-in-Some-clause-others : goal.returns-in-Some-clause-others
 returns-in-Some-clause-others c = at_ok c.push.result (λ _ b h.
     let w = c.push.new.self in
