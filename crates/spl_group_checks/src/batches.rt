@@ -1,5 +1,5 @@
 //! The batches of a circuit. A row has the words of lines that submit one, behind the circuit, with / between them.
-use spl_agree::{Agreed, Reason};
+use spl_agree::{Agreed, Reason, Renew};
 use spl_base::BatchId;
 use spl_command::Batch;
 use spl_rows::{

@@ -59,7 +59,7 @@ fn offered(alloc: Global, acts: &[&str]) -> Result<(Ledger, String), RowFault> {
     if definition.fault().is_some() {
         return Err(RowFault::BadRow);
     }
-    let mut ledger = Ledger::new(alloc, definition);
+    let mut ledger = Ledger::new(alloc, Boxed::new(alloc, definition)?);
     let mut told = String::new(alloc);
     for word in acts {
         let act = act(alloc, word, 1)?;
