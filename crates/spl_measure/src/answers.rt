@@ -3,7 +3,7 @@ use crate::Fault;
 use spl_agree::Place;
 use spl_answer::append_text;
 use spl_base::{Boxed, Listing, Reader};
-use spl_circuit::{Definition, Lifecycle, Mark};
+use spl_circuit::{Definition, Lifecycle, Mark, valid_definitions_have_a_form};
 use spl_command::{Batch, Verdict, execute};
 use spl_state::State;
 use spl_wire::Answer;
@@ -21,9 +21,14 @@ fn written(alloc: Global, answer: &Answer, times: u32) -> Result<u64, Fault> {
     Ok(done)
 }
 
-/// The detail of the definition at the front, which its first member proposed and accepted.
+/// The detail of the definition at the front, which its first member proposed and accepted; 0 bytes
+/// where it breaks a rule.
 pub(crate) fn detail(alloc: Global, bytes: &[u8], times: u32) -> Result<u64, Fault> {
     let definition = Definition::read(alloc, &mut Reader::new(bytes))?;
+    if let Some(_) = definition.fault() {
+        return Ok(0);
+    }
+    valid_definitions_have_a_form();
     let hash = definition.hash(alloc)?;
     let requester = definition.members.get(0).copied();
     let mut accepted = Listing::new(alloc);
