@@ -9,15 +9,19 @@ const FIRST_BATCH: usize = 18;
 
 fn batches(word: &str) -> Result<u16, RowFault> {
     match word.parse::<u16>() {
-        Ok(n) if 1 <= n && n <= MOST_BATCHES => Ok(n),
-        _ => Err(RowFault::BadRow),
+        Ok(n) => Ok(n),
+        Err(_) => Err(RowFault::BadRow),
     }
 }
 
 /// How many bytes and lines a generated schedule has, their digest, and the line that submits the first batch: N SEED.
 pub fn summed(alloc: Global, text: &str) -> Answered {
     let (n, seed) = halves(text, ' ')?;
-    let schedule = schedule(alloc, batches(n)?, number(seed)?)?;
+    let n = batches(n)?;
+    if n < 1 || MOST_BATCHES < n {
+        return Err(RowFault::BadRow);
+    }
+    let schedule = schedule(alloc, n, number(seed)?)?;
     let bytes = schedule.bytes();
     let size = bytes.len();
     let lines = bytes.iter().filter(|b| **b == b'\n').count();
