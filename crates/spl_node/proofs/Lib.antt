@@ -12,3 +12,4 @@ pub mod Recorded
 pub mod Changing
 pub mod Rolls
 pub mod Walking
+pub mod Hosting

@@ -3,3 +3,4 @@ pub mod Kept
 pub mod Done
 pub mod Stands
 pub mod Opening
+pub mod Hosts

@@ -4,9 +4,11 @@
 mod cells;
 mod done;
 mod form;
+mod host;
 mod node;
 mod opening;
 mod packing;
 
 pub use form::CellForm;
+pub use host::Host;
 pub use node::{Node, Outcome};

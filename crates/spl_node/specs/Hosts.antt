@@ -1,0 +1,69 @@
+-- A node that is up or down, and what its disks stand for.
+use Rattle.std.specs.Prelude.{◌≡◌, ◌+◌, ℕ, List, Bool, false, Option, Some, None, is_some, IsOk, IfSome, IfNone}
+use Rattle.spl_circuit.specs.Nodes.{NodeId, CircuitId}
+use Rattle.spl_edge.specs.Calls.{SamePast}
+use Rattle.spl_edge.specs.Image.{Image, IsSettled}
+use Rattle.spl_edge.specs.Picks.{Picked, Picks}
+use Rattle.spl_edge.specs.declared.disk.Armed.{Armed}
+use Rattle.spl_edge.specs.declared.disk.Arming.TheVariants.{Off}
+use Rattle.spl_edge.specs.declared.fill.Fill.TheVariants.{Old}
+use Rattle.spl_rules.specs.Cells.{Cell, Empty}
+use Rattle.spl_snapshot.specs.Counting.{pair_records, pair_records_of, IfBoth}
+use Rattle.spl_snapshot.specs.Pairs.{is_second}
+use Rattle.spl_node.specs.Records.{is_record, recorded_cell}
+use Rattle.spl_node.specs.Stands.{NodeStands, here_of, cell_of, is_halted}
+use Rattle.spl_node.specs.declared.host.Host.{Host}
+use Rattle.spl_node.specs.declared.node.Node.{Node}
+
+abbrev pub host_id : Host → NodeId
+host_id h = h.id
+
+abbrev pub is_up : Host → Bool
+is_up h = is_some h.node
+
+-- the cell that the records of two disks make, where both tell
+abbrev pub made_cell : NodeId → CircuitId → Option Image → Option Image → Cell
+made_cell here c (Some i) (Some j) = recorded_cell here c (pair_records_of is_record i.bytes j.bytes)
+made_cell here c (Some i) None = Empty
+made_cell here c None second = Empty
+
+-- the cell in memory, or that which the disks make
+abbrev pub kept_cell : NodeId → Option Node → Option Image → Option Image → CircuitId → Cell
+kept_cell here (Some n) first second c = cell_of n c
+kept_cell here None first second c = made_cell here c first second
+
+abbrev pub host_cell : Host → Option Image → Option Image → CircuitId → Cell
+host_cell h first second c = kept_cell h.id h.node first second c
+
+-- whether the second disk counts, where it is up
+abbrev pub counts_second : Option Node → Bool
+counts_second (Some n) = is_second n.pairing
+counts_second None = false
+
+abbrev pub host_second : Host → Bool
+host_second h = counts_second h.node
+
+-- a node that goes on, and for whose cells the disks stand
+pub record Runs (here : NodeId) (first second : Option Image) (n : Node) : Type 0 where
+  pub running : is_halted n ≡ false
+  pub here_is : here_of n ≡ here
+  pub stands : NodeStands n first second
+
+-- on neither disk is anything pending, and they are a journal
+pub record Rests (first second : Option Image) : Type 0 where
+  pub first_is : IfSome first IsSettled
+  pub second_is : IfSome second IsSettled
+  pub journal : IfBoth first second (λ i j. IsOk (pair_records is_record i.bytes j.bytes))
+
+-- the disks, where they tell, are as the host takes them
+pub record HostStands (h : Host) (first second : Option Image) : Type 0 where
+  pub up : IfSome h.node (Runs h.id first second)
+  pub down : IfNone h.node (Rests first second)
+
+-- a disk picked what it had at its last sync, and isn't armed any more
+pub record PicksOld (at new_at : ℕ → Option Image) (before now : ℕ) (faults later : ℕ) (was_armed is_armed : Armed) (had_picked has_picked : List Picked) : Type 0 where
+  pub picks : Picks Old was_armed.arming faults had_picked has_picked (at before) (new_at now)
+  pub disarmed : is_armed.arming ≡ Off
+  pub past : SamePast at before new_at
+  pub tick : now ≡ before + 1
+  pub faults_stay : later ≡ faults

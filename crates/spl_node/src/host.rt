@@ -1,0 +1,205 @@
+//! A node that goes down and comes up over its two disks.
+ghost use Rattle.std.specs.Prelude.{◌≡◌, ◌≢◌, ◌⊎◌, ◌&&◌, [], ℕ, Bool, true, false, Option, OnOk, IfOk, IfSome, IsErrOf};
+ghost use Rattle.std.specs.List.{list_any};
+ghost use Rattle.std.specs.List.Sorted.{IsStrictlySortedBy};
+ghost use Rattle.std.specs.Ordering.{nat_cmp};
+ghost use Rattle.std.specs.Cmp.Lexicographic.{slice_cmp};
+ghost use Rattle.std.specs.Str.{bytes_eq};
+ghost use Rattle.spl_circuit.specs.Nodes.{NodeId, CircuitId};
+ghost use Rattle.spl_edge.specs.Causes.{Rose};
+ghost use Rattle.spl_edge.specs.Image.{Image};
+ghost use Rattle.spl_journal.specs.Make.{IsBlank};
+ghost use Rattle.spl_journal.specs.Reads.{Stays};
+ghost use Rattle.spl_snapshot.specs.Counting.{IfBoth, PairLeavesInTurn, Onward};
+ghost use Rattle.spl_wire.specs.Bounds.{AllSendable};
+ghost use Rattle.spl_rules.specs.Cells.{Empty, is_bound, is_open_cell};
+ghost use Rattle.spl_rules.specs.Changes.{stopped_cell};
+ghost use Rattle.spl_rules.specs.Plans.{plan_of};
+ghost use Rattle.spl_rules.specs.Valid.{IsFor, are_legal};
+ghost use Rattle.spl_node.specs.Hosts.{HostStands, PicksOld, host_id, host_cell, host_second, is_up};
+ghost use Rattle.spl_node.specs.Kept.{cells_after};
+ghost use Rattle.spl_node.specs.Records.{site_at};
+ghost use Rattle.spl_node.specs.Stands.{StandFor};
+
+use crate::{Node, Outcome};
+use spl_base::{CircuitId, Listing, NodeId};
+use spl_edge::{Disk, Fill, Pair, StopDisk};
+use spl_journal::JournalFault;
+use spl_wire::Event;
+use std::alloc::{AllocError, Global};
+
+/// A node that is up or down. While it is up its cells are in memory; while it is down they are
+/// those that its disks make again.
+#[derive(Drop)]
+pub struct Host {
+    id: NodeId,
+    node: Option<Node>,
+}
+
+impl Host {
+    /// A node that is up and where nothing happened, over two blank disks; the journal is made on
+    /// the first.
+    pub fn new<D: Disk>(
+        alloc: Global,
+        id: NodeId,
+        disks: &mut Pair<D>,
+    ) -> Result<Host, JournalFault>
+        requires first { IfSome (D.image_at disks.old.first (D.moment disks.old.first)) IsBlank }
+        requires second { IfSome (D.image_at disks.old.second (D.moment disks.old.second)) IsBlank }
+        ensures id { IfOk result (λ h. host_id h ≡ id) }
+        ensures up { IfOk result (λ h. is_up h ≡ true) }
+        ensures empty { IfOk result (λ h. (first second : Option Image) (c : CircuitId) → host_cell h first second c ≡ Empty) }
+        ensures stands { IfOk result (λ h. HostStands h (D.image_at disks.new.first (D.moment disks.new.first)) (D.image_at disks.new.second (D.moment disks.new.second))) }
+        ensures not { (at : ℕ) → IsErrOf result (JournalFault.NotAJournal at) → ⊥ }
+        ensures failed { IsErrOf result JournalFault.Disk → Rose (D.faults disks.old.first) (D.faults disks.new.first) }
+        ensures on_first { Onward (D.image_at disks.old.first) (D.image_at disks.new.first) (D.moment disks.old.first) (D.moment disks.new.first) (D.faults disks.old.first) (D.faults disks.new.first)
+            (D.armed disks.old.first) (D.armed disks.new.first) (D.picks disks.old.first) (D.picks disks.new.first) }
+        ensures second { disks.new.second ≡ disks.old.second }
+    {
+        let node = Node::create(alloc, id, disks)?;
+        Ok(Host {
+            id,
+            node: Some(node),
+        })
+    }
+
+    /// Its id.
+    pub fn id(&self) -> NodeId
+        ensures { result ≡ host_id self.now }
+    {
+        self.id
+    }
+
+    /// Whether it is up.
+    pub fn is_up(&self) -> bool
+        ensures { result ≡ is_up self.now }
+    {
+        self.node.is_some()
+    }
+
+    /// Whether it is up, and a circuit is bound here and open.
+    pub fn is_open(&self, circuit: &CircuitId) -> bool
+        ensures { (first second : Option Image) → result ≡ (is_up self.now && is_open_cell (host_cell self.now first second circuit.now)) }
+    {
+        match &self.node {
+            Some(node) => node.is_open(circuit),
+            None => false,
+        }
+    }
+
+    /// An event at the cell of a circuit. The record of what it changes is kept before the answer
+    /// comes. After an error the disks have to be read again.
+    pub fn handle<D: StopDisk>(
+        &mut self,
+        alloc: Global,
+        disks: &mut Pair<D>,
+        circuit: &CircuitId,
+        event: &Event,
+    ) -> Result<Outcome, JournalFault>
+        requires up { is_up self.old ≡ true }
+        requires own { IsFor (site_at (host_id self.old) circuit.now) event.now }
+        requires stands { HostStands self.old (D.image_at disks.old.first (D.moment disks.old.first)) (D.image_at disks.old.second (D.moment disks.old.second)) }
+        ensures id { host_id self.new ≡ host_id self.old }
+        ensures up { is_up self.new ≡ true }
+        ensures answer { IfOk result (λ o. o.answer ≡ (plan_of (site_at (host_id self.old) circuit.now) (host_cell self.old (D.image_at disks.old.first (D.moment disks.old.first)) (D.image_at disks.old.second (D.moment disks.old.second)) circuit.now) event.now).answer) }
+        ensures sends { IfOk result (λ o. o.sends ≡ (plan_of (site_at (host_id self.old) circuit.now) (host_cell self.old (D.image_at disks.old.first (D.moment disks.old.first)) (D.image_at disks.old.second (D.moment disks.old.second)) circuit.now) event.now).sends) }
+        ensures legal { IfOk result (λ o. are_legal o.sends ≡ true) }
+        ensures sendable { IfOk result (λ o. AllSendable o.sends) }
+
+        // The plan is carried out at the cell of the circuit, and the other cells stay.
+        ensures cells { OnOk result ((first second : Option Image) (c : CircuitId) → host_cell self.new first second c ≡ cells_after (host_id self.old) (host_cell self.old (D.image_at disks.old.first (D.moment disks.old.first)) (D.image_at disks.old.second (D.moment disks.old.second))) circuit.now event.now c) }
+        ensures stands { OnOk result (HostStands self.new (D.image_at disks.new.first (D.moment disks.new.first)) (D.image_at disks.new.second (D.moment disks.new.second))) }
+
+        // A stop at any moment of the call leaves disks that stand for the cells before the event or for those after it.
+        ensures any_moment { IfBoth (D.image_at disks.old.first (D.moment disks.old.first)) (D.image_at disks.old.second (D.moment disks.old.second))
+            (λ i j. PairLeavesInTurn (host_second self.old) (D.image_at disks.new.first) (D.moment disks.old.first) (D.moment disks.new.first) (D.image_at disks.new.second) (D.moment disks.old.second) (D.moment disks.new.second)
+            (λ c d. StandFor (host_id self.old) (host_cell self.old (D.image_at disks.old.first (D.moment disks.old.first)) (D.image_at disks.old.second (D.moment disks.old.second))) c d
+            ⊎ StandFor (host_id self.old) (cells_after (host_id self.old) (host_cell self.old (D.image_at disks.old.first (D.moment disks.old.first)) (D.image_at disks.old.second (D.moment disks.old.second))) circuit.now event.now) c d)) }
+        ensures no_calls { (plan_of (site_at (host_id self.old) circuit.now) (host_cell self.old (D.image_at disks.old.first (D.moment disks.old.first)) (D.image_at disks.old.second (D.moment disks.old.second)) circuit.now) event.now).changes ≡ [] → disks.new ≡ disks.old }
+        ensures not { (at : ℕ) → IsErrOf result (JournalFault.NotAJournal at) → ⊥ }
+        ensures failed { IsErrOf result JournalFault.Disk → Rose (D.faults disks.old.first) (D.faults disks.new.first) ⊎ Rose (D.faults disks.old.second) (D.faults disks.new.second) }
+        ensures on_first { Onward (D.image_at disks.old.first) (D.image_at disks.new.first) (D.moment disks.old.first) (D.moment disks.new.first) (D.faults disks.old.first) (D.faults disks.new.first)
+            (D.armed disks.old.first) (D.armed disks.new.first) (D.picks disks.old.first) (D.picks disks.new.first) }
+        ensures on_second { Onward (D.image_at disks.old.second) (D.image_at disks.new.second) (D.moment disks.old.second) (D.moment disks.new.second) (D.faults disks.old.second) (D.faults disks.new.second)
+            (D.armed disks.old.second) (D.armed disks.new.second) (D.picks disks.old.second) (D.picks disks.new.second) }
+    {
+        let Some(node) = &mut self.node else {
+            unreachable!();
+        };
+        node.step(alloc, disks, circuit, event)
+    }
+
+    /// Takes the node down: nothing of it stays in memory, and each of its disks keeps what it had
+    /// at its last sync. A node that is down stays as it is. An error comes for want of memory alone.
+    pub fn stop<D: StopDisk>(
+        &mut self,
+        alloc: Global,
+        disks: &mut Pair<D>,
+    ) -> Result<(), AllocError>
+        requires stands { HostStands self.old (D.image_at disks.old.first (D.moment disks.old.first)) (D.image_at disks.old.second (D.moment disks.old.second)) }
+        ensures id { host_id self.new ≡ host_id self.old }
+        ensures down { OnOk result (is_up self.new ≡ false) }
+        ensures stands { OnOk result (HostStands self.new (D.image_at disks.new.first (D.moment disks.new.first)) (D.image_at disks.new.second (D.moment disks.new.second))) }
+
+        // A node that was up forgets its open rounds; nothing changes where it was down.
+        ensures cells { OnOk result (is_up self.old ≡ true → (c : CircuitId) → host_cell self.new (D.image_at disks.new.first (D.moment disks.new.first)) (D.image_at disks.new.second (D.moment disks.new.second)) c ≡ stopped_cell (host_cell self.old (D.image_at disks.old.first (D.moment disks.old.first)) (D.image_at disks.old.second (D.moment disks.old.second)) c)) }
+        ensures same { is_up self.old ≡ false → (self.new ≡ self.old) × (disks.new ≡ disks.old) }
+
+        // Where it was up each disk picks what it had at its last sync, and these images stand for the cells.
+        ensures picks_first { OnOk result (is_up self.old ≡ true → PicksOld (D.image_at disks.old.first) (D.image_at disks.new.first) (D.moment disks.old.first) (D.moment disks.new.first) (D.faults disks.old.first) (D.faults disks.new.first)
+            (D.armed disks.old.first) (D.armed disks.new.first) (D.picks disks.old.first) (D.picks disks.new.first)) }
+        ensures picks_second { OnOk result (is_up self.old ≡ true → PicksOld (D.image_at disks.old.second) (D.image_at disks.new.second) (D.moment disks.old.second) (D.moment disks.new.second) (D.faults disks.old.second) (D.faults disks.new.second)
+            (D.armed disks.old.second) (D.armed disks.new.second) (D.picks disks.old.second) (D.picks disks.new.second)) }
+        ensures picked { OnOk result (is_up self.old ≡ true → IfBoth (D.image_at disks.new.first (D.moment disks.new.first)) (D.image_at disks.new.second (D.moment disks.new.second)) (λ i j. StandFor (host_id self.old) (host_cell self.old (D.image_at disks.old.first (D.moment disks.old.first)) (D.image_at disks.old.second (D.moment disks.old.second))) i.bytes j.bytes)) }
+    {
+        if self.node.is_none() {
+            return Ok(());
+        }
+        self.node = None;
+        disks.first.pick(alloc, Fill::Old)?;
+        disks.second.pick(alloc, Fill::Old)
+    }
+
+    /// Brings the node up: its cells are those that its disks make. A node that is up stays as it
+    /// is.
+    pub fn start<D: StopDisk>(
+        &mut self,
+        alloc: Global,
+        disks: &mut Pair<D>,
+    ) -> Result<(), JournalFault>
+        requires stands { HostStands self.old (D.image_at disks.old.first (D.moment disks.old.first)) (D.image_at disks.old.second (D.moment disks.old.second)) }
+        ensures id { host_id self.new ≡ host_id self.old }
+        ensures up { OnOk result (is_up self.new ≡ true) }
+        ensures stands { OnOk result (HostStands self.new (D.image_at disks.new.first (D.moment disks.new.first)) (D.image_at disks.new.second (D.moment disks.new.second))) }
+        ensures cells { OnOk result ((c : CircuitId) → host_cell self.new (D.image_at disks.new.first (D.moment disks.new.first)) (D.image_at disks.new.second (D.moment disks.new.second)) c ≡ host_cell self.old (D.image_at disks.old.first (D.moment disks.old.first)) (D.image_at disks.old.second (D.moment disks.old.second)) c) }
+        ensures same { is_up self.old ≡ true → (self.new ≡ self.old) × (disks.new ≡ disks.old) }
+        ensures not { (at : ℕ) → IsErrOf result (JournalFault.NotAJournal at) → ⊥ }
+        ensures failed { IsErrOf result JournalFault.Disk → Rose (D.faults disks.old.first) (D.faults disks.new.first) ⊎ Rose (D.faults disks.old.second) (D.faults disks.new.second) }
+        ensures stays_first { Stays (D.image_at disks.old.first) (D.moment disks.old.first) (D.image_at disks.new.first) (D.moment disks.new.first) }
+        ensures stays_second { Stays (D.image_at disks.old.second) (D.moment disks.old.second) (D.image_at disks.new.second) (D.moment disks.new.second) }
+        ensures on_first { Onward (D.image_at disks.old.first) (D.image_at disks.new.first) (D.moment disks.old.first) (D.moment disks.new.first) (D.faults disks.old.first) (D.faults disks.new.first)
+            (D.armed disks.old.first) (D.armed disks.new.first) (D.picks disks.old.first) (D.picks disks.new.first) }
+        ensures on_second { Onward (D.image_at disks.old.second) (D.image_at disks.new.second) (D.moment disks.old.second) (D.moment disks.new.second) (D.faults disks.old.second) (D.faults disks.new.second)
+            (D.armed disks.old.second) (D.armed disks.new.second) (D.picks disks.old.second) (D.picks disks.new.second) }
+    {
+        if self.node.is_some() {
+            return Ok(());
+        }
+        let node = Node::open(alloc, self.id, disks)?;
+        self.node = Some(node);
+        Ok(())
+    }
+
+    /// The ids of the circuits that are bound here, in order. An error comes for want of memory
+    /// alone.
+    pub fn roll(&self, alloc: Global) -> Result<Listing<CircuitId>, AllocError>
+        requires { is_up self.now ≡ true }
+        ensures sorted { IfOk result (λ ids. IsStrictlySortedBy (slice_cmp nat_cmp) ids) }
+        ensures bound { IfOk result (λ ids. (first second : Option Image) (c : CircuitId) → list_any (bytes_eq c) ids ≡ is_bound (host_cell self.now first second c)) }
+    {
+        match &self.node {
+            Some(node) => node.roll(alloc),
+            None => unreachable!(),
+        }
+    }
+}
