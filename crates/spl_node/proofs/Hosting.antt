@@ -11,10 +11,11 @@ use Rattle.spl_node.specs.declared.node.Node.{Node}
 use Rattle.spl_node.specs.Hosts.{Runs, Rests, kept_cell, made_cell}
 use Rattle.spl_node.specs.Kept.{CellsView, cell_at}
 use Rattle.spl_node.specs.Opening.{IsMade, IsRead}
-use Rattle.spl_node.specs.Records.{is_record, recorded_cell}
+use Rattle.spl_node.specs.Records.{is_record, recorded_cell, changes_in, site_at}
 use Rattle.spl_node.specs.Stands.{Make, NodeStands, StandFor, here_of, cell_of, is_halted}
 use Rattle.spl_node.proofs.Disks.{settled_pair}
 use Rattle.spl_node.proofs.Standing.{makes}
+use Rattle.spl_node.proofs.Stops.{applied-still}
 
 -- ---- two disks that tell
 
@@ -150,3 +151,18 @@ is_journal None p at a b ok err = cc
 -- disks that stay
 pub runs_still : (here : NodeId) (n : Node) (o p x y : Option Image) → x ≡ o → y ≡ p → Runs here o p n → Runs here x y n
 runs_still here n o p x y is other_is runs = subst (λ (a : Option Image). Runs here a y n) (sym is) (subst (λ (b : Option Image). Runs here o b n) (sym other_is) runs)
+
+-- ---- up or down, the disks stand for the cells
+
+recorded_make : (here : NodeId) (r : Result (List (List ℕ)) ℕ) → IsOk r → IsOkAnd r (Make here (λ c. recorded_cell here c (result_unwrap_or r [])))
+recorded_make here (Ok rs) ok = λ c. sym (applied-still (site_at here c) (changes_in c rs))
+recorded_make here (Err at) ok = cc
+
+rests_stand : (here : NodeId) (first second : Option Image) → Rests first second → IfBoth first second (λ i j. StandFor here (kept_cell here None first second) i.bytes j.bytes)
+rests_stand here None second rests = tt
+rests_stand here (Some i) None rests = tt
+rests_stand here (Some i) (Some j) rests = recorded_make here (pair_records is_record i.bytes j.bytes) rests.journal
+
+pub kept_stand : (here : NodeId) (o : Option Node) (first second : Option Image) → IfSome o (Runs here first second) → IfNone o (Rests first second) → IfBoth first second (λ i j. StandFor here (kept_cell here o first second) i.bytes j.bytes)
+kept_stand here (Some n) first second up down = runs_stand here first second n up
+kept_stand here None first second up down = rests_stand here first second down

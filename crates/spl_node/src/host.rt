@@ -20,6 +20,7 @@ ghost use Rattle.spl_node.specs.Hosts.{HostStands, PicksOld, host_id, host_cell,
 ghost use Rattle.spl_node.specs.Kept.{cells_after};
 ghost use Rattle.spl_node.specs.Records.{site_at};
 ghost use Rattle.spl_node.specs.Stands.{StandFor};
+ghost use Rattle.spl_node.specs.declared.host.Host.{Host as Kept};
 
 use crate::{Node, Outcome};
 use spl_base::{CircuitId, Listing, NodeId};
@@ -203,3 +204,8 @@ impl Host {
         }
     }
 }
+
+/// The disks of a node stand for its cells, whether it is up or down.
+pub fn disks_stand_for_cells()
+    ensures { (h : Kept) (first second : Option Image) → HostStands h first second → IfBoth first second (λ i j. StandFor (host_id h) (host_cell h first second) i.bytes j.bytes) }
+{}

@@ -10,5 +10,5 @@ mod opening;
 mod packing;
 
 pub use form::CellForm;
-pub use host::Host;
+pub use host::{Host, disks_stand_for_cells};
 pub use node::{Node, Outcome};
