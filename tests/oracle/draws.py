@@ -1,9 +1,10 @@
-"""Schedules drawn from a seed: few circuits and addresses, so that lines meet each other; a few broken lines."""
+"""Registries and schedules drawn from a seed: few circuits and addresses, so that lines meet each other; a few broken
+lines, and a few broken registries."""
 import random
 
 from schedules import BadLine, World
 
-NODES = ["alpha", "beta", "gamma"]
+NAMES = ["alpha", "beta", "gamma", "a", "a-1", "b", "omega", "0", "alphabet"]
 CIRCUITS = ["Ab3dE-00001", "Ab3dE-00002", "Zz9zZ-00000"]
 ADDRESSES = ["00" * 34 + "01", "00" * 34 + "02", "00" * 33 + "0102", "ff" * 35]
 BROKEN = ["show alpha", "show delta Ab3dE-00001", "calm Ab3dE-00001 0", "vote alpha Ab3dE-00001 maybe", "show  alpha Ab3dE-00001"]
@@ -14,7 +15,9 @@ class Draw:
 
     def __init__(self, seed):
         self.random = random.Random(seed)
-        self.world = World(NODES)
+        self.nodes = sorted(self.random.sample(NAMES, 3))
+        self.spare = self.random.sample([n for n in NAMES if n not in self.nodes], self.one([0, 0, 1, 3]))
+        self.world = World(self.nodes + self.spare)
         self.circuits = CIRCUITS[: self.random.choice([1, 1, 2, 3])]
         self.members = {}
 
@@ -40,7 +43,7 @@ class Draw:
         return line
 
     def accepted(self, circuit):
-        members = self.one([NODES, NODES[:2], NODES[1:], [NODES[0], NODES[2]]])
+        members = self.one([self.nodes, self.nodes[:2], self.nodes[1:], self.nodes[::2]])
         first, *others = self.random.sample(members, len(members))
         found = [self.propose(circuit, first, members, 1), f"calm {circuit} 8"]
         for node in others:
@@ -57,7 +60,7 @@ class Draw:
 
     def line(self):
         circuit = self.one(self.circuits)
-        node = self.one(self.members.get(circuit, NODES) if self.random.random() < 0.9 else NODES)
+        node = self.one(self.members.get(circuit, self.nodes) if self.random.random() < 0.9 else self.nodes + self.spare)
         kinds = {
             self.drawn_propose: 4,
             self.vote: 7,
@@ -72,9 +75,10 @@ class Draw:
 
     def drawn_propose(self, circuit, node):
         if self.random.random() < 0.2:
-            version, members = self.one([(2, "alpha,beta"), (1, "beta,alpha"), (1, "alpha"), (1, "alpha,gamma")])
-            return f"propose {node} {circuit} 1 {version} grid trade {members} aaaa:scabbard:alpha,bbbb:scabbard:beta"
-        return self.propose(circuit, node, self.one([NODES, NODES[:2], NODES[1:]]), self.one([1, 1, 1, 2, 2, 3]))
+            a, b, c = self.nodes
+            version, members = self.one([(2, f"{a},{b}"), (1, f"{b},{a}"), (1, a), (1, f"{a},{c}")])
+            return f"propose {node} {circuit} 1 {version} grid trade {members} aaaa:scabbard:{a},bbbb:scabbard:{b}"
+        return self.propose(circuit, node, self.one([self.nodes, self.nodes[:2], self.nodes[1:]]), self.one([1, 1, 1, 2, 2, 3]))
 
     def vote(self, circuit, node):
         return self.one([f"vote {node} {circuit} accept"] * 4 + [f"vote {node} {circuit} reject", f"remove {node} {circuit}"])
@@ -102,14 +106,14 @@ class Draw:
         asked += [f"{word} {node} {circuit} {self.random.randint(1, 9)}" for word in ("status", "receipt")]
         asked.append(f"detail {node} {circuit}")
         services = self.one(["aaaa", "bbbb", "cccc", "zzzz"]), self.one(["aaaa", "bbbb", "cccc"])
-        asked.append(f"route {node} {circuit} {self.one(NODES)} {services[0]} {services[1]}")
+        asked.append(f"route {node} {circuit} {self.one(self.nodes)} {services[0]} {services[1]}")
         return self.one(asked)
 
     def step(self, circuit, node):
         return self.one([f"tick {node} {circuit}"] * 6 + [f"expire {node} {circuit}"])
 
     def deliver(self, circuit, node):
-        pairs = [(a, b) for a in NODES for b in NODES if a != b]
+        pairs = [(a, b) for a in self.nodes for b in self.nodes if a != b]
         count = lambda pair: len(self.world.sent.get((circuit, *pair), []))
         sender, to = self.one([pair for pair in pairs if count(pair)] or pairs)
         back = self.random.choices([0, 1, 2, 5, -1], [10, 4, 2, 2, 1])[0]
@@ -122,6 +126,25 @@ class Draw:
         return f"calm {circuit} {self.one([1, 1, 2, 4, 8])}"
 
 
-def schedule(seed):
-    """The bytes of the schedule of a seed."""
-    return "".join(line + "\n" for line in Draw(seed).lines()).encode()
+    def registry(self):
+        """A registry of the nodes in any order; a few are broken."""
+        names = self.random.sample(self.nodes + self.spare, len(self.nodes + self.spare))
+        tables = [table(name) for name in names]
+        if self.random.random() < 0.05:
+            at = self.random.randrange(len(tables) + 1)
+            broken = [table(names[0]), table("Beta"), table("late", name=""), table("late", endpoints=[]), "[[node]]\n", "=\n"]
+            tables[at:at] = self.one([[one] for one in broken] + [[table(f"node-{k}") for k in range(17)]])
+        return "\n".join(tables)
+
+
+def table(identity, name="A node", endpoints=["127.0.0.1:0"]):
+    """The lines of one node."""
+    listed = ", ".join(f'"{endpoint}"' for endpoint in endpoints)
+    return f'[[node]]\nidentity = "{identity}"\ndisplay_name = "{name}"\nendpoints = [{listed}]\n'
+
+
+def drawn(seed):
+    """The bytes of the registry and of the schedule of a seed."""
+    draw = Draw(seed)
+    lines = draw.lines()
+    return draw.registry().encode(), "".join(line + "\n" for line in lines).encode()

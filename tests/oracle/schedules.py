@@ -3,6 +3,7 @@ import re
 from dataclasses import dataclass, field
 
 from cells import Bound, Refused, Site
+from registries import BadRegistry, nodes_of
 from values import Batch, Command, Definition, Service, Transaction
 
 LONGEST_LINE = 2048
@@ -247,9 +248,12 @@ class World:
                     self.deliver(a, b, circuit, handed[a, b])
 
 
-def replay(nodes, schedule):
-    """What a run of a schedule writes, and its status."""
-    world, written = World(nodes), []
+def replay(registry, schedule):
+    """What a run over a registry writes, its status, and what it says of that."""
+    try:
+        world, written = World(nodes_of(registry)), []
+    except BadRegistry as why:
+        return "", 2, f"bad registry: {why}\n"
     *lines, rest = schedule.split(b"\n")
     for count, line in enumerate(lines, 1):
         try:

@@ -84,3 +84,7 @@ part_flushed a b c waiting all part (handed, kept, is, wrote) =
 
 pub due_same : (a b c : Option (List ℕ)) (waiting later all : List ℕ) → c ≡ b → later ≡ waiting → IsDue a b waiting all → IsDue a c later all
 due_same a b c waiting later all same kept due = record { done = due.done; is = due.is ∙ ap (λ (l : List ℕ). due.done ++ l) (sym kept); written = subst (λ (o : Option (List ℕ)). Appends a o due.done) (sym same) due.written }
+
+-- all that waits is handed over
+pub due_flushed : (a b c : Option (List ℕ)) (waiting all : List ℕ) → IsDue a b waiting all → Appends b c waiting → Appends a c all
+due_flushed a b c waiting all due wrote = subst (Appends a c) (sym due.is) (Appends-trans a b c _ _ due.written wrote)

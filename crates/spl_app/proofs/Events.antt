@@ -6,14 +6,14 @@ use Rattle.spl_model.specs.Projection.{Ran}
 use Rattle.spl_model.specs.Counts.{events_behind, events_of}
 use Rattle.spl_projection.proofs.Counts.{events-none}
 use Rattle.spl_app.specs.Lines.{lines_of}
-use Rattle.spl_app.specs.Run.{IsLine, IsWithin, IsRun, Reason, Bad, Past, StopsAt, registered, ran}
+use Rattle.spl_app.specs.Run.{IsLine, IsWithin, IsRun, Reason, Bad, Past, StopsAt, ran}
 use Rattle.spl_app.proofs.Feeds.{lines_front, all_front}
 use Rattle.spl_app.proofs.Outputs.{ran-append}
 
 -- where no line ran the events are within the limit
-pub none_within : IsWithin []
-none_within =
-    let none : events_of registered (ran []) ≡ 0 = events-none registered in
+pub none_within : (ns : List NodeId) → IsWithin ns []
+none_within ns =
+    let none : events_of ns (ran []) ≡ 0 = events-none ns in
     omega (arith, none)
 
 front-behind : (ns : List NodeId) (before xs ys : List Ran) → events_behind ns before xs ≤ events_behind ns before (xs ++ ys)
@@ -27,30 +27,30 @@ events_front : (ns : List NodeId) (xs ys : List Ran) → events_of ns xs ≤ eve
 unfolding events_of
 events_front ns xs ys = front-behind ns [] xs ys
 
-run_front : (xs ys : List (List ℕ)) → IsRun (xs ++ ys) → IsRun xs
-run_front xs ys run =
-    let fewer = subst (λ (rs : List Ran). events_of registered (ran xs) ≤ events_of registered rs) (sym (ran-append xs ys)) (events_front registered (ran xs) _) in
+run_front : (ns : List NodeId) (xs ys : List (List ℕ)) → IsRun ns (xs ++ ys) → IsRun ns xs
+run_front ns xs ys run =
+    let fewer = subst (λ (rs : List Ran). events_of ns (ran xs) ≤ events_of ns rs) (sym (ran-append xs ys)) (events_front ns (ran xs) _) in
     record {
-      lines = all_front IsLine xs ys run.lines;
+      lines = all_front (IsLine ns) xs ys run.lines;
       few = omega (arith, fewer, run.few);
     }
 
 -- a run that answers the lines of a text answers those of its fronts
-pub run_text_front : (a b : List ℕ) → IsRun (lines_of (a ++ b)) → IsRun (lines_of a)
-run_text_front a b run = let (rest, same) = lines_front a b in run_front (lines_of a) rest (subst IsRun same run)
+pub run_text_front : (ns : List NodeId) (a b : List ℕ) → IsRun ns (lines_of (a ++ b)) → IsRun ns (lines_of a)
+run_text_front ns a b run = let (rest, same) = lines_front a b in run_front ns (lines_of a) rest (subst (IsRun ns) same run)
 
-all_at : (lines : List (List ℕ)) (n : ℕ) (line : List ℕ) (behind : List (List ℕ)) → drop n lines ≡ line ∷ behind → AllByRecursion IsLine lines → IsLine line
-all_at [] zero line behind place good = absurd (cc)
-all_at [] (suc n) line behind place good = absurd (cc)
-all_at (l ∷ lines) zero line behind place good = let same : l ≡ line = cc in subst IsLine same good.0
-all_at (l ∷ lines) (suc n) line behind place good = all_at lines n line behind place good.1
+all_at : (ns : List NodeId) (lines : List (List ℕ)) (n : ℕ) (line : List ℕ) (behind : List (List ℕ)) → drop n lines ≡ line ∷ behind → AllByRecursion (IsLine ns) lines → IsLine ns line
+all_at ns [] zero line behind place good = absurd (cc)
+all_at ns [] (suc n) line behind place good = absurd (cc)
+all_at ns (l ∷ lines) zero line behind place good = let same : l ≡ line = cc in subst (IsLine ns) same good.0
+all_at ns (l ∷ lines) (suc n) line behind place good = all_at ns lines n line behind place good.1
 
 -- it stops at none of them
-pub no_stop : (why : Reason) (lines : List (List ℕ)) (number : ℕ) → IsRun lines → StopsAt why lines number → ⊥
-no_stop Bad lines number run found = found.stops (all_at lines (number - 1) found.line found.behind found.place run.lines)
-no_stop Past lines number run found =
+pub no_stop : (ns : List NodeId) (why : Reason) (lines : List (List ℕ)) (number : ℕ) → IsRun ns lines → StopsAt ns why lines number → ⊥
+no_stop ns Bad lines number run found = found.stops (all_at ns lines (number - 1) found.line found.behind found.place run.lines)
+no_stop ns Past lines number run found =
     let front = take (number - 1) lines in
     let whole : lines ≡ (front ++ found.line ∷ []) ++ found.behind =
     sym (take-append-drop (number - 1) lines) ∙ ap (λ (l : List (List ℕ)). front ++ l) found.place ∙ sym (append_assoc front (found.line ∷ []) found.behind) in
-    let few = (run_front (front ++ found.line ∷ []) found.behind (subst IsRun whole run)).few in
+    let few = (run_front ns (front ++ found.line ∷ []) found.behind (subst (IsRun ns) whole run)).few in
     absurd (omega (arith, found.stops.1, few))

@@ -5,5 +5,6 @@ mod Events
 mod Feeds
 mod Given
 mod Outputs
+mod Registries
 mod Runs
 mod Words

@@ -4,4 +4,5 @@ pub mod Faults
 pub mod Run
 pub mod Behind
 pub mod Schedule
+pub mod Registered
 pub mod Statuses

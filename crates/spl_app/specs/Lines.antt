@@ -24,6 +24,10 @@ rest_of (b ∷ bytes) = if has_feed (b ∷ bytes) then rest_of bytes else b ∷ 
 abbrev pub longest_line : ℕ
 longest_line = 2048
 
+-- the most bytes that a source may give
+unfoldable pub limit : ℕ
+limit = 67108864
+
 -- an empty line or a comment, which is numbered and has no answer
 abbrev pub is_silent : List ℕ → Bool
 is_silent [] = true

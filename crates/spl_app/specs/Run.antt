@@ -1,5 +1,5 @@
 -- The lines of a schedule, and what a run writes (docs/RULES.md, Schedules, Answers).
-use Rattle.std.specs.Prelude.{true, ◌≡◌, ◌⊎◌, ◌<◌, ◌≤◌, ◌+◌, ◌-◌, ℕ, List, [], ◌∷◌, ◌++◌, Option, Some, None, IsSomeAnd, IsTrue, if◌then◌else◌, take, drop, length, map, codes, decimal}
+use Rattle.std.specs.Prelude.{true, ◌≡◌, ◌⊎◌, ◌<◌, ◌≤◌, ◌+◌, ◌-◌, ℕ, List, [], ◌∷◌, ◌++◌, Option, Some, None, IsSomeAnd, IsTrue, if◌then◌else◌, take, drop, length, map, decimal}
 use Rattle.std.specs.List.{AllByRecursion, list_all}
 use Rattle.spl_circuit.specs.Nodes.{Node, has_node}
 use Rattle.spl_sched.specs.declared.line.Line.{Line}
@@ -13,23 +13,19 @@ use Rattle.spl_model.specs.declared.TheConstants.{MOST_EVENTS}
 use Rattle.spl_answer.specs.Texts.{text}
 use Rattle.spl_app.specs.Lines.{is_silent, longest_line}
 
--- the nodes of every run
-abbrev pub registered : List Node
-registered = codes "alpha" ∷ codes "beta" ∷ codes "gamma" ∷ []
+-- the line names no other node than these, and a run takes it
+abbrev pub IsAdmitted : List Node → Line → Type 0
+IsAdmitted ns l = IsTrue (list_all (has_node ns) (nodes_of l)) × IsTrue (is_taken l)
 
--- the line names no other node, and a run takes it
-abbrev pub IsAdmitted : Line → Type 0
-IsAdmitted l = IsTrue (list_all (has_node registered) (nodes_of l)) × IsTrue (is_taken l)
-
--- a line that the world runs
-pub record IsRunnable (l : Line) : Type 0 where
-  pub known : IsTrue (list_all (has_node registered) (nodes_of l))
+-- a line that the world of these nodes runs
+pub record IsRunnable (ns : List Node) (l : Line) : Type 0 where
+  pub known : IsTrue (list_all (has_node ns) (nodes_of l))
   pub fits : IsTrue (is_line l)
   pub taken : is_taken l ≡ true
 
--- a line that a schedule may have
-abbrev pub IsLine : List ℕ → Type 0
-IsLine line = (length line ≤ longest_line) × (IsTrue (is_silent line) ⊎ IsSomeAnd (line_of line) IsAdmitted)
+-- a line that a schedule over these nodes may have
+abbrev pub IsLine : List Node → List ℕ → Type 0
+IsLine ns line = (length line ≤ longest_line) × (IsTrue (is_silent line) ⊎ IsSomeAnd (line_of line) (IsAdmitted ns))
 
 -- what is run of a line
 abbrev pub said : List ℕ → Option Line
@@ -53,37 +49,37 @@ abbrev pub printed : ℕ → List ℕ → List ℕ
 printed n answer = decimal n ++ 32 ∷ answer ++ 10 ∷ []
 
 -- the answers to lines that run behind others, with the numbers of the lines
-abbrev pub outputs : List Ran → List (ℕ × Line) → List ℕ
-outputs before [] = []
-outputs before (x ∷ xs) = printed x.0 (text (answer_to registered before (by_rule x.1))) ++ outputs (before ++ by_rule x.1 ∷ []) xs
+abbrev pub outputs : List Node → List Ran → List (ℕ × Line) → List ℕ
+outputs ns before [] = []
+outputs ns before (x ∷ xs) = printed x.0 (text (answer_to ns before (by_rule x.1))) ++ outputs ns (before ++ by_rule x.1 ∷ []) xs
 
--- what a run of these lines writes
-abbrev pub answers : List (List ℕ) → List ℕ
-answers lines = outputs [] (numbered 1 lines)
+-- what a run of these lines over these nodes writes
+abbrev pub answers : List Node → List (List ℕ) → List ℕ
+answers ns lines = outputs ns [] (numbered 1 lines)
 
 -- the events of these lines are within the limit
-abbrev pub IsWithin : List (List ℕ) → Type 0
-IsWithin lines = events_of registered (ran lines) ≤ MOST_EVENTS
+abbrev pub IsWithin : List Node → List (List ℕ) → Type 0
+IsWithin ns lines = events_of ns (ran lines) ≤ MOST_EVENTS
 
--- lines that a run answers: each is one that a schedule may have, and their events are within the limit
-pub record IsRun (ls : List (List ℕ)) : Type 0 where
-  pub lines : AllByRecursion IsLine ls
-  pub few : IsWithin ls
+-- lines that a run over these nodes answers: each is one that a schedule may have, and their events are within the limit
+pub record IsRun (ns : List Node) (ls : List (List ℕ)) : Type 0 where
+  pub lines : AllByRecursion (IsLine ns) ls
+  pub few : IsWithin ns ls
 
 -- why a run stops at a line: a schedule may not have it, or the events of the lines pass the limit with it
 pub data Reason : Type 0 where
   Bad : Reason
   Past : Reason
 
-abbrev pub StopsFor : Reason → List (List ℕ) → List ℕ → Type 0
-StopsFor Bad before line = IsLine line → ⊥
-StopsFor Past before line = IsLine line × (MOST_EVENTS < events_of registered (ran (before ++ line ∷ [])))
+abbrev pub StopsFor : List Node → Reason → List (List ℕ) → List ℕ → Type 0
+StopsFor ns Bad before line = IsLine ns line → ⊥
+StopsFor ns Past before line = IsLine ns line × (MOST_EVENTS < events_of ns (ran (before ++ line ∷ [])))
 
 -- the line with this number is the first at which the run stops, and this is why
-pub record StopsAt (why : Reason) (lines : List (List ℕ)) (number : ℕ) : Type 0 where
+pub record StopsAt (ns : List Node) (why : Reason) (lines : List (List ℕ)) (number : ℕ) : Type 0 where
   pub line : List ℕ
   pub behind : List (List ℕ)
   pub counted : 0 < number
-  pub before : IsRun (take (number - 1) lines)
+  pub before : IsRun ns (take (number - 1) lines)
   pub place : drop (number - 1) lines ≡ line ∷ behind
-  pub stops : StopsFor why (take (number - 1) lines) line
+  pub stops : StopsFor ns why (take (number - 1) lines) line

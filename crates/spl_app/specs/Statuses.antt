@@ -1,5 +1,7 @@
 -- The number and the text of a status (docs/RULES.md, Statuses).
 use Rattle.std.specs.Prelude.{ℕ, List, [], ◌++◌, ◌==◌, if◌then◌else◌, codes, decimal}
+use Rattle.spl_registry.specs.declared.fault.RegistryFault.{RegistryFault}
+use Rattle.spl_registry.specs.declared.fault.RegistryFault.TheVariants as fault
 use Rattle.spl_app.specs.declared.status.Status.{Status}
 use Rattle.spl_app.specs.declared.status.Status.TheVariants as status
 
@@ -7,6 +9,7 @@ use Rattle.spl_app.specs.declared.status.Status.TheVariants as status
 abbrev pub code_of : Status → ℕ
 code_of status.Ok = 0
 code_of status.Usage = 1
+code_of (status.BadRegistry fault) = 2
 code_of (status.BadSchedule line) = 3
 code_of (status.TooMany which) = 4
 code_of status.ReadFault = 5
@@ -14,10 +17,19 @@ code_of status.WriteFault = 6
 code_of status.TooLong = 11
 code_of status.NoMemory = 12
 
+-- what is said of a registry's fault
+abbrev pub fault_text : RegistryFault → List ℕ
+fault_text fault.NotToml = codes "not TOML"
+fault_text (fault.BadEntry index) = codes "entry " ++ decimal index
+fault_text (fault.Repeated index) = codes "repeated " ++ decimal index
+fault_text (fault.TooMany count) = decimal count ++ codes " entries"
+fault_text fault.NoMemory = codes "out of memory"
+
 -- what is said of it
 abbrev pub text_of : Status → List ℕ
 text_of status.Ok = []
 text_of status.Usage = codes "usage: splinter replay REGISTRY SCHEDULE or links REGISTRY SCHEDULE DIR or gen N SEED"
+text_of (status.BadRegistry why) = codes "bad registry: " ++ fault_text why
 text_of (status.BadSchedule line) = codes "bad schedule: line " ++ decimal line
 text_of (status.TooMany which) = if which == 1 then codes "too many events" else codes "too many stops"
 text_of status.ReadFault = codes "read failed"

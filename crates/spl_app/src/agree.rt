@@ -2,15 +2,16 @@
 ghost use Rattle.std.specs.Prelude.{List, ℕ};
 ghost use Rattle.spl_agreement.specs.Agreement.{Agree};
 ghost use Rattle.spl_agreement.specs.OneList.{TellOneList};
-ghost use Rattle.spl_app.specs.Run.{registered, ran};
+ghost use Rattle.spl_circuit.specs.Nodes.{Node};
+ghost use Rattle.spl_app.specs.Run.{ran};
 
 use spl_agreement::{circuits_agree, members_tell_one_list};
 use spl_sched::lines_have_one_spelling;
 
-/// Whatever lines run, the members of each circuit agree at each moment, and tell one list.
+/// Whatever lines run over whatever nodes, the members of each circuit agree at each moment, and tell one list.
 pub fn runs_agree()
-    ensures agreed { (lines : List (List ℕ)) → Agree registered (ran lines) }
-    ensures told { (lines : List (List ℕ)) → TellOneList registered (ran lines) }
+    ensures agreed { (ns : List Node) (lines : List (List ℕ)) → Agree ns (ran lines) }
+    ensures told { (ns : List Node) (lines : List (List ℕ)) → TellOneList ns (ran lines) }
 {
     circuits_agree();
     members_tell_one_list();

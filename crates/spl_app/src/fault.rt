@@ -1,9 +1,10 @@
-//! Why a run ended before its last line.
+//! Why a run ended before its last line, and why it has no nodes.
 ghost use Rattle.std.specs.Prelude.{◌≡◌};
 ghost use Rattle.spl_app.specs.Faults.{fault_of};
 ghost use Rattle.spl_app.specs.declared.fault.RunFault.TheVariants.{NoMemory};
 
 use spl_edge::DeviceError;
+use spl_registry::RegistryFault;
 use std::alloc::AllocError;
 
 /// Why a run ended before its last line.
@@ -36,4 +37,17 @@ impl From<DeviceError> for RunFault {
             DeviceError::NoMemory => RunFault::NoMemory,
         }
     }
+}
+
+/// Why a run has no nodes.
+#[derive(Clone, Copy, Debug, PartialEq, Eq)]
+pub enum NodesFault {
+    /// The bytes given are no registry.
+    Bad(RegistryFault),
+    /// The source failed.
+    Read,
+    /// The source gave too many bytes.
+    TooLong,
+    /// Memory ran out.
+    NoMemory,
 }

@@ -1,11 +1,13 @@
-//! The call that does all that the program does: it reads a schedule, runs its lines, and writes
-//! their answers.
+//! The call that does all that the program does: it reads a registry and a schedule, runs the lines
+//! over the registry's nodes, and writes their answers.
 #![tactic(auto)]
 
 mod agree;
 mod fault;
 mod lines;
 mod output;
+mod registered;
+mod replay;
 mod run;
 mod status;
 mod top;

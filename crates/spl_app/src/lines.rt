@@ -5,6 +5,9 @@ ghost use Rattle.spl_app.specs.Lines.{lines_of, rest_of, is_silent};
 /// The most bytes that a line may have.
 pub const LONGEST_LINE: usize = 2048;
 
+/// The most bytes that a source may give.
+pub const MOST_BYTES: usize = 67_108_864;
+
 /// Whether the line is empty or a comment.
 pub fn is_silent(line: &[u8]) -> bool
     ensures { result ≡ is_silent line.now }

@@ -2,10 +2,10 @@
 ghost use Rattle.std.specs.Prelude.{◌≡◌, false, ◌≤◌, ◌<◌, ◌+◌, ◌-◌, ◌^◌, ◌++◌, ◌∷◌, [], ℕ, List, Option, IfOk, IfSome, OnOk, IsErrOf, IsTrue, take, length};
 ghost use Rattle.std.specs.Io.KnownBytes.{Appends};
 ghost use Rattle.spl_edge.specs.Causes.{Rose, AppendsPart};
-ghost use Rattle.spl_base.specs.Ids.{is_node_id};
+ghost use Rattle.spl_circuit.specs.Rules.{ascends};
 ghost use Rattle.spl_app.specs.Lines.{lines_of};
 ghost use Rattle.spl_app.specs.Due.{IsDue, IsDuePart};
-ghost use Rattle.spl_app.specs.Run.{IsLine, IsRunnable, IsRun, Bad, Past, StopsAt, registered, said, ran, printed, answers};
+ghost use Rattle.spl_app.specs.Run.{IsLine, IsRunnable, IsRun, Bad, Past, StopsAt, said, ran, printed, answers};
 ghost use Rattle.spl_answer.specs.Texts.{text as text_of};
 ghost use Rattle.spl_model.specs.Projection.{Ran};
 ghost use Rattle.spl_model.specs.Outcomes.{by_rule};
@@ -24,33 +24,26 @@ use spl_sched::{Line, LineFault, read_line};
 use spl_world::{World, WorldFault};
 use std::alloc::{AllocError, Global};
 
-fn node(name: &[u8]) -> NodeId
-    requires { IsTrue (is_node_id name.now) }
-    ensures { result ≡ name.now }
-{
-    NodeId::read(name).unwrap()
-}
-
 /// A run: its nodes, the text of the last answer, and the answers that wait.
 #[derive(Drop)]
 pub struct Run {
-    nodes: [NodeId; 3],
+    nodes: Vec<NodeId>,
     world: World,
     text: Vec<u8>,
     output: Output,
-    ghost known: { nodes ≡ registered },
 }
 
 impl Run {
     ghost use Rattle.spl_app.specs.Behind.{IsBehind};
 
-    fn new(alloc: Global) -> Result<Run, AllocError>
-        ensures { IfOk result (λ run. (start : Option (List ℕ)) → IsBehind [] run start start) }
+    fn new(alloc: Global, nodes: Vec<NodeId>) -> Result<Run, AllocError>
+        requires { IsTrue (ascends nodes.items) }
+        ensures nodes { IfOk result (λ run. run.nodes.items ≡ nodes.items) }
+        ensures behind { IfOk result (λ run. (start : Option (List ℕ)) → IsBehind nodes.items [] run start start) }
     {
-        let nodes = [node(b"alpha"), node(b"beta"), node(b"gamma")];
         Ok(Run {
-            nodes,
             world: World::new(alloc, &nodes)?,
+            nodes,
             text: Vec::new(alloc),
             output: Output::new(alloc)?,
         })
@@ -58,10 +51,10 @@ impl Run {
 
     // What is run of a line.
     fn read(&self, alloc: Global, line: &[u8]) -> Result<Option<Line>, LineFault>
-        ensures good { OnOk result (IsLine line.now) }
+        ensures good { OnOk result (IsLine self.now.nodes.items line.now) }
         ensures said { IfOk result (λ o. o ≡ said line.now) }
-        ensures known { IfOk result (λ o. IfSome o IsRunnable) }
-        ensures bad { IsErrOf result LineFault.BadLine → IsLine line.now → ⊥ }
+        ensures known { IfOk result (λ o. IfSome o (IsRunnable self.now.nodes.items)) }
+        ensures bad { IsErrOf result LineFault.BadLine → IsLine self.now.nodes.items line.now → ⊥ }
     {
         if line.len() > LONGEST_LINE {
             return Err(LineFault::BadLine);
@@ -78,15 +71,16 @@ impl Run {
 
     // Runs a line that says this, and keeps the text of the answer.
     fn ask(&mut self, alloc: Global, said: &Line) -> Result<(), WorldFault>
-        requires nodes { ids_of self.old.world ≡ registered }
+        requires nodes { ids_of self.old.world ≡ self.old.nodes.items }
         requires running { is_halted self.old.world ≡ false }
-        requires known { IsRunnable said.now }
-        ensures nodes { ids_of self.new.world ≡ registered }
+        requires known { IsRunnable self.old.nodes.items said.now }
+        ensures nodes { self.new.nodes.items ≡ self.old.nodes.items }
+        ensures world { ids_of self.new.world ≡ self.old.nodes.items }
         ensures running { OnOk result (is_halted self.new.world ≡ false) }
         ensures stands { (before : List Ran) → Stands before self.old.world → OnOk result (Stands (before ++ by_rule said.now ∷ []) self.new.world) }
-        ensures text { (before : List Ran) → Stands before self.old.world → OnOk result (self.new.text.items ≡ text_of (answer_to registered before (by_rule said.now))) }
-        ensures few { (before : List Ran) → Stands before self.old.world → OnOk result (events_of registered (before ++ by_rule said.now ∷ []) ≤ MOST_EVENTS) }
-        ensures many { (before : List Ran) (which : ℕ) → Stands before self.old.world → IsErrOf result (WorldFault.TooMany which) → MOST_EVENTS < events_of registered (before ++ by_rule said.now ∷ []) }
+        ensures text { (before : List Ran) → Stands before self.old.world → OnOk result (self.new.text.items ≡ text_of (answer_to self.old.nodes.items before (by_rule said.now))) }
+        ensures few { (before : List Ran) → Stands before self.old.world → OnOk result (events_of self.old.nodes.items (before ++ by_rule said.now ∷ []) ≤ MOST_EVENTS) }
+        ensures many { (before : List Ran) (which : ℕ) → Stands before self.old.world → IsErrOf result (WorldFault.TooMany which) → MOST_EVENTS < events_of self.old.nodes.items (before ++ by_rule said.now ∷ []) }
         ensures output { self.new.output ≡ self.old.output }
     {
         let answer = self.world.step(alloc, said)?;
@@ -104,19 +98,20 @@ impl Run {
         said: &Line,
         out: &mut W,
     ) -> Result<(), RunFault>
-        requires nodes { ids_of self.old.world ≡ registered }
+        requires nodes { ids_of self.old.world ≡ self.old.nodes.items }
         requires running { is_halted self.old.world ≡ false }
-        requires known { IsRunnable said.now }
-        ensures nodes { ids_of self.new.world ≡ registered }
+        requires known { IsRunnable self.old.nodes.items said.now }
+        ensures nodes { self.new.nodes.items ≡ self.old.nodes.items }
+        ensures world { ids_of self.new.world ≡ self.old.nodes.items }
         ensures running { OnOk result (is_halted self.new.world ≡ false) }
         ensures stands { (before : List Ran) → Stands before self.old.world → OnOk result (Stands (before ++ by_rule said.now ∷ []) self.new.world) }
         ensures due { (before : List Ran) → Stands before self.old.world → OnOk result (IsDue (W.written out.old) (W.written out.new) self.new.output
-            (self.old.output ++ printed number (text_of (answer_to registered before (by_rule said.now))))) }
+            (self.old.output ++ printed number (text_of (answer_to self.old.nodes.items before (by_rule said.now))))) }
         ensures part { (before : List Ran) → Stands before self.old.world → IsDuePart (W.written out.old) (W.written out.new) self.new.output
-            (self.old.output ++ printed number (text_of (answer_to registered before (by_rule said.now)))) }
+            (self.old.output ++ printed number (text_of (answer_to self.old.nodes.items before (by_rule said.now)))) }
         ensures good { (n : ℕ) → IsErrOf result (RunFault.BadLine n) → ⊥ }
-        ensures few { (before : List Ran) → Stands before self.old.world → OnOk result (events_of registered (before ++ by_rule said.now ∷ []) ≤ MOST_EVENTS) }
-        ensures many { (before : List Ran) (n : ℕ) → Stands before self.old.world → IsErrOf result (RunFault.TooMany n) → MOST_EVENTS < events_of registered (before ++ by_rule said.now ∷ []) }
+        ensures few { (before : List Ran) → Stands before self.old.world → OnOk result (events_of self.old.nodes.items (before ++ by_rule said.now ∷ []) ≤ MOST_EVENTS) }
+        ensures many { (before : List Ran) (n : ℕ) → Stands before self.old.world → IsErrOf result (RunFault.TooMany n) → MOST_EVENTS < events_of self.old.nodes.items (before ++ by_rule said.now ∷ []) }
         ensures kept { (n : ℕ) → IsErrOf result (RunFault.TooMany n) → (n ≡ number) × (self.new.output ≡ self.old.output) × (W.written out.new ≡ W.written out.old) }
         ensures write { IsErrOf result RunFault.Write → Rose (W.faults out.old) (W.faults out.new) }
         ensures later { W.faults out.old ≤ W.faults out.new }
@@ -139,19 +134,19 @@ impl Run {
         line: &[u8],
         out: &mut W,
     ) -> Result<(), RunFault>
-        requires nodes { ids_of self.old.world ≡ registered }
+        requires nodes { ids_of self.old.world ≡ self.old.nodes.items }
         requires running { is_halted self.old.world ≡ false }
-        ensures ok { (lines : List (List ℕ)) → (start : Option (List ℕ)) → IsBehind lines self.old start (W.written out.old) → number ≡ length lines + 1
-            → OnOk result (IsBehind (lines ++ line.now ∷ []) self.new start (W.written out.new)) }
-        ensures good { OnOk result (IsLine line.now) }
+        ensures ok { (lines : List (List ℕ)) → (start : Option (List ℕ)) → IsBehind self.old.nodes.items lines self.old start (W.written out.old) → number ≡ length lines + 1
+            → OnOk result (IsBehind self.old.nodes.items (lines ++ line.now ∷ []) self.new start (W.written out.new)) }
+        ensures good { OnOk result (IsLine self.old.nodes.items line.now) }
         ensures bad { (n : ℕ) → IsErrOf result (RunFault.BadLine n)
-            → (n ≡ number) × (IsLine line.now → ⊥) × (self.new ≡ self.old) × (W.written out.new ≡ W.written out.old) }
+            → (n ≡ number) × (IsLine self.old.nodes.items line.now → ⊥) × (self.new ≡ self.old) × (W.written out.new ≡ W.written out.old) }
         ensures many { (n : ℕ) → IsErrOf result (RunFault.TooMany n)
-            → (n ≡ number) × IsLine line.now × (self.new.output ≡ self.old.output) × (W.written out.new ≡ W.written out.old) }
+            → (n ≡ number) × IsLine self.old.nodes.items line.now × (self.new.output ≡ self.old.output) × (W.written out.new ≡ W.written out.old) }
         ensures past { (lines : List (List ℕ)) (n : ℕ) → Stands (ran lines) self.old.world → IsErrOf result (RunFault.TooMany n)
-            → MOST_EVENTS < events_of registered (ran (lines ++ line.now ∷ [])) }
-        ensures part { (lines : List (List ℕ)) → (start : Option (List ℕ)) → IsBehind lines self.old start (W.written out.old) → number ≡ length lines + 1
-            → IsDuePart start (W.written out.new) self.new.output (answers (lines ++ line.now ∷ [])) }
+            → MOST_EVENTS < events_of self.old.nodes.items (ran (lines ++ line.now ∷ [])) }
+        ensures part { (lines : List (List ℕ)) → (start : Option (List ℕ)) → IsBehind self.old.nodes.items lines self.old start (W.written out.old) → number ≡ length lines + 1
+            → IsDuePart start (W.written out.new) self.new.output (answers self.old.nodes.items (lines ++ line.now ∷ [])) }
         ensures write { IsErrOf result RunFault.Write → Rose (W.faults out.old) (W.faults out.new) }
         ensures later { W.faults out.old ≤ W.faults out.new }
     {
@@ -167,16 +162,16 @@ impl Run {
     // limit, and tells how many there were.
     fn lines<W: Sink>(&mut self, alloc: Global, text: &[u8], out: &mut W) -> Result<u32, RunFault>
         requires room { length text.now < 2 ^ 32 - 1 }
-        requires fresh { IsBehind [] self.old (W.written out.old) (W.written out.old) }
+        requires fresh { IsBehind self.old.nodes.items [] self.old (W.written out.old) (W.written out.old) }
         ensures count { IfOk result (λ count. count ≡ length (lines_of text.now)) }
         ensures room { IfOk result (λ count. count ≤ length text.now) }
-        ensures good { OnOk result (IsRun (lines_of text.now)) }
-        ensures due { OnOk result (IsDue (W.written out.old) (W.written out.new) self.new.output (answers (lines_of text.now))) }
-        ensures bad { (number : ℕ) → IsErrOf result (RunFault.BadLine number) → StopsAt Bad (lines_of text.now) number
-            × IsDue (W.written out.old) (W.written out.new) self.new.output (answers (take (number - 1) (lines_of text.now))) }
-        ensures many { (number : ℕ) → IsErrOf result (RunFault.TooMany number) → StopsAt Past (lines_of text.now) number
-            × IsDue (W.written out.old) (W.written out.new) self.new.output (answers (take (number - 1) (lines_of text.now))) }
-        ensures part { IsDuePart (W.written out.old) (W.written out.new) self.new.output (answers (lines_of text.now)) }
+        ensures good { OnOk result (IsRun self.old.nodes.items (lines_of text.now)) }
+        ensures due { OnOk result (IsDue (W.written out.old) (W.written out.new) self.new.output (answers self.old.nodes.items (lines_of text.now))) }
+        ensures bad { (number : ℕ) → IsErrOf result (RunFault.BadLine number) → StopsAt self.old.nodes.items Bad (lines_of text.now) number
+            × IsDue (W.written out.old) (W.written out.new) self.new.output (answers self.old.nodes.items (take (number - 1) (lines_of text.now))) }
+        ensures many { (number : ℕ) → IsErrOf result (RunFault.TooMany number) → StopsAt self.old.nodes.items Past (lines_of text.now) number
+            × IsDue (W.written out.old) (W.written out.new) self.new.output (answers self.old.nodes.items (take (number - 1) (lines_of text.now))) }
+        ensures part { IsDuePart (W.written out.old) (W.written out.new) self.new.output (answers self.old.nodes.items (lines_of text.now)) }
         ensures write { IsErrOf result RunFault.Write → Rose (W.faults out.old) (W.faults out.new) }
         ensures later { W.faults out.old ≤ W.faults out.new }
     {
@@ -193,29 +188,35 @@ impl Run {
     }
 }
 
-/// Runs each line of a text, up to the first that a schedule may not have or with which the events
+/// Runs each line of a text over these nodes, up to the first that a schedule may not have or with which the events
 /// pass the limit, writes the answers, and tells how many lines there were.
-pub fn run_lines<W: Sink>(alloc: Global, text: &[u8], out: &mut W) -> Result<u32, RunFault>
-    requires { length text.now < 2 ^ 32 - 1 }
+pub fn run_lines<W: Sink>(
+    alloc: Global,
+    nodes: Vec<NodeId>,
+    text: &[u8],
+    out: &mut W,
+) -> Result<u32, RunFault>
+    requires ordered { IsTrue (ascends nodes.items) }
+    requires room { length text.now < 2 ^ 32 - 1 }
     ensures count { IfOk result (λ count. count ≡ length (lines_of text.now)) }
     ensures room { IfOk result (λ count. count ≤ length text.now) }
-    ensures good { OnOk result (IsRun (lines_of text.now)) }
-    ensures written { OnOk result (Appends (W.written out.old) (W.written out.new) (answers (lines_of text.now))) }
+    ensures good { OnOk result (IsRun nodes.items (lines_of text.now)) }
+    ensures written { OnOk result (Appends (W.written out.old) (W.written out.new) (answers nodes.items (lines_of text.now))) }
 
     // The first line that a schedule may not have.
-    ensures bad { (number : ℕ) → IsErrOf result (RunFault.BadLine number) → StopsAt Bad (lines_of text.now) number
-        × Appends (W.written out.old) (W.written out.new) (answers (take (number - 1) (lines_of text.now))) }
+    ensures bad { (number : ℕ) → IsErrOf result (RunFault.BadLine number) → StopsAt nodes.items Bad (lines_of text.now) number
+        × Appends (W.written out.old) (W.written out.new) (answers nodes.items (take (number - 1) (lines_of text.now))) }
 
     // The first line with which the events pass the limit.
-    ensures many { (number : ℕ) → IsErrOf result (RunFault.TooMany number) → StopsAt Past (lines_of text.now) number
-        × Appends (W.written out.old) (W.written out.new) (answers (take (number - 1) (lines_of text.now))) }
+    ensures many { (number : ℕ) → IsErrOf result (RunFault.TooMany number) → StopsAt nodes.items Past (lines_of text.now) number
+        × Appends (W.written out.old) (W.written out.new) (answers nodes.items (take (number - 1) (lines_of text.now))) }
 
     // Whatever the end.
-    ensures part { AppendsPart (W.written out.old) (W.written out.new) (answers (lines_of text.now)) }
+    ensures part { AppendsPart (W.written out.old) (W.written out.new) (answers nodes.items (lines_of text.now)) }
     ensures write { IsErrOf result RunFault.Write → Rose (W.faults out.old) (W.faults out.new) }
     ensures later { W.faults out.old ≤ W.faults out.new }
 {
-    let mut run = Run::new(alloc)?;
+    let mut run = Run::new(alloc, nodes)?;
     let ended = run.lines(alloc, text, out);
     run.output.flush(out)?;
     ended

@@ -1,29 +1,47 @@
 //! How a run ends.
-ghost use Rattle.std.specs.Prelude.{◌≡◌, IfOk};
+ghost use Rattle.std.specs.Prelude.{◌≡◌, ◌++◌, codes, IfOk};
+ghost use Rattle.spl_app.specs.Statuses.{fault_text};
 
 use spl_base::Piece;
+use spl_registry::RegistryFault;
 use std::alloc::{AllocError, Global};
 
 /// How a run ended (docs/RULES.md, Statuses).
 #[derive(Clone, Copy, Debug, PartialEq, Eq)]
 pub enum Status {
-    /// The schedule was read to its end, and every answer was written.
+    /// Registry and schedule were read to their ends, and every answer was written.
     Ok,
     /// The words aren't a command.
     Usage,
+    /// The registry's bytes have this fault. Want of memory is none of them.
+    BadRegistry(RegistryFault),
     /// This is the first line that a schedule may not have.
     BadSchedule { line: u32 },
     /// With a line the run would have more than the limit of this number allows: 1 is events, 2 is
     /// stops.
     TooMany { which: u8 },
-    /// The schedule could not be read.
+    /// The registry or the schedule could not be read.
     ReadFault,
     /// The answers could not be written.
     WriteFault,
-    /// The schedule has too many bytes.
+    /// The registry or the schedule has too many bytes.
     TooLong,
     /// Memory ran out.
     NoMemory,
+}
+
+// The line for a registry that has this fault.
+fn fault_text(alloc: Global, fault: &RegistryFault) -> Result<Piece, AllocError>
+    ensures { IfOk result (λ p. p ≡ codes "bad registry: " ++ fault_text fault.now) }
+{
+    let text = match fault {
+        RegistryFault::NotToml => format!(in alloc; "bad registry: not TOML"),
+        RegistryFault::BadEntry { index } => format!(in alloc; "bad registry: entry {index}"),
+        RegistryFault::Repeated { index } => format!(in alloc; "bad registry: repeated {index}"),
+        RegistryFault::TooMany { count } => format!(in alloc; "bad registry: {count} entries"),
+        RegistryFault::NoMemory => format!(in alloc; "bad registry: out of memory"),
+    }?;
+    Piece::from(alloc, text.as_bytes())
 }
 
 impl Status {
@@ -36,6 +54,7 @@ impl Status {
         match self {
             Status::Ok => 0,
             Status::Usage => 1,
+            Status::BadRegistry(_) => 2,
             Status::BadSchedule { .. } => 3,
             Status::TooMany { .. } => 4,
             Status::ReadFault => 5,
@@ -55,6 +74,7 @@ impl Status {
                 alloc,
                 b"usage: splinter replay REGISTRY SCHEDULE or links REGISTRY SCHEDULE DIR or gen N SEED",
             ),
+            Status::BadRegistry(fault) => fault_text(alloc, fault),
             Status::BadSchedule { line } => {
                 let text = format!(in alloc; "bad schedule: line {line}")?;
                 Piece::from(alloc, text.as_bytes())

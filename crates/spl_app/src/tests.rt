@@ -1,14 +1,19 @@
 use crate::{Status, splinter};
 use spl_edge::{DeviceError, MemSink, MemSource, Sink};
+use spl_registry::RegistryFault;
 use std::alloc::{AllocError, Global};
 use std::process::Abort;
 use std::test::Fail;
 
-// A run: the schedule, the calls of the source and of the sink that fail, how it ends and what it
-// writes.
+const REGISTRY: &str =
+    "[[node]]\nidentity = \"alpha\"\ndisplay_name = \"Alpha\"\nendpoints = [\"127.0.0.1:0\"]\n";
+
+// A run: the schedule, the calls of the two sources and of the sink that fail, how it ends and what
+// it writes.
 #[derive(Clone, Copy)]
 struct Row<'a> {
     schedule: &'a str,
+    registry_reads: &'a [u64],
     reads: &'a [u64],
     writes: &'a [u64],
     status: Status,
@@ -23,28 +28,38 @@ fn words(alloc: Global, texts: &[&str]) -> Result<Vec<String>, AllocError> {
     Ok(words)
 }
 
-// How a run of this schedule ends, and what it writes.
-fn ran(
+// How a run over these sources ends, and what it writes.
+fn run(
     alloc: Global,
-    schedule: Vec<u8>,
-    reads: &[u64],
+    mut registry: MemSource,
+    mut schedule: MemSource,
     writes: &[u64],
 ) -> Result<(Status, Vec<u8>), Fail> {
     let words = words(alloc, &["replay", "registry", "schedule"])?;
-    let mut source = MemSource::new(schedule, reads.to_vec(alloc)?);
     let mut out = MemSink::new(alloc, writes.to_vec(alloc)?);
-    let status = splinter(alloc, &words, &mut source, &mut out);
+    let status = splinter(alloc, &words, &mut registry, &mut schedule, &mut out);
     Ok((status, out.bytes().to_vec(alloc)?))
+}
+
+// A registry of alpha, of which these reads fail.
+fn registry(alloc: Global, reads: &[u64]) -> Result<MemSource, AllocError> {
+    Ok(MemSource::new(REGISTRY.as_bytes().to_vec(alloc)?, reads.to_vec(alloc)?))
+}
+
+// How a run of this schedule over alpha ends, and what it writes.
+fn ran(alloc: Global, schedule: Vec<u8>, writes: &[u64]) -> Result<(Status, Vec<u8>), Fail> {
+    let schedule = MemSource::new(schedule, Vec::new(alloc));
+    run(alloc, registry(alloc, &[])?, schedule, writes)
 }
 
 fn check(rt: &impl Abort, alloc: Global, rows: &[Row]) -> Result<(), Fail> {
     for row in rows {
-        let (status, written) = ran(
-            alloc,
+        let schedule = MemSource::new(
             row.schedule.as_bytes().to_vec(alloc)?,
-            row.reads,
-            row.writes,
-        )?;
+            row.reads.to_vec(alloc)?,
+        );
+        let registry = registry(alloc, row.registry_reads)?;
+        let (status, written) = run(alloc, registry, schedule, row.writes)?;
         assert_eq!(rt; status, row.status, "at {}", row.schedule);
         assert_eq!(rt;
             written.as_slice(),
@@ -66,6 +81,24 @@ fn faults_are_told(rt: HostRuntime) -> Result<(), Fail> {
         &[
             Row {
                 schedule: good,
+                registry_reads: &[1],
+                reads: &[],
+                writes: &[],
+                status: Status::ReadFault,
+                written: "",
+            },
+            // Also where the whole registry was given before.
+            Row {
+                schedule: good,
+                registry_reads: &[2],
+                reads: &[],
+                writes: &[],
+                status: Status::ReadFault,
+                written: "",
+            },
+            Row {
+                schedule: good,
+                registry_reads: &[],
                 reads: &[1],
                 writes: &[],
                 status: Status::ReadFault,
@@ -73,6 +106,7 @@ fn faults_are_told(rt: HostRuntime) -> Result<(), Fail> {
             },
             Row {
                 schedule: good,
+                registry_reads: &[],
                 reads: &[2],
                 writes: &[],
                 status: Status::ReadFault,
@@ -81,6 +115,7 @@ fn faults_are_told(rt: HostRuntime) -> Result<(), Fail> {
             // In mid-line too it is the read that failed, and not a line without its line feed.
             Row {
                 schedule: "show alpha Ab3dE-00001\nshow al",
+                registry_reads: &[],
                 reads: &[2],
                 writes: &[],
                 status: Status::ReadFault,
@@ -88,6 +123,7 @@ fn faults_are_told(rt: HostRuntime) -> Result<(), Fail> {
             },
             Row {
                 schedule: good,
+                registry_reads: &[],
                 reads: &[],
                 writes: &[1],
                 status: Status::WriteFault,
@@ -106,9 +142,9 @@ fn comment(alloc: Global, length: usize) -> Result<Vec<u8>, AllocError> {
 #[test]
 fn long_input(rt: HostRuntime) -> Result<(), Fail> {
     let alloc = rt.alloc();
-    let (status, _) = ran(alloc, comment(alloc, 2048)?, &[], &[])?;
+    let (status, _) = ran(alloc, comment(alloc, 2048)?, &[])?;
     assert_eq!(rt; status, Status::Ok);
-    let (status, _) = ran(alloc, comment(alloc, 2049)?, &[], &[])?;
+    let (status, _) = ran(alloc, comment(alloc, 2049)?, &[])?;
     assert_eq!(rt; status, Status::BadSchedule { line: 1 });
     // One line more than a schedule may have.
     let line = comment(alloc, 2047)?;
@@ -116,7 +152,7 @@ fn long_input(rt: HostRuntime) -> Result<(), Fail> {
     for _ in 0..32_769 {
         schedule.extend_from_slice(&line)?;
     }
-    let (status, written) = ran(alloc, schedule, &[], &[])?;
+    let (status, written) = ran(alloc, schedule, &[])?;
     assert_eq!(rt; status, Status::TooLong);
     assert_eq!(rt; written.len(), 0);
     // The limit cuts a last line that is too long already.
@@ -126,8 +162,14 @@ fn long_input(rt: HostRuntime) -> Result<(), Fail> {
     }
     schedule.extend_from_slice(&comment(alloc, 2046)?)?;
     schedule.extend_from_slice(&comment(alloc, 2049)?)?;
-    let (status, _) = ran(alloc, schedule, &[], &[])?;
+    let (status, _) = ran(alloc, schedule, &[])?;
     assert_eq!(rt; status, Status::BadSchedule { line: 32_768 });
+    // A registry has no more bytes either.
+    let long = MemSource::new(comment(alloc, 67_108_864)?, Vec::new(alloc));
+    let schedule = MemSource::new(b"show alpha Ab3dE-00001\n".to_vec(alloc)?, Vec::new(alloc));
+    let (status, written) = run(alloc, long, schedule, &[])?;
+    assert_eq!(rt; status, Status::TooLong);
+    assert_eq!(rt; written.len(), 0);
     Ok(())
 }
 
@@ -139,10 +181,10 @@ fn answers_go_out_in_pieces(rt: HostRuntime) -> Result<(), Fail> {
     for _ in 0..500 {
         schedule.extend_from_slice(b"show alpha Ab3dE-00001\n")?;
     }
-    let (status, all) = ran(alloc, schedule.as_slice().to_vec(alloc)?, &[], &[])?;
+    let (status, all) = ran(alloc, schedule.as_slice().to_vec(alloc)?, &[])?;
     assert_eq!(rt; status, Status::Ok);
     assert_eq!(rt; all.len(), 9 * 12 + 90 * 13 + 401 * 14);
-    let (status, first) = ran(alloc, schedule, &[], &[2])?;
+    let (status, first) = ran(alloc, schedule, &[2])?;
     assert_eq!(rt; status, Status::WriteFault);
     assert_eq!(rt; first.len(), 9 * 12 + 90 * 13 + 201 * 14);
     assert_eq!(rt; all.starts_with(&first), true);
@@ -173,15 +215,23 @@ fn statuses(rt: HostRuntime) -> Result<(), Fail> {
         ["links", "r", "s"].as_slice(),
         ["replay", "r", "s", "t"].as_slice(),
     ] {
+        let mut nodes = registry(alloc, &[])?;
         let mut source = MemSource::new(Vec::new(alloc), Vec::new(alloc));
         let mut out = MemSink::new(alloc, Vec::new(alloc));
-        let status = splinter(alloc, &words(alloc, texts)?, &mut source, &mut out);
+        let status = splinter(
+            alloc,
+            &words(alloc, texts)?,
+            &mut nodes,
+            &mut source,
+            &mut out,
+        );
         assert_eq!(rt; status, Status::Usage);
     }
+    let mut nodes = registry(alloc, &[])?;
     let mut source = MemSource::new(b"show alpha Ab3dE-00001\n".to_vec(alloc)?, Vec::new(alloc));
     let replay = words(alloc, &["replay", "r", "s"])?;
     assert_eq!(rt;
-        splinter(alloc, &replay, &mut source, &mut FullSink),
+        splinter(alloc, &replay, &mut nodes, &mut source, &mut FullSink),
         Status::NoMemory
     );
     let lines = [
@@ -190,6 +240,26 @@ fn statuses(rt: HostRuntime) -> Result<(), Fail> {
             Status::Usage,
             1,
             "usage: splinter replay REGISTRY SCHEDULE or links REGISTRY SCHEDULE DIR or gen N SEED",
+        ),
+        (
+            Status::BadRegistry(RegistryFault::NotToml),
+            2,
+            "bad registry: not TOML",
+        ),
+        (
+            Status::BadRegistry(RegistryFault::BadEntry { index: 2 }),
+            2,
+            "bad registry: entry 2",
+        ),
+        (
+            Status::BadRegistry(RegistryFault::Repeated { index: 3 }),
+            2,
+            "bad registry: repeated 3",
+        ),
+        (
+            Status::BadRegistry(RegistryFault::TooMany { count: 17 }),
+            2,
+            "bad registry: 17 entries",
         ),
         (Status::BadSchedule { line: 12 }, 3, "bad schedule: line 12"),
         (Status::TooMany { which: 1 }, 4, "too many events"),

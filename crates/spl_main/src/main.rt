@@ -8,6 +8,7 @@ mod adapters;
 
 use adapters::{FileSource, StdSink};
 use spl_app::{Status, splinter};
+use std::fs::File;
 use std::io::{ErrorKind, Write};
 use std::process::ExitCode;
 use std::{env, fs, io};
@@ -32,19 +33,24 @@ fn unread(error: &io::Error) -> Status
     }
 }
 
-// A file that can't be opened is one whose first read fails.
+// The file of this name. One that can't be opened is a source whose first read fails.
+fn source(rt: &HostRuntime, name: Option<&String>) -> FileSource<File> {
+    let file = match name {
+        Some(name) => fs::open(rt, name.as_str()).ok(),
+        None => None,
+    };
+    FileSource::new(rt.alloc(), file)
+}
+
 fn run(rt: &HostRuntime) -> Status {
     let words = match words_of(rt) {
         Ok(words) => words,
         Err(error) => return unread(&error),
     };
-    let file = match words.get(2) {
-        Some(name) => fs::open(rt, name.as_str()).ok(),
-        None => None,
-    };
-    let mut schedule = FileSource::new(rt.alloc(), file);
+    let mut registry = source(rt, words.get(1));
+    let mut schedule = source(rt, words.get(2));
     let mut out = StdSink::new(rt.stdout());
-    splinter(rt.alloc(), &words, &mut schedule, &mut out)
+    splinter(rt.alloc(), &words, &mut registry, &mut schedule, &mut out)
 }
 
 // One line on standard error.

@@ -1,9 +1,9 @@
-use Rattle.spl_app.specs.Run.{registered, ran}
+use Rattle.spl_app.specs.Run.{ran}
 use Rattle.spl_app.proofs.Agreed.{ran_fits}
 use Rattle.spl_app.proofs.agree.runs_agree.Goals as goal
 
 pub returns-clause-agreed : goal.returns-clause-agreed
-returns-clause-agreed c = λ lines. c.circuits_agree.ensures.lines registered (ran lines) (ran_fits c.lines_have_one_spelling.ensures lines)
+returns-clause-agreed c = λ ns lines. c.circuits_agree.ensures.lines ns (ran lines) (ran_fits c.lines_have_one_spelling.ensures lines)
 
 pub returns-clause-told : goal.returns-clause-told
-returns-clause-told c = λ lines. c.members_tell_one_list.ensures registered (ran lines) (ran_fits c.lines_have_one_spelling.ensures lines)
+returns-clause-told c = λ ns lines. c.members_tell_one_list.ensures ns (ran lines) (ran_fits c.lines_have_one_spelling.ensures lines)

@@ -1,109 +1,88 @@
-use Rattle.std.proofs.Common.{ℕ, ◌≡◌, ◌+◌, ◌≤◌, [], length, ◌<◌, length-take, refl, ap, rules, arith, inl, inr}
+use Rattle.std.proofs.Common.{◌-◌, List, [], take, refl, sym, ◌∙◌, ap, subst, inl, inr, rules}
 use Rattle.std.specs.Io.{appended_bytes}
+use Rattle.std.specs.Io.KnownBytes.{Appends, IsAtEnd}
 use Rattle.std.proofs.KnownBytes.{Appends-nil}
-use Rattle.spl_app.specs.Run.{Bad, Past, answers}
-use Rattle.spl_app.specs.Schedule.{run_of, limit}
-use Rattle.spl_app.proofs.Given.{gave, given_length, part_run, stop_run, good_run, good_given, had_short, runs_on, schedule_given, unfinished, cut, rest_short, rest_empty, rest_more, bad_rest, limit_is}
+use Rattle.spl_edge.specs.Causes.{AppendsPart}
+use Rattle.spl_circuit.specs.Nodes.{Node}
+use Rattle.spl_app.specs.Lines.{lines_of}
+use Rattle.spl_app.specs.Run.{IsRun, answers}
+use Rattle.spl_app.specs.Schedule.{IsSchedule, IsBadAt, HasTooMany, had, run_of}
+use Rattle.spl_app.specs.Registered.{nodes_of}
+use Rattle.spl_app.proofs.Given.{all_had}
+use Rattle.spl_app.proofs.Registries.{no_fault, had_no_fault, had_not_long}
 use Rattle.spl_app.proofs.top.splinter.Goals as goal
 
-pub run_lines-requires : goal.run_lines-requires
-run_lines-requires g c = omega (arith, limit_is, ap length c.head-text.ensures, length-take {A = ℕ})
-
 pub returns-then-not-is_replay-clause-part : goal.returns-then-not-is_replay-clause-part
-returns-then-not-is_replay-clause-part g c = ([], answers (run_of (appended_bytes (g.S.Source.taken c.args.schedule.now) (g.S.Source.taken c.args.schedule.now))), refl, Appends-nil _)
+returns-then-not-is_replay-clause-part g c = ([], _, refl, Appends-nil _)
 
-pub returns-in-Err-BadLine-clause-part : goal.returns-in-Err-BadLine-clause-part
-returns-in-Err-BadLine-clause-part g c = part_run (gave c.read_all-reading.ensures.taken c.head-text.ensures c.deref.ensures.value) _ _ c.run_lines.ensures.part
+pub returns-in-Err-Bad-clause-part : goal.returns-in-Err-Bad-clause-part
+returns-in-Err-Bad-clause-part g c = ([], _, refl, Appends-nil _)
 
-pub returns-in-Err-Write-clause-part : goal.returns-in-Err-Write-clause-part
-returns-in-Err-Write-clause-part g c = part_run (gave c.read_all-reading.ensures.taken c.head-text.ensures c.deref.ensures.value) _ _ c.run_lines.ensures.part
+pub returns-in-Err-Read-clause-part : goal.returns-in-Err-Read-clause-part
+returns-in-Err-Read-clause-part g c = ([], _, refl, Appends-nil _)
+
+pub returns-in-Err-TooLong-clause-part : goal.returns-in-Err-TooLong-clause-part
+returns-in-Err-TooLong-clause-part g c = ([], _, refl, Appends-nil _)
 
 pub returns-in-Err-NoMemory-clause-part : goal.returns-in-Err-NoMemory-clause-part
-returns-in-Err-NoMemory-clause-part g c = part_run (gave c.read_all-reading.ensures.taken c.head-text.ensures c.deref.ensures.value) _ _ c.run_lines.ensures.part
+returns-in-Err-NoMemory-clause-part g c = ([], _, refl, Appends-nil _)
 
-pub returns-in-Fault-clause-part : goal.returns-in-Fault-clause-part
-returns-in-Fault-clause-part g c = part_run (gave c.read_all-reading.ensures.taken c.head-text.ensures c.deref.ensures.value) _ _ c.run_lines.ensures.part
+pub returns-in-Ok-clause-faulty : goal.returns-in-Ok-clause-faulty
+returns-in-Ok-clause-faulty g c = λ fault form sound bad short. absurd (no_fault _ fault c.in-Ok.ensures.text.spells bad)
 
-pub returns-in-TooLong-clause-part : goal.returns-in-TooLong-clause-part
-returns-in-TooLong-clause-part g c = part_run (gave c.read_all-reading.ensures.taken c.head-text.ensures c.deref.ensures.value) _ _ c.run_lines.ensures.part
+pub returns-in-Ok-clause-ok : goal.returns-in-Ok-clause-ok
+returns-in-Ok-clause-ok g c = λ is.
+    let given = appended_bytes (g.S.Source.taken c.args.schedule.now) (g.S.Source.taken c.replay.new.schedule) in
+    let (schedule, ended, wrote) = subst (λ (ns : List Node). IsSchedule ns given × IsAtEnd (g.S.Source.left c.replay.new.schedule) × Appends (g.W.Sink.written c.args.out.now) (g.W.Sink.written c.replay.new.out) (answers ns (lines_of given))) c.in-Ok.ensures.nodes (c.replay.ensures.ok is) in
+    (c.in-Ok.ensures.text, c.in-Ok.ensures.ended, schedule, ended, wrote)
 
-pub returns-in-NoMemory-clause-part : goal.returns-in-NoMemory-clause-part
-returns-in-NoMemory-clause-part g c = part_run (gave c.read_all-reading.ensures.taken c.head-text.ensures c.deref.ensures.value) _ _ c.run_lines.ensures.part
+pub returns-in-Ok-clause-bad : goal.returns-in-Ok-clause-bad
+returns-in-Ok-clause-bad g c = λ line is.
+    let given = appended_bytes (g.S.Source.taken c.args.schedule.now) (g.S.Source.taken c.replay.new.schedule) in
+    let (at, wrote) = subst (λ (ns : List Node). IsBadAt ns given (g.S.Source.left c.replay.new.schedule) line × Appends (g.W.Sink.written c.args.out.now) (g.W.Sink.written c.replay.new.out) (answers ns (take (line - 1) (run_of given)))) c.in-Ok.ensures.nodes (c.replay.ensures.bad line is) in
+    (c.in-Ok.ensures.text, at, wrote)
 
-pub returns-in-Whole-clause-part : goal.returns-in-Whole-clause-part
-returns-in-Whole-clause-part g c = part_run (gave c.read_all-reading.ensures.taken c.head-text.ensures c.deref.ensures.value) _ _ c.run_lines.ensures.part
+pub returns-in-Ok-clause-many : goal.returns-in-Ok-clause-many
+returns-in-Ok-clause-many g c = λ which is.
+    let given = appended_bytes (g.S.Source.taken c.args.schedule.now) (g.S.Source.taken c.replay.new.schedule) in
+    let found = c.replay.ensures.many which is in
+    (found.0, c.in-Ok.ensures.text, subst (λ (ns : List Node). HasTooMany ns given (g.W.Sink.written c.args.out.now) (g.W.Sink.written c.replay.new.out)) c.in-Ok.ensures.nodes found.1)
 
-pub returns-clause-part : goal.returns-clause-part
-returns-clause-part g c = part_run (gave c.read_all-reading.ensures.taken c.head-text.ensures c.deref.ensures.value) _ _ c.run_lines.ensures.part
+pub returns-in-Ok-clause-read : goal.returns-in-Ok-clause-read
+returns-in-Ok-clause-read g c = λ is.
+    let given = appended_bytes (g.S.Source.taken c.args.schedule.now) (g.S.Source.taken c.replay.new.schedule) in
+    let found = c.replay.ensures.read is in
+    let (run, wrote) = subst (λ (ns : List Node). IsRun ns (lines_of given) × Appends (g.W.Sink.written c.args.out.now) (g.W.Sink.written c.replay.new.out) (answers ns (lines_of given))) c.in-Ok.ensures.nodes (found.1, found.2) in
+    inr (found.0, c.in-Ok.ensures.text, run, wrote)
 
-pub returns-in-Err-BadLine-clause-bad : goal.returns-in-Err-BadLine-clause-bad
-returns-in-Err-BadLine-clause-bad g c = λ line is.
-    let same : c.in-Err-BadLine.line ≡ line = cc in
-    let found = stop_run (gave c.read_all-reading.ensures.taken c.head-text.ensures c.deref.ensures.value) Bad _ _ c.in-Err-BadLine.line line same (c.in-Err-BadLine.ensures.bad c.in-Err-BadLine.line (search rules)) in
-    (inl found.0, found.1)
+pub returns-in-Ok-clause-long : goal.returns-in-Ok-clause-long
+returns-in-Ok-clause-long g c = λ is.
+    let given = appended_bytes (g.S.Source.taken c.args.schedule.now) (g.S.Source.taken c.replay.new.schedule) in
+    let found = c.replay.ensures.long is in
+    let (run, wrote) = subst (λ (ns : List Node). IsRun ns (run_of given) × Appends (g.W.Sink.written c.args.out.now) (g.W.Sink.written c.replay.new.out) (answers ns (run_of given))) c.in-Ok.ensures.nodes (found.1, found.3) in
+    inr (found.0, c.in-Ok.ensures.text, run, found.2, wrote)
 
-pub returns-in-Err-BadLine-clause-complete : goal.returns-in-Err-BadLine-clause-complete
-returns-in-Err-BadLine-clause-complete g c = λ form read wrote schedule.
-    let found = c.in-Err-BadLine.ensures.bad c.in-Err-BadLine.line (search rules) in
-    absurd (runs_on (gave c.read_all-reading.ensures.taken c.head-text.ensures c.deref.ensures.value) _ _ c.read_all-reading.ensures.left schedule Bad _ found.0)
+pub returns-in-Ok-clause-part : goal.returns-in-Ok-clause-part
+returns-in-Ok-clause-part g c =
+    let given = appended_bytes (g.S.Source.taken c.args.schedule.now) (g.S.Source.taken c.replay.new.schedule) in
+    subst (λ (ns : List Node). AppendsPart (g.W.Sink.written c.args.out.now) (g.W.Sink.written c.replay.new.out) (answers ns (run_of given))) c.in-Ok.ensures.nodes c.replay.ensures.part
 
-pub returns-in-Err-TooMany-clause-part : goal.returns-in-Err-TooMany-clause-part
-returns-in-Err-TooMany-clause-part g c = part_run (gave c.read_all-reading.ensures.taken c.head-text.ensures c.deref.ensures.value) _ _ c.run_lines.ensures.part
+pub returns-in-Ok-clause-complete : goal.returns-in-Ok-clause-complete
+returns-in-Ok-clause-complete g c = λ form sound read wrote text schedule.
+    let given = appended_bytes (g.S.Source.taken c.args.schedule.now) (g.S.Source.taken c.replay.new.schedule) in
+    let same = ap nodes_of (all_had (g.S.Source.left c.args.registry.now) (g.S.Source.left c.read_nodes.new.registry) (appended_bytes (g.S.Source.taken c.args.registry.now) (g.S.Source.taken c.read_nodes.new.registry)) c.read_nodes.ensures.taken c.in-Ok.ensures.ended) in
+    c.replay.ensures.complete read wrote (subst (λ (ns : List Node). IsSchedule ns (had (g.S.Source.left c.args.schedule.now) given)) (same ∙ sym c.in-Ok.ensures.nodes) schedule)
 
-pub returns-in-Err-TooMany-clause-many : goal.returns-in-Err-TooMany-clause-many
-returns-in-Err-TooMany-clause-many g c = λ which is.
-    let number = c.in-Err-TooMany.line in
-    let found = stop_run (gave c.read_all-reading.ensures.taken c.head-text.ensures c.deref.ensures.value) Past _ _ number number refl (c.in-Err-TooMany.ensures.many number (search rules)) in
-    (cc, record { number = number; stops = found.0; written = found.1 })
+pub returns-in-Err-Bad-clause-faulty : goal.returns-in-Err-Bad-clause-faulty
+returns-in-Err-Bad-clause-faulty g c = λ fault form sound bad short.
+    let found = c.in-Err-Bad.ensures.bad c.in-Err-Bad.fault (search rules) in
+    inl cc
 
-pub returns-in-Err-TooMany-clause-complete : goal.returns-in-Err-TooMany-clause-complete
-returns-in-Err-TooMany-clause-complete g c = λ form read wrote schedule.
-    let found = c.in-Err-TooMany.ensures.many c.in-Err-TooMany.line (search rules) in
-    absurd (runs_on (gave c.read_all-reading.ensures.taken c.head-text.ensures c.deref.ensures.value) _ _ c.read_all-reading.ensures.left schedule Past _ found.0)
+pub returns-in-Err-Bad-clause-complete : goal.returns-in-Err-Bad-clause-complete
+returns-in-Err-Bad-clause-complete g c = λ form sound read wrote text schedule.
+    let found = c.in-Err-Bad.ensures.bad c.in-Err-Bad.fault (search rules) in
+    absurd (had_no_fault _ _ _ c.read_nodes.ensures.taken c.in-Err-Bad.fault found.1 text found.0)
 
-pub returns-in-Fault-clause-read : goal.returns-in-Fault-clause-read
-returns-in-Fault-clause-read g c = λ _.
-    let no : 67108864 < length c.read_all-reading.result.bytes.items → ⊥ = λ long. cc (c.read_all-reading.ensures.too_long.1 long) in
-    let short : length c.read_all-reading.result.bytes.items ≤ limit = omega (arith, no, limit_is) in
-    let good = good_given (gave c.read_all-reading.ensures.taken c.head-text.ensures c.deref.ensures.value) _ _ short c.in-Ok.ensures.good c.in-Ok.ensures.written in
-    (c.read_all-reading.ensures.fault c.in-Fault.is, good.0, good.1)
-
-pub returns-in-Whole-clause-ok : goal.returns-in-Whole-clause-ok
-returns-in-Whole-clause-ok g c = λ _.
-    let no : 67108864 < length c.read_all-reading.result.bytes.items → ⊥ = λ long. cc (c.read_all-reading.ensures.too_long.1 long) in
-    let short : length c.read_all-reading.result.bytes.items ≤ limit = omega (arith, no, limit_is) in
-    let none = rest_empty c.head-text.result.now _ _ c.rest_of.ensures c.is_empty.ensures c.if-is_empty.true in
-    let good = good_given (gave c.read_all-reading.ensures.taken c.head-text.ensures c.deref.ensures.value) _ _ short c.in-Ok.ensures.good c.in-Ok.ensures.written in
-    (schedule_given (gave c.read_all-reading.ensures.taken c.head-text.ensures c.deref.ensures.value) short c.in-Ok.ensures.good none, c.read_all-reading.ensures.whole c.in-Whole.is, good.1)
-
-pub returns-in-TooLong-clause-long : goal.returns-in-TooLong-clause-long
-returns-in-TooLong-clause-long g c = λ _.
-    let good = good_run (gave c.read_all-reading.ensures.taken c.head-text.ensures c.deref.ensures.value) _ _ c.in-Ok.ensures.good c.in-Ok.ensures.written in
-    (omega (arith, limit_is, c.read_all-reading.ensures.too_long.0 c.in-TooLong.is, given_length (gave c.read_all-reading.ensures.taken c.head-text.ensures c.deref.ensures.value)), good.0, rest_short (gave c.read_all-reading.ensures.taken c.head-text.ensures c.deref.ensures.value) _ c.rest_of-in-Ok.ensures c.if-rest_of-le-LONGEST_LINE.true, good.1)
-
-pub returns-in-TooLong-clause-complete : goal.returns-in-TooLong-clause-complete
-returns-in-TooLong-clause-complete g c = λ form read wrote schedule.
-    absurd (omega (arith, limit_is, had_short (gave c.read_all-reading.ensures.taken c.head-text.ensures c.deref.ensures.value) _ _ c.read_all-reading.ensures.left schedule, c.read_all-reading.ensures.too_long.0 c.in-TooLong.is))
-
-pub returns-in-Whole-2-clause-bad : goal.returns-in-Whole-2-clause-bad
-returns-in-Whole-2-clause-bad g c = λ line is.
-    let no : 67108864 < length c.read_all-reading.result.bytes.items → ⊥ = λ long. cc (c.read_all-reading.ensures.too_long.1 long) in
-    let short : length c.read_all-reading.result.bytes.items ≤ limit = omega (arith, no, limit_is) in
-    let more = rest_more c.head-text.result.now _ _ c.rest_of.ensures c.is_empty.ensures c.if-is_empty.false in
-    let bad = unfinished (gave c.read_all-reading.ensures.taken c.head-text.ensures c.deref.ensures.value) _ short more (c.read_all-reading.ensures.whole c.in-Whole-2.is) in
-    let found = bad_rest (gave c.read_all-reading.ensures.taken c.head-text.ensures c.deref.ensures.value) _ _ _ line c.in-Ok.ensures.good (let same : c.in-Ok.count + 1 ≡ line = cc in omega (arith, c.in-Ok.ensures.count)) (inl bad) c.in-Ok.ensures.written in
-    (inr found.0, found.1)
-
-pub overflow_add-result-in-TooLong-2 : goal.overflow_add-result-in-TooLong-2
-overflow_add-result-in-TooLong-2 g c = omega (arith, limit_is, c.in-Ok.ensures.room, ap length c.head-text.ensures, length-take {A = ℕ})
-
-pub returns-clause-bad : goal.returns-clause-bad
-returns-clause-bad g c = λ line is.
-    let long : limit < length c.read_all-reading.result.bytes.items = omega (arith, limit_is, c.read_all-reading.ensures.too_long.0 c.in-TooLong-2.is) in
-    let bad = cut (gave c.read_all-reading.ensures.taken c.head-text.ensures c.deref.ensures.value) _ long c.rest_of-in-Ok.ensures c.if-rest_of-le-LONGEST_LINE.false in
-    let found = bad_rest (gave c.read_all-reading.ensures.taken c.head-text.ensures c.deref.ensures.value) _ _ _ line c.in-Ok.ensures.good (let same : c.in-Ok.count + 1 ≡ line = cc in omega (arith, c.in-Ok.ensures.count)) (inr bad) c.in-Ok.ensures.written in
-    (inr found.0, found.1)
-
-pub returns-clause-complete : goal.returns-clause-complete
-returns-clause-complete g c = λ form read wrote schedule.
-    absurd (omega (arith, limit_is, had_short (gave c.read_all-reading.ensures.taken c.head-text.ensures c.deref.ensures.value) _ _ c.read_all-reading.ensures.left schedule, c.read_all-reading.ensures.too_long.0 c.in-TooLong-2.is))
+pub returns-in-Err-TooLong-clause-complete : goal.returns-in-Err-TooLong-clause-complete
+returns-in-Err-TooLong-clause-complete g c = λ form sound read wrote text schedule.
+    absurd (had_not_long _ _ _ c.read_nodes.ensures.taken text (c.in-Err-TooLong.ensures.long (search rules)))

@@ -3,21 +3,21 @@ use Rattle.spl_answer.specs.Texts.{text}
 use Rattle.spl_model.specs.Outcomes.{by_rule}
 use Rattle.spl_model.specs.Answers.{answer_to}
 use Rattle.spl_app.specs.Due.{IsDuePart}
-use Rattle.spl_app.specs.Run.{registered, printed}
+use Rattle.spl_app.specs.Run.{printed}
 use Rattle.spl_app.proofs.Dues.{due_waits, due_part}
 use Rattle.spl_app.proofs.run.Run.answer.Goals as goal
 
 pub returns-in-Err-TooMany-clause-part : goal.returns-in-Err-TooMany-clause-part
 returns-in-Err-TooMany-clause-part g c = λ before stands.
     let written = g.W.Sink.written c.args.out.now in
-    let last = printed c.args.number (text (answer_to registered before (by_rule c.args.said.now))) in
+    let last = printed c.args.number (text (answer_to c.args.self.now.nodes.items before (by_rule c.args.said.now))) in
     subst (λ (waiting : List ℕ). IsDuePart written written waiting (c.args.self.now.output ++ last)) (sym c.ask.ensures.output)
     (due_part written written c.args.self.now.output c.args.self.now.output last (due_waits written c.args.self.now.output))
 
 pub returns-in-Err-NoMemory-clause-part : goal.returns-in-Err-NoMemory-clause-part
 returns-in-Err-NoMemory-clause-part g c = λ before stands.
     let written = g.W.Sink.written c.args.out.now in
-    let last = printed c.args.number (text (answer_to registered before (by_rule c.args.said.now))) in
+    let last = printed c.args.number (text (answer_to c.args.self.now.nodes.items before (by_rule c.args.said.now))) in
     subst (λ (waiting : List ℕ). IsDuePart written written waiting (c.args.self.now.output ++ last)) (sym c.ask.ensures.output)
     (due_part written written c.args.self.now.output c.args.self.now.output last (due_waits written c.args.self.now.output))
 

@@ -1,12 +1,14 @@
-use Rattle.std.proofs.Common.{Err, ◌≡◌, ◌-◌, ℕ, List, take, sym, ◌∙◌, ap, subst, rules, arith}
+use Rattle.std.proofs.Common.{Err, ◌≡◌, ◌-◌, ℕ, List, [], ◌∷◌, ◌++◌, take, sym, ◌∙◌, ap, subst, rules, arith}
 use Rattle.std.specs.List.{AllByRecursion}
+use Rattle.spl_circuit.specs.Nodes.{Node}
 use Rattle.spl_app.specs.declared.fault.RunFault.{RunFault}
 use Rattle.spl_app.specs.declared.fault.RunFault.TheVariants.{BadLine, TooMany}
 use Rattle.spl_app.specs.Lines.{lines_of}
-use Rattle.spl_app.specs.Run.{IsLine, IsRun, Bad, Past, answers}
-use Rattle.spl_app.specs.Due.{IsDue}
+use Rattle.spl_app.specs.Run.{IsLine, IsRun, Bad, Past, StopsFor, answers}
+use Rattle.spl_app.specs.Due.{IsDue, IsDuePart}
 use Rattle.spl_app.specs.Behind.{IsBehind}
 use Rattle.spl_app.proofs.Dues.{due_same, due_whole}
+use Rattle.spl_app.proofs.Behinds.{at_own}
 use Rattle.spl_app.proofs.Runs.{all-push, next_number, within, taken, behind, part_of_all, stops_at, none_left, all_counted}
 use Rattle.spl_app.proofs.run.Run.lines.Goals as goal
 
@@ -15,9 +17,10 @@ returns-in-Err-clause-bad g c = λ number is.
     let lines = lines_of c.args.text.now in
     let same : c.in-Err.fault ≡ BadLine number = cc in
     let found = c.in-Err.ensures.bad number (ap (λ (e : RunFault). Err e) same) in
-    let before : number - 1 ≡ c.lines.count = omega (arith, found.0) in (
-      stops_at lines c.lines.count c.lines.invariant.counted c.in-Some.line.now (lines_of c.in-Some.behind.now) (sym c.lines.invariant.left ∙ c.in-Some.ensures.0) Bad
-          record { lines = c.lines.invariant.good; few = c.lines.invariant.behind.few } found.1 number found.0,
+    let before : number - 1 ≡ c.lines.count = omega (arith, found.0) in
+    let stops = subst (λ (ns : List Node). StopsFor ns Bad (take c.lines.count lines) c.in-Some.line.now) c.lines.invariant.behind.nodes found.1 in (
+      stops_at lines c.lines.count c.lines.invariant.counted c.in-Some.line.now (lines_of c.in-Some.behind.now) (sym c.lines.invariant.left ∙ c.in-Some.ensures.0) _ Bad
+          record { lines = c.lines.invariant.good; few = c.lines.invariant.behind.few } stops number found.0,
       rw before (due_same _ _ _ c.lines.self.output _ _ found.3 (search rules) c.lines.invariant.behind.due),
     )
 
@@ -28,9 +31,10 @@ returns-in-Err-clause-many g c = λ number is.
     let failed = ap (λ (e : RunFault). Err e) same in
     let found = c.in-Err.ensures.many number failed in
     let over = c.in-Err.ensures.past (take c.lines.count lines) number c.lines.invariant.behind.stands failed in
-    let before : number - 1 ≡ c.lines.count = omega (arith, found.0) in (
-      stops_at lines c.lines.count c.lines.invariant.counted c.in-Some.line.now (lines_of c.in-Some.behind.now) (sym c.lines.invariant.left ∙ c.in-Some.ensures.0) Past
-          record { lines = c.lines.invariant.good; few = c.lines.invariant.behind.few } (found.1, over) number found.0,
+    let before : number - 1 ≡ c.lines.count = omega (arith, found.0) in
+    let stops = subst (λ (ns : List Node). StopsFor ns Past (take c.lines.count lines) c.in-Some.line.now) c.lines.invariant.behind.nodes (found.1, over) in (
+      stops_at lines c.lines.count c.lines.invariant.counted c.in-Some.line.now (lines_of c.in-Some.behind.now) (sym c.lines.invariant.left ∙ c.in-Some.ensures.0) _ Past
+          record { lines = c.lines.invariant.good; few = c.lines.invariant.behind.few } stops number found.0,
       rw before (due_same _ _ _ c.lines.self.output _ _ found.3 found.2 c.lines.invariant.behind.due),
     )
 
@@ -38,8 +42,10 @@ pub returns-in-Err-clause-part : goal.returns-in-Err-clause-part
 returns-in-Err-clause-part g c =
     let lines = lines_of c.args.text.now in
     let here = sym c.lines.invariant.left ∙ c.in-Some.ensures.0 in
-    part_of_all lines c.lines.count c.lines.invariant.counted c.in-Some.line.now (lines_of c.in-Some.behind.now) here _ _ _
-    (c.line.ensures.part (take c.lines.count lines) _ c.lines.invariant.behind (next_number lines c.lines.count c.lines.invariant.counted))
+    let front = take c.lines.count lines in
+    let part = c.line.ensures.part front _ (at_own _ _ _ _ _ c.lines.invariant.behind) (next_number lines c.lines.count c.lines.invariant.counted) in
+    part_of_all lines c.lines.count c.lines.invariant.counted c.in-Some.line.now (lines_of c.in-Some.behind.now) here _ _ _ _
+    (subst (λ (ns : List Node). IsDuePart (g.W.Sink.written c.args.out.now) (g.W.Sink.written c.line.new.out) c.line.new.self.output (answers ns (front ++ c.in-Some.line.now ∷ []))) c.lines.invariant.behind.nodes part)
 
 pub lines-preserved : goal.lines-preserved
 lines-preserved g c =
@@ -47,14 +53,17 @@ lines-preserved g c =
     let here = sym c.lines.invariant.left ∙ c.in-Some.ensures.0 in
     let line = c.in-Some.line.now in
     let rest = lines_of c.in-Some.behind.now in
+    let front = take c.lines.count lines in
     let more = sym (taken lines c.lines.count c.lines.invariant.counted line rest here) in
+    let line_good = subst (λ (ns : List Node). IsLine ns line) c.lines.invariant.behind.nodes c.in_default-line.ensures.good in
+    let behind_line = c.in_default-line.ensures.ok front _ (at_own _ _ _ _ _ c.lines.invariant.behind) (next_number lines c.lines.count c.lines.invariant.counted) in
     record {
       room = omega (arith, c.in-Some.ensures);
       left = sym (behind lines c.lines.count c.lines.invariant.counted line rest here);
       counted = omega (arith, within lines c.lines.count c.lines.invariant.counted line rest here);
-      good = subst (AllByRecursion IsLine) more (all-push _ _ c.lines.invariant.good (search rules));
-      behind = subst (λ (ls : List (List ℕ)). IsBehind ls c.line.new.self (g.W.Sink.written c.args.out.now) (g.W.Sink.written c.line.new.out)) more
-          (c.in_default-line.ensures.ok (take c.lines.count lines) _ c.lines.invariant.behind (next_number lines c.lines.count c.lines.invariant.counted));
+      good = subst (AllByRecursion (IsLine c.args.self.now.nodes.items)) more (all-push _ _ _ c.lines.invariant.good line_good);
+      behind = subst (λ (ls : List (List ℕ)). IsBehind c.args.self.now.nodes.items ls c.line.new.self (g.W.Sink.written c.args.out.now) (g.W.Sink.written c.line.new.out)) more
+          (subst (λ (ns : List Node). IsBehind ns (front ++ line ∷ []) c.line.new.self (g.W.Sink.written c.args.out.now) (g.W.Sink.written c.line.new.out)) c.lines.invariant.behind.nodes behind_line);
       later = search rules;
     }
 
@@ -64,14 +73,14 @@ returns-clause-count g c = all_counted (lines_of c.args.text.now) c.lines.count 
 pub returns-clause-good : goal.returns-clause-good
 returns-clause-good g c =
     let all = none_left (lines_of c.args.text.now) c.lines.count c.lines.invariant.counted (sym c.lines.invariant.left ∙ c.in_default.ensures) in
-    subst IsRun all record { lines = c.lines.invariant.good; few = c.lines.invariant.behind.few }
+    subst (IsRun c.args.self.now.nodes.items) all record { lines = c.lines.invariant.good; few = c.lines.invariant.behind.few }
 
 pub returns-clause-due : goal.returns-clause-due
 returns-clause-due g c =
     let all = none_left (lines_of c.args.text.now) c.lines.count c.lines.invariant.counted (sym c.lines.invariant.left ∙ c.in_default.ensures) in
-    subst (λ (ls : List (List ℕ)). IsDue (g.W.Sink.written c.args.out.now) (g.W.Sink.written c.lines.out) c.lines.self.output (answers ls)) all c.lines.invariant.behind.due
+    subst (λ (ls : List (List ℕ)). IsDue (g.W.Sink.written c.args.out.now) (g.W.Sink.written c.lines.out) c.lines.self.output (answers c.args.self.now.nodes.items ls)) all c.lines.invariant.behind.due
 
 pub returns-clause-part : goal.returns-clause-part
 returns-clause-part g c =
     let all = none_left (lines_of c.args.text.now) c.lines.count c.lines.invariant.counted (sym c.lines.invariant.left ∙ c.in_default.ensures) in
-    due_whole _ _ _ _ (subst (λ (ls : List (List ℕ)). IsDue (g.W.Sink.written c.args.out.now) (g.W.Sink.written c.lines.out) c.lines.self.output (answers ls)) all c.lines.invariant.behind.due)
+    due_whole _ _ _ _ (subst (λ (ls : List (List ℕ)). IsDue (g.W.Sink.written c.args.out.now) (g.W.Sink.written c.lines.out) c.lines.self.output (answers c.args.self.now.nodes.items ls)) all c.lines.invariant.behind.due)

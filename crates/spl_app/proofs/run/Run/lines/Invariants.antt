@@ -10,8 +10,8 @@ invariant-lines g l = record {
   room : length l.rest + l.count ≤ length l.text;
   left : lines_of l.rest ≡ drop l.count (lines_of l.text);
   counted : l.count ≤ length (lines_of l.text);
-  good : AllByRecursion IsLine (take l.count (lines_of l.text));
-  behind : IsBehind (take l.count (lines_of l.text)) l.self (g.W.Sink.written l.initial.out) (g.W.Sink.written l.out);
+  good : AllByRecursion (IsLine l.initial.self.nodes.items) (take l.count (lines_of l.text));
+  behind : IsBehind l.initial.self.nodes.items (take l.count (lines_of l.text)) l.self (g.W.Sink.written l.initial.out) (g.W.Sink.written l.out);
   later : g.W.Sink.faults l.initial.out ≤ g.W.Sink.faults l.out;
 }
 

@@ -1,7 +1,7 @@
 use Rattle.std.proofs.Common.{sym, arith, rules}
 use Rattle.std.proofs.lemmas.List.{take_all}
-use Rattle.spl_app.specs.Schedule.{limit}
-use Rattle.spl_app.proofs.top.head.Goals as goal
+use Rattle.spl_app.specs.Lines.{limit}
+use Rattle.spl_app.proofs.replay.head.Goals as goal
 
 pub returns-then-bytes-lt-MOST_BYTES : goal.returns-then-bytes-lt-MOST_BYTES
 unfolding limit

@@ -1,0 +1,20 @@
+use Rattle.std.proofs.Common.{◌<◌, ◌≤◌, length, sym, ◌∙◌, ap, subst, arith}
+use Rattle.spl_app.specs.Lines.{limit}
+use Rattle.spl_app.specs.Registered.{Spells}
+use Rattle.spl_app.proofs.Given.{gives, limit_is}
+use Rattle.spl_app.proofs.registered.read_nodes.Goals as goal
+
+pub returns-in-Ok-clause-text : goal.returns-in-Ok-clause-text
+returns-in-Ok-clause-text g c =
+    let no : 67108864 < length c.read_all-reading.result.bytes.items → ⊥ = λ long. cc (c.read_all-reading.ensures.too_long.1 long) in
+    let short : length c.read_all-reading.result.bytes.items ≤ limit = omega (arith, no, limit_is) in
+    let same = gives (g.S.Source.taken c.args.registry.now) (g.S.Source.taken c.read_all-reading.new.source) c.read_all-reading.result.bytes.items c.read_all-reading.ensures.taken in
+    record {
+      spells = subst Spells (c.deref.ensures.value ∙ sym same) c.in-Ok.ensures.spells;
+      short = omega (arith, short, ap length same);
+    }
+
+pub returns-in-TooLong-clause-long : goal.returns-in-TooLong-clause-long
+returns-in-TooLong-clause-long g c = λ _.
+    let same = gives (g.S.Source.taken c.args.registry.now) (g.S.Source.taken c.read_all-reading.new.source) c.read_all-reading.result.bytes.items c.read_all-reading.ensures.taken in
+    omega (arith, limit_is, c.read_all-reading.ensures.too_long.0 c.in-TooLong.is, ap length same)

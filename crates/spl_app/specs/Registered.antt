@@ -1,0 +1,24 @@
+-- The nodes of a run: those of the registry that was given (docs/RULES.md, Registry, Schedules).
+use Rattle.std.specs.Prelude.{◌≡◌, ◌≤◌, ℕ, List, [], length, Result, Ok, Err}
+use Rattle.spl_circuit.specs.Nodes.{Node, sorted}
+use Rattle.spl_registry.specs.declared.fault.RegistryFault.{RegistryFault}
+use Rattle.spl_registry.specs.Nodes.{Entry, ids_of}
+use Rattle.spl_registry.specs.Tree.{registry_of}
+use Rattle.spl_app.specs.Lines.{limit}
+
+abbrev pub nodes_in : Result (List Entry) RegistryFault → List Node
+nodes_in (Ok entries) = sorted (ids_of entries)
+nodes_in (Err fault) = []
+
+-- the nodes of the registry that bytes spell, in the order of their ids; none where they spell no registry
+abbrev pub nodes_of : List ℕ → List Node
+nodes_of text = nodes_in (registry_of text)
+
+-- bytes that spell a registry
+abbrev pub Spells : List ℕ → Type 0
+Spells text = (entries : List Entry) × (registry_of text ≡ Ok entries)
+
+-- the text of a registry: it spells one, and isn't too long
+pub record IsRegistryText (text : List ℕ) : Type 0 where
+  pub spells : Spells text
+  pub short : length text ≤ limit
