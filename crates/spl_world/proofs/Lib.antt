@@ -4,9 +4,12 @@ mod Composed
 mod Counting
 mod Delivery
 mod Entries
-mod Fresh
+mod Made
 mod Moving
-mod Places
+mod Handling
+mod Leaving
+mod Pairing
+mod Posting
 mod Quieting
 mod Reading
 mod Results

@@ -1,4 +1,5 @@
 pub mod Kept
+pub mod Disks
 pub mod Views
 pub mod Calms
 pub mod Counts

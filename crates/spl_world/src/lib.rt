@@ -1,12 +1,13 @@
-//! All nodes, each with its cells, and the messages between them.
+//! All nodes over their disks, and the messages between them.
 #![tactic(auto)]
 
 mod calm;
 mod events;
 mod fault;
-mod node;
+mod making;
 mod outbox;
-mod place;
+mod posts;
+mod slot;
 mod step;
 mod world;
 

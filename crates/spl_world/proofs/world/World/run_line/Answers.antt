@@ -1,54 +1,68 @@
-use Rattle.std.proofs.Common.{Ok, refl, length, arith}
+use Rattle.std.proofs.Common.{refl, length, arith}
 use Rattle.spl_sched.specs.declared.line.Line.TheVariants as line
 use Rattle.spl_sched.specs.Grammar.{step_circuit}
 use Rattle.spl_model.specs.Calm.{calm}
 use Rattle.spl_projection.specs.Whole.{whole_world}
-use Rattle.spl_world.specs.declared.fault.WorldFault.{WorldFault}
-use Rattle.spl_world.specs.Views.{ids_of}
+use Rattle.spl_world.specs.Disks.{images}
+use Rattle.spl_world.specs.Views.{ids_of, seen}
 use Rattle.spl_world.proofs.Counting.{counts_failed, at_least}
+use Rattle.spl_world.proofs.Leaving.{all_itself, leaves_failed, leaves_limit, leaves_ok}
+use Rattle.spl_world.proofs.Results.{ok_both}
 use Rattle.spl_world.proofs.Standing.{stands_after, counted_line, over_line, step_result, calm_answered}
 use Rattle.spl_world.proofs.Staying.{stays_refused}
 use Rattle.spl_world.proofs.world.World.run_line.Goals as goal
 
 -- ---- a step
 
-pub returns-in_ok-run-in-Step-clause-answer : goal.returns-in_ok-run-in-Step-clause-answer
-returns-in_ok-run-in-Step-clause-answer c = λ before stands.
+pub returns-in_ok-add-in-Step-clause-answer : goal.returns-in_ok-add-in-Step-clause-answer
+returns-in_ok-add-in-Step-clause-answer g c = λ before stands.
     let s = c.in-Step.step in
-    step_result {E = WorldFault} (Ok c.in_ok-run-in-Step.field-0) (ids_of c.args.self.now) before c.args.line.now s c.in-Step.is stands.fit c.requires.fits (c.in_ok-run-in-Step.ensures.answer (whole_world (ids_of c.args.self.now) (step_circuit s) before) (stands.each (step_circuit s)))
+    step_result c.run.result (ids_of c.args.self.now) before c.args.line.now s c.in-Step.is stands.fit c.requires.fits (c.run.ensures.answer (whole_world (ids_of c.args.self.now) (step_circuit s) before) (stands.each (step_circuit s)))
 
-pub returns-in_ok-run-in-Step-clause-stands : goal.returns-in_ok-run-in-Step-clause-stands
-returns-in_ok-run-in-Step-clause-stands c = λ before stands.
+pub returns-in_ok-add-in-Step-clause-stands : goal.returns-in_ok-add-in-Step-clause-stands
+returns-in_ok-add-in-Step-clause-stands g c = λ before stands.
     let s = c.in-Step.step in
     let fits = rw (c.in-Step.is) at c.requires.fits in
-    let counted = counted_line c.run.new.self.events c.args.self.now before (line.Step s) 1 stands fits refl (omega (arith, c.run.ensures.events, c.in_ok-add-in-Step.ensures.counts.ok)) in
-    rw (c.in-Step.is) (stands_after before (line.Step s) (step_circuit s) c.args.self.now c.run.new.self refl fits (λ w. refl) c.run.ensures.ids stands counted c.in_ok-run-in-Step.ensures.moves)
+    let counted = counted_line c.run.new.self.events c.args.self.now (images g.D.Disk.image_at g.D.Disk.moment c.args.pairs.now.items) before (line.Step s) 1 stands fits refl (omega (arith, c.run.ensures.events, c.in_ok-add-in-Step.ensures.counts.ok)) in
+    rw (c.in-Step.is) (ok_both c.run.result (λ moves sits. stands_after before (line.Step s) (step_circuit s) c.args.self.now c.run.new.self (images g.D.Disk.image_at g.D.Disk.moment c.args.pairs.now.items) (images g.D.Disk.image_at g.D.Disk.moment c.run.new.pairs.items) refl fits (λ w. refl) c.run.ensures.ids stands counted moves sits) c.run.ensures.moves c.run.ensures.sits)
 
-pub returns-in_ok-run-in-Step-clause-refused : goal.returns-in_ok-run-in-Step-clause-refused
-returns-in_ok-run-in-Step-clause-refused c = λ why.
-    stays_refused {E = WorldFault} (Ok c.in_ok-run-in-Step.field-0) (step_circuit c.in-Step.step) c.in-Step.step c.args.self.now.nodes.items c.run.new.self.nodes.items why c.in_ok-run-in-Step.ensures.answer c.in_ok-run-in-Step.ensures.moves
+pub returns-in_ok-add-in-Step-clause-refused : goal.returns-in_ok-add-in-Step-clause-refused
+returns-in_ok-add-in-Step-clause-refused g c = λ why.
+    stays_refused c.run.result (step_circuit c.in-Step.step) c.in-Step.step (seen g.D.Disk.image_at g.D.Disk.moment c.args.self.now c.args.pairs.now.items) (seen g.D.Disk.image_at g.D.Disk.moment c.run.new.self c.run.new.pairs.items) why c.run.ensures.answer c.run.ensures.moves
+
+pub returns-in_ok-add-in-Step-clause-many : goal.returns-in_ok-add-in-Step-clause-many
+returns-in_ok-add-in-Step-clause-many g c = λ before which stands q. absurd (c.run.ensures.few which q)
 
 pub returns-in_err-add-in-Step-clause-many : goal.returns-in_err-add-in-Step-clause-many
-returns-in_err-add-in-Step-clause-many c = λ before which stands q.
+returns-in_err-add-in-Step-clause-many g c = λ before which stands q.
     let s = c.in-Step.step in
-    rw (c.in-Step.is) (over_line c.from_residual.result 0 which c.args.self.now before (line.Step s) 1 stands (rw (c.in-Step.is) at c.requires.fits) refl (counts_failed c.from_residual.result _ c.from_residual.ensures c.args.self.now.events _ 0 0 1 1 c.in_err-add-in-Step.ensures.counts (at_least 1 1 refl)) q)
+    rw (c.in-Step.is) (over_line c.from_residual.result 0 which c.args.self.now (images g.D.Disk.image_at g.D.Disk.moment c.args.pairs.now.items) before (line.Step s) 1 stands (rw (c.in-Step.is) at c.requires.fits) refl (counts_failed c.from_residual.result _ c.from_residual.ensures c.args.self.now.events _ 0 0 1 1 c.in_err-add-in-Step.ensures.counts (at_least 1 1 refl)) q)
+
+pub returns-in_err-add-in-Step-clause-disks : goal.returns-in_err-add-in-Step-clause-disks
+returns-in_err-add-in-Step-clause-disks g c = leaves_limit c.from_residual.result _ 1 c.from_residual.ensures c.in_err-add-in-Step.ensures.fault _ _ (all_itself _)
 
 -- ---- a calm
 
 pub returns-in_ok-calm-in-Calm-clause-answer : goal.returns-in_ok-calm-in-Calm-clause-answer
-returns-in_ok-calm-in-Calm-clause-answer c = λ before stands.
+returns-in_ok-calm-in-Calm-clause-answer g c = λ before stands.
     calm_answered (ids_of c.args.self.now) before c.args.line.now c.in-Calm.circuit c.in-Calm.passes c.in-Calm.is stands.fit c.requires.fits
 
 pub returns-in_ok-calm-in-Calm-clause-stands : goal.returns-in_ok-calm-in-Calm-clause-stands
-returns-in_ok-calm-in-Calm-clause-stands c = λ before stands.
+returns-in_ok-calm-in-Calm-clause-stands g c = λ before stands.
     let l = line.Calm c.in-Calm.circuit c.in-Calm.passes in
     let fits = rw (c.in-Calm.is) at c.requires.fits in
     let w = whole_world (ids_of c.args.self.now) c.in-Calm.circuit before in
-    let counted = counted_line c.calm.new.self.events c.args.self.now before l (length (calm c.in-Calm.circuit w c.in-Calm.passes).happened) stands fits refl (c.in_ok-calm-in-Calm.ensures.counts w (stands.each c.in-Calm.circuit)).ok in
-    rw (c.in-Calm.is) (stands_after before l c.in-Calm.circuit c.args.self.now c.calm.new.self refl fits (λ v. refl) c.calm.ensures.ids stands counted c.in_ok-calm-in-Calm.ensures.moves)
+    let counted = counted_line c.calm.new.self.events c.args.self.now (images g.D.Disk.image_at g.D.Disk.moment c.args.pairs.now.items) before l (length (calm c.in-Calm.circuit w c.in-Calm.passes).happened) stands fits refl (c.in_ok-calm-in-Calm.ensures.counts w (stands.each c.in-Calm.circuit)).ok in
+    rw (c.in-Calm.is) (stands_after before l c.in-Calm.circuit c.args.self.now c.calm.new.self (images g.D.Disk.image_at g.D.Disk.moment c.args.pairs.now.items) (images g.D.Disk.image_at g.D.Disk.moment c.calm.new.pairs.items) refl fits (λ v. refl) c.calm.ensures.ids stands counted c.in_ok-calm-in-Calm.ensures.moves c.in_ok-calm-in-Calm.ensures.sits)
 
 pub returns-in_err-calm-in-Calm-clause-many : goal.returns-in_err-calm-in-Calm-clause-many
-returns-in_err-calm-in-Calm-clause-many c = λ before which stands q.
+returns-in_err-calm-in-Calm-clause-many g c = λ before which stands q.
     let l = line.Calm c.in-Calm.circuit c.in-Calm.passes in
     let w = whole_world (ids_of c.args.self.now) c.in-Calm.circuit before in
-    rw (c.in-Calm.is) (over_line c.from_residual-in_err-calm-in-Calm.result 0 which c.args.self.now before l (length (calm c.in-Calm.circuit w c.in-Calm.passes).happened) stands (rw (c.in-Calm.is) at c.requires.fits) refl (counts_failed c.from_residual-in_err-calm-in-Calm.result _ c.from_residual-in_err-calm-in-Calm.ensures c.args.self.now.events _ 0 0 _ _ (c.in_err-calm-in-Calm.ensures.counts w (stands.each c.in-Calm.circuit)) (at_least _ _ refl)) q)
+    rw (c.in-Calm.is) (over_line c.from_residual-in_err-calm-in-Calm.result 0 which c.args.self.now (images g.D.Disk.image_at g.D.Disk.moment c.args.pairs.now.items) before l (length (calm c.in-Calm.circuit w c.in-Calm.passes).happened) stands (rw (c.in-Calm.is) at c.requires.fits) refl (counts_failed c.from_residual-in_err-calm-in-Calm.result _ c.from_residual-in_err-calm-in-Calm.ensures c.args.self.now.events _ 0 0 _ _ (c.in_err-calm-in-Calm.ensures.counts w (stands.each c.in-Calm.circuit)) (at_least _ _ refl)) q)
+
+pub returns-in_err-calm-in-Calm-clause-disks : goal.returns-in_err-calm-in-Calm-clause-disks
+returns-in_err-calm-in-Calm-clause-disks g c = leaves_failed c.from_residual-in_err-calm-in-Calm.result _ c.from_residual-in_err-calm-in-Calm.ensures _ _ c.in_err-calm-in-Calm.ensures.disks
+
+pub returns-in_ok-calm-in-Calm-clause-disks : goal.returns-in_ok-calm-in-Calm-clause-disks
+returns-in_ok-calm-in-Calm-clause-disks g c = leaves_ok _ _ _ c.in_ok-calm-in-Calm.ensures.disks.onward
