@@ -1,5 +1,5 @@
 -- The nodes of a registry, one behind the other.
-use Rattle.std.proofs.Common.{◌≡◌, ◌⊎◌, inl, inr, ℕ, zero, suc, ◌+◌, ◌<◌, ◌≤◌, true, false, true≢false, List, [], ◌∷◌, ◌++◌, length, take, Some, IsSome, slice_get, slice_set, refl, ap, sym, ◌∙◌, subst, arith}
+use Rattle.std.proofs.Common.{◌≡◌, ◌⊎◌, inl, inr, ℕ, zero, suc, ◌+◌, ◌<◌, ◌≤◌, true, false, true≢false, List, [], ◌∷◌, ◌++◌, length, take, option_map, Some, IsSome, slice_get, slice_set, refl, ap, sym, ◌∙◌, subst, arith}
 use Rattle.std.specs.List.{position_from}
 use Rattle.spl_circuit.specs.Nodes.{NodeId, CircuitId, has_node, is_below, sorted}
 use Rattle.spl_circuit.specs.Rules.{ascends}
@@ -7,10 +7,10 @@ use Rattle.spl_circuit.proofs.Order.{not_below_itself}
 use Rattle.spl_circuit.proofs.Sorting.{has_sorted}
 use Rattle.spl_model.specs.Worlds.{first_world}
 use Rattle.spl_node.specs.Hosts.{HostStands}
-use Rattle.spl_registry.specs.Nodes.{Entry, ids_of, is_of}
+use Rattle.spl_registry.specs.Nodes.{Entry, ids_of, is_of, node_at}
 use Rattle.spl_world.specs.Disks.{Images, images_at, images_or_none}
 use Rattle.spl_world.specs.Kept.{Posted, lists_about, sent_to}
-use Rattle.spl_world.specs.Views.{Holds, IsFresh, Sits, slot_id, slot_ids}
+use Rattle.spl_world.specs.Views.{Holds, IsFresh, Sits, slot_id, slot_ids, slot_places}
 use Rattle.spl_world.specs.declared.slot.Slot.{Slot}
 use Rattle.spl_world.proofs.Pairing.{pair_here}
 use Rattle.spl_world.proofs.Reading.{has_at}
@@ -169,3 +169,17 @@ module _ (es : List Entry) (ns : List NodeId) (k : ℕ) (ss : List Slot) (start 
       sent = λ b known. ap (λ (ps : Posted). sent_to (lists_about ps c) b) f.silent;
     };
   }
+
+-- ---- positions
+
+placed_in : (es : List Entry) (ss : List Slot) → ((i : ℕ) (s : Slot) → slice_get ss i ≡ Some s → IsEntry es s.position (slot_id s)) → (i : ℕ) (n : NodeId) (p : ℕ) → slice_get (slot_ids ss) i ≡ Some n → slice_get (slot_places ss) i ≡ Some p → node_at es p ≡ Some n
+placed_in es [] h i n p e f = absurd cc
+placed_in es (s ∷ ss) h zero n p e f =
+    let id : slot_id s ≡ n = cc in
+    let place : s.position ≡ p = cc in
+    let k = h 0 s refl in
+    subst (λ (q : ℕ). node_at es q ≡ Some n) place (ap (option_map (λ (x : Entry). x.identity)) k.there ∙ ap (λ (x : NodeId). Some x) (k.id_is ∙ id))
+placed_in es (s ∷ ss) h (suc i) n p e f = placed_in es ss (λ j z g. h (suc j) z g) i n p e f
+
+pub made_placed : (es : List Entry) (ns : List NodeId) (k : ℕ) (ss : List Slot) (start now : List Images) → AreMade es ns k ss start now → (i : ℕ) (n : NodeId) (p : ℕ) → slice_get (slot_ids ss) i ≡ Some n → slice_get (slot_places ss) i ≡ Some p → node_at es p ≡ Some n
+made_placed es ns k ss start now made = placed_in es ss made.placed

@@ -1,5 +1,5 @@
 -- A node goes down or comes up, in each world that the nodes stand for.
-use Rattle.std.proofs.Common.{◌≡◌, ℕ, ◌+◌, ◌⊎◌, Bool, true, false, List, [], ◌∷◌, ◌++◌, Some, slice_get, slice_set, if◌then◌else◌, inl, inr, refl, ap, sym, ◌∙◌, subst}
+use Rattle.std.proofs.Common.{◌≡◌, ℕ, ◌+◌, ◌⊎◌, Bool, true, false, List, [], ◌∷◌, ◌++◌, Some, slice_get, slice_set, if◌then◌else◌, inl, inr, refl, ap, sym, ◌∙◌, subst, arith}
 use Rattle.std.specs.Str.{bytes_eq}
 use Rattle.spl_agree.proofs.Tests.{if_true, if_false}
 use Rattle.spl_circuit.specs.Nodes.{NodeId, CircuitId, has_node}
@@ -14,7 +14,7 @@ use Rattle.spl_model.specs.Puts.{put_at-here, put_at-other}
 use Rattle.spl_model.specs.Projection.{Ran, lines_fit, names, names_circuit}
 use Rattle.spl_model.specs.Answers.{line_world}
 use Rattle.spl_model.proofs.LinesAsOccurrences.{fit-append}
-use Rattle.spl_model.specs.Counts.{line_events, events_of}
+use Rattle.spl_model.specs.Counts.{line_events, events_of, line_stops, stops_of}
 use Rattle.spl_projection.proofs.Counts.{events-more}
 use Rattle.spl_projection.specs.Whole.{world_beside, whole_world}
 use Rattle.spl_projection.specs.Apart.{moves-own, moves-beside}
@@ -27,6 +27,7 @@ use Rattle.spl_world.specs.declared.world.World.{World}
 use Rattle.spl_world.proofs.About.{same_itself}
 use Rattle.spl_world.proofs.Sends.{bool_cases, bytes_are}
 use Rattle.spl_world.proofs.Pairing.{changed, view_else, view_here}
+use Rattle.spl_world.proofs.Standing.{stops_after}
 use Rattle.spl_world.proofs.Slots.{id_at, same_ids, set_cases, apart}
 
 -- two worlds that are the same but at one node
@@ -109,7 +110,7 @@ start_none c m xs n h up = if_true (λ (w : CircuitWorld). Holds c w xs) (m.up n
 
 -- ---- lines
 
-module _ (before : List Ran) (old new : World) (was is : List Images) (ids : ids_of new ≡ ids_of old) (one : new.events ≡ old.events + 1) (stands : Stands before old was) (sits : Sits (over new is)) where
+module _ (before : List Ran) (old new : World) (was is : List Images) (ids : ids_of new ≡ ids_of old) (one : new.events ≡ old.events + 1) (now : ℕ) (stops : new.stops ≡ old.stops + now) (stands : Stands before old was) (sits : Sits (over new is)) where
   fits : (r : Ran) → is_line r.line ≡ true → lines_fit (before ++ r ∷ []) ≡ true
   fits r k = fit-append before (r ∷ []) stands.fit (rw k)
 
@@ -122,27 +123,30 @@ module _ (before : List Ran) (old new : World) (was is : List Images) (ids : ids
       one ∙ ap (λ (e : ℕ). e + 1) stands.counted ∙ ap (λ (e : ℕ). events_of (ids_of old) before + e) (sym n)
       ∙ sym (events-more (ids_of old) before r (fits r k)) ∙ ap (λ (ns : List NodeId). events_of ns (before ++ r ∷ [])) (sym ids)
 
+  more_stops : (r : Ran) → line_stops r.line ≡ now → new.stops ≡ stops_of (before ++ r ∷ [])
+  more_stops r k = let more = stops_after before r in let was_so = stands.stopped in omega (arith, more, k, was_so, stops)
+
   -- any line, by what it does in each world
-  stands_by : (r : Ran) → is_line r.line ≡ true → IsOne r → ((c : CircuitId) → Holds c (whole_world (ids_of old) c (before ++ r ∷ [])) (over new is)) → Stands (before ++ r ∷ []) new is
-  stands_by r k n h = record { fit = fits r k; counted = counted r k n; each = λ c. subst (λ (ns : List NodeId). Holds c (whole_world ns c (before ++ r ∷ [])) (over new is)) (sym ids) (h c); sits = sits }
+  stands_by : (r : Ran) → is_line r.line ≡ true → IsOne r → line_stops r.line ≡ now → ((c : CircuitId) → Holds c (whole_world (ids_of old) c (before ++ r ∷ [])) (over new is)) → Stands (before ++ r ∷ []) new is
+  stands_by r k n o h = record { fit = fits r k; counted = counted r k n; stopped = more_stops r o; each = λ c. subst (λ (ns : List NodeId). Holds c (whole_world ns c (before ++ r ∷ [])) (over new is)) (sym ids) (h c); sits = sits }
 
   beside : (r : Ran) (c : CircuitId) → names c r.line ≡ false → Holds c (world_beside (whole_world (ids_of old) c before) r.line) (over new is) → Holds c (whole_world (ids_of old) c (before ++ r ∷ [])) (over new is)
   beside r c miss h = subst (λ (m : CircuitWorld). Holds c m (over new is)) (sym (moves-beside (ids_of old) before r c miss)) h
 
-  pub stands_stop : (n : NodeId) (kept : Bool) → is_line (line.Stop n) ≡ true → ((c : CircuitId) (m : CircuitWorld) → Holds c m (over old was) → Holds c (happens m (Stops n)) (over new is)) → Stands (before ++ record { line = line.Stop n; kept = kept } ∷ []) new is
-  stands_stop n kept k h = stands_by (record { line = line.Stop n; kept = kept }) k refl (λ c. beside (record { line = line.Stop n; kept = kept }) c refl (h c (whole_world (ids_of old) c before) (stands.each c)))
+  pub stands_stop : (n : NodeId) (kept : Bool) → is_line (line.Stop n) ≡ true → 1 ≡ now → ((c : CircuitId) (m : CircuitWorld) → Holds c m (over old was) → Holds c (happens m (Stops n)) (over new is)) → Stands (before ++ record { line = line.Stop n; kept = kept } ∷ []) new is
+  stands_stop n kept k o h = stands_by (record { line = line.Stop n; kept = kept }) k refl o (λ c. beside (record { line = line.Stop n; kept = kept }) c refl (h c (whole_world (ids_of old) c before) (stands.each c)))
 
-  pub stands_start : (n : NodeId) (kept : Bool) → is_line (line.Start n) ≡ true → ((c : CircuitId) (m : CircuitWorld) → Holds c m (over old was) → Holds c (happens m (Starts n)) (over new is)) → Stands (before ++ record { line = line.Start n; kept = kept } ∷ []) new is
-  stands_start n kept k h = stands_by (record { line = line.Start n; kept = kept }) k refl (λ c. beside (record { line = line.Start n; kept = kept }) c refl (h c (whole_world (ids_of old) c before) (stands.each c)))
+  pub stands_start : (n : NodeId) (kept : Bool) → is_line (line.Start n) ≡ true → 0 ≡ now → ((c : CircuitId) (m : CircuitWorld) → Holds c m (over old was) → Holds c (happens m (Starts n)) (over new is)) → Stands (before ++ record { line = line.Start n; kept = kept } ∷ []) new is
+  stands_start n kept k o h = stands_by (record { line = line.Start n; kept = kept }) k refl o (λ c. beside (record { line = line.Start n; kept = kept }) c refl (h c (whole_world (ids_of old) c before) (stands.each c)))
 
-  pub stands_roll : (n : NodeId) (kept : Bool) → is_line (line.Roll n) ≡ true → ((c : CircuitId) (m : CircuitWorld) → Holds c m (over old was) → Holds c m (over new is)) → Stands (before ++ record { line = line.Roll n; kept = kept } ∷ []) new is
-  stands_roll n kept k h = stands_by (record { line = line.Roll n; kept = kept }) k refl (λ c. beside (record { line = line.Roll n; kept = kept }) c refl (h c (whole_world (ids_of old) c before) (stands.each c)))
+  pub stands_roll : (n : NodeId) (kept : Bool) → is_line (line.Roll n) ≡ true → 0 ≡ now → ((c : CircuitId) (m : CircuitWorld) → Holds c m (over old was) → Holds c m (over new is)) → Stands (before ++ record { line = line.Roll n; kept = kept } ∷ []) new is
+  stands_roll n kept k o h = stands_by (record { line = line.Roll n; kept = kept }) k refl o (λ c. beside (record { line = line.Roll n; kept = kept }) c refl (h c (whole_world (ids_of old) c before) (stands.each c)))
 
   -- a cut or a fail: in its circuit's world the node stops in the event, in each other it stops
-  stands_halt : (r : Ran) (s : Step) → is_line r.line ≡ true → IsOne r → circuit_of r.line ≡ Some (step_circuit s) → ((w : CircuitWorld) → line_world w r.line r.kept ≡ happens w (Halts r.kept s)) → ((w : CircuitWorld) → world_beside w r.line ≡ happens w (Stops (step_node s)))
+  stands_halt : (r : Ran) (s : Step) → is_line r.line ≡ true → IsOne r → line_stops r.line ≡ now → circuit_of r.line ≡ Some (step_circuit s) → ((w : CircuitWorld) → line_world w r.line r.kept ≡ happens w (Halts r.kept s)) → ((w : CircuitWorld) → world_beside w r.line ≡ happens w (Stops (step_node s)))
       → ((m : CircuitWorld) → Holds (step_circuit s) m (over old was) → Holds (step_circuit s) (happens m (Halts r.kept s)) (over new is))
       → ((d : CircuitId) (m : CircuitWorld) → bytes_eq (step_circuit s) d ≡ false → Holds d m (over old was) → Holds d (happens m (Stops (step_node s))) (over new is)) → Stands (before ++ r ∷ []) new is
-  stands_halt r s k n about own_is other_is own others = stands_by r k n (λ d. go d (bool_cases (bytes_eq (step_circuit s) d)))
+  stands_halt r s k n o about own_is other_is own others = stands_by r k n o (λ d. go d (bool_cases (bytes_eq (step_circuit s) d)))
     where
       ns : List NodeId
       ns = ids_of old
@@ -158,12 +162,12 @@ module _ (before : List Ran) (old new : World) (was is : List Images) (ids : ids
           let miss : names d r.line ≡ false = ap (names_circuit d) about ∙ q in
           beside r d miss (subst (λ (m : CircuitWorld). Holds d m (over new is)) (sym (other_is (whole_world ns d before))) (others d (whole_world ns d before) q (stands.each d)))
 
-  pub stands_cut : (calls : ℕ) (f : Fill) (s : Step) (kept : Bool) → is_line (line.Cut calls f s) ≡ true
+  pub stands_cut : (calls : ℕ) (f : Fill) (s : Step) (kept : Bool) → is_line (line.Cut calls f s) ≡ true → 1 ≡ now
       → ((m : CircuitWorld) → Holds (step_circuit s) m (over old was) → Holds (step_circuit s) (happens m (Halts kept s)) (over new is))
       → ((d : CircuitId) (m : CircuitWorld) → bytes_eq (step_circuit s) d ≡ false → Holds d m (over old was) → Holds d (happens m (Stops (step_node s))) (over new is)) → Stands (before ++ record { line = line.Cut calls f s; kept = kept } ∷ []) new is
-  stands_cut calls f s kept k own others = stands_halt (record { line = line.Cut calls f s; kept = kept }) s k refl refl (λ w. refl) (λ w. refl) own others
+  stands_cut calls f s kept k o own others = stands_halt (record { line = line.Cut calls f s; kept = kept }) s k refl o refl (λ w. refl) (λ w. refl) own others
 
-  pub stands_fail : (call : ℕ) (s : Step) (kept : Bool) → is_line (line.Fail call s) ≡ true
+  pub stands_fail : (call : ℕ) (s : Step) (kept : Bool) → is_line (line.Fail call s) ≡ true → 1 ≡ now
       → ((m : CircuitWorld) → Holds (step_circuit s) m (over old was) → Holds (step_circuit s) (happens m (Halts kept s)) (over new is))
       → ((d : CircuitId) (m : CircuitWorld) → bytes_eq (step_circuit s) d ≡ false → Holds d m (over old was) → Holds d (happens m (Stops (step_node s))) (over new is)) → Stands (before ++ record { line = line.Fail call s; kept = kept } ∷ []) new is
-  stands_fail call s kept k own others = stands_halt (record { line = line.Fail call s; kept = kept }) s k refl refl (λ w. refl) (λ w. refl) own others
+  stands_fail call s kept k o own others = stands_halt (record { line = line.Fail call s; kept = kept }) s k refl o refl (λ w. refl) (λ w. refl) own others

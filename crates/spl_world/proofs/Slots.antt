@@ -6,7 +6,7 @@ use Rattle.spl_base.specs.FormLaws.{both_true}
 use Rattle.spl_circuit.specs.Nodes.{NodeId, has_node, is_below}
 use Rattle.spl_circuit.specs.Rules.{ascends, ascends_after}
 use Rattle.spl_circuit.proofs.Order.{below_trans, not_below_itself}
-use Rattle.spl_world.specs.Views.{slot_id, slot_ids, has_id}
+use Rattle.spl_world.specs.Views.{slot_id, slot_ids, slot_places, has_id}
 use Rattle.spl_world.specs.declared.slot.Slot.{Slot}
 use Rattle.spl_world.proofs.Sends.{bool_cases, bytes_are}
 
@@ -54,6 +54,11 @@ pub same_ids : (xs : List Slot) (i : ℕ) (x y : Slot) → slice_get xs i ≡ So
 same_ids [] i x y e s = refl
 same_ids (z ∷ xs) zero x y e s = let same : z ≡ x = cc in let ids : slot_id y ≡ slot_id z = cc in ap (λ n. n ∷ slot_ids xs) ids
 same_ids (z ∷ xs) (suc i) x y e s = ap (λ ns. slot_id z ∷ ns) (same_ids xs i x y e s)
+
+pub same_places : (xs : List Slot) (i : ℕ) (x y : Slot) → slice_get xs i ≡ Some x → y.position ≡ x.position → slot_places (slice_set xs i y) ≡ slot_places xs
+same_places [] i x y e s = refl
+same_places (z ∷ xs) zero x y e s = let same : z ≡ x = cc in ap (λ n. n ∷ slot_places xs) (s ∙ ap (λ (u : Slot). u.position) (sym same))
+same_places (z ∷ xs) (suc i) x y e s = ap (λ ns. z.position ∷ ns) (same_places xs i x y e s)
 
 -- what stands at an index behind a write: what was written, or what stood there
 pub set_cases : {X : Type 0} (xs : List X) (i j : ℕ) (y z : X) → slice_get (slice_set xs i y) j ≡ Some z → ((j ≡ i) × (y ≡ z)) ⊎ ((j ≡ i → ⊥) × (slice_get xs j ≡ Some z))

@@ -17,7 +17,7 @@ use Rattle.spl_model.proofs.LinesAsOccurrences.{fit-append}
 use Rattle.spl_projection.specs.Whole.{world_beside, whole_world}
 use Rattle.spl_projection.specs.Apart.{moves-own, moves-beside}
 use Rattle.spl_model.specs.declared.TheConstants.{MOST_EVENTS}
-use Rattle.spl_model.specs.Counts.{line_events, events_of}
+use Rattle.spl_model.specs.Counts.{line_events, events_of, line_stops, stops_of}
 use Rattle.spl_projection.proofs.Counts.{events-more}
 use Rattle.spl_projection.proofs.Owns.{answer-whole}
 use Rattle.spl_world.specs.declared.fault.WorldFault.{WorldFault}
@@ -50,11 +50,20 @@ over_line r new which old was before l n stands fits e k q =
     let over : MOST_EVENTS < old.events + n = omega (arith, p.1) in
     (p.0, subst (λ (t : ℕ). MOST_EVENTS < t) (sym (events_after old was before l n stands fits e)) over)
 
+-- the stops of lines, and of one more
+pub stops_after : (before : List Ran) (r : Ran) → stops_of (before ++ r ∷ []) ≡ stops_of before + line_stops r.line
+stops_after [] r = omega arith
+stops_after (b ∷ bs) r = let rest = stops_after bs r in omega (arith, rest)
+
+pub no_stop : (before : List Ran) (r : Ran) (old new : ℕ) → line_stops r.line ≡ 0 → new ≡ old → old ≡ stops_of before → new ≡ stops_of (before ++ r ∷ [])
+no_stop before r old new none same e = let more = stops_after before r in omega (arith, more, none, same, e)
+
 -- a line of a circuit moved its world, and no other, and was counted
-pub stands_after : (before : List Ran) (l : Line) (c : CircuitId) (old new : World) (was is : List Images) → circuit_of l ≡ Some c → is_line l ≡ true → ((w : CircuitWorld) → world_beside w l ≡ w) → ids_of new ≡ ids_of old → Stands before old was → new.events ≡ events_of (ids_of old) (before ++ by_rule l ∷ []) → Moves c (λ m. line_world m l (keeps_record l)) (over old was) (over new is) → Sits (over new is) → Stands (before ++ by_rule l ∷ []) new is
-stands_after before l c old new was is about fits still ids stands counted moves sits = record {
+pub stands_after : (before : List Ran) (l : Line) (c : CircuitId) (old new : World) (was is : List Images) → circuit_of l ≡ Some c → is_line l ≡ true → ((w : CircuitWorld) → world_beside w l ≡ w) → line_stops l ≡ 0 → new.stops ≡ old.stops → ids_of new ≡ ids_of old → Stands before old was → new.events ≡ events_of (ids_of old) (before ++ by_rule l ∷ []) → Moves c (λ m. line_world m l (keeps_record l)) (over old was) (over new is) → Sits (over new is) → Stands (before ++ by_rule l ∷ []) new is
+stands_after before l c old new was is about fits still none stops ids stands counted moves sits = record {
   fit = fits_after before l stands.fit fits;
   counted = counted ∙ ap (λ (ns : List NodeId). events_of ns (before ++ by_rule l ∷ [])) (sym ids);
+  stopped = no_stop before (by_rule l) old.stops new.stops none stops stands.stopped;
   each = λ d. subst (λ (ns : List NodeId). Holds d (whole_world ns d (before ++ by_rule l ∷ [])) (over new is)) (sym ids) (go d (bool_cases (bytes_eq c d)));
   sits = sits;
 }
@@ -73,7 +82,7 @@ stands_after before l c old new was is about fits still ids stands counted moves
 
 -- whether the world is halted says nothing of what stands
 pub stands_still : (before : List Ran) (w : World) (is : List Images) (b : Bool) → Stands before w is → Stands before (record w { halted = b }) is
-stands_still before w is b stands = record { fit = stands.fit; counted = stands.counted; each = stands.each; sits = stands.sits }
+stands_still before w is b stands = record { fit = stands.fit; counted = stands.counted; stopped = stands.stopped; each = stands.each; sits = stands.sits }
 
 -- lines that stand are within the limit
 pub within_line : (before : List Ran) (w : World) (is : List Images) (ns : List NodeId) → ids_of w ≡ ns → Stands before w is → w.events ≤ MOST_EVENTS → events_of ns before ≤ MOST_EVENTS

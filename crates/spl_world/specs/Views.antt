@@ -7,9 +7,10 @@ use Rattle.spl_edge.specs.Image.{Image}
 use Rattle.spl_edge.specs.declared.bench.Pair.{Pair}
 use Rattle.spl_model.specs.Worlds.{World as CircuitWorld, on_pair}
 use Rattle.spl_model.specs.Projection.{Ran, lines_fit}
-use Rattle.spl_model.specs.Counts.{events_of}
+use Rattle.spl_model.specs.Counts.{events_of, stops_of}
 use Rattle.spl_node.specs.Hosts.{HostStands, host_id, host_cell, is_up}
 use Rattle.spl_projection.specs.Whole.{whole_world}
+use Rattle.spl_registry.specs.Nodes.{Entry, node_at}
 use Rattle.spl_rules.specs.Cells.{Empty}
 use Rattle.spl_world.specs.Disks.{Images, images, images_at}
 use Rattle.spl_world.specs.Kept.{NodeView, place_of, lists_about, sent_to}
@@ -36,6 +37,10 @@ abbrev pub slot_ups : List Slot → List Bool
 slot_ups [] = []
 slot_ups (s ∷ ss) = slot_up s ∷ slot_ups ss
 
+abbrev pub slot_places : List Slot → List ℕ
+slot_places [] = []
+slot_places (s ∷ ss) = s.position ∷ slot_places ss
+
 -- the ids of the nodes, in order
 abbrev pub ids_of : World → List NodeId
 ids_of w = slot_ids w.slots.items
@@ -43,6 +48,10 @@ ids_of w = slot_ids w.slots.items
 -- which of them are up
 abbrev pub ups_of : World → List Bool
 ups_of w = slot_ups w.slots.items
+
+-- the position of the pair of each
+abbrev pub places_of : World → List ℕ
+places_of w = slot_places w.slots.items
 
 -- the node of this index has this id
 abbrev pub IsAt : World → ℕ → NodeId → Type 0
@@ -82,6 +91,10 @@ node_view s is = record { id = slot_id s; up = slot_up s; cells = host_cell s.ho
 abbrev pub view_in : Nodes → Slot → NodeView
 view_in xs s = node_view s (images_at xs.disks s.position)
 
+-- each node's pair is that at its position in a registry
+abbrev pub ArePlaced : List Entry → World → Type 0
+ArePlaced es w = (i : ℕ) (n : NodeId) (p : ℕ) → slice_get (ids_of w) i ≡ Some n → slice_get (places_of w) i ≡ Some p → node_at es p ≡ Some n
+
 -- a node that is up and where nothing happened
 pub record IsFresh (s : Slot) : Type 0 where
   pub up : slot_up s ≡ true
@@ -110,10 +123,11 @@ pub record Holds (c : CircuitId) (m : CircuitWorld) (xs : Nodes) : Type 0 where
   pub each : (i : ℕ) (s : Slot) → slice_get xs.slots i ≡ Some s → IsAs c m (view_in xs s)
 
 -- behind these lines each node keeps, about each circuit, what the world of that circuit behind all of them has there; and
--- what it sent to each other is what was sent in that world. Their events are counted. Each node stands over its own disks
+-- what it sent to each other is what was sent in that world. Their events and their stops are counted. Each node stands over its own disks
 pub record Stands (before : List Ran) (w : World) (is : List Images) : Type 0 where
   pub fit : lines_fit before ≡ true
   pub counted : w.events ≡ events_of (ids_of w) before
+  pub stopped : w.stops ≡ stops_of before
   pub each : (c : CircuitId) → Holds c (whole_world (ids_of w) c before) (over w is)
   pub sits : Sits (over w is)
 

@@ -10,7 +10,7 @@ ghost use Rattle.spl_rules.specs.Idle.{is_idle_note, is_idle};
 ghost use Rattle.spl_world.specs.Calms.{tick_at, tick_count, IsIdleTick, AreRows, IsSquare, row_of, sent_count};
 ghost use Rattle.spl_world.specs.Counts.{Counts};
 ghost use Rattle.spl_world.specs.Disks.{Images, LeavesDisks, bench};
-ghost use Rattle.spl_world.specs.Views.{Holds, IsAt, IsUp, Moves, Sits, Spares, ids_of, over, seen};
+ghost use Rattle.spl_world.specs.Views.{Holds, IsAt, IsUp, Moves, Sits, Spares, places_of, ids_of, over, seen};
 
 use crate::fault::WorldFault;
 use crate::world::World;
@@ -75,6 +75,8 @@ impl World {
         requires below { slot < length self.old.slots.items }
         requires sits { Sits (seen D.image_at D.moment self.old pairs.old.items) }
         ensures ids { ids_of self.new ≡ ids_of self.old }
+        ensures places { places_of self.new ≡ places_of self.old }
+        ensures stops { self.new.stops ≡ self.old.stops }
         ensures counts { (m : CircuitWorld) (n : Id) → Holds circuit m (seen D.image_at D.moment self.old pairs.old.items) → IsAt self.old slot n → Counts result self.old.events self.new.events 0 (tick_count m n) }
         ensures idle { (m : CircuitWorld) (n : Id) → Holds circuit m (seen D.image_at D.moment self.old pairs.old.items) → IsAt self.old slot n → IfOk result (λ moved. moved ≡ false → IsIdleTick circuit m n) }
         ensures moves { (n : Id) → IsAt self.old slot n → OnOk result (Moves circuit (tick_at circuit n) (seen D.image_at D.moment self.old pairs.old.items) (seen D.image_at D.moment self.new pairs.new.items)) }
@@ -99,6 +101,8 @@ impl World {
     ) -> Result<bool, WorldFault>
         requires sits { Sits (seen D.image_at D.moment self.old pairs.old.items) }
         ensures ids { ids_of self.new ≡ ids_of self.old }
+        ensures places { places_of self.new ≡ places_of self.old }
+        ensures stops { self.new.stops ≡ self.old.stops }
         ensures counts { (m : CircuitWorld) → Holds circuit m (seen D.image_at D.moment self.old pairs.old.items) → Counts result self.old.events self.new.events 0 (length (open_nodes m (ids_of self.old))) }
         ensures idle { (m : CircuitWorld) → Holds circuit m (seen D.image_at D.moment self.old pairs.old.items) → IfOk result (λ moved. moved ≡ false → AllByRecursion (IsIdleAt circuit m) (open_nodes m (ids_of self.old))) }
         ensures moves { (z : Calming) → OnOk result (Moves circuit (λ m. (ticks circuit (record z { world = m }) (open_nodes m (ids_of self.old))).world) (seen D.image_at D.moment self.old pairs.old.items) (seen D.image_at D.moment self.new pairs.new.items)) }
@@ -130,6 +134,8 @@ impl World {
         requires up { IsUp self.old to }
         requires sits { Sits (seen D.image_at D.moment self.old pairs.old.items) }
         ensures ids { ids_of self.new ≡ ids_of self.old }
+        ensures places { places_of self.new ≡ places_of self.old }
+        ensures stops { self.new.stops ≡ self.old.stops }
         ensures counts { Counts result self.old.events self.new.events 0 (all - taken) }
         ensures moves { (z : Calming) (a b : Id) → IsAt self.old from a → IsAt self.old to b → OnOk result (Moves circuit (λ m. (delivers circuit (record z { world = m }) a b (taken + 1) (all - taken)).world) (seen D.image_at D.moment self.old pairs.old.items) (seen D.image_at D.moment self.new pairs.new.items)) }
         ensures sits { OnOk result (Sits (seen D.image_at D.moment self.new pairs.new.items)) }
@@ -157,6 +163,8 @@ impl World {
         requires to_below { to < length self.old.slots.items }
         requires sits { Sits (seen D.image_at D.moment self.old pairs.old.items) }
         ensures ids { ids_of self.new ≡ ids_of self.old }
+        ensures places { places_of self.new ≡ places_of self.old }
+        ensures stops { self.new.stops ≡ self.old.stops }
         ensures counts { (z : Calming) (a b : Id) → Holds circuit z.world (seen D.image_at D.moment self.old pairs.old.items) → IsAt self.old from a → IsAt self.old to b → z.taken a b ≡ taken → Counts result self.old.events self.new.events (length z.happened) (length (pair_turn circuit z a b).happened) }
         ensures count { (z : Calming) (a b : Id) → Holds circuit z.world (seen D.image_at D.moment self.old pairs.old.items) → IsAt self.old from a → IsAt self.old to b → z.taken a b ≡ taken → IfOk result (λ k. k ≡ (pair_turn circuit z a b).taken a b) }
         ensures moves { (z : Calming) (a b : Id) → IsAt self.old from a → IsAt self.old to b → z.taken a b ≡ taken → OnOk result (Moves circuit (λ m. (pair_turn circuit (record z { world = m }) a b).world) (seen D.image_at D.moment self.old pairs.old.items) (seen D.image_at D.moment self.new pairs.new.items)) }
@@ -187,6 +195,8 @@ impl World {
         requires wide { length row.old.items ≡ length self.old.slots.items }
         requires sits { Sits (seen D.image_at D.moment self.old pairs.old.items) }
         ensures ids { ids_of self.new ≡ ids_of self.old }
+        ensures places { places_of self.new ≡ places_of self.old }
+        ensures stops { self.new.stops ≡ self.old.stops }
         ensures wide { length row.new.items ≡ length row.old.items }
         ensures counts { (z : Calming) (a : Id) → Holds circuit z.world (seen D.image_at D.moment self.old pairs.old.items) → IsAt self.old from a → row.old.items ≡ row_of z.taken a (ids_of self.old) → Counts result self.old.events self.new.events (length z.happened) (length (to_all circuit z a (ids_of self.old)).happened) }
         ensures own { (z : Calming) (a : Id) → Holds circuit z.world (seen D.image_at D.moment self.old pairs.old.items) → IsAt self.old from a → row.old.items ≡ row_of z.taken a (ids_of self.old) → OnOk result (Holds circuit (to_all circuit z a (ids_of self.old)).world (seen D.image_at D.moment self.new pairs.new.items) × (row.new.items ≡ row_of (to_all circuit z a (ids_of self.old)).taken a (ids_of self.old))) }
@@ -211,6 +221,8 @@ impl World {
         requires square { IsSquare (length self.old.slots.items) rows.old.items }
         requires sits { Sits (seen D.image_at D.moment self.old pairs.old.items) }
         ensures ids { ids_of self.new ≡ ids_of self.old }
+        ensures places { places_of self.new ≡ places_of self.old }
+        ensures stops { self.new.stops ≡ self.old.stops }
         ensures square { IsSquare (length self.old.slots.items) rows.new.items }
         ensures counts { (z : Calming) → Holds circuit z.world (seen D.image_at D.moment self.old pairs.old.items) → AreRows z.taken (ids_of self.old) rows.old.items → Counts result self.old.events self.new.events (length z.happened) (length (from_all circuit z (ids_of self.old) (ids_of self.old)).happened) }
         ensures own { (z : Calming) → Holds circuit z.world (seen D.image_at D.moment self.old pairs.old.items) → AreRows z.taken (ids_of self.old) rows.old.items → OnOk result (Holds circuit (from_all circuit z (ids_of self.old) (ids_of self.old)).world (seen D.image_at D.moment self.new pairs.new.items) × AreRows (from_all circuit z (ids_of self.old) (ids_of self.old)).taken (ids_of self.old) rows.new.items) }
@@ -235,6 +247,8 @@ impl World {
         requires square { IsSquare (length self.old.slots.items) rows.old.items }
         requires sits { Sits (seen D.image_at D.moment self.old pairs.old.items) }
         ensures ids { ids_of self.new ≡ ids_of self.old }
+        ensures places { places_of self.new ≡ places_of self.old }
+        ensures stops { self.new.stops ≡ self.old.stops }
         ensures square { IsSquare (length self.old.slots.items) rows.new.items }
         ensures counts { (z : Calming) → Holds circuit z.world (seen D.image_at D.moment self.old pairs.old.items) → AreRows z.taken (ids_of self.old) rows.old.items → Counts result self.old.events self.new.events (length z.happened) (length (pass circuit (ids_of self.old) z).happened) }
         ensures quiet { (z : Calming) → Holds circuit z.world (seen D.image_at D.moment self.old pairs.old.items) → AreRows z.taken (ids_of self.old) rows.old.items → IfOk result (λ moved. moved ≡ false → IsQuiet circuit (ids_of self.old) z) }
@@ -261,6 +275,8 @@ impl World {
     ) -> Result<(), WorldFault>
         requires sits { Sits (seen D.image_at D.moment self.old pairs.old.items) }
         ensures ids { ids_of self.new ≡ ids_of self.old }
+        ensures places { places_of self.new ≡ places_of self.old }
+        ensures stops { self.new.stops ≡ self.old.stops }
         ensures counts { (m : CircuitWorld) → Holds circuit m (seen D.image_at D.moment self.old pairs.old.items) → Counts result self.old.events self.new.events 0 (length (calm circuit m passes).happened) }
         ensures moves { OnOk result (Moves circuit (λ m. (calm circuit m passes).world) (seen D.image_at D.moment self.old pairs.old.items) (seen D.image_at D.moment self.new pairs.new.items)) }
         ensures sits { OnOk result (Sits (seen D.image_at D.moment self.new pairs.new.items)) }

@@ -9,6 +9,7 @@ mod outbox;
 mod posts;
 mod slot;
 mod step;
+mod stops;
 mod world;
 
 pub use fault::WorldFault;

@@ -4,11 +4,12 @@ ghost use Rattle.spl_circuit.specs.Nodes.{sorted};
 ghost use Rattle.spl_circuit.specs.Rules.{ascends};
 ghost use Rattle.spl_registry.specs.Nodes.{ids_of as registered};
 ghost use Rattle.spl_world.specs.Disks.{AreBlank, LeavesDisks, bench, images, images_at};
-ghost use Rattle.spl_world.specs.Views.{Stands, ids_of, is_halted};
+ghost use Rattle.spl_world.specs.Views.{ArePlaced, Stands, ids_of, is_halted};
 
 use crate::events::Events;
 use crate::fault::WorldFault;
 use crate::slot::Slot;
+use crate::stops::Stops;
 use crate::world::World;
 use spl_base::NodeId;
 use spl_edge::{Pair, StopDisk};
@@ -44,6 +45,7 @@ impl World {
         requires room { length registry.now ≤ length pairs.old.items }
         requires blank { (i : ℕ) → i < length registry.now → AreBlank (images_at (images D.image_at D.moment pairs.old.items) i) }
         ensures ids { IfOk result (λ w. ids_of w ≡ sorted (registered registry.now)) }
+        ensures placed { IfOk result (ArePlaced registry.now) }
         ensures running { IfOk result (λ w. is_halted w ≡ false) }
         ensures stands { IfOk result (λ w. Stands [] w (images D.image_at D.moment pairs.new.items)) }
         ensures disks { LeavesDisks result (bench D.image_at D.moment D.faults D.armed D.picks pairs.old.items) (bench D.image_at D.moment D.faults D.armed D.picks pairs.new.items) }
@@ -59,6 +61,7 @@ impl World {
         Ok(World {
             slots,
             events: Events::new(),
+            stops: Stops::new(),
             halted: false,
         })
     }

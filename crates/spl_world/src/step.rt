@@ -10,7 +10,7 @@ ghost use Rattle.spl_model.specs.Worlds.{World as CircuitWorld, step_plan, step_
 ghost use Rattle.spl_model.specs.Answers.{answer_to};
 ghost use Rattle.spl_model.specs.Counts.{events_of};
 ghost use Rattle.spl_world.specs.Disks.{LeavesDisks, bench, images};
-ghost use Rattle.spl_world.specs.Views.{Holds, Moves, Sits, Stands, Stays, ids_of, is_halted, seen};
+ghost use Rattle.spl_world.specs.Views.{Holds, Moves, Sits, Stands, Stays, places_of, ids_of, is_halted, seen};
 
 use crate::fault::WorldFault;
 use crate::world::World;
@@ -32,6 +32,8 @@ impl World {
         requires fits { is_step step.now ≡ true }
         requires sits { Sits (seen D.image_at D.moment self.old pairs.old.items) }
         ensures ids { ids_of self.new ≡ ids_of self.old }
+        ensures places { places_of self.new ≡ places_of self.old }
+        ensures stops { self.new.stops ≡ self.old.stops }
         ensures events { self.new.events ≡ self.old.events }
         ensures answer { (m : CircuitWorld) → Holds (step_circuit step.now) m (seen D.image_at D.moment self.old pairs.old.items) → IfOk result (λ a. a ≡ (step_plan m step.now).answer) }
         ensures moves { OnOk result (Moves (step_circuit step.now) (λ m. step_world m step.now) (seen D.image_at D.moment self.old pairs.old.items) (seen D.image_at D.moment self.new pairs.new.items)) }
@@ -84,6 +86,7 @@ impl World {
         requires taken { is_taken line.now ≡ true }
         requires sits { Sits (seen D.image_at D.moment self.old pairs.old.items) }
         ensures ids { ids_of self.new ≡ ids_of self.old }
+        ensures places { places_of self.new ≡ places_of self.old }
         ensures answer { (before : List Ran) → Stands before self.old (images D.image_at D.moment pairs.old.items) → IfOk result (λ a. a ≡ answer_to (ids_of self.old) before (by_rule line.now)) }
         ensures stands { (before : List Ran) → Stands before self.old (images D.image_at D.moment pairs.old.items) → OnOk result (Stands (before ++ by_rule line.now ∷ []) self.new (images D.image_at D.moment pairs.new.items)) }
         ensures few { (before : List Ran) → Stands before self.old (images D.image_at D.moment pairs.old.items) → OnOk result (events_of (ids_of self.old) (before ++ by_rule line.now ∷ []) ≤ MOST_EVENTS) }
@@ -115,6 +118,8 @@ impl World {
         requires taken { is_taken line.now ≡ true }
         requires sits { Sits (seen D.image_at D.moment self.old pairs.old.items) }
         ensures ids { ids_of self.new ≡ ids_of self.old }
+        ensures places { places_of self.new ≡ places_of self.old }
+        ensures stops { self.new.stops ≡ self.old.stops }
         ensures answer { (before : List Ran) → Stands before self.old (images D.image_at D.moment pairs.old.items) → IfOk result (λ a. a ≡ answer_to (ids_of self.old) before (by_rule line.now)) }
         ensures stands { (before : List Ran) → Stands before self.old (images D.image_at D.moment pairs.old.items) → OnOk result (Stands (before ++ by_rule line.now ∷ []) self.new (images D.image_at D.moment pairs.new.items)) }
         ensures many { (before : List Ran) (which : ℕ) → Stands before self.old (images D.image_at D.moment pairs.old.items) → IsErrOf result (WorldFault.TooMany which) → (which ≡ 1) × (MOST_EVENTS < events_of (ids_of self.old) (before ++ by_rule line.now ∷ [])) }

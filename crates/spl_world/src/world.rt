@@ -9,24 +9,26 @@ ghost use Rattle.spl_rules.specs.Plans.{plan_of};
 ghost use Rattle.spl_rules.specs.Valid.{IsFor};
 ghost use Rattle.spl_model.specs.Worlds.{site_at, World as CircuitWorld, messages, carried_out, step_plan, step_world};
 ghost use Rattle.spl_world.specs.Disks.{Images, LeavesDisks, bench};
-ghost use Rattle.spl_world.specs.Views.{Holds, IsAt, IsUp, Moves, Sits, has_id, ids_of, is_halted, over, seen, ups_of};
+ghost use Rattle.spl_world.specs.Views.{Holds, IsAt, IsUp, Moves, Sits, has_id, places_of, ids_of, is_halted, over, seen, ups_of};
 
 use crate::events::Events;
 use crate::fault::WorldFault;
 use crate::slot::Slot;
+use crate::stops::Stops;
 use spl_base::{Boxed, CircuitId, NodeId};
 use spl_edge::{Pair, StopDisk};
 use spl_wire::{Answer, Event, Message, Refusal};
 use std::alloc::{AllocError, Global};
 
 /// The nodes of a run, in the order of their ids. Each keeps its cells, over a pair of disks of its
-/// own, and what it sent. Beside them is how many events ran. The world is halted where a line found
-/// no memory, a disk that failed or no room for an event: what was kept may be lost then, and
-/// nothing more may be asked.
+/// own, and what it sent. Beside them is how many events ran, and how many lines stopped a node. The
+/// world is halted where a line found no memory, a disk that failed or no room for an event or a
+/// stop: what was kept may be lost then, and nothing more may be asked.
 #[derive(Drop)]
 pub struct World {
     pub(crate) slots: Vec<Slot>,
     pub(crate) events: Events,
+    pub(crate) stops: Stops,
     pub(crate) halted: bool,
 }
 
@@ -49,6 +51,13 @@ impl World {
         ensures { result ≡ self.now.events }
     {
         self.events.count()
+    }
+
+    /// How many lines stopped a node.
+    pub fn stops(&self) -> u8
+        ensures { result ≡ self.now.stops }
+    {
+        self.stops.count()
     }
 
     /// Whether a line has no answer.
@@ -88,6 +97,8 @@ impl World {
         requires own { (n : Id) → IsAt self.old slot n → IsFor (site_at n circuit) event.now }
         requires sits { Sits (seen D.image_at D.moment self.old pairs.old.items) }
         ensures ids { ids_of self.new ≡ ids_of self.old }
+        ensures places { places_of self.new ≡ places_of self.old }
+        ensures stops { self.new.stops ≡ self.old.stops }
         ensures ups { ups_of self.new ≡ ups_of self.old }
         ensures events { self.new.events ≡ self.old.events }
         ensures answer { (m : CircuitWorld) (n : Id) → Holds circuit m (seen D.image_at D.moment self.old pairs.old.items) → IsAt self.old slot n → IfOk result (λ a. a ≡ (plan_of (site_at n circuit) (m.at n) event.now).answer) }
@@ -158,6 +169,8 @@ impl World {
         requires up { IsUp self.old to }
         requires sits { Sits (seen D.image_at D.moment self.old pairs.old.items) }
         ensures ids { ids_of self.new ≡ ids_of self.old }
+        ensures places { places_of self.new ≡ places_of self.old }
+        ensures stops { self.new.stops ≡ self.old.stops }
         ensures ups { ups_of self.new ≡ ups_of self.old }
         ensures events { self.new.events ≡ self.old.events }
         ensures answer { (m : CircuitWorld) (a b : Id) → Holds circuit m (seen D.image_at D.moment self.old pairs.old.items) → IsAt self.old from a → IsAt self.old to b → IfOk result (λ r. r ≡ (step_plan m (step.Deliver a b circuit (index + 1))).answer) }

@@ -42,6 +42,8 @@ loop-done-preserved g c =
           omega (arith, next, c.loop-done.invariant.5 m h, counts),
       c.in_ok-pass.ensures.sits,
       all_then _ _ _ c.loop-done.invariant.7 c.in_ok-pass.ensures.disks.onward,
+      c.pass.ensures.places ∙ c.loop-done.invariant.8,
+      c.pass.ensures.stops ∙ c.loop-done.invariant.9,
     )
 
 pub returns-clause-moves : goal.returns-clause-moves
@@ -54,7 +56,7 @@ returns-clause-moves g c =
     }
 
 pub loop-done-init : goal.loop-done-init
-loop-done-init g c = (refl, refl, c.in_ok-rows.ensures.square, λ m h. (h, c.in_ok-rows.ensures.counts (images g.D.Disk.image_at g.D.Disk.moment c.args.pairs.now.items) m h), λ d m off h. h, λ m h. refl, c.requires.sits, all_itself _)
+loop-done-init g c = (refl, refl, c.in_ok-rows.ensures.square, λ m h. (h, c.in_ok-rows.ensures.counts (images g.D.Disk.image_at g.D.Disk.moment c.args.pairs.now.items) m h), λ d m off h. h, λ m h. refl, c.requires.sits, all_itself _, refl, refl)
 
 -- ---- how many events
 

@@ -42,6 +42,8 @@ loop-index-preserved g c =
       omega (arith, c.loop-index.invariant.3, c.loop-index.invariant.6, c.in_ok-add.ensures.counts.ok, c.deliver.ensures.events),
       c.in_ok-deliver.ensures.sits,
       all_then _ _ _ c.loop-index.invariant.8 c.in_ok-deliver.ensures.disks.onward,
+      c.deliver.ensures.places ∙ c.loop-index.invariant.9,
+      c.deliver.ensures.stops ∙ c.loop-index.invariant.10,
     )
 
 pub returns-clause-moves : goal.returns-clause-moves
@@ -78,6 +80,8 @@ loop-index-init g c =
       omega arith,
       c.requires.sits,
       all_itself _,
+      refl,
+      refl,
     )
 
 pub deliver-requires-clause-sits : goal.deliver-requires-clause-sits

@@ -2,7 +2,7 @@ use Rattle.std.proofs.Common.{◌≡◌, ◌+◌, ◌-◌, ◌≤◌, length}
 use Rattle.spl_circuit.specs.Nodes.{NodeId}
 use Rattle.spl_model.specs.Calm.{Calming}
 use Rattle.spl_world.specs.Disks.{AllGoOn, bench}
-use Rattle.spl_world.specs.Views.{IsAt, Moves, ids_of, ups_of, Sits, seen}
+use Rattle.spl_world.specs.Views.{IsAt, Moves, ids_of, ups_of, Sits, places_of, seen}
 use Rattle.spl_world.proofs.Turns.{delivered}
 use Rattle.spl_world.proofs.world.World.deliver_from.Given as goal
 
@@ -13,3 +13,4 @@ invariant-loop-index g l = (length l.self.slots.items ≡ length l.fn.self.slots
     × (l.self.events + 0 ≡ l.fn.self.events + (l.index - l.taken))
     × Sits (seen g.D.Disk.image_at g.D.Disk.moment l.self l.pairs.items)
     × AllGoOn (bench g.D.Disk.image_at g.D.Disk.moment g.D.Disk.faults g.D.Disk.armed g.D.Disk.picks l.fn.pairs.items) (bench g.D.Disk.image_at g.D.Disk.moment g.D.Disk.faults g.D.Disk.armed g.D.Disk.picks l.pairs.items)
+    × (places_of l.self ≡ places_of l.fn.self) × (l.self.stops ≡ l.fn.self.stops)

@@ -44,6 +44,8 @@ loop-from-preserved g c =
           omega (arith, next, c.loop-from.invariant.5 z h rows, counts),
       c.in_ok-to_all.ensures.sits,
       all_then _ _ _ c.loop-from.invariant.7 c.in_ok-to_all.ensures.disks.onward,
+      c.to_all.ensures.places ∙ c.loop-from.invariant.8,
+      c.to_all.ensures.stops ∙ c.loop-from.invariant.9,
     )
 
 pub returns-clause-own : goal.returns-clause-own
@@ -84,7 +86,7 @@ returns-clause-counts g c = λ z h rows.
 -- ---- the disks
 
 pub loop-from-init : goal.loop-from-init
-loop-from-init g c = (refl, refl, c.requires.square, λ z h rows. (h, rows), λ d m off h. h, λ z h rows. refl, c.requires.sits, all_itself _)
+loop-from-init g c = (refl, refl, c.requires.square, λ z h rows. (h, rows), λ d m off h. h, λ z h rows. refl, c.requires.sits, all_itself _, refl, refl)
 
 pub to_all-requires-clause-sits : goal.to_all-requires-clause-sits
 to_all-requires-clause-sits g c = c.loop-from.invariant.6

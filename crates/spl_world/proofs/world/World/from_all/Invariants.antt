@@ -2,7 +2,7 @@ use Rattle.std.proofs.Common.{◌≡◌, ◌+◌, length, take}
 use Rattle.spl_model.specs.Calm.{Calming, from_all}
 use Rattle.spl_world.specs.Calms.{AreRows, IsSquare}
 use Rattle.spl_world.specs.Disks.{AllGoOn, bench}
-use Rattle.spl_world.specs.Views.{Holds, Spares, ids_of, Sits, seen}
+use Rattle.spl_world.specs.Views.{Holds, Spares, ids_of, Sits, places_of, seen}
 use Rattle.spl_world.proofs.world.World.from_all.Given as goal
 
 -- the senders so far had their turns
@@ -15,3 +15,4 @@ invariant-loop-from g l = (length l.self.slots.items ≡ length l.fn.self.slots.
     → l.self.events + length z.happened ≡ l.fn.self.events + length (from_all l.circuit z (ids_of l.fn.self) (take l.from (ids_of l.fn.self))).happened)
     × Sits (seen g.D.Disk.image_at g.D.Disk.moment l.self l.pairs.items)
     × AllGoOn (bench g.D.Disk.image_at g.D.Disk.moment g.D.Disk.faults g.D.Disk.armed g.D.Disk.picks l.fn.pairs.items) (bench g.D.Disk.image_at g.D.Disk.moment g.D.Disk.faults g.D.Disk.armed g.D.Disk.picks l.pairs.items)
+    × (places_of l.self ≡ places_of l.fn.self) × (l.self.stops ≡ l.fn.self.stops)

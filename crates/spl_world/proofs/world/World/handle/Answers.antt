@@ -8,7 +8,7 @@ use Rattle.spl_world.specs.Views.{seen, slot_id}
 use Rattle.spl_world.proofs.Handling.{pair_below, own_stands, own_view, own_sits, own_moves, one_leaves}
 use Rattle.spl_world.proofs.Moving.{same_plan}
 use Rattle.spl_world.proofs.Results.{at_ok, ok_both, when_ok}
-use Rattle.spl_world.proofs.Slots.{same_ids, id_at}
+use Rattle.spl_world.proofs.Slots.{same_ids, same_places, id_at}
 use Rattle.spl_world.proofs.Up.{is_there_up, same_ups}
 use Rattle.spl_world.proofs.world.World.handle.Goals as goal
 
@@ -47,6 +47,11 @@ pub returns-clause-ups : goal.returns-clause-ups
 returns-clause-ups g c =
     let ss = c.args.self.now.slots.items in
     same_ups ss c.args.slot c.index_mut-here.result.now c.handle.new.self (slice_get_read ss (length ss) c.args.slot c.index_mut-here.result.now refl c.requires.below c.index_mut-here.ensures.value) c.handle.ensures.up
+
+pub returns-clause-places : goal.returns-clause-places
+returns-clause-places g c =
+    let ss = c.args.self.now.slots.items in
+    same_places ss c.args.slot c.index_mut-here.result.now c.handle.new.self (slice_get_read ss (length ss) c.args.slot c.index_mut-here.result.now refl c.requires.below c.index_mut-here.ensures.value) c.handle.ensures.position
 
 pub returns-clause-answer : goal.returns-clause-answer
 returns-clause-answer g c = λ m n h at.

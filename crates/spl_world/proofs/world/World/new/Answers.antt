@@ -8,7 +8,7 @@ use Rattle.spl_world.specs.Disks.{AreBlank, Images, images, images_of}
 use Rattle.spl_world.specs.Views.{slot_ids}
 use Rattle.spl_world.proofs.Handling.{one_leaves, one_onward}
 use Rattle.spl_world.proofs.Leaving.{all_itself, all_then, leaves_failed, leaves_memory, leaves_ok, leaves_other, leaves_then}
-use Rattle.spl_world.proofs.Made.{AreMade, IsEntry, entry_at, entry_below, known_here, made_holds, made_sits, none_made, one_more, still_there}
+use Rattle.spl_world.proofs.Made.{AreMade, IsEntry, entry_at, entry_below, known_here, made_holds, made_placed, made_sits, none_made, one_more, still_there}
 use Rattle.spl_world.proofs.Pairing.{images_here, images_length, images_set, pair_here}
 use Rattle.spl_world.proofs.world.World.new.Goals as goal
 
@@ -110,6 +110,9 @@ returns-in_err-join-clause-disks g c =
 pub returns-clause-ids : goal.returns-clause-ids
 returns-clause-ids g c = c.loop-id.invariant.made.ids ∙ take_all c.loop-id.id-index c.deref-id-items.result.now c.loop-id-test.false ∙ c.deref-id-items.ensures.value ∙ c.in_ok-ids.ensures.ids
 
+pub returns-clause-placed : goal.returns-clause-placed
+returns-clause-placed g c = made_placed c.args.registry.now c.deref-id-items.result.now c.loop-id.id-index c.loop-id.slots.items _ _ c.loop-id.invariant.made
+
 pub returns-clause-stands : goal.returns-clause-stands
 returns-clause-stands g c =
     let es = c.args.registry.now in
@@ -123,6 +126,7 @@ returns-clause-stands g c =
     record {
       fit = refl;
       counted = c.new-2.ensures ∙ sym (events-none (slot_ids ss));
+      stopped = c.new-3.ensures;
       each = made_holds es ns c.loop-id.id-index ss start now order room c.loop-id.invariant.made all;
       sits = made_sits es ns c.loop-id.id-index ss start now order room c.loop-id.invariant.made all;
     }

@@ -24,7 +24,7 @@ returns-in_ok-add-in-Step-clause-stands g c = λ before stands.
     let s = c.in-Step.step in
     let fits = rw (c.in-Step.is) at c.requires.fits in
     let counted = counted_line c.run.new.self.events c.args.self.now (images g.D.Disk.image_at g.D.Disk.moment c.args.pairs.now.items) before (line.Step s) 1 stands fits refl (omega (arith, c.run.ensures.events, c.in_ok-add-in-Step.ensures.counts.ok)) in
-    rw (c.in-Step.is) (ok_both c.run.result (λ moves sits. stands_after before (line.Step s) (step_circuit s) c.args.self.now c.run.new.self (images g.D.Disk.image_at g.D.Disk.moment c.args.pairs.now.items) (images g.D.Disk.image_at g.D.Disk.moment c.run.new.pairs.items) refl fits (λ w. refl) c.run.ensures.ids stands counted moves sits) c.run.ensures.moves c.run.ensures.sits)
+    rw (c.in-Step.is) (ok_both c.run.result (λ moves sits. stands_after before (line.Step s) (step_circuit s) c.args.self.now c.run.new.self (images g.D.Disk.image_at g.D.Disk.moment c.args.pairs.now.items) (images g.D.Disk.image_at g.D.Disk.moment c.run.new.pairs.items) refl fits (λ w. refl) refl c.run.ensures.stops c.run.ensures.ids stands counted moves sits) c.run.ensures.moves c.run.ensures.sits)
 
 pub returns-in_ok-add-in-Step-clause-refused : goal.returns-in_ok-add-in-Step-clause-refused
 returns-in_ok-add-in-Step-clause-refused g c = λ why.
@@ -53,7 +53,7 @@ returns-in_ok-calm-in-Calm-clause-stands g c = λ before stands.
     let fits = rw (c.in-Calm.is) at c.requires.fits in
     let w = whole_world (ids_of c.args.self.now) c.in-Calm.circuit before in
     let counted = counted_line c.calm.new.self.events c.args.self.now (images g.D.Disk.image_at g.D.Disk.moment c.args.pairs.now.items) before l (length (calm c.in-Calm.circuit w c.in-Calm.passes).happened) stands fits refl (c.in_ok-calm-in-Calm.ensures.counts w (stands.each c.in-Calm.circuit)).ok in
-    rw (c.in-Calm.is) (stands_after before l c.in-Calm.circuit c.args.self.now c.calm.new.self (images g.D.Disk.image_at g.D.Disk.moment c.args.pairs.now.items) (images g.D.Disk.image_at g.D.Disk.moment c.calm.new.pairs.items) refl fits (λ v. refl) c.calm.ensures.ids stands counted c.in_ok-calm-in-Calm.ensures.moves c.in_ok-calm-in-Calm.ensures.sits)
+    rw (c.in-Calm.is) (stands_after before l c.in-Calm.circuit c.args.self.now c.calm.new.self (images g.D.Disk.image_at g.D.Disk.moment c.args.pairs.now.items) (images g.D.Disk.image_at g.D.Disk.moment c.calm.new.pairs.items) refl fits (λ v. refl) refl c.calm.ensures.stops c.calm.ensures.ids stands counted c.in_ok-calm-in-Calm.ensures.moves c.in_ok-calm-in-Calm.ensures.sits)
 
 pub returns-in_err-calm-in-Calm-clause-many : goal.returns-in_err-calm-in-Calm-clause-many
 returns-in_err-calm-in-Calm-clause-many g c = λ before which stands q.

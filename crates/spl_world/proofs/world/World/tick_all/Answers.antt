@@ -39,6 +39,8 @@ loop-slot-preserved g c =
           (c.in_ok-one.ensures.idle w n.0 ((c.loop-slot.invariant.2 z).own m h) there b.1),
       c.in_ok-one.ensures.sits,
       all_then _ _ _ c.loop-slot.invariant.6 c.in_ok-one.ensures.disks.onward,
+      c.tick.ensures.places ∙ c.loop-slot.invariant.7,
+      c.tick.ensures.stops ∙ c.loop-slot.invariant.8,
     )
 
 pub returns-clause-moves : goal.returns-clause-moves
@@ -70,7 +72,7 @@ returns-clause-idle g c = λ m h still.
 -- ---- the disks
 
 pub loop-slot-init : goal.loop-slot-init
-loop-slot-init g c = (refl, refl, λ z. record { own = λ m h. h; others = λ d m off h. h }, λ m h. refl, λ m h still. tt, c.requires.sits, all_itself _)
+loop-slot-init g c = (refl, refl, λ z. record { own = λ m h. h; others = λ d m off h. h }, λ m h. refl, λ m h still. tt, c.requires.sits, all_itself _, refl, refl)
 
 pub tick-requires-clause-sits : goal.tick-requires-clause-sits
 tick-requires-clause-sits g c = c.loop-slot.invariant.5

@@ -4,7 +4,7 @@ use Rattle.spl_model.specs.Worlds.{World as CircuitWorld}
 use Rattle.spl_model.specs.Calm.{Calming, open_nodes}
 use Rattle.spl_model.specs.Quiet.{IsIdleAt}
 use Rattle.spl_world.specs.Disks.{AllGoOn, bench}
-use Rattle.spl_world.specs.Views.{Holds, Moves, ids_of, Sits, seen}
+use Rattle.spl_world.specs.Views.{Holds, Moves, ids_of, Sits, places_of, seen}
 use Rattle.spl_world.proofs.Ticking.{ticked}
 use Rattle.spl_world.proofs.world.World.tick_all.Given as goal
 
@@ -16,3 +16,4 @@ invariant-loop-slot g l = (length l.self.slots.items ≡ length l.fn.self.slots.
     × ((m : CircuitWorld) → Holds l.circuit m (seen g.D.Disk.image_at g.D.Disk.moment l.fn.self l.fn.pairs.items) → l.moved ≡ false → AllByRecursion (IsIdleAt l.circuit m) (open_nodes m (take l.slot (ids_of l.fn.self))))
     × Sits (seen g.D.Disk.image_at g.D.Disk.moment l.self l.pairs.items)
     × AllGoOn (bench g.D.Disk.image_at g.D.Disk.moment g.D.Disk.faults g.D.Disk.armed g.D.Disk.picks l.fn.pairs.items) (bench g.D.Disk.image_at g.D.Disk.moment g.D.Disk.faults g.D.Disk.armed g.D.Disk.picks l.pairs.items)
+    × (places_of l.self ≡ places_of l.fn.self) × (l.self.stops ≡ l.fn.self.stops)

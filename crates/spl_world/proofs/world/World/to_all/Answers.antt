@@ -40,6 +40,8 @@ loop-to-preserved g c =
           omega (arith, next, c.loop-to.invariant.5 z a h at row, (c.in_ok-row.ensures.counts y a recipient.0 so_far.0 here to taken).ok),
       c.in_ok-row.ensures.sits,
       all_then _ _ _ c.loop-to.invariant.7 c.in_ok-row.ensures.disks.onward,
+      c.pair_turn.ensures.places ∙ c.loop-to.invariant.8,
+      c.pair_turn.ensures.stops ∙ c.loop-to.invariant.9,
     )
 
 pub returns-clause-own : goal.returns-clause-own
@@ -69,7 +71,7 @@ returns-clause-counts g c = λ z a h at row.
 -- ---- the disks
 
 pub loop-to-init : goal.loop-to-init
-loop-to-init g c = (refl, refl, refl, λ z a h at row. (h, row), λ d m off h. h, λ z a h at row. refl, c.requires.sits, all_itself _)
+loop-to-init g c = (refl, refl, refl, λ z a h at row. (h, row), λ d m off h. h, λ z a h at row. refl, c.requires.sits, all_itself _, refl, refl)
 
 pub pair_turn-requires-clause-sits : goal.pair_turn-requires-clause-sits
 pair_turn-requires-clause-sits g c = c.loop-to.invariant.6

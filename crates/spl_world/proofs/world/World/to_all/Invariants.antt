@@ -3,7 +3,7 @@ use Rattle.spl_circuit.specs.Nodes.{NodeId}
 use Rattle.spl_model.specs.Calm.{Calming, to_all}
 use Rattle.spl_world.specs.Calms.{row_of}
 use Rattle.spl_world.specs.Disks.{AllGoOn, bench}
-use Rattle.spl_world.specs.Views.{Holds, IsAt, Spares, ids_of, Sits, seen}
+use Rattle.spl_world.specs.Views.{Holds, IsAt, Spares, ids_of, Sits, places_of, seen}
 use Rattle.spl_world.proofs.world.World.to_all.Given as goal
 
 -- the recipients so far had their turns
@@ -16,3 +16,4 @@ invariant-loop-to g l = (length l.self.slots.items ≡ length l.fn.self.slots.it
     → l.self.events + length z.happened ≡ l.fn.self.events + length (to_all l.circuit z a (take l.to (ids_of l.fn.self))).happened)
     × Sits (seen g.D.Disk.image_at g.D.Disk.moment l.self l.pairs.items)
     × AllGoOn (bench g.D.Disk.image_at g.D.Disk.moment g.D.Disk.faults g.D.Disk.armed g.D.Disk.picks l.fn.pairs.items) (bench g.D.Disk.image_at g.D.Disk.moment g.D.Disk.faults g.D.Disk.armed g.D.Disk.picks l.pairs.items)
+    × (places_of l.self ≡ places_of l.fn.self) × (l.self.stops ≡ l.fn.self.stops)
