@@ -37,7 +37,7 @@ some_at [] i h = absurd (omega (arith, h))
 some_at (x ∷ xs) zero h = (x, refl)
 some_at (x ∷ xs) (suc i) h = let r : i < length xs = omega (arith, h) in some_at xs i r
 
-get_below : {X : Type 0} (xs : List X) (i : ℕ) (x : X) → slice_get xs i ≡ Some x → i < length xs
+pub get_below : {X : Type 0} (xs : List X) (i : ℕ) (x : X) → slice_get xs i ≡ Some x → i < length xs
 get_below [] i x h = absurd cc
 get_below (y ∷ xs) zero x h = omega arith
 get_below (y ∷ xs) (suc i) x h = let r : i < length xs = get_below xs i x h in omega (arith, r)
@@ -110,6 +110,14 @@ leaves_memory r e xs = leaves_other r NoMemory e (λ slot q. cc) xs xs (all_itse
 pub memory_is_few : {B : Type 0} (r : Result B WorldFault) → IsErr r × IsErrAnd r (λ y. y ≡ NoMemory) → (which : ℕ) → IsErrOf r (TooMany which) → ⊥
 memory_is_few (Ok b) e which q = absurd e.1
 memory_is_few (Err y) e which q = let is : y ≡ NoMemory = e.1 in cc
+
+pub limit_no_disk : {A B : Type 0} (r : Result B WorldFault) (f : WorldFault) (n : ℕ) → IsErr r × IsErrAnd r (λ y. y ≡ f) → IsErrOf (failed A f) (TooMany n) → (slot : ℕ) → IsErrOf r (Disk slot) → ⊥
+limit_no_disk (Ok b) f n e is slot q = absurd e.1
+limit_no_disk (Err y) f n e is slot q = let same : y ≡ f = e.1 in cc
+
+pub memory_no_disk : {B : Type 0} (r : Result B WorldFault) → IsErr r × IsErrAnd r (λ y. y ≡ NoMemory) → (slot : ℕ) → IsErrOf r (Disk slot) → ⊥
+memory_no_disk (Ok b) e slot q = absurd e.1
+memory_no_disk (Err y) e slot q = let is : y ≡ NoMemory = e.1 in cc
 
 -- ---- one pair
 

@@ -7,12 +7,13 @@ mod Entries
 mod Made
 mod Moving
 mod Handling
-mod Leaving
+pub mod Leaving
 mod Pairing
 mod Posting
 mod Quieting
 mod Reading
 mod Results
+mod Rolling
 mod Sends
 mod Slots
 mod Standing

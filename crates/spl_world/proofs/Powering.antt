@@ -98,6 +98,23 @@ module _ (xs : Nodes) (i : ℕ) (x y : Slot) (q : Images) (sits : Sits xs) (ther
       (up ∙ sym (put_at-here m.up (slot_id x) (slot_id x) true (same_itself (slot_id x))))
       (state ∙ (h.each i x there).state) sent)
 
+  -- whether it was up before or not
+  pub starts : (c : CircuitId) (m : CircuitWorld) → Holds c m xs → slot_up y ≡ true → is_at c ≡ was_at c → y.posts ≡ x.posts → Holds c (happens m (Starts (slot_id x))) (changed xs i x y q)
+  starts c m h up state sent = go (bool_cases (slot_up x))
+    where
+      go : (slot_up x ≡ true) ⊎ (slot_up x ≡ false) → Holds c (happens m (Starts (slot_id x))) (changed xs i x y q)
+      go (inl u) = if_true (λ (w : CircuitWorld). Holds c w (changed xs i x y q)) (m.up (slot_id x)) m (started m (slot_id x)) (sym (h.each i x there).up ∙ u)
+          (but_holds c m m h (record { nodes = refl; sent = refl; up = λ k off. refl; at = λ k off. refl }) (up ∙ sym u ∙ (h.each i x there).up) (state ∙ (h.each i x there).state) sent)
+      go (inr d) = start_holds c m h d up state sent
+
+  pub stops : (c : CircuitId) (m : CircuitWorld) → Holds c m xs → slot_up y ≡ false → (slot_up x ≡ true → is_at c ≡ stopped_cell (was_at c)) → (slot_up x ≡ false → is_at c ≡ was_at c) → y.posts ≡ x.posts → Holds c (happens m (Stops (slot_id x))) (changed xs i x y q)
+  stops c m h down was_up was_down sent = go (bool_cases (slot_up x))
+    where
+      go : (slot_up x ≡ true) ⊎ (slot_up x ≡ false) → Holds c (happens m (Stops (slot_id x))) (changed xs i x y q)
+      go (inl u) = stop_holds c m h u down (was_up u) sent
+      go (inr d) = if_false (λ (w : CircuitWorld). Holds c w (changed xs i x y q)) (m.up (slot_id x)) (stopped m (slot_id x)) m (sym (h.each i x there).up ∙ d)
+          (but_holds c m m h (record { nodes = refl; sent = refl; up = λ k off. refl; at = λ k off. refl }) (down ∙ sym d ∙ (h.each i x there).up) (was_down d ∙ (h.each i x there).state) sent)
+
 -- where it is so already, nothing happens
 pub stop_none : (c : CircuitId) (m : CircuitWorld) (xs : Nodes) (n : NodeId) → Holds c m xs → m.up n ≡ false → Holds c (happens m (Stops n)) xs
 stop_none c m xs n h down = if_false (λ (w : CircuitWorld). Holds c w xs) (m.up n) (stopped m n) m down h

@@ -148,3 +148,8 @@ set_else (x ∷ xs) zero zero y ne = absurd (ne refl)
 set_else (x ∷ xs) zero (suc j) y ne = refl
 set_else (x ∷ xs) (suc i) zero y ne = refl
 set_else (x ∷ xs) (suc i) (suc j) y ne = set_else xs i j y (λ e. ne (ap suc e))
+
+pub set_same : {X : Type 0} (xs : List X) (i : ℕ) (x : X) → slice_get xs i ≡ Some x → slice_set xs i x ≡ xs
+set_same [] i x e = refl
+set_same (y ∷ xs) zero x e = let same : y ≡ x = cc in ap (λ z. z ∷ xs) (sym same)
+set_same (y ∷ xs) (suc i) x e = ap (λ zs. y ∷ zs) (set_same xs i x e)

@@ -1,6 +1,6 @@
 -- What stands behind a line more.
-use Rattle.std.proofs.Common.{◌≡◌, ◌⊎◌, inl, inr, ℕ, ◌+◌, ◌<◌, ◌≤◌, Bool, true, false, List, [], ◌∷◌, ◌++◌, Some, Result, IfOk, ap, sym, ◌∙◌, subst, arith}
-use Rattle.std.specs.Prelude.{IsErrOf}
+use Rattle.std.proofs.Common.{◌≡◌, ◌⊎◌, inl, inr, ℕ, ◌+◌, ◌<◌, ◌≤◌, Bool, true, false, List, [], ◌∷◌, ◌++◌, Some, Result, IfOk, ap, sym, ◌∙◌, subst, arith, Ok, Err}
+use Rattle.std.specs.Prelude.{IsErrOf, IsErr}
 use Rattle.std.specs.Str.{bytes_eq}
 use Rattle.spl_circuit.specs.Nodes.{NodeId, CircuitId}
 use Rattle.spl_wire.specs.declared.answer.Answer.{Answer}
@@ -12,14 +12,16 @@ use Rattle.spl_sched.specs.Grammar.{circuit_of, step_circuit, is_line}
 use Rattle.spl_model.specs.Worlds.{World as CircuitWorld, step_plan}
 use Rattle.spl_model.specs.Projection.{Ran, lines_fit, names, names_circuit}
 use Rattle.spl_model.specs.Outcomes.{by_rule, keeps_record}
-use Rattle.spl_model.specs.Answers.{line_world, answer_to}
+use Rattle.spl_model.specs.Answers.{line_world, answer_to, line_answer, roll_answer}
 use Rattle.spl_model.proofs.LinesAsOccurrences.{fit-append}
 use Rattle.spl_projection.specs.Whole.{world_beside, whole_world}
 use Rattle.spl_projection.specs.Apart.{moves-own, moves-beside}
-use Rattle.spl_model.specs.declared.TheConstants.{MOST_EVENTS}
+use Rattle.spl_model.specs.declared.TheConstants.{MOST_EVENTS, MOST_STOPS}
 use Rattle.spl_model.specs.Counts.{line_events, events_of, line_stops, stops_of}
 use Rattle.spl_projection.proofs.Counts.{events-more}
 use Rattle.spl_projection.proofs.Owns.{answer-whole}
+use Rattle.std.specs.Result.{IsErrAnd}
+use Rattle.spl_world.proofs.Counting.{failed}
 use Rattle.spl_world.specs.declared.fault.WorldFault.{WorldFault}
 use Rattle.spl_world.specs.declared.fault.WorldFault.TheVariants.{TooMany}
 use Rattle.spl_world.specs.Counts.{Counts}
@@ -87,6 +89,22 @@ stands_still before w is b stands = record { fit = stands.fit; counted = stands.
 -- lines that stand are within the limit
 pub within_line : (before : List Ran) (w : World) (is : List Images) (ns : List NodeId) → ids_of w ≡ ns → Stands before w is → w.events ≤ MOST_EVENTS → events_of ns before ≤ MOST_EVENTS
 within_line before w is ns ids stands within = subst (λ (xs : List NodeId). events_of xs before ≤ MOST_EVENTS) ids (subst (λ (k : ℕ). k ≤ MOST_EVENTS) stands.counted within)
+
+pub within_stops : (before : List Ran) (w : World) (is : List Images) → Stands before w is → w.stops ≤ MOST_STOPS → stops_of before ≤ MOST_STOPS
+within_stops before w is stands within = subst (λ (k : ℕ). k ≤ MOST_STOPS) stands.stopped within
+
+-- one stop more than there is room for
+pub over_stops : (before : List Ran) (r : Ran) (old : World) (was : List Images) → Stands before old was → old.stops ≡ MOST_STOPS → line_stops r.line ≡ 1 → MOST_STOPS < stops_of (before ++ r ∷ [])
+over_stops before r old was stands full one = let more = stops_after before r in let were = stands.stopped in omega (arith, more, were, full, one)
+
+-- the limit that a call names, where it is that of the call in it
+pub limit_is : {A B : Type 0} (r : Result B WorldFault) (f : WorldFault) (n which : ℕ) → IsErr r × IsErrAnd r (λ y. y ≡ f) → IsErrOf (failed A f) (TooMany n) → IsErrOf r (TooMany which) → which ≡ n
+limit_is (Ok b) f n which e is q = absurd e.1
+limit_is (Err y) f n which e is q = let same : y ≡ f = e.1 in cc
+
+-- a line that starts or stops a node is answered so
+pub power_answered : (ns : List NodeId) (before : List Ran) (l : Line) → lines_fit before ≡ true → is_line l ≡ true → answer_to ns before (by_rule l) ≡ line_answer (λ c. whole_world ns c before) (λ n. roll_answer ns (before ++ by_rule l ∷ []) n) l (keeps_record l)
+power_answered ns before l fit fits = answer-whole ns before (by_rule l) (fits_after before l fit fits)
 
 -- a step is answered in the world of its circuit
 pub step_answered : (ns : List NodeId) (before : List Ran) (s : Step) → lines_fit (before ++ by_rule (line.Step s) ∷ []) ≡ true → answer_to ns before (by_rule (line.Step s)) ≡ (step_plan (whole_world ns (step_circuit s) before) s).answer

@@ -3,3 +3,4 @@ pub mod Disks
 pub mod Views
 pub mod Calms
 pub mod Counts
+pub mod Lines

@@ -4,9 +4,11 @@
 mod calm;
 mod events;
 mod fault;
+mod halt;
 mod making;
 mod outbox;
 mod posts;
+mod power;
 mod slot;
 mod step;
 mod stops;

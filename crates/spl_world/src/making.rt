@@ -1,5 +1,5 @@
 //! The nodes of a registry, where nothing happened yet.
-ghost use Rattle.std.specs.Prelude.{◌≡◌, ◌≤◌, ◌<◌, ◌++◌, ◌∷◌, ℕ, [], length, true, false, IfOk, OnOk};
+ghost use Rattle.std.specs.Prelude.{◌≡◌, ◌≤◌, ◌<◌, ◌++◌, ◌∷◌, ℕ, [], length, true, false, IfOk, OnOk, IsErrOf};
 ghost use Rattle.spl_circuit.specs.Nodes.{sorted};
 ghost use Rattle.spl_circuit.specs.Rules.{ascends};
 ghost use Rattle.spl_registry.specs.Nodes.{ids_of as registered};
@@ -45,6 +45,8 @@ impl World {
         requires room { length registry.now ≤ length pairs.old.items }
         requires blank { (i : ℕ) → i < length registry.now → AreBlank (images_at (images D.image_at D.moment pairs.old.items) i) }
         ensures ids { IfOk result (λ w. ids_of w ≡ sorted (registered registry.now)) }
+        ensures few { (which : ℕ) → IsErrOf result (WorldFault.TooMany which) → ⊥ }
+        ensures place { (slot : ℕ) → IsErrOf result (WorldFault.Disk slot) → slot < length registry.now }
         ensures placed { IfOk result (ArePlaced registry.now) }
         ensures running { IfOk result (λ w. is_halted w ≡ false) }
         ensures stands { IfOk result (λ w. Stands [] w (images D.image_at D.moment pairs.new.items)) }

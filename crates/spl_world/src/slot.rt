@@ -1,24 +1,29 @@
 //! A node of the world.
 ghost use Rattle.std.specs.Prelude.{◌≡◌, ◌&&◌, ◌<◌, ℕ, length, slice_get, true, false, IfOk, IfSome, OnOk, IsErrOf};
 ghost use Rattle.std.specs.Option.{option_copied};
+ghost use Rattle.std.specs.List.{list_any};
+ghost use Rattle.std.specs.List.Sorted.{IsStrictlySortedBy};
+ghost use Rattle.std.specs.Ordering.{nat_cmp};
+ghost use Rattle.std.specs.Cmp.Lexicographic.{slice_cmp};
 ghost use Rattle.std.specs.Str.{bytes_eq};
 ghost use Rattle.spl_circuit.specs.Nodes.{NodeId as Id};
 ghost use Rattle.spl_model.specs.Worlds.{site_at};
 ghost use Rattle.spl_node.specs.Hosts.{HostStands, is_up};
-ghost use Rattle.spl_rules.specs.Cells.{Empty, is_open_cell};
+ghost use Rattle.spl_rules.specs.Cells.{is_bound, is_open_cell};
+ghost use Rattle.spl_rules.specs.Changes.{stopped_cell};
 ghost use Rattle.spl_rules.specs.Plans.{plan_of};
 ghost use Rattle.spl_rules.specs.Valid.{IsFor};
-ghost use Rattle.spl_world.specs.Disks.{AreBlank, HasRisen, Images, PairGoesOn, images_of, pair_view};
+ghost use Rattle.spl_world.specs.Disks.{AreBlank, BothPicked, HasRisen, Images, PairGoesOn, images_of, pair_view};
 ghost use Rattle.spl_world.specs.Kept.{IsDone, AllBelong, place_of, lists_about, sent_to};
 ghost use Rattle.spl_world.specs.Views.{IsFresh, node_view, slot_id, slot_up};
 
 use crate::fault::{WorldFault, journal_fault};
 use crate::posts::Posts;
-use spl_base::{CircuitId, NodeId};
+use spl_base::{CircuitId, Listing, NodeId};
 use spl_edge::{Pair, StopDisk};
 use spl_node::{Host, Outcome};
 use spl_wire::{Answer, Event, Message};
-use std::alloc::Global;
+use std::alloc::{AllocError, Global};
 
 /// A node of the world: its host, the position of its disks among the pairs, and what it ever sent.
 #[derive(Drop)]
@@ -43,6 +48,7 @@ impl Slot {
         ensures stands { IfOk result (λ s. HostStands s.host (D.image_at disks.new.first (D.moment disks.new.first)) (D.image_at disks.new.second (D.moment disks.new.second))) }
         ensures onward { PairGoesOn (pair_view D.image_at D.moment D.faults D.armed D.picks disks.old) (pair_view D.image_at D.moment D.faults D.armed D.picks disks.new) }
         ensures failed { (slot : ℕ) → IsErrOf result (WorldFault.Disk slot) → (slot ≡ position) × HasRisen (pair_view D.image_at D.moment D.faults D.armed D.picks disks.old) (pair_view D.image_at D.moment D.faults D.armed D.picks disks.new) }
+        ensures few { (which : ℕ) → IsErrOf result (WorldFault.TooMany which) → ⊥ }
     {
         match Host::new(alloc, id, disks) {
             Ok(host) => Ok(Slot {
@@ -113,6 +119,59 @@ impl Slot {
             }
             Err(fault) => Err(journal_fault(fault, self.position)),
         }
+    }
+
+    /// The node comes up, with the cells that it had. One that is up stays so.
+    pub fn start<D: StopDisk>(
+        &mut self,
+        alloc: Global,
+        disks: &mut Pair<D>,
+    ) -> Result<(), WorldFault>
+        requires stands { HostStands self.old.host (D.image_at disks.old.first (D.moment disks.old.first)) (D.image_at disks.old.second (D.moment disks.old.second)) }
+        ensures id { slot_id self.new ≡ slot_id self.old }
+        ensures position { self.new.position ≡ self.old.position }
+        ensures posts { self.new.posts ≡ self.old.posts }
+        ensures up { OnOk result (slot_up self.new ≡ true) }
+        ensures cells { OnOk result ((c : Id) → (node_view self.new (images_of D.image_at D.moment disks.new)).cells c ≡ (node_view self.old (images_of D.image_at D.moment disks.old)).cells c) }
+        ensures stands { OnOk result (HostStands self.new.host (D.image_at disks.new.first (D.moment disks.new.first)) (D.image_at disks.new.second (D.moment disks.new.second))) }
+        ensures onward { PairGoesOn (pair_view D.image_at D.moment D.faults D.armed D.picks disks.old) (pair_view D.image_at D.moment D.faults D.armed D.picks disks.new) }
+        ensures failed { (slot : ℕ) → IsErrOf result (WorldFault.Disk slot) → (slot ≡ self.old.position) × HasRisen (pair_view D.image_at D.moment D.faults D.armed D.picks disks.old) (pair_view D.image_at D.moment D.faults D.armed D.picks disks.new) }
+        ensures few { (which : ℕ) → IsErrOf result (WorldFault.TooMany which) → ⊥ }
+    {
+        match self.host.start(alloc, disks) {
+            Ok(()) => Ok(()),
+            Err(fault) => Err(journal_fault(fault, self.position)),
+        }
+    }
+
+    /// The node goes down: it forgets its open rounds, and each of its disks keeps what it had at
+    /// its last sync. One that is down stays so.
+    pub fn stop<D: StopDisk>(
+        &mut self,
+        alloc: Global,
+        disks: &mut Pair<D>,
+    ) -> Result<(), AllocError>
+        requires stands { HostStands self.old.host (D.image_at disks.old.first (D.moment disks.old.first)) (D.image_at disks.old.second (D.moment disks.old.second)) }
+        ensures id { slot_id self.new ≡ slot_id self.old }
+        ensures position { self.new.position ≡ self.old.position }
+        ensures posts { self.new.posts ≡ self.old.posts }
+        ensures down { OnOk result (slot_up self.new ≡ false) }
+        ensures stopped { OnOk result (slot_up self.old ≡ true → (c : Id) → (node_view self.new (images_of D.image_at D.moment disks.new)).cells c ≡ stopped_cell ((node_view self.old (images_of D.image_at D.moment disks.old)).cells c)) }
+        ensures same { slot_up self.old ≡ false → (c : Id) → (node_view self.new (images_of D.image_at D.moment disks.new)).cells c ≡ (node_view self.old (images_of D.image_at D.moment disks.old)).cells c }
+        ensures none { slot_up self.old ≡ false → disks.new ≡ disks.old }
+        ensures stands { OnOk result (HostStands self.new.host (D.image_at disks.new.first (D.moment disks.new.first)) (D.image_at disks.new.second (D.moment disks.new.second))) }
+        ensures picks { OnOk result (slot_up self.old ≡ true → BothPicked (slot_id self.old) (node_view self.old (images_of D.image_at D.moment disks.old)).cells (pair_view D.image_at D.moment D.faults D.armed D.picks disks.old) (pair_view D.image_at D.moment D.faults D.armed D.picks disks.new)) }
+    {
+        self.host.stop(alloc, disks)
+    }
+
+    /// The ids of the circuits that are bound there, in order.
+    pub fn roll(&self, alloc: Global) -> Result<Listing<CircuitId>, AllocError>
+        requires { slot_up self.now ≡ true }
+        ensures sorted { IfOk result (λ ids. IsStrictlySortedBy (slice_cmp nat_cmp) ids) }
+        ensures bound { IfOk result (λ ids. (is : Images) (c : Id) → list_any (bytes_eq c) ids ≡ is_bound ((node_view self.now is).cells c)) }
+    {
+        self.host.roll(alloc)
     }
 
     /// How many messages about a circuit were sent to a node.

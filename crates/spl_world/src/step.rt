@@ -5,10 +5,10 @@ ghost use Rattle.spl_circuit.specs.Nodes.{has_node};
 ghost use Rattle.spl_model.specs.Projection.{Ran};
 ghost use Rattle.spl_model.specs.Outcomes.{by_rule};
 ghost use Rattle.spl_sched.specs.Grammar.{nodes_of, step_nodes, step_circuit, is_line, is_step};
-ghost use Rattle.spl_sched.specs.Taken.{is_taken};
 ghost use Rattle.spl_model.specs.Worlds.{World as CircuitWorld, step_plan, step_world};
 ghost use Rattle.spl_model.specs.Answers.{answer_to};
 ghost use Rattle.spl_model.specs.Counts.{events_of};
+ghost use Rattle.spl_world.specs.Lines.{steps};
 ghost use Rattle.spl_world.specs.Disks.{LeavesDisks, bench, images};
 ghost use Rattle.spl_world.specs.Views.{Holds, Moves, Sits, Stands, Stays, places_of, ids_of, is_halted, seen};
 
@@ -70,7 +70,7 @@ impl World {
         }
     }
 
-    /// Runs a line and answers it. `before` are the lines that ran so far. `TooMany` comes exactly
+    /// Runs a line that stops no node, and answers it. `before` are the lines that ran so far. `TooMany` comes exactly
     /// where the events of these lines and of this one are more than `MOST_EVENTS`, and is about
     /// them; `Disk` only where a disk of that node failed more often. Any other error is want of
     /// memory. After an error the world is halted.
@@ -83,7 +83,7 @@ impl World {
         requires running { is_halted self.old ≡ false }
         requires known { IsTrue (list_all (has_node (ids_of self.old)) (nodes_of line.now)) }
         requires fits { IsTrue (is_line line.now) }
-        requires taken { is_taken line.now ≡ true }
+        requires steps { steps line.now ≡ true }
         requires sits { Sits (seen D.image_at D.moment self.old pairs.old.items) }
         ensures ids { ids_of self.new ≡ ids_of self.old }
         ensures places { places_of self.new ≡ places_of self.old }
@@ -115,7 +115,7 @@ impl World {
     ) -> Result<Answer, WorldFault>
         requires known { IsTrue (list_all (has_node (ids_of self.old)) (nodes_of line.now)) }
         requires fits { IsTrue (is_line line.now) }
-        requires taken { is_taken line.now ≡ true }
+        requires steps { steps line.now ≡ true }
         requires sits { Sits (seen D.image_at D.moment self.old pairs.old.items) }
         ensures ids { ids_of self.new ≡ ids_of self.old }
         ensures places { places_of self.new ≡ places_of self.old }
@@ -135,6 +135,17 @@ impl World {
             Line::Calm { circuit, passes } => {
                 self.calm(alloc, pairs, *circuit, *passes)?;
                 Ok(Answer::Calm { passes: *passes })
+            }
+            Line::Start(node) => {
+                self.events.add(1)?;
+                let slot = self.slot(node);
+                self.start_at(alloc, pairs, slot)?;
+                Ok(Answer::Power { up: true })
+            }
+            Line::Roll(node) => {
+                self.events.add(1)?;
+                let slot = self.slot(node);
+                Ok(self.roll_at(alloc, slot)?)
             }
             _ => unreachable!(),
         }

@@ -1,4 +1,4 @@
-use Rattle.std.proofs.Common.{refl, length, arith}
+use Rattle.std.proofs.Common.{◌≡◌, ◌+◌, ◌∙◌, false, sym, refl, length, arith}
 use Rattle.spl_sched.specs.declared.line.Line.TheVariants as line
 use Rattle.spl_sched.specs.Grammar.{step_circuit}
 use Rattle.spl_model.specs.Calm.{calm}
@@ -7,8 +7,9 @@ use Rattle.spl_world.specs.Disks.{images}
 use Rattle.spl_world.specs.Views.{ids_of, seen}
 use Rattle.spl_world.proofs.Counting.{counts_failed, at_least}
 use Rattle.spl_world.proofs.Leaving.{all_itself, leaves_failed, leaves_limit, leaves_ok}
+use Rattle.spl_world.proofs.Powering.{stands_start, stands_roll}
 use Rattle.spl_world.proofs.Results.{ok_both}
-use Rattle.spl_world.proofs.Standing.{stands_after, counted_line, over_line, step_result, calm_answered}
+use Rattle.spl_world.proofs.Standing.{stands_after, counted_line, over_line, step_result, calm_answered, power_answered}
 use Rattle.spl_world.proofs.Staying.{stays_refused}
 use Rattle.spl_world.proofs.world.World.run_line.Goals as goal
 
@@ -66,3 +67,47 @@ returns-in_err-calm-in-Calm-clause-disks g c = leaves_failed c.from_residual-in_
 
 pub returns-in_ok-calm-in-Calm-clause-disks : goal.returns-in_ok-calm-in-Calm-clause-disks
 returns-in_ok-calm-in-Calm-clause-disks g c = leaves_ok _ _ _ c.in_ok-calm-in-Calm.ensures.disks.onward
+
+-- ---- a start
+
+pub returns-in_ok-start_at-in-Start-clause-answer : goal.returns-in_ok-start_at-in-Start-clause-answer
+returns-in_ok-start_at-in-Start-clause-answer g c = λ before stands.
+    rw (c.in-Start.is) (sym (power_answered (ids_of c.args.self.now) before (line.Start c.in-Start.node) stands.fit (rw (c.in-Start.is) at c.requires.fits)))
+
+pub returns-in_ok-start_at-in-Start-clause-stands : goal.returns-in_ok-start_at-in-Start-clause-stands
+returns-in_ok-start_at-in-Start-clause-stands g c = λ before stands.
+    let n = c.in-Start.node in
+    let one : c.start_at.new.self.events ≡ c.args.self.now.events + 1 = omega (arith, c.start_at.ensures.events, c.in_ok-add-in-Start.ensures.counts.ok) in
+    let same : c.start_at.new.self.stops ≡ c.args.self.now.stops + 0 = omega (arith, c.start_at.ensures.stops) in
+    rw (c.in-Start.is) (stands_start before c.args.self.now c.start_at.new.self (images g.D.Disk.image_at g.D.Disk.moment c.args.pairs.now.items) (images g.D.Disk.image_at g.D.Disk.moment c.start_at.new.pairs.items) c.start_at.ensures.ids one 0 same stands c.in_ok-start_at-in-Start.ensures.sits n false (rw (c.in-Start.is) at c.requires.fits) refl
+    (λ k m h. c.in_ok-start_at-in-Start.ensures.holds k n m c.slot-slot.ensures.at h))
+
+pub returns-in_err-add-in-Start-clause-many : goal.returns-in_err-add-in-Start-clause-many
+returns-in_err-add-in-Start-clause-many g c = λ before which stands q.
+    let l = line.Start c.in-Start.node in
+    rw (c.in-Start.is) (over_line c.from_residual-in_err-add-in-Start.result 0 which c.args.self.now (images g.D.Disk.image_at g.D.Disk.moment c.args.pairs.now.items) before l 1 stands (rw (c.in-Start.is) at c.requires.fits) refl (counts_failed c.from_residual-in_err-add-in-Start.result _ c.from_residual-in_err-add-in-Start.ensures c.args.self.now.events _ 0 0 1 1 c.in_err-add-in-Start.ensures.counts (at_least 1 1 refl)) q)
+
+pub returns-in_err-add-in-Start-clause-disks : goal.returns-in_err-add-in-Start-clause-disks
+returns-in_err-add-in-Start-clause-disks g c = leaves_limit c.from_residual-in_err-add-in-Start.result _ 1 c.from_residual-in_err-add-in-Start.ensures c.in_err-add-in-Start.ensures.fault _ _ (all_itself _)
+
+pub returns-in_ok-start_at-in-Start-clause-disks : goal.returns-in_ok-start_at-in-Start-clause-disks
+returns-in_ok-start_at-in-Start-clause-disks g c = leaves_ok _ _ _ c.in_ok-start_at-in-Start.ensures.disks.onward
+
+-- ---- a roll
+
+pub returns-in_ok-roll_at-in-Roll-clause-answer : goal.returns-in_ok-roll_at-in-Roll-clause-answer
+returns-in_ok-roll_at-in-Roll-clause-answer g c = λ before stands.
+    let fits = rw (c.in-Roll.is) at c.requires.fits in
+    rw (c.in-Roll.is) (c.in_ok-roll_at-in-Roll.ensures (images g.D.Disk.image_at g.D.Disk.moment c.args.pairs.now.items) before c.in-Roll.node fits stands.fit stands.each c.slot-slot-in-Roll.ensures.at ∙ sym (power_answered (ids_of c.args.self.now) before (line.Roll c.in-Roll.node) stands.fit fits))
+
+pub returns-in_ok-roll_at-in-Roll-clause-stands : goal.returns-in_ok-roll_at-in-Roll-clause-stands
+returns-in_ok-roll_at-in-Roll-clause-stands g c = λ before stands.
+    let n = c.in-Roll.node in
+    let one : c.add-in-Roll.new.self ≡ c.args.self.now.events + 1 = omega (arith, c.in_ok-add-in-Roll.ensures.counts.ok) in
+    let same : c.args.self.now.stops ≡ c.args.self.now.stops + 0 = omega arith in
+    rw (c.in-Roll.is) (stands_roll before c.args.self.now (record c.args.self.now { events = c.add-in-Roll.new.self }) (images g.D.Disk.image_at g.D.Disk.moment c.args.pairs.now.items) (images g.D.Disk.image_at g.D.Disk.moment c.args.pairs.now.items) refl one 0 same stands stands.sits n false (rw (c.in-Roll.is) at c.requires.fits) refl (λ k m h. h))
+
+pub returns-in_err-add-in-Roll-clause-many : goal.returns-in_err-add-in-Roll-clause-many
+returns-in_err-add-in-Roll-clause-many g c = λ before which stands q.
+    let l = line.Roll c.in-Roll.node in
+    rw (c.in-Roll.is) (over_line c.from_residual-in_err-add-in-Roll.result 0 which c.args.self.now (images g.D.Disk.image_at g.D.Disk.moment c.args.pairs.now.items) before l 1 stands (rw (c.in-Roll.is) at c.requires.fits) refl (counts_failed c.from_residual-in_err-add-in-Roll.result _ c.from_residual-in_err-add-in-Roll.ensures c.args.self.now.events _ 0 0 1 1 c.in_err-add-in-Roll.ensures.counts (at_least 1 1 refl)) q)
