@@ -1,4 +1,4 @@
--- How many events the lines of a schedule have (docs/RULES.md, Limits).
+-- How many events and stops the lines of a schedule have (docs/RULES.md, Limits).
 use Rattle.std.specs.Prelude.{ℕ, ◌+◌, List, [], ◌∷◌, ◌++◌, length}
 use Rattle.spl_circuit.specs.Nodes.{NodeId, CircuitId}
 use Rattle.spl_sched.specs.declared.line.Line.{Line}
@@ -21,3 +21,15 @@ events_behind ns before (r ∷ rs) = line_events (λ c. world_before ns c before
 -- the events of all lines that ran
 unfoldable pub events_of : List NodeId → List Ran → ℕ
 events_of ns rs = events_behind ns [] rs
+
+-- a line that stops a node counts, in whatever state the node is
+abbrev pub line_stops : Line → ℕ
+line_stops (line.Stop n) = 1
+line_stops (line.Cut calls f s) = 1
+line_stops (line.Fail call s) = 1
+line_stops _ = 0
+
+-- the stops of all lines that ran
+abbrev pub stops_of : List Ran → ℕ
+stops_of [] = 0
+stops_of (r ∷ rs) = line_stops r.line + stops_of rs

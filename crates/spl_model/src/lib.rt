@@ -18,6 +18,9 @@ ghost use Rattle.spl_model.specs.Answers.{line_answer, line_world};
 /// The most events that the lines of a run have (docs/RULES.md, Limits).
 pub const MOST_EVENTS: u32 = 32_768;
 
+/// The most lines of a run that stop a node (docs/RULES.md, Limits).
+pub const MOST_STOPS: u8 = 64;
+
 /// A line that is refused, whatever the refusal, leaves the world of its circuit as it was.
 pub fn refused_lines_change_nothing()
     ensures step { (w : World) (s : Step) (why : Refusal) → (step_plan w s).answer ≡ answer.Refused why → IsUnmoved w (step_world w s) }

@@ -1,8 +1,7 @@
 -- Counting, one call behind the other.
-use Rattle.std.proofs.Common.{◌≡◌, ℕ, ◌+◌, ◌-◌, ◌*◌, ◌<◌, ◌≤◌, suc, Result, Ok, Err, OnOk, refl, sym, ap, subst, ◌∙◌, arith, mul_comm}
+use Rattle.std.proofs.Common.{◌≡◌, ℕ, ◌+◌, ◌-◌, ◌*◌, ◌<◌, ◌≤◌, suc, Result, Ok, Err, refl, ap, subst, ◌∙◌, arith, mul_comm}
 use Rattle.std.specs.Prelude.{IsErr, IsErrOf}
 use Rattle.std.specs.Result.{IsErrAnd}
-use Rattle.spl_model.specs.declared.TheConstants.{MOST_EVENTS}
 use Rattle.spl_world.specs.declared.fault.WorldFault.{WorldFault}
 use Rattle.spl_world.specs.declared.fault.WorldFault.TheVariants.{TooMany, NoMemory}
 use Rattle.spl_world.specs.Counts.{Counts}
@@ -19,6 +18,11 @@ counts_none a e n = record { ok = refl; many = λ which q. cc }
 pub counts_memory : {A : Type 0} (r : Result A WorldFault) → IsErr r × IsErrAnd r (λ y. y ≡ NoMemory) → (old new before after : ℕ) → Counts r old new before after
 counts_memory (Ok a) h old new before after = absurd h.1
 counts_memory (Err y) h old new before after = record { ok = tt; many = λ which q. let same : y ≡ NoMemory = h.1 in cc }
+
+-- an error that isn't about a limit counts for nothing
+pub counts_other : {A B : Type 0} (r : Result B WorldFault) (f : WorldFault) → IsErr r × IsErrAnd r (λ y. y ≡ f) → ((which : ℕ) → IsErrOf (failed A f) (TooMany which) → ⊥) → (old new before after : ℕ) → Counts r old new before after
+counts_other (Ok b) f e few old new before after = absurd e.1
+counts_other {A} (Err y) f e few old new before after = record { ok = tt; many = λ which q. let is : y ≡ f = e.1 in let same : f ≡ TooMany which = cc in absurd (few which (ap (failed A) same)) }
 
 -- a call that succeeded and counted
 pub counts_done : {A : Type 0} (a : A) (old new before after : ℕ) → new + before ≡ old + after → Counts (Ok a) old new before after

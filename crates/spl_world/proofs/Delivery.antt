@@ -15,8 +15,7 @@ use Rattle.spl_rules.specs.Plans.{plan_of, tells_only}
 use Rattle.spl_rules.specs.Changes.{after_plan}
 use Rattle.spl_model.specs.Worlds.{site_at, World as CircuitWorld, Sent, messages, delivery, on_pair, put_at, carried_out, step_plan, step_world}
 use Rattle.spl_model.specs.Puts.{put_at-here, put_at-other}
-use Rattle.spl_world.specs.Kept.{NodeView}
-use Rattle.spl_world.specs.Views.{Holds, Moves}
+use Rattle.spl_world.specs.Views.{Nodes, Holds, Moves, slot_id}
 use Rattle.spl_world.proofs.Up.{step_up, world_down}
 use Rattle.spl_world.proofs.Sends.{bool_cases, bytes_are}
 
@@ -30,7 +29,7 @@ pub no_delivery : (m : CircuitWorld) (c : CircuitId) (a b : NodeId) (index : ℕ
 no_delivery m c a b index found up = step_up m (step.Deliver a b c (index + 1)) up ∙ ap (λ (k : ℕ). delivery c m a b (slice_get (messages m a b) k)) (number index) ∙ ap (delivery c m a b) found
 
 -- the same by other words
-pub moves_as : (c : CircuitId) (f g : CircuitWorld → CircuitWorld) (xs ys : List NodeView) → ((m : CircuitWorld) → Holds c m xs → f m ≡ g m) → Moves c f xs ys → Moves c g xs ys
+pub moves_as : (c : CircuitId) (f g : CircuitWorld → CircuitWorld) (xs ys : Nodes) → ((m : CircuitWorld) → Holds c m xs → f m ≡ g m) → Moves c f xs ys → Moves c g xs ys
 moves_as c f g xs ys same mv = record {
   own = λ m h. subst (λ (k : CircuitWorld). Holds c k ys) (same m h) (mv.own m h);
   others = mv.others;
@@ -53,19 +52,19 @@ quiet_at m n z a = go (bool_cases (bytes_eq z n))
     go (inl q) = put_at-here m.at n z (after_plan n (m.at n) (tells_only a)) q ∙ quiet n (m.at n) a ∙ ap m.at (sym (bytes_are z n q))
     go (inr q) = put_at-other m.at n z (after_plan n (m.at n) (tells_only a)) q
 
-pub quiet_holds : (c : CircuitId) (n : NodeId) (m : CircuitWorld) (a : Answer) (xs : List NodeView) → Holds c m xs → Holds c (carried_out m n (tells_only a)) xs
+pub quiet_holds : (c : CircuitId) (n : NodeId) (m : CircuitWorld) (a : Answer) (xs : Nodes) → Holds c m xs → Holds c (carried_out m n (tells_only a)) xs
 quiet_holds c n m a xs h = record {
   ordered = h.ordered;
   nodes = h.nodes;
   each = λ i x there. let stood = h.each i x there in record {
     up = stood.up;
-    state = stood.state ∙ sym (quiet_at m n x.id a);
-    sent = λ b known. stood.sent b known ∙ ap (on_pair x.id b) (sym (append_nothing m.sent));
+    state = stood.state ∙ sym (quiet_at m n (slot_id x) a);
+    sent = λ b known. stood.sent b known ∙ ap (on_pair (slot_id x) b) (sym (append_nothing m.sent));
   };
 }
 
 -- so a step at a node that is down
-pub down_moves : (c : CircuitId) (s : Step) (xs : List NodeView) → ((m : CircuitWorld) → Holds c m xs → m.up (step_node s) ≡ false) → Moves c (λ m. step_world m s) xs xs
+pub down_moves : (c : CircuitId) (s : Step) (xs : Nodes) → ((m : CircuitWorld) → Holds c m xs → m.up (step_node s) ≡ false) → Moves c (λ m. step_world m s) xs xs
 down_moves c s xs down = record {
   own = λ m h. subst (λ (w : CircuitWorld). Holds c w xs) (sym (world_down m s (down m h))) (quiet_holds c (step_node s) m (answer.Refused refusal.Down) xs h);
   others = λ d m off h. h;

@@ -4,12 +4,16 @@ mod Composed
 mod Counting
 mod Delivery
 mod Entries
-mod Fresh
+mod Made
 mod Moving
-mod Places
+mod Handling
+pub mod Leaving
+mod Pairing
+mod Posting
 mod Quieting
 mod Reading
 mod Results
+mod Rolling
 mod Sends
 mod Slots
 mod Standing

@@ -13,9 +13,12 @@ use Rattle.spl_rules.specs.Changes.{after_plan}
 use Rattle.spl_model.specs.Worlds.{site_at, World as CircuitWorld, Sent, on_pair, posted, carried_out}
 use Rattle.spl_model.specs.Puts.{put_at-here, put_at-other}
 use Rattle.spl_world.specs.Kept.{NodeView, PlaceView, IsDone, place_of, sent_to, sends_to}
-use Rattle.spl_world.specs.Views.{Holds, IsAs, Moves, ids_in}
+use Rattle.spl_world.specs.Disks.{Images}
+use Rattle.spl_world.specs.Views.{Nodes, Holds, IsAs, Moves, Sits, node_view, slot_id, slot_ids, slot_up, view_in}
+use Rattle.spl_world.specs.declared.slot.Slot.{Slot}
 use Rattle.spl_world.proofs.About.{same_itself}
 use Rattle.spl_world.proofs.Sends.{bool_cases, bytes_are}
+use Rattle.spl_world.proofs.Pairing.{changed, view_else, view_here}
 use Rattle.spl_world.proofs.Slots.{same_at, id_at, same_ids, set_cases, apart}
 
 -- ---- what is posted
@@ -80,45 +83,54 @@ same_as d m x y same ups there stood = record {
 
 -- ---- all nodes
 
-module _ (xs : List NodeView) (i : ℕ) (x y : NodeView) (there : slice_get xs i ≡ Some x) (same : y.id ≡ x.id) (ups : y.up ≡ x.up) where
-  own_each : (c : CircuitId) (m : CircuitWorld) (n : NodeId) (p : Plan) → Holds c m xs → x.id ≡ n → IsDone n p (place_of x c) (place_of y c) → (j : ℕ) (z : NodeView) → ((j ≡ i) × (y ≡ z)) ⊎ ((j ≡ i → ⊥) × (slice_get xs j ≡ Some z)) → IsAs c (carried_out m n p) z
-  own_each c m n p h here done j z (inl q) = subst (λ (u : NodeView). IsAs c (carried_out m n p) u) q.1 (own_as c m x y n p here same ups (h.each i x there) done)
-  own_each c m n p h here done j z (inr q) =
-      let off : bytes_eq z.id x.id ≡ false = apart (ids_in xs) i j x.id z.id h.ordered (id_at xs i x there) (id_at xs j z q.1) q.0 in
-      let back : bytes_eq x.id z.id ≡ false = apart (ids_in xs) j i z.id x.id h.ordered (id_at xs j z q.1) (id_at xs i x there) (λ e. q.0 (sym e)) in
-      else_as c m z n p (ap (λ (k : NodeId). bytes_eq z.id k) (sym here) ∙ off) (ap (λ (k : NodeId). bytes_eq k z.id) (sym here) ∙ back) (h.each j z q.1)
+module _ (xs : Nodes) (i : ℕ) (x y : Slot) (q : Images) (sits : Sits xs) (there : slice_get xs.slots i ≡ Some x) (place : y.position ≡ x.position) (same : slot_id y ≡ slot_id x) (ups : slot_up y ≡ slot_up x) where
+  ids : slot_ids (slice_set xs.slots i y) ≡ slot_ids xs.slots
+  ids = same_ids xs.slots i x y there same
 
-  others_each : (d : CircuitId) (m : CircuitWorld) → Holds d m xs → place_of y d ≡ place_of x d → (j : ℕ) (z : NodeView) → ((j ≡ i) × (y ≡ z)) ⊎ ((j ≡ i → ⊥) × (slice_get xs j ≡ Some z)) → IsAs d m z
-  others_each d m h kept j z (inl q) = subst (λ (u : NodeView). IsAs d m u) q.1 (same_as d m x y same ups kept (h.each i x there))
-  others_each d m h kept j z (inr q) = h.each j z q.1
+  else_each : (P : NodeView → Type 0) (j : ℕ) (z : Slot) → (j ≡ i → ⊥) → slice_get xs.slots j ≡ Some z → P (view_in xs z) → P (view_in (changed xs i x y q) z)
+  else_each P j z ne at h = subst P (sym (view_else xs i j x y z q sits there at ne)) h
 
-  pub own_holds : (c : CircuitId) (m : CircuitWorld) (n : NodeId) (p : Plan) → Holds c m xs → x.id ≡ n → IsDone n p (place_of x c) (place_of y c) → Holds c (carried_out m n p) (slice_set xs i y)
+  own_each : (c : CircuitId) (m : CircuitWorld) (n : NodeId) (p : Plan) → Holds c m xs → slot_id x ≡ n → IsDone n p (place_of (view_in xs x) c) (place_of (node_view y q) c) → (j : ℕ) (z : Slot) → ((j ≡ i) × (y ≡ z)) ⊎ ((j ≡ i → ⊥) × (slice_get xs.slots j ≡ Some z)) → IsAs c (carried_out m n p) (view_in (changed xs i x y q) z)
+  own_each c m n p h here done j z (inl e) = subst (λ (u : Slot). IsAs c (carried_out m n p) (view_in (changed xs i x y q) u)) e.1
+      (subst (λ (v : NodeView). IsAs c (carried_out m n p) v) (sym (view_here xs i x y q sits there place)) (own_as c m (view_in xs x) (node_view y q) n p here same ups (h.each i x there) done))
+  own_each c m n p h here done j z (inr e) =
+      let off : bytes_eq (slot_id z) (slot_id x) ≡ false = apart (slot_ids xs.slots) i j (slot_id x) (slot_id z) h.ordered (id_at xs.slots i x there) (id_at xs.slots j z e.1) e.0 in
+      let back : bytes_eq (slot_id x) (slot_id z) ≡ false = apart (slot_ids xs.slots) j i (slot_id z) (slot_id x) h.ordered (id_at xs.slots j z e.1) (id_at xs.slots i x there) (λ f. e.0 (sym f)) in
+      else_each (IsAs c (carried_out m n p)) j z e.0 e.1
+      (else_as c m (view_in xs z) n p (ap (λ (k : NodeId). bytes_eq (slot_id z) k) (sym here) ∙ off) (ap (λ (k : NodeId). bytes_eq k (slot_id z)) (sym here) ∙ back) (h.each j z e.1))
+
+  others_each : (d : CircuitId) (m : CircuitWorld) → Holds d m xs → place_of (node_view y q) d ≡ place_of (view_in xs x) d → (j : ℕ) (z : Slot) → ((j ≡ i) × (y ≡ z)) ⊎ ((j ≡ i → ⊥) × (slice_get xs.slots j ≡ Some z)) → IsAs d m (view_in (changed xs i x y q) z)
+  others_each d m h kept j z (inl e) = subst (λ (u : Slot). IsAs d m (view_in (changed xs i x y q) u)) e.1
+      (subst (λ (v : NodeView). IsAs d m v) (sym (view_here xs i x y q sits there place)) (same_as d m (view_in xs x) (node_view y q) same ups kept (h.each i x there)))
+  others_each d m h kept j z (inr e) = else_each (IsAs d m) j z e.0 e.1 (h.each j z e.1)
+
+  pub own_holds : (c : CircuitId) (m : CircuitWorld) (n : NodeId) (p : Plan) → Holds c m xs → slot_id x ≡ n → IsDone n p (place_of (view_in xs x) c) (place_of (node_view y q) c) → Holds c (carried_out m n p) (changed xs i x y q)
   own_holds c m n p h here done = record {
-    ordered = ap ascends (same_ids xs i x y there same) ∙ h.ordered;
-    nodes = h.nodes ∙ sym (same_ids xs i x y there same);
-    each = λ j z e. own_each c m n p h here done j z (set_cases xs i j y z e);
+    ordered = ap ascends ids ∙ h.ordered;
+    nodes = h.nodes ∙ sym ids;
+    each = λ j z e. own_each c m n p h here done j z (set_cases xs.slots i j y z e);
   }
 
-  pub others_hold : (d : CircuitId) (m : CircuitWorld) → Holds d m xs → place_of y d ≡ place_of x d → Holds d m (slice_set xs i y)
+  pub others_hold : (d : CircuitId) (m : CircuitWorld) → Holds d m xs → place_of (node_view y q) d ≡ place_of (view_in xs x) d → Holds d m (changed xs i x y q)
   others_hold d m h kept = record {
-    ordered = ap ascends (same_ids xs i x y there same) ∙ h.ordered;
-    nodes = h.nodes ∙ sym (same_ids xs i x y there same);
-    each = λ j z e. others_each d m h kept j z (set_cases xs i j y z e);
+    ordered = ap ascends ids ∙ h.ordered;
+    nodes = h.nodes ∙ sym ids;
+    each = λ j z e. others_each d m h kept j z (set_cases xs.slots i j y z e);
   }
 
 -- the plan of an event at a node
-pub same_plan : (xs : List NodeView) (i : ℕ) (x : NodeView) (c : CircuitId) (n : NodeId) (e : Event) (m : CircuitWorld) → slice_get xs i ≡ Some x → slice_get (ids_in xs) i ≡ Some n → Holds c m xs → plan_of (site_at x.id c) (place_of x c).state e ≡ plan_of (site_at n c) (m.at n) e
-same_plan xs i x c n e m there at h = ap (λ (k : Cell). plan_of (site_at x.id c) k e) ((h.each i x there).state) ∙ ap (λ (k : NodeId). plan_of (site_at k c) (m.at k) e) (same_at xs i x n there at)
+pub same_plan : (xs : Nodes) (i : ℕ) (x : Slot) (c : CircuitId) (n : NodeId) (e : Event) (m : CircuitWorld) → slice_get xs.slots i ≡ Some x → slice_get (slot_ids xs.slots) i ≡ Some n → Holds c m xs → plan_of (site_at (slot_id x) c) ((view_in xs x).cells c) e ≡ plan_of (site_at n c) (m.at n) e
+same_plan xs i x c n e m there at h = ap (λ (k : Cell). plan_of (site_at (slot_id x) c) k e) ((h.each i x there).state) ∙ ap (λ (k : NodeId). plan_of (site_at k c) (m.at k) e) (same_at xs.slots i x n there at)
 
 -- an event at a node
-pub event_moves : (xs : List NodeView) (i : ℕ) (x y : NodeView) (c : CircuitId) (n : NodeId) (e : Event) → slice_get xs i ≡ Some x → y.id ≡ x.id → y.up ≡ x.up → slice_get (ids_in xs) i ≡ Some n
-    → IsDone x.id (plan_of (site_at x.id c) (place_of x c).state e) (place_of x c) (place_of y c) → ((d : CircuitId) → bytes_eq c d ≡ false → place_of y d ≡ place_of x d)
-    → Moves c (λ m. carried_out m n (plan_of (site_at n c) (m.at n) e)) xs (slice_set xs i y)
-event_moves xs i x y c n e there same ups at done others = record {
+pub event_moves : (xs : Nodes) (i : ℕ) (x y : Slot) (q : Images) (c : CircuitId) (n : NodeId) (e : Event) → Sits xs → slice_get xs.slots i ≡ Some x → y.position ≡ x.position → slot_id y ≡ slot_id x → slot_up y ≡ slot_up x → slice_get (slot_ids xs.slots) i ≡ Some n
+    → IsDone (slot_id x) (plan_of (site_at (slot_id x) c) ((view_in xs x).cells c) e) (place_of (view_in xs x) c) (place_of (node_view y q) c) → ((d : CircuitId) → bytes_eq c d ≡ false → place_of (node_view y q) d ≡ place_of (view_in xs x) d)
+    → Moves c (λ m. carried_out m n (plan_of (site_at n c) (m.at n) e)) xs (changed xs i x y q)
+event_moves xs i x y q c n e sits there place same ups at done others = record {
   own = λ m h.
-      let here : x.id ≡ n = same_at xs i x n there at in
-      let plans : plan_of (site_at x.id c) (place_of x c).state e ≡ plan_of (site_at n c) (m.at n) e = same_plan xs i x c n e m there at h in
-      own_holds xs i x y there same ups c m n (plan_of (site_at n c) (m.at n) e) h here
-      (subst (λ (p : Plan). IsDone n p (place_of x c) (place_of y c)) plans (subst (λ (k : NodeId). IsDone k (plan_of (site_at x.id c) (place_of x c).state e) (place_of x c) (place_of y c)) here done));
-  others = λ d m off h. others_hold xs i x y there same ups d m h (others d off);
+      let here : slot_id x ≡ n = same_at xs.slots i x n there at in
+      let plans : plan_of (site_at (slot_id x) c) ((view_in xs x).cells c) e ≡ plan_of (site_at n c) (m.at n) e = same_plan xs i x c n e m there at h in
+      own_holds xs i x y q sits there place same ups c m n (plan_of (site_at n c) (m.at n) e) h here
+      (subst (λ (p : Plan). IsDone n p (place_of (view_in xs x) c) (place_of (node_view y q) c)) plans (subst (λ (k : NodeId). IsDone k (plan_of (site_at (slot_id x) c) ((view_in xs x).cells c) e) (place_of (view_in xs x) c) (place_of (node_view y q) c)) here done));
+  others = λ d m off h. others_hold xs i x y q sits there place same ups d m h (others d off);
 }

@@ -1,20 +1,18 @@
 -- A calm that stops behind a quiet pass, and counts the ticks of the passes that it leaves out.
-use Rattle.std.proofs.Common.{◌≡◌, ℕ, ◌+◌, ◌-◌, ◌*◌, ◌<◌, Result, List, length, ap, sym, subst, ◌∙◌, arith}
+use Rattle.std.proofs.Common.{◌≡◌, ℕ, ◌+◌, ◌-◌, ◌*◌, ◌<◌, Result, List, length, ap, sym, ◌∙◌, arith}
 use Rattle.spl_circuit.specs.Nodes.{NodeId, CircuitId, sorted}
-use Rattle.spl_circuit.specs.Rules.{ascends}
 use Rattle.spl_model.specs.Worlds.{World as CircuitWorld}
 use Rattle.spl_model.specs.Calm.{Calming, open_nodes, pass, passes, calming, calm}
 use Rattle.spl_model.specs.Quiet.{IsQuiet}
 use Rattle.spl_model.proofs.Quiet.{quiet-world, quiet-worlds, quiet-count}
 use Rattle.spl_world.specs.declared.fault.WorldFault.{WorldFault}
 use Rattle.spl_world.specs.Counts.{Counts}
-use Rattle.spl_world.specs.Kept.{NodeView}
-use Rattle.spl_world.specs.Views.{Holds, ids_in}
-use Rattle.spl_world.proofs.Calms.{passes_next, passes_split, sorted_already}
+use Rattle.spl_world.specs.Views.{Nodes, Holds, ids_in}
+use Rattle.spl_world.proofs.Calms.{passes_split, sorted_already}
 use Rattle.spl_world.proofs.Counting.{counts_more, counts_to, left_ticks}
 
 -- the calm of a world for which nodes stand
-pub calm_is : (c : CircuitId) (m : CircuitWorld) (xs : List NodeView) (k : ℕ) → Holds c m xs → passes c (ids_in xs) k (calming m) ≡ calm c m k
+pub calm_is : (c : CircuitId) (m : CircuitWorld) (xs : Nodes) (k : ℕ) → Holds c m xs → passes c (ids_in xs) k (calming m) ≡ calm c m k
 calm_is c m xs k h = sym (ap (λ (ns : List NodeId). passes c ns k (calming m)) (ap sorted h.nodes ∙ sorted_already (ids_in xs) h.ordered))
 
 module _ (c : CircuitId) (ids : List NodeId) (z : Calming) (done all : ℕ) (early : done < all) (quiet : IsQuiet c ids (passes c ids done z)) where

@@ -6,54 +6,59 @@ use Rattle.spl_base.specs.FormLaws.{both_true}
 use Rattle.spl_circuit.specs.Nodes.{NodeId, has_node, is_below}
 use Rattle.spl_circuit.specs.Rules.{ascends, ascends_after}
 use Rattle.spl_circuit.proofs.Order.{below_trans, not_below_itself}
-use Rattle.spl_world.specs.Kept.{NodeView}
-use Rattle.spl_world.specs.Views.{ids_in, has_id}
+use Rattle.spl_world.specs.Views.{slot_id, slot_ids, slot_places, has_id}
+use Rattle.spl_world.specs.declared.slot.Slot.{Slot}
 use Rattle.spl_world.proofs.Sends.{bool_cases, bytes_are}
 
-pub known_is_found : (xs : List NodeView) (n : NodeId) (k : ℕ) → has_node (ids_in xs) n ≡ true → IsSome (position_from (has_id n) k xs)
+pub known_is_found : (xs : List Slot) (n : NodeId) (k : ℕ) → has_node (slot_ids xs) n ≡ true → IsSome (position_from (has_id n) k xs)
 known_is_found [] n k h = cc
 known_is_found (x ∷ xs) n k h = go (bool_cases (has_id n x)) (known_is_found xs n (k + 1))
   where
-    go : (has_id n x ≡ true) ⊎ (has_id n x ≡ false) → (has_node (ids_in xs) n ≡ true → IsSome (position_from (has_id n) (k + 1) xs)) → IsSome (position_from (has_id n) k (x ∷ xs))
+    go : (has_id n x ≡ true) ⊎ (has_id n x ≡ false) → (has_node (slot_ids xs) n ≡ true → IsSome (position_from (has_id n) (k + 1) xs)) → IsSome (position_from (has_id n) k (x ∷ xs))
     go (inl q) more = rw q refl
     go (inr q) more = rw q (more (rw q at h))
 
-found_from : (xs : List NodeView) (n : NodeId) (k j : ℕ) → position_from (has_id n) k xs ≡ Some j → (i : ℕ) × (j ≡ k + i) × (slice_get (ids_in xs) i ≡ Some n)
+found_from : (xs : List Slot) (n : NodeId) (k j : ℕ) → position_from (has_id n) k xs ≡ Some j → (i : ℕ) × (j ≡ k + i) × (slice_get (slot_ids xs) i ≡ Some n)
 found_from [] n k j h = cc
 found_from (x ∷ xs) n k j h = go (bool_cases (has_id n x)) (found_from xs n (k + 1) j)
   where
-    later : (i : ℕ) × (j ≡ (k + 1) + i) × (slice_get (ids_in xs) i ≡ Some n) → (i : ℕ) × (j ≡ k + i) × (slice_get (ids_in (x ∷ xs)) i ≡ Some n)
+    later : (i : ℕ) × (j ≡ (k + 1) + i) × (slice_get (slot_ids xs) i ≡ Some n) → (i : ℕ) × (j ≡ k + i) × (slice_get (slot_ids (x ∷ xs)) i ≡ Some n)
     later r = let e : j ≡ k + suc r.0 = omega (arith, r.1) in (suc r.0, e, r.2)
 
-    go : (has_id n x ≡ true) ⊎ (has_id n x ≡ false) → (position_from (has_id n) (k + 1) xs ≡ Some j → (i : ℕ) × (j ≡ (k + 1) + i) × (slice_get (ids_in xs) i ≡ Some n)) → (i : ℕ) × (j ≡ k + i) × (slice_get (ids_in (x ∷ xs)) i ≡ Some n)
-    go (inl q) more = let here : Some k ≡ Some j = rw q at h in let same : k ≡ j = cc in let e : j ≡ k + 0 = omega (arith, same) in (0, e, ap Some (bytes_are x.id n q))
+    go : (has_id n x ≡ true) ⊎ (has_id n x ≡ false) → (position_from (has_id n) (k + 1) xs ≡ Some j → (i : ℕ) × (j ≡ (k + 1) + i) × (slice_get (slot_ids xs) i ≡ Some n)) → (i : ℕ) × (j ≡ k + i) × (slice_get (slot_ids (x ∷ xs)) i ≡ Some n)
+    go (inl q) more = let here : Some k ≡ Some j = rw q at h in let same : k ≡ j = cc in let e : j ≡ k + 0 = omega (arith, same) in (0, e, ap Some (bytes_are (slot_id x) n q))
     go (inr q) more = later (more (rw q at h))
 
-pub found_at : (xs : List NodeView) (n : NodeId) (j : ℕ) → position_from (has_id n) 0 xs ≡ Some j → slice_get (ids_in xs) j ≡ Some n
-found_at xs n j h = let r = found_from xs n 0 j h in let e : r.0 ≡ j = omega (arith, r.1) in subst (λ (i : ℕ). slice_get (ids_in xs) i ≡ Some n) e r.2
+pub found_at : (xs : List Slot) (n : NodeId) (j : ℕ) → position_from (has_id n) 0 xs ≡ Some j → slice_get (slot_ids xs) j ≡ Some n
+found_at xs n j h = let r = found_from xs n 0 j h in let e : r.0 ≡ j = omega (arith, r.1) in subst (λ (i : ℕ). slice_get (slot_ids xs) i ≡ Some n) e r.2
 
-pub length_ids : (xs : List NodeView) → length (ids_in xs) ≡ length xs
+pub length_ids : (xs : List Slot) → length (slot_ids xs) ≡ length xs
 length_ids [] = refl
 length_ids (x ∷ xs) = ap suc (length_ids xs)
 
-pub at_below : (xs : List NodeView) (i : ℕ) (n : NodeId) → slice_get (ids_in xs) i ≡ Some n → i < length xs
+pub at_below : (xs : List Slot) (i : ℕ) (n : NodeId) → slice_get (slot_ids xs) i ≡ Some n → i < length xs
 at_below [] i n h = absurd cc
 at_below (x ∷ xs) zero n h = omega arith
 at_below (x ∷ xs) (suc i) n h = let r : i < length xs = at_below xs i n h in omega (arith, r)
 
 -- the id of the node at an index
-pub id_at : (xs : List NodeView) (i : ℕ) (x : NodeView) → slice_get xs i ≡ Some x → slice_get (ids_in xs) i ≡ Some x.id
+pub id_at : (xs : List Slot) (i : ℕ) (x : Slot) → slice_get xs i ≡ Some x → slice_get (slot_ids xs) i ≡ Some (slot_id x)
 id_at [] i x h = absurd cc
-id_at (y ∷ xs) zero x h = let same : y ≡ x = cc in ap (λ (z : NodeView). Some z.id) same
+id_at (y ∷ xs) zero x h = let same : y ≡ x = cc in ap (λ (z : Slot). Some (slot_id z)) same
 id_at (y ∷ xs) (suc i) x h = id_at xs i x h
 
-pub same_at : (xs : List NodeView) (i : ℕ) (x : NodeView) (n : NodeId) → slice_get xs i ≡ Some x → slice_get (ids_in xs) i ≡ Some n → x.id ≡ n
-same_at xs i x n h e = let q : Some x.id ≡ Some n = sym (id_at xs i x h) ∙ e in cc
+pub same_at : (xs : List Slot) (i : ℕ) (x : Slot) (n : NodeId) → slice_get xs i ≡ Some x → slice_get (slot_ids xs) i ≡ Some n → slot_id x ≡ n
+same_at xs i x n h e = let q : Some (slot_id x) ≡ Some n = sym (id_at xs i x h) ∙ e in cc
 
-pub same_ids : (xs : List NodeView) (i : ℕ) (x y : NodeView) → slice_get xs i ≡ Some x → y.id ≡ x.id → ids_in (slice_set xs i y) ≡ ids_in xs
+pub same_ids : (xs : List Slot) (i : ℕ) (x y : Slot) → slice_get xs i ≡ Some x → slot_id y ≡ slot_id x → slot_ids (slice_set xs i y) ≡ slot_ids xs
 same_ids [] i x y e s = refl
-same_ids (z ∷ xs) zero x y e s = let same : z ≡ x = cc in let ids : y.id ≡ z.id = cc in ap (λ n. n ∷ ids_in xs) ids
-same_ids (z ∷ xs) (suc i) x y e s = ap (λ ns. z.id ∷ ns) (same_ids xs i x y e s)
+same_ids (z ∷ xs) zero x y e s = let same : z ≡ x = cc in let ids : slot_id y ≡ slot_id z = cc in ap (λ n. n ∷ slot_ids xs) ids
+same_ids (z ∷ xs) (suc i) x y e s = ap (λ ns. slot_id z ∷ ns) (same_ids xs i x y e s)
+
+pub same_places : (xs : List Slot) (i : ℕ) (x y : Slot) → slice_get xs i ≡ Some x → y.position ≡ x.position → slot_places (slice_set xs i y) ≡ slot_places xs
+same_places [] i x y e s = refl
+same_places (z ∷ xs) zero x y e s = let same : z ≡ x = cc in ap (λ n. n ∷ slot_places xs) (s ∙ ap (λ (u : Slot). u.position) (sym same))
+same_places (z ∷ xs) (suc i) x y e s = ap (λ ns. z.position ∷ ns) (same_places xs i x y e s)
 
 -- what stands at an index behind a write: what was written, or what stood there
 pub set_cases : {X : Type 0} (xs : List X) (i j : ℕ) (y z : X) → slice_get (slice_set xs i y) j ≡ Some z → ((j ≡ i) × (y ≡ z)) ⊎ ((j ≡ i → ⊥) × (slice_get xs j ≡ Some z))
@@ -114,12 +119,12 @@ plus_one i = omega arith
 pub take_one : {X : Type 0} (xs : List X) (i : ℕ) (x : X) → slice_get xs i ≡ Some x → take (i + 1) xs ≡ take i xs ++ x ∷ []
 take_one xs i x e = ap (λ (k : ℕ). take k xs) (plus_one i) ∙ take_suc xs i x e
 
-pub some_at : (xs : List NodeView) (i : ℕ) → i < length xs → (n : NodeId) × (slice_get (ids_in xs) i ≡ Some n)
+pub some_at : (xs : List Slot) (i : ℕ) → i < length xs → (n : NodeId) × (slice_get (slot_ids xs) i ≡ Some n)
 some_at [] i h = absurd (omega (arith, h))
-some_at (x ∷ xs) zero h = (x.id, refl)
+some_at (x ∷ xs) zero h = (slot_id x, refl)
 some_at (x ∷ xs) (suc i) h = let r : i < length xs = omega (arith, h) in some_at xs i r
 
-pub same_length : (xs ys : List NodeView) → ids_in ys ≡ ids_in xs → length ys ≡ length xs
+pub same_length : (xs ys : List Slot) → slot_ids ys ≡ slot_ids xs → length ys ≡ length xs
 same_length xs ys e = sym (length_ids ys) ∙ ap length e ∙ length_ids xs
 
 pub not_before : (ns : List NodeId) (i : ℕ) (n : NodeId) → ascends ns ≡ true → slice_get ns i ≡ Some n → has_node (take i ns) n ≡ false
@@ -131,3 +136,20 @@ pub set_length : {X : Type 0} (xs : List X) (i : ℕ) (y : X) → length (slice_
 set_length [] i y = refl
 set_length (x ∷ xs) zero y = refl
 set_length (x ∷ xs) (suc i) y = ap suc (set_length xs i y)
+
+pub set_here : {X : Type 0} (xs : List X) (i : ℕ) (y : X) → i < length xs → slice_get (slice_set xs i y) i ≡ Some y
+set_here [] i y h = absurd (omega (arith, h))
+set_here (x ∷ xs) zero y h = refl
+set_here (x ∷ xs) (suc i) y h = let r : i < length xs = omega (arith, h) in set_here xs i y r
+
+pub set_else : {X : Type 0} (xs : List X) (i j : ℕ) (y : X) → (i ≡ j → ⊥) → slice_get (slice_set xs i y) j ≡ slice_get xs j
+set_else [] i j y ne = refl
+set_else (x ∷ xs) zero zero y ne = absurd (ne refl)
+set_else (x ∷ xs) zero (suc j) y ne = refl
+set_else (x ∷ xs) (suc i) zero y ne = refl
+set_else (x ∷ xs) (suc i) (suc j) y ne = set_else xs i j y (λ e. ne (ap suc e))
+
+pub set_same : {X : Type 0} (xs : List X) (i : ℕ) (x : X) → slice_get xs i ≡ Some x → slice_set xs i x ≡ xs
+set_same [] i x e = refl
+set_same (y ∷ xs) zero x e = let same : y ≡ x = cc in ap (λ z. z ∷ xs) (sym same)
+set_same (y ∷ xs) (suc i) x e = ap (λ zs. y ∷ zs) (set_same xs i x e)

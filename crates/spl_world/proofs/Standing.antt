@@ -1,6 +1,6 @@
 -- What stands behind a line more.
-use Rattle.std.proofs.Common.{◌≡◌, ◌⊎◌, inl, inr, ℕ, ◌+◌, ◌<◌, ◌≤◌, Bool, true, false, List, [], ◌∷◌, ◌++◌, Some, Result, IfOk, ap, sym, ◌∙◌, subst, arith}
-use Rattle.std.specs.Prelude.{IsErrOf}
+use Rattle.std.proofs.Common.{◌≡◌, ◌⊎◌, inl, inr, ℕ, ◌+◌, ◌<◌, ◌≤◌, Bool, true, false, List, [], ◌∷◌, ◌++◌, Some, Result, IfOk, ap, sym, ◌∙◌, subst, arith, Ok, Err}
+use Rattle.std.specs.Prelude.{IsErrOf, IsErr}
 use Rattle.std.specs.Str.{bytes_eq}
 use Rattle.spl_circuit.specs.Nodes.{NodeId, CircuitId}
 use Rattle.spl_wire.specs.declared.answer.Answer.{Answer}
@@ -12,18 +12,21 @@ use Rattle.spl_sched.specs.Grammar.{circuit_of, step_circuit, is_line}
 use Rattle.spl_model.specs.Worlds.{World as CircuitWorld, step_plan}
 use Rattle.spl_model.specs.Projection.{Ran, lines_fit, names, names_circuit}
 use Rattle.spl_model.specs.Outcomes.{by_rule, keeps_record}
-use Rattle.spl_model.specs.Answers.{line_world, answer_to}
+use Rattle.spl_model.specs.Answers.{line_world, answer_to, line_answer, roll_answer}
 use Rattle.spl_model.proofs.LinesAsOccurrences.{fit-append}
 use Rattle.spl_projection.specs.Whole.{world_beside, whole_world}
 use Rattle.spl_projection.specs.Apart.{moves-own, moves-beside}
-use Rattle.spl_model.specs.declared.TheConstants.{MOST_EVENTS}
-use Rattle.spl_model.specs.Counts.{line_events, events_of}
+use Rattle.spl_model.specs.declared.TheConstants.{MOST_EVENTS, MOST_STOPS}
+use Rattle.spl_model.specs.Counts.{line_events, events_of, line_stops, stops_of}
 use Rattle.spl_projection.proofs.Counts.{events-more}
 use Rattle.spl_projection.proofs.Owns.{answer-whole}
+use Rattle.std.specs.Result.{IsErrAnd}
+use Rattle.spl_world.proofs.Counting.{failed}
 use Rattle.spl_world.specs.declared.fault.WorldFault.{WorldFault}
 use Rattle.spl_world.specs.declared.fault.WorldFault.TheVariants.{TooMany}
 use Rattle.spl_world.specs.Counts.{Counts}
-use Rattle.spl_world.specs.Views.{Holds, Moves, Stands, ids_of}
+use Rattle.spl_world.specs.Disks.{Images}
+use Rattle.spl_world.specs.Views.{Holds, Moves, Sits, Stands, ids_of, over}
 use Rattle.spl_world.specs.declared.world.World.{World}
 use Rattle.spl_world.proofs.Results.{when_ok}
 use Rattle.spl_world.proofs.Sends.{bool_cases, bytes_are}
@@ -33,49 +36,75 @@ pub fits_after : (before : List Ran) (l : Line) → lines_fit before ≡ true �
 fits_after before l h k = fit-append before (by_rule l ∷ []) h (rw k)
 
 -- the events of lines, and of one more, which are so many in the world behind all lines
-events_after : (old : World) (before : List Ran) (l : Line) (n : ℕ) → Stands before old → is_line l ≡ true → line_events (λ c. whole_world (ids_of old) c before) l ≡ n → events_of (ids_of old) (before ++ by_rule l ∷ []) ≡ old.events + n
-events_after old before l n stands fits e =
+events_after : (old : World) (was : List Images) (before : List Ran) (l : Line) (n : ℕ) → Stands before old was → is_line l ≡ true → line_events (λ c. whole_world (ids_of old) c before) l ≡ n → events_of (ids_of old) (before ++ by_rule l ∷ []) ≡ old.events + n
+events_after old was before l n stands fits e =
     events-more (ids_of old) before (by_rule l) (fits_after before l stands.fit fits)
     ∙ ap (λ (k : ℕ). k + line_events (λ c. whole_world (ids_of old) c before) l) (sym stands.counted) ∙ ap (λ (k : ℕ). old.events + k) e
 
 -- they are counted
-pub counted_line : (new : ℕ) (old : World) (before : List Ran) (l : Line) (n : ℕ) → Stands before old → is_line l ≡ true → line_events (λ c. whole_world (ids_of old) c before) l ≡ n → new + 0 ≡ old.events + n → new ≡ events_of (ids_of old) (before ++ by_rule l ∷ [])
-counted_line new old before l n stands fits e k = let sum : new ≡ old.events + n = omega (arith, k) in sum ∙ sym (events_after old before l n stands fits e)
+pub counted_line : (new : ℕ) (old : World) (was : List Images) (before : List Ran) (l : Line) (n : ℕ) → Stands before old was → is_line l ≡ true → line_events (λ c. whole_world (ids_of old) c before) l ≡ n → new + 0 ≡ old.events + n → new ≡ events_of (ids_of old) (before ++ by_rule l ∷ [])
+counted_line new old was before l n stands fits e k = let sum : new ≡ old.events + n = omega (arith, k) in sum ∙ sym (events_after old was before l n stands fits e)
 
 -- or they are too many
-pub over_line : {A : Type 0} (r : Result A WorldFault) (new which : ℕ) (old : World) (before : List Ran) (l : Line) (n : ℕ) → Stands before old → is_line l ≡ true → line_events (λ c. whole_world (ids_of old) c before) l ≡ n → Counts r old.events new 0 n → IsErrOf r (TooMany which) → (which ≡ 1) × (MOST_EVENTS < events_of (ids_of old) (before ++ by_rule l ∷ []))
-over_line r new which old before l n stands fits e k q =
+pub over_line : {A : Type 0} (r : Result A WorldFault) (new which : ℕ) (old : World) (was : List Images) (before : List Ran) (l : Line) (n : ℕ) → Stands before old was → is_line l ≡ true → line_events (λ c. whole_world (ids_of old) c before) l ≡ n → Counts r old.events new 0 n → IsErrOf r (TooMany which) → (which ≡ 1) × (MOST_EVENTS < events_of (ids_of old) (before ++ by_rule l ∷ []))
+over_line r new which old was before l n stands fits e k q =
     let p = k.many which q in
     let over : MOST_EVENTS < old.events + n = omega (arith, p.1) in
-    (p.0, subst (λ (t : ℕ). MOST_EVENTS < t) (sym (events_after old before l n stands fits e)) over)
+    (p.0, subst (λ (t : ℕ). MOST_EVENTS < t) (sym (events_after old was before l n stands fits e)) over)
+
+-- the stops of lines, and of one more
+pub stops_after : (before : List Ran) (r : Ran) → stops_of (before ++ r ∷ []) ≡ stops_of before + line_stops r.line
+stops_after [] r = omega arith
+stops_after (b ∷ bs) r = let rest = stops_after bs r in omega (arith, rest)
+
+pub no_stop : (before : List Ran) (r : Ran) (old new : ℕ) → line_stops r.line ≡ 0 → new ≡ old → old ≡ stops_of before → new ≡ stops_of (before ++ r ∷ [])
+no_stop before r old new none same e = let more = stops_after before r in omega (arith, more, none, same, e)
 
 -- a line of a circuit moved its world, and no other, and was counted
-pub stands_after : (before : List Ran) (l : Line) (c : CircuitId) (old new : World) → circuit_of l ≡ Some c → is_line l ≡ true → ((w : CircuitWorld) → world_beside w l ≡ w) → ids_of new ≡ ids_of old → Stands before old → new.events ≡ events_of (ids_of old) (before ++ by_rule l ∷ []) → Moves c (λ m. line_world m l (keeps_record l)) old.nodes.items new.nodes.items → Stands (before ++ by_rule l ∷ []) new
-stands_after before l c old new about fits still ids stands counted moves = record {
+pub stands_after : (before : List Ran) (l : Line) (c : CircuitId) (old new : World) (was is : List Images) → circuit_of l ≡ Some c → is_line l ≡ true → ((w : CircuitWorld) → world_beside w l ≡ w) → line_stops l ≡ 0 → new.stops ≡ old.stops → ids_of new ≡ ids_of old → Stands before old was → new.events ≡ events_of (ids_of old) (before ++ by_rule l ∷ []) → Moves c (λ m. line_world m l (keeps_record l)) (over old was) (over new is) → Sits (over new is) → Stands (before ++ by_rule l ∷ []) new is
+stands_after before l c old new was is about fits still none stops ids stands counted moves sits = record {
   fit = fits_after before l stands.fit fits;
   counted = counted ∙ ap (λ (ns : List NodeId). events_of ns (before ++ by_rule l ∷ [])) (sym ids);
-  each = λ d. subst (λ (ns : List NodeId). Holds d (whole_world ns d (before ++ by_rule l ∷ [])) new.nodes.items) (sym ids) (go d (bool_cases (bytes_eq c d)));
+  stopped = no_stop before (by_rule l) old.stops new.stops none stops stands.stopped;
+  each = λ d. subst (λ (ns : List NodeId). Holds d (whole_world ns d (before ++ by_rule l ∷ [])) (over new is)) (sym ids) (go d (bool_cases (bytes_eq c d)));
+  sits = sits;
 }
   where
     ns : List NodeId
     ns = ids_of old
 
-    go : (d : CircuitId) → (bytes_eq c d ≡ true) ⊎ (bytes_eq c d ≡ false) → Holds d (whole_world ns d (before ++ by_rule l ∷ [])) new.nodes.items
+    go : (d : CircuitId) → (bytes_eq c d ≡ true) ⊎ (bytes_eq c d ≡ false) → Holds d (whole_world ns d (before ++ by_rule l ∷ [])) (over new is)
     go d (inl q) =
         let hit : names d l ≡ true = ap (names_circuit d) about ∙ q in
-        subst (λ (m : CircuitWorld). Holds d m new.nodes.items) (sym (moves-own ns before (by_rule l) d hit))
-        (subst (λ (e : NodeId). Holds e (line_world (whole_world ns e before) l (keeps_record l)) new.nodes.items) (bytes_are c d q) (moves.own (whole_world ns c before) (stands.each c)))
+        subst (λ (m : CircuitWorld). Holds d m (over new is)) (sym (moves-own ns before (by_rule l) d hit))
+        (subst (λ (e : NodeId). Holds e (line_world (whole_world ns e before) l (keeps_record l)) (over new is)) (bytes_are c d q) (moves.own (whole_world ns c before) (stands.each c)))
     go d (inr q) =
         let miss : names d l ≡ false = ap (names_circuit d) about ∙ q in
-        subst (λ (m : CircuitWorld). Holds d m new.nodes.items) (sym (moves-beside ns before (by_rule l) d miss ∙ still (whole_world ns d before))) (moves.others d (whole_world ns d before) q (stands.each d))
+        subst (λ (m : CircuitWorld). Holds d m (over new is)) (sym (moves-beside ns before (by_rule l) d miss ∙ still (whole_world ns d before))) (moves.others d (whole_world ns d before) q (stands.each d))
 
 -- whether the world is halted says nothing of what stands
-pub stands_still : (before : List Ran) (w : World) (b : Bool) → Stands before w → Stands before (record w { halted = b })
-stands_still before w b stands = record { fit = stands.fit; counted = stands.counted; each = stands.each }
+pub stands_still : (before : List Ran) (w : World) (is : List Images) (b : Bool) → Stands before w is → Stands before (record w { halted = b }) is
+stands_still before w is b stands = record { fit = stands.fit; counted = stands.counted; stopped = stands.stopped; each = stands.each; sits = stands.sits }
 
 -- lines that stand are within the limit
-pub within_line : (before : List Ran) (w : World) (ns : List NodeId) → ids_of w ≡ ns → Stands before w → w.events ≤ MOST_EVENTS → events_of ns before ≤ MOST_EVENTS
-within_line before w ns ids stands within = subst (λ (xs : List NodeId). events_of xs before ≤ MOST_EVENTS) ids (subst (λ (k : ℕ). k ≤ MOST_EVENTS) stands.counted within)
+pub within_line : (before : List Ran) (w : World) (is : List Images) (ns : List NodeId) → ids_of w ≡ ns → Stands before w is → w.events ≤ MOST_EVENTS → events_of ns before ≤ MOST_EVENTS
+within_line before w is ns ids stands within = subst (λ (xs : List NodeId). events_of xs before ≤ MOST_EVENTS) ids (subst (λ (k : ℕ). k ≤ MOST_EVENTS) stands.counted within)
+
+pub within_stops : (before : List Ran) (w : World) (is : List Images) → Stands before w is → w.stops ≤ MOST_STOPS → stops_of before ≤ MOST_STOPS
+within_stops before w is stands within = subst (λ (k : ℕ). k ≤ MOST_STOPS) stands.stopped within
+
+-- one stop more than there is room for
+pub over_stops : (before : List Ran) (r : Ran) (old : World) (was : List Images) → Stands before old was → old.stops ≡ MOST_STOPS → line_stops r.line ≡ 1 → MOST_STOPS < stops_of (before ++ r ∷ [])
+over_stops before r old was stands full one = let more = stops_after before r in let were = stands.stopped in omega (arith, more, were, full, one)
+
+-- the limit that a call names, where it is that of the call in it
+pub limit_is : {A B : Type 0} (r : Result B WorldFault) (f : WorldFault) (n which : ℕ) → IsErr r × IsErrAnd r (λ y. y ≡ f) → IsErrOf (failed A f) (TooMany n) → IsErrOf r (TooMany which) → which ≡ n
+limit_is (Ok b) f n which e is q = absurd e.1
+limit_is (Err y) f n which e is q = let same : y ≡ f = e.1 in cc
+
+-- a line that starts or stops a node is answered so
+pub power_answered : (ns : List NodeId) (before : List Ran) (l : Line) → lines_fit before ≡ true → is_line l ≡ true → answer_to ns before (by_rule l) ≡ line_answer (λ c. whole_world ns c before) (λ n. roll_answer ns (before ++ by_rule l ∷ []) n) l (keeps_record l)
+power_answered ns before l fit fits = answer-whole ns before (by_rule l) (fits_after before l fit fits)
 
 -- a step is answered in the world of its circuit
 pub step_answered : (ns : List NodeId) (before : List Ran) (s : Step) → lines_fit (before ++ by_rule (line.Step s) ∷ []) ≡ true → answer_to ns before (by_rule (line.Step s)) ≡ (step_plan (whole_world ns (step_circuit s) before) s).answer

@@ -9,12 +9,12 @@ use Rattle.spl_sched.specs.declared.line.Step.{Step}
 use Rattle.spl_model.specs.Worlds.{Sent, World as CircuitWorld, IsUnmoved, on_pair, step_plan, step_world}
 use Rattle.spl_model.proofs.Unmoved.{unmoved-step}
 use Rattle.spl_world.specs.Kept.{NodeView}
-use Rattle.spl_world.specs.Views.{IsAs, Holds, Moves, Stays}
+use Rattle.spl_world.specs.Views.{Nodes, IsAs, Holds, Moves, Stays, view_in}
 use Rattle.spl_world.proofs.Sends.{bool_cases, bytes_are}
 
 -- nodes that stand for a world stand for what it was before it stayed
-holds_unmoved : (c : CircuitId) (m n : CircuitWorld) (xs : List NodeView) → IsUnmoved m n → Holds c n xs → Holds c m xs
-holds_unmoved c m n xs u h = record { ordered = h.ordered; nodes = sym u.nodes ∙ h.nodes; each = λ i x is. each x (h.each i x is) }
+holds_unmoved : (c : CircuitId) (m n : CircuitWorld) (xs : Nodes) → IsUnmoved m n → Holds c n xs → Holds c m xs
+holds_unmoved c m n xs u h = record { ordered = h.ordered; nodes = sym u.nodes ∙ h.nodes; each = λ i s there. each (view_in xs s) (h.each i s there) }
   where
     each : (x : NodeView) → IsAs c n x → IsAs c m x
     each x k = record {
@@ -23,7 +23,7 @@ holds_unmoved c m n xs u h = record { ordered = h.ordered; nodes = sym u.nodes �
       sent = λ b reg. k.sent b (subst (λ (ns : List NodeId). has_node ns b ≡ true) (sym u.nodes) reg) ∙ ap (λ (ss : List Sent). on_pair x.id b ss) u.sent;
     }
 
-pub stays_refused : {E : Type 0} (r : Result Answer E) (c : CircuitId) (s : Step) (old new : List NodeView) (why : Refusal) → ((m : CircuitWorld) → Holds c m old → IfOk r (λ a. a ≡ (step_plan m s).answer)) → OnOk r (Moves c (λ m. step_world m s) old new) → IfOk r (λ a. a ≡ answer.Refused why → Stays old new)
+pub stays_refused : {E : Type 0} (r : Result Answer E) (c : CircuitId) (s : Step) (old new : Nodes) (why : Refusal) → ((m : CircuitWorld) → Holds c m old → IfOk r (λ a. a ≡ (step_plan m s).answer)) → OnOk r (Moves c (λ m. step_world m s) old new) → IfOk r (λ a. a ≡ answer.Refused why → Stays old new)
 stays_refused (Err e) c s old new why told moves = moves
 stays_refused (Ok a) c s old new why told moves = λ is d m h. go is d m h (bool_cases (bytes_eq c d))
   where

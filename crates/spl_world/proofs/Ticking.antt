@@ -18,9 +18,8 @@ use Rattle.spl_rules.specs.Plans.{tells_only, plan_of}
 use Rattle.spl_model.specs.Worlds.{World as CircuitWorld, site_at, step_world}
 use Rattle.spl_model.specs.Calm.{Calming, open_nodes, ticks}
 use Rattle.spl_model.specs.Quiet.{IsIdleAt}
-use Rattle.spl_world.specs.Kept.{NodeView}
 use Rattle.spl_world.specs.Calms.{tick_at, tick_count, IsIdleTick}
-use Rattle.spl_world.specs.Views.{Moves, ids_in}
+use Rattle.spl_world.specs.Views.{Nodes, Moves, ids_in}
 use Rattle.spl_projection.proofs.Ups.{ticks-up}
 use Rattle.spl_world.proofs.Calms.{ticks_more, ticks_at}
 use Rattle.spl_world.proofs.Composed.{moves_then}
@@ -113,7 +112,7 @@ tick_more c z ids i n m at h = go (bool_cases ((ticked c z (take i ids) m).up n 
     go (inl q) = rw q (open_more c z ids i n m at h q)
     go (inr q) = rw q (closed_more c z ids i n m at h q)
 
-pub tick_moves : (c : CircuitId) (z : Calming) (xs ys zs : List NodeView) (i : ℕ) (n : NodeId) → slice_get (ids_in xs) i ≡ Some n → Moves c (ticked c z (take i (ids_in xs))) xs ys → Moves c (tick_at c n) ys zs → Moves c (ticked c z (take (i + 1) (ids_in xs))) xs zs
+pub tick_moves : (c : CircuitId) (z : Calming) (xs ys zs : Nodes) (i : ℕ) (n : NodeId) → slice_get (ids_in xs) i ≡ Some n → Moves c (ticked c z (take i (ids_in xs))) xs ys → Moves c (tick_at c n) ys zs → Moves c (ticked c z (take (i + 1) (ids_in xs))) xs zs
 tick_moves c z xs ys zs i n at so_far tick =
     moves_as c (λ m. tick_at c n (ticked c z (take i (ids_in xs)) m)) (ticked c z (take (i + 1) (ids_in xs))) xs zs
     (λ m h. tick_more c z (ids_in xs) i n m at (not_before (ids_in xs) i n h.ordered at))

@@ -9,8 +9,7 @@ use Rattle.spl_wire.specs.declared.event.Event.TheVariants as event
 use Rattle.spl_model.specs.Worlds.{World as CircuitWorld, first_world, messages, step_world}
 use Rattle.spl_model.specs.Calm.{Calming, calming_step, delivers, ticks, pair_turn, to_all, from_all}
 use Rattle.spl_model.proofs.Quiet.{turn-length}
-use Rattle.spl_world.specs.Kept.{NodeView}
-use Rattle.spl_world.specs.Views.{Holds, Moves}
+use Rattle.spl_world.specs.Views.{Nodes, Holds, Moves}
 use Rattle.spl_world.specs.Calms.{AreRows, IsSquare, row_of, sent_count}
 use Rattle.spl_world.proofs.About.{same_itself}
 use Rattle.spl_world.proofs.Calms.{delivers_more, to_all_more, from_all_more}
@@ -190,7 +189,7 @@ to_all_next c z a ids i n at = ap (to_all c z a) (take_one ids i n at) ∙ to_al
 pub from_all_next : (c : CircuitId) (z : Calming) (ids : List NodeId) (i : ℕ) (a : NodeId) → slice_get ids i ≡ Some a → from_all c z ids (take (i + 1) ids) ≡ to_all c (from_all c z ids (take i ids)) a ids
 from_all_next c z ids i a at = ap (from_all c z ids) (take_one ids i a at) ∙ from_all_more c z ids (take i ids) a
 
-pub turn_own : (c : CircuitId) (z : Calming) (a : NodeId) (ids : List NodeId) (i : ℕ) (n : NodeId) (ys zs : List NodeView) (row : List ℕ) (k : ℕ) → ascends ids ≡ true → slice_get ids i ≡ Some n
+pub turn_own : (c : CircuitId) (z : Calming) (a : NodeId) (ids : List NodeId) (i : ℕ) (n : NodeId) (ys zs : Nodes) (row : List ℕ) (k : ℕ) → ascends ids ≡ true → slice_get ids i ≡ Some n
     → Holds c (to_all c z a (take i ids)).world ys × (row ≡ row_of (to_all c z a (take i ids)).taken a ids)
     → Moves c (λ m. (pair_turn c (record (to_all c z a (take i ids)) { world = m }) a n).world) ys zs → k ≡ (pair_turn c (to_all c z a (take i ids)) a n).taken a n
     → Holds c (to_all c z a (take (i + 1) ids)).world zs × (slice_set row i k ≡ row_of (to_all c z a (take (i + 1) ids)).taken a ids)
@@ -202,7 +201,7 @@ turn_own c z a ids i n ys zs row k up at so_far moves count =
           ∙ ap (λ (w : Calming). row_of w.taken a ids) (sym e),
     )
 
-pub sender_own : (c : CircuitId) (z : Calming) (ids : List NodeId) (i : ℕ) (a : NodeId) (zs : List NodeView) (rows : List (Vec ℕ)) (r : Vec ℕ) → ascends ids ≡ true → slice_get ids i ≡ Some a
+pub sender_own : (c : CircuitId) (z : Calming) (ids : List NodeId) (i : ℕ) (a : NodeId) (zs : Nodes) (rows : List (Vec ℕ)) (r : Vec ℕ) → ascends ids ≡ true → slice_get ids i ≡ Some a
     → AreRows (from_all c z ids (take i ids)).taken ids rows
     → Holds c (to_all c (from_all c z ids (take i ids)) a ids).world zs × (r.items ≡ row_of (to_all c (from_all c z ids (take i ids)) a ids).taken a ids)
     → Holds c (from_all c z ids (take (i + 1) ids)).world zs × AreRows (from_all c z ids (take (i + 1) ids)).taken ids (slice_set rows i r)

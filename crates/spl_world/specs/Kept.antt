@@ -12,13 +12,17 @@ use Rattle.spl_wire.specs.declared.plan.Outgoing.{Outgoing}
 use Rattle.spl_wire.specs.declared.plan.Plan.{Plan}
 use Rattle.spl_wire.specs.Messages.{circuit_of}
 use Rattle.spl_model.specs.Worlds.{site_at}
-use Rattle.spl_rules.specs.Cells.{Cell, Empty, Site}
-use Rattle.spl_rules.specs.Changes.{made, applied, after_plan}
-use Rattle.spl_rules.specs.Valid.{FitsMoveAt, are_formed, is_legal}
+use Rattle.spl_rules.specs.Cells.{Cell, Site}
+use Rattle.spl_rules.specs.Changes.{after_plan}
+use Rattle.spl_rules.specs.Valid.{is_legal}
 
--- what was ever sent, by recipient
+-- what was ever sent about a circuit, by recipient
 abbrev pub Lists : Type 0
 Lists = List (NodeId × List Message)
+
+-- and about each circuit
+abbrev pub Posted : Type 0
+Posted = List (CircuitId × Lists)
 
 -- one circuit at one node: the cell, and what the node ever sent about it
 pub record PlaceView : Type 0 where
@@ -26,11 +30,12 @@ pub record PlaceView : Type 0 where
   pub state : Cell
   pub sent : Lists
 
--- a node: whether it is up, and its places by circuit
+-- a node: whether it is up, its cell of each circuit, in memory or on its disks, and what it ever sent about each
 pub record NodeView : Type 0 where
   pub id : NodeId
   pub up : Bool
-  pub places : List (CircuitId × PlaceView)
+  pub cells : CircuitId → Cell
+  pub sent : CircuitId → Lists
 
 abbrev pub list_or_none : Option (List Message) → List Message
 list_or_none None = []
@@ -40,17 +45,17 @@ list_or_none (Some ms) = ms
 abbrev pub sent_to : Lists → NodeId → List Message
 sent_to es b = list_or_none (lookup (is_at (slice_cmp nat_cmp b)) es)
 
--- nothing is kept, and nothing was sent
-abbrev pub fresh_place : Site → PlaceView
-fresh_place site = record { site = site; state = Empty; sent = [] }
+abbrev pub lists_or_none : Option Lists → Lists
+lists_or_none None = []
+lists_or_none (Some ls) = ls
 
-abbrev pub place_or_fresh : Site → Option PlaceView → PlaceView
-place_or_fresh site None = fresh_place site
-place_or_fresh site (Some p) = p
+-- what was ever sent about a circuit
+abbrev pub lists_about : Posted → CircuitId → Lists
+lists_about ps c = lists_or_none (lookup (is_at (slice_cmp nat_cmp c)) ps)
 
 -- the place of a circuit at a node
 abbrev pub place_of : NodeView → CircuitId → PlaceView
-place_of x c = place_or_fresh (site_at x.id c) (lookup (is_at (slice_cmp nat_cmp c)) x.places)
+place_of x c = record { site = site_at x.id c; state = x.cells c; sent = x.sent c }
 
 -- the messages of a plan that go to a node
 abbrev pub sends_to : NodeId → List Outgoing → List Message
@@ -70,19 +75,11 @@ send_belongs c o = belongs c o.message
 abbrev pub SendsBelong : CircuitId → List Outgoing → Type 0
 SendsBelong c os = list_all (send_belongs c) os ≡ true
 
--- a plan that can be carried out at a place: its changes fit, one behind the other, and its moves behind them; the acts and
--- the definitions in them have byte forms; what it sends belongs to the circuit
-pub record Suits (v : PlaceView) (p : Plan) : Type 0 where
-  pub fits : applied v.site v.state p.changes ≡ made v.site.here v.state p.changes
-  pub moves : FitsMoveAt v.site.here (made v.site.here v.state p.changes) p.admin p.service
-  pub formed : are_formed p.changes ≡ true
-  pub about : SendsBelong v.site.circuit p.sends
+-- what was ever sent about each circuit belongs to it
+abbrev pub BelongEach : Posted → Type 0
+BelongEach ps = (c : CircuitId) (b : NodeId) → AllBelong c (sent_to (lists_about ps c) b)
 
 -- a plan was carried out at a place of this node: its changes and its moves are made, and its messages sent
 pub record IsDone (here : NodeId) (p : Plan) (old new : PlaceView) : Type 0 where
   pub state : new.state ≡ after_plan here old.state p
   pub sent : (b : NodeId) → sent_to new.sent b ≡ sent_to old.sent b ++ sends_to b p.sends
-
--- each place stands at its circuit
-abbrev pub AreOwn : NodeId → List (CircuitId × PlaceView) → Type 0
-AreOwn n ps = (c : CircuitId) (p : PlaceView) → lookup (is_at (slice_cmp nat_cmp c)) ps ≡ Some p → p.site ≡ site_at n c

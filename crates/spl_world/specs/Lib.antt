@@ -1,4 +1,6 @@
 pub mod Kept
+pub mod Disks
 pub mod Views
 pub mod Calms
 pub mod Counts
+pub mod Lines

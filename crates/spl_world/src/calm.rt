@@ -1,5 +1,5 @@
 //! A calm: passes of ticks and deliveries.
-ghost use Rattle.std.specs.Prelude.{◌≡◌, ◌+◌, ◌-◌, ◌<◌, ◌&&◌, length, false, true, IfOk, OnOk};
+ghost use Rattle.std.specs.Prelude.{◌≡◌, ◌+◌, ◌-◌, ◌<◌, ◌&&◌, List, length, false, true, IfOk, OnOk};
 ghost use Rattle.std.specs.List.{AllByRecursion};
 ghost use Rattle.std.specs.Str.{bytes_eq};
 ghost use Rattle.spl_circuit.specs.Nodes.{NodeId as Id};
@@ -9,12 +9,14 @@ ghost use Rattle.spl_model.specs.Quiet.{IsIdleAt, IsQuiet};
 ghost use Rattle.spl_rules.specs.Idle.{is_idle_note, is_idle};
 ghost use Rattle.spl_world.specs.Calms.{tick_at, tick_count, IsIdleTick, AreRows, IsSquare, row_of, sent_count};
 ghost use Rattle.spl_world.specs.Counts.{Counts};
-ghost use Rattle.spl_world.specs.Views.{Holds, IsAt, IsUp, Moves, Spares, ids_of};
+ghost use Rattle.spl_world.specs.Disks.{Images, LeavesDisks, bench};
+ghost use Rattle.spl_world.specs.Views.{Holds, IsAt, IsUp, Moves, Sits, Spares, places_of, ids_of, over, seen};
 
 use crate::fault::WorldFault;
 use crate::world::World;
 use spl_agree::Note;
 use spl_base::CircuitId;
+use spl_edge::{Pair, StopDisk};
 use spl_wire::{Answer, Event};
 use std::alloc::{AllocError, Global};
 
@@ -38,9 +40,9 @@ fn is_idle(answer: &Answer) -> bool
 impl World {
     // How many messages about a circuit a node sent to each node.
     fn row(&self, alloc: Global, circuit: &CircuitId, from: usize) -> Result<Vec<usize>, AllocError>
-        requires below { from < length self.now.nodes.items }
-        ensures wide { IfOk result (λ r. length r.items ≡ length self.now.nodes.items) }
-        ensures counts { (m : CircuitWorld) (a : Id) → Holds circuit.now m self.now.nodes.items → IsAt self.now.nodes.items from a → IfOk result (λ r. r.items ≡ row_of (sent_count m) a (ids_of self.now)) }
+        requires below { from < length self.now.slots.items }
+        ensures wide { IfOk result (λ r. length r.items ≡ length self.now.slots.items) }
+        ensures counts { (is : List Images) (m : CircuitWorld) (a : Id) → Holds circuit.now m (over self.now is) → IsAt self.now from a → IfOk result (λ r. r.items ≡ row_of (sent_count m) a (ids_of self.now)) }
     {
         let mut row = Vec::new(alloc);
         for to in 0..self.len() {
@@ -51,8 +53,8 @@ impl World {
 
     // The same for all nodes.
     fn rows(&self, alloc: Global, circuit: &CircuitId) -> Result<Vec<Vec<usize>>, AllocError>
-        ensures square { IfOk result (λ rs. IsSquare (length self.now.nodes.items) rs.items) }
-        ensures counts { (m : CircuitWorld) → Holds circuit.now m self.now.nodes.items → IfOk result (λ rs. AreRows (sent_count m) (ids_of self.now) rs.items) }
+        ensures square { IfOk result (λ rs. IsSquare (length self.now.slots.items) rs.items) }
+        ensures counts { (is : List Images) (m : CircuitWorld) → Holds circuit.now m (over self.now is) → IfOk result (λ rs. AreRows (sent_count m) (ids_of self.now) rs.items) }
     {
         let mut rows = Vec::new(alloc);
         for from in 0..self.len() {
@@ -63,78 +65,111 @@ impl World {
 
     // A tick at a node, where it is up and the circuit bound and open there. Answers whether there
     // was anything to do.
-    fn tick(&mut self, alloc: Global, circuit: CircuitId, slot: usize) -> Result<bool, WorldFault>
-        requires below { slot < length self.old.nodes.items }
+    fn tick<D: StopDisk>(
+        &mut self,
+        alloc: Global,
+        pairs: &mut Vec<Pair<D>>,
+        circuit: CircuitId,
+        slot: usize,
+    ) -> Result<bool, WorldFault>
+        requires below { slot < length self.old.slots.items }
+        requires sits { Sits (seen D.image_at D.moment self.old pairs.old.items) }
         ensures ids { ids_of self.new ≡ ids_of self.old }
-        ensures counts { (m : CircuitWorld) (n : Id) → Holds circuit m self.old.nodes.items → IsAt self.old.nodes.items slot n → Counts result self.old.events self.new.events 0 (tick_count m n) }
-        ensures idle { (m : CircuitWorld) (n : Id) → Holds circuit m self.old.nodes.items → IsAt self.old.nodes.items slot n → IfOk result (λ moved. moved ≡ false → IsIdleTick circuit m n) }
-        ensures moves { (n : Id) → IsAt self.old.nodes.items slot n → OnOk result (Moves circuit (tick_at circuit n) self.old.nodes.items self.new.nodes.items) }
+        ensures places { places_of self.new ≡ places_of self.old }
+        ensures stops { self.new.stops ≡ self.old.stops }
+        ensures counts { (m : CircuitWorld) (n : Id) → Holds circuit m (seen D.image_at D.moment self.old pairs.old.items) → IsAt self.old slot n → Counts result self.old.events self.new.events 0 (tick_count m n) }
+        ensures idle { (m : CircuitWorld) (n : Id) → Holds circuit m (seen D.image_at D.moment self.old pairs.old.items) → IsAt self.old slot n → IfOk result (λ moved. moved ≡ false → IsIdleTick circuit m n) }
+        ensures moves { (n : Id) → IsAt self.old slot n → OnOk result (Moves circuit (tick_at circuit n) (seen D.image_at D.moment self.old pairs.old.items) (seen D.image_at D.moment self.new pairs.new.items)) }
+        ensures sits { OnOk result (Sits (seen D.image_at D.moment self.new pairs.new.items)) }
+        ensures disks { LeavesDisks result (bench D.image_at D.moment D.faults D.armed D.picks pairs.old.items) (bench D.image_at D.moment D.faults D.armed D.picks pairs.new.items) }
     {
         if !self.is_open(slot, &circuit) {
             return Ok(false);
         }
         self.events.add(1)?;
-        let answer = self.handle(alloc, slot, circuit, &Event::Tick)?;
+        let answer = self.handle(alloc, pairs, slot, circuit, &Event::Tick)?;
         Ok(!is_idle(&answer))
     }
 
     // A tick at each node that is up and where the circuit is bound and open. Answers whether there
     // was anything to do.
-    fn tick_all(&mut self, alloc: Global, circuit: CircuitId) -> Result<bool, WorldFault>
+    fn tick_all<D: StopDisk>(
+        &mut self,
+        alloc: Global,
+        pairs: &mut Vec<Pair<D>>,
+        circuit: CircuitId,
+    ) -> Result<bool, WorldFault>
+        requires sits { Sits (seen D.image_at D.moment self.old pairs.old.items) }
         ensures ids { ids_of self.new ≡ ids_of self.old }
-        ensures counts { (m : CircuitWorld) → Holds circuit m self.old.nodes.items → Counts result self.old.events self.new.events 0 (length (open_nodes m (ids_of self.old))) }
-        ensures idle { (m : CircuitWorld) → Holds circuit m self.old.nodes.items → IfOk result (λ moved. moved ≡ false → AllByRecursion (IsIdleAt circuit m) (open_nodes m (ids_of self.old))) }
-        ensures moves { (z : Calming) → OnOk result (Moves circuit (λ m. (ticks circuit (record z { world = m }) (open_nodes m (ids_of self.old))).world) self.old.nodes.items self.new.nodes.items) }
+        ensures places { places_of self.new ≡ places_of self.old }
+        ensures stops { self.new.stops ≡ self.old.stops }
+        ensures counts { (m : CircuitWorld) → Holds circuit m (seen D.image_at D.moment self.old pairs.old.items) → Counts result self.old.events self.new.events 0 (length (open_nodes m (ids_of self.old))) }
+        ensures idle { (m : CircuitWorld) → Holds circuit m (seen D.image_at D.moment self.old pairs.old.items) → IfOk result (λ moved. moved ≡ false → AllByRecursion (IsIdleAt circuit m) (open_nodes m (ids_of self.old))) }
+        ensures moves { (z : Calming) → OnOk result (Moves circuit (λ m. (ticks circuit (record z { world = m }) (open_nodes m (ids_of self.old))).world) (seen D.image_at D.moment self.old pairs.old.items) (seen D.image_at D.moment self.new pairs.new.items)) }
+        ensures sits { OnOk result (Sits (seen D.image_at D.moment self.new pairs.new.items)) }
+        ensures disks { LeavesDisks result (bench D.image_at D.moment D.faults D.armed D.picks pairs.old.items) (bench D.image_at D.moment D.faults D.armed D.picks pairs.new.items) }
     {
         let mut moved = false;
         for slot in 0..self.len() {
-            let one = self.tick(alloc, circuit, slot)?;
+            let one = self.tick(alloc, pairs, circuit, slot)?;
             moved |= one;
         }
         Ok(moved)
     }
 
     // The messages of a pair from one index to another are delivered.
-    fn deliver_from(
+    fn deliver_from<D: StopDisk>(
         &mut self,
         alloc: Global,
+        pairs: &mut Vec<Pair<D>>,
         circuit: CircuitId,
         from: usize,
         to: usize,
         taken: usize,
         all: usize,
     ) -> Result<(), WorldFault>
-        requires from_below { from < length self.old.nodes.items }
-        requires to_below { to < length self.old.nodes.items }
-        requires apart { (a b : Id) → IsAt self.old.nodes.items from a → IsAt self.old.nodes.items to b → bytes_eq a b ≡ false }
-        requires up { IsUp self.old.nodes.items to }
+        requires from_below { from < length self.old.slots.items }
+        requires to_below { to < length self.old.slots.items }
+        requires apart { (a b : Id) → IsAt self.old from a → IsAt self.old to b → bytes_eq a b ≡ false }
+        requires up { IsUp self.old to }
+        requires sits { Sits (seen D.image_at D.moment self.old pairs.old.items) }
         ensures ids { ids_of self.new ≡ ids_of self.old }
+        ensures places { places_of self.new ≡ places_of self.old }
+        ensures stops { self.new.stops ≡ self.old.stops }
         ensures counts { Counts result self.old.events self.new.events 0 (all - taken) }
-        ensures moves { (z : Calming) (a b : Id) → IsAt self.old.nodes.items from a → IsAt self.old.nodes.items to b → OnOk result (Moves circuit (λ m. (delivers circuit (record z { world = m }) a b (taken + 1) (all - taken)).world) self.old.nodes.items self.new.nodes.items) }
+        ensures moves { (z : Calming) (a b : Id) → IsAt self.old from a → IsAt self.old to b → OnOk result (Moves circuit (λ m. (delivers circuit (record z { world = m }) a b (taken + 1) (all - taken)).world) (seen D.image_at D.moment self.old pairs.old.items) (seen D.image_at D.moment self.new pairs.new.items)) }
+        ensures sits { OnOk result (Sits (seen D.image_at D.moment self.new pairs.new.items)) }
+        ensures disks { LeavesDisks result (bench D.image_at D.moment D.faults D.armed D.picks pairs.old.items) (bench D.image_at D.moment D.faults D.armed D.picks pairs.new.items) }
     {
         for index in taken..all {
             self.events.add(1)?;
-            self.deliver(alloc, from, to, circuit, index)?;
+            self.deliver(alloc, pairs, from, to, circuit, index)?;
         }
         Ok(())
     }
 
     // The turn of a pair: what was sent on it and isn't taken yet is delivered, where the recipient
     // is up. Answers how many are taken now.
-    fn pair_turn(
+    fn pair_turn<D: StopDisk>(
         &mut self,
         alloc: Global,
+        pairs: &mut Vec<Pair<D>>,
         circuit: CircuitId,
         from: usize,
         to: usize,
         taken: usize,
     ) -> Result<usize, WorldFault>
-        requires from_below { from < length self.old.nodes.items }
-        requires to_below { to < length self.old.nodes.items }
+        requires from_below { from < length self.old.slots.items }
+        requires to_below { to < length self.old.slots.items }
+        requires sits { Sits (seen D.image_at D.moment self.old pairs.old.items) }
         ensures ids { ids_of self.new ≡ ids_of self.old }
-        ensures counts { (z : Calming) (a b : Id) → Holds circuit z.world self.old.nodes.items → IsAt self.old.nodes.items from a → IsAt self.old.nodes.items to b → z.taken a b ≡ taken → Counts result self.old.events self.new.events (length z.happened) (length (pair_turn circuit z a b).happened) }
-        ensures count { (z : Calming) (a b : Id) → Holds circuit z.world self.old.nodes.items → IsAt self.old.nodes.items from a → IsAt self.old.nodes.items to b → z.taken a b ≡ taken → IfOk result (λ k. k ≡ (pair_turn circuit z a b).taken a b) }
-        ensures moves { (z : Calming) (a b : Id) → IsAt self.old.nodes.items from a → IsAt self.old.nodes.items to b → z.taken a b ≡ taken → OnOk result (Moves circuit (λ m. (pair_turn circuit (record z { world = m }) a b).world) self.old.nodes.items self.new.nodes.items) }
+        ensures places { places_of self.new ≡ places_of self.old }
+        ensures stops { self.new.stops ≡ self.old.stops }
+        ensures counts { (z : Calming) (a b : Id) → Holds circuit z.world (seen D.image_at D.moment self.old pairs.old.items) → IsAt self.old from a → IsAt self.old to b → z.taken a b ≡ taken → Counts result self.old.events self.new.events (length z.happened) (length (pair_turn circuit z a b).happened) }
+        ensures count { (z : Calming) (a b : Id) → Holds circuit z.world (seen D.image_at D.moment self.old pairs.old.items) → IsAt self.old from a → IsAt self.old to b → z.taken a b ≡ taken → IfOk result (λ k. k ≡ (pair_turn circuit z a b).taken a b) }
+        ensures moves { (z : Calming) (a b : Id) → IsAt self.old from a → IsAt self.old to b → z.taken a b ≡ taken → OnOk result (Moves circuit (λ m. (pair_turn circuit (record z { world = m }) a b).world) (seen D.image_at D.moment self.old pairs.old.items) (seen D.image_at D.moment self.new pairs.new.items)) }
+        ensures sits { OnOk result (Sits (seen D.image_at D.moment self.new pairs.new.items)) }
+        ensures disks { LeavesDisks result (bench D.image_at D.moment D.faults D.armed D.picks pairs.old.items) (bench D.image_at D.moment D.faults D.armed D.picks pairs.new.items) }
     {
         if !self.is_up(to) {
             return Ok(taken);
@@ -143,90 +178,114 @@ impl World {
             return Ok(0);
         }
         let all = self.count(from, to, &circuit);
-        self.deliver_from(alloc, circuit, from, to, taken, all)?;
+        self.deliver_from(alloc, pairs, circuit, from, to, taken, all)?;
         Ok(all)
     }
 
     // The turns of the pairs of one sender.
-    fn to_all(
+    fn to_all<D: StopDisk>(
         &mut self,
         alloc: Global,
+        pairs: &mut Vec<Pair<D>>,
         circuit: CircuitId,
         from: usize,
         row: &mut Vec<usize>,
     ) -> Result<(), WorldFault>
-        requires below { from < length self.old.nodes.items }
-        requires wide { length row.old.items ≡ length self.old.nodes.items }
+        requires below { from < length self.old.slots.items }
+        requires wide { length row.old.items ≡ length self.old.slots.items }
+        requires sits { Sits (seen D.image_at D.moment self.old pairs.old.items) }
         ensures ids { ids_of self.new ≡ ids_of self.old }
+        ensures places { places_of self.new ≡ places_of self.old }
+        ensures stops { self.new.stops ≡ self.old.stops }
         ensures wide { length row.new.items ≡ length row.old.items }
-        ensures counts { (z : Calming) (a : Id) → Holds circuit z.world self.old.nodes.items → IsAt self.old.nodes.items from a → row.old.items ≡ row_of z.taken a (ids_of self.old) → Counts result self.old.events self.new.events (length z.happened) (length (to_all circuit z a (ids_of self.old)).happened) }
-        ensures own { (z : Calming) (a : Id) → Holds circuit z.world self.old.nodes.items → IsAt self.old.nodes.items from a → row.old.items ≡ row_of z.taken a (ids_of self.old) → OnOk result (Holds circuit (to_all circuit z a (ids_of self.old)).world self.new.nodes.items × (row.new.items ≡ row_of (to_all circuit z a (ids_of self.old)).taken a (ids_of self.old))) }
-        ensures others { OnOk result (Spares circuit self.old.nodes.items self.new.nodes.items) }
+        ensures counts { (z : Calming) (a : Id) → Holds circuit z.world (seen D.image_at D.moment self.old pairs.old.items) → IsAt self.old from a → row.old.items ≡ row_of z.taken a (ids_of self.old) → Counts result self.old.events self.new.events (length z.happened) (length (to_all circuit z a (ids_of self.old)).happened) }
+        ensures own { (z : Calming) (a : Id) → Holds circuit z.world (seen D.image_at D.moment self.old pairs.old.items) → IsAt self.old from a → row.old.items ≡ row_of z.taken a (ids_of self.old) → OnOk result (Holds circuit (to_all circuit z a (ids_of self.old)).world (seen D.image_at D.moment self.new pairs.new.items) × (row.new.items ≡ row_of (to_all circuit z a (ids_of self.old)).taken a (ids_of self.old))) }
+        ensures others { OnOk result (Spares circuit (seen D.image_at D.moment self.old pairs.old.items) (seen D.image_at D.moment self.new pairs.new.items)) }
+        ensures sits { OnOk result (Sits (seen D.image_at D.moment self.new pairs.new.items)) }
+        ensures disks { LeavesDisks result (bench D.image_at D.moment D.faults D.armed D.picks pairs.old.items) (bench D.image_at D.moment D.faults D.armed D.picks pairs.new.items) }
     {
         for to in 0..self.len() {
-            row[to] = self.pair_turn(alloc, circuit, from, to, row[to])?;
+            row[to] = self.pair_turn(alloc, pairs, circuit, from, to, row[to])?;
         }
         Ok(())
     }
 
     // The turns of all pairs.
-    fn from_all(
+    fn from_all<D: StopDisk>(
         &mut self,
         alloc: Global,
+        pairs: &mut Vec<Pair<D>>,
         circuit: CircuitId,
         rows: &mut Vec<Vec<usize>>,
     ) -> Result<(), WorldFault>
-        requires square { IsSquare (length self.old.nodes.items) rows.old.items }
+        requires square { IsSquare (length self.old.slots.items) rows.old.items }
+        requires sits { Sits (seen D.image_at D.moment self.old pairs.old.items) }
         ensures ids { ids_of self.new ≡ ids_of self.old }
-        ensures square { IsSquare (length self.old.nodes.items) rows.new.items }
-        ensures counts { (z : Calming) → Holds circuit z.world self.old.nodes.items → AreRows z.taken (ids_of self.old) rows.old.items → Counts result self.old.events self.new.events (length z.happened) (length (from_all circuit z (ids_of self.old) (ids_of self.old)).happened) }
-        ensures own { (z : Calming) → Holds circuit z.world self.old.nodes.items → AreRows z.taken (ids_of self.old) rows.old.items → OnOk result (Holds circuit (from_all circuit z (ids_of self.old) (ids_of self.old)).world self.new.nodes.items × AreRows (from_all circuit z (ids_of self.old) (ids_of self.old)).taken (ids_of self.old) rows.new.items) }
-        ensures others { OnOk result (Spares circuit self.old.nodes.items self.new.nodes.items) }
+        ensures places { places_of self.new ≡ places_of self.old }
+        ensures stops { self.new.stops ≡ self.old.stops }
+        ensures square { IsSquare (length self.old.slots.items) rows.new.items }
+        ensures counts { (z : Calming) → Holds circuit z.world (seen D.image_at D.moment self.old pairs.old.items) → AreRows z.taken (ids_of self.old) rows.old.items → Counts result self.old.events self.new.events (length z.happened) (length (from_all circuit z (ids_of self.old) (ids_of self.old)).happened) }
+        ensures own { (z : Calming) → Holds circuit z.world (seen D.image_at D.moment self.old pairs.old.items) → AreRows z.taken (ids_of self.old) rows.old.items → OnOk result (Holds circuit (from_all circuit z (ids_of self.old) (ids_of self.old)).world (seen D.image_at D.moment self.new pairs.new.items) × AreRows (from_all circuit z (ids_of self.old) (ids_of self.old)).taken (ids_of self.old) rows.new.items) }
+        ensures others { OnOk result (Spares circuit (seen D.image_at D.moment self.old pairs.old.items) (seen D.image_at D.moment self.new pairs.new.items)) }
+        ensures sits { OnOk result (Sits (seen D.image_at D.moment self.new pairs.new.items)) }
+        ensures disks { LeavesDisks result (bench D.image_at D.moment D.faults D.armed D.picks pairs.old.items) (bench D.image_at D.moment D.faults D.armed D.picks pairs.new.items) }
     {
         for from in 0..self.len() {
-            self.to_all(alloc, circuit, from, &mut rows[from])?;
+            self.to_all(alloc, pairs, circuit, from, &mut rows[from])?;
         }
         Ok(())
     }
 
     // A pass: the ticks, and then the turns of all pairs. Answers whether there was anything to do.
-    fn pass(
+    fn pass<D: StopDisk>(
         &mut self,
         alloc: Global,
+        pairs: &mut Vec<Pair<D>>,
         circuit: CircuitId,
         rows: &mut Vec<Vec<usize>>,
     ) -> Result<bool, WorldFault>
-        requires square { IsSquare (length self.old.nodes.items) rows.old.items }
+        requires square { IsSquare (length self.old.slots.items) rows.old.items }
+        requires sits { Sits (seen D.image_at D.moment self.old pairs.old.items) }
         ensures ids { ids_of self.new ≡ ids_of self.old }
-        ensures square { IsSquare (length self.old.nodes.items) rows.new.items }
-        ensures counts { (z : Calming) → Holds circuit z.world self.old.nodes.items → AreRows z.taken (ids_of self.old) rows.old.items → Counts result self.old.events self.new.events (length z.happened) (length (pass circuit (ids_of self.old) z).happened) }
-        ensures quiet { (z : Calming) → Holds circuit z.world self.old.nodes.items → AreRows z.taken (ids_of self.old) rows.old.items → IfOk result (λ moved. moved ≡ false → IsQuiet circuit (ids_of self.old) z) }
-        ensures own { (z : Calming) → Holds circuit z.world self.old.nodes.items → AreRows z.taken (ids_of self.old) rows.old.items → OnOk result (Holds circuit (pass circuit (ids_of self.old) z).world self.new.nodes.items × AreRows (pass circuit (ids_of self.old) z).taken (ids_of self.old) rows.new.items) }
-        ensures others { OnOk result (Spares circuit self.old.nodes.items self.new.nodes.items) }
+        ensures places { places_of self.new ≡ places_of self.old }
+        ensures stops { self.new.stops ≡ self.old.stops }
+        ensures square { IsSquare (length self.old.slots.items) rows.new.items }
+        ensures counts { (z : Calming) → Holds circuit z.world (seen D.image_at D.moment self.old pairs.old.items) → AreRows z.taken (ids_of self.old) rows.old.items → Counts result self.old.events self.new.events (length z.happened) (length (pass circuit (ids_of self.old) z).happened) }
+        ensures quiet { (z : Calming) → Holds circuit z.world (seen D.image_at D.moment self.old pairs.old.items) → AreRows z.taken (ids_of self.old) rows.old.items → IfOk result (λ moved. moved ≡ false → IsQuiet circuit (ids_of self.old) z) }
+        ensures own { (z : Calming) → Holds circuit z.world (seen D.image_at D.moment self.old pairs.old.items) → AreRows z.taken (ids_of self.old) rows.old.items → OnOk result (Holds circuit (pass circuit (ids_of self.old) z).world (seen D.image_at D.moment self.new pairs.new.items) × AreRows (pass circuit (ids_of self.old) z).taken (ids_of self.old) rows.new.items) }
+        ensures others { OnOk result (Spares circuit (seen D.image_at D.moment self.old pairs.old.items) (seen D.image_at D.moment self.new pairs.new.items)) }
+        ensures sits { OnOk result (Sits (seen D.image_at D.moment self.new pairs.new.items)) }
+        ensures disks { LeavesDisks result (bench D.image_at D.moment D.faults D.armed D.picks pairs.old.items) (bench D.image_at D.moment D.faults D.armed D.picks pairs.new.items) }
     {
-        let moved = self.tick_all(alloc, circuit)?;
+        let moved = self.tick_all(alloc, pairs, circuit)?;
         let ticked = self.events.count();
-        self.from_all(alloc, circuit, rows)?;
+        self.from_all(alloc, pairs, circuit, rows)?;
         let delivered = self.events.grew_since(ticked);
         Ok(moved | delivered)
     }
 
     // So many passes. Behind one in which there was nothing to do the others have its ticks alone,
     // which are counted. After an error the world is done.
-    pub(crate) fn calm(
+    pub(crate) fn calm<D: StopDisk>(
         &mut self,
         alloc: Global,
+        pairs: &mut Vec<Pair<D>>,
         circuit: CircuitId,
         passes: u8,
     ) -> Result<(), WorldFault>
+        requires sits { Sits (seen D.image_at D.moment self.old pairs.old.items) }
         ensures ids { ids_of self.new ≡ ids_of self.old }
-        ensures counts { (m : CircuitWorld) → Holds circuit m self.old.nodes.items → Counts result self.old.events self.new.events 0 (length (calm circuit m passes).happened) }
-        ensures moves { OnOk result (Moves circuit (λ m. (calm circuit m passes).world) self.old.nodes.items self.new.nodes.items) }
+        ensures places { places_of self.new ≡ places_of self.old }
+        ensures stops { self.new.stops ≡ self.old.stops }
+        ensures counts { (m : CircuitWorld) → Holds circuit m (seen D.image_at D.moment self.old pairs.old.items) → Counts result self.old.events self.new.events 0 (length (calm circuit m passes).happened) }
+        ensures moves { OnOk result (Moves circuit (λ m. (calm circuit m passes).world) (seen D.image_at D.moment self.old pairs.old.items) (seen D.image_at D.moment self.new pairs.new.items)) }
+        ensures sits { OnOk result (Sits (seen D.image_at D.moment self.new pairs.new.items)) }
+        ensures disks { LeavesDisks result (bench D.image_at D.moment D.faults D.armed D.picks pairs.old.items) (bench D.image_at D.moment D.faults D.armed D.picks pairs.new.items) }
     {
         let mut rows = self.rows(alloc, &circuit)?;
         for done in 0..passes {
             let before = self.events.count();
-            if !self.pass(alloc, circuit, &mut rows)? {
+            if !self.pass(alloc, pairs, circuit, &mut rows)? {
                 let ticks = self.events.count().saturating_sub(before);
                 return self.events.add(ticks * (passes - done - 1) as u32);
             }

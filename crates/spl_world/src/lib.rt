@@ -1,13 +1,17 @@
-//! All nodes, each with its cells, and the messages between them.
+//! All nodes over their disks, and the messages between them.
 #![tactic(auto)]
 
 mod calm;
 mod events;
 mod fault;
-mod node;
+mod halt;
+mod making;
 mod outbox;
-mod place;
+mod posts;
+mod power;
+mod slot;
 mod step;
+mod stops;
 mod world;
 
 pub use fault::WorldFault;

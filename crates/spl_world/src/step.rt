@@ -5,28 +5,41 @@ ghost use Rattle.spl_circuit.specs.Nodes.{has_node};
 ghost use Rattle.spl_model.specs.Projection.{Ran};
 ghost use Rattle.spl_model.specs.Outcomes.{by_rule};
 ghost use Rattle.spl_sched.specs.Grammar.{nodes_of, step_nodes, step_circuit, is_line, is_step};
-ghost use Rattle.spl_sched.specs.Taken.{is_taken};
 ghost use Rattle.spl_model.specs.Worlds.{World as CircuitWorld, step_plan, step_world};
 ghost use Rattle.spl_model.specs.Answers.{answer_to};
 ghost use Rattle.spl_model.specs.Counts.{events_of};
-ghost use Rattle.spl_world.specs.Views.{Holds, Moves, Stands, Stays, ids_of, is_halted};
+ghost use Rattle.spl_world.specs.Lines.{steps};
+ghost use Rattle.spl_world.specs.Disks.{LeavesDisks, bench, images};
+ghost use Rattle.spl_world.specs.Views.{Holds, Moves, Sits, Stands, Stays, places_of, ids_of, is_halted, seen};
 
 use crate::fault::WorldFault;
 use crate::world::World;
+use spl_edge::{Pair, StopDisk};
 use spl_model::MOST_EVENTS;
 use spl_sched::{Line, Step};
 use spl_wire::{Answer, Refusal};
-use std::alloc::{AllocError, Global};
+use std::alloc::Global;
 
 impl World {
     // Runs a step.
-    fn run(&mut self, alloc: Global, step: &Step) -> Result<Answer, AllocError>
+    fn run<D: StopDisk>(
+        &mut self,
+        alloc: Global,
+        pairs: &mut Vec<Pair<D>>,
+        step: &Step,
+    ) -> Result<Answer, WorldFault>
         requires known { list_all (has_node (ids_of self.old)) (step_nodes step.now) ≡ true }
         requires fits { is_step step.now ≡ true }
+        requires sits { Sits (seen D.image_at D.moment self.old pairs.old.items) }
         ensures ids { ids_of self.new ≡ ids_of self.old }
+        ensures places { places_of self.new ≡ places_of self.old }
+        ensures stops { self.new.stops ≡ self.old.stops }
         ensures events { self.new.events ≡ self.old.events }
-        ensures answer { (m : CircuitWorld) → Holds (step_circuit step.now) m self.old.nodes.items → IfOk result (λ a. a ≡ (step_plan m step.now).answer) }
-        ensures moves { OnOk result (Moves (step_circuit step.now) (λ m. step_world m step.now) self.old.nodes.items self.new.nodes.items) }
+        ensures answer { (m : CircuitWorld) → Holds (step_circuit step.now) m (seen D.image_at D.moment self.old pairs.old.items) → IfOk result (λ a. a ≡ (step_plan m step.now).answer) }
+        ensures moves { OnOk result (Moves (step_circuit step.now) (λ m. step_world m step.now) (seen D.image_at D.moment self.old pairs.old.items) (seen D.image_at D.moment self.new pairs.new.items)) }
+        ensures sits { OnOk result (Sits (seen D.image_at D.moment self.new pairs.new.items)) }
+        ensures disks { LeavesDisks result (bench D.image_at D.moment D.faults D.armed D.picks pairs.old.items) (bench D.image_at D.moment D.faults D.armed D.picks pairs.new.items) }
+        ensures few { (which : ℕ) → IsErrOf result (WorldFault.TooMany which) → ⊥ }
     {
         match step {
             Step::At {
@@ -38,7 +51,7 @@ impl World {
                 if !self.is_up(slot) {
                     return Ok(Answer::Refused(Refusal::Down));
                 }
-                self.handle(alloc, slot, *circuit, event)
+                self.handle(alloc, pairs, slot, *circuit, event)
             }
             Step::Deliver {
                 from,
@@ -52,31 +65,41 @@ impl World {
                     return Ok(Answer::Refused(Refusal::Down));
                 }
                 let index = (*number - 1) as usize;
-                self.deliver(alloc, sender, recipient, *circuit, index)
+                self.deliver(alloc, pairs, sender, recipient, *circuit, index)
             }
         }
     }
 
-    /// Runs a line and answers it. `before` are the lines that ran so far. `TooMany` comes exactly
+    /// Runs a line that stops no node, and answers it. `before` are the lines that ran so far. `TooMany` comes exactly
     /// where the events of these lines and of this one are more than `MOST_EVENTS`, and is about
-    /// them; any other error is want of memory. After an error the world is halted.
-    pub fn step(&mut self, alloc: Global, line: &Line) -> Result<Answer, WorldFault>
+    /// them; `Disk` only where a disk of that node failed more often. Any other error is want of
+    /// memory. After an error the world is halted.
+    pub fn step<D: StopDisk>(
+        &mut self,
+        alloc: Global,
+        pairs: &mut Vec<Pair<D>>,
+        line: &Line,
+    ) -> Result<Answer, WorldFault>
         requires running { is_halted self.old ≡ false }
         requires known { IsTrue (list_all (has_node (ids_of self.old)) (nodes_of line.now)) }
         requires fits { IsTrue (is_line line.now) }
-        requires taken { is_taken line.now ≡ true }
+        requires steps { steps line.now ≡ true }
+        requires sits { Sits (seen D.image_at D.moment self.old pairs.old.items) }
         ensures ids { ids_of self.new ≡ ids_of self.old }
-        ensures answer { (before : List Ran) → Stands before self.old → IfOk result (λ a. a ≡ answer_to (ids_of self.old) before (by_rule line.now)) }
-        ensures stands { (before : List Ran) → Stands before self.old → OnOk result (Stands (before ++ by_rule line.now ∷ []) self.new) }
-        ensures few { (before : List Ran) → Stands before self.old → OnOk result (events_of (ids_of self.old) (before ++ by_rule line.now ∷ []) ≤ MOST_EVENTS) }
-        ensures many { (before : List Ran) (which : ℕ) → Stands before self.old → IsErrOf result (WorldFault.TooMany which) → (which ≡ 1) × (MOST_EVENTS < events_of (ids_of self.old) (before ++ by_rule line.now ∷ [])) }
+        ensures places { places_of self.new ≡ places_of self.old }
+        ensures answer { (before : List Ran) → Stands before self.old (images D.image_at D.moment pairs.old.items) → IfOk result (λ a. a ≡ answer_to (ids_of self.old) before (by_rule line.now)) }
+        ensures stands { (before : List Ran) → Stands before self.old (images D.image_at D.moment pairs.old.items) → OnOk result (Stands (before ++ by_rule line.now ∷ []) self.new (images D.image_at D.moment pairs.new.items)) }
+        ensures few { (before : List Ran) → Stands before self.old (images D.image_at D.moment pairs.old.items) → OnOk result (events_of (ids_of self.old) (before ++ by_rule line.now ∷ []) ≤ MOST_EVENTS) }
+        ensures many { (before : List Ran) (which : ℕ) → Stands before self.old (images D.image_at D.moment pairs.old.items) → IsErrOf result (WorldFault.TooMany which) → (which ≡ 1) × (MOST_EVENTS < events_of (ids_of self.old) (before ++ by_rule line.now ∷ [])) }
         // Where a line is refused, whatever the refusal, no node keeps anything else, and nothing is
         // sent.
-        ensures refused { (why : Refusal) → IfOk result (λ a. a ≡ Answer.Refused why → Stays self.old.nodes.items self.new.nodes.items) }
+        ensures refused { (why : Refusal) → IfOk result (λ a. a ≡ Answer.Refused why → Stays (seen D.image_at D.moment self.old pairs.old.items) (seen D.image_at D.moment self.new pairs.new.items)) }
+        ensures sits { OnOk result (Sits (seen D.image_at D.moment self.new pairs.new.items)) }
+        ensures disks { LeavesDisks result (bench D.image_at D.moment D.faults D.armed D.picks pairs.old.items) (bench D.image_at D.moment D.faults D.armed D.picks pairs.new.items) }
         ensures running { OnOk result (is_halted self.new ≡ false) }
         ensures halted { OnErr result (is_halted self.new ≡ true) }
     {
-        let answered = self.run_line(alloc, line);
+        let answered = self.run_line(alloc, pairs, line);
         self.events.are_within();
         let failed = answered.is_err();
         self.halted = failed;
@@ -84,24 +107,45 @@ impl World {
     }
 
     // Runs a line, whether the world is halted or not.
-    fn run_line(&mut self, alloc: Global, line: &Line) -> Result<Answer, WorldFault>
+    fn run_line<D: StopDisk>(
+        &mut self,
+        alloc: Global,
+        pairs: &mut Vec<Pair<D>>,
+        line: &Line,
+    ) -> Result<Answer, WorldFault>
         requires known { IsTrue (list_all (has_node (ids_of self.old)) (nodes_of line.now)) }
         requires fits { IsTrue (is_line line.now) }
-        requires taken { is_taken line.now ≡ true }
+        requires steps { steps line.now ≡ true }
+        requires sits { Sits (seen D.image_at D.moment self.old pairs.old.items) }
         ensures ids { ids_of self.new ≡ ids_of self.old }
-        ensures answer { (before : List Ran) → Stands before self.old → IfOk result (λ a. a ≡ answer_to (ids_of self.old) before (by_rule line.now)) }
-        ensures stands { (before : List Ran) → Stands before self.old → OnOk result (Stands (before ++ by_rule line.now ∷ []) self.new) }
-        ensures many { (before : List Ran) (which : ℕ) → Stands before self.old → IsErrOf result (WorldFault.TooMany which) → (which ≡ 1) × (MOST_EVENTS < events_of (ids_of self.old) (before ++ by_rule line.now ∷ [])) }
-        ensures refused { (why : Refusal) → IfOk result (λ a. a ≡ Answer.Refused why → Stays self.old.nodes.items self.new.nodes.items) }
+        ensures places { places_of self.new ≡ places_of self.old }
+        ensures stops { self.new.stops ≡ self.old.stops }
+        ensures answer { (before : List Ran) → Stands before self.old (images D.image_at D.moment pairs.old.items) → IfOk result (λ a. a ≡ answer_to (ids_of self.old) before (by_rule line.now)) }
+        ensures stands { (before : List Ran) → Stands before self.old (images D.image_at D.moment pairs.old.items) → OnOk result (Stands (before ++ by_rule line.now ∷ []) self.new (images D.image_at D.moment pairs.new.items)) }
+        ensures many { (before : List Ran) (which : ℕ) → Stands before self.old (images D.image_at D.moment pairs.old.items) → IsErrOf result (WorldFault.TooMany which) → (which ≡ 1) × (MOST_EVENTS < events_of (ids_of self.old) (before ++ by_rule line.now ∷ [])) }
+        ensures sits { OnOk result (Sits (seen D.image_at D.moment self.new pairs.new.items)) }
+        ensures refused { (why : Refusal) → IfOk result (λ a. a ≡ Answer.Refused why → Stays (seen D.image_at D.moment self.old pairs.old.items) (seen D.image_at D.moment self.new pairs.new.items)) }
+        ensures disks { LeavesDisks result (bench D.image_at D.moment D.faults D.armed D.picks pairs.old.items) (bench D.image_at D.moment D.faults D.armed D.picks pairs.new.items) }
     {
         match line {
             Line::Step(step) => {
                 self.events.add(1)?;
-                Ok(self.run(alloc, step)?)
+                self.run(alloc, pairs, step)
             }
             Line::Calm { circuit, passes } => {
-                self.calm(alloc, *circuit, *passes)?;
+                self.calm(alloc, pairs, *circuit, *passes)?;
                 Ok(Answer::Calm { passes: *passes })
+            }
+            Line::Start(node) => {
+                self.events.add(1)?;
+                let slot = self.slot(node);
+                self.start_at(alloc, pairs, slot)?;
+                Ok(Answer::Power { up: true })
+            }
+            Line::Roll(node) => {
+                self.events.add(1)?;
+                let slot = self.slot(node);
+                Ok(self.roll_at(alloc, slot)?)
             }
             _ => unreachable!(),
         }

@@ -1,36 +1,41 @@
 //! All nodes of a run, and what happens at one of them.
-ghost use Rattle.std.specs.Prelude.{◌≡◌, ◌+◌, ◌<◌, ◌&&◌, [], length, true, false, IsTrue, IfOk, OnOk};
+ghost use Rattle.std.specs.Prelude.{◌≡◌, ◌+◌, ◌<◌, ◌&&◌, ℕ, List, length, true, false, IfOk, OnOk, IsErrOf};
 ghost use Rattle.std.specs.List.{position_from};
 ghost use Rattle.std.specs.Str.{bytes_eq};
 ghost use Rattle.spl_circuit.specs.Nodes.{NodeId as Id, has_node};
-ghost use Rattle.spl_circuit.specs.Rules.{ascends};
 ghost use Rattle.spl_sched.specs.declared.line.Step.TheVariants as step;
 ghost use Rattle.spl_rules.specs.Cells.{is_open_cell};
 ghost use Rattle.spl_rules.specs.Plans.{plan_of};
 ghost use Rattle.spl_rules.specs.Valid.{IsFor};
 ghost use Rattle.spl_model.specs.Worlds.{site_at, World as CircuitWorld, messages, carried_out, step_plan, step_world};
-ghost use Rattle.spl_world.specs.Views.{Holds, IsAt, IsUp, Moves, Stands, has_id, ids_of, is_halted, ups_of};
+ghost use Rattle.spl_world.specs.Disks.{Images, LeavesDisks, bench};
+ghost use Rattle.spl_world.specs.Views.{Holds, IsAt, IsUp, Moves, Sits, has_id, places_of, ids_of, is_halted, over, seen, ups_of};
 
 use crate::events::Events;
-use crate::node::Node;
+use crate::fault::WorldFault;
+use crate::slot::Slot;
+use crate::stops::Stops;
 use spl_base::{Boxed, CircuitId, NodeId};
+use spl_edge::{Pair, StopDisk};
 use spl_wire::{Answer, Event, Message, Refusal};
 use std::alloc::{AllocError, Global};
 
-/// The nodes of a run, in the order of their ids. Each keeps its cells, and what it sent, by
-/// itself. Beside them is how many events ran. The world is halted where a line found no memory or
-/// no room for an event: what was kept may be lost then, and nothing more may be asked.
+/// The nodes of a run, in the order of their ids. Each keeps its cells, over a pair of disks of its
+/// own, and what it sent. Beside them is how many events ran, and how many lines stopped a node. The
+/// world is halted where a line found no memory, a disk that failed or no room for an event or a
+/// stop: what was kept may be lost then, and nothing more may be asked.
 #[derive(Drop)]
 pub struct World {
-    nodes: Vec<Node>,
+    pub(crate) slots: Vec<Slot>,
     pub(crate) events: Events,
+    pub(crate) stops: Stops,
     pub(crate) halted: bool,
 }
 
-fn position_of(nodes: &[Node], node: &NodeId) -> Option<usize>
-    ensures { result ≡ position_from (has_id node.now) 0 nodes.now }
+fn position_of(slots: &[Slot], node: &NodeId) -> Option<usize>
+    ensures { result ≡ position_from (has_id node.now) 0 slots.now }
 {
-    nodes.iter().position(|x| x.id() == *node)
+    slots.iter().position(|slot| slot.id() == *node)
 }
 
 // An equal message, on the heap.
@@ -41,29 +46,18 @@ fn boxed(alloc: Global, message: &Message) -> Result<Boxed<Message>, AllocError>
 }
 
 impl World {
-    /// The nodes with these ids, where nothing happened yet.
-    pub fn new(alloc: Global, ids: &[NodeId]) -> Result<World, AllocError>
-        requires ordered { IsTrue (ascends ids.now) }
-        ensures ids { IfOk result (λ w. ids_of w ≡ ids.now) }
-        ensures running { IfOk result (λ w. is_halted w ≡ false) }
-        ensures stands { IfOk result (λ w. Stands [] w) }
-    {
-        let mut nodes = Vec::new(alloc);
-        for id in ids {
-            nodes.push(Node::new(alloc, *id))?;
-        }
-        Ok(World {
-            nodes,
-            events: Events::new(),
-            halted: false,
-        })
-    }
-
     /// How many events ran.
     pub fn events(&self) -> u32
         ensures { result ≡ self.now.events }
     {
         self.events.count()
+    }
+
+    /// How many lines stopped a node.
+    pub fn stops(&self) -> u8
+        ensures { result ≡ self.now.stops }
+    {
+        self.stops.count()
     }
 
     /// Whether a line has no answer.
@@ -75,104 +69,119 @@ impl World {
 
     // How many nodes there are.
     pub(crate) fn len(&self) -> usize
-        ensures { result ≡ length self.now.nodes.items }
+        ensures { result ≡ length self.now.slots.items }
     {
-        self.nodes.len()
+        self.slots.len()
     }
 
     // The index of a node.
     pub(crate) fn slot(&self, node: &NodeId) -> usize
         requires known { has_node (ids_of self.now) node.now ≡ true }
-        ensures at { IsAt self.now.nodes.items result node.now }
-        ensures below { result < length self.now.nodes.items }
+        ensures at { IsAt self.now result node.now }
+        ensures below { result < length self.now.slots.items }
     {
-        position_of(&self.nodes, node).unwrap()
+        position_of(&self.slots, node).unwrap()
     }
 
     // An event at the cell of a circuit at the node of this index, and its answer.
-    pub(crate) fn handle(
+    pub(crate) fn handle<D: StopDisk>(
         &mut self,
         alloc: Global,
+        pairs: &mut Vec<Pair<D>>,
         slot: usize,
         circuit: CircuitId,
         event: &Event,
-    ) -> Result<Answer, AllocError>
-        requires below { slot < length self.old.nodes.items }
-        requires own { (n : Id) → IsAt self.old.nodes.items slot n → IsFor (site_at n circuit) event.now }
+    ) -> Result<Answer, WorldFault>
+        requires below { slot < length self.old.slots.items }
+        requires up { IsUp self.old slot }
+        requires own { (n : Id) → IsAt self.old slot n → IsFor (site_at n circuit) event.now }
+        requires sits { Sits (seen D.image_at D.moment self.old pairs.old.items) }
         ensures ids { ids_of self.new ≡ ids_of self.old }
+        ensures places { places_of self.new ≡ places_of self.old }
+        ensures stops { self.new.stops ≡ self.old.stops }
         ensures ups { ups_of self.new ≡ ups_of self.old }
         ensures events { self.new.events ≡ self.old.events }
-        ensures answer { (m : CircuitWorld) (n : Id) → Holds circuit m self.old.nodes.items → IsAt self.old.nodes.items slot n → IfOk result (λ a. a ≡ (plan_of (site_at n circuit) (m.at n) event.now).answer) }
-        ensures moves { (n : Id) → IsAt self.old.nodes.items slot n → OnOk result (Moves circuit (λ m. carried_out m n (plan_of (site_at n circuit) (m.at n) event.now)) self.old.nodes.items self.new.nodes.items) }
+        ensures answer { (m : CircuitWorld) (n : Id) → Holds circuit m (seen D.image_at D.moment self.old pairs.old.items) → IsAt self.old slot n → IfOk result (λ a. a ≡ (plan_of (site_at n circuit) (m.at n) event.now).answer) }
+        ensures moves { (n : Id) → IsAt self.old slot n → OnOk result (Moves circuit (λ m. carried_out m n (plan_of (site_at n circuit) (m.at n) event.now)) (seen D.image_at D.moment self.old pairs.old.items) (seen D.image_at D.moment self.new pairs.new.items)) }
+        ensures sits { OnOk result (Sits (seen D.image_at D.moment self.new pairs.new.items)) }
+        ensures disks { LeavesDisks result (bench D.image_at D.moment D.faults D.armed D.picks pairs.old.items) (bench D.image_at D.moment D.faults D.armed D.picks pairs.new.items) }
+        ensures few { (which : ℕ) → IsErrOf result (WorldFault.TooMany which) → ⊥ }
     {
-        self.nodes[slot].handle(alloc, circuit, event)
+        let here = &mut self.slots[slot];
+        let disks = &mut pairs[here.position()];
+        here.handle(alloc, disks, &circuit, event)
     }
 
     // Whether the node of this index is up.
     pub(crate) fn is_up(&self, slot: usize) -> bool
-        requires below { slot < length self.now.nodes.items }
-        ensures world { (c : Id) (m : CircuitWorld) (n : Id) → Holds c m self.now.nodes.items → IsAt self.now.nodes.items slot n → result ≡ m.up n }
-        ensures up { result ≡ true → IsUp self.now.nodes.items slot }
+        requires below { slot < length self.now.slots.items }
+        ensures world { (is : List Images) (c : Id) (m : CircuitWorld) (n : Id) → Holds c m (over self.now is) → IsAt self.now slot n → result ≡ m.up n }
+        ensures up { result ≡ true → IsUp self.now slot }
     {
-        self.nodes[slot].is_up()
+        self.slots[slot].is_up()
     }
 
     // Whether the node of this index is up, and the cell of a circuit bound and open there.
     pub(crate) fn is_open(&self, slot: usize, circuit: &CircuitId) -> bool
-        requires below { slot < length self.now.nodes.items }
-        ensures { (m : CircuitWorld) (n : Id) → Holds circuit.now m self.now.nodes.items → IsAt self.now.nodes.items slot n → result ≡ (m.up n && is_open_cell (m.at n)) }
+        requires below { slot < length self.now.slots.items }
+        ensures world { (is : List Images) (m : CircuitWorld) (n : Id) → Holds circuit.now m (over self.now is) → IsAt self.now slot n → result ≡ (m.up n && is_open_cell (m.at n)) }
+        ensures up { result ≡ true → IsUp self.now slot }
     {
-        if !self.is_up(slot) {
-            return false;
-        }
-        self.nodes[slot].is_open(circuit)
+        self.slots[slot].is_open(circuit)
     }
 
     // Whether the nodes of these indexes are the same.
     pub(crate) fn is_same(&self, from: usize, to: usize) -> bool
-        requires from_below { from < length self.now.nodes.items }
-        requires to_below { to < length self.now.nodes.items }
-        ensures { (a b : Id) → IsAt self.now.nodes.items from a → IsAt self.now.nodes.items to b → result ≡ bytes_eq a b }
+        requires from_below { from < length self.now.slots.items }
+        requires to_below { to < length self.now.slots.items }
+        ensures { (a b : Id) → IsAt self.now from a → IsAt self.now to b → result ≡ bytes_eq a b }
     {
-        self.nodes[from].id() == self.nodes[to].id()
+        self.slots[from].id() == self.slots[to].id()
     }
 
     // How many messages about a circuit one node sent to another.
     pub(crate) fn count(&self, from: usize, to: usize, circuit: &CircuitId) -> usize
-        requires from_below { from < length self.now.nodes.items }
-        requires to_below { to < length self.now.nodes.items }
-        ensures { (m : CircuitWorld) (a b : Id) → Holds circuit.now m self.now.nodes.items → IsAt self.now.nodes.items from a → IsAt self.now.nodes.items to b → result ≡ length (messages m a b) }
+        requires from_below { from < length self.now.slots.items }
+        requires to_below { to < length self.now.slots.items }
+        ensures { (is : List Images) (m : CircuitWorld) (a b : Id) → Holds circuit.now m (over self.now is) → IsAt self.now from a → IsAt self.now to b → result ≡ length (messages m a b) }
     {
         if self.is_same(from, to) {
             return 0;
         }
-        let recipient = self.nodes[to].id();
-        self.nodes[from].count(circuit, &recipient)
+        let recipient = self.slots[to].id();
+        self.slots[from].count(circuit, &recipient)
     }
 
     // The message of this index, from 0, of those about a circuit that one node sent to another
     // comes there, where that one is up; and the answer.
-    pub(crate) fn deliver(
+    pub(crate) fn deliver<D: StopDisk>(
         &mut self,
         alloc: Global,
+        pairs: &mut Vec<Pair<D>>,
         from: usize,
         to: usize,
         circuit: CircuitId,
         index: usize,
-    ) -> Result<Answer, AllocError>
-        requires from_below { from < length self.old.nodes.items }
-        requires to_below { to < length self.old.nodes.items }
-        requires apart { (a b : Id) → IsAt self.old.nodes.items from a → IsAt self.old.nodes.items to b → bytes_eq a b ≡ false }
-        requires up { IsUp self.old.nodes.items to }
+    ) -> Result<Answer, WorldFault>
+        requires from_below { from < length self.old.slots.items }
+        requires to_below { to < length self.old.slots.items }
+        requires apart { (a b : Id) → IsAt self.old from a → IsAt self.old to b → bytes_eq a b ≡ false }
+        requires up { IsUp self.old to }
+        requires sits { Sits (seen D.image_at D.moment self.old pairs.old.items) }
         ensures ids { ids_of self.new ≡ ids_of self.old }
+        ensures places { places_of self.new ≡ places_of self.old }
+        ensures stops { self.new.stops ≡ self.old.stops }
         ensures ups { ups_of self.new ≡ ups_of self.old }
         ensures events { self.new.events ≡ self.old.events }
-        ensures answer { (m : CircuitWorld) (a b : Id) → Holds circuit m self.old.nodes.items → IsAt self.old.nodes.items from a → IsAt self.old.nodes.items to b → IfOk result (λ r. r ≡ (step_plan m (step.Deliver a b circuit (index + 1))).answer) }
-        ensures moves { (a b : Id) → IsAt self.old.nodes.items from a → IsAt self.old.nodes.items to b → OnOk result (Moves circuit (λ m. step_world m (step.Deliver a b circuit (index + 1))) self.old.nodes.items self.new.nodes.items) }
+        ensures answer { (m : CircuitWorld) (a b : Id) → Holds circuit m (seen D.image_at D.moment self.old pairs.old.items) → IsAt self.old from a → IsAt self.old to b → IfOk result (λ r. r ≡ (step_plan m (step.Deliver a b circuit (index + 1))).answer) }
+        ensures moves { (a b : Id) → IsAt self.old from a → IsAt self.old to b → OnOk result (Moves circuit (λ m. step_world m (step.Deliver a b circuit (index + 1))) (seen D.image_at D.moment self.old pairs.old.items) (seen D.image_at D.moment self.new pairs.new.items)) }
+        ensures sits { OnOk result (Sits (seen D.image_at D.moment self.new pairs.new.items)) }
+        ensures disks { LeavesDisks result (bench D.image_at D.moment D.faults D.armed D.picks pairs.old.items) (bench D.image_at D.moment D.faults D.armed D.picks pairs.new.items) }
+        ensures few { (which : ℕ) → IsErrOf result (WorldFault.TooMany which) → ⊥ }
     {
-        let sender = self.nodes[from].id();
-        let recipient = self.nodes[to].id();
-        let message = match self.nodes[from].message(&circuit, &recipient, index) {
+        let sender = self.slots[from].id();
+        let recipient = self.slots[to].id();
+        let message = match self.slots[from].message(&circuit, &recipient, index) {
             Some(message) => boxed(alloc, message)?,
             None => return Ok(Answer::Refused(Refusal::NoMessage)),
         };
@@ -180,6 +189,6 @@ impl World {
             from: sender,
             message,
         };
-        self.handle(alloc, to, circuit, &event)
+        self.handle(alloc, pairs, to, circuit, &event)
     }
 }

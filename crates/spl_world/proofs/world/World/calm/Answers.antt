@@ -4,7 +4,7 @@ use Rattle.spl_model.specs.Calm.{Calming, pass, passes, calming, calm}
 use Rattle.spl_model.specs.Worlds.{World as CircuitWorld}
 use Rattle.spl_model.specs.Quiet.{IsQuiet}
 use Rattle.spl_world.specs.Calms.{AreRows, IsSquare}
-use Rattle.spl_world.specs.Views.{Holds, ids_of}
+use Rattle.spl_world.specs.Views.{Holds, ids_of, seen}
 use Rattle.spl_world.specs.Counts.{Counts}
 use Rattle.spl_world.proofs.Calms.{passes_next, passes_front, sorted_already}
 use Rattle.spl_world.proofs.Counting.{counts_done, counts_then, counts_failed, failed, counts_memory, counts_to, at_most}
@@ -12,25 +12,27 @@ use Rattle.spl_world.proofs.Quieting.{calm_is, left_world, left_counts}
 use Rattle.spl_world.proofs.Composed.{spares_then}
 use Rattle.spl_world.proofs.Results.{on_ok}
 use Rattle.spl_world.proofs.Slots.{same_length}
+use Rattle.spl_world.specs.Disks.{images}
+use Rattle.spl_world.proofs.Leaving.{all_itself, all_then, leaves_counted, leaves_failed, leaves_memory, leaves_ok, leaves_then}
 use Rattle.spl_world.proofs.world.World.calm.Goals as goal
 
-pub pass-requires : goal.pass-requires
-pass-requires c = record { square = subst (λ (n : ℕ). IsSquare n c.loop-done.rows.items) (sym c.loop-done.invariant.0) c.loop-done.invariant.2 }
+pub pass-requires-clause-square : goal.pass-requires-clause-square
+pass-requires-clause-square g c = subst (λ (n : ℕ). IsSquare n c.loop-done.rows.items) (sym c.loop-done.invariant.0) c.loop-done.invariant.2
 
 pub loop-done-preserved : goal.loop-done-preserved
-loop-done-preserved c =
-    let xs = c.args.self.now.nodes.items in
+loop-done-preserved g c =
+    let xs = (seen g.D.Disk.image_at g.D.Disk.moment c.args.self.now c.args.pairs.now.items) in
     let ids = c.pass.ensures.ids ∙ c.loop-done.invariant.1 in (
-      same_length xs c.pass.new.self.nodes.items ids,
+      same_length c.args.self.now.slots.items c.pass.new.self.slots.items ids,
       ids,
       subst (λ (n : ℕ). IsSquare n c.pass.new.rows.items) c.loop-done.invariant.0 c.pass.ensures.square,
       λ m h.
           let so_far = c.loop-done.invariant.3 m h in
           let y : Calming = passes c.args.circuit (ids_of c.args.self.now) c.loop-done.done (calming m) in
           let rows = subst (λ (ns : List NodeId). AreRows y.taken ns c.loop-done.rows.items) (sym c.loop-done.invariant.1) so_far.1 in
-          subst (λ (w : Calming). Holds c.args.circuit w.world c.pass.new.self.nodes.items × AreRows w.taken (ids_of c.args.self.now) c.pass.new.rows.items) (sym (passes_next c.args.circuit (ids_of c.args.self.now) c.loop-done.done (calming m)))
-          (subst (λ (ns : List NodeId). Holds c.args.circuit (pass c.args.circuit ns y).world c.pass.new.self.nodes.items × AreRows (pass c.args.circuit ns y).taken ns c.pass.new.rows.items) c.loop-done.invariant.1 (c.in_ok-pass.ensures.own y so_far.0 rows)),
-      spares_then c.args.circuit xs c.loop-done.self.nodes.items c.pass.new.self.nodes.items c.loop-done.invariant.4 c.in_ok-pass.ensures.others,
+          subst (λ (w : Calming). Holds c.args.circuit w.world (seen g.D.Disk.image_at g.D.Disk.moment c.pass.new.self c.pass.new.pairs.items) × AreRows w.taken (ids_of c.args.self.now) c.pass.new.rows.items) (sym (passes_next c.args.circuit (ids_of c.args.self.now) c.loop-done.done (calming m)))
+          (subst (λ (ns : List NodeId). Holds c.args.circuit (pass c.args.circuit ns y).world (seen g.D.Disk.image_at g.D.Disk.moment c.pass.new.self c.pass.new.pairs.items) × AreRows (pass c.args.circuit ns y).taken ns c.pass.new.rows.items) c.loop-done.invariant.1 (c.in_ok-pass.ensures.own y so_far.0 rows)),
+      spares_then c.args.circuit xs (seen g.D.Disk.image_at g.D.Disk.moment c.loop-done.self c.loop-done.pairs.items) (seen g.D.Disk.image_at g.D.Disk.moment c.pass.new.self c.pass.new.pairs.items) c.loop-done.invariant.4 c.in_ok-pass.ensures.others,
       λ m h.
           let so_far = c.loop-done.invariant.3 m h in
           let y : Calming = passes c.args.circuit (ids_of c.args.self.now) c.loop-done.done (calming m) in
@@ -38,27 +40,31 @@ loop-done-preserved c =
           let next : length (passes c.args.circuit (ids_of c.args.self.now) (c.loop-done.done + 1) (calming m)).happened ≡ length (pass c.args.circuit (ids_of c.args.self.now) y).happened = ap (λ (w : Calming). length w.happened) (passes_next c.args.circuit (ids_of c.args.self.now) c.loop-done.done (calming m)) in
           let counts = subst (λ (ns : List NodeId). c.pass.new.self.events + length y.happened ≡ c.loop-done.self.events + length (pass c.args.circuit ns y).happened) c.loop-done.invariant.1 (c.in_ok-pass.ensures.counts y so_far.0 rows).ok in
           omega (arith, next, c.loop-done.invariant.5 m h, counts),
+      c.in_ok-pass.ensures.sits,
+      all_then _ _ _ c.loop-done.invariant.7 c.in_ok-pass.ensures.disks.onward,
+      c.pass.ensures.places ∙ c.loop-done.invariant.8,
+      c.pass.ensures.stops ∙ c.loop-done.invariant.9,
     )
 
 pub returns-clause-moves : goal.returns-clause-moves
-returns-clause-moves c =
+returns-clause-moves g c =
     let all : c.loop-done.done ≡ c.args.passes = omega (arith, c.loop-done.auto, c.loop-done-test.false) in
     record {
-      own = λ m h. subst (λ (ns : List NodeId). Holds c.args.circuit (passes c.args.circuit ns c.args.passes (calming m)).world c.loop-done.self.nodes.items) (sym (ap sorted h.nodes ∙ sorted_already (ids_of c.args.self.now) h.ordered))
-          (subst (λ (k : ℕ). Holds c.args.circuit (passes c.args.circuit (ids_of c.args.self.now) k (calming m)).world c.loop-done.self.nodes.items) all (c.loop-done.invariant.3 m h).0);
+      own = λ m h. subst (λ (ns : List NodeId). Holds c.args.circuit (passes c.args.circuit ns c.args.passes (calming m)).world (seen g.D.Disk.image_at g.D.Disk.moment c.loop-done.self c.loop-done.pairs.items)) (sym (ap sorted h.nodes ∙ sorted_already (ids_of c.args.self.now) h.ordered))
+          (subst (λ (k : ℕ). Holds c.args.circuit (passes c.args.circuit (ids_of c.args.self.now) k (calming m)).world (seen g.D.Disk.image_at g.D.Disk.moment c.loop-done.self c.loop-done.pairs.items)) all (c.loop-done.invariant.3 m h).0);
       others = c.loop-done.invariant.4;
     }
 
 pub loop-done-init : goal.loop-done-init
-loop-done-init c = (refl, refl, c.in_ok-rows.ensures.square, λ m h. (h, c.in_ok-rows.ensures.counts m h), λ d m off h. h, λ m h. refl)
+loop-done-init g c = (refl, refl, c.in_ok-rows.ensures.square, λ m h. (h, c.in_ok-rows.ensures.counts (images g.D.Disk.image_at g.D.Disk.moment c.args.pairs.now.items) m h), λ d m off h. h, λ m h. refl, c.requires.sits, all_itself _, refl, refl)
 
 -- ---- how many events
 
 pub returns-in_err-rows-clause-counts : goal.returns-in_err-rows-clause-counts
-returns-in_err-rows-clause-counts c = λ m h. counts_memory c.from_residual.result c.from_residual.ensures _ _ 0 (length (calm c.args.circuit m c.args.passes).happened)
+returns-in_err-rows-clause-counts g c = λ m h. counts_memory c.from_residual.result c.from_residual.ensures _ _ 0 (length (calm c.args.circuit m c.args.passes).happened)
 
 pub returns-in_err-pass-clause-counts : goal.returns-in_err-pass-clause-counts
-returns-in_err-pass-clause-counts c = λ m h.
+returns-in_err-pass-clause-counts g c = λ m h.
     let ids = ids_of c.args.self.now in
     let so_far = c.loop-done.invariant.3 m h in
     let y : Calming = passes c.args.circuit ids c.loop-done.done (calming m) in
@@ -66,20 +72,20 @@ returns-in_err-pass-clause-counts c = λ m h.
     let next : length (passes c.args.circuit ids (c.loop-done.done + 1) (calming m)).happened ≡ length (pass c.args.circuit ids y).happened = ap (λ (w : Calming). length w.happened) (passes_next c.args.circuit ids c.loop-done.done (calming m)) in
     let counts = subst (λ (ns : List NodeId). Counts (failed Bool c.in_err-pass.field-0.0) c.loop-done.self.events c.pass.new.self.events (length y.happened) (length (pass c.args.circuit ns y).happened)) c.loop-done.invariant.1 (c.in_err-pass.ensures.counts y so_far.0 rows) in
     let most : c.loop-done.done + 1 ≤ c.args.passes = omega (arith, c.loop-done-test.true) in
-    let whole = subst (λ (w : Calming). length (pass c.args.circuit ids y).happened ≤ length w.happened) (calm_is c.args.circuit m c.args.self.now.nodes.items c.args.passes h) (at_most _ _ _ next (passes_front c.args.circuit ids (c.loop-done.done + 1) c.args.passes (calming m) most)) in
+    let whole = subst (λ (w : Calming). length (pass c.args.circuit ids y).happened ≤ length w.happened) (calm_is c.args.circuit m (seen g.D.Disk.image_at g.D.Disk.moment c.args.self.now c.args.pairs.now.items) c.args.passes h) (at_most _ _ _ next (passes_front c.args.circuit ids (c.loop-done.done + 1) c.args.passes (calming m) most)) in
     counts_failed c.from_residual-in_err-pass.result _ c.from_residual-in_err-pass.ensures c.args.self.now.events _ _ 0 _ _ (counts_then _ c.args.self.now.events c.loop-done.self.events _ 0 (length y.happened) _ (c.loop-done.invariant.5 m h) counts) whole
 
 pub returns-clause-counts : goal.returns-clause-counts
-returns-clause-counts c = λ m h.
+returns-clause-counts g c = λ m h.
     let all : c.loop-done.done ≡ c.args.passes = omega (arith, c.loop-done.auto, c.loop-done-test.false) in
     counts_done _ c.args.self.now.events c.loop-done.self.events 0 _
-    (subst (λ (w : Calming). c.loop-done.self.events + 0 ≡ c.args.self.now.events + length w.happened) (calm_is c.args.circuit m c.args.self.now.nodes.items c.args.passes h)
+    (subst (λ (w : Calming). c.loop-done.self.events + 0 ≡ c.args.self.now.events + length w.happened) (calm_is c.args.circuit m (seen g.D.Disk.image_at g.D.Disk.moment c.args.self.now c.args.pairs.now.items) c.args.passes h)
     (subst (λ (k : ℕ). c.loop-done.self.events + 0 ≡ c.args.self.now.events + length (passes c.args.circuit (ids_of c.args.self.now) k (calming m)).happened) all (c.loop-done.invariant.5 m h)))
 
 -- ---- behind a quiet pass
 
 pub returns-then-not-branch-clause-counts : goal.returns-then-not-branch-clause-counts
-returns-then-not-branch-clause-counts c = λ m h.
+returns-then-not-branch-clause-counts g c = λ m h.
     let ids = ids_of c.args.self.now in
     let so_far = c.loop-done.invariant.3 m h in
     let y : Calming = passes c.args.circuit ids c.loop-done.done (calming m) in
@@ -87,18 +93,35 @@ returns-then-not-branch-clause-counts c = λ m h.
     let quiet : IsQuiet c.args.circuit ids y = subst (λ (ns : List NodeId). IsQuiet c.args.circuit ns y) c.loop-done.invariant.1 (c.in_ok-pass.ensures.quiet y so_far.0 rows c.if-not-branch.true) in
     let passed = subst (λ (ns : List NodeId). c.pass.new.self.events + length y.happened ≡ c.loop-done.self.events + length (pass c.args.circuit ns y).happened) c.loop-done.invariant.1 (c.in_ok-pass.ensures.counts y so_far.0 rows).ok in
     let ticks : c.saturating_sub-ticks.result ≡ c.pass.new.self.events - c.loop-done.self.events = omega (arith, c.saturating_sub-ticks.ensures, c.count.ensures.count, c.count-before.ensures.count) in
-    counts_to c.add.result c.args.self.now.events _ 0 _ _ (ap (λ (w : Calming). length w.happened) (calm_is c.args.circuit m c.args.self.now.nodes.items c.args.passes h))
+    counts_to c.add.result c.args.self.now.events _ 0 _ _ (ap (λ (w : Calming). length w.happened) (calm_is c.args.circuit m (seen g.D.Disk.image_at g.D.Disk.moment c.args.self.now c.args.pairs.now.items) c.args.passes h))
     (left_counts c.args.circuit ids (calming m) c.loop-done.done c.args.passes c.loop-done-test.true quiet c.add.result c.args.self.now.events c.loop-done.self.events c.pass.new.self.events _ c.saturating_sub-ticks.result ((c.args.passes - c.loop-done.done) - 1) refl (c.loop-done.invariant.5 m h) passed ticks c.add.ensures.counts)
 
 pub returns-then-not-branch-clause-moves : goal.returns-then-not-branch-clause-moves
-returns-then-not-branch-clause-moves c = on_ok c.add.result (record {
+returns-then-not-branch-clause-moves g c = on_ok c.add.result (record {
   own = λ m h.
       let ids = ids_of c.args.self.now in
       let so_far = c.loop-done.invariant.3 m h in
       let y : Calming = passes c.args.circuit ids c.loop-done.done (calming m) in
       let rows = subst (λ (ns : List NodeId). AreRows y.taken ns c.loop-done.rows.items) (sym c.loop-done.invariant.1) so_far.1 in
       let quiet : IsQuiet c.args.circuit ids y = subst (λ (ns : List NodeId). IsQuiet c.args.circuit ns y) c.loop-done.invariant.1 (c.in_ok-pass.ensures.quiet y so_far.0 rows c.if-not-branch.true) in
-      let behind = subst (λ (ns : List NodeId). Holds c.args.circuit (pass c.args.circuit ns y).world c.pass.new.self.nodes.items) c.loop-done.invariant.1 (c.in_ok-pass.ensures.own y so_far.0 rows).0 in
-      subst (λ (w : CircuitWorld). Holds c.args.circuit w c.pass.new.self.nodes.items) (sym (left_world c.args.circuit ids (calming m) c.loop-done.done c.args.passes c.loop-done-test.true quiet) ∙ ap (λ (w : Calming). w.world) (calm_is c.args.circuit m c.args.self.now.nodes.items c.args.passes h)) behind;
-  others = spares_then c.args.circuit c.args.self.now.nodes.items c.loop-done.self.nodes.items c.pass.new.self.nodes.items c.loop-done.invariant.4 c.in_ok-pass.ensures.others;
+      let behind = subst (λ (ns : List NodeId). Holds c.args.circuit (pass c.args.circuit ns y).world (seen g.D.Disk.image_at g.D.Disk.moment c.pass.new.self c.pass.new.pairs.items)) c.loop-done.invariant.1 (c.in_ok-pass.ensures.own y so_far.0 rows).0 in
+      subst (λ (w : CircuitWorld). Holds c.args.circuit w (seen g.D.Disk.image_at g.D.Disk.moment c.pass.new.self c.pass.new.pairs.items)) (sym (left_world c.args.circuit ids (calming m) c.loop-done.done c.args.passes c.loop-done-test.true quiet) ∙ ap (λ (w : Calming). w.world) (calm_is c.args.circuit m (seen g.D.Disk.image_at g.D.Disk.moment c.args.self.now c.args.pairs.now.items) c.args.passes h)) behind;
+  others = spares_then c.args.circuit (seen g.D.Disk.image_at g.D.Disk.moment c.args.self.now c.args.pairs.now.items) (seen g.D.Disk.image_at g.D.Disk.moment c.loop-done.self c.loop-done.pairs.items) (seen g.D.Disk.image_at g.D.Disk.moment c.pass.new.self c.pass.new.pairs.items) c.loop-done.invariant.4 c.in_ok-pass.ensures.others;
 })
+
+-- ---- the disks
+
+pub pass-requires-clause-sits : goal.pass-requires-clause-sits
+pass-requires-clause-sits g c = c.loop-done.invariant.6
+
+pub returns-in_err-rows-clause-disks : goal.returns-in_err-rows-clause-disks
+returns-in_err-rows-clause-disks g c = leaves_memory c.from_residual.result c.from_residual.ensures _
+
+pub returns-in_err-pass-clause-disks : goal.returns-in_err-pass-clause-disks
+returns-in_err-pass-clause-disks g c = leaves_failed c.from_residual-in_err-pass.result _ c.from_residual-in_err-pass.ensures _ _ (leaves_then _ _ _ _ c.loop-done.invariant.7 c.in_err-pass.ensures.disks)
+
+pub returns-then-not-branch-clause-disks : goal.returns-then-not-branch-clause-disks
+returns-then-not-branch-clause-disks g c = leaves_counted c.add.result 1 c.add.ensures.fault _ _ (all_then _ _ _ c.loop-done.invariant.7 c.in_ok-pass.ensures.disks.onward)
+
+pub returns-clause-disks : goal.returns-clause-disks
+returns-clause-disks g c = leaves_ok _ _ _ c.loop-done.invariant.7

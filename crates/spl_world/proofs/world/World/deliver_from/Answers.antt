@@ -1,32 +1,33 @@
-use Rattle.std.proofs.Common.{◌≡◌, ◌+◌, ◌-◌, ◌<◌, ◌≤◌, ℕ, ◌∙◌, ap, sym, subst, slice_get, Some, Bool, true, List, arith}
+use Rattle.std.proofs.Common.{◌≡◌, ◌+◌, ◌-◌, ◌<◌, ◌≤◌, ℕ, ◌∙◌, ap, sym, subst, slice_get, Some, Bool, true, List, arith, refl}
 use Rattle.spl_circuit.specs.Nodes.{NodeId}
 use Rattle.spl_sched.specs.declared.line.Step.TheVariants as step
 use Rattle.spl_model.specs.Worlds.{step_world}
-use Rattle.spl_world.specs.Views.{Moves}
-use Rattle.spl_world.proofs.Composed.{moves_then}
-use Rattle.spl_world.proofs.Counting.{counts_done, counts_more, counts_failed, counts_memory}
+use Rattle.spl_world.specs.Views.{Moves, seen}
+use Rattle.spl_world.proofs.Composed.{moves_nothing, moves_then}
+use Rattle.spl_world.proofs.Counting.{counts_done, counts_more, counts_failed, counts_other}
 use Rattle.spl_world.proofs.Delivery.{moves_as}
 use Rattle.spl_world.proofs.Slots.{same_length}
 use Rattle.spl_world.proofs.Turns.{delivered, deliver_more}
+use Rattle.spl_world.proofs.Leaving.{all_itself, all_then, leaves_failed, leaves_limit, leaves_ok, leaves_then}
 use Rattle.spl_world.proofs.world.World.deliver_from.Goals as goal
 
 pub deliver-requires-clause-from_below : goal.deliver-requires-clause-from_below
-deliver-requires-clause-from_below c = subst (λ (n : ℕ). c.args.from < n) (sym c.loop-index.invariant.0) c.requires.from_below
+deliver-requires-clause-from_below g c = subst (λ (n : ℕ). c.args.from < n) (sym c.loop-index.invariant.0) c.requires.from_below
 
 pub deliver-requires-clause-to_below : goal.deliver-requires-clause-to_below
-deliver-requires-clause-to_below c = subst (λ (n : ℕ). c.args.to < n) (sym c.loop-index.invariant.0) c.requires.to_below
+deliver-requires-clause-to_below g c = subst (λ (n : ℕ). c.args.to < n) (sym c.loop-index.invariant.0) c.requires.to_below
 
 pub deliver-requires-clause-apart : goal.deliver-requires-clause-apart
-deliver-requires-clause-apart c = λ a b at to. c.requires.apart a b (subst (λ (ns : List NodeId). slice_get ns c.args.from ≡ Some a) c.loop-index.invariant.1 at) (subst (λ (ns : List NodeId). slice_get ns c.args.to ≡ Some b) c.loop-index.invariant.1 to)
+deliver-requires-clause-apart g c = λ a b at to. c.requires.apart a b (subst (λ (ns : List NodeId). slice_get ns c.args.from ≡ Some a) c.loop-index.invariant.1 at) (subst (λ (ns : List NodeId). slice_get ns c.args.to ≡ Some b) c.loop-index.invariant.1 to)
 
 pub deliver-requires-clause-up : goal.deliver-requires-clause-up
-deliver-requires-clause-up c = subst (λ (us : List Bool). slice_get us c.args.to ≡ Some true) (sym c.loop-index.invariant.2) c.requires.up
+deliver-requires-clause-up g c = subst (λ (us : List Bool). slice_get us c.args.to ≡ Some true) (sym c.loop-index.invariant.2) c.requires.up
 
 pub loop-index-preserved : goal.loop-index-preserved
-loop-index-preserved c =
-    let xs = c.args.self.now.nodes.items in
+loop-index-preserved g c =
+    let xs = (seen g.D.Disk.image_at g.D.Disk.moment c.args.self.now c.args.pairs.now.items) in
     let ids = c.deliver.ensures.ids ∙ c.loop-index.invariant.1 in (
-      same_length xs c.deliver.new.self.nodes.items ids,
+      same_length c.args.self.now.slots.items c.deliver.new.self.slots.items ids,
       ids,
       c.deliver.ensures.ups ∙ c.loop-index.invariant.2,
       omega (arith, c.loop-index.invariant.3),
@@ -34,27 +35,63 @@ loop-index-preserved c =
       λ z a b at to.
           let first = ap (λ (ns : List NodeId). slice_get ns c.args.from) c.loop-index.invariant.1 ∙ at in
           let second = ap (λ (ns : List NodeId). slice_get ns c.args.to) c.loop-index.invariant.1 ∙ to in
-          moves_as c.args.circuit (λ m. step_world (delivered c.args.circuit z a b (c.args.taken + 1) (c.loop-index.index - c.args.taken) m) (step.Deliver a b c.args.circuit (c.loop-index.index + 1))) (delivered c.args.circuit z a b (c.args.taken + 1) ((c.loop-index.index + 1) - c.args.taken)) xs c.deliver.new.self.nodes.items
+          moves_as c.args.circuit (λ m. step_world (delivered c.args.circuit z a b (c.args.taken + 1) (c.loop-index.index - c.args.taken) m) (step.Deliver a b c.args.circuit (c.loop-index.index + 1))) (delivered c.args.circuit z a b (c.args.taken + 1) ((c.loop-index.index + 1) - c.args.taken)) xs (seen g.D.Disk.image_at g.D.Disk.moment c.deliver.new.self c.deliver.new.pairs.items)
           (λ m h. deliver_more c.args.circuit z a b c.args.taken c.loop-index.index m c.loop-index.invariant.3)
-          (moves_then c.args.circuit (delivered c.args.circuit z a b (c.args.taken + 1) (c.loop-index.index - c.args.taken)) (λ m. step_world m (step.Deliver a b c.args.circuit (c.loop-index.index + 1))) xs c.loop-index.self.nodes.items c.deliver.new.self.nodes.items
+          (moves_then c.args.circuit (delivered c.args.circuit z a b (c.args.taken + 1) (c.loop-index.index - c.args.taken)) (λ m. step_world m (step.Deliver a b c.args.circuit (c.loop-index.index + 1))) xs (seen g.D.Disk.image_at g.D.Disk.moment c.loop-index.self c.loop-index.pairs.items) (seen g.D.Disk.image_at g.D.Disk.moment c.deliver.new.self c.deliver.new.pairs.items)
           (c.loop-index.invariant.5 z a b at to) (c.in_ok-deliver.ensures.moves a b first second)),
       omega (arith, c.loop-index.invariant.3, c.loop-index.invariant.6, c.in_ok-add.ensures.counts.ok, c.deliver.ensures.events),
+      c.in_ok-deliver.ensures.sits,
+      all_then _ _ _ c.loop-index.invariant.8 c.in_ok-deliver.ensures.disks.onward,
+      c.deliver.ensures.places ∙ c.loop-index.invariant.9,
+      c.deliver.ensures.stops ∙ c.loop-index.invariant.10,
     )
 
 pub returns-clause-moves : goal.returns-clause-moves
-returns-clause-moves c = λ z a b at to.
+returns-clause-moves g c = λ z a b at to.
     let all : c.loop-index.index - c.args.taken ≡ c.args.all - c.args.taken = omega (arith, c.loop-index.invariant.3, c.loop-index.invariant.4, c.loop-index-test.false) in
-    subst (λ (k : ℕ). Moves c.args.circuit (delivered c.args.circuit z a b (c.args.taken + 1) k) c.args.self.now.nodes.items c.loop-index.self.nodes.items) all (c.loop-index.invariant.5 z a b at to)
+    subst (λ (k : ℕ). Moves c.args.circuit (delivered c.args.circuit z a b (c.args.taken + 1) k) (seen g.D.Disk.image_at g.D.Disk.moment c.args.self.now c.args.pairs.now.items) (seen g.D.Disk.image_at g.D.Disk.moment c.loop-index.self c.loop-index.pairs.items)) all (c.loop-index.invariant.5 z a b at to)
 
 pub returns-in_err-add-clause-counts : goal.returns-in_err-add-clause-counts
-returns-in_err-add-clause-counts c =
+returns-in_err-add-clause-counts g c =
     let most : (c.loop-index.index - c.args.taken) + 1 ≤ c.args.all - c.args.taken = omega (arith, c.loop-index.invariant.3, c.loop-index.invariant.4, c.loop-index-test.true) in
     counts_failed c.from_residual.result _ c.from_residual.ensures c.args.self.now.events _ _ 0 _ (c.args.all - c.args.taken) (counts_more _ c.args.self.now.events c.loop-index.self.events _ 0 (c.loop-index.index - c.args.taken) 1 c.loop-index.invariant.6 c.in_err-add.ensures.counts) most
 
 pub returns-in_err-deliver-clause-counts : goal.returns-in_err-deliver-clause-counts
-returns-in_err-deliver-clause-counts c = counts_memory c.from_residual-in_err-deliver.result c.from_residual-in_err-deliver.ensures _ _ 0 (c.args.all - c.args.taken)
+returns-in_err-deliver-clause-counts g c = counts_other c.from_residual-in_err-deliver.result _ c.from_residual-in_err-deliver.ensures c.in_err-deliver.ensures.few _ _ 0 (c.args.all - c.args.taken)
 
 pub returns-clause-counts : goal.returns-clause-counts
-returns-clause-counts c =
+returns-clause-counts g c =
     let all : c.loop-index.index - c.args.taken ≡ c.args.all - c.args.taken = omega (arith, c.loop-index.invariant.3, c.loop-index.invariant.4, c.loop-index-test.false) in
     counts_done _ c.args.self.now.events c.loop-index.self.events 0 (c.args.all - c.args.taken) (omega (arith, all, c.loop-index.invariant.6))
+
+-- ---- the disks
+
+pub loop-index-init : goal.loop-index-init
+loop-index-init g c =
+    let xs = (seen g.D.Disk.image_at g.D.Disk.moment c.args.self.now c.args.pairs.now.items) in
+    let none : c.args.taken - c.args.taken ≡ 0 = omega arith in (
+      refl,
+      refl,
+      refl,
+      omega arith,
+      omega arith,
+      λ z a b at to. moves_as c.args.circuit (λ m. m) (delivered c.args.circuit z a b (c.args.taken + 1) (c.args.taken - c.args.taken)) xs xs
+          (λ m h. sym (ap (λ (k : ℕ). delivered c.args.circuit z a b (c.args.taken + 1) k m) none)) (moves_nothing c.args.circuit xs),
+      omega arith,
+      c.requires.sits,
+      all_itself _,
+      refl,
+      refl,
+    )
+
+pub deliver-requires-clause-sits : goal.deliver-requires-clause-sits
+deliver-requires-clause-sits g c = c.loop-index.invariant.7
+
+pub returns-in_err-add-clause-disks : goal.returns-in_err-add-clause-disks
+returns-in_err-add-clause-disks g c = leaves_limit c.from_residual.result _ 1 c.from_residual.ensures c.in_err-add.ensures.fault _ _ c.loop-index.invariant.8
+
+pub returns-in_err-deliver-clause-disks : goal.returns-in_err-deliver-clause-disks
+returns-in_err-deliver-clause-disks g c = leaves_failed c.from_residual-in_err-deliver.result _ c.from_residual-in_err-deliver.ensures _ _ (leaves_then _ _ _ _ c.loop-index.invariant.8 c.in_err-deliver.ensures.disks)
+
+pub returns-clause-disks : goal.returns-clause-disks
+returns-clause-disks g c = leaves_ok _ _ _ c.loop-index.invariant.8

@@ -1,12 +1,16 @@
 use Rattle.std.proofs.Common.{◌≡◌, ◌+◌, ◌-◌, ◌≤◌, length}
 use Rattle.spl_circuit.specs.Nodes.{NodeId}
 use Rattle.spl_model.specs.Calm.{Calming}
-use Rattle.spl_world.specs.Views.{IsAt, Moves, ids_of, ups_of}
+use Rattle.spl_world.specs.Disks.{AllGoOn, bench}
+use Rattle.spl_world.specs.Views.{IsAt, Moves, ids_of, ups_of, Sits, places_of, seen}
 use Rattle.spl_world.proofs.Turns.{delivered}
 use Rattle.spl_world.proofs.world.World.deliver_from.Given as goal
 
 -- the messages so far are delivered
 abbrev pub invariant-loop-index : goal.invariant-loop-index
-invariant-loop-index l = (length l.self.nodes.items ≡ length l.fn.self.nodes.items) × (ids_of l.self ≡ ids_of l.fn.self) × (ups_of l.self ≡ ups_of l.fn.self) × (l.taken ≤ l.index) × (l.index - l.taken ≤ l.all - l.taken)
-    × ((z : Calming) (a b : NodeId) → IsAt l.fn.self.nodes.items l.from a → IsAt l.fn.self.nodes.items l.to b → Moves l.circuit (delivered l.circuit z a b (l.taken + 1) (l.index - l.taken)) l.fn.self.nodes.items l.self.nodes.items)
+invariant-loop-index g l = (length l.self.slots.items ≡ length l.fn.self.slots.items) × (ids_of l.self ≡ ids_of l.fn.self) × (ups_of l.self ≡ ups_of l.fn.self) × (l.taken ≤ l.index) × (l.index - l.taken ≤ l.all - l.taken)
+    × ((z : Calming) (a b : NodeId) → IsAt l.fn.self l.from a → IsAt l.fn.self l.to b → Moves l.circuit (delivered l.circuit z a b (l.taken + 1) (l.index - l.taken)) (seen g.D.Disk.image_at g.D.Disk.moment l.fn.self l.fn.pairs.items) (seen g.D.Disk.image_at g.D.Disk.moment l.self l.pairs.items))
     × (l.self.events + 0 ≡ l.fn.self.events + (l.index - l.taken))
+    × Sits (seen g.D.Disk.image_at g.D.Disk.moment l.self l.pairs.items)
+    × AllGoOn (bench g.D.Disk.image_at g.D.Disk.moment g.D.Disk.faults g.D.Disk.armed g.D.Disk.picks l.fn.pairs.items) (bench g.D.Disk.image_at g.D.Disk.moment g.D.Disk.faults g.D.Disk.armed g.D.Disk.picks l.pairs.items)
+    × (places_of l.self ≡ places_of l.fn.self) × (l.self.stops ≡ l.fn.self.stops)

@@ -4,35 +4,36 @@ use Rattle.std.proofs.lemmas.Option.{slice_get_read}
 use Rattle.spl_circuit.specs.Nodes.{NodeId}
 use Rattle.spl_model.specs.Calm.{Calming, to_all, from_all}
 use Rattle.spl_world.specs.Calms.{AreRows, row_of}
-use Rattle.spl_world.specs.Views.{Holds, ids_of}
+use Rattle.spl_world.specs.Views.{Holds, ids_of, seen}
 use Rattle.spl_world.specs.Counts.{Counts}
 use Rattle.spl_world.proofs.Calms.{from_all_front}
 use Rattle.spl_world.proofs.Composed.{spares_then}
 use Rattle.spl_world.proofs.Counting.{counts_done, counts_then, counts_failed, failed, at_most}
 use Rattle.spl_world.proofs.Slots.{some_at, same_length, length_ids, set_length}
 use Rattle.spl_world.proofs.Turns.{sender_own, from_all_next, square_set}
+use Rattle.spl_world.proofs.Leaving.{all_itself, all_then, leaves_failed, leaves_ok, leaves_then}
 use Rattle.spl_world.proofs.world.World.from_all.Goals as goal
 
 pub loop-from-preserved : goal.loop-from-preserved
-loop-from-preserved c =
-    let xs = c.args.self.now.nodes.items in
+loop-from-preserved g c =
+    let xs = (seen g.D.Disk.image_at g.D.Disk.moment c.args.self.now c.args.pairs.now.items) in
     let ids = c.to_all.ensures.ids ∙ c.loop-from.invariant.1 in
     let below = rw (c.len-from-end.ensures) at c.loop-from-test.true in
-    let sender = some_at xs c.loop-from.from below in
+    let sender = some_at c.args.self.now.slots.items c.loop-from.from below in
     let there : slice_get c.loop-from.rows.items c.loop-from.from ≡ Some c.index_mut.result.now =
     slice_get_read c.loop-from.rows.items (length c.loop-from.rows.items) c.loop-from.from c.index_mut.result.now refl (subst (λ (n : ℕ). c.loop-from.from < n) (sym c.loop-from.invariant.2.tall) below) c.index_mut.ensures.value in (
-      same_length xs c.to_all.new.self.nodes.items ids,
+      same_length c.args.self.now.slots.items c.to_all.new.self.slots.items ids,
       ids,
-      square_set (length xs) c.loop-from.rows.items c.loop-from.from c.to_all.new.row c.loop-from.invariant.2 (set_length c.loop-from.rows.items c.loop-from.from c.to_all.new.row) (c.to_all.ensures.wide ∙ c.loop-from.invariant.2.wide c.loop-from.from c.index_mut.result.now there),
+      square_set (length c.args.self.now.slots.items) c.loop-from.rows.items c.loop-from.from c.to_all.new.row c.loop-from.invariant.2 (set_length c.loop-from.rows.items c.loop-from.from c.to_all.new.row) (c.to_all.ensures.wide ∙ c.loop-from.invariant.2.wide c.loop-from.from c.index_mut.result.now there),
       λ z h rows.
           let so_far = c.loop-from.invariant.3 z h rows in
           let y : Calming = from_all c.args.circuit z (ids_of c.args.self.now) (take c.loop-from.from (ids_of c.args.self.now)) in
           let here : slice_get (ids_of c.loop-from.self) c.loop-from.from ≡ Some sender.0 = ap (λ (ns : List NodeId). slice_get ns c.loop-from.from) c.loop-from.invariant.1 ∙ sender.1 in
           let row = subst (λ (ns : List NodeId). c.index_mut.result.now.items ≡ row_of y.taken sender.0 ns) (sym c.loop-from.invariant.1) (so_far.1 c.loop-from.from sender.0 c.index_mut.result.now sender.1 there) in
-          sender_own c.args.circuit z (ids_of c.args.self.now) c.loop-from.from sender.0 c.to_all.new.self.nodes.items c.loop-from.rows.items c.to_all.new.row h.ordered sender.1 so_far.1
-          (subst (λ (ns : List NodeId). Holds c.args.circuit (to_all c.args.circuit y sender.0 ns).world c.to_all.new.self.nodes.items × (c.to_all.new.row.items ≡ row_of (to_all c.args.circuit y sender.0 ns).taken sender.0 ns)) c.loop-from.invariant.1
+          sender_own c.args.circuit z (ids_of c.args.self.now) c.loop-from.from sender.0 (seen g.D.Disk.image_at g.D.Disk.moment c.to_all.new.self c.to_all.new.pairs.items) c.loop-from.rows.items c.to_all.new.row h.ordered sender.1 so_far.1
+          (subst (λ (ns : List NodeId). Holds c.args.circuit (to_all c.args.circuit y sender.0 ns).world (seen g.D.Disk.image_at g.D.Disk.moment c.to_all.new.self c.to_all.new.pairs.items) × (c.to_all.new.row.items ≡ row_of (to_all c.args.circuit y sender.0 ns).taken sender.0 ns)) c.loop-from.invariant.1
           (c.in_ok-to_all.ensures.own y sender.0 so_far.0 here row)),
-      spares_then c.args.circuit xs c.loop-from.self.nodes.items c.to_all.new.self.nodes.items c.loop-from.invariant.4 c.in_ok-to_all.ensures.others,
+      spares_then c.args.circuit xs (seen g.D.Disk.image_at g.D.Disk.moment c.loop-from.self c.loop-from.pairs.items) (seen g.D.Disk.image_at g.D.Disk.moment c.to_all.new.self c.to_all.new.pairs.items) c.loop-from.invariant.4 c.in_ok-to_all.ensures.others,
       λ z h rows.
           let y : Calming = from_all c.args.circuit z (ids_of c.args.self.now) (take c.loop-from.from (ids_of c.args.self.now)) in
           let so_far = c.loop-from.invariant.3 z h rows in
@@ -41,25 +42,29 @@ loop-from-preserved c =
           let next : length (from_all c.args.circuit z (ids_of c.args.self.now) (take (c.loop-from.from + 1) (ids_of c.args.self.now))).happened ≡ length (to_all c.args.circuit y sender.0 (ids_of c.args.self.now)).happened = ap (λ (w : Calming). length w.happened) (from_all_next c.args.circuit z (ids_of c.args.self.now) c.loop-from.from sender.0 sender.1) in
           let counts = subst (λ (ns : List NodeId). c.to_all.new.self.events + length y.happened ≡ c.loop-from.self.events + length (to_all c.args.circuit y sender.0 ns).happened) c.loop-from.invariant.1 (c.in_ok-to_all.ensures.counts y sender.0 so_far.0 here row).ok in
           omega (arith, next, c.loop-from.invariant.5 z h rows, counts),
+      c.in_ok-to_all.ensures.sits,
+      all_then _ _ _ c.loop-from.invariant.7 c.in_ok-to_all.ensures.disks.onward,
+      c.to_all.ensures.places ∙ c.loop-from.invariant.8,
+      c.to_all.ensures.stops ∙ c.loop-from.invariant.9,
     )
 
 pub returns-clause-own : goal.returns-clause-own
-returns-clause-own c = λ z h rows.
-    subst (λ (ns : List NodeId). Holds c.args.circuit (from_all c.args.circuit z (ids_of c.args.self.now) ns).world c.loop-from.self.nodes.items × AreRows (from_all c.args.circuit z (ids_of c.args.self.now) ns).taken (ids_of c.args.self.now) c.loop-from.rows.items)
-    (take_all c.loop-from.from (ids_of c.args.self.now) (subst (λ (k : ℕ). k ≤ c.loop-from.from) (c.len-from-end.ensures ∙ sym (length_ids c.args.self.now.nodes.items)) c.loop-from-test.false)) (c.loop-from.invariant.3 z h rows)
+returns-clause-own g c = λ z h rows.
+    subst (λ (ns : List NodeId). Holds c.args.circuit (from_all c.args.circuit z (ids_of c.args.self.now) ns).world (seen g.D.Disk.image_at g.D.Disk.moment c.loop-from.self c.loop-from.pairs.items) × AreRows (from_all c.args.circuit z (ids_of c.args.self.now) ns).taken (ids_of c.args.self.now) c.loop-from.rows.items)
+    (take_all c.loop-from.from (ids_of c.args.self.now) (subst (λ (k : ℕ). k ≤ c.loop-from.from) (c.len-from-end.ensures ∙ sym (length_ids c.args.self.now.slots.items)) c.loop-from-test.false)) (c.loop-from.invariant.3 z h rows)
 
 pub returns-in_err-to_all-clause-square : goal.returns-in_err-to_all-clause-square
-returns-in_err-to_all-clause-square c =
-    let xs = c.args.self.now.nodes.items in
+returns-in_err-to_all-clause-square g c =
+    let xs = (seen g.D.Disk.image_at g.D.Disk.moment c.args.self.now c.args.pairs.now.items) in
     let below = rw (c.len-from-end.ensures) at c.loop-from-test.true in
     let there : slice_get c.loop-from.rows.items c.loop-from.from ≡ Some c.index_mut.result.now =
     slice_get_read c.loop-from.rows.items (length c.loop-from.rows.items) c.loop-from.from c.index_mut.result.now refl (subst (λ (n : ℕ). c.loop-from.from < n) (sym c.loop-from.invariant.2.tall) below) c.index_mut.ensures.value in
-    square_set (length xs) c.loop-from.rows.items c.loop-from.from c.to_all.new.row c.loop-from.invariant.2 (set_length c.loop-from.rows.items c.loop-from.from c.to_all.new.row) (c.to_all.ensures.wide ∙ c.loop-from.invariant.2.wide c.loop-from.from c.index_mut.result.now there)
+    square_set (length c.args.self.now.slots.items) c.loop-from.rows.items c.loop-from.from c.to_all.new.row c.loop-from.invariant.2 (set_length c.loop-from.rows.items c.loop-from.from c.to_all.new.row) (c.to_all.ensures.wide ∙ c.loop-from.invariant.2.wide c.loop-from.from c.index_mut.result.now there)
 
 pub returns-in_err-to_all-clause-counts : goal.returns-in_err-to_all-clause-counts
-returns-in_err-to_all-clause-counts c = λ z h rows.
+returns-in_err-to_all-clause-counts g c = λ z h rows.
     let below = rw (c.len-from-end.ensures) at c.loop-from-test.true in
-    let sender = some_at c.args.self.now.nodes.items c.loop-from.from below in
+    let sender = some_at c.args.self.now.slots.items c.loop-from.from below in
     let there : slice_get c.loop-from.rows.items c.loop-from.from ≡ Some c.index_mut.result.now =
     slice_get_read c.loop-from.rows.items (length c.loop-from.rows.items) c.loop-from.from c.index_mut.result.now refl (subst (λ (n : ℕ). c.loop-from.from < n) (sym c.loop-from.invariant.2.tall) below) c.index_mut.ensures.value in
     let y : Calming = from_all c.args.circuit z (ids_of c.args.self.now) (take c.loop-from.from (ids_of c.args.self.now)) in
@@ -73,7 +78,21 @@ returns-in_err-to_all-clause-counts c = λ z h rows.
     (at_most _ _ _ next (from_all_front c.args.circuit z (ids_of c.args.self.now) (ids_of c.args.self.now) (c.loop-from.from + 1)))
 
 pub returns-clause-counts : goal.returns-clause-counts
-returns-clause-counts c = λ z h rows.
+returns-clause-counts g c = λ z h rows.
     counts_done _ c.args.self.now.events c.loop-from.self.events (length z.happened) _
     (subst (λ (ns : List NodeId). c.loop-from.self.events + length z.happened ≡ c.args.self.now.events + length (from_all c.args.circuit z (ids_of c.args.self.now) ns).happened)
-    (take_all c.loop-from.from (ids_of c.args.self.now) (subst (λ (k : ℕ). k ≤ c.loop-from.from) (c.len-from-end.ensures ∙ sym (length_ids c.args.self.now.nodes.items)) c.loop-from-test.false)) (c.loop-from.invariant.5 z h rows))
+    (take_all c.loop-from.from (ids_of c.args.self.now) (subst (λ (k : ℕ). k ≤ c.loop-from.from) (c.len-from-end.ensures ∙ sym (length_ids c.args.self.now.slots.items)) c.loop-from-test.false)) (c.loop-from.invariant.5 z h rows))
+
+-- ---- the disks
+
+pub loop-from-init : goal.loop-from-init
+loop-from-init g c = (refl, refl, c.requires.square, λ z h rows. (h, rows), λ d m off h. h, λ z h rows. refl, c.requires.sits, all_itself _, refl, refl)
+
+pub to_all-requires-clause-sits : goal.to_all-requires-clause-sits
+to_all-requires-clause-sits g c = c.loop-from.invariant.6
+
+pub returns-in_err-to_all-clause-disks : goal.returns-in_err-to_all-clause-disks
+returns-in_err-to_all-clause-disks g c = leaves_failed c.from_residual.result _ c.from_residual.ensures _ _ (leaves_then _ _ _ _ c.loop-from.invariant.7 c.in_err-to_all.ensures.disks)
+
+pub returns-clause-disks : goal.returns-clause-disks
+returns-clause-disks g c = leaves_ok _ _ _ c.loop-from.invariant.7

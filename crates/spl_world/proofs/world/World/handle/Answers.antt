@@ -1,32 +1,98 @@
-use Rattle.std.proofs.Common.{◌≡◌, ◌∙◌, ap, refl, length, slice_get, Some}
+use Rattle.std.proofs.Common.{◌∙◌, arith, ap, refl, sym, length}
 use Rattle.std.proofs.lemmas.Option.{slice_get_read}
+use Rattle.spl_model.specs.Worlds.{site_at}
+use Rattle.spl_rules.specs.Plans.{plan_of}
 use Rattle.spl_wire.specs.declared.plan.Plan.{Plan}
-use Rattle.spl_world.proofs.Moving.{event_moves, same_plan}
-use Rattle.spl_world.proofs.Results.{when_ok, ok_both}
-use Rattle.spl_world.proofs.Slots.{same_ids, id_at}
-use Rattle.spl_world.proofs.Up.{same_ups}
+use Rattle.spl_world.specs.Kept.{NodeView}
+use Rattle.spl_world.specs.Views.{seen, slot_id}
+use Rattle.spl_world.proofs.Handling.{pair_below, own_stands, own_view, own_sits, own_moves, one_leaves}
+use Rattle.spl_world.proofs.Moving.{same_plan}
+use Rattle.spl_world.proofs.Results.{at_ok, ok_both, when_ok}
+use Rattle.spl_world.proofs.Slots.{same_ids, same_places, id_at}
+use Rattle.spl_world.proofs.Up.{is_there_up, same_ups}
 use Rattle.spl_world.proofs.world.World.handle.Goals as goal
-use Rattle.spl_world.proofs.world.World.handle.Goals.{After-index_mut}
 
-abbrev there : (c : goal.After-index_mut) → slice_get c.args.self.now.nodes.items c.args.slot ≡ Some c.index_mut.result.now
-there c = slice_get_read c.args.self.now.nodes.items (length c.args.self.now.nodes.items) c.args.slot c.index_mut.result.now refl c.requires.below c.index_mut.ensures.value
+pub index_mut-disks-requires : goal.index_mut-disks-requires
+index_mut-disks-requires g c =
+    let ss = c.args.self.now.slots.items in
+    let there = slice_get_read ss (length ss) c.args.slot c.index_mut-here.result.now refl c.requires.below c.index_mut-here.ensures.value in
+    let below = pair_below g.D.Disk.image_at g.D.Disk.moment ss c.args.pairs.now.items c.args.slot c.index_mut-here.result.now c.requires.sits there c.position.result c.position.ensures in
+    omega (arith, below, c.args.pairs.now.ok.0)
 
-abbrev found : (c : goal.After-self-1) → slice_get c.args.self.now.nodes.items c.args.slot ≡ Some c.index_mut.result.now
-found c = slice_get_read c.args.self.now.nodes.items (length c.args.self.now.nodes.items) c.args.slot c.index_mut.result.now refl c.requires.below c.index_mut.ensures.value
+pub handle-requires-clause-up : goal.handle-requires-clause-up
+handle-requires-clause-up g c =
+    let ss = c.args.self.now.slots.items in
+    is_there_up ss c.args.slot c.index_mut-here.result.now (slice_get_read ss (length ss) c.args.slot c.index_mut-here.result.now refl c.requires.below c.index_mut-here.ensures.value) c.requires.up
 
-pub handle-requires : goal.handle-requires
-handle-requires c = c.requires.own c.index_mut.result.now.id (id_at c.args.self.now.nodes.items c.args.slot c.index_mut.result.now (there c))
+pub handle-requires-clause-own : goal.handle-requires-clause-own
+handle-requires-clause-own g c =
+    let ss = c.args.self.now.slots.items in
+    c.requires.own (slot_id c.index_mut-here.result.now) (id_at ss c.args.slot c.index_mut-here.result.now (slice_get_read ss (length ss) c.args.slot c.index_mut-here.result.now refl c.requires.below c.index_mut-here.ensures.value))
+
+pub handle-requires-clause-stands : goal.handle-requires-clause-stands
+handle-requires-clause-stands g c =
+    let ss = c.args.self.now.slots.items in
+    let ps = c.args.pairs.now.items in
+    let s = c.index_mut-here.result.now in
+    let there = slice_get_read ss (length ss) c.args.slot s refl c.requires.below c.index_mut-here.ensures.value in
+    let below = pair_below g.D.Disk.image_at g.D.Disk.moment ss ps c.args.slot s c.requires.sits there c.position.result c.position.ensures in
+    own_stands g.D.Disk.image_at g.D.Disk.moment ss ps c.args.slot s c.requires.sits there c.position.result c.position.ensures c.index_mut-disks.result.now (slice_get_read ps (length ps) c.position.result c.index_mut-disks.result.now refl below c.index_mut-disks.ensures.value)
 
 pub returns-clause-ids : goal.returns-clause-ids
-returns-clause-ids c = same_ids c.args.self.now.nodes.items c.args.slot c.index_mut.result.now c.handle.new.self (found c) c.handle.ensures.id
+returns-clause-ids g c =
+    let ss = c.args.self.now.slots.items in
+    same_ids ss c.args.slot c.index_mut-here.result.now c.handle.new.self (slice_get_read ss (length ss) c.args.slot c.index_mut-here.result.now refl c.requires.below c.index_mut-here.ensures.value) c.handle.ensures.id
 
 pub returns-clause-ups : goal.returns-clause-ups
-returns-clause-ups c = same_ups c.args.self.now.nodes.items c.args.slot c.index_mut.result.now c.handle.new.self (found c) c.handle.ensures.up
+returns-clause-ups g c =
+    let ss = c.args.self.now.slots.items in
+    same_ups ss c.args.slot c.index_mut-here.result.now c.handle.new.self (slice_get_read ss (length ss) c.args.slot c.index_mut-here.result.now refl c.requires.below c.index_mut-here.ensures.value) c.handle.ensures.up
+
+pub returns-clause-places : goal.returns-clause-places
+returns-clause-places g c =
+    let ss = c.args.self.now.slots.items in
+    same_places ss c.args.slot c.index_mut-here.result.now c.handle.new.self (slice_get_read ss (length ss) c.args.slot c.index_mut-here.result.now refl c.requires.below c.index_mut-here.ensures.value) c.handle.ensures.position
 
 pub returns-clause-answer : goal.returns-clause-answer
-returns-clause-answer c = λ m n h at. when_ok c.handle.result (λ a e. e ∙ ap (λ (p : Plan). p.answer) (same_plan c.args.self.now.nodes.items c.args.slot c.index_mut.result.now c.args.circuit n c.args.event.now m (found c) at h)) c.handle.ensures.answer
+returns-clause-answer g c = λ m n h at.
+    let ss = c.args.self.now.slots.items in
+    let ps = c.args.pairs.now.items in
+    let s = c.index_mut-here.result.now in
+    let there = slice_get_read ss (length ss) c.args.slot s refl c.requires.below c.index_mut-here.ensures.value in
+    let below = pair_below g.D.Disk.image_at g.D.Disk.moment ss ps c.args.slot s c.requires.sits there c.position.result c.position.ensures in
+    let pair = slice_get_read ps (length ps) c.position.result c.index_mut-disks.result.now refl below c.index_mut-disks.ensures.value in
+    let view = own_view g.D.Disk.image_at g.D.Disk.moment ss ps c.args.slot s c.requires.sits there c.position.result c.position.ensures c.index_mut-disks.result.now pair in
+    when_ok c.handle.result (λ a e. e ∙ (ap (λ (v : NodeView). (plan_of (site_at (slot_id s) c.args.circuit) (v.cells c.args.circuit) c.args.event.now).answer) (sym view) ∙ ap (λ (p : Plan). p.answer) (same_plan (seen g.D.Disk.image_at g.D.Disk.moment c.args.self.now ps) c.args.slot s c.args.circuit n c.args.event.now m there at h))) c.handle.ensures.answer
 
 pub returns-clause-moves : goal.returns-clause-moves
-returns-clause-moves c = λ n at. ok_both c.handle.result
-    (λ done others. event_moves c.args.self.now.nodes.items c.args.slot c.index_mut.result.now c.handle.new.self c.args.circuit n c.args.event.now (found c) c.handle.ensures.id c.handle.ensures.up at done others)
+returns-clause-moves g c = λ n at.
+    let ss = c.args.self.now.slots.items in
+    let ps = c.args.pairs.now.items in
+    let s = c.index_mut-here.result.now in
+    let there = slice_get_read ss (length ss) c.args.slot s refl c.requires.below c.index_mut-here.ensures.value in
+    let below = pair_below g.D.Disk.image_at g.D.Disk.moment ss ps c.args.slot s c.requires.sits there c.position.result c.position.ensures in
+    let pair = slice_get_read ps (length ps) c.position.result c.index_mut-disks.result.now refl below c.index_mut-disks.ensures.value in
+    ok_both c.handle.result
+    (λ done others. own_moves g.D.Disk.image_at g.D.Disk.moment ss ps c.args.slot s c.requires.sits there c.position.result c.position.ensures c.index_mut-disks.result.now pair c.handle.new.self c.handle.new.disks c.args.circuit n c.args.event.now
+    c.handle.ensures.position c.handle.ensures.id c.handle.ensures.up at done others)
     c.handle.ensures.done c.handle.ensures.others
+
+pub returns-clause-sits : goal.returns-clause-sits
+returns-clause-sits g c =
+    let ss = c.args.self.now.slots.items in
+    let ps = c.args.pairs.now.items in
+    let s = c.index_mut-here.result.now in
+    let there = slice_get_read ss (length ss) c.args.slot s refl c.requires.below c.index_mut-here.ensures.value in
+    let below = pair_below g.D.Disk.image_at g.D.Disk.moment ss ps c.args.slot s c.requires.sits there c.position.result c.position.ensures in
+    let pair = slice_get_read ps (length ps) c.position.result c.index_mut-disks.result.now refl below c.index_mut-disks.ensures.value in
+    at_ok c.handle.result (own_sits g.D.Disk.image_at g.D.Disk.moment ss ps c.args.slot s c.requires.sits there c.position.result c.position.ensures c.index_mut-disks.result.now pair c.handle.new.self c.handle.new.disks c.handle.ensures.position) c.handle.ensures.stands
+
+pub returns-clause-disks : goal.returns-clause-disks
+returns-clause-disks g c =
+    let ss = c.args.self.now.slots.items in
+    let ps = c.args.pairs.now.items in
+    let s = c.index_mut-here.result.now in
+    let there = slice_get_read ss (length ss) c.args.slot s refl c.requires.below c.index_mut-here.ensures.value in
+    let below = pair_below g.D.Disk.image_at g.D.Disk.moment ss ps c.args.slot s c.requires.sits there c.position.result c.position.ensures in
+    let pair = slice_get_read ps (length ps) c.position.result c.index_mut-disks.result.now refl below c.index_mut-disks.ensures.value in
+    one_leaves g.D.Disk.image_at g.D.Disk.moment g.D.Disk.faults g.D.Disk.armed g.D.Disk.picks c.handle.result ps c.position.result c.index_mut-disks.result.now c.handle.new.disks s.position pair c.position.ensures c.handle.ensures.onward c.handle.ensures.failed

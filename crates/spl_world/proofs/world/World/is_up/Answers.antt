@@ -1,14 +1,15 @@
 use Rattle.std.proofs.Common.{◌∙◌, refl, sym, ap, length, Some}
 use Rattle.std.proofs.lemmas.Option.{slice_get_read}
+use Rattle.spl_world.specs.Views.{over}
 use Rattle.spl_world.proofs.Up.{up_as, up_at}
 use Rattle.spl_world.proofs.world.World.is_up.Goals as goal
 
 pub returns-clause-world : goal.returns-clause-world
-returns-clause-world c = λ i m n h at.
-    let xs = c.args.self.now.nodes.items in
-    c.is_up.ensures ∙ up_as i m xs c.args.slot c.index.result.now n h (slice_get_read xs (length xs) c.args.slot c.index.result.now refl c.requires.below c.index.ensures) at
+returns-clause-world c = λ is i m n h at.
+    let xs = c.args.self.now.slots.items in
+    c.is_up.ensures ∙ up_as i m (over c.args.self.now is) c.args.slot c.index.result.now n h (slice_get_read xs (length xs) c.args.slot c.index.result.now refl c.requires.below c.index.ensures) at
 
 pub returns-clause-up : goal.returns-clause-up
 returns-clause-up c = λ up.
-    let xs = c.args.self.now.nodes.items in
+    let xs = c.args.self.now.slots.items in
     up_at xs c.args.slot c.index.result.now (slice_get_read xs (length xs) c.args.slot c.index.result.now refl c.requires.below c.index.ensures) ∙ ap (λ b. Some b) (sym c.is_up.ensures ∙ up)

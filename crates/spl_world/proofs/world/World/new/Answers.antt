@@ -1,19 +1,135 @@
-use Rattle.std.proofs.Common.{◌≡◌, ◌+◌, ◌++◌, ◌∷◌, [], take, List, ℕ, refl, ap, sym, ◌∙◌}
-use Rattle.std.proofs.lemmas.List.{take_more, take_all}
+use Rattle.std.proofs.Common.{◌<◌, ◌≤◌, slice_set, ◌+◌, ◌++◌, ◌∷◌, [], ℕ, ◌∙◌, List, arith, ap, refl, sym, subst, length}
+use Rattle.std.proofs.lemmas.List.{take_all}
+use Rattle.std.proofs.lemmas.Option.{slice_get_read}
 use Rattle.spl_circuit.specs.Rules.{ascends}
-use Rattle.spl_world.specs.Views.{ids_in}
-use Rattle.spl_world.proofs.Fresh.{ids_append, fresh_append, fresh_holds}
 use Rattle.spl_projection.proofs.Counts.{events-none}
+use Rattle.spl_world.specs.declared.slot.Slot.{Slot}
+use Rattle.spl_world.specs.Disks.{AreBlank, Images, images, images_of}
+use Rattle.spl_world.specs.Views.{slot_ids}
+use Rattle.spl_world.proofs.Handling.{one_leaves, one_onward}
+use Rattle.spl_world.proofs.Leaving.{all_itself, all_then, leaves_failed, leaves_memory, leaves_ok, leaves_other, leaves_then}
+use Rattle.spl_world.proofs.Made.{AreMade, IsEntry, entry_at, entry_below, known_here, made_holds, made_placed, made_sits, none_made, one_more, still_there}
+use Rattle.spl_world.proofs.Pairing.{images_here, images_length, images_set, pair_here}
 use Rattle.spl_world.proofs.world.World.new.Goals as goal
 
+pub loop-id-init : goal.loop-id-init
+loop-id-init g c = record {
+  made = subst (λ (ss : List Slot). AreMade c.args.registry.now c.deref-id-items.result.now 0 ss (images g.D.Disk.image_at g.D.Disk.moment c.args.pairs.now.items) (images g.D.Disk.image_at g.D.Disk.moment c.args.pairs.now.items)) (sym c.new-slots.ensures.items)
+      (none_made c.args.registry.now c.deref-id-items.result.now (images g.D.Disk.image_at g.D.Disk.moment c.args.pairs.now.items));
+  onward = all_itself _;
+}
+
+pub unwrap-position-requires : goal.unwrap-position-requires
+unwrap-position-requires g c =
+    let ns = c.deref-id-items.result.now in
+    rw (c.slot.ensures.value) (known_here c.args.registry.now ns c.loop-id.id-index c.id-item.result (c.deref-id-items.ensures.value ∙ c.in_ok-ids.ensures.ids) (slice_get_read ns (length ns) c.loop-id.id-index c.id-item.result refl c.loop-id-test.true c.id-item.is))
+
+pub index_mut-disks-requires : goal.index_mut-disks-requires
+index_mut-disks-requires g c =
+    let es = c.args.registry.now in
+    let ns = c.deref-id-items.result.now in
+    let ps = c.loop-id.pairs.items in
+    let n = c.id-item.result in
+    let order = ap ascends c.deref-id-items.ensures.value ∙ c.in_ok-ids.ensures.ordered in
+    let at = slice_get_read ns (length ns) c.loop-id.id-index n refl c.loop-id-test.true c.id-item.is in
+    let entry : IsEntry es c.from.result n = subst (λ (j : ℕ). IsEntry es j n) (sym c.from.ensures) (entry_at es n c.unwrap-position.result (sym c.slot.ensures.value ∙ c.unwrap-position.ensures)) in
+    let few = entry_below es c.from.result n entry in
+    let below : c.from.result < length ps = omega (arith, few, c.requires.room, c.loop-id.invariant.made.as_many, images_length g.D.Disk.image_at g.D.Disk.moment ps, images_length g.D.Disk.image_at g.D.Disk.moment c.args.pairs.now.items) in
+    omega (arith, below, c.loop-id.pairs.ok.0)
+
+pub new-requires : goal.new-requires
+new-requires g c =
+    let es = c.args.registry.now in
+    let ns = c.deref-id-items.result.now in
+    let ps = c.loop-id.pairs.items in
+    let n = c.id-item.result in
+    let order = ap ascends c.deref-id-items.ensures.value ∙ c.in_ok-ids.ensures.ordered in
+    let at = slice_get_read ns (length ns) c.loop-id.id-index n refl c.loop-id-test.true c.id-item.is in
+    let entry : IsEntry es c.from.result n = subst (λ (j : ℕ). IsEntry es j n) (sym c.from.ensures) (entry_at es n c.unwrap-position.result (sym c.slot.ensures.value ∙ c.unwrap-position.ensures)) in
+    let few = entry_below es c.from.result n entry in
+    let below : c.from.result < length ps = omega (arith, few, c.requires.room, c.loop-id.invariant.made.as_many, images_length g.D.Disk.image_at g.D.Disk.moment ps, images_length g.D.Disk.image_at g.D.Disk.moment c.args.pairs.now.items) in
+    let pair = slice_get_read ps (length ps) c.from.result c.index_mut-disks.result.now refl below c.index_mut-disks.ensures.value in
+    let still = still_there es ns c.loop-id.id-index c.loop-id.slots.items (images g.D.Disk.image_at g.D.Disk.moment c.args.pairs.now.items) (images g.D.Disk.image_at g.D.Disk.moment ps) n c.from.result order c.loop-id.invariant.made at entry in
+    record { blank = subst AreBlank (sym still ∙ pair_here (images g.D.Disk.image_at g.D.Disk.moment ps) c.from.result (images_of g.D.Disk.image_at g.D.Disk.moment c.index_mut-disks.result.now) (images_here g.D.Disk.image_at g.D.Disk.moment ps c.from.result c.index_mut-disks.result.now pair)) (c.requires.blank c.from.result few) }
+
 pub loop-id-preserved : goal.loop-id-preserved
-loop-id-preserved c = rw (c.in_ok-push.ensures.items, ids_append c.loop-id.nodes.items _)
-    (let ids : ids_in c.loop-id.nodes.items ++ c.id-item.result ∷ [] ≡ take (c.loop-id.id-index + 1) c.args.ids.now =
-    rw c.loop-id.invariant.0 (ap (λ (x : List ℕ). take c.loop-id.id-index c.args.ids.now ++ x ∷ []) c.id-item.is ∙ sym (take_more c.args.ids.now c.loop-id.id-index c.id-item.result c.loop-id-test.true)) in
-    (ap (λ (x : List ℕ). ids_in c.loop-id.nodes.items ++ x ∷ []) c.new.ensures.id ∙ ids, fresh_append c.loop-id.nodes.items _ c.loop-id.invariant.1 c.new.ensures.up c.new.ensures.places))
+loop-id-preserved g c =
+    let es = c.args.registry.now in
+    let ns = c.deref-id-items.result.now in
+    let ps = c.loop-id.pairs.items in
+    let n = c.id-item.result in
+    let order = ap ascends c.deref-id-items.ensures.value ∙ c.in_ok-ids.ensures.ordered in
+    let at = slice_get_read ns (length ns) c.loop-id.id-index n refl c.loop-id-test.true c.id-item.is in
+    let entry : IsEntry es c.from.result n = subst (λ (j : ℕ). IsEntry es j n) (sym c.from.ensures) (entry_at es n c.unwrap-position.result (sym c.slot.ensures.value ∙ c.unwrap-position.ensures)) in
+    let few = entry_below es c.from.result n entry in
+    let below : c.from.result < length ps = omega (arith, few, c.requires.room, c.loop-id.invariant.made.as_many, images_length g.D.Disk.image_at g.D.Disk.moment ps, images_length g.D.Disk.image_at g.D.Disk.moment c.args.pairs.now.items) in
+    let pair = slice_get_read ps (length ps) c.from.result c.index_mut-disks.result.now refl below c.index_mut-disks.ensures.value in
+    let start = images g.D.Disk.image_at g.D.Disk.moment c.args.pairs.now.items in
+    let now = images g.D.Disk.image_at g.D.Disk.moment ps in
+    let r = c.new.new.disks in
+    let within : c.from.result < length now = subst (λ (m : ℕ). c.from.result < m) (sym (images_length g.D.Disk.image_at g.D.Disk.moment ps)) below in
+    let more = one_more es ns c.loop-id.id-index c.loop-id.slots.items start now n c.from.result order c.loop-id.invariant.made at entry c.in_ok-slot.slot (images_of g.D.Disk.image_at g.D.Disk.moment r) c.in_ok-slot.ensures.id (c.in_ok-slot.ensures.position ∙ sym c.from.ensures) within c.in_ok-slot.ensures.fresh c.in_ok-slot.ensures.stands in
+    record {
+      made = subst (λ (ss : List Slot). AreMade es ns (c.loop-id.id-index + 1) ss start (images g.D.Disk.image_at g.D.Disk.moment (slice_set ps c.from.result r))) (sym c.in_ok-join.ensures)
+          (subst (λ (is : List Images). AreMade es ns (c.loop-id.id-index + 1) (c.loop-id.slots.items ++ c.in_ok-slot.slot ∷ []) start is) (sym (images_set g.D.Disk.image_at g.D.Disk.moment ps c.from.result r)) more);
+      onward = all_then _ _ _ c.loop-id.invariant.onward (one_onward g.D.Disk.image_at g.D.Disk.moment g.D.Disk.faults g.D.Disk.armed g.D.Disk.picks ps c.from.result c.index_mut-disks.result.now r pair c.new.ensures.onward);
+    }
+
+pub returns-in_err-ids-clause-disks : goal.returns-in_err-ids-clause-disks
+returns-in_err-ids-clause-disks g c = leaves_memory c.from_residual.result c.from_residual.ensures _
+
+pub returns-in_err-slot-clause-disks : goal.returns-in_err-slot-clause-disks
+returns-in_err-slot-clause-disks g c =
+    let es = c.args.registry.now in
+    let ns = c.deref-id-items.result.now in
+    let ps = c.loop-id.pairs.items in
+    let n = c.id-item.result in
+    let order = ap ascends c.deref-id-items.ensures.value ∙ c.in_ok-ids.ensures.ordered in
+    let at = slice_get_read ns (length ns) c.loop-id.id-index n refl c.loop-id-test.true c.id-item.is in
+    let entry : IsEntry es c.from.result n = subst (λ (j : ℕ). IsEntry es j n) (sym c.from.ensures) (entry_at es n c.unwrap-position.result (sym c.slot.ensures.value ∙ c.unwrap-position.ensures)) in
+    let few = entry_below es c.from.result n entry in
+    let below : c.from.result < length ps = omega (arith, few, c.requires.room, c.loop-id.invariant.made.as_many, images_length g.D.Disk.image_at g.D.Disk.moment ps, images_length g.D.Disk.image_at g.D.Disk.moment c.args.pairs.now.items) in
+    let pair = slice_get_read ps (length ps) c.from.result c.index_mut-disks.result.now refl below c.index_mut-disks.ensures.value in
+    leaves_failed c.from_residual-in_err-slot.result _ c.from_residual-in_err-slot.ensures _ _ (leaves_then _ _ _ _ c.loop-id.invariant.onward
+    (one_leaves g.D.Disk.image_at g.D.Disk.moment g.D.Disk.faults g.D.Disk.armed g.D.Disk.picks _ ps c.from.result c.index_mut-disks.result.now c.new.new.disks c.unwrap-position.result pair c.from.ensures c.new.ensures.onward c.in_err-slot.ensures.failed))
+
+pub returns-in_err-join-clause-disks : goal.returns-in_err-join-clause-disks
+returns-in_err-join-clause-disks g c =
+    let es = c.args.registry.now in
+    let ns = c.deref-id-items.result.now in
+    let ps = c.loop-id.pairs.items in
+    let n = c.id-item.result in
+    let order = ap ascends c.deref-id-items.ensures.value ∙ c.in_ok-ids.ensures.ordered in
+    let at = slice_get_read ns (length ns) c.loop-id.id-index n refl c.loop-id-test.true c.id-item.is in
+    let entry : IsEntry es c.from.result n = subst (λ (j : ℕ). IsEntry es j n) (sym c.from.ensures) (entry_at es n c.unwrap-position.result (sym c.slot.ensures.value ∙ c.unwrap-position.ensures)) in
+    let few = entry_below es c.from.result n entry in
+    let below : c.from.result < length ps = omega (arith, few, c.requires.room, c.loop-id.invariant.made.as_many, images_length g.D.Disk.image_at g.D.Disk.moment ps, images_length g.D.Disk.image_at g.D.Disk.moment c.args.pairs.now.items) in
+    let pair = slice_get_read ps (length ps) c.from.result c.index_mut-disks.result.now refl below c.index_mut-disks.ensures.value in
+    leaves_other c.from_residual-in_err-join.result _ c.from_residual-in_err-join.ensures (λ slot q. cc) _ _ (all_then _ _ _ c.loop-id.invariant.onward (one_onward g.D.Disk.image_at g.D.Disk.moment g.D.Disk.faults g.D.Disk.armed g.D.Disk.picks ps c.from.result c.index_mut-disks.result.now c.new.new.disks pair c.new.ensures.onward))
 
 pub returns-clause-ids : goal.returns-clause-ids
-returns-clause-ids c = c.loop-id.invariant.0 ∙ take_all c.loop-id.id-index c.args.ids.now c.loop-id-test.false
+returns-clause-ids g c = c.loop-id.invariant.made.ids ∙ take_all c.loop-id.id-index c.deref-id-items.result.now c.loop-id-test.false ∙ c.deref-id-items.ensures.value ∙ c.in_ok-ids.ensures.ids
+
+pub returns-clause-placed : goal.returns-clause-placed
+returns-clause-placed g c = made_placed c.args.registry.now c.deref-id-items.result.now c.loop-id.id-index c.loop-id.slots.items _ _ c.loop-id.invariant.made
 
 pub returns-clause-stands : goal.returns-clause-stands
-returns-clause-stands c = record { fit = refl; counted = c.new-2.ensures ∙ sym (events-none (ids_in c.loop-id.nodes.items)); each = λ k. fresh_holds k c.loop-id.nodes.items (ap ascends (c.loop-id.invariant.0 ∙ take_all c.loop-id.id-index c.args.ids.now c.loop-id-test.false) ∙ c.requires.ordered) c.loop-id.invariant.1 }
+returns-clause-stands g c =
+    let es = c.args.registry.now in
+    let ns = c.deref-id-items.result.now in
+    let ss = c.loop-id.slots.items in
+    let start = images g.D.Disk.image_at g.D.Disk.moment c.args.pairs.now.items in
+    let now = images g.D.Disk.image_at g.D.Disk.moment c.loop-id.pairs.items in
+    let order = ap ascends c.deref-id-items.ensures.value ∙ c.in_ok-ids.ensures.ordered in
+    let all = c.loop-id.invariant.made.ids ∙ take_all c.loop-id.id-index ns c.loop-id-test.false in
+    let room = subst (λ (m : ℕ). length es ≤ m) (sym (images_length g.D.Disk.image_at g.D.Disk.moment c.args.pairs.now.items)) c.requires.room in
+    record {
+      fit = refl;
+      counted = c.new-2.ensures ∙ sym (events-none (slot_ids ss));
+      stopped = c.new-3.ensures;
+      each = made_holds es ns c.loop-id.id-index ss start now order room c.loop-id.invariant.made all;
+      sits = made_sits es ns c.loop-id.id-index ss start now order room c.loop-id.invariant.made all;
+    }
+
+pub returns-clause-disks : goal.returns-clause-disks
+returns-clause-disks g c = leaves_ok _ _ _ c.loop-id.invariant.onward

@@ -1,8 +1,10 @@
-use Rattle.std.proofs.Common.{◌≡◌, take}
-use Rattle.spl_world.specs.Views.{ids_in}
-use Rattle.spl_world.proofs.Fresh.{AreFresh}
+use Rattle.spl_world.specs.Disks.{AllGoOn, bench, images}
+use Rattle.spl_world.proofs.Made.{AreMade}
 use Rattle.spl_world.proofs.world.World.new.Given as goal
 
--- the nodes so far have the first of the ids, and no places
+-- the nodes so far are made
 abbrev pub invariant-loop-id : goal.invariant-loop-id
-invariant-loop-id l = (ids_in l.nodes.items ≡ take l.id-index l.ids) × AreFresh l.nodes.items
+invariant-loop-id g l = record {
+  made : AreMade l.registry l.id-items l.id-index l.slots.items (images g.D.Disk.image_at g.D.Disk.moment l.fn.pairs.items) (images g.D.Disk.image_at g.D.Disk.moment l.pairs.items);
+  onward : AllGoOn (bench g.D.Disk.image_at g.D.Disk.moment g.D.Disk.faults g.D.Disk.armed g.D.Disk.picks l.fn.pairs.items) (bench g.D.Disk.image_at g.D.Disk.moment g.D.Disk.faults g.D.Disk.armed g.D.Disk.picks l.pairs.items);
+}

@@ -6,65 +6,82 @@ use Rattle.spl_world.proofs.Counting.{counts_none, counts_done, counts_more, cou
 use Rattle.spl_world.proofs.Delivery.{moves_as}
 use Rattle.spl_world.proofs.Reading.{no_messages}
 use Rattle.spl_world.proofs.Turns.{delivered, same_turn, turn_is, turn_none, turn_taken, turns_count, none_delivered}
+use Rattle.spl_world.specs.Views.{seen}
+use Rattle.spl_world.specs.Disks.{images}
+use Rattle.spl_world.proofs.Leaving.{leaves_failed, leaves_ok, leaves_same}
 use Rattle.spl_world.proofs.world.World.pair_turn.Goals as goal
 
 -- the recipient is down
 pub returns-then-not-is_up-clause-count : goal.returns-then-not-is_up-clause-count
-returns-then-not-is_up-clause-count c = λ z a b h at to e. sym (ap (λ (y : Calming). y.taken a b) (turn_none c.args.circuit z a b (sym (c.is_up.ensures.world c.args.circuit z.world b h to) ∙ c.if-not-is_up.true)) ∙ e)
+returns-then-not-is_up-clause-count g c = λ z a b h at to e. sym (ap (λ (y : Calming). y.taken a b) (turn_none c.args.circuit z a b (sym (c.is_up.ensures.world (images g.D.Disk.image_at g.D.Disk.moment c.args.pairs.now.items) c.args.circuit z.world b h to) ∙ c.if-not-is_up.true)) ∙ e)
 
 pub returns-then-not-is_up-clause-moves : goal.returns-then-not-is_up-clause-moves
-returns-then-not-is_up-clause-moves c = λ z a b at to e.
-    let xs = c.args.self.now.nodes.items in
+returns-then-not-is_up-clause-moves g c = λ z a b at to e.
+    let xs = (seen g.D.Disk.image_at g.D.Disk.moment c.args.self.now c.args.pairs.now.items) in
     moves_as c.args.circuit (λ m. m) (λ m. (pair_turn c.args.circuit (record z { world = m }) a b).world) xs xs
-    (λ m h. sym (ap (λ (y : Calming). y.world) (turn_none c.args.circuit (record z { world = m }) a b (sym (c.is_up.ensures.world c.args.circuit m b h to) ∙ c.if-not-is_up.true)))) (moves_nothing c.args.circuit xs)
+    (λ m h. sym (ap (λ (y : Calming). y.world) (turn_none c.args.circuit (record z { world = m }) a b (sym (c.is_up.ensures.world (images g.D.Disk.image_at g.D.Disk.moment c.args.pairs.now.items) c.args.circuit m b h to) ∙ c.if-not-is_up.true)))) (moves_nothing c.args.circuit xs)
 
 -- it is up
 pub returns-then-is_same-clause-count : goal.returns-then-is_same-clause-count
-returns-then-is_same-clause-count c = λ z a b h at to e. sym (turn_taken c.args.circuit z a b (sym (c.is_up.ensures.world c.args.circuit z.world b h to) ∙ c.if-not-is_up.false) ∙ ap length (no_messages z.world a b (sym (c.is_same.ensures a b at to) ∙ c.if-is_same.true)))
+returns-then-is_same-clause-count g c = λ z a b h at to e. sym (turn_taken c.args.circuit z a b (sym (c.is_up.ensures.world (images g.D.Disk.image_at g.D.Disk.moment c.args.pairs.now.items) c.args.circuit z.world b h to) ∙ c.if-not-is_up.false) ∙ ap length (no_messages z.world a b (sym (c.is_same.ensures a b at to) ∙ c.if-is_same.true)))
 
 pub returns-then-is_same-clause-moves : goal.returns-then-is_same-clause-moves
-returns-then-is_same-clause-moves c = λ z a b at to e.
-    let xs = c.args.self.now.nodes.items in
+returns-then-is_same-clause-moves g c = λ z a b at to e.
+    let xs = (seen g.D.Disk.image_at g.D.Disk.moment c.args.self.now c.args.pairs.now.items) in
     moves_as c.args.circuit (λ m. m) (λ m. (pair_turn c.args.circuit (record z { world = m }) a b).world) xs xs
     (λ m h. same_turn c.args.circuit z a b m (sym (c.is_same.ensures a b at to) ∙ c.if-is_same.true)) (moves_nothing c.args.circuit xs)
 
 pub deliver_from-requires-clause-up : goal.deliver_from-requires-clause-up
-deliver_from-requires-clause-up c = c.is_up.ensures.up c.if-not-is_up.false
+deliver_from-requires-clause-up g c = c.is_up.ensures.up c.if-not-is_up.false
 
 pub deliver_from-requires-clause-apart : goal.deliver_from-requires-clause-apart
-deliver_from-requires-clause-apart c = λ a b at to. sym (c.is_same.ensures a b at to) ∙ c.if-is_same.false
+deliver_from-requires-clause-apart g c = λ a b at to. sym (c.is_same.ensures a b at to) ∙ c.if-is_same.false
 
 pub returns-clause-count : goal.returns-clause-count
-returns-clause-count c = λ z a b h at to e. c.count-all.ensures z.world a b h at to ∙ sym (turn_taken c.args.circuit z a b (sym (c.is_up.ensures.world c.args.circuit z.world b h to) ∙ c.if-not-is_up.false))
+returns-clause-count g c = λ z a b h at to e. c.count-all.ensures (images g.D.Disk.image_at g.D.Disk.moment c.args.pairs.now.items) z.world a b h at to ∙ sym (turn_taken c.args.circuit z a b (sym (c.is_up.ensures.world (images g.D.Disk.image_at g.D.Disk.moment c.args.pairs.now.items) c.args.circuit z.world b h to) ∙ c.if-not-is_up.false))
 
 pub returns-clause-moves : goal.returns-clause-moves
-returns-clause-moves c = λ z a b at to e.
-    let xs = c.args.self.now.nodes.items in
-    moves_as c.args.circuit (delivered c.args.circuit z a b (c.args.taken + 1) (c.count-all.result - c.args.taken)) (λ m. (pair_turn c.args.circuit (record z { world = m }) a b).world) xs c.deliver_from.new.self.nodes.items
-    (λ m h. turn_is c.args.circuit z a b m c.args.taken c.count-all.result e (c.count-all.ensures m a b h at to) (sym (c.is_up.ensures.world c.args.circuit m b h to) ∙ c.if-not-is_up.false)) (c.in_ok-deliver_from.ensures.moves z a b at to)
+returns-clause-moves g c = λ z a b at to e.
+    let xs = (seen g.D.Disk.image_at g.D.Disk.moment c.args.self.now c.args.pairs.now.items) in
+    moves_as c.args.circuit (delivered c.args.circuit z a b (c.args.taken + 1) (c.count-all.result - c.args.taken)) (λ m. (pair_turn c.args.circuit (record z { world = m }) a b).world) xs (seen g.D.Disk.image_at g.D.Disk.moment c.deliver_from.new.self c.deliver_from.new.pairs.items)
+    (λ m h. turn_is c.args.circuit z a b m c.args.taken c.count-all.result e (c.count-all.ensures (images g.D.Disk.image_at g.D.Disk.moment c.args.pairs.now.items) m a b h at to) (sym (c.is_up.ensures.world (images g.D.Disk.image_at g.D.Disk.moment c.args.pairs.now.items) c.args.circuit m b h to) ∙ c.if-not-is_up.false)) (c.in_ok-deliver_from.ensures.moves z a b at to)
 
 -- ---- how many deliveries
 
 pub returns-then-not-is_up-clause-counts : goal.returns-then-not-is_up-clause-counts
-returns-then-not-is_up-clause-counts c = λ z a b h at to e.
-    let down : z.world.up b ≡ false = sym (c.is_up.ensures.world c.args.circuit z.world b h to) ∙ c.if-not-is_up.true in
+returns-then-not-is_up-clause-counts g c = λ z a b h at to e.
+    let down : z.world.up b ≡ false = sym (c.is_up.ensures.world (images g.D.Disk.image_at g.D.Disk.moment c.args.pairs.now.items) c.args.circuit z.world b h to) ∙ c.if-not-is_up.true in
     counts_to _ c.args.self.now.events c.args.self.now.events (length z.happened) (length z.happened) _ (sym (ap (λ (y : Calming). length y.happened) (turn_none c.args.circuit z a b down))) (counts_none _ c.args.self.now.events (length z.happened))
 
 pub returns-then-is_same-clause-counts : goal.returns-then-is_same-clause-counts
-returns-then-is_same-clause-counts c = λ z a b h at to e.
+returns-then-is_same-clause-counts g c = λ z a b h at to e.
     let none : length (messages z.world a b) ≡ 0 = ap length (no_messages z.world a b (sym (c.is_same.ensures a b at to) ∙ c.if-is_same.true)) in
-    let up : z.world.up b ≡ true = sym (c.is_up.ensures.world c.args.circuit z.world b h to) ∙ c.if-not-is_up.false in
+    let up : z.world.up b ≡ true = sym (c.is_up.ensures.world (images g.D.Disk.image_at g.D.Disk.moment c.args.pairs.now.items) c.args.circuit z.world b h to) ∙ c.if-not-is_up.false in
     counts_to _ c.args.self.now.events c.args.self.now.events (length z.happened) (length z.happened) _ (none_delivered (length z.happened) c.args.taken _ (turns_count c.args.circuit z a b 0 c.args.taken up none e)) (counts_none _ c.args.self.now.events (length z.happened))
 
 pub returns-in_err-deliver_from-clause-counts : goal.returns-in_err-deliver_from-clause-counts
-returns-in_err-deliver_from-clause-counts c = λ z a b h at to e.
-    let up : z.world.up b ≡ true = sym (c.is_up.ensures.world c.args.circuit z.world b h to) ∙ c.if-not-is_up.false in
-    let all : length (messages z.world a b) ≡ c.count-all.result = sym (c.count-all.ensures z.world a b h at to) in
+returns-in_err-deliver_from-clause-counts g c = λ z a b h at to e.
+    let up : z.world.up b ≡ true = sym (c.is_up.ensures.world (images g.D.Disk.image_at g.D.Disk.moment c.args.pairs.now.items) c.args.circuit z.world b h to) ∙ c.if-not-is_up.false in
+    let all : length (messages z.world a b) ≡ c.count-all.result = sym (c.count-all.ensures (images g.D.Disk.image_at g.D.Disk.moment c.args.pairs.now.items) z.world a b h at to) in
     counts_failed c.from_residual.result _ c.from_residual.ensures c.args.self.now.events _ _ (length z.happened) _ _ (counts_more _ c.args.self.now.events c.args.self.now.events _ (length z.happened) (length z.happened) (c.count-all.result - c.args.taken) refl c.in_err-deliver_from.ensures.counts) (at_least _ _ (turns_count c.args.circuit z a b c.count-all.result c.args.taken up all e))
 
 pub returns-clause-counts : goal.returns-clause-counts
-returns-clause-counts c = λ z a b h at to e.
-    let up : z.world.up b ≡ true = sym (c.is_up.ensures.world c.args.circuit z.world b h to) ∙ c.if-not-is_up.false in
-    let all : length (messages z.world a b) ≡ c.count-all.result = sym (c.count-all.ensures z.world a b h at to) in
+returns-clause-counts g c = λ z a b h at to e.
+    let up : z.world.up b ≡ true = sym (c.is_up.ensures.world (images g.D.Disk.image_at g.D.Disk.moment c.args.pairs.now.items) c.args.circuit z.world b h to) ∙ c.if-not-is_up.false in
+    let all : length (messages z.world a b) ≡ c.count-all.result = sym (c.count-all.ensures (images g.D.Disk.image_at g.D.Disk.moment c.args.pairs.now.items) z.world a b h at to) in
     let done = c.in_ok-deliver_from.ensures.counts.ok in
     counts_done _ c.args.self.now.events c.deliver_from.new.self.events (length z.happened) _ (omega (arith, done, turns_count c.args.circuit z a b c.count-all.result c.args.taken up all e))
+
+-- ---- the disks
+
+pub returns-then-not-is_up-clause-disks : goal.returns-then-not-is_up-clause-disks
+returns-then-not-is_up-clause-disks g c = leaves_same _ _
+
+pub returns-then-is_same-clause-disks : goal.returns-then-is_same-clause-disks
+returns-then-is_same-clause-disks g c = leaves_same _ _
+
+pub returns-in_err-deliver_from-clause-disks : goal.returns-in_err-deliver_from-clause-disks
+returns-in_err-deliver_from-clause-disks g c = leaves_failed c.from_residual.result _ c.from_residual.ensures _ _ c.in_err-deliver_from.ensures.disks
+
+pub returns-clause-disks : goal.returns-clause-disks
+returns-clause-disks g c = leaves_ok _ _ _ c.in_ok-deliver_from.ensures.disks.onward

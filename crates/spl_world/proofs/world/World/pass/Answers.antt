@@ -4,45 +4,46 @@ use Rattle.spl_model.specs.Calm.{Calming, ticks, open_nodes, from_all, pass}
 use Rattle.spl_model.proofs.Quiet.{ticks-length, quiet-found}
 use Rattle.spl_world.specs.Calms.{AreRows, IsSquare}
 use Rattle.spl_world.specs.Counts.{Counts}
-use Rattle.spl_world.specs.Views.{Holds, ids_of}
+use Rattle.spl_world.specs.Views.{Holds, ids_of, seen}
 use Rattle.spl_world.proofs.Calms.{pass_ticks}
 use Rattle.spl_world.proofs.Composed.{spares_then}
 use Rattle.spl_world.proofs.Counting.{counts_done, counts_more, counts_then, counts_failed, failed, at_least}
 use Rattle.spl_world.proofs.Slots.{same_length}
 use Rattle.spl_world.proofs.Ticking.{or_false}
 use Rattle.spl_world.proofs.Turns.{rows_same, ticks_taken, some_calming}
+use Rattle.spl_world.proofs.Leaving.{all_then, leaves_failed, leaves_ok, leaves_then}
 use Rattle.spl_world.proofs.world.World.pass.Goals as goal
 
-pub from_all-requires : goal.from_all-requires
-from_all-requires c = record { square = subst (λ (n : ℕ). IsSquare n c.args.rows.now.items) (sym (same_length c.args.self.now.nodes.items c.tick_all.new.self.nodes.items c.tick_all.ensures.ids)) c.requires.square }
+pub from_all-requires-clause-square : goal.from_all-requires-clause-square
+from_all-requires-clause-square g c = subst (λ (n : ℕ). IsSquare n c.args.rows.now.items) (sym (same_length c.args.self.now.slots.items c.tick_all.new.self.slots.items c.tick_all.ensures.ids)) c.requires.square
 
 pub returns-clause-square : goal.returns-clause-square
-returns-clause-square c = subst (λ (n : ℕ). IsSquare n c.from_all.new.rows.items) (same_length c.args.self.now.nodes.items c.tick_all.new.self.nodes.items c.tick_all.ensures.ids) c.from_all.ensures.square
+returns-clause-square g c = subst (λ (n : ℕ). IsSquare n c.from_all.new.rows.items) (same_length c.args.self.now.slots.items c.tick_all.new.self.slots.items c.tick_all.ensures.ids) c.from_all.ensures.square
 
 pub returns-in_err-from_all-clause-square : goal.returns-in_err-from_all-clause-square
-returns-in_err-from_all-clause-square c = subst (λ (n : ℕ). IsSquare n c.from_all.new.rows.items) (same_length c.args.self.now.nodes.items c.tick_all.new.self.nodes.items c.tick_all.ensures.ids) c.from_all.ensures.square
+returns-in_err-from_all-clause-square g c = subst (λ (n : ℕ). IsSquare n c.from_all.new.rows.items) (same_length c.args.self.now.slots.items c.tick_all.new.self.slots.items c.tick_all.ensures.ids) c.from_all.ensures.square
 
 pub returns-clause-own : goal.returns-clause-own
-returns-clause-own c = λ z h rows.
+returns-clause-own g c = λ z h rows.
     let ids = ids_of c.args.self.now in
     let y : Calming = ticks c.args.circuit z (open_nodes z.world ids) in
     let taken = subst (λ (ns : List NodeId). AreRows y.taken ns c.args.rows.now.items) (sym c.tick_all.ensures.ids) (rows_same z.taken y.taken ids c.args.rows.now.items (λ a b. sym (ticks_taken c.args.circuit z (open_nodes z.world ids) a b)) rows) in
-    subst (λ (ns : List NodeId). Holds c.args.circuit (from_all c.args.circuit y ns ns).world c.from_all.new.self.nodes.items × AreRows (from_all c.args.circuit y ns ns).taken ns c.from_all.new.rows.items) c.tick_all.ensures.ids
+    subst (λ (ns : List NodeId). Holds c.args.circuit (from_all c.args.circuit y ns ns).world (seen g.D.Disk.image_at g.D.Disk.moment c.from_all.new.self c.from_all.new.pairs.items) × AreRows (from_all c.args.circuit y ns ns).taken ns c.from_all.new.rows.items) c.tick_all.ensures.ids
     (c.in_ok-from_all.ensures.own y ((c.in_ok-moved.ensures.moves z).own z.world h) taken)
 
 pub returns-clause-others : goal.returns-clause-others
-returns-clause-others c = spares_then c.args.circuit c.args.self.now.nodes.items c.tick_all.new.self.nodes.items c.from_all.new.self.nodes.items (c.in_ok-moved.ensures.moves (some_calming 0)).others c.in_ok-from_all.ensures.others
+returns-clause-others g c = spares_then c.args.circuit (seen g.D.Disk.image_at g.D.Disk.moment c.args.self.now c.args.pairs.now.items) (seen g.D.Disk.image_at g.D.Disk.moment c.tick_all.new.self c.tick_all.new.pairs.items) (seen g.D.Disk.image_at g.D.Disk.moment c.from_all.new.self c.from_all.new.pairs.items) (c.in_ok-moved.ensures.moves (some_calming 0)).others c.in_ok-from_all.ensures.others
 
 -- ---- how many events
 
 pub returns-in_err-moved-clause-counts : goal.returns-in_err-moved-clause-counts
-returns-in_err-moved-clause-counts c = λ z h rows.
+returns-in_err-moved-clause-counts g c = λ z h rows.
     counts_failed c.from_residual.result _ c.from_residual.ensures c.args.self.now.events _ _ (length z.happened) _ (length (pass c.args.circuit (ids_of c.args.self.now) z).happened)
     (counts_more _ c.args.self.now.events c.args.self.now.events _ (length z.happened) (length z.happened) (length (open_nodes z.world (ids_of c.args.self.now))) refl (c.in_err-moved.ensures.counts z.world h))
     (pass_ticks c.args.circuit (ids_of c.args.self.now) z)
 
 pub returns-in_err-from_all-clause-counts : goal.returns-in_err-from_all-clause-counts
-returns-in_err-from_all-clause-counts c = λ z h rows.
+returns-in_err-from_all-clause-counts g c = λ z h rows.
     let ids = ids_of c.args.self.now in
     let y : Calming = ticks c.args.circuit z (open_nodes z.world ids) in
     let taken = subst (λ (ns : List NodeId). AreRows y.taken ns c.args.rows.now.items) (sym c.tick_all.ensures.ids) (rows_same z.taken y.taken ids c.args.rows.now.items (λ a b. sym (ticks_taken c.args.circuit z (open_nodes z.world ids) a b)) rows) in
@@ -51,7 +52,7 @@ returns-in_err-from_all-clause-counts c = λ z h rows.
     counts_failed c.from_residual-in_err-from_all.result _ c.from_residual-in_err-from_all.ensures c.args.self.now.events _ _ (length z.happened) _ _ (counts_then _ c.args.self.now.events c.tick_all.new.self.events _ (length z.happened) (length y.happened) _ so_far counts) (at_least _ _ refl)
 
 pub returns-clause-counts : goal.returns-clause-counts
-returns-clause-counts c = λ z h rows.
+returns-clause-counts g c = λ z h rows.
     let ids = ids_of c.args.self.now in
     let y : Calming = ticks c.args.circuit z (open_nodes z.world ids) in
     let taken = subst (λ (ns : List NodeId). AreRows y.taken ns c.args.rows.now.items) (sym c.tick_all.ensures.ids) (rows_same z.taken y.taken ids c.args.rows.now.items (λ a b. sym (ticks_taken c.args.circuit z (open_nodes z.world ids) a b)) rows) in
@@ -60,7 +61,7 @@ returns-clause-counts c = λ z h rows.
     (omega (arith, counts, (c.in_ok-moved.ensures.counts z.world h).ok, ticks-length c.args.circuit z (open_nodes z.world ids)))
 
 pub returns-clause-quiet : goal.returns-clause-quiet
-returns-clause-quiet c = λ z h rows still.
+returns-clause-quiet g c = λ z h rows still.
     let ids = ids_of c.args.self.now in
     let y : Calming = ticks c.args.circuit z (open_nodes z.world ids) in
     let taken = subst (λ (ns : List NodeId). AreRows y.taken ns c.args.rows.now.items) (sym c.tick_all.ensures.ids) (rows_same z.taken y.taken ids c.args.rows.now.items (λ a b. sym (ticks_taken c.args.circuit z (open_nodes z.world ids) a b)) rows) in
@@ -69,3 +70,14 @@ returns-clause-quiet c = λ z h rows still.
     let same : c.from_all.new.self.events ≡ c.tick_all.new.self.events = c.grew_since-delivered.ensures b.1 ∙ c.count-ticked.ensures.count in
     let none : length (pass c.args.circuit ids z).happened ≡ length y.happened = omega (arith, counts, same) in
     quiet-found c.args.circuit ids z (c.in_ok-moved.ensures.idle z.world h b.0) none
+
+-- ---- the disks
+
+pub returns-in_err-moved-clause-disks : goal.returns-in_err-moved-clause-disks
+returns-in_err-moved-clause-disks g c = leaves_failed c.from_residual.result _ c.from_residual.ensures _ _ c.in_err-moved.ensures.disks
+
+pub returns-in_err-from_all-clause-disks : goal.returns-in_err-from_all-clause-disks
+returns-in_err-from_all-clause-disks g c = leaves_failed c.from_residual-in_err-from_all.result _ c.from_residual-in_err-from_all.ensures _ _ (leaves_then _ _ _ _ c.in_ok-moved.ensures.disks.onward c.in_err-from_all.ensures.disks)
+
+pub returns-clause-disks : goal.returns-clause-disks
+returns-clause-disks g c = leaves_ok _ _ _ (all_then _ _ _ c.in_ok-moved.ensures.disks.onward c.in_ok-from_all.ensures.disks.onward)

@@ -9,11 +9,11 @@ use Rattle.spl_world.proofs.world.World.row.Goals as goal
 pub loop-to-preserved : goal.loop-to-preserved
 loop-to-preserved c = (
   rw (c.in_ok-push.ensures.items) (length_more c.loop-to.row.items _ c.loop-to.to c.loop-to.invariant.0),
-  λ m a h at.
-      let xs = c.args.self.now.nodes.items in
+  λ is m a h at.
+      let xs = c.args.self.now.slots.items in
       let n = some_at xs c.loop-to.to (rw (c.len-to-end.ensures) at c.loop-to-test.true) in
-      c.in_ok-push.ensures.items ∙ ap (λ (ks : List ℕ). ks ++ c.count.result ∷ []) (c.loop-to.invariant.1 m a h at)
-      ∙ ap (λ (k : ℕ). row_of (sent_count m) a (take c.loop-to.to (ids_of c.args.self.now)) ++ k ∷ []) (c.count.ensures m a n.0 h at n.1)
+      c.in_ok-push.ensures.items ∙ ap (λ (ks : List ℕ). ks ++ c.count.result ∷ []) (c.loop-to.invariant.1 is m a h at)
+      ∙ ap (λ (k : ℕ). row_of (sent_count m) a (take c.loop-to.to (ids_of c.args.self.now)) ++ k ∷ []) (c.count.ensures is m a n.0 h at n.1)
       ∙ sym (row_more (sent_count m) a (take c.loop-to.to (ids_of c.args.self.now)) n.0) ∙ ap (row_of (sent_count m) a) (sym (take_one (ids_of c.args.self.now) c.loop-to.to n.0 n.1)),
 )
 
@@ -23,5 +23,5 @@ returns-clause-wide c =
     c.loop-to.invariant.0 ∙ all ∙ c.len-to-end.ensures
 
 pub returns-clause-counts : goal.returns-clause-counts
-returns-clause-counts c = λ m a h at.
-    c.loop-to.invariant.1 m a h at ∙ ap (row_of (sent_count m) a) (take_all c.loop-to.to (ids_of c.args.self.now) (subst (λ (k : ℕ). k ≤ c.loop-to.to) (c.len-to-end.ensures ∙ sym (length_ids c.args.self.now.nodes.items)) c.loop-to-test.false))
+returns-clause-counts c = λ is m a h at.
+    c.loop-to.invariant.1 is m a h at ∙ ap (row_of (sent_count m) a) (take_all c.loop-to.to (ids_of c.args.self.now) (subst (λ (k : ℕ). k ≤ c.loop-to.to) (c.len-to-end.ensures ∙ sym (length_ids c.args.self.now.slots.items)) c.loop-to-test.false))

@@ -7,8 +7,8 @@ use Rattle.spl_world.proofs.world.World.rows.Goals as goal
 pub loop-from-preserved : goal.loop-from-preserved
 loop-from-preserved c = (
   rw (c.in_ok-push.ensures.items) (length_more c.loop-from.rows.items _ c.loop-from.from c.loop-from.invariant.0),
-  rw (c.in_ok-push.ensures.items) (wide_more (length c.args.self.now.nodes.items) c.loop-from.rows.items _ c.loop-from.invariant.1 c.in_ok-row.ensures.wide),
-  λ m h. rw (c.in_ok-push.ensures.items) (rows_more (sent_count m) (ids_of c.args.self.now) c.loop-from.rows.items _ (c.loop-from.invariant.2 m h) (λ a at. c.in_ok-row.ensures.counts m a h (subst (λ (k : ℕ). slice_get (ids_of c.args.self.now) k ≡ Some a) c.loop-from.invariant.0 at))),
+  rw (c.in_ok-push.ensures.items) (wide_more (length c.args.self.now.slots.items) c.loop-from.rows.items _ c.loop-from.invariant.1 c.in_ok-row.ensures.wide),
+  λ is m h. rw (c.in_ok-push.ensures.items) (rows_more (sent_count m) (ids_of c.args.self.now) c.loop-from.rows.items _ (c.loop-from.invariant.2 is m h) (λ a at. c.in_ok-row.ensures.counts is m a h (subst (λ (k : ℕ). slice_get (ids_of c.args.self.now) k ≡ Some a) c.loop-from.invariant.0 at))),
 )
 
 pub returns-clause-square : goal.returns-clause-square

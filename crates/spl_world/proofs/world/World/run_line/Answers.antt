@@ -1,54 +1,113 @@
-use Rattle.std.proofs.Common.{Ok, refl, length, arith}
+use Rattle.std.proofs.Common.{◌≡◌, ◌+◌, ◌∙◌, false, sym, refl, length, arith}
 use Rattle.spl_sched.specs.declared.line.Line.TheVariants as line
 use Rattle.spl_sched.specs.Grammar.{step_circuit}
 use Rattle.spl_model.specs.Calm.{calm}
 use Rattle.spl_projection.specs.Whole.{whole_world}
-use Rattle.spl_world.specs.declared.fault.WorldFault.{WorldFault}
-use Rattle.spl_world.specs.Views.{ids_of}
+use Rattle.spl_world.specs.Disks.{images}
+use Rattle.spl_world.specs.Views.{ids_of, seen}
 use Rattle.spl_world.proofs.Counting.{counts_failed, at_least}
-use Rattle.spl_world.proofs.Standing.{stands_after, counted_line, over_line, step_result, calm_answered}
+use Rattle.spl_world.proofs.Leaving.{all_itself, leaves_failed, leaves_limit, leaves_ok}
+use Rattle.spl_world.proofs.Powering.{stands_start, stands_roll}
+use Rattle.spl_world.proofs.Results.{ok_both}
+use Rattle.spl_world.proofs.Standing.{stands_after, counted_line, over_line, step_result, calm_answered, power_answered}
 use Rattle.spl_world.proofs.Staying.{stays_refused}
 use Rattle.spl_world.proofs.world.World.run_line.Goals as goal
 
 -- ---- a step
 
-pub returns-in_ok-run-in-Step-clause-answer : goal.returns-in_ok-run-in-Step-clause-answer
-returns-in_ok-run-in-Step-clause-answer c = λ before stands.
+pub returns-in_ok-add-in-Step-clause-answer : goal.returns-in_ok-add-in-Step-clause-answer
+returns-in_ok-add-in-Step-clause-answer g c = λ before stands.
     let s = c.in-Step.step in
-    step_result {E = WorldFault} (Ok c.in_ok-run-in-Step.field-0) (ids_of c.args.self.now) before c.args.line.now s c.in-Step.is stands.fit c.requires.fits (c.in_ok-run-in-Step.ensures.answer (whole_world (ids_of c.args.self.now) (step_circuit s) before) (stands.each (step_circuit s)))
+    step_result c.run.result (ids_of c.args.self.now) before c.args.line.now s c.in-Step.is stands.fit c.requires.fits (c.run.ensures.answer (whole_world (ids_of c.args.self.now) (step_circuit s) before) (stands.each (step_circuit s)))
 
-pub returns-in_ok-run-in-Step-clause-stands : goal.returns-in_ok-run-in-Step-clause-stands
-returns-in_ok-run-in-Step-clause-stands c = λ before stands.
+pub returns-in_ok-add-in-Step-clause-stands : goal.returns-in_ok-add-in-Step-clause-stands
+returns-in_ok-add-in-Step-clause-stands g c = λ before stands.
     let s = c.in-Step.step in
     let fits = rw (c.in-Step.is) at c.requires.fits in
-    let counted = counted_line c.run.new.self.events c.args.self.now before (line.Step s) 1 stands fits refl (omega (arith, c.run.ensures.events, c.in_ok-add-in-Step.ensures.counts.ok)) in
-    rw (c.in-Step.is) (stands_after before (line.Step s) (step_circuit s) c.args.self.now c.run.new.self refl fits (λ w. refl) c.run.ensures.ids stands counted c.in_ok-run-in-Step.ensures.moves)
+    let counted = counted_line c.run.new.self.events c.args.self.now (images g.D.Disk.image_at g.D.Disk.moment c.args.pairs.now.items) before (line.Step s) 1 stands fits refl (omega (arith, c.run.ensures.events, c.in_ok-add-in-Step.ensures.counts.ok)) in
+    rw (c.in-Step.is) (ok_both c.run.result (λ moves sits. stands_after before (line.Step s) (step_circuit s) c.args.self.now c.run.new.self (images g.D.Disk.image_at g.D.Disk.moment c.args.pairs.now.items) (images g.D.Disk.image_at g.D.Disk.moment c.run.new.pairs.items) refl fits (λ w. refl) refl c.run.ensures.stops c.run.ensures.ids stands counted moves sits) c.run.ensures.moves c.run.ensures.sits)
 
-pub returns-in_ok-run-in-Step-clause-refused : goal.returns-in_ok-run-in-Step-clause-refused
-returns-in_ok-run-in-Step-clause-refused c = λ why.
-    stays_refused {E = WorldFault} (Ok c.in_ok-run-in-Step.field-0) (step_circuit c.in-Step.step) c.in-Step.step c.args.self.now.nodes.items c.run.new.self.nodes.items why c.in_ok-run-in-Step.ensures.answer c.in_ok-run-in-Step.ensures.moves
+pub returns-in_ok-add-in-Step-clause-refused : goal.returns-in_ok-add-in-Step-clause-refused
+returns-in_ok-add-in-Step-clause-refused g c = λ why.
+    stays_refused c.run.result (step_circuit c.in-Step.step) c.in-Step.step (seen g.D.Disk.image_at g.D.Disk.moment c.args.self.now c.args.pairs.now.items) (seen g.D.Disk.image_at g.D.Disk.moment c.run.new.self c.run.new.pairs.items) why c.run.ensures.answer c.run.ensures.moves
+
+pub returns-in_ok-add-in-Step-clause-many : goal.returns-in_ok-add-in-Step-clause-many
+returns-in_ok-add-in-Step-clause-many g c = λ before which stands q. absurd (c.run.ensures.few which q)
 
 pub returns-in_err-add-in-Step-clause-many : goal.returns-in_err-add-in-Step-clause-many
-returns-in_err-add-in-Step-clause-many c = λ before which stands q.
+returns-in_err-add-in-Step-clause-many g c = λ before which stands q.
     let s = c.in-Step.step in
-    rw (c.in-Step.is) (over_line c.from_residual.result 0 which c.args.self.now before (line.Step s) 1 stands (rw (c.in-Step.is) at c.requires.fits) refl (counts_failed c.from_residual.result _ c.from_residual.ensures c.args.self.now.events _ 0 0 1 1 c.in_err-add-in-Step.ensures.counts (at_least 1 1 refl)) q)
+    rw (c.in-Step.is) (over_line c.from_residual.result 0 which c.args.self.now (images g.D.Disk.image_at g.D.Disk.moment c.args.pairs.now.items) before (line.Step s) 1 stands (rw (c.in-Step.is) at c.requires.fits) refl (counts_failed c.from_residual.result _ c.from_residual.ensures c.args.self.now.events _ 0 0 1 1 c.in_err-add-in-Step.ensures.counts (at_least 1 1 refl)) q)
+
+pub returns-in_err-add-in-Step-clause-disks : goal.returns-in_err-add-in-Step-clause-disks
+returns-in_err-add-in-Step-clause-disks g c = leaves_limit c.from_residual.result _ 1 c.from_residual.ensures c.in_err-add-in-Step.ensures.fault _ _ (all_itself _)
 
 -- ---- a calm
 
 pub returns-in_ok-calm-in-Calm-clause-answer : goal.returns-in_ok-calm-in-Calm-clause-answer
-returns-in_ok-calm-in-Calm-clause-answer c = λ before stands.
+returns-in_ok-calm-in-Calm-clause-answer g c = λ before stands.
     calm_answered (ids_of c.args.self.now) before c.args.line.now c.in-Calm.circuit c.in-Calm.passes c.in-Calm.is stands.fit c.requires.fits
 
 pub returns-in_ok-calm-in-Calm-clause-stands : goal.returns-in_ok-calm-in-Calm-clause-stands
-returns-in_ok-calm-in-Calm-clause-stands c = λ before stands.
+returns-in_ok-calm-in-Calm-clause-stands g c = λ before stands.
     let l = line.Calm c.in-Calm.circuit c.in-Calm.passes in
     let fits = rw (c.in-Calm.is) at c.requires.fits in
     let w = whole_world (ids_of c.args.self.now) c.in-Calm.circuit before in
-    let counted = counted_line c.calm.new.self.events c.args.self.now before l (length (calm c.in-Calm.circuit w c.in-Calm.passes).happened) stands fits refl (c.in_ok-calm-in-Calm.ensures.counts w (stands.each c.in-Calm.circuit)).ok in
-    rw (c.in-Calm.is) (stands_after before l c.in-Calm.circuit c.args.self.now c.calm.new.self refl fits (λ v. refl) c.calm.ensures.ids stands counted c.in_ok-calm-in-Calm.ensures.moves)
+    let counted = counted_line c.calm.new.self.events c.args.self.now (images g.D.Disk.image_at g.D.Disk.moment c.args.pairs.now.items) before l (length (calm c.in-Calm.circuit w c.in-Calm.passes).happened) stands fits refl (c.in_ok-calm-in-Calm.ensures.counts w (stands.each c.in-Calm.circuit)).ok in
+    rw (c.in-Calm.is) (stands_after before l c.in-Calm.circuit c.args.self.now c.calm.new.self (images g.D.Disk.image_at g.D.Disk.moment c.args.pairs.now.items) (images g.D.Disk.image_at g.D.Disk.moment c.calm.new.pairs.items) refl fits (λ v. refl) refl c.calm.ensures.stops c.calm.ensures.ids stands counted c.in_ok-calm-in-Calm.ensures.moves c.in_ok-calm-in-Calm.ensures.sits)
 
 pub returns-in_err-calm-in-Calm-clause-many : goal.returns-in_err-calm-in-Calm-clause-many
-returns-in_err-calm-in-Calm-clause-many c = λ before which stands q.
+returns-in_err-calm-in-Calm-clause-many g c = λ before which stands q.
     let l = line.Calm c.in-Calm.circuit c.in-Calm.passes in
     let w = whole_world (ids_of c.args.self.now) c.in-Calm.circuit before in
-    rw (c.in-Calm.is) (over_line c.from_residual-in_err-calm-in-Calm.result 0 which c.args.self.now before l (length (calm c.in-Calm.circuit w c.in-Calm.passes).happened) stands (rw (c.in-Calm.is) at c.requires.fits) refl (counts_failed c.from_residual-in_err-calm-in-Calm.result _ c.from_residual-in_err-calm-in-Calm.ensures c.args.self.now.events _ 0 0 _ _ (c.in_err-calm-in-Calm.ensures.counts w (stands.each c.in-Calm.circuit)) (at_least _ _ refl)) q)
+    rw (c.in-Calm.is) (over_line c.from_residual-in_err-calm-in-Calm.result 0 which c.args.self.now (images g.D.Disk.image_at g.D.Disk.moment c.args.pairs.now.items) before l (length (calm c.in-Calm.circuit w c.in-Calm.passes).happened) stands (rw (c.in-Calm.is) at c.requires.fits) refl (counts_failed c.from_residual-in_err-calm-in-Calm.result _ c.from_residual-in_err-calm-in-Calm.ensures c.args.self.now.events _ 0 0 _ _ (c.in_err-calm-in-Calm.ensures.counts w (stands.each c.in-Calm.circuit)) (at_least _ _ refl)) q)
+
+pub returns-in_err-calm-in-Calm-clause-disks : goal.returns-in_err-calm-in-Calm-clause-disks
+returns-in_err-calm-in-Calm-clause-disks g c = leaves_failed c.from_residual-in_err-calm-in-Calm.result _ c.from_residual-in_err-calm-in-Calm.ensures _ _ c.in_err-calm-in-Calm.ensures.disks
+
+pub returns-in_ok-calm-in-Calm-clause-disks : goal.returns-in_ok-calm-in-Calm-clause-disks
+returns-in_ok-calm-in-Calm-clause-disks g c = leaves_ok _ _ _ c.in_ok-calm-in-Calm.ensures.disks.onward
+
+-- ---- a start
+
+pub returns-in_ok-start_at-in-Start-clause-answer : goal.returns-in_ok-start_at-in-Start-clause-answer
+returns-in_ok-start_at-in-Start-clause-answer g c = λ before stands.
+    rw (c.in-Start.is) (sym (power_answered (ids_of c.args.self.now) before (line.Start c.in-Start.node) stands.fit (rw (c.in-Start.is) at c.requires.fits)))
+
+pub returns-in_ok-start_at-in-Start-clause-stands : goal.returns-in_ok-start_at-in-Start-clause-stands
+returns-in_ok-start_at-in-Start-clause-stands g c = λ before stands.
+    let n = c.in-Start.node in
+    let one : c.start_at.new.self.events ≡ c.args.self.now.events + 1 = omega (arith, c.start_at.ensures.events, c.in_ok-add-in-Start.ensures.counts.ok) in
+    let same : c.start_at.new.self.stops ≡ c.args.self.now.stops + 0 = omega (arith, c.start_at.ensures.stops) in
+    rw (c.in-Start.is) (stands_start before c.args.self.now c.start_at.new.self (images g.D.Disk.image_at g.D.Disk.moment c.args.pairs.now.items) (images g.D.Disk.image_at g.D.Disk.moment c.start_at.new.pairs.items) c.start_at.ensures.ids one 0 same stands c.in_ok-start_at-in-Start.ensures.sits n false (rw (c.in-Start.is) at c.requires.fits) refl
+    (λ k m h. c.in_ok-start_at-in-Start.ensures.holds k n m c.slot-slot.ensures.at h))
+
+pub returns-in_err-add-in-Start-clause-many : goal.returns-in_err-add-in-Start-clause-many
+returns-in_err-add-in-Start-clause-many g c = λ before which stands q.
+    let l = line.Start c.in-Start.node in
+    rw (c.in-Start.is) (over_line c.from_residual-in_err-add-in-Start.result 0 which c.args.self.now (images g.D.Disk.image_at g.D.Disk.moment c.args.pairs.now.items) before l 1 stands (rw (c.in-Start.is) at c.requires.fits) refl (counts_failed c.from_residual-in_err-add-in-Start.result _ c.from_residual-in_err-add-in-Start.ensures c.args.self.now.events _ 0 0 1 1 c.in_err-add-in-Start.ensures.counts (at_least 1 1 refl)) q)
+
+pub returns-in_err-add-in-Start-clause-disks : goal.returns-in_err-add-in-Start-clause-disks
+returns-in_err-add-in-Start-clause-disks g c = leaves_limit c.from_residual-in_err-add-in-Start.result _ 1 c.from_residual-in_err-add-in-Start.ensures c.in_err-add-in-Start.ensures.fault _ _ (all_itself _)
+
+pub returns-in_ok-start_at-in-Start-clause-disks : goal.returns-in_ok-start_at-in-Start-clause-disks
+returns-in_ok-start_at-in-Start-clause-disks g c = leaves_ok _ _ _ c.in_ok-start_at-in-Start.ensures.disks.onward
+
+-- ---- a roll
+
+pub returns-in_ok-roll_at-in-Roll-clause-answer : goal.returns-in_ok-roll_at-in-Roll-clause-answer
+returns-in_ok-roll_at-in-Roll-clause-answer g c = λ before stands.
+    let fits = rw (c.in-Roll.is) at c.requires.fits in
+    rw (c.in-Roll.is) (c.in_ok-roll_at-in-Roll.ensures (images g.D.Disk.image_at g.D.Disk.moment c.args.pairs.now.items) before c.in-Roll.node fits stands.fit stands.each c.slot-slot-in-Roll.ensures.at ∙ sym (power_answered (ids_of c.args.self.now) before (line.Roll c.in-Roll.node) stands.fit fits))
+
+pub returns-in_ok-roll_at-in-Roll-clause-stands : goal.returns-in_ok-roll_at-in-Roll-clause-stands
+returns-in_ok-roll_at-in-Roll-clause-stands g c = λ before stands.
+    let n = c.in-Roll.node in
+    let one : c.add-in-Roll.new.self ≡ c.args.self.now.events + 1 = omega (arith, c.in_ok-add-in-Roll.ensures.counts.ok) in
+    let same : c.args.self.now.stops ≡ c.args.self.now.stops + 0 = omega arith in
+    rw (c.in-Roll.is) (stands_roll before c.args.self.now (record c.args.self.now { events = c.add-in-Roll.new.self }) (images g.D.Disk.image_at g.D.Disk.moment c.args.pairs.now.items) (images g.D.Disk.image_at g.D.Disk.moment c.args.pairs.now.items) refl one 0 same stands stands.sits n false (rw (c.in-Roll.is) at c.requires.fits) refl (λ k m h. h))
+
+pub returns-in_err-add-in-Roll-clause-many : goal.returns-in_err-add-in-Roll-clause-many
+returns-in_err-add-in-Roll-clause-many g c = λ before which stands q.
+    let l = line.Roll c.in-Roll.node in
+    rw (c.in-Roll.is) (over_line c.from_residual-in_err-add-in-Roll.result 0 which c.args.self.now (images g.D.Disk.image_at g.D.Disk.moment c.args.pairs.now.items) before l 1 stands (rw (c.in-Roll.is) at c.requires.fits) refl (counts_failed c.from_residual-in_err-add-in-Roll.result _ c.from_residual-in_err-add-in-Roll.ensures c.args.self.now.events _ 0 0 1 1 c.in_err-add-in-Roll.ensures.counts (at_least 1 1 refl)) q)

@@ -1,18 +1,19 @@
 use Rattle.std.proofs.Common.{◌++◌, ◌∷◌, []}
 use Rattle.spl_model.specs.Outcomes.{by_rule}
+use Rattle.spl_world.specs.Disks.{images}
 use Rattle.spl_world.specs.Views.{ids_of}
 use Rattle.spl_world.proofs.Results.{at_ok, ok_is, err_is}
 use Rattle.spl_world.proofs.Standing.{stands_still, within_line}
 use Rattle.spl_world.proofs.world.World.step.Goals as goal
 
 pub returns-clause-stands : goal.returns-clause-stands
-returns-clause-stands c = λ before stands. at_ok c.run_line-answered.result (stands_still (before ++ by_rule c.args.line.now ∷ []) c.run_line-answered.new.self c.is_err-failed.result) (c.run_line-answered.ensures.stands before stands)
+returns-clause-stands g c = λ before stands. at_ok c.run_line-answered.result (stands_still (before ++ by_rule c.args.line.now ∷ []) c.run_line-answered.new.self (images g.D.Disk.image_at g.D.Disk.moment c.run_line-answered.new.pairs.items) c.is_err-failed.result) (c.run_line-answered.ensures.stands before stands)
 
 pub returns-clause-running : goal.returns-clause-running
-returns-clause-running c = ok_is c.run_line-answered.result c.is_err-failed.result c.is_err-failed.ensures.value
+returns-clause-running g c = ok_is c.run_line-answered.result c.is_err-failed.result c.is_err-failed.ensures.value
 
 pub returns-clause-halted : goal.returns-clause-halted
-returns-clause-halted c = err_is c.run_line-answered.result c.is_err-failed.result c.is_err-failed.ensures.value
+returns-clause-halted g c = err_is c.run_line-answered.result c.is_err-failed.result c.is_err-failed.ensures.value
 
 pub returns-clause-few : goal.returns-clause-few
-returns-clause-few c = λ before stands. at_ok c.run_line-answered.result (λ standing. within_line (before ++ by_rule c.args.line.now ∷ []) c.run_line-answered.new.self (ids_of c.args.self.now) c.run_line-answered.ensures.ids standing c.are_within.ensures) (c.run_line-answered.ensures.stands before stands)
+returns-clause-few g c = λ before stands. at_ok c.run_line-answered.result (λ standing. within_line (before ++ by_rule c.args.line.now ∷ []) c.run_line-answered.new.self (images g.D.Disk.image_at g.D.Disk.moment c.run_line-answered.new.pairs.items) (ids_of c.args.self.now) c.run_line-answered.ensures.ids standing c.are_within.ensures) (c.run_line-answered.ensures.stands before stands)

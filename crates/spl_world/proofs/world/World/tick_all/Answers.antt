@@ -1,4 +1,4 @@
-use Rattle.std.proofs.Common.{◌≡◌, ◌+◌, ◌≤◌, ℕ, ◌∙◌, ap, sym, subst, take, length, slice_get, Some, List, arith}
+use Rattle.std.proofs.Common.{◌≡◌, ◌+◌, ◌≤◌, ℕ, ◌∙◌, ap, sym, subst, take, length, slice_get, Some, List, arith, refl}
 use Rattle.std.specs.List.{AllByRecursion}
 use Rattle.std.proofs.lemmas.List.{take_all}
 use Rattle.spl_circuit.specs.Nodes.{NodeId}
@@ -6,47 +6,52 @@ use Rattle.spl_model.specs.Worlds.{World as CircuitWorld}
 use Rattle.spl_model.specs.Calm.{Calming, open_nodes}
 use Rattle.spl_model.specs.Quiet.{IsIdleAt}
 use Rattle.spl_world.specs.Calms.{tick_count}
-use Rattle.spl_world.specs.Views.{Moves, ids_of}
+use Rattle.spl_world.specs.Views.{Moves, ids_of, seen}
 use Rattle.spl_world.proofs.Counting.{counts_done, counts_more, counts_failed, at_most}
 use Rattle.spl_world.proofs.Slots.{some_at, same_length, length_ids, not_before}
 use Rattle.spl_world.proofs.Ticking.{ticked, tick_moves, count_more, idle_more, open_front, or_false}
 use Rattle.spl_world.proofs.Turns.{some_calming}
+use Rattle.spl_world.proofs.Leaving.{all_itself, all_then, leaves_failed, leaves_ok, leaves_then}
 use Rattle.spl_world.proofs.world.World.tick_all.Goals as goal
 
 pub loop-slot-preserved : goal.loop-slot-preserved
-loop-slot-preserved c =
-    let xs = c.args.self.now.nodes.items in (
-      same_length xs c.tick.new.self.nodes.items (c.tick.ensures.ids ∙ c.loop-slot.invariant.1),
+loop-slot-preserved g c =
+    let xs = (seen g.D.Disk.image_at g.D.Disk.moment c.args.self.now c.args.pairs.now.items) in (
+      same_length c.args.self.now.slots.items c.tick.new.self.slots.items (c.tick.ensures.ids ∙ c.loop-slot.invariant.1),
       c.tick.ensures.ids ∙ c.loop-slot.invariant.1,
       λ z.
-          let n = some_at xs c.loop-slot.slot (rw (c.len-slot-end.ensures) at c.loop-slot-test.true) in
-          tick_moves c.args.circuit z xs c.loop-slot.self.nodes.items c.tick.new.self.nodes.items c.loop-slot.slot n.0 n.1 (c.loop-slot.invariant.2 z) (c.in_ok-one.ensures.moves n.0 (ap (λ (ns : List NodeId). slice_get ns c.loop-slot.slot) c.loop-slot.invariant.1 ∙ n.1)),
+          let n = some_at c.args.self.now.slots.items c.loop-slot.slot (rw (c.len-slot-end.ensures) at c.loop-slot-test.true) in
+          tick_moves c.args.circuit z xs (seen g.D.Disk.image_at g.D.Disk.moment c.loop-slot.self c.loop-slot.pairs.items) (seen g.D.Disk.image_at g.D.Disk.moment c.tick.new.self c.tick.new.pairs.items) c.loop-slot.slot n.0 n.1 (c.loop-slot.invariant.2 z) (c.in_ok-one.ensures.moves n.0 (ap (λ (ns : List NodeId). slice_get ns c.loop-slot.slot) c.loop-slot.invariant.1 ∙ n.1)),
       λ m h.
-          let n = some_at xs c.loop-slot.slot (rw (c.len-slot-end.ensures) at c.loop-slot-test.true) in
+          let n = some_at c.args.self.now.slots.items c.loop-slot.slot (rw (c.len-slot-end.ensures) at c.loop-slot-test.true) in
           let there : slice_get (ids_of c.loop-slot.self) c.loop-slot.slot ≡ Some n.0 = ap (λ (ns : List NodeId). slice_get ns c.loop-slot.slot) c.loop-slot.invariant.1 ∙ n.1 in
           let z : Calming = some_calming 0 in
           let w : CircuitWorld = ticked c.args.circuit z (take c.loop-slot.slot (ids_of c.args.self.now)) m in
           let one = (c.in_ok-one.ensures.counts w n.0 ((c.loop-slot.invariant.2 z).own m h) there).ok in
           omega (arith, c.loop-slot.invariant.3 m h, one, count_more c.args.circuit z (ids_of c.args.self.now) c.loop-slot.slot n.0 m n.1 (not_before (ids_of c.args.self.now) c.loop-slot.slot n.0 h.ordered n.1)),
       λ m h still.
-          let n = some_at xs c.loop-slot.slot (rw (c.len-slot-end.ensures) at c.loop-slot-test.true) in
+          let n = some_at c.args.self.now.slots.items c.loop-slot.slot (rw (c.len-slot-end.ensures) at c.loop-slot-test.true) in
           let there : slice_get (ids_of c.loop-slot.self) c.loop-slot.slot ≡ Some n.0 = ap (λ (ns : List NodeId). slice_get ns c.loop-slot.slot) c.loop-slot.invariant.1 ∙ n.1 in
           let z : Calming = some_calming 0 in
           let w : CircuitWorld = ticked c.args.circuit z (take c.loop-slot.slot (ids_of c.args.self.now)) m in
           let b = or_false c.loop-slot.moved c.in_ok-one.one still in
           idle_more c.args.circuit z (ids_of c.args.self.now) c.loop-slot.slot n.0 m n.1 (not_before (ids_of c.args.self.now) c.loop-slot.slot n.0 h.ordered n.1) (c.loop-slot.invariant.4 m h b.0)
           (c.in_ok-one.ensures.idle w n.0 ((c.loop-slot.invariant.2 z).own m h) there b.1),
+      c.in_ok-one.ensures.sits,
+      all_then _ _ _ c.loop-slot.invariant.6 c.in_ok-one.ensures.disks.onward,
+      c.tick.ensures.places ∙ c.loop-slot.invariant.7,
+      c.tick.ensures.stops ∙ c.loop-slot.invariant.8,
     )
 
 pub returns-clause-moves : goal.returns-clause-moves
-returns-clause-moves c = λ z.
-    let xs = c.args.self.now.nodes.items in
-    subst (λ (ns : List NodeId). Moves c.args.circuit (ticked c.args.circuit z ns) xs c.loop-slot.self.nodes.items) (take_all c.loop-slot.slot (ids_of c.args.self.now) (subst (λ (k : ℕ). k ≤ c.loop-slot.slot) (c.len-slot-end.ensures ∙ sym (length_ids xs)) c.loop-slot-test.false)) (c.loop-slot.invariant.2 z)
+returns-clause-moves g c = λ z.
+    let xs = (seen g.D.Disk.image_at g.D.Disk.moment c.args.self.now c.args.pairs.now.items) in
+    subst (λ (ns : List NodeId). Moves c.args.circuit (ticked c.args.circuit z ns) xs (seen g.D.Disk.image_at g.D.Disk.moment c.loop-slot.self c.loop-slot.pairs.items)) (take_all c.loop-slot.slot (ids_of c.args.self.now) (subst (λ (k : ℕ). k ≤ c.loop-slot.slot) (c.len-slot-end.ensures ∙ sym (length_ids c.args.self.now.slots.items)) c.loop-slot-test.false)) (c.loop-slot.invariant.2 z)
 
 pub returns-in_err-one-clause-counts : goal.returns-in_err-one-clause-counts
-returns-in_err-one-clause-counts c = λ m h.
-    let xs = c.args.self.now.nodes.items in
-    let n = some_at xs c.loop-slot.slot (rw (c.len-slot-end.ensures) at c.loop-slot-test.true) in
+returns-in_err-one-clause-counts g c = λ m h.
+    let xs = (seen g.D.Disk.image_at g.D.Disk.moment c.args.self.now c.args.pairs.now.items) in
+    let n = some_at c.args.self.now.slots.items c.loop-slot.slot (rw (c.len-slot-end.ensures) at c.loop-slot-test.true) in
     let there : slice_get (ids_of c.loop-slot.self) c.loop-slot.slot ≡ Some n.0 = ap (λ (ns : List NodeId). slice_get ns c.loop-slot.slot) c.loop-slot.invariant.1 ∙ n.1 in
     let z : Calming = some_calming 0 in
     let w : CircuitWorld = ticked c.args.circuit z (take c.loop-slot.slot (ids_of c.args.self.now)) m in
@@ -56,10 +61,24 @@ returns-in_err-one-clause-counts c = λ m h.
     (at_most _ _ _ (count_more c.args.circuit z (ids_of c.args.self.now) c.loop-slot.slot n.0 m n.1 (not_before (ids_of c.args.self.now) c.loop-slot.slot n.0 h.ordered n.1)) (open_front m (ids_of c.args.self.now) (c.loop-slot.slot + 1)))
 
 pub returns-clause-counts : goal.returns-clause-counts
-returns-clause-counts c = λ m h.
+returns-clause-counts g c = λ m h.
     counts_done _ c.args.self.now.events c.loop-slot.self.events 0 (length (open_nodes m (ids_of c.args.self.now)))
-    (subst (λ (ns : List NodeId). c.loop-slot.self.events + 0 ≡ c.args.self.now.events + length (open_nodes m ns)) (take_all c.loop-slot.slot (ids_of c.args.self.now) (subst (λ (k : ℕ). k ≤ c.loop-slot.slot) (c.len-slot-end.ensures ∙ sym (length_ids c.args.self.now.nodes.items)) c.loop-slot-test.false)) (c.loop-slot.invariant.3 m h))
+    (subst (λ (ns : List NodeId). c.loop-slot.self.events + 0 ≡ c.args.self.now.events + length (open_nodes m ns)) (take_all c.loop-slot.slot (ids_of c.args.self.now) (subst (λ (k : ℕ). k ≤ c.loop-slot.slot) (c.len-slot-end.ensures ∙ sym (length_ids c.args.self.now.slots.items)) c.loop-slot-test.false)) (c.loop-slot.invariant.3 m h))
 
 pub returns-clause-idle : goal.returns-clause-idle
-returns-clause-idle c = λ m h still.
-    subst (λ (ns : List NodeId). AllByRecursion (IsIdleAt c.args.circuit m) (open_nodes m ns)) (take_all c.loop-slot.slot (ids_of c.args.self.now) (subst (λ (k : ℕ). k ≤ c.loop-slot.slot) (c.len-slot-end.ensures ∙ sym (length_ids c.args.self.now.nodes.items)) c.loop-slot-test.false)) (c.loop-slot.invariant.4 m h still)
+returns-clause-idle g c = λ m h still.
+    subst (λ (ns : List NodeId). AllByRecursion (IsIdleAt c.args.circuit m) (open_nodes m ns)) (take_all c.loop-slot.slot (ids_of c.args.self.now) (subst (λ (k : ℕ). k ≤ c.loop-slot.slot) (c.len-slot-end.ensures ∙ sym (length_ids c.args.self.now.slots.items)) c.loop-slot-test.false)) (c.loop-slot.invariant.4 m h still)
+
+-- ---- the disks
+
+pub loop-slot-init : goal.loop-slot-init
+loop-slot-init g c = (refl, refl, λ z. record { own = λ m h. h; others = λ d m off h. h }, λ m h. refl, λ m h still. tt, c.requires.sits, all_itself _, refl, refl)
+
+pub tick-requires-clause-sits : goal.tick-requires-clause-sits
+tick-requires-clause-sits g c = c.loop-slot.invariant.5
+
+pub returns-in_err-one-clause-disks : goal.returns-in_err-one-clause-disks
+returns-in_err-one-clause-disks g c = leaves_failed c.from_residual.result _ c.from_residual.ensures _ _ (leaves_then _ _ _ _ c.loop-slot.invariant.6 c.in_err-one.ensures.disks)
+
+pub returns-clause-disks : goal.returns-clause-disks
+returns-clause-disks g c = leaves_ok _ _ _ c.loop-slot.invariant.6

@@ -3,23 +3,24 @@ use Rattle.std.proofs.lemmas.List.{take_all}
 use Rattle.spl_circuit.specs.Nodes.{NodeId}
 use Rattle.spl_model.specs.Calm.{Calming, pair_turn, to_all}
 use Rattle.spl_world.specs.Calms.{row_of}
-use Rattle.spl_world.specs.Views.{Holds, ids_of}
+use Rattle.spl_world.specs.Views.{Holds, ids_of, seen}
 use Rattle.spl_world.proofs.Calms.{to_all_front}
 use Rattle.spl_world.proofs.Composed.{spares_then}
 use Rattle.spl_world.proofs.Counting.{counts_done, counts_then, counts_failed, at_most}
 use Rattle.spl_world.proofs.Slots.{some_at, same_length, length_ids, set_length}
 use Rattle.spl_world.proofs.Turns.{turn_own, to_all_next, row_at, some_calming}
+use Rattle.spl_world.proofs.Leaving.{all_itself, all_then, leaves_failed, leaves_ok, leaves_then}
 use Rattle.spl_world.proofs.world.World.to_all.Goals as goal
 
 pub loop-to-preserved : goal.loop-to-preserved
-loop-to-preserved c =
-    let xs = c.args.self.now.nodes.items in
+loop-to-preserved g c =
+    let xs = (seen g.D.Disk.image_at g.D.Disk.moment c.args.self.now c.args.pairs.now.items) in
     let ids = c.pair_turn.ensures.ids ∙ c.loop-to.invariant.1 in
-    let recipient = some_at xs c.loop-to.to (rw (c.len-to-end.ensures) at c.loop-to-test.true) in
-    let sender = some_at xs c.args.from c.requires.below in
+    let recipient = some_at c.args.self.now.slots.items c.loop-to.to (rw (c.len-to-end.ensures) at c.loop-to-test.true) in
+    let sender = some_at c.args.self.now.slots.items c.args.from c.requires.below in
     let to : slice_get (ids_of c.loop-to.self) c.loop-to.to ≡ Some recipient.0 = ap (λ (ns : List NodeId). slice_get ns c.loop-to.to) c.loop-to.invariant.1 ∙ recipient.1 in
     let from : slice_get (ids_of c.loop-to.self) c.args.from ≡ Some sender.0 = ap (λ (ns : List NodeId). slice_get ns c.args.from) c.loop-to.invariant.1 ∙ sender.1 in (
-      same_length xs c.pair_turn.new.self.nodes.items ids,
+      same_length c.args.self.now.slots.items c.pair_turn.new.self.slots.items ids,
       ids,
       set_length c.loop-to.row.items c.loop-to.to c.in_ok-row.field-0 ∙ c.loop-to.invariant.2,
       λ z a h at row.
@@ -27,9 +28,9 @@ loop-to-preserved c =
           let y : Calming = to_all c.args.circuit z a (take c.loop-to.to (ids_of c.args.self.now)) in
           let here : slice_get (ids_of c.loop-to.self) c.args.from ≡ Some a = ap (λ (ns : List NodeId). slice_get ns c.args.from) c.loop-to.invariant.1 ∙ at in
           let taken : y.taken a recipient.0 ≡ c.index.result.now = sym (c.index.ensures ∙ ap (λ (r : List ℕ). get_or r c.loop-to.to c.index.result.now) so_far.1 ∙ row_at y.taken a (ids_of c.args.self.now) c.loop-to.to recipient.0 c.index.result.now recipient.1) in
-          turn_own c.args.circuit z a (ids_of c.args.self.now) c.loop-to.to recipient.0 c.loop-to.self.nodes.items c.pair_turn.new.self.nodes.items c.loop-to.row.items c.in_ok-row.field-0 h.ordered recipient.1 so_far
+          turn_own c.args.circuit z a (ids_of c.args.self.now) c.loop-to.to recipient.0 (seen g.D.Disk.image_at g.D.Disk.moment c.loop-to.self c.loop-to.pairs.items) (seen g.D.Disk.image_at g.D.Disk.moment c.pair_turn.new.self c.pair_turn.new.pairs.items) c.loop-to.row.items c.in_ok-row.field-0 h.ordered recipient.1 so_far
           (c.in_ok-row.ensures.moves y a recipient.0 here to taken) (c.in_ok-row.ensures.count y a recipient.0 so_far.0 here to taken),
-      spares_then c.args.circuit xs c.loop-to.self.nodes.items c.pair_turn.new.self.nodes.items c.loop-to.invariant.4 (c.in_ok-row.ensures.moves (some_calming c.index.result.now) sender.0 recipient.0 from to refl).others,
+      spares_then c.args.circuit xs (seen g.D.Disk.image_at g.D.Disk.moment c.loop-to.self c.loop-to.pairs.items) (seen g.D.Disk.image_at g.D.Disk.moment c.pair_turn.new.self c.pair_turn.new.pairs.items) c.loop-to.invariant.4 (c.in_ok-row.ensures.moves (some_calming c.index.result.now) sender.0 recipient.0 from to refl).others,
       λ z a h at row.
           let y : Calming = to_all c.args.circuit z a (take c.loop-to.to (ids_of c.args.self.now)) in
           let so_far = c.loop-to.invariant.3 z a h at row in
@@ -37,16 +38,20 @@ loop-to-preserved c =
           let taken : y.taken a recipient.0 ≡ c.index.result.now = sym (c.index.ensures ∙ ap (λ (r : List ℕ). get_or r c.loop-to.to c.index.result.now) so_far.1 ∙ row_at y.taken a (ids_of c.args.self.now) c.loop-to.to recipient.0 c.index.result.now recipient.1) in
           let next : length (to_all c.args.circuit z a (take (c.loop-to.to + 1) (ids_of c.args.self.now))).happened ≡ length (pair_turn c.args.circuit y a recipient.0).happened = ap (λ (w : Calming). length w.happened) (to_all_next c.args.circuit z a (ids_of c.args.self.now) c.loop-to.to recipient.0 recipient.1) in
           omega (arith, next, c.loop-to.invariant.5 z a h at row, (c.in_ok-row.ensures.counts y a recipient.0 so_far.0 here to taken).ok),
+      c.in_ok-row.ensures.sits,
+      all_then _ _ _ c.loop-to.invariant.7 c.in_ok-row.ensures.disks.onward,
+      c.pair_turn.ensures.places ∙ c.loop-to.invariant.8,
+      c.pair_turn.ensures.stops ∙ c.loop-to.invariant.9,
     )
 
 pub returns-clause-own : goal.returns-clause-own
-returns-clause-own c = λ z a h at row.
-    subst (λ (ns : List NodeId). Holds c.args.circuit (to_all c.args.circuit z a ns).world c.loop-to.self.nodes.items × (c.loop-to.row.items ≡ row_of (to_all c.args.circuit z a ns).taken a (ids_of c.args.self.now)))
-    (take_all c.loop-to.to (ids_of c.args.self.now) (subst (λ (k : ℕ). k ≤ c.loop-to.to) (c.len-to-end.ensures ∙ sym (length_ids c.args.self.now.nodes.items)) c.loop-to-test.false)) (c.loop-to.invariant.3 z a h at row)
+returns-clause-own g c = λ z a h at row.
+    subst (λ (ns : List NodeId). Holds c.args.circuit (to_all c.args.circuit z a ns).world (seen g.D.Disk.image_at g.D.Disk.moment c.loop-to.self c.loop-to.pairs.items) × (c.loop-to.row.items ≡ row_of (to_all c.args.circuit z a ns).taken a (ids_of c.args.self.now)))
+    (take_all c.loop-to.to (ids_of c.args.self.now) (subst (λ (k : ℕ). k ≤ c.loop-to.to) (c.len-to-end.ensures ∙ sym (length_ids c.args.self.now.slots.items)) c.loop-to-test.false)) (c.loop-to.invariant.3 z a h at row)
 
 pub returns-in_err-row-clause-counts : goal.returns-in_err-row-clause-counts
-returns-in_err-row-clause-counts c = λ z a h at row.
-    let recipient = some_at c.args.self.now.nodes.items c.loop-to.to (rw (c.len-to-end.ensures) at c.loop-to-test.true) in
+returns-in_err-row-clause-counts g c = λ z a h at row.
+    let recipient = some_at c.args.self.now.slots.items c.loop-to.to (rw (c.len-to-end.ensures) at c.loop-to-test.true) in
     let to : slice_get (ids_of c.loop-to.self) c.loop-to.to ≡ Some recipient.0 = ap (λ (ns : List NodeId). slice_get ns c.loop-to.to) c.loop-to.invariant.1 ∙ recipient.1 in
     let y : Calming = to_all c.args.circuit z a (take c.loop-to.to (ids_of c.args.self.now)) in
     let so_far = c.loop-to.invariant.3 z a h at row in
@@ -58,7 +63,21 @@ returns-in_err-row-clause-counts c = λ z a h at row.
     (at_most _ _ _ next (to_all_front c.args.circuit z a (ids_of c.args.self.now) (c.loop-to.to + 1)))
 
 pub returns-clause-counts : goal.returns-clause-counts
-returns-clause-counts c = λ z a h at row.
+returns-clause-counts g c = λ z a h at row.
     counts_done _ c.args.self.now.events c.loop-to.self.events (length z.happened) _
     (subst (λ (ns : List NodeId). c.loop-to.self.events + length z.happened ≡ c.args.self.now.events + length (to_all c.args.circuit z a ns).happened)
-    (take_all c.loop-to.to (ids_of c.args.self.now) (subst (λ (k : ℕ). k ≤ c.loop-to.to) (c.len-to-end.ensures ∙ sym (length_ids c.args.self.now.nodes.items)) c.loop-to-test.false)) (c.loop-to.invariant.5 z a h at row))
+    (take_all c.loop-to.to (ids_of c.args.self.now) (subst (λ (k : ℕ). k ≤ c.loop-to.to) (c.len-to-end.ensures ∙ sym (length_ids c.args.self.now.slots.items)) c.loop-to-test.false)) (c.loop-to.invariant.5 z a h at row))
+
+-- ---- the disks
+
+pub loop-to-init : goal.loop-to-init
+loop-to-init g c = (refl, refl, refl, λ z a h at row. (h, row), λ d m off h. h, λ z a h at row. refl, c.requires.sits, all_itself _, refl, refl)
+
+pub pair_turn-requires-clause-sits : goal.pair_turn-requires-clause-sits
+pair_turn-requires-clause-sits g c = c.loop-to.invariant.6
+
+pub returns-in_err-row-clause-disks : goal.returns-in_err-row-clause-disks
+returns-in_err-row-clause-disks g c = leaves_failed c.from_residual.result _ c.from_residual.ensures _ _ (leaves_then _ _ _ _ c.loop-to.invariant.7 c.in_err-row.ensures.disks)
+
+pub returns-clause-disks : goal.returns-clause-disks
+returns-clause-disks g c = leaves_ok _ _ _ c.loop-to.invariant.7

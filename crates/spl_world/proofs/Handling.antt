@@ -1,0 +1,104 @@
+-- A call of one node over its pair of disks.
+use Rattle.std.proofs.Common.{◌≡◌, ◌<◌, ℕ, false, List, length, slice_get, slice_set, Option, Some, Result, ap, sym, subst, ◌∙◌, Bool, true}
+use Rattle.std.specs.Prelude.{IsErrOf}
+use Rattle.std.specs.Str.{bytes_eq}
+use Rattle.spl_circuit.specs.Nodes.{NodeId, CircuitId}
+use Rattle.spl_edge.specs.Image.{Image}
+use Rattle.spl_edge.specs.Picks.{Picked}
+use Rattle.spl_edge.specs.declared.bench.Pair.{Pair}
+use Rattle.spl_edge.specs.declared.disk.Armed.{Armed}
+use Rattle.spl_model.specs.Worlds.{World as CircuitWorld, site_at, carried_out}
+use Rattle.spl_node.specs.Hosts.{HostStands}
+use Rattle.spl_rules.specs.Plans.{plan_of}
+use Rattle.spl_wire.specs.declared.event.Event.{Event}
+use Rattle.spl_world.specs.declared.fault.WorldFault.{WorldFault}
+use Rattle.spl_world.specs.declared.fault.WorldFault.TheVariants.{Disk}
+use Rattle.spl_world.specs.Disks.{AllGoOn, HasRisen, Images, LeavesDisks, PairGoesOn, bench, images, images_at, images_of, pair_view, BothPicked, StopsPair, PairView}
+use Rattle.spl_world.specs.Kept.{IsDone, NodeView, place_of}
+use Rattle.spl_world.specs.Views.{Moves, Nodes, Sits, node_view, slot_id, slot_ids, slot_up, view_in}
+use Rattle.spl_world.specs.declared.slot.Slot.{Slot}
+use Rattle.spl_rules.specs.Cells.{Cell}
+use Rattle.spl_world.proofs.Slots.{set_else, set_here, set_length, set_same}
+use Rattle.spl_world.proofs.Leaving.{all_one, bench_here, bench_set, leaves_one, get_below}
+use Rattle.spl_world.proofs.Moving.{event_moves}
+use Rattle.spl_world.proofs.Pairing.{images_here, images_length, images_set, pair_here, sits_changed, changed}
+
+module _ {D : Type 0} (image_at : D → ℕ → Option Image) (moment : D → ℕ) (ss : List Slot) (ps : List (Pair D)) (i : ℕ) (s : Slot) (sits : Sits (record { slots = ss; disks = images image_at moment ps })) (there : slice_get ss i ≡ Some s) where
+  abbrev nodes : Nodes
+  nodes = record { slots = ss; disks = images image_at moment ps }
+
+  -- its pair is one of them
+  pub pair_below : (k : ℕ) → k ≡ s.position → k < length ps
+  pair_below k place = subst (λ (n : ℕ). n < length ps) (sym place) (subst (λ (n : ℕ). s.position < n) (images_length image_at moment ps) (sits.below i s there))
+
+  module _ (k : ℕ) (place : k ≡ s.position) (p : Pair D) (pair : slice_get ps k ≡ Some p) where
+    own_images : images_at (images image_at moment ps) s.position ≡ images_of image_at moment p
+    own_images = ap (images_at (images image_at moment ps)) (sym place) ∙ pair_here (images image_at moment ps) k (images_of image_at moment p) (images_here image_at moment ps k p pair)
+
+    -- the host stands over it
+    pub own_stands : HostStands s.host (images_of image_at moment p).0 (images_of image_at moment p).1
+    own_stands = subst (λ (q : Images). HostStands s.host q.0 q.1) own_images (sits.each i s there)
+
+    pub own_view : view_in nodes s ≡ node_view s (images_of image_at moment p)
+    own_view = ap (node_view s) own_images
+
+    -- what is written there is one node and its pair
+    module _ (t : Slot) (r : Pair D) where
+      pub disks_are : slice_set (images image_at moment ps) s.position (images_of image_at moment r) ≡ images image_at moment (slice_set ps k r)
+      disks_are = ap (λ (n : ℕ). slice_set (images image_at moment ps) n (images_of image_at moment r)) (sym place) ∙ sym (images_set image_at moment ps k r)
+
+      pub own_by : (P : Nodes → Type 0) → P (changed nodes i s t (images_of image_at moment r)) → P (record { slots = slice_set ss i t; disks = images image_at moment (slice_set ps k r) })
+      own_by P h = subst (λ (is : List Images). P (record { slots = slice_set ss i t; disks = is })) disks_are h
+
+      pub own_sits : t.position ≡ s.position → HostStands t.host (images_of image_at moment r).0 (images_of image_at moment r).1 → Sits (record { slots = slice_set ss i t; disks = images image_at moment (slice_set ps k r) })
+      own_sits same stands = subst (λ (is : List Images). Sits (record { slots = slice_set ss i t; disks = is })) disks_are (sits_changed nodes i s t (images_of image_at moment r) sits there same stands)
+
+      -- an event there
+      pub own_moves : (c : CircuitId) (n : NodeId) (e : Event) → t.position ≡ s.position → slot_id t ≡ slot_id s → slot_up t ≡ slot_up s → slice_get (slot_ids ss) i ≡ Some n
+          → IsDone (slot_id s) (plan_of (site_at (slot_id s) c) ((node_view s (images_of image_at moment p)).cells c) e) (place_of (node_view s (images_of image_at moment p)) c) (place_of (node_view t (images_of image_at moment r)) c)
+          → ((d : CircuitId) → bytes_eq c d ≡ false → place_of (node_view t (images_of image_at moment r)) d ≡ place_of (node_view s (images_of image_at moment p)) d)
+          → Moves c (λ m. carried_out m n (plan_of (site_at n c) (m.at n) e)) nodes (record { slots = slice_set ss i t; disks = images image_at moment (slice_set ps k r) })
+      own_moves c n e same id up at done others =
+          subst (λ (is : List Images). Moves c (λ (m : CircuitWorld). carried_out m n (plan_of (site_at n c) (m.at n) e)) nodes (record { slots = slice_set ss i t; disks = is })) disks_are
+          (event_moves nodes i s t (images_of image_at moment r) c n e sits there same id up at
+          (subst (λ (v : NodeView). IsDone (slot_id s) (plan_of (site_at (slot_id s) c) (v.cells c) e) (place_of v c) (place_of (node_view t (images_of image_at moment r)) c)) (sym own_view) done)
+          (λ d off. subst (λ (v : NodeView). place_of (node_view t (images_of image_at moment r)) d ≡ place_of v d) (sym own_view) (others d off)))
+
+-- the disks behind it
+pub one_leaves : {D A : Type 0} (image_at : D → ℕ → Option Image) (moment faults : D → ℕ) (armed : D → Armed) (picks : D → List Picked) (x : Result A WorldFault) (ps : List (Pair D)) (k : ℕ) (p r : Pair D) (position : ℕ) → slice_get ps k ≡ Some p → k ≡ position
+    → PairGoesOn (pair_view image_at moment faults armed picks p) (pair_view image_at moment faults armed picks r)
+    → ((slot : ℕ) → IsErrOf x (Disk slot) → (slot ≡ position) × HasRisen (pair_view image_at moment faults armed picks p) (pair_view image_at moment faults armed picks r))
+    → LeavesDisks x (bench image_at moment faults armed picks ps) (bench image_at moment faults armed picks (slice_set ps k r))
+one_leaves image_at moment faults armed picks x ps k p r position pair place on failed =
+    subst (LeavesDisks x (bench image_at moment faults armed picks ps)) (sym (bench_set image_at moment faults armed picks ps k r))
+    (leaves_one x (bench image_at moment faults armed picks ps) k (pair_view image_at moment faults armed picks p) (pair_view image_at moment faults armed picks r) (bench_here image_at moment faults armed picks ps k p pair) on
+    (λ slot q. let f = failed slot q in (f.0 ∙ sym place, f.1)))
+
+pub one_onward : {D : Type 0} (image_at : D → ℕ → Option Image) (moment faults : D → ℕ) (armed : D → Armed) (picks : D → List Picked) (ps : List (Pair D)) (k : ℕ) (p r : Pair D) → slice_get ps k ≡ Some p → PairGoesOn (pair_view image_at moment faults armed picks p) (pair_view image_at moment faults armed picks r) → AllGoOn (bench image_at moment faults armed picks ps) (bench image_at moment faults armed picks (slice_set ps k r))
+one_onward image_at moment faults armed picks ps k p r pair on =
+    subst (AllGoOn (bench image_at moment faults armed picks ps)) (sym (bench_set image_at moment faults armed picks ps k r))
+    (all_one (bench image_at moment faults armed picks ps) k (pair_view image_at moment faults armed picks p) (pair_view image_at moment faults armed picks r) (bench_here image_at moment faults armed picks ps k p pair) on)
+
+-- one pair was picked from
+stops_one : (here : NodeId) (up : Bool) (cells : CircuitId → Cell) (k : ℕ) (xs : List PairView) (x y : PairView) → slice_get xs k ≡ Some x → (up ≡ true → BothPicked here cells x y) → (up ≡ false → slice_set xs k y ≡ xs) → StopsPair here up cells k xs (slice_set xs k y)
+stops_one here up cells k xs x y there picked none = record {
+  as_many = set_length xs k y;
+  others = λ i off. set_else xs k i y (λ e. off (sym e));
+  picks = λ u p q e f.
+      let is : Some x ≡ Some p = sym there ∙ e in
+      let was : x ≡ p = cc in
+      let at : Some y ≡ Some q = sym (set_here xs k y (get_below xs k x there)) ∙ f in
+      let now : y ≡ q = cc in
+      subst (λ (z : PairView). BothPicked here cells z q) was (subst (BothPicked here cells x) now (picked u));
+  none = none;
+}
+
+pub one_stops : {D : Type 0} (image_at : D → ℕ → Option Image) (moment faults : D → ℕ) (armed : D → Armed) (picks : D → List Picked) (here : NodeId) (up : Bool) (cells : CircuitId → Cell) (ps : List (Pair D)) (k : ℕ) (p r : Pair D) (position : ℕ) → slice_get ps k ≡ Some p → k ≡ position
+    → (up ≡ true → BothPicked here cells (pair_view image_at moment faults armed picks p) (pair_view image_at moment faults armed picks r)) → (up ≡ false → r ≡ p)
+    → StopsPair here up cells position (bench image_at moment faults armed picks ps) (bench image_at moment faults armed picks (slice_set ps k r))
+one_stops image_at moment faults armed picks here up cells ps k p r position pair place picked none =
+    subst (λ (n : ℕ). StopsPair here up cells n (bench image_at moment faults armed picks ps) (bench image_at moment faults armed picks (slice_set ps k r))) place
+    (subst (StopsPair here up cells k (bench image_at moment faults armed picks ps)) (sym (bench_set image_at moment faults armed picks ps k r))
+    (stops_one here up cells k (bench image_at moment faults armed picks ps) (pair_view image_at moment faults armed picks p) (pair_view image_at moment faults armed picks r) (bench_here image_at moment faults armed picks ps k p pair) picked
+    (λ d. ap (λ (z : Pair _). slice_set (bench image_at moment faults armed picks ps) k (pair_view image_at moment faults armed picks z)) (none d)
+    ∙ set_same (bench image_at moment faults armed picks ps) k (pair_view image_at moment faults armed picks p) (bench_here image_at moment faults armed picks ps k p pair))))

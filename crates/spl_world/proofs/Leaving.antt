@@ -1,0 +1,166 @@
+-- How calls leave the disks, one behind the other.
+use Rattle.std.proofs.Common.{◌≡◌, ◌⊎◌, inl, inr, ℕ, zero, suc, ◌<◌, ◌≤◌, List, [], ◌∷◌, length, slice_get, slice_set, Option, Some, Result, Ok, Err, OnErr, refl, ap, sym, subst, ◌∙◌, arith}
+use Rattle.std.specs.Prelude.{IsErr, IsErrOf}
+use Rattle.std.specs.Result.{IsErrAnd}
+use Rattle.spl_edge.specs.Image.{Image}
+use Rattle.spl_edge.specs.Picks.{Picked}
+use Rattle.spl_edge.specs.declared.bench.Pair.{Pair}
+use Rattle.spl_edge.specs.declared.disk.Armed.{Armed}
+use Rattle.spl_world.specs.declared.fault.WorldFault.{WorldFault}
+use Rattle.spl_world.specs.declared.fault.WorldFault.TheVariants.{Disk, NoMemory, TooMany}
+use Rattle.spl_world.specs.Disks.{DiskView, PairView, GoesOn, PairGoesOn, AllGoOn, HasRisen, RoseAt, LeavesDisks, bench, pair_view}
+use Rattle.spl_world.proofs.Counting.{failed}
+use Rattle.spl_world.proofs.Slots.{set_cases, set_length}
+
+-- ---- disks that go on
+
+on_itself : (x : DiskView) → GoesOn x x
+on_itself x = record { past = λ t h. refl; later = omega arith; no_less = omega arith; armed = refl; picks = refl }
+
+pair_itself : (p : PairView) → PairGoesOn p p
+pair_itself p = record { first = on_itself p.first; second = on_itself p.second }
+
+on_then : (x y z : DiskView) → GoesOn x y → GoesOn y z → GoesOn x z
+on_then x y z a b = record {
+  past = λ t h. (let later : t ≤ y.moment = omega (arith, h, a.later) in b.past t later ∙ a.past t h);
+  later = omega (arith, a.later, b.later);
+  no_less = omega (arith, a.no_less, b.no_less);
+  armed = b.armed ∙ a.armed;
+  picks = b.picks ∙ a.picks;
+}
+
+pub pair_then : (p q r : PairView) → PairGoesOn p q → PairGoesOn q r → PairGoesOn p r
+pair_then p q r a b = record { first = on_then p.first q.first r.first a.first b.first; second = on_then p.second q.second r.second a.second b.second }
+
+some_at : {X : Type 0} (xs : List X) (i : ℕ) → i < length xs → (x : X) × (slice_get xs i ≡ Some x)
+some_at [] i h = absurd (omega (arith, h))
+some_at (x ∷ xs) zero h = (x, refl)
+some_at (x ∷ xs) (suc i) h = let r : i < length xs = omega (arith, h) in some_at xs i r
+
+pub get_below : {X : Type 0} (xs : List X) (i : ℕ) (x : X) → slice_get xs i ≡ Some x → i < length xs
+get_below [] i x h = absurd cc
+get_below (y ∷ xs) zero x h = omega arith
+get_below (y ∷ xs) (suc i) x h = let r : i < length xs = get_below xs i x h in omega (arith, r)
+
+same_there : {X : Type 0} (xs : List X) (i : ℕ) (x y : X) → slice_get xs i ≡ Some x → slice_get xs i ≡ Some y → x ≡ y
+same_there xs i x y e f = let q : Some x ≡ Some y = sym e ∙ f in cc
+
+pub all_itself : (xs : List PairView) → AllGoOn xs xs
+all_itself xs = record { as_many = refl; each = λ i p q e f. subst (PairGoesOn p) (same_there xs i p q e f) (pair_itself p) }
+
+-- the pair between
+between : (xs ys : List PairView) (i : ℕ) (p : PairView) → AllGoOn xs ys → slice_get xs i ≡ Some p → (m : PairView) × (slice_get ys i ≡ Some m)
+between xs ys i p a e = some_at ys i (subst (λ (n : ℕ). i < n) (sym a.as_many) (get_below xs i p e))
+
+pub all_then : (xs ys zs : List PairView) → AllGoOn xs ys → AllGoOn ys zs → AllGoOn xs zs
+all_then xs ys zs a b = record {
+  as_many = b.as_many ∙ a.as_many;
+  each = λ i p q e f. let m = between xs ys i p a e in pair_then p m.0 q (a.each i p m.0 e m.1) (b.each i m.0 q m.1 f);
+}
+
+rose_then : (p m q : PairView) → PairGoesOn p m → HasRisen m q → HasRisen p q
+rose_then p m q a (inl r) = let less = a.first.no_less in inl (omega (arith, r, less))
+rose_then p m q a (inr r) = let less = a.second.no_less in inr (omega (arith, r, less))
+
+-- ---- calls
+
+pub leaves_ok : {A : Type 0} (a : A) (xs ys : List PairView) → AllGoOn xs ys → LeavesDisks (Ok a) xs ys
+leaves_ok a xs ys on = record { onward = on; failed = λ slot q. absurd cc }
+
+pub leaves_same : {A : Type 0} (a : A) (xs : List PairView) → LeavesDisks (Ok a) xs xs
+leaves_same a xs = leaves_ok a xs xs (all_itself xs)
+
+-- a call behind another
+pub leaves_then : {A : Type 0} (r : Result A WorldFault) (xs ys zs : List PairView) → AllGoOn xs ys → LeavesDisks r ys zs → LeavesDisks r xs zs
+leaves_then r xs ys zs on k = record {
+  onward = all_then xs ys zs on k.onward;
+  failed = λ slot q. let rose = k.failed slot q in record {
+    below = subst (λ (n : ℕ). slot < n) on.as_many rose.below;
+    rose = λ p z e f. let m = between xs ys slot p on e in rose_then p m.0 z (on.each slot p m.0 e m.1) (rose.rose m.0 z m.1 f);
+  };
+}
+
+-- one that fails as the call in it does
+pub leaves_failed : {A B : Type 0} (r : Result B WorldFault) (f : WorldFault) → IsErr r × IsErrAnd r (λ y. y ≡ f) → (xs ys : List PairView) → LeavesDisks (failed A f) xs ys → LeavesDisks r xs ys
+leaves_failed (Ok b) f e xs ys k = absurd e.1
+leaves_failed {A} (Err y) f e xs ys k = record {
+  onward = k.onward;
+  failed = λ slot q. let is : y ≡ f = e.1 in let same : f ≡ Disk slot = cc in k.failed slot (ap (failed A) same);
+}
+
+-- one that fails by itself
+pub leaves_other : {B : Type 0} (r : Result B WorldFault) (f : WorldFault) → IsErr r × IsErrAnd r (λ y. y ≡ f) → ((slot : ℕ) → f ≡ Disk slot → ⊥) → (xs ys : List PairView) → AllGoOn xs ys → LeavesDisks r xs ys
+leaves_other (Ok b) f e none xs ys on = absurd e.1
+leaves_other (Err y) f e none xs ys on = record {
+  onward = on;
+  failed = λ slot q. let is : y ≡ f = e.1 in let same : f ≡ Disk slot = cc in absurd (none slot same);
+}
+
+-- one that counts events
+pub leaves_counted : {A : Type 0} (r : Result A WorldFault) (n : ℕ) → OnErr r (IsErrOf r (TooMany n)) → (xs ys : List PairView) → AllGoOn xs ys → LeavesDisks r xs ys
+leaves_counted (Ok a) n e xs ys on = leaves_ok a xs ys on
+leaves_counted (Err f) n e xs ys on = record { onward = on; failed = λ slot q. cc }
+
+pub leaves_limit : {A B : Type 0} (r : Result B WorldFault) (f : WorldFault) (n : ℕ) → IsErr r × IsErrAnd r (λ y. y ≡ f) → IsErrOf (failed A f) (TooMany n) → (xs ys : List PairView) → AllGoOn xs ys → LeavesDisks r xs ys
+leaves_limit r f n e is xs ys on = leaves_other r f e (λ slot q. cc) xs ys on
+
+pub leaves_memory : {B : Type 0} (r : Result B WorldFault) → IsErr r × IsErrAnd r (λ y. y ≡ NoMemory) → (xs : List PairView) → LeavesDisks r xs xs
+leaves_memory r e xs = leaves_other r NoMemory e (λ slot q. cc) xs xs (all_itself xs)
+
+pub memory_is_few : {B : Type 0} (r : Result B WorldFault) → IsErr r × IsErrAnd r (λ y. y ≡ NoMemory) → (which : ℕ) → IsErrOf r (TooMany which) → ⊥
+memory_is_few (Ok b) e which q = absurd e.1
+memory_is_few (Err y) e which q = let is : y ≡ NoMemory = e.1 in cc
+
+pub limit_no_disk : {A B : Type 0} (r : Result B WorldFault) (f : WorldFault) (n : ℕ) → IsErr r × IsErrAnd r (λ y. y ≡ f) → IsErrOf (failed A f) (TooMany n) → (slot : ℕ) → IsErrOf r (Disk slot) → ⊥
+limit_no_disk (Ok b) f n e is slot q = absurd e.1
+limit_no_disk (Err y) f n e is slot q = let same : y ≡ f = e.1 in cc
+
+pub memory_no_disk : {B : Type 0} (r : Result B WorldFault) → IsErr r × IsErrAnd r (λ y. y ≡ NoMemory) → (slot : ℕ) → IsErrOf r (Disk slot) → ⊥
+memory_no_disk (Ok b) e slot q = absurd e.1
+memory_no_disk (Err y) e slot q = let is : y ≡ NoMemory = e.1 in cc
+
+-- ---- one pair
+
+module _ {D : Type 0} (image_at : D → ℕ → Option Image) (moment faults : D → ℕ) (armed : D → Armed) (picks : D → List Picked) where
+  abbrev told : List (Pair D) → List PairView
+  told ps = bench image_at moment faults armed picks ps
+
+  abbrev one : Pair D → PairView
+  one p = pair_view image_at moment faults armed picks p
+
+  pub bench_set : (ps : List (Pair D)) (k : ℕ) (p : Pair D) → told (slice_set ps k p) ≡ slice_set (told ps) k (one p)
+  bench_set [] k p = refl
+  bench_set (r ∷ ps) zero p = refl
+  bench_set (r ∷ ps) (suc k) p = ap (λ (xs : List PairView). one r ∷ xs) (bench_set ps k p)
+
+  pub bench_here : (ps : List (Pair D)) (k : ℕ) (p : Pair D) → slice_get ps k ≡ Some p → slice_get (told ps) k ≡ Some (one p)
+  bench_here [] k p e = absurd cc
+  bench_here (r ∷ ps) zero p e = let same : r ≡ p = cc in ap (λ (z : Pair D). Some (one z)) same
+  bench_here (r ∷ ps) (suc k) p e = bench_here ps k p e
+
+-- one pair went on
+on_one : (xs : List PairView) (k : ℕ) (x y : PairView) → slice_get xs k ≡ Some x → PairGoesOn x y → (i : ℕ) (p q : PairView) → slice_get xs i ≡ Some p → ((i ≡ k) × (y ≡ q)) ⊎ ((i ≡ k → ⊥) × (slice_get xs i ≡ Some q)) → PairGoesOn p q
+on_one xs k x y there on i p q e (inl c) =
+    let is : x ≡ p = same_there xs k x p there (ap (λ (j : ℕ). slice_get xs j) (sym c.0) ∙ e) in
+    subst (λ (z : PairView). PairGoesOn z q) is (subst (PairGoesOn x) c.1 on)
+on_one xs k x y there on i p q e (inr c) = subst (PairGoesOn p) (same_there xs i p q e c.1) (pair_itself p)
+
+pub all_one : (xs : List PairView) (k : ℕ) (x y : PairView) → slice_get xs k ≡ Some x → PairGoesOn x y → AllGoOn xs (slice_set xs k y)
+all_one xs k x y there on = record {
+  as_many = set_length xs k y;
+  each = λ i p q e f. on_one xs k x y there on i p q e (set_cases xs k i y q f);
+}
+
+rose_one : (xs : List PairView) (k : ℕ) (x y : PairView) → slice_get xs k ≡ Some x → HasRisen x y → (p q : PairView) → slice_get xs k ≡ Some p → ((k ≡ k) × (y ≡ q)) ⊎ ((k ≡ k → ⊥) × (slice_get xs k ≡ Some q)) → HasRisen p q
+rose_one xs k x y there rose p q e (inl c) = subst (λ (z : PairView). HasRisen z q) (same_there xs k x p there e) (subst (HasRisen x) c.1 rose)
+rose_one xs k x y there rose p q e (inr c) = absurd (c.0 refl)
+
+-- a call of one pair
+pub leaves_one : {A : Type 0} (r : Result A WorldFault) (xs : List PairView) (k : ℕ) (x y : PairView) → slice_get xs k ≡ Some x → PairGoesOn x y → ((slot : ℕ) → IsErrOf r (Disk slot) → (slot ≡ k) × HasRisen x y) → LeavesDisks r xs (slice_set xs k y)
+leaves_one r xs k x y there on f = record {
+  onward = all_one xs k x y there on;
+  failed = λ slot q. let g = f slot q in subst (λ (i : ℕ). RoseAt i xs (slice_set xs k y)) (sym g.0) (record {
+    below = get_below xs k x there;
+    rose = λ p z e h. rose_one xs k x y there g.1 p z e (set_cases xs k k y z h);
+  });
+}

@@ -1,0 +1,72 @@
+-- A node and its pair of disks, one of which was written.
+use Rattle.std.proofs.Common.{◌≡◌, ℕ, zero, suc, ◌<◌, ◌⊎◌, inl, inr, List, [], ◌∷◌, length, slice_get, slice_set, Option, Some, refl, ap, sym, ◌∙◌, subst}
+use Rattle.spl_edge.specs.Image.{Image}
+use Rattle.spl_edge.specs.declared.bench.Pair.{Pair}
+use Rattle.spl_node.specs.Hosts.{HostStands}
+use Rattle.spl_world.specs.Disks.{Images, images, images_at, images_of, images_or_none}
+use Rattle.spl_world.specs.Views.{Nodes, Sits, node_view, view_in}
+use Rattle.spl_world.specs.declared.slot.Slot.{Slot}
+use Rattle.spl_world.proofs.Slots.{set_cases, set_length, set_here, set_else}
+
+-- ---- what the pairs hold
+
+pub images_set : {D : Type 0} (image_at : D → ℕ → Option Image) (moment : D → ℕ) (ps : List (Pair D)) (k : ℕ) (p : Pair D) → images image_at moment (slice_set ps k p) ≡ slice_set (images image_at moment ps) k (images_of image_at moment p)
+images_set image_at moment [] k p = refl
+images_set image_at moment (r ∷ ps) zero p = refl
+images_set image_at moment (r ∷ ps) (suc k) p = ap (λ (is : List Images). images_of image_at moment r ∷ is) (images_set image_at moment ps k p)
+
+pub images_here : {D : Type 0} (image_at : D → ℕ → Option Image) (moment : D → ℕ) (ps : List (Pair D)) (k : ℕ) (p : Pair D) → slice_get ps k ≡ Some p → slice_get (images image_at moment ps) k ≡ Some (images_of image_at moment p)
+images_here image_at moment [] k p e = absurd cc
+images_here image_at moment (r ∷ ps) zero p e = let same : r ≡ p = cc in ap (λ (z : Pair _). Some (images_of image_at moment z)) same
+images_here image_at moment (r ∷ ps) (suc k) p e = images_here image_at moment ps k p e
+
+pub images_length : {D : Type 0} (image_at : D → ℕ → Option Image) (moment : D → ℕ) (ps : List (Pair D)) → length (images image_at moment ps) ≡ length ps
+images_length image_at moment [] = refl
+images_length image_at moment (r ∷ ps) = ap suc (images_length image_at moment ps)
+
+-- a pair at its position
+pub pair_here : (is : List Images) (k : ℕ) (q : Images) → slice_get is k ≡ Some q → images_at is k ≡ q
+pair_here is k q e = ap images_or_none e
+
+-- ---- one node and its pair are written
+
+abbrev pub changed : Nodes → ℕ → Slot → Slot → Images → Nodes
+changed xs i x y q = record { slots = slice_set xs.slots i y; disks = slice_set xs.disks x.position q }
+
+module _ (xs : Nodes) (i : ℕ) (x y : Slot) (q : Images) (sits : Sits xs) (there : slice_get xs.slots i ≡ Some x) (place : y.position ≡ x.position) where
+  here_is : images_at (slice_set xs.disks x.position q) y.position ≡ q
+  here_is = ap (λ (k : ℕ). images_at (slice_set xs.disks x.position q) k) place ∙ pair_here (slice_set xs.disks x.position q) x.position q (set_here xs.disks x.position q (sits.below i x there))
+
+  -- the node is seen over the pair that was written
+  pub view_here : view_in (changed xs i x y q) y ≡ node_view y q
+  view_here = ap (node_view y) here_is
+
+-- another node has another pair
+pub pair_else : (xs : Nodes) (i j : ℕ) (x z : Slot) (q : Images) → Sits xs → slice_get xs.slots i ≡ Some x → slice_get xs.slots j ≡ Some z → (j ≡ i → ⊥) → images_at (slice_set xs.disks x.position q) z.position ≡ images_at xs.disks z.position
+pair_else xs i j x z q sits there at ne = ap images_or_none (set_else xs.disks x.position z.position q (λ e. ne (sits.apart i j x z there at e)))
+
+pub view_else : (xs : Nodes) (i j : ℕ) (x y z : Slot) (q : Images) → Sits xs → slice_get xs.slots i ≡ Some x → slice_get xs.slots j ≡ Some z → (j ≡ i → ⊥) → view_in (changed xs i x y q) z ≡ view_in xs z
+view_else xs i j x y z q sits there at ne = ap (node_view z) (pair_else xs i j x z q sits there at ne)
+
+-- the nodes sit as before, where the one that was written stands over its pair
+module _ (xs : Nodes) (i : ℕ) (x y : Slot) (q : Images) (sits : Sits xs) (there : slice_get xs.slots i ≡ Some x) (place : y.position ≡ x.position) (stands : HostStands y.host q.0 q.1) where
+  below_each : (j : ℕ) (z : Slot) → ((j ≡ i) × (y ≡ z)) ⊎ ((j ≡ i → ⊥) × (slice_get xs.slots j ≡ Some z)) → z.position < length (slice_set xs.disks x.position q)
+  below_each j z (inl e) = subst (λ (k : ℕ). k < length (slice_set xs.disks x.position q)) (sym place ∙ ap (λ (u : Slot). u.position) e.1) (subst (λ (n : ℕ). x.position < n) (sym (set_length xs.disks x.position q)) (sits.below i x there))
+  below_each j z (inr e) = subst (λ (n : ℕ). z.position < n) (sym (set_length xs.disks x.position q)) (sits.below j z e.1)
+
+  -- a node behind the write has the position of one before it
+  before : (j : ℕ) (z : Slot) → ((j ≡ i) × (y ≡ z)) ⊎ ((j ≡ i → ⊥) × (slice_get xs.slots j ≡ Some z)) → (u : Slot) × (slice_get xs.slots j ≡ Some u) × (z.position ≡ u.position)
+  before j z (inl e) = (x, ap (λ (k : ℕ). slice_get xs.slots k) e.0 ∙ there, ap (λ (u : Slot). u.position) (sym e.1) ∙ place)
+  before j z (inr e) = (z, e.1, refl)
+
+  stands_each : (j : ℕ) (z : Slot) → ((j ≡ i) × (y ≡ z)) ⊎ ((j ≡ i → ⊥) × (slice_get xs.slots j ≡ Some z)) → HostStands z.host (images_at (slice_set xs.disks x.position q) z.position).0 (images_at (slice_set xs.disks x.position q) z.position).1
+  stands_each j z (inl e) = subst (λ (u : Slot). HostStands u.host (images_at (slice_set xs.disks x.position q) u.position).0 (images_at (slice_set xs.disks x.position q) u.position).1) e.1
+      (subst (λ (r : Images). HostStands y.host r.0 r.1) (sym (ap (λ (k : ℕ). images_at (slice_set xs.disks x.position q) k) place ∙ pair_here (slice_set xs.disks x.position q) x.position q (set_here xs.disks x.position q (sits.below i x there)))) stands)
+  stands_each j z (inr e) = subst (λ (r : Images). HostStands z.host r.0 r.1) (sym (pair_else xs i j x z q sits there e.1 e.0)) (sits.each j z e.1)
+
+  pub sits_changed : Sits (changed xs i x y q)
+  sits_changed = record {
+    below = λ j z e. below_each j z (set_cases xs.slots i j y z e);
+    apart = λ j k z w e f p. let u = before j z (set_cases xs.slots i j y z e) in let v = before k w (set_cases xs.slots i k y w f) in sits.apart j k u.0 v.0 u.1 v.1 (sym u.2 ∙ p ∙ v.2);
+    each = λ j z e. stands_each j z (set_cases xs.slots i j y z e);
+  }

@@ -1,0 +1,17 @@
+use Rattle.std.proofs.Common.{List, ap, sym, subst, ◌∙◌}
+use Rattle.spl_wire.specs.declared.plan.Outgoing.{Outgoing}
+use Rattle.spl_model.specs.Worlds.{site_at}
+use Rattle.spl_rules.specs.Valid.{are_legal}
+use Rattle.spl_world.specs.Disks.{images_of}
+use Rattle.spl_world.specs.Kept.{SendsBelong}
+use Rattle.spl_world.specs.Views.{node_view, slot_id}
+use Rattle.spl_world.proofs.About.{plan_about}
+use Rattle.spl_world.proofs.slot.Slot.handle.Goals as goal
+
+pub post-requires : goal.post-requires
+post-requires g c =
+    let here = c.args.self.now in
+    let site = site_at (slot_id here) c.args.circuit.now in
+    let cell = (node_view here (images_of g.D.Disk.image_at g.D.Disk.moment c.args.disks.now)).cells c.args.circuit.now in
+    subst (λ (os : List Outgoing). SendsBelong c.args.circuit.now os) (sym (c.as_slice.ensures ∙ c.in-Ok.ensures.sends))
+    (plan_about site cell c.args.event.now (ap (λ (os : List Outgoing). are_legal os) (sym c.in-Ok.ensures.sends) ∙ c.in-Ok.ensures.legal))

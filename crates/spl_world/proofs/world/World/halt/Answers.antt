@@ -1,0 +1,22 @@
+use Rattle.std.proofs.Common.{◌++◌, ◌∷◌, []}
+use Rattle.spl_model.specs.Outcomes.{by_rule}
+use Rattle.spl_world.specs.Disks.{images}
+use Rattle.spl_world.specs.Views.{ids_of}
+use Rattle.spl_world.proofs.Results.{at_ok, ok_is, err_is}
+use Rattle.spl_world.proofs.Standing.{stands_still, within_line, within_stops}
+use Rattle.spl_world.proofs.world.World.halt.Goals as goal
+
+pub returns-clause-stands : goal.returns-clause-stands
+returns-clause-stands g c = λ before stands. at_ok c.halt_line-answered.result (stands_still (before ++ by_rule c.args.line.now ∷ []) c.halt_line-answered.new.self (images g.D.Disk.image_at g.D.Disk.moment c.halt_line-answered.new.pairs.items) c.is_err-failed.result) (c.halt_line-answered.ensures.stands before stands)
+
+pub returns-clause-running : goal.returns-clause-running
+returns-clause-running g c = ok_is c.halt_line-answered.result c.is_err-failed.result c.is_err-failed.ensures.value
+
+pub returns-clause-halted : goal.returns-clause-halted
+returns-clause-halted g c = err_is c.halt_line-answered.result c.is_err-failed.result c.is_err-failed.ensures.value
+
+pub returns-clause-few : goal.returns-clause-few
+returns-clause-few g c = λ before stands. at_ok c.halt_line-answered.result (λ standing. within_line (before ++ by_rule c.args.line.now ∷ []) c.halt_line-answered.new.self (images g.D.Disk.image_at g.D.Disk.moment c.halt_line-answered.new.pairs.items) (ids_of c.args.self.now) c.halt_line-answered.ensures.ids standing c.are_within.ensures) (c.halt_line-answered.ensures.stands before stands)
+
+pub returns-clause-fewer : goal.returns-clause-fewer
+returns-clause-fewer g c = λ before stands. at_ok c.halt_line-answered.result (λ standing. within_stops (before ++ by_rule c.args.line.now ∷ []) c.halt_line-answered.new.self (images g.D.Disk.image_at g.D.Disk.moment c.halt_line-answered.new.pairs.items) standing c.are_within-2.ensures) (c.halt_line-answered.ensures.stands before stands)

@@ -1,0 +1,78 @@
+use Rattle.std.proofs.Common.{◌≡◌, ◌∙◌, arith, ap, refl, sym, subst, length, slice_get, Some, slice_set}
+use Rattle.std.proofs.lemmas.Option.{slice_get_read}
+use Rattle.spl_circuit.specs.Nodes.{NodeId, CircuitId}
+use Rattle.spl_model.specs.Worlds.{Starts, Stops, happens}
+use Rattle.spl_rules.specs.Changes.{stopped_cell}
+use Rattle.spl_rules.specs.Cells.{Cell}
+use Rattle.spl_world.specs.Disks.{images, images_of}
+use Rattle.spl_world.specs.Kept.{NodeView}
+use Rattle.spl_world.specs.Views.{Holds, Nodes, seen, slot_id, slot_up, node_view, view_in}
+use Rattle.spl_world.proofs.Handling.{pair_below, own_stands, own_view, own_sits, own_by, one_leaves, one_stops}
+use Rattle.spl_world.proofs.Powering.{starts, stops}
+use Rattle.spl_world.proofs.Results.{at_ok, ok_both}
+use Rattle.spl_world.proofs.Slots.{same_at, same_ids, same_places}
+use Rattle.spl_world.proofs.world.World.start_at.Goals as goal
+
+pub index_mut-disks-requires : goal.index_mut-disks-requires
+index_mut-disks-requires g c =
+    let ss = c.args.self.now.slots.items in
+    let there = slice_get_read ss (length ss) c.args.slot c.index_mut-here.result.now refl c.requires.below c.index_mut-here.ensures.value in
+    let below = pair_below g.D.Disk.image_at g.D.Disk.moment ss c.args.pairs.now.items c.args.slot c.index_mut-here.result.now c.requires.sits there c.position.result c.position.ensures in
+    omega (arith, below, c.args.pairs.now.ok.0)
+
+pub start-requires : goal.start-requires
+start-requires g c =
+    let ss = c.args.self.now.slots.items in
+    let ps = c.args.pairs.now.items in
+    let s = c.index_mut-here.result.now in
+    let there = slice_get_read ss (length ss) c.args.slot s refl c.requires.below c.index_mut-here.ensures.value in
+    let below = pair_below g.D.Disk.image_at g.D.Disk.moment ss ps c.args.slot s c.requires.sits there c.position.result c.position.ensures in
+    let pair = slice_get_read ps (length ps) c.position.result c.index_mut-disks.result.now refl below c.index_mut-disks.ensures.value in
+    record { stands = own_stands g.D.Disk.image_at g.D.Disk.moment ss ps c.args.slot s c.requires.sits there c.position.result c.position.ensures c.index_mut-disks.result.now pair }
+
+pub returns-clause-ids : goal.returns-clause-ids
+returns-clause-ids g c =
+    let ss = c.args.self.now.slots.items in
+    same_ids ss c.args.slot c.index_mut-here.result.now c.start.new.self (slice_get_read ss (length ss) c.args.slot c.index_mut-here.result.now refl c.requires.below c.index_mut-here.ensures.value) c.start.ensures.id
+
+pub returns-clause-places : goal.returns-clause-places
+returns-clause-places g c =
+    let ss = c.args.self.now.slots.items in
+    same_places ss c.args.slot c.index_mut-here.result.now c.start.new.self (slice_get_read ss (length ss) c.args.slot c.index_mut-here.result.now refl c.requires.below c.index_mut-here.ensures.value) c.start.ensures.position
+
+pub returns-clause-sits : goal.returns-clause-sits
+returns-clause-sits g c =
+    let ss = c.args.self.now.slots.items in
+    let ps = c.args.pairs.now.items in
+    let s = c.index_mut-here.result.now in
+    let there = slice_get_read ss (length ss) c.args.slot s refl c.requires.below c.index_mut-here.ensures.value in
+    let below = pair_below g.D.Disk.image_at g.D.Disk.moment ss ps c.args.slot s c.requires.sits there c.position.result c.position.ensures in
+    let pair = slice_get_read ps (length ps) c.position.result c.index_mut-disks.result.now refl below c.index_mut-disks.ensures.value in
+    at_ok c.start.result (own_sits g.D.Disk.image_at g.D.Disk.moment ss ps c.args.slot s c.requires.sits there c.position.result c.position.ensures c.index_mut-disks.result.now pair c.start.new.self c.start.new.disks c.start.ensures.position) c.start.ensures.stands
+
+pub returns-clause-holds : goal.returns-clause-holds
+returns-clause-holds g c = λ k n m at h.
+    let ss = c.args.self.now.slots.items in
+    let ps = c.args.pairs.now.items in
+    let s = c.index_mut-here.result.now in
+    let there = slice_get_read ss (length ss) c.args.slot s refl c.requires.below c.index_mut-here.ensures.value in
+    let below = pair_below g.D.Disk.image_at g.D.Disk.moment ss ps c.args.slot s c.requires.sits there c.position.result c.position.ensures in
+    let pair = slice_get_read ps (length ps) c.position.result c.index_mut-disks.result.now refl below c.index_mut-disks.ensures.value in
+    let view = own_view g.D.Disk.image_at g.D.Disk.moment ss ps c.args.slot s c.requires.sits there c.position.result c.position.ensures c.index_mut-disks.result.now pair in
+    let nodes = seen g.D.Disk.image_at g.D.Disk.moment c.args.self.now ps in
+    let r = images_of g.D.Disk.image_at g.D.Disk.moment c.start.new.disks in
+    let same = same_at ss c.args.slot s n there at in
+    ok_both c.start.result (λ up cells. subst (λ (i : NodeId). Holds k (happens m (Starts i)) (record { slots = slice_set ss c.args.slot c.start.new.self; disks = images g.D.Disk.image_at g.D.Disk.moment (slice_set ps c.position.result c.start.new.disks) })) same
+    (own_by g.D.Disk.image_at g.D.Disk.moment ss ps c.args.slot s c.requires.sits there c.position.result c.position.ensures c.index_mut-disks.result.now pair c.start.new.self c.start.new.disks (λ (xs : Nodes). Holds k (happens m (Starts (slot_id s))) xs)
+    (starts nodes c.args.slot s c.start.new.self r c.requires.sits there c.start.ensures.position c.start.ensures.id k m h up (cells k ∙ ap (λ (v : NodeView). v.cells k) (sym view)) c.start.ensures.posts)))
+    c.start.ensures.up c.start.ensures.cells
+
+pub returns-clause-disks : goal.returns-clause-disks
+returns-clause-disks g c =
+    let ss = c.args.self.now.slots.items in
+    let ps = c.args.pairs.now.items in
+    let s = c.index_mut-here.result.now in
+    let there = slice_get_read ss (length ss) c.args.slot s refl c.requires.below c.index_mut-here.ensures.value in
+    let below = pair_below g.D.Disk.image_at g.D.Disk.moment ss ps c.args.slot s c.requires.sits there c.position.result c.position.ensures in
+    let pair = slice_get_read ps (length ps) c.position.result c.index_mut-disks.result.now refl below c.index_mut-disks.ensures.value in
+    one_leaves g.D.Disk.image_at g.D.Disk.moment g.D.Disk.faults g.D.Disk.armed g.D.Disk.picks c.start.result ps c.position.result c.index_mut-disks.result.now c.start.new.disks s.position pair c.position.ensures c.start.ensures.onward c.start.ensures.failed

@@ -1,0 +1,83 @@
+use Rattle.std.proofs.Common.{◌≡◌, ◌∙◌, arith, ap, refl, sym, subst, length, slice_get, Some, slice_set}
+use Rattle.std.proofs.lemmas.Option.{slice_get_read}
+use Rattle.spl_circuit.specs.Nodes.{NodeId, CircuitId}
+use Rattle.spl_model.specs.Worlds.{Starts, Stops, happens}
+use Rattle.spl_rules.specs.Changes.{stopped_cell}
+use Rattle.spl_rules.specs.Cells.{Cell}
+use Rattle.spl_world.specs.Disks.{BothPicked, StopsPair, bench, images, images_of, pair_view}
+use Rattle.spl_world.specs.Kept.{NodeView}
+use Rattle.spl_world.specs.Views.{Holds, Nodes, seen, slot_id, slot_up, node_view, view_in}
+use Rattle.spl_world.specs.declared.slot.Slot.{Slot}
+use Rattle.spl_world.proofs.Handling.{pair_below, own_stands, own_view, own_sits, own_by, one_leaves, one_stops}
+use Rattle.spl_world.proofs.Powering.{starts, stops}
+use Rattle.spl_world.proofs.Results.{at_ok, ok_both}
+use Rattle.spl_world.proofs.Slots.{same_at, same_ids, same_places}
+use Rattle.spl_world.proofs.world.World.stop_at.Goals as goal
+
+pub index_mut-disks-requires : goal.index_mut-disks-requires
+index_mut-disks-requires g c =
+    let ss = c.args.self.now.slots.items in
+    let there = slice_get_read ss (length ss) c.args.slot c.index_mut-here.result.now refl c.requires.below c.index_mut-here.ensures.value in
+    let below = pair_below g.D.Disk.image_at g.D.Disk.moment ss c.args.pairs.now.items c.args.slot c.index_mut-here.result.now c.requires.sits there c.position.result c.position.ensures in
+    omega (arith, below, c.args.pairs.now.ok.0)
+
+pub stop-requires : goal.stop-requires
+stop-requires g c =
+    let ss = c.args.self.now.slots.items in
+    let ps = c.args.pairs.now.items in
+    let s = c.index_mut-here.result.now in
+    let there = slice_get_read ss (length ss) c.args.slot s refl c.requires.below c.index_mut-here.ensures.value in
+    let below = pair_below g.D.Disk.image_at g.D.Disk.moment ss ps c.args.slot s c.requires.sits there c.position.result c.position.ensures in
+    let pair = slice_get_read ps (length ps) c.position.result c.index_mut-disks.result.now refl below c.index_mut-disks.ensures.value in
+    record { stands = own_stands g.D.Disk.image_at g.D.Disk.moment ss ps c.args.slot s c.requires.sits there c.position.result c.position.ensures c.index_mut-disks.result.now pair }
+
+pub returns-clause-ids : goal.returns-clause-ids
+returns-clause-ids g c =
+    let ss = c.args.self.now.slots.items in
+    same_ids ss c.args.slot c.index_mut-here.result.now c.stop.new.self (slice_get_read ss (length ss) c.args.slot c.index_mut-here.result.now refl c.requires.below c.index_mut-here.ensures.value) c.stop.ensures.id
+
+pub returns-clause-places : goal.returns-clause-places
+returns-clause-places g c =
+    let ss = c.args.self.now.slots.items in
+    same_places ss c.args.slot c.index_mut-here.result.now c.stop.new.self (slice_get_read ss (length ss) c.args.slot c.index_mut-here.result.now refl c.requires.below c.index_mut-here.ensures.value) c.stop.ensures.position
+
+pub returns-clause-sits : goal.returns-clause-sits
+returns-clause-sits g c =
+    let ss = c.args.self.now.slots.items in
+    let ps = c.args.pairs.now.items in
+    let s = c.index_mut-here.result.now in
+    let there = slice_get_read ss (length ss) c.args.slot s refl c.requires.below c.index_mut-here.ensures.value in
+    let below = pair_below g.D.Disk.image_at g.D.Disk.moment ss ps c.args.slot s c.requires.sits there c.position.result c.position.ensures in
+    let pair = slice_get_read ps (length ps) c.position.result c.index_mut-disks.result.now refl below c.index_mut-disks.ensures.value in
+    at_ok c.stop.result (own_sits g.D.Disk.image_at g.D.Disk.moment ss ps c.args.slot s c.requires.sits there c.position.result c.position.ensures c.index_mut-disks.result.now pair c.stop.new.self c.stop.new.disks c.stop.ensures.position) c.stop.ensures.stands
+
+pub returns-clause-holds : goal.returns-clause-holds
+returns-clause-holds g c = λ k n m at h.
+    let ss = c.args.self.now.slots.items in
+    let ps = c.args.pairs.now.items in
+    let s = c.index_mut-here.result.now in
+    let there = slice_get_read ss (length ss) c.args.slot s refl c.requires.below c.index_mut-here.ensures.value in
+    let below = pair_below g.D.Disk.image_at g.D.Disk.moment ss ps c.args.slot s c.requires.sits there c.position.result c.position.ensures in
+    let pair = slice_get_read ps (length ps) c.position.result c.index_mut-disks.result.now refl below c.index_mut-disks.ensures.value in
+    let view = own_view g.D.Disk.image_at g.D.Disk.moment ss ps c.args.slot s c.requires.sits there c.position.result c.position.ensures c.index_mut-disks.result.now pair in
+    let nodes = seen g.D.Disk.image_at g.D.Disk.moment c.args.self.now ps in
+    let r = images_of g.D.Disk.image_at g.D.Disk.moment c.stop.new.disks in
+    let same = same_at ss c.args.slot s n there at in
+    ok_both c.stop.result (λ down stopped. subst (λ (i : NodeId). Holds k (happens m (Stops i)) (record { slots = slice_set ss c.args.slot c.stop.new.self; disks = images g.D.Disk.image_at g.D.Disk.moment (slice_set ps c.position.result c.stop.new.disks) })) same
+    (own_by g.D.Disk.image_at g.D.Disk.moment ss ps c.args.slot s c.requires.sits there c.position.result c.position.ensures c.index_mut-disks.result.now pair c.stop.new.self c.stop.new.disks (λ (xs : Nodes). Holds k (happens m (Stops (slot_id s))) xs)
+    (stops nodes c.args.slot s c.stop.new.self r c.requires.sits there c.stop.ensures.position c.stop.ensures.id k m h down (λ u. stopped u k ∙ ap (λ (v : NodeView). stopped_cell (v.cells k)) (sym view)) (λ d. c.stop.ensures.same d k ∙ ap (λ (v : NodeView). v.cells k) (sym view)) c.stop.ensures.posts)))
+    c.stop.ensures.down c.stop.ensures.stopped
+
+pub returns-clause-picks : goal.returns-clause-picks
+returns-clause-picks g c = λ t at.
+    let ss = c.args.self.now.slots.items in
+    let ps = c.args.pairs.now.items in
+    let s = c.index_mut-here.result.now in
+    let there = slice_get_read ss (length ss) c.args.slot s refl c.requires.below c.index_mut-here.ensures.value in
+    let below = pair_below g.D.Disk.image_at g.D.Disk.moment ss ps c.args.slot s c.requires.sits there c.position.result c.position.ensures in
+    let pair = slice_get_read ps (length ps) c.position.result c.index_mut-disks.result.now refl below c.index_mut-disks.ensures.value in
+    let view = own_view g.D.Disk.image_at g.D.Disk.moment ss ps c.args.slot s c.requires.sits there c.position.result c.position.ensures c.index_mut-disks.result.now pair in
+    let same : s ≡ t = (let e : Some s ≡ Some t = sym there ∙ at in cc) in
+    at_ok c.stop.result (λ picked. subst (λ (u : Slot). StopsPair (slot_id u) (slot_up u) (view_in (seen g.D.Disk.image_at g.D.Disk.moment c.args.self.now ps) u).cells u.position (bench g.D.Disk.image_at g.D.Disk.moment g.D.Disk.faults g.D.Disk.armed g.D.Disk.picks ps) (bench g.D.Disk.image_at g.D.Disk.moment g.D.Disk.faults g.D.Disk.armed g.D.Disk.picks (slice_set ps c.position.result c.stop.new.disks))) same
+    (one_stops g.D.Disk.image_at g.D.Disk.moment g.D.Disk.faults g.D.Disk.armed g.D.Disk.picks (slot_id s) (slot_up s) (view_in (seen g.D.Disk.image_at g.D.Disk.moment c.args.self.now ps) s).cells ps c.position.result c.index_mut-disks.result.now c.stop.new.disks s.position pair c.position.ensures
+    (λ u. subst (λ (v : NodeView). BothPicked (slot_id s) v.cells (pair_view g.D.Disk.image_at g.D.Disk.moment g.D.Disk.faults g.D.Disk.armed g.D.Disk.picks c.index_mut-disks.result.now) (pair_view g.D.Disk.image_at g.D.Disk.moment g.D.Disk.faults g.D.Disk.armed g.D.Disk.picks c.stop.new.disks)) (sym view) (picked u)) c.stop.ensures.none)) c.stop.ensures.picks

@@ -1,0 +1,94 @@
+//! A line that stops a node.
+ghost use Rattle.std.specs.Prelude.{◌≡◌, ◌++◌, ◌∷◌, [], ℕ, ◌≤◌, List, Some, slice_get, true, false, IsTrue, IfOk, OnOk, OnErr, IsErrOf};
+ghost use Rattle.std.specs.List.{list_all};
+ghost use Rattle.spl_circuit.specs.Nodes.{has_node};
+ghost use Rattle.spl_model.specs.Answers.{answer_to};
+ghost use Rattle.spl_model.specs.Counts.{events_of, stops_of};
+ghost use Rattle.spl_model.specs.Outcomes.{by_rule};
+ghost use Rattle.spl_model.specs.Projection.{Ran};
+ghost use Rattle.spl_sched.specs.Grammar.{nodes_of, is_line};
+ghost use Rattle.spl_world.specs.Counts.{IsOver};
+ghost use Rattle.spl_world.specs.Disks.{StopsPair, bench, images};
+ghost use Rattle.spl_world.specs.Lines.{stops};
+ghost use Rattle.spl_world.specs.Views.{Sits, Stands, ids_of, is_halted, places_of, seen, slot_id, slot_up, view_in};
+ghost use Rattle.spl_world.specs.declared.slot.Slot.{Slot as Seat};
+
+use crate::fault::WorldFault;
+use crate::world::World;
+use spl_edge::{Pair, StopDisk};
+use spl_model::{MOST_EVENTS, MOST_STOPS};
+use spl_sched::Line;
+use spl_wire::Answer;
+use std::alloc::Global;
+
+impl World {
+    /// Runs a line that stops a node, and answers it. `before` are the lines that ran so far.
+    /// `TooMany` comes exactly where the events of these lines and of this one are more than
+    /// `MOST_EVENTS`, or their stops more than `MOST_STOPS`. Any other error is want of memory.
+    /// After an error the world is halted.
+    pub fn halt<D: StopDisk>(
+        &mut self,
+        alloc: Global,
+        pairs: &mut Vec<Pair<D>>,
+        line: &Line,
+    ) -> Result<Answer, WorldFault>
+        requires running { is_halted self.old ≡ false }
+        requires known { IsTrue (list_all (has_node (ids_of self.old)) (nodes_of line.now)) }
+        requires fits { IsTrue (is_line line.now) }
+        requires stops { stops line.now ≡ true }
+        requires sits { Sits (seen D.image_at D.moment self.old pairs.old.items) }
+        ensures ids { ids_of self.new ≡ ids_of self.old }
+        ensures places { places_of self.new ≡ places_of self.old }
+        ensures answer { (before : List Ran) → Stands before self.old (images D.image_at D.moment pairs.old.items) → IfOk result (λ a. a ≡ answer_to (ids_of self.old) before (by_rule line.now)) }
+        ensures stands { (before : List Ran) → Stands before self.old (images D.image_at D.moment pairs.old.items) → OnOk result (Stands (before ++ by_rule line.now ∷ []) self.new (images D.image_at D.moment pairs.new.items)) }
+        ensures many { (before : List Ran) (which : ℕ) → Stands before self.old (images D.image_at D.moment pairs.old.items) → IsErrOf result (WorldFault.TooMany which) → IsOver (ids_of self.old) (before ++ by_rule line.now ∷ []) which }
+        ensures disk { (slot : ℕ) → IsErrOf result (WorldFault.Disk slot) → ⊥ }
+        ensures few { (before : List Ran) → Stands before self.old (images D.image_at D.moment pairs.old.items) → OnOk result (events_of (ids_of self.old) (before ++ by_rule line.now ∷ []) ≤ MOST_EVENTS) }
+        ensures fewer { (before : List Ran) → Stands before self.old (images D.image_at D.moment pairs.old.items) → OnOk result (stops_of (before ++ by_rule line.now ∷ []) ≤ MOST_STOPS) }
+        // Where the node was up each of its two disks has one pick more; no other disk changed.
+        ensures picks { (i : ℕ) (s : Seat) → slice_get self.old.slots.items i ≡ Some s → (before : List Ran) → Stands before self.old (images D.image_at D.moment pairs.old.items) → line.now ≡ Line.Stop (slot_id s) → OnOk result (StopsPair (slot_id s) (slot_up s) (view_in (seen D.image_at D.moment self.old pairs.old.items) s).cells s.position (bench D.image_at D.moment D.faults D.armed D.picks pairs.old.items) (bench D.image_at D.moment D.faults D.armed D.picks pairs.new.items)) }
+        ensures sits { OnOk result (Sits (seen D.image_at D.moment self.new pairs.new.items)) }
+        ensures running { OnOk result (is_halted self.new ≡ false) }
+        ensures halted { OnErr result (is_halted self.new ≡ true) }
+    {
+        let answered = self.halt_line(alloc, pairs, line);
+        self.events.are_within();
+        self.stops.are_within();
+        let failed = answered.is_err();
+        self.halted = failed;
+        answered
+    }
+
+    // Runs a line, whether the world is halted or not.
+    fn halt_line<D: StopDisk>(
+        &mut self,
+        alloc: Global,
+        pairs: &mut Vec<Pair<D>>,
+        line: &Line,
+    ) -> Result<Answer, WorldFault>
+        requires known { IsTrue (list_all (has_node (ids_of self.old)) (nodes_of line.now)) }
+        requires fits { IsTrue (is_line line.now) }
+        requires stops { stops line.now ≡ true }
+        requires sits { Sits (seen D.image_at D.moment self.old pairs.old.items) }
+        ensures ids { ids_of self.new ≡ ids_of self.old }
+        ensures places { places_of self.new ≡ places_of self.old }
+        ensures answer { (before : List Ran) → Stands before self.old (images D.image_at D.moment pairs.old.items) → IfOk result (λ a. a ≡ answer_to (ids_of self.old) before (by_rule line.now)) }
+        ensures stands { (before : List Ran) → Stands before self.old (images D.image_at D.moment pairs.old.items) → OnOk result (Stands (before ++ by_rule line.now ∷ []) self.new (images D.image_at D.moment pairs.new.items)) }
+        ensures many { (before : List Ran) (which : ℕ) → Stands before self.old (images D.image_at D.moment pairs.old.items) → IsErrOf result (WorldFault.TooMany which) → IsOver (ids_of self.old) (before ++ by_rule line.now ∷ []) which }
+        ensures disk { (slot : ℕ) → IsErrOf result (WorldFault.Disk slot) → ⊥ }
+        // Where the node was up each of its two disks has one pick more; no other disk changed.
+        ensures picks { (i : ℕ) (s : Seat) → slice_get self.old.slots.items i ≡ Some s → (before : List Ran) → Stands before self.old (images D.image_at D.moment pairs.old.items) → line.now ≡ Line.Stop (slot_id s) → OnOk result (StopsPair (slot_id s) (slot_up s) (view_in (seen D.image_at D.moment self.old pairs.old.items) s).cells s.position (bench D.image_at D.moment D.faults D.armed D.picks pairs.old.items) (bench D.image_at D.moment D.faults D.armed D.picks pairs.new.items)) }
+        ensures sits { OnOk result (Sits (seen D.image_at D.moment self.new pairs.new.items)) }
+    {
+        match line {
+            Line::Stop(node) => {
+                self.events.add(1)?;
+                self.stops.add()?;
+                let slot = self.slot(node);
+                self.stop_at(alloc, pairs, slot)?;
+                Ok(Answer::Power { up: false })
+            }
+            _ => unreachable!(),
+        }
+    }
+}

@@ -1,0 +1,70 @@
+//! The nodes of a registry, where nothing happened yet.
+ghost use Rattle.std.specs.Prelude.{◌≡◌, ◌≤◌, ◌<◌, ◌++◌, ◌∷◌, ℕ, [], length, true, false, IfOk, OnOk, IsErrOf};
+ghost use Rattle.spl_circuit.specs.Nodes.{sorted};
+ghost use Rattle.spl_circuit.specs.Rules.{ascends};
+ghost use Rattle.spl_registry.specs.Nodes.{ids_of as registered};
+ghost use Rattle.spl_world.specs.Disks.{AreBlank, LeavesDisks, bench, images, images_at};
+ghost use Rattle.spl_world.specs.Views.{ArePlaced, Stands, ids_of, is_halted};
+
+use crate::events::Events;
+use crate::fault::WorldFault;
+use crate::slot::Slot;
+use crate::stops::Stops;
+use crate::world::World;
+use spl_base::NodeId;
+use spl_edge::{Pair, StopDisk};
+use spl_registry::Registry;
+use std::alloc::{AllocError, Global};
+
+// The ids of the nodes of a registry, in order.
+fn sorted_ids(alloc: Global, registry: &Registry) -> Result<Vec<NodeId>, AllocError>
+    ensures ids { IfOk result (λ v. v.items ≡ sorted (registered registry.now)) }
+    ensures ordered { IfOk result (λ v. ascends v.items ≡ true) }
+{
+    let mut ids = registry.ids(alloc)?;
+    ids.sort_unstable();
+    Ok(ids)
+}
+
+// One node more.
+fn join(slots: &mut Vec<Slot>, slot: Slot) -> Result<(), AllocError>
+    ensures { OnOk result (slots.new.items ≡ slots.old.items ++ slot ∷ []) }
+{
+    slots.push(slot)?;
+    Ok(())
+}
+
+impl World {
+    /// The nodes of a registry, in the order of their ids, each of them up. The disks of a node are
+    /// the pair at its position in the registry. Nothing happened yet, and those disks are blank.
+    pub fn new<D: StopDisk>(
+        alloc: Global,
+        registry: &Registry,
+        pairs: &mut Vec<Pair<D>>,
+    ) -> Result<World, WorldFault>
+        requires room { length registry.now ≤ length pairs.old.items }
+        requires blank { (i : ℕ) → i < length registry.now → AreBlank (images_at (images D.image_at D.moment pairs.old.items) i) }
+        ensures ids { IfOk result (λ w. ids_of w ≡ sorted (registered registry.now)) }
+        ensures few { (which : ℕ) → IsErrOf result (WorldFault.TooMany which) → ⊥ }
+        ensures place { (slot : ℕ) → IsErrOf result (WorldFault.Disk slot) → slot < length registry.now }
+        ensures placed { IfOk result (ArePlaced registry.now) }
+        ensures running { IfOk result (λ w. is_halted w ≡ false) }
+        ensures stands { IfOk result (λ w. Stands [] w (images D.image_at D.moment pairs.new.items)) }
+        ensures disks { LeavesDisks result (bench D.image_at D.moment D.faults D.armed D.picks pairs.old.items) (bench D.image_at D.moment D.faults D.armed D.picks pairs.new.items) }
+    {
+        let ids = sorted_ids(alloc, registry)?;
+        let mut slots = Vec::new(alloc);
+        for id in &ids {
+            let position = registry.slot(id).unwrap();
+            let disks = &mut pairs[usize::from(position)];
+            let slot = Slot::new(alloc, *id, position, disks)?;
+            join(&mut slots, slot)?;
+        }
+        Ok(World {
+            slots,
+            events: Events::new(),
+            stops: Stops::new(),
+            halted: false,
+        })
+    }
+}

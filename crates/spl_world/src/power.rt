@@ -1,0 +1,77 @@
+//! Nodes that go down and come up, and what is bound at one.
+ghost use Rattle.std.specs.Prelude.{◌≡◌, ◌++◌, ◌∷◌, [], ◌<◌, ℕ, List, Some, true, length, slice_get, IfOk, OnOk, IsErrOf};
+ghost use Rattle.spl_circuit.specs.Nodes.{NodeId as Id};
+ghost use Rattle.spl_model.specs.Answers.{roll_answer};
+ghost use Rattle.spl_model.specs.Outcomes.{by_rule};
+ghost use Rattle.spl_model.specs.Projection.{Ran, lines_fit};
+ghost use Rattle.spl_projection.specs.Whole.{whole_world};
+ghost use Rattle.spl_model.specs.Worlds.{World as CircuitWorld, Starts, Stops, happens};
+ghost use Rattle.spl_sched.specs.Grammar.{is_line};
+ghost use Rattle.spl_sched.specs.declared.line.Line.TheVariants as line;
+ghost use Rattle.spl_world.specs.Disks.{Images, LeavesDisks, StopsPair, bench};
+ghost use Rattle.spl_world.specs.Views.{Holds, IsAt, Sits, ids_of, over, places_of, seen, slot_id, slot_up, view_in};
+ghost use Rattle.spl_world.specs.declared.slot.Slot.{Slot as Seat};
+
+use crate::fault::WorldFault;
+use crate::world::World;
+use spl_edge::{Pair, StopDisk};
+use spl_wire::{Answer, Refusal};
+use std::alloc::{AllocError, Global};
+
+impl World {
+    // The node of this index comes up.
+    pub(crate) fn start_at<D: StopDisk>(
+        &mut self,
+        alloc: Global,
+        pairs: &mut Vec<Pair<D>>,
+        slot: usize,
+    ) -> Result<(), WorldFault>
+        requires below { slot < length self.old.slots.items }
+        requires sits { Sits (seen D.image_at D.moment self.old pairs.old.items) }
+        ensures ids { ids_of self.new ≡ ids_of self.old }
+        ensures places { places_of self.new ≡ places_of self.old }
+        ensures stops { self.new.stops ≡ self.old.stops }
+        ensures events { self.new.events ≡ self.old.events }
+        ensures holds { (c n : Id) (m : CircuitWorld) → IsAt self.old slot n → Holds c m (seen D.image_at D.moment self.old pairs.old.items) → OnOk result (Holds c (happens m (Starts n)) (seen D.image_at D.moment self.new pairs.new.items)) }
+        ensures sits { OnOk result (Sits (seen D.image_at D.moment self.new pairs.new.items)) }
+        ensures disks { LeavesDisks result (bench D.image_at D.moment D.faults D.armed D.picks pairs.old.items) (bench D.image_at D.moment D.faults D.armed D.picks pairs.new.items) }
+        ensures few { (which : ℕ) → IsErrOf result (WorldFault.TooMany which) → ⊥ }
+    {
+        let here = &mut self.slots[slot];
+        let disks = &mut pairs[here.position()];
+        here.start(alloc, disks)
+    }
+
+    // The node of this index goes down.
+    pub(crate) fn stop_at<D: StopDisk>(
+        &mut self,
+        alloc: Global,
+        pairs: &mut Vec<Pair<D>>,
+        slot: usize,
+    ) -> Result<(), AllocError>
+        requires below { slot < length self.old.slots.items }
+        requires sits { Sits (seen D.image_at D.moment self.old pairs.old.items) }
+        ensures ids { ids_of self.new ≡ ids_of self.old }
+        ensures places { places_of self.new ≡ places_of self.old }
+        ensures stops { self.new.stops ≡ self.old.stops }
+        ensures events { self.new.events ≡ self.old.events }
+        ensures holds { (c n : Id) (m : CircuitWorld) → IsAt self.old slot n → Holds c m (seen D.image_at D.moment self.old pairs.old.items) → OnOk result (Holds c (happens m (Stops n)) (seen D.image_at D.moment self.new pairs.new.items)) }
+        ensures sits { OnOk result (Sits (seen D.image_at D.moment self.new pairs.new.items)) }
+        ensures picks { (s : Seat) → slice_get self.old.slots.items slot ≡ Some s → OnOk result (StopsPair (slot_id s) (slot_up s) (view_in (seen D.image_at D.moment self.old pairs.old.items) s).cells s.position (bench D.image_at D.moment D.faults D.armed D.picks pairs.old.items) (bench D.image_at D.moment D.faults D.armed D.picks pairs.new.items)) }
+    {
+        let here = &mut self.slots[slot];
+        let disks = &mut pairs[here.position()];
+        here.stop(alloc, disks)
+    }
+
+    // What is bound at the node of this index, where it is up.
+    pub(crate) fn roll_at(&self, alloc: Global, slot: usize) -> Result<Answer, AllocError>
+        requires below { slot < length self.now.slots.items }
+        ensures { (is : List Images) (before : List Ran) (n : Id) → is_line (line.Roll n) ≡ true → lines_fit before ≡ true → ((c : Id) → Holds c (whole_world (ids_of self.now) c before) (over self.now is)) → IsAt self.now slot n → IfOk result (λ a. a ≡ roll_answer (ids_of self.now) (before ++ by_rule (line.Roll n) ∷ []) n) }
+    {
+        if !self.is_up(slot) {
+            return Ok(Answer::Refused(Refusal::Down));
+        }
+        Ok(Answer::Roll(self.slots[slot].roll(alloc)?))
+    }
+}

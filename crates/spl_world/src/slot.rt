@@ -1,0 +1,192 @@
+//! A node of the world.
+ghost use Rattle.std.specs.Prelude.{◌≡◌, ◌&&◌, ◌<◌, ℕ, length, slice_get, true, false, IfOk, IfSome, OnOk, IsErrOf};
+ghost use Rattle.std.specs.Option.{option_copied};
+ghost use Rattle.std.specs.List.{list_any};
+ghost use Rattle.std.specs.List.Sorted.{IsStrictlySortedBy};
+ghost use Rattle.std.specs.Ordering.{nat_cmp};
+ghost use Rattle.std.specs.Cmp.Lexicographic.{slice_cmp};
+ghost use Rattle.std.specs.Str.{bytes_eq};
+ghost use Rattle.spl_circuit.specs.Nodes.{NodeId as Id};
+ghost use Rattle.spl_model.specs.Worlds.{site_at};
+ghost use Rattle.spl_node.specs.Hosts.{HostStands, is_up};
+ghost use Rattle.spl_rules.specs.Cells.{is_bound, is_open_cell};
+ghost use Rattle.spl_rules.specs.Changes.{stopped_cell};
+ghost use Rattle.spl_rules.specs.Plans.{plan_of};
+ghost use Rattle.spl_rules.specs.Valid.{IsFor};
+ghost use Rattle.spl_world.specs.Disks.{AreBlank, BothPicked, HasRisen, Images, PairGoesOn, images_of, pair_view};
+ghost use Rattle.spl_world.specs.Kept.{IsDone, AllBelong, place_of, lists_about, sent_to};
+ghost use Rattle.spl_world.specs.Views.{IsFresh, node_view, slot_id, slot_up};
+
+use crate::fault::{WorldFault, journal_fault};
+use crate::posts::Posts;
+use spl_base::{CircuitId, Listing, NodeId};
+use spl_edge::{Pair, StopDisk};
+use spl_node::{Host, Outcome};
+use spl_wire::{Answer, Event, Message};
+use std::alloc::{AllocError, Global};
+
+/// A node of the world: its host, the position of its disks among the pairs, and what it ever sent.
+#[derive(Drop)]
+pub struct Slot {
+    pub(crate) host: Host,
+    pub(crate) position: u8,
+    pub(crate) posts: Posts,
+}
+
+impl Slot {
+    /// A node that is up and where nothing happened, over two blank disks.
+    pub fn new<D: StopDisk>(
+        alloc: Global,
+        id: NodeId,
+        position: u8,
+        disks: &mut Pair<D>,
+    ) -> Result<Slot, WorldFault>
+        requires blank { AreBlank (images_of D.image_at D.moment disks.old) }
+        ensures id { IfOk result (λ s. slot_id s ≡ id) }
+        ensures position { IfOk result (λ s. s.position ≡ position) }
+        ensures fresh { IfOk result IsFresh }
+        ensures stands { IfOk result (λ s. HostStands s.host (D.image_at disks.new.first (D.moment disks.new.first)) (D.image_at disks.new.second (D.moment disks.new.second))) }
+        ensures onward { PairGoesOn (pair_view D.image_at D.moment D.faults D.armed D.picks disks.old) (pair_view D.image_at D.moment D.faults D.armed D.picks disks.new) }
+        ensures failed { (slot : ℕ) → IsErrOf result (WorldFault.Disk slot) → (slot ≡ position) × HasRisen (pair_view D.image_at D.moment D.faults D.armed D.picks disks.old) (pair_view D.image_at D.moment D.faults D.armed D.picks disks.new) }
+        ensures few { (which : ℕ) → IsErrOf result (WorldFault.TooMany which) → ⊥ }
+    {
+        match Host::new(alloc, id, disks) {
+            Ok(host) => Ok(Slot {
+                host,
+                position,
+                posts: Posts::new(alloc),
+            }),
+            Err(fault) => Err(journal_fault(fault, position)),
+        }
+    }
+
+    /// Its id.
+    pub fn id(&self) -> NodeId
+        ensures { result ≡ slot_id self.now }
+    {
+        self.host.id()
+    }
+
+    /// The position of its disks among the pairs.
+    pub fn position(&self) -> usize
+        ensures { result ≡ self.now.position }
+    {
+        usize::from(self.position)
+    }
+
+    /// Whether it is up.
+    pub fn is_up(&self) -> bool
+        ensures { result ≡ slot_up self.now }
+    {
+        self.host.is_up()
+    }
+
+    /// Whether it is up, and a circuit is bound there and open.
+    pub fn is_open(&self, circuit: &CircuitId) -> bool
+        ensures { (is : Images) → result ≡ (slot_up self.now && is_open_cell ((node_view self.now is).cells circuit.now)) }
+    {
+        self.host.is_open(circuit)
+    }
+
+    /// An event at the cell of a circuit, and its answer: the plan of the event is carried out, and
+    /// its messages are posted. The other cells stay as they were.
+    pub fn handle<D: StopDisk>(
+        &mut self,
+        alloc: Global,
+        disks: &mut Pair<D>,
+        circuit: &CircuitId,
+        event: &Event,
+    ) -> Result<Answer, WorldFault>
+        requires up { slot_up self.old ≡ true }
+        requires own { IsFor (site_at (slot_id self.old) circuit.now) event.now }
+        requires stands { HostStands self.old.host (D.image_at disks.old.first (D.moment disks.old.first)) (D.image_at disks.old.second (D.moment disks.old.second)) }
+        ensures id { slot_id self.new ≡ slot_id self.old }
+        ensures up { slot_up self.new ≡ slot_up self.old }
+        ensures position { self.new.position ≡ self.old.position }
+        ensures answer { IfOk result (λ a. a ≡ (plan_of (site_at (slot_id self.old) circuit.now) ((node_view self.old (images_of D.image_at D.moment disks.old)).cells circuit.now) event.now).answer) }
+        ensures done { OnOk result (IsDone (slot_id self.old) (plan_of (site_at (slot_id self.old) circuit.now) ((node_view self.old (images_of D.image_at D.moment disks.old)).cells circuit.now) event.now)
+            (place_of (node_view self.old (images_of D.image_at D.moment disks.old)) circuit.now) (place_of (node_view self.new (images_of D.image_at D.moment disks.new)) circuit.now)) }
+        ensures others { OnOk result ((c : Id) → bytes_eq circuit.now c ≡ false → place_of (node_view self.new (images_of D.image_at D.moment disks.new)) c ≡ place_of (node_view self.old (images_of D.image_at D.moment disks.old)) c) }
+        ensures stands { OnOk result (HostStands self.new.host (D.image_at disks.new.first (D.moment disks.new.first)) (D.image_at disks.new.second (D.moment disks.new.second))) }
+        ensures onward { PairGoesOn (pair_view D.image_at D.moment D.faults D.armed D.picks disks.old) (pair_view D.image_at D.moment D.faults D.armed D.picks disks.new) }
+        ensures failed { (slot : ℕ) → IsErrOf result (WorldFault.Disk slot) → (slot ≡ self.old.position) × HasRisen (pair_view D.image_at D.moment D.faults D.armed D.picks disks.old) (pair_view D.image_at D.moment D.faults D.armed D.picks disks.new) }
+        ensures few { (which : ℕ) → IsErrOf result (WorldFault.TooMany which) → ⊥ }
+    {
+        match self.host.handle(alloc, disks, circuit, event) {
+            Ok(Outcome { answer, sends }) => {
+                self.posts.post(alloc, *circuit, sends.as_slice())?;
+                Ok(answer)
+            }
+            Err(fault) => Err(journal_fault(fault, self.position)),
+        }
+    }
+
+    /// The node comes up, with the cells that it had. One that is up stays so.
+    pub fn start<D: StopDisk>(
+        &mut self,
+        alloc: Global,
+        disks: &mut Pair<D>,
+    ) -> Result<(), WorldFault>
+        requires stands { HostStands self.old.host (D.image_at disks.old.first (D.moment disks.old.first)) (D.image_at disks.old.second (D.moment disks.old.second)) }
+        ensures id { slot_id self.new ≡ slot_id self.old }
+        ensures position { self.new.position ≡ self.old.position }
+        ensures posts { self.new.posts ≡ self.old.posts }
+        ensures up { OnOk result (slot_up self.new ≡ true) }
+        ensures cells { OnOk result ((c : Id) → (node_view self.new (images_of D.image_at D.moment disks.new)).cells c ≡ (node_view self.old (images_of D.image_at D.moment disks.old)).cells c) }
+        ensures stands { OnOk result (HostStands self.new.host (D.image_at disks.new.first (D.moment disks.new.first)) (D.image_at disks.new.second (D.moment disks.new.second))) }
+        ensures onward { PairGoesOn (pair_view D.image_at D.moment D.faults D.armed D.picks disks.old) (pair_view D.image_at D.moment D.faults D.armed D.picks disks.new) }
+        ensures failed { (slot : ℕ) → IsErrOf result (WorldFault.Disk slot) → (slot ≡ self.old.position) × HasRisen (pair_view D.image_at D.moment D.faults D.armed D.picks disks.old) (pair_view D.image_at D.moment D.faults D.armed D.picks disks.new) }
+        ensures few { (which : ℕ) → IsErrOf result (WorldFault.TooMany which) → ⊥ }
+    {
+        match self.host.start(alloc, disks) {
+            Ok(()) => Ok(()),
+            Err(fault) => Err(journal_fault(fault, self.position)),
+        }
+    }
+
+    /// The node goes down: it forgets its open rounds, and each of its disks keeps what it had at
+    /// its last sync. One that is down stays so.
+    pub fn stop<D: StopDisk>(
+        &mut self,
+        alloc: Global,
+        disks: &mut Pair<D>,
+    ) -> Result<(), AllocError>
+        requires stands { HostStands self.old.host (D.image_at disks.old.first (D.moment disks.old.first)) (D.image_at disks.old.second (D.moment disks.old.second)) }
+        ensures id { slot_id self.new ≡ slot_id self.old }
+        ensures position { self.new.position ≡ self.old.position }
+        ensures posts { self.new.posts ≡ self.old.posts }
+        ensures down { OnOk result (slot_up self.new ≡ false) }
+        ensures stopped { OnOk result (slot_up self.old ≡ true → (c : Id) → (node_view self.new (images_of D.image_at D.moment disks.new)).cells c ≡ stopped_cell ((node_view self.old (images_of D.image_at D.moment disks.old)).cells c)) }
+        ensures same { slot_up self.old ≡ false → (c : Id) → (node_view self.new (images_of D.image_at D.moment disks.new)).cells c ≡ (node_view self.old (images_of D.image_at D.moment disks.old)).cells c }
+        ensures none { slot_up self.old ≡ false → disks.new ≡ disks.old }
+        ensures stands { OnOk result (HostStands self.new.host (D.image_at disks.new.first (D.moment disks.new.first)) (D.image_at disks.new.second (D.moment disks.new.second))) }
+        ensures picks { OnOk result (slot_up self.old ≡ true → BothPicked (slot_id self.old) (node_view self.old (images_of D.image_at D.moment disks.old)).cells (pair_view D.image_at D.moment D.faults D.armed D.picks disks.old) (pair_view D.image_at D.moment D.faults D.armed D.picks disks.new)) }
+    {
+        self.host.stop(alloc, disks)
+    }
+
+    /// The ids of the circuits that are bound there, in order.
+    pub fn roll(&self, alloc: Global) -> Result<Listing<CircuitId>, AllocError>
+        requires { slot_up self.now ≡ true }
+        ensures sorted { IfOk result (λ ids. IsStrictlySortedBy (slice_cmp nat_cmp) ids) }
+        ensures bound { IfOk result (λ ids. (is : Images) (c : Id) → list_any (bytes_eq c) ids ≡ is_bound ((node_view self.now is).cells c)) }
+    {
+        self.host.roll(alloc)
+    }
+
+    /// How many messages about a circuit were sent to a node.
+    pub fn count(&self, circuit: &CircuitId, to: &NodeId) -> usize
+        ensures { result ≡ length (sent_to (lists_about self.now.posts circuit.now) to.now) }
+    {
+        self.posts.count(circuit, to)
+    }
+
+    /// The message of this index, from 0, of those about a circuit that were sent to a node; None
+    /// exactly where there are fewer.
+    pub fn message(&self, circuit: &CircuitId, to: &NodeId, index: usize) -> Option<&Message>
+        ensures value { option_copied result ≡ slice_get (sent_to (lists_about self.now.posts circuit.now) to.now) index }
+        ensures about { AllBelong circuit.now (sent_to (lists_about self.now.posts circuit.now) to.now) }
+    {
+        self.posts.message(circuit, to, index)
+    }
+}
