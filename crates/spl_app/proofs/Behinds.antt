@@ -8,6 +8,7 @@ use Rattle.spl_model.specs.Answers.{answer_to}
 use Rattle.spl_model.specs.Counts.{events_of}
 use Rattle.spl_model.specs.declared.TheConstants.{MOST_EVENTS}
 use Rattle.spl_answer.specs.Texts.{text}
+use Rattle.spl_world.specs.Disks.{Images}
 use Rattle.spl_world.specs.Views.{ids_of, is_halted, Stands}
 use Rattle.spl_app.specs.declared.run.Run.{Run}
 use Rattle.spl_app.specs.Due.{IsDue, IsDuePart}
@@ -27,38 +28,38 @@ ok_then (Ok x) p f = f p
 ok_then (Err e) p f = tt
 
 -- a run is over its own nodes
-pub at_own : (ns : List Node) (lines : List (List ℕ)) (run : Run) (a b : Option (List ℕ)) → IsBehind ns lines run a b → IsBehind run.nodes.items lines run a b
-at_own ns lines run a b behind = subst (λ (ms : List Node). IsBehind ms lines run a b) (sym behind.nodes) behind
+pub at_own : (ns : List Node) (lines : List (List ℕ)) (run : Run) (is : List Images) (a b : Option (List ℕ)) → IsBehind ns lines run is a b → IsBehind run.nodes.items lines run is a b
+at_own ns lines run is a b behind = subst (λ (ms : List Node). IsBehind ms lines run is a b) (sym behind.nodes) behind
 
 -- with a line that is run the events pass the limit
 pub past_said : (ns : List Node) (lines : List (List ℕ)) (line : List ℕ) (l : Line) → said line ≡ Some l → MOST_EVENTS < events_of ns (ran lines ++ by_rule l ∷ []) → MOST_EVENTS < events_of ns (ran (lines ++ line ∷ []))
 past_said ns lines line l is over = subst (λ (ls : List Ran). MOST_EVENTS < events_of ns ls) (sym (ran_said lines line l is)) over
 
-module _ (ns : List Node) (lines : List (List ℕ)) (run : Run) (a b : Option (List ℕ)) (behind : IsBehind ns lines run a b) where
+module _ (ns : List Node) (lines : List (List ℕ)) (run : Run) (held : List Images) (a b : Option (List ℕ)) (behind : IsBehind ns lines run held a b) where
   -- all that is due so far comes first
   pub behind_part : (rest : List (List ℕ)) → IsDuePart a b run.output (answers ns (lines ++ rest))
   behind_part rest = subst (IsDuePart a b run.output) (sym (answers-append ns lines rest)) (due_part a b run.output (answers ns lines) (outputs ns (ran lines) (numbered (1 + length lines) rest)) behind.due)
 
   module _ (line : List ℕ) where
-    pub behind_silent : said line ≡ None → IsBehind ns (lines ++ line ∷ []) run a b
+    pub behind_silent : said line ≡ None → IsBehind ns (lines ++ line ∷ []) run held a b
     behind_silent is = record {
       nodes = behind.nodes;
       world = behind.world;
       running = behind.running;
-      stands = subst (λ (ls : List Ran). Stands ls run.world) (sym (ran_silent lines line is)) behind.stands;
+      stands = subst (λ (ls : List Ran). Stands ls run.world held) (sym (ran_silent lines line is)) behind.stands;
       few = subst (λ (ls : List Ran). events_of ns ls ≤ MOST_EVENTS) (sym (ran_silent lines line is)) behind.few;
       due = subst (IsDue a b run.output) (sym (answers_silent lines line ns is)) behind.due;
     }
 
     module _ (number : ℕ) (l : Line) (counted : number ≡ length lines + 1) (is : said line ≡ Some l) (c : Option (List ℕ)) (later : Run) where
-      pub behind_said : later.nodes.items ≡ ns → ids_of later.world ≡ ns → is_halted later.world ≡ false → Stands (ran lines ++ by_rule l ∷ []) later.world
+      pub behind_said : (now : List Images) → later.nodes.items ≡ ns → ids_of later.world ≡ ns → is_halted later.world ≡ false → Stands (ran lines ++ by_rule l ∷ []) later.world now
           → events_of ns (ran lines ++ by_rule l ∷ []) ≤ MOST_EVENTS
-          → IsDue b c later.output (run.output ++ printed number (text (answer_to ns (ran lines) (by_rule l)))) → IsBehind ns (lines ++ line ∷ []) later a c
-      behind_said nodes world running stands few due = record {
+          → IsDue b c later.output (run.output ++ printed number (text (answer_to ns (ran lines) (by_rule l)))) → IsBehind ns (lines ++ line ∷ []) later now a c
+      behind_said now nodes world running stands few due = record {
         nodes = nodes;
         world = world;
         running = running;
-        stands = subst (λ (ls : List Ran). Stands ls later.world) (sym (ran_said lines line l is)) stands;
+        stands = subst (λ (ls : List Ran). Stands ls later.world now) (sym (ran_said lines line l is)) stands;
         few = subst (λ (ls : List Ran). events_of ns ls ≤ MOST_EVENTS) (sym (ran_said lines line l is)) few;
         due = subst (IsDue a c later.output) (sym (answers_said lines line ns number l counted is)) (due_due a b c _ _ _ _ behind.due due);
       }

@@ -7,7 +7,7 @@ use Rattle.std.specs.Io.KnownBytes.{Appends, Consumes, IsAtEnd}
 use Rattle.spl_edge.specs.Causes.{AppendsPart}
 use Rattle.spl_circuit.specs.Nodes.{Node}
 use Rattle.spl_app.specs.Lines.{lines_of, rest_of, longest_line, limit}
-use Rattle.spl_app.specs.Run.{IsRun, Reason, StopsAt, answers}
+use Rattle.spl_app.specs.Run.{HasFront, IsRun, Reason, StopsAt, answers}
 use Rattle.spl_app.specs.Schedule.{run_of, had, IsSchedule, IsUnfinished, IsCut, IsBadRest}
 use Rattle.spl_app.proofs.Events.{run_text_front, no_stop}
 
@@ -85,6 +85,9 @@ module _ {before after bytes text : List ℕ} (r : Gave before after bytes text)
       → StopsAt ns why (run_of (appended_bytes before after)) line × Appends a b (answers ns (take (line - 1) (run_of (appended_bytes before after))))
   stop_run ns why a b number line same found = subst (λ (n : ℕ). StopsAt ns why (run_of (appended_bytes before after)) n × Appends a b (answers ns (take (n - 1) (run_of (appended_bytes before after))))) same
       (subst (λ (ls : List (List ℕ)). StopsAt ns why ls number × Appends a b (answers ns (take (number - 1) ls))) lines_run found)
+
+  pub front_run : (ns : List Node) (P : List (List ℕ) → Type 0) → HasFront ns (lines_of text) P → HasFront ns (run_of (appended_bytes before after)) P
+  front_run ns P front = subst (λ (ls : List (List ℕ)). HasFront ns ls P) lines_run front
 
   pub good_run : (ns : List Node) (a b : Option (List ℕ)) → IsRun ns (lines_of text) → Appends a b (answers ns (lines_of text))
       → IsRun ns (run_of (appended_bytes before after)) × Appends a b (answers ns (run_of (appended_bytes before after)))

@@ -1,5 +1,6 @@
 mod Agreed
 mod Behinds
+mod Benches
 mod Dues
 mod Events
 mod Feeds

@@ -1,9 +1,10 @@
 -- The nodes of a run: those of the registry that was given (docs/RULES.md, Registry, Schedules).
-use Rattle.std.specs.Prelude.{◌≡◌, ◌≤◌, ℕ, List, [], length, Result, Ok, Err}
+use Rattle.std.specs.Prelude.{◌≡◌, ◌≤◌, ℕ, List, [], length, Some, Result, Ok, Err}
 use Rattle.spl_circuit.specs.Nodes.{Node, sorted}
 use Rattle.spl_registry.specs.declared.fault.RegistryFault.{RegistryFault}
-use Rattle.spl_registry.specs.Nodes.{Entry, ids_of}
+use Rattle.spl_registry.specs.Nodes.{Entry, ids_of, node_at}
 use Rattle.spl_registry.specs.Tree.{registry_of}
+use Rattle.spl_world.specs.Disks.{PairView, RoseAt}
 use Rattle.spl_app.specs.Lines.{limit}
 
 abbrev pub nodes_in : Result (List Entry) RegistryFault → List Node
@@ -22,3 +23,19 @@ Spells text = (entries : List Entry) × (registry_of text ≡ Ok entries)
 pub record IsRegistryText (text : List ℕ) : Type 0 where
   pub spells : Spells text
   pub short : length text ≤ limit
+
+-- a disk of the pair at this node's position has failed more often
+pub record HasRisenAt (entries : List Entry) (node : Node) (old new : List PairView) : Type 0 where
+  pub position : ℕ
+  pub at : node_at entries position ≡ Some node
+  pub rose : RoseAt position old new
+
+-- of the registry that bytes spell
+pub record HasRisenIn (text : List ℕ) (node : Node) (old new : List PairView) : Type 0 where
+  pub entries : List Entry
+  pub spelled : registry_of text ≡ Ok entries
+  pub risen : HasRisenAt entries node old new
+
+-- a disk has failed more often
+abbrev pub SomeRose : List PairView → List PairView → Type 0
+SomeRose old new = (position : ℕ) × RoseAt position old new

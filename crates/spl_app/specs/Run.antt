@@ -83,3 +83,9 @@ pub record StopsAt (ns : List Node) (why : Reason) (lines : List (List ℕ)) (nu
   pub before : IsRun ns (take (number - 1) lines)
   pub place : drop (number - 1) lines ≡ line ∷ behind
   pub stops : StopsFor ns why (take (number - 1) lines) line
+
+-- a run answers some front of these lines, of which this holds
+pub record HasFront (ns : List Node) (lines : List (List ℕ)) (P : List (List ℕ) → Type 0) : Type 0 where
+  pub count : ℕ
+  pub run : IsRun ns (take count lines)
+  pub holds : P (take count lines)

@@ -14,6 +14,7 @@ code_of (status.BadSchedule line) = 3
 code_of (status.TooMany which) = 4
 code_of status.ReadFault = 5
 code_of status.WriteFault = 6
+code_of (status.DiskFault node) = 7
 code_of status.TooLong = 11
 code_of status.NoMemory = 12
 
@@ -34,5 +35,6 @@ text_of (status.BadSchedule line) = codes "bad schedule: line " ++ decimal line
 text_of (status.TooMany which) = if which == 1 then codes "too many events" else codes "too many stops"
 text_of status.ReadFault = codes "read failed"
 text_of status.WriteFault = codes "write failed"
+text_of (status.DiskFault node) = codes "disk of " ++ node ++ codes " failed"
 text_of status.TooLong = codes "input too long"
 text_of status.NoMemory = codes "out of memory"

@@ -14,6 +14,8 @@ pub enum RunFault {
     BadLine(u32),
     /// The events of the lines pass the limit with the line of this number.
     TooMany(u32),
+    /// A disk of the node at this position of the registry failed.
+    Disk(u8),
     /// An answer could not be written.
     Write,
     /// Memory ran out.

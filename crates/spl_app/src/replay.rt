@@ -1,20 +1,23 @@
 //! Reads a schedule and runs its lines.
-ghost use Rattle.std.specs.Prelude.{◌≡◌, ◌<◌, ◌≤◌, ◌⊎◌, ◌-◌, ℕ, IsTrue, take, length};
+ghost use Rattle.std.specs.Prelude.{◌≡◌, ◌<◌, ◌≤◌, ◌⊎◌, ◌-◌, ℕ, take, length};
 ghost use Rattle.std.specs.Io.{appended_bytes};
 ghost use Rattle.std.specs.Io.KnownBytes.{Appends, Consumes, IsAtEnd};
 ghost use Rattle.spl_edge.specs.Causes.{Rose, AppendsPart};
-ghost use Rattle.spl_circuit.specs.Rules.{ascends};
+ghost use Rattle.spl_circuit.specs.Nodes.{Node, sorted};
 ghost use Rattle.spl_registry.specs.declared.fault.RegistryFault.{RegistryFault};
+ghost use Rattle.spl_registry.specs.Nodes.{ids_of};
+ghost use Rattle.spl_world.specs.Disks.{AllGoOn, AreBlank, bench, images, images_at};
+ghost use Rattle.spl_app.specs.Registered.{HasRisenAt, SomeRose};
 ghost use Rattle.spl_app.specs.Lines.{lines_of, rest_of, longest_line, limit};
-ghost use Rattle.spl_app.specs.Run.{IsRun, answers};
+ghost use Rattle.spl_app.specs.Run.{HasFront, IsRun, answers};
 ghost use Rattle.spl_app.specs.Schedule.{IsSchedule, IsBadAt, HasTooMany, had, run_of};
 
 use crate::Status;
 use crate::fault::RunFault;
 use crate::lines::{LONGEST_LINE, MOST_BYTES, rest_of};
 use crate::run::run_lines;
-use spl_base::NodeId;
-use spl_edge::{ReadEnd, Sink, Source, read_all};
+use spl_edge::{Pair, ReadEnd, Sink, Source, StopDisk, read_all};
+use spl_registry::Registry;
 use std::alloc::Global;
 
 // The bytes up to the limit.
@@ -28,43 +31,53 @@ fn head(bytes: &[u8]) -> &[u8]
     }
 }
 
-/// Runs the schedule that a source gives over these nodes, and writes the answers.
-pub fn replay<S: Source, W: Sink>(
+/// Runs the schedule that a source gives over the nodes of a registry, whose disks are blank, and
+/// writes the answers.
+pub fn replay<S: Source, W: Sink, D: StopDisk>(
     alloc: Global,
-    nodes: Vec<NodeId>,
+    registry: &Registry,
     schedule: &mut S,
     out: &mut W,
+    pairs: &mut Vec<Pair<D>>,
 ) -> Status
-    requires { IsTrue (ascends nodes.items) }
+    requires pairs { length registry.now ≤ length pairs.old.items }
+    requires blank { (i : ℕ) → i < length registry.now → AreBlank (images_at (images D.image_at D.moment pairs.old.items) i) }
     ensures words { result ≡ Status.Usage → ⊥ }
     ensures registry { (fault : RegistryFault) → result ≡ Status.BadRegistry fault → ⊥ }
     ensures ok { result ≡ Status.Ok → let given = appended_bytes (S.taken schedule.old) (S.taken schedule.new) in
-        IsSchedule nodes.items given × IsAtEnd (S.left schedule.new)
-        × Appends (W.written out.old) (W.written out.new) (answers nodes.items (lines_of given)) }
+        IsSchedule (sorted (ids_of registry.now)) given × IsAtEnd (S.left schedule.new)
+        × Appends (W.written out.old) (W.written out.new) (answers (sorted (ids_of registry.now)) (lines_of given)) }
     ensures bad { (line : ℕ) → result ≡ Status.BadSchedule line → let given = appended_bytes (S.taken schedule.old) (S.taken schedule.new) in
-        IsBadAt nodes.items given (S.left schedule.new) line
-        × Appends (W.written out.old) (W.written out.new) (answers nodes.items (take (line - 1) (run_of given))) }
+        IsBadAt (sorted (ids_of registry.now)) given (S.left schedule.new) line
+        × Appends (W.written out.old) (W.written out.new) (answers (sorted (ids_of registry.now)) (take (line - 1) (run_of given))) }
     ensures many { (which : ℕ) → result ≡ Status.TooMany which → (which ≡ 1)
-        × HasTooMany nodes.items (appended_bytes (S.taken schedule.old) (S.taken schedule.new)) (W.written out.old) (W.written out.new) }
+        × HasTooMany (sorted (ids_of registry.now)) (appended_bytes (S.taken schedule.old) (S.taken schedule.new)) (W.written out.old) (W.written out.new) }
     ensures read { result ≡ Status.ReadFault → let given = appended_bytes (S.taken schedule.old) (S.taken schedule.new) in
-        Rose (S.faults schedule.old) (S.faults schedule.new) × IsRun nodes.items (lines_of given)
-        × Appends (W.written out.old) (W.written out.new) (answers nodes.items (lines_of given)) }
+        Rose (S.faults schedule.old) (S.faults schedule.new) × IsRun (sorted (ids_of registry.now)) (lines_of given)
+        × Appends (W.written out.old) (W.written out.new) (answers (sorted (ids_of registry.now)) (lines_of given)) }
     ensures write { result ≡ Status.WriteFault → Rose (W.faults out.old) (W.faults out.new) }
     ensures long { result ≡ Status.TooLong → let given = appended_bytes (S.taken schedule.old) (S.taken schedule.new) in
-        (limit < length given) × IsRun nodes.items (run_of given) × (length (rest_of (take limit given)) ≤ longest_line)
-        × Appends (W.written out.old) (W.written out.new) (answers nodes.items (run_of given)) }
+        (limit < length given) × IsRun (sorted (ids_of registry.now)) (run_of given) × (length (rest_of (take limit given)) ≤ longest_line)
+        × Appends (W.written out.old) (W.written out.new) (answers (sorted (ids_of registry.now)) (run_of given)) }
+    ensures disk { (node : Node) → result ≡ Status.DiskFault node → let given = appended_bytes (S.taken schedule.old) (S.taken schedule.new) in
+        HasFront (sorted (ids_of registry.now)) (run_of given) (λ ls. Appends (W.written out.old) (W.written out.new) (answers (sorted (ids_of registry.now)) ls))
+        × HasRisenAt registry.now node (bench D.image_at D.moment D.faults D.armed D.picks pairs.old.items) (bench D.image_at D.moment D.faults D.armed D.picks pairs.new.items) }
+    ensures onward { AllGoOn (bench D.image_at D.moment D.faults D.armed D.picks pairs.old.items) (bench D.image_at D.moment D.faults D.armed D.picks pairs.new.items) }
     ensures part { AppendsPart (W.written out.old) (W.written out.new)
-        (answers nodes.items (run_of (appended_bytes (S.taken schedule.old) (S.taken schedule.new)))) }
+        (answers (sorted (ids_of registry.now)) (run_of (appended_bytes (S.taken schedule.old) (S.taken schedule.new)))) }
     ensures taken { Consumes (S.left schedule.old) (S.left schedule.new) (appended_bytes (S.taken schedule.old) (S.taken schedule.new)) }
-    ensures complete { (Rose (S.faults schedule.old) (S.faults schedule.new) → ⊥) → (Rose (W.faults out.old) (W.faults out.new) → ⊥)
-        → IsSchedule nodes.items (had (S.left schedule.old) (appended_bytes (S.taken schedule.old) (S.taken schedule.new)))
+    ensures complete { (SomeRose (bench D.image_at D.moment D.faults D.armed D.picks pairs.old.items) (bench D.image_at D.moment D.faults D.armed D.picks pairs.new.items) → ⊥) → (Rose (S.faults schedule.old) (S.faults schedule.new) → ⊥) → (Rose (W.faults out.old) (W.faults out.new) → ⊥)
+        → IsSchedule (sorted (ids_of registry.now)) (had (S.left schedule.old) (appended_bytes (S.taken schedule.old) (S.taken schedule.new)))
         → (result ≡ Status.Ok) ⊎ (result ≡ Status.NoMemory) }
 {
     let reading = read_all(alloc, MOST_BYTES, schedule);
     let text = head(&reading.bytes);
-    match run_lines(alloc, nodes, text, out) {
+    match run_lines(alloc, registry, pairs, text, out) {
         Err(RunFault::BadLine(line)) => Status::BadSchedule { line },
         Err(RunFault::TooMany(line)) => Status::TooMany { which: 1 },
+        Err(RunFault::Disk(slot)) => Status::DiskFault {
+            node: registry.node(slot),
+        },
         Err(RunFault::Write) => Status::WriteFault,
         Err(RunFault::NoMemory) => Status::NoMemory,
         Ok(count) => match reading.end {

@@ -2,24 +2,28 @@
 ghost use Rattle.std.specs.Prelude.{◌≡◌, false, ◌≤◌, ◌<◌, ◌+◌, ◌-◌, ◌^◌, ◌++◌, ◌∷◌, [], ℕ, List, Option, IfOk, IfSome, OnOk, IsErrOf, IsTrue, take, length};
 ghost use Rattle.std.specs.Io.KnownBytes.{Appends};
 ghost use Rattle.spl_edge.specs.Causes.{Rose, AppendsPart};
-ghost use Rattle.spl_circuit.specs.Rules.{ascends};
+ghost use Rattle.spl_circuit.specs.Nodes.{sorted};
+ghost use Rattle.spl_registry.specs.Nodes.{ids_of as registered};
 ghost use Rattle.spl_app.specs.Lines.{lines_of};
 ghost use Rattle.spl_app.specs.Due.{IsDue, IsDuePart};
-ghost use Rattle.spl_app.specs.Run.{IsLine, IsRunnable, IsRun, Bad, Past, StopsAt, said, ran, printed, answers};
+ghost use Rattle.spl_app.specs.Run.{IsLine, IsRunnable, IsRun, Bad, Past, StopsAt, HasFront, said, ran, printed, answers};
 ghost use Rattle.spl_answer.specs.Texts.{text as text_of};
 ghost use Rattle.spl_model.specs.Projection.{Ran};
 ghost use Rattle.spl_model.specs.Outcomes.{by_rule};
 ghost use Rattle.spl_model.specs.Answers.{answer_to};
 ghost use Rattle.spl_model.specs.Counts.{events_of};
-ghost use Rattle.spl_world.specs.Views.{ids_of, is_halted, Stands};
+ghost use Rattle.spl_world.specs.Disks.{AllGoOn, AreBlank, LeavesDisks, RoseAt, bench, images, images_at};
+ghost use Rattle.spl_world.specs.Views.{IsSeated, Sits, Stands, ids_of, is_halted, seen};
 
 use crate::fault::RunFault;
 use crate::lines::{LONGEST_LINE, first_line, is_silent};
 use crate::output::Output;
+use crate::registered::sorted_ids;
 use spl_answer::append_text;
 use spl_base::NodeId;
-use spl_edge::Sink;
+use spl_edge::{Pair, Sink, StopDisk};
 use spl_model::MOST_EVENTS;
+use spl_registry::Registry;
 use spl_sched::{Line, LineFault, read_line};
 use spl_world::{World, WorldFault};
 use std::alloc::{AllocError, Global};
@@ -36,16 +40,25 @@ pub struct Run {
 impl Run {
     ghost use Rattle.spl_app.specs.Behind.{IsBehind};
 
-    fn new(alloc: Global, nodes: Vec<NodeId>) -> Result<Run, AllocError>
-        requires { IsTrue (ascends nodes.items) }
-        ensures nodes { IfOk result (λ run. run.nodes.items ≡ nodes.items) }
-        ensures behind { IfOk result (λ run. (start : Option (List ℕ)) → IsBehind nodes.items [] run start start) }
+    fn new<D: StopDisk>(
+        alloc: Global,
+        registry: &Registry,
+        pairs: &mut Vec<Pair<D>>,
+    ) -> Result<Run, WorldFault>
+        requires room { length registry.now ≤ length pairs.old.items }
+        requires blank { (i : ℕ) → i < length registry.now → AreBlank (images_at (images D.image_at D.moment pairs.old.items) i) }
+        ensures nodes { IfOk result (λ run. run.nodes.items ≡ sorted (registered registry.now)) }
+        ensures behind { IfOk result (λ run. (start : Option (List ℕ)) → IsBehind (sorted (registered registry.now)) [] run (images D.image_at D.moment pairs.new.items) start start) }
+        ensures disks { LeavesDisks result (bench D.image_at D.moment D.faults D.armed D.picks pairs.old.items) (bench D.image_at D.moment D.faults D.armed D.picks pairs.new.items) }
+        ensures few { (which : ℕ) → IsErrOf result (WorldFault.TooMany which) → ⊥ }
+        ensures seated { IfOk result (λ run. IsSeated (length registry.now) run.world) }
+        ensures place { (slot : ℕ) → IsErrOf result (WorldFault.Disk slot) → slot < length registry.now }
     {
         Ok(Run {
-            world: World::new(alloc, &nodes)?,
-            nodes,
+            nodes: sorted_ids(alloc, registry)?,
             text: Vec::new(alloc),
             output: Output::new(alloc)?,
+            world: World::new(alloc, registry, pairs)?,
         })
     }
 
@@ -70,20 +83,29 @@ impl Run {
     }
 
     // Runs a line that says this, and keeps the text of the answer.
-    fn ask(&mut self, alloc: Global, said: &Line) -> Result<(), WorldFault>
+    fn ask<D: StopDisk>(
+        &mut self,
+        alloc: Global,
+        pairs: &mut Vec<Pair<D>>,
+        said: &Line,
+    ) -> Result<(), WorldFault>
         requires nodes { ids_of self.old.world ≡ self.old.nodes.items }
         requires running { is_halted self.old.world ≡ false }
+        requires sits { Sits (seen D.image_at D.moment self.old.world pairs.old.items) }
         requires known { IsRunnable self.old.nodes.items said.now }
         ensures nodes { self.new.nodes.items ≡ self.old.nodes.items }
         ensures world { ids_of self.new.world ≡ self.old.nodes.items }
         ensures running { OnOk result (is_halted self.new.world ≡ false) }
-        ensures stands { (before : List Ran) → Stands before self.old.world → OnOk result (Stands (before ++ by_rule said.now ∷ []) self.new.world) }
-        ensures text { (before : List Ran) → Stands before self.old.world → OnOk result (self.new.text.items ≡ text_of (answer_to self.old.nodes.items before (by_rule said.now))) }
-        ensures few { (before : List Ran) → Stands before self.old.world → OnOk result (events_of self.old.nodes.items (before ++ by_rule said.now ∷ []) ≤ MOST_EVENTS) }
-        ensures many { (before : List Ran) (which : ℕ) → Stands before self.old.world → IsErrOf result (WorldFault.TooMany which) → MOST_EVENTS < events_of self.old.nodes.items (before ++ by_rule said.now ∷ []) }
+        ensures stands { (before : List Ran) → Stands before self.old.world (images D.image_at D.moment pairs.old.items) → OnOk result (Stands (before ++ by_rule said.now ∷ []) self.new.world (images D.image_at D.moment pairs.new.items)) }
+        ensures text { (before : List Ran) → Stands before self.old.world (images D.image_at D.moment pairs.old.items) → OnOk result (self.new.text.items ≡ text_of (answer_to self.old.nodes.items before (by_rule said.now))) }
+        ensures few { (before : List Ran) → Stands before self.old.world (images D.image_at D.moment pairs.old.items) → OnOk result (events_of self.old.nodes.items (before ++ by_rule said.now ∷ []) ≤ MOST_EVENTS) }
+        ensures many { (before : List Ran) (which : ℕ) → Stands before self.old.world (images D.image_at D.moment pairs.old.items) → IsErrOf result (WorldFault.TooMany which) → MOST_EVENTS < events_of self.old.nodes.items (before ++ by_rule said.now ∷ []) }
         ensures output { self.new.output ≡ self.old.output }
+        ensures disks { LeavesDisks result (bench D.image_at D.moment D.faults D.armed D.picks pairs.old.items) (bench D.image_at D.moment D.faults D.armed D.picks pairs.new.items) }
+        ensures seated { (m : ℕ) → IsSeated m self.old.world → IsSeated m self.new.world }
+        ensures place { (m slot : ℕ) → IsSeated m self.old.world → IsErrOf result (WorldFault.Disk slot) → slot < m }
     {
-        let answer = self.world.step(alloc, said)?;
+        let answer = self.world.step(alloc, pairs, said)?;
         self.text.clear();
         append_text(&answer, &mut self.text)?;
         Ok(())
@@ -91,34 +113,42 @@ impl Run {
 
     // Runs a line that says this, and lets the answer wait. Where the events pass the limit with it
     // there is none.
-    fn answer<W: Sink>(
+    fn answer<W: Sink, D: StopDisk>(
         &mut self,
         alloc: Global,
+        pairs: &mut Vec<Pair<D>>,
         number: u32,
         said: &Line,
         out: &mut W,
     ) -> Result<(), RunFault>
         requires nodes { ids_of self.old.world ≡ self.old.nodes.items }
         requires running { is_halted self.old.world ≡ false }
+        requires sits { Sits (seen D.image_at D.moment self.old.world pairs.old.items) }
         requires known { IsRunnable self.old.nodes.items said.now }
         ensures nodes { self.new.nodes.items ≡ self.old.nodes.items }
         ensures world { ids_of self.new.world ≡ self.old.nodes.items }
         ensures running { OnOk result (is_halted self.new.world ≡ false) }
-        ensures stands { (before : List Ran) → Stands before self.old.world → OnOk result (Stands (before ++ by_rule said.now ∷ []) self.new.world) }
-        ensures due { (before : List Ran) → Stands before self.old.world → OnOk result (IsDue (W.written out.old) (W.written out.new) self.new.output
+        ensures stands { (before : List Ran) → Stands before self.old.world (images D.image_at D.moment pairs.old.items) → OnOk result (Stands (before ++ by_rule said.now ∷ []) self.new.world (images D.image_at D.moment pairs.new.items)) }
+        ensures due { (before : List Ran) → Stands before self.old.world (images D.image_at D.moment pairs.old.items) → OnOk result (IsDue (W.written out.old) (W.written out.new) self.new.output
             (self.old.output ++ printed number (text_of (answer_to self.old.nodes.items before (by_rule said.now))))) }
-        ensures part { (before : List Ran) → Stands before self.old.world → IsDuePart (W.written out.old) (W.written out.new) self.new.output
+        ensures part { (before : List Ran) → Stands before self.old.world (images D.image_at D.moment pairs.old.items) → IsDuePart (W.written out.old) (W.written out.new) self.new.output
             (self.old.output ++ printed number (text_of (answer_to self.old.nodes.items before (by_rule said.now)))) }
         ensures good { (n : ℕ) → IsErrOf result (RunFault.BadLine n) → ⊥ }
-        ensures few { (before : List Ran) → Stands before self.old.world → OnOk result (events_of self.old.nodes.items (before ++ by_rule said.now ∷ []) ≤ MOST_EVENTS) }
-        ensures many { (before : List Ran) (n : ℕ) → Stands before self.old.world → IsErrOf result (RunFault.TooMany n) → MOST_EVENTS < events_of self.old.nodes.items (before ++ by_rule said.now ∷ []) }
+        ensures few { (before : List Ran) → Stands before self.old.world (images D.image_at D.moment pairs.old.items) → OnOk result (events_of self.old.nodes.items (before ++ by_rule said.now ∷ []) ≤ MOST_EVENTS) }
+        ensures many { (before : List Ran) (n : ℕ) → Stands before self.old.world (images D.image_at D.moment pairs.old.items) → IsErrOf result (RunFault.TooMany n) → MOST_EVENTS < events_of self.old.nodes.items (before ++ by_rule said.now ∷ []) }
         ensures kept { (n : ℕ) → IsErrOf result (RunFault.TooMany n) → (n ≡ number) × (self.new.output ≡ self.old.output) × (W.written out.new ≡ W.written out.old) }
+        ensures whole { (slot : ℕ) → IsErrOf result (RunFault.Disk slot) → (self.new.output ≡ self.old.output) × (W.written out.new ≡ W.written out.old) }
+        ensures onward { AllGoOn (bench D.image_at D.moment D.faults D.armed D.picks pairs.old.items) (bench D.image_at D.moment D.faults D.armed D.picks pairs.new.items) }
+        ensures disk { (slot : ℕ) → IsErrOf result (RunFault.Disk slot) → RoseAt slot (bench D.image_at D.moment D.faults D.armed D.picks pairs.old.items) (bench D.image_at D.moment D.faults D.armed D.picks pairs.new.items) }
+        ensures seated { (m : ℕ) → IsSeated m self.old.world → IsSeated m self.new.world }
+        ensures place { (m slot : ℕ) → IsSeated m self.old.world → IsErrOf result (RunFault.Disk slot) → slot < m }
         ensures write { IsErrOf result RunFault.Write → Rose (W.faults out.old) (W.faults out.new) }
         ensures later { W.faults out.old ≤ W.faults out.new }
     {
-        match self.ask(alloc, said) {
+        match self.ask(alloc, pairs, said) {
             Ok(()) => (),
             Err(WorldFault::TooMany { .. }) => return Err(RunFault::TooMany(number)),
+            Err(WorldFault::Disk { slot }) => return Err(RunFault::Disk(slot)),
             Err(WorldFault::NoMemory) => return Err(RunFault::NoMemory),
         }
         self.output.put(out, number, &self.text)?;
@@ -127,32 +157,39 @@ impl Run {
 
     // Runs one line. A line that a schedule may not have changes nothing, and one with which the
     // events pass the limit has no answer.
-    fn line<W: Sink>(
+    fn line<W: Sink, D: StopDisk>(
         &mut self,
         alloc: Global,
+        pairs: &mut Vec<Pair<D>>,
         number: u32,
         line: &[u8],
         out: &mut W,
     ) -> Result<(), RunFault>
         requires nodes { ids_of self.old.world ≡ self.old.nodes.items }
         requires running { is_halted self.old.world ≡ false }
-        ensures ok { (lines : List (List ℕ)) → (start : Option (List ℕ)) → IsBehind self.old.nodes.items lines self.old start (W.written out.old) → number ≡ length lines + 1
-            → OnOk result (IsBehind self.old.nodes.items (lines ++ line.now ∷ []) self.new start (W.written out.new)) }
+        requires sits { Sits (seen D.image_at D.moment self.old.world pairs.old.items) }
+        ensures ok { (lines : List (List ℕ)) → (start : Option (List ℕ)) → IsBehind self.old.nodes.items lines self.old (images D.image_at D.moment pairs.old.items) start (W.written out.old) → number ≡ length lines + 1
+            → OnOk result (IsBehind self.old.nodes.items (lines ++ line.now ∷ []) self.new (images D.image_at D.moment pairs.new.items) start (W.written out.new)) }
         ensures good { OnOk result (IsLine self.old.nodes.items line.now) }
         ensures bad { (n : ℕ) → IsErrOf result (RunFault.BadLine n)
             → (n ≡ number) × (IsLine self.old.nodes.items line.now → ⊥) × (self.new ≡ self.old) × (W.written out.new ≡ W.written out.old) }
         ensures many { (n : ℕ) → IsErrOf result (RunFault.TooMany n)
             → (n ≡ number) × IsLine self.old.nodes.items line.now × (self.new.output ≡ self.old.output) × (W.written out.new ≡ W.written out.old) }
-        ensures past { (lines : List (List ℕ)) (n : ℕ) → Stands (ran lines) self.old.world → IsErrOf result (RunFault.TooMany n)
+        ensures past { (lines : List (List ℕ)) (n : ℕ) → Stands (ran lines) self.old.world (images D.image_at D.moment pairs.old.items) → IsErrOf result (RunFault.TooMany n)
             → MOST_EVENTS < events_of self.old.nodes.items (ran (lines ++ line.now ∷ [])) }
-        ensures part { (lines : List (List ℕ)) → (start : Option (List ℕ)) → IsBehind self.old.nodes.items lines self.old start (W.written out.old) → number ≡ length lines + 1
+        ensures part { (lines : List (List ℕ)) → (start : Option (List ℕ)) → IsBehind self.old.nodes.items lines self.old (images D.image_at D.moment pairs.old.items) start (W.written out.old) → number ≡ length lines + 1
             → IsDuePart start (W.written out.new) self.new.output (answers self.old.nodes.items (lines ++ line.now ∷ [])) }
+        ensures whole { (slot : ℕ) → IsErrOf result (RunFault.Disk slot) → (self.new.output ≡ self.old.output) × (W.written out.new ≡ W.written out.old) }
+        ensures onward { AllGoOn (bench D.image_at D.moment D.faults D.armed D.picks pairs.old.items) (bench D.image_at D.moment D.faults D.armed D.picks pairs.new.items) }
+        ensures disk { (slot : ℕ) → IsErrOf result (RunFault.Disk slot) → RoseAt slot (bench D.image_at D.moment D.faults D.armed D.picks pairs.old.items) (bench D.image_at D.moment D.faults D.armed D.picks pairs.new.items) }
+        ensures seated { (m : ℕ) → IsSeated m self.old.world → IsSeated m self.new.world }
+        ensures place { (m slot : ℕ) → IsSeated m self.old.world → IsErrOf result (RunFault.Disk slot) → slot < m }
         ensures write { IsErrOf result RunFault.Write → Rose (W.faults out.old) (W.faults out.new) }
         ensures later { W.faults out.old ≤ W.faults out.new }
     {
         match self.read(alloc, line) {
             Ok(None) => Ok(()),
-            Ok(Some(said)) => self.answer(alloc, number, &said, out),
+            Ok(Some(said)) => self.answer(alloc, pairs, number, &said, out),
             Err(LineFault::BadLine) => Err(RunFault::BadLine(number)),
             Err(LineFault::NoMemory) => Err(RunFault::NoMemory),
         }
@@ -160,9 +197,15 @@ impl Run {
 
     // Runs each line, up to the first that a schedule may not have or with which the events pass the
     // limit, and tells how many there were.
-    fn lines<W: Sink>(&mut self, alloc: Global, text: &[u8], out: &mut W) -> Result<u32, RunFault>
+    fn lines<W: Sink, D: StopDisk>(
+        &mut self,
+        alloc: Global,
+        pairs: &mut Vec<Pair<D>>,
+        text: &[u8],
+        out: &mut W,
+    ) -> Result<u32, RunFault>
         requires room { length text.now < 2 ^ 32 - 1 }
-        requires fresh { IsBehind self.old.nodes.items [] self.old (W.written out.old) (W.written out.old) }
+        requires fresh { IsBehind self.old.nodes.items [] self.old (images D.image_at D.moment pairs.old.items) (W.written out.old) (W.written out.old) }
         ensures count { IfOk result (λ count. count ≡ length (lines_of text.now)) }
         ensures room { IfOk result (λ count. count ≤ length text.now) }
         ensures good { OnOk result (IsRun self.old.nodes.items (lines_of text.now)) }
@@ -171,6 +214,10 @@ impl Run {
             × IsDue (W.written out.old) (W.written out.new) self.new.output (answers self.old.nodes.items (take (number - 1) (lines_of text.now))) }
         ensures many { (number : ℕ) → IsErrOf result (RunFault.TooMany number) → StopsAt self.old.nodes.items Past (lines_of text.now) number
             × IsDue (W.written out.old) (W.written out.new) self.new.output (answers self.old.nodes.items (take (number - 1) (lines_of text.now))) }
+        ensures whole { (slot : ℕ) → IsErrOf result (RunFault.Disk slot) → HasFront self.old.nodes.items (lines_of text.now) (λ ls. IsDue (W.written out.old) (W.written out.new) self.new.output (answers self.old.nodes.items ls)) }
+        ensures onward { AllGoOn (bench D.image_at D.moment D.faults D.armed D.picks pairs.old.items) (bench D.image_at D.moment D.faults D.armed D.picks pairs.new.items) }
+        ensures disk { (slot : ℕ) → IsErrOf result (RunFault.Disk slot) → RoseAt slot (bench D.image_at D.moment D.faults D.armed D.picks pairs.old.items) (bench D.image_at D.moment D.faults D.armed D.picks pairs.new.items) }
+        ensures place { (m slot : ℕ) → IsSeated m self.old.world → IsErrOf result (RunFault.Disk slot) → slot < m }
         ensures part { IsDuePart (W.written out.old) (W.written out.new) self.new.output (answers self.old.nodes.items (lines_of text.now)) }
         ensures write { IsErrOf result RunFault.Write → Rose (W.faults out.old) (W.faults out.new) }
         ensures later { W.faults out.old ≤ W.faults out.new }
@@ -178,7 +225,7 @@ impl Run {
         let mut rest = text;
         let mut count = 0u32;
         'lines: while let Some((line, behind)) = first_line(rest) {
-            if let Err(fault) = self.line(alloc, count + 1, line, out) {
+            if let Err(fault) = self.line(alloc, pairs, count + 1, line, out) {
                 return Err(fault);
             }
             count += 1;
@@ -188,36 +235,48 @@ impl Run {
     }
 }
 
-/// Runs each line of a text over these nodes, up to the first that a schedule may not have or with which the events
+/// Runs each line of a text over the nodes of a registry, whose disks are blank, up to the first that a schedule may not have or with which the events
 /// pass the limit, writes the answers, and tells how many lines there were.
-pub fn run_lines<W: Sink>(
+pub fn run_lines<W: Sink, D: StopDisk>(
     alloc: Global,
-    nodes: Vec<NodeId>,
+    registry: &Registry,
+    pairs: &mut Vec<Pair<D>>,
     text: &[u8],
     out: &mut W,
 ) -> Result<u32, RunFault>
-    requires ordered { IsTrue (ascends nodes.items) }
+    requires pairs { length registry.now ≤ length pairs.old.items }
+    requires blank { (i : ℕ) → i < length registry.now → AreBlank (images_at (images D.image_at D.moment pairs.old.items) i) }
     requires room { length text.now < 2 ^ 32 - 1 }
     ensures count { IfOk result (λ count. count ≡ length (lines_of text.now)) }
     ensures room { IfOk result (λ count. count ≤ length text.now) }
-    ensures good { OnOk result (IsRun nodes.items (lines_of text.now)) }
-    ensures written { OnOk result (Appends (W.written out.old) (W.written out.new) (answers nodes.items (lines_of text.now))) }
+    ensures good { OnOk result (IsRun (sorted (registered registry.now)) (lines_of text.now)) }
+    ensures written { OnOk result (Appends (W.written out.old) (W.written out.new) (answers (sorted (registered registry.now)) (lines_of text.now))) }
 
     // The first line that a schedule may not have.
-    ensures bad { (number : ℕ) → IsErrOf result (RunFault.BadLine number) → StopsAt nodes.items Bad (lines_of text.now) number
-        × Appends (W.written out.old) (W.written out.new) (answers nodes.items (take (number - 1) (lines_of text.now))) }
+    ensures bad { (number : ℕ) → IsErrOf result (RunFault.BadLine number) → StopsAt (sorted (registered registry.now)) Bad (lines_of text.now) number
+        × Appends (W.written out.old) (W.written out.new) (answers (sorted (registered registry.now)) (take (number - 1) (lines_of text.now))) }
 
     // The first line with which the events pass the limit.
-    ensures many { (number : ℕ) → IsErrOf result (RunFault.TooMany number) → StopsAt nodes.items Past (lines_of text.now) number
-        × Appends (W.written out.old) (W.written out.new) (answers nodes.items (take (number - 1) (lines_of text.now))) }
+    ensures many { (number : ℕ) → IsErrOf result (RunFault.TooMany number) → StopsAt (sorted (registered registry.now)) Past (lines_of text.now) number
+        × Appends (W.written out.old) (W.written out.new) (answers (sorted (registered registry.now)) (take (number - 1) (lines_of text.now))) }
+
+    // A disk failed. The answers to the lines before are written.
+    ensures whole { (slot : ℕ) → IsErrOf result (RunFault.Disk slot) → HasFront (sorted (registered registry.now)) (lines_of text.now) (λ ls. Appends (W.written out.old) (W.written out.new) (answers (sorted (registered registry.now)) ls)) }
+    ensures disk { (slot : ℕ) → IsErrOf result (RunFault.Disk slot) → RoseAt slot (bench D.image_at D.moment D.faults D.armed D.picks pairs.old.items) (bench D.image_at D.moment D.faults D.armed D.picks pairs.new.items) }
+    ensures place { (slot : ℕ) → IsErrOf result (RunFault.Disk slot) → slot < length registry.now }
 
     // Whatever the end.
-    ensures part { AppendsPart (W.written out.old) (W.written out.new) (answers nodes.items (lines_of text.now)) }
+    ensures onward { AllGoOn (bench D.image_at D.moment D.faults D.armed D.picks pairs.old.items) (bench D.image_at D.moment D.faults D.armed D.picks pairs.new.items) }
+    ensures part { AppendsPart (W.written out.old) (W.written out.new) (answers (sorted (registered registry.now)) (lines_of text.now)) }
     ensures write { IsErrOf result RunFault.Write → Rose (W.faults out.old) (W.faults out.new) }
     ensures later { W.faults out.old ≤ W.faults out.new }
 {
-    let mut run = Run::new(alloc, nodes)?;
-    let ended = run.lines(alloc, text, out);
+    let mut run = match Run::new(alloc, registry, pairs) {
+        Ok(run) => run,
+        Err(WorldFault::Disk { slot }) => return Err(RunFault::Disk(slot)),
+        Err(_) => return Err(RunFault::NoMemory),
+    };
+    let ended = run.lines(alloc, pairs, text, out);
     run.output.flush(out)?;
     ended
 }

@@ -2,7 +2,7 @@
 ghost use Rattle.std.specs.Prelude.{◌≡◌, ◌++◌, codes, IfOk};
 ghost use Rattle.spl_app.specs.Statuses.{fault_text};
 
-use spl_base::Piece;
+use spl_base::{NodeId, Piece};
 use spl_registry::RegistryFault;
 use std::alloc::{AllocError, Global};
 
@@ -24,6 +24,8 @@ pub enum Status {
     ReadFault,
     /// The answers could not be written.
     WriteFault,
+    /// A disk of this node failed.
+    DiskFault { node: NodeId },
     /// The registry or the schedule has too many bytes.
     TooLong,
     /// Memory ran out.
@@ -44,6 +46,17 @@ fn fault_text(alloc: Global, fault: &RegistryFault) -> Result<Piece, AllocError>
     Piece::from(alloc, text.as_bytes())
 }
 
+// The line for a disk of this node that failed.
+fn disk_text(alloc: Global, node: &NodeId) -> Result<Piece, AllocError>
+    ensures { IfOk result (λ p. p ≡ codes "disk of " ++ node.now ++ codes " failed") }
+{
+    let mut text = Vec::new(alloc);
+    text.extend_from_slice(b"disk of ")?;
+    text.extend_from_slice(node.bytes())?;
+    text.extend_from_slice(b" failed")?;
+    Piece::from(alloc, &text)
+}
+
 impl Status {
     ghost use Rattle.spl_app.specs.Statuses.{code_of, text_of};
 
@@ -59,6 +72,7 @@ impl Status {
             Status::TooMany { .. } => 4,
             Status::ReadFault => 5,
             Status::WriteFault => 6,
+            Status::DiskFault { .. } => 7,
             Status::TooLong => 11,
             Status::NoMemory => 12,
         }
@@ -83,6 +97,7 @@ impl Status {
             Status::TooMany { .. } => Piece::from(alloc, b"too many stops"),
             Status::ReadFault => Piece::from(alloc, b"read failed"),
             Status::WriteFault => Piece::from(alloc, b"write failed"),
+            Status::DiskFault { node } => disk_text(alloc, node),
             Status::TooLong => Piece::from(alloc, b"input too long"),
             Status::NoMemory => Piece::from(alloc, b"out of memory"),
         }

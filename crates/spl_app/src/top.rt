@@ -8,16 +8,18 @@ ghost use Rattle.spl_agreement.specs.Agreement.{Agree};
 ghost use Rattle.spl_agreement.specs.OneList.{TellOneList};
 ghost use Rattle.spl_registry.specs.declared.fault.RegistryFault.{RegistryFault};
 ghost use Rattle.spl_registry.specs.Tree.{registry_of};
-ghost use Rattle.spl_app.specs.Run.{IsRun, ran, answers};
-ghost use Rattle.spl_app.specs.Registered.{nodes_of, IsRegistryText};
+ghost use Rattle.spl_circuit.specs.Nodes.{Node};
+ghost use Rattle.spl_world.specs.Disks.{AllGoOn, AreBlank, bench as bench_of, images, images_at};
+ghost use Rattle.spl_app.specs.Run.{HasFront, IsRun, ran, answers};
+ghost use Rattle.spl_app.specs.Registered.{nodes_of, HasRisenIn, IsRegistryText, SomeRose};
 ghost use Rattle.spl_app.specs.Schedule.{IsReplay, IsSchedule, IsBadAt, HasTooMany, had, run_of};
 
 use crate::Status;
 use crate::agree::runs_agree;
 use crate::fault::NodesFault;
-use crate::registered::read_nodes;
+use crate::registered::read_registry;
 use crate::replay::replay;
-use spl_edge::{Sink, Source};
+use spl_edge::{Bench, Sink, Source, StopDisk};
 use std::alloc::Global;
 
 fn is_replay(words: &[String]) -> bool
@@ -32,13 +34,17 @@ fn is_replay(words: &[String]) -> bool
 /// Does what the words ask for: `replay REGISTRY SCHEDULE` reads the registry, runs the schedule line
 /// by line over its nodes, and writes each answer with the number of its line. The names are for the
 /// caller, who opens them. Want of memory can end any run; then a front of the answers is written.
-pub fn splinter<S: Source, W: Sink>(
+pub fn splinter<S: Source, W: Sink, D: StopDisk>(
     alloc: Global,
     words: &[String],
     registry: &mut S,
     schedule: &mut S,
     out: &mut W,
+    bench: &mut Bench<D>,
 ) -> Status
+    requires pairs { length bench.old.pairs.items ≡ 16 }
+    requires blank { (i : ℕ) → i < 16 → AreBlank (images_at (images D.image_at D.moment bench.old.pairs.items) i) }
+
     // Exactly where the words aren't this command. Nothing is written.
     ensures usage { (result ≡ Status.Usage) ↔ (IsReplay (map string_bytes words.now) → ⊥) }
     ensures nothing { result ≡ Status.Usage → Appends (W.written out.old) (W.written out.new) [] }
@@ -82,6 +88,12 @@ pub fn splinter<S: Source, W: Sink>(
         ⊎ (Rose (S.faults schedule.old) (S.faults schedule.new) × IsRegistryText text × IsRun (nodes_of text) (lines_of given)
         × Appends (W.written out.old) (W.written out.new) (answers (nodes_of text) (lines_of given))) }
 
+    // A disk of this node of the registry failed. The answers to the lines before are written.
+    ensures disk { (node : Node) → result ≡ Status.DiskFault node → let text = appended_bytes (S.taken registry.old) (S.taken registry.new) in
+        let given = appended_bytes (S.taken schedule.old) (S.taken schedule.new) in
+        IsRegistryText text × HasRisenIn text node (bench_of D.image_at D.moment D.faults D.armed D.picks bench.old.pairs.items) (bench_of D.image_at D.moment D.faults D.armed D.picks bench.new.pairs.items)
+        × HasFront (nodes_of text) (run_of given) (λ ls. Appends (W.written out.old) (W.written out.new) (answers (nodes_of text) ls)) }
+
     // The sink failed.
     ensures write { result ≡ Status.WriteFault → Rose (W.faults out.old) (W.faults out.new) }
 
@@ -113,20 +125,23 @@ pub fn splinter<S: Source, W: Sink>(
     ensures nodes_taken { Consumes (S.left registry.old) (S.left registry.new) (appended_bytes (S.taken registry.old) (S.taken registry.new)) }
     ensures taken { Consumes (S.left schedule.old) (S.left schedule.new) (appended_bytes (S.taken schedule.old) (S.taken schedule.new)) }
 
+    // No fault of a disk is forgotten, and none is armed or picked from.
+    ensures onward { AllGoOn (bench_of D.image_at D.moment D.faults D.armed D.picks bench.old.pairs.items) (bench_of D.image_at D.moment D.faults D.armed D.picks bench.new.pairs.items) }
+
     // Where the sources had a registry and a schedule it doesn't give up by itself.
     ensures complete { IsReplay (map string_bytes words.now)
         → (Rose (S.faults registry.old) (S.faults registry.new) → ⊥) → (Rose (S.faults schedule.old) (S.faults schedule.new) → ⊥)
         → (Rose (W.faults out.old) (W.faults out.new) → ⊥)
         → let text = had (S.left registry.old) (appended_bytes (S.taken registry.old) (S.taken registry.new)) in
         let given = had (S.left schedule.old) (appended_bytes (S.taken schedule.old) (S.taken schedule.new)) in
-        IsRegistryText text → IsSchedule (nodes_of text) given → (result ≡ Status.Ok) ⊎ (result ≡ Status.NoMemory) }
+        (SomeRose (bench_of D.image_at D.moment D.faults D.armed D.picks bench.old.pairs.items) (bench_of D.image_at D.moment D.faults D.armed D.picks bench.new.pairs.items) → ⊥) → IsRegistryText text → IsSchedule (nodes_of text) given → (result ≡ Status.Ok) ⊎ (result ≡ Status.NoMemory) }
 {
     runs_agree();
     if !is_replay(words) {
         return Status::Usage;
     }
-    match read_nodes(alloc, registry) {
-        Ok(nodes) => replay(alloc, nodes, schedule, out),
+    match read_registry(alloc, registry) {
+        Ok(found) => replay(alloc, &found, schedule, out, &mut bench.pairs),
         Err(NodesFault::Bad(fault)) => Status::BadRegistry(fault),
         Err(NodesFault::Read) => Status::ReadFault,
         Err(NodesFault::TooLong) => Status::TooLong,

@@ -1,7 +1,10 @@
 use Rattle.std.proofs.Common.{ℕ, ◌≡◌, ◌+◌, ◌≤◌, length, ◌<◌, length-take, refl, ap, rules, arith, inl, inr}
-use Rattle.spl_app.specs.Run.{Bad, Past}
+use Rattle.spl_app.specs.Run.{Bad, Past, answers}
+use Rattle.std.specs.Io.KnownBytes.{Appends}
+use Rattle.spl_circuit.specs.Nodes.{sorted}
+use Rattle.spl_registry.specs.Nodes.{ids_of, node_at}
 use Rattle.spl_app.specs.Lines.{limit}
-use Rattle.spl_app.proofs.Given.{gave, given_length, part_run, stop_run, good_run, good_given, had_short, runs_on, schedule_given, unfinished, cut, rest_short, rest_empty, rest_more, bad_rest, limit_is}
+use Rattle.spl_app.proofs.Given.{gave, given_length, part_run, front_run, stop_run, good_run, good_given, had_short, runs_on, schedule_given, unfinished, cut, rest_short, rest_empty, rest_more, bad_rest, limit_is}
 use Rattle.spl_app.proofs.replay.replay.Goals as goal
 
 pub run_lines-requires-clause-room : goal.run_lines-requires-clause-room
@@ -38,7 +41,7 @@ returns-in-Err-BadLine-clause-bad g c = λ line is.
     (inl found.0, found.1)
 
 pub returns-in-Err-BadLine-clause-complete : goal.returns-in-Err-BadLine-clause-complete
-returns-in-Err-BadLine-clause-complete g c = λ read wrote schedule.
+returns-in-Err-BadLine-clause-complete g c = λ calm read wrote schedule.
     let found = c.in-Err-BadLine.ensures.bad c.in-Err-BadLine.line (search rules) in
     absurd (runs_on (gave c.read_all-reading.ensures.taken c.head-text.ensures c.deref.ensures.value) _ _ _ c.read_all-reading.ensures.left schedule Bad _ found.0)
 
@@ -52,7 +55,7 @@ returns-in-Err-TooMany-clause-many g c = λ which is.
     (cc, record { number = number; stops = found.0; written = found.1 })
 
 pub returns-in-Err-TooMany-clause-complete : goal.returns-in-Err-TooMany-clause-complete
-returns-in-Err-TooMany-clause-complete g c = λ read wrote schedule.
+returns-in-Err-TooMany-clause-complete g c = λ calm read wrote schedule.
     let found = c.in-Err-TooMany.ensures.many c.in-Err-TooMany.line (search rules) in
     absurd (runs_on (gave c.read_all-reading.ensures.taken c.head-text.ensures c.deref.ensures.value) _ _ _ c.read_all-reading.ensures.left schedule Past _ found.0)
 
@@ -77,7 +80,7 @@ returns-in-TooLong-clause-long g c = λ _.
     (omega (arith, limit_is, c.read_all-reading.ensures.too_long.0 c.in-TooLong.is, given_length (gave c.read_all-reading.ensures.taken c.head-text.ensures c.deref.ensures.value)), good.0, rest_short (gave c.read_all-reading.ensures.taken c.head-text.ensures c.deref.ensures.value) _ c.rest_of-in-Ok.ensures c.if-rest_of-le-LONGEST_LINE.true, good.1)
 
 pub returns-in-TooLong-clause-complete : goal.returns-in-TooLong-clause-complete
-returns-in-TooLong-clause-complete g c = λ read wrote schedule.
+returns-in-TooLong-clause-complete g c = λ calm read wrote schedule.
     absurd (omega (arith, limit_is, had_short (gave c.read_all-reading.ensures.taken c.head-text.ensures c.deref.ensures.value) _ _ _ c.read_all-reading.ensures.left schedule, c.read_all-reading.ensures.too_long.0 c.in-TooLong.is))
 
 pub returns-in-Whole-2-clause-bad : goal.returns-in-Whole-2-clause-bad
@@ -100,5 +103,23 @@ returns-clause-bad g c = λ line is.
     (inr found.0, found.1)
 
 pub returns-clause-complete : goal.returns-clause-complete
-returns-clause-complete g c = λ read wrote schedule.
+returns-clause-complete g c = λ calm read wrote schedule.
     absurd (omega (arith, limit_is, had_short (gave c.read_all-reading.ensures.taken c.head-text.ensures c.deref.ensures.value) _ _ _ c.read_all-reading.ensures.left schedule, c.read_all-reading.ensures.too_long.0 c.in-TooLong-2.is))
+
+pub node-requires : goal.node-requires
+node-requires g c = rw c.in-Err-Disk.field-0-is (c.in-Err-Disk.ensures.place c.in-Err-Disk.slot (search rules))
+
+pub returns-in-Err-Disk-clause-part : goal.returns-in-Err-Disk-clause-part
+returns-in-Err-Disk-clause-part g c = part_run (gave c.read_all-reading.ensures.taken c.head-text.ensures c.deref.ensures.value) _ _ _ c.run_lines.ensures.part
+
+pub returns-in-Err-Disk-clause-disk : goal.returns-in-Err-Disk-clause-disk
+returns-in-Err-Disk-clause-disk g c = λ node is.
+    let same : c.node.result ≡ node = cc in
+    let front = c.in-Err-Disk.ensures.whole c.in-Err-Disk.slot (search rules) in
+    let rose = c.in-Err-Disk.ensures.disk c.in-Err-Disk.slot (search rules) in (
+      front_run (gave c.read_all-reading.ensures.taken c.head-text.ensures c.deref.ensures.value) _ _ front,
+      record { position = c.in-Err-Disk.slot; at = rw (← same) (rw c.in-Err-Disk.field-0-is at c.node.ensures); rose = rose },
+    )
+
+pub returns-in-Err-Disk-clause-complete : goal.returns-in-Err-Disk-clause-complete
+returns-in-Err-Disk-clause-complete g c = λ calm read wrote schedule. absurd (calm (c.in-Err-Disk.slot, c.in-Err-Disk.ensures.disk c.in-Err-Disk.slot (search rules)))

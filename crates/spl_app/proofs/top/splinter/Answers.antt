@@ -5,9 +5,10 @@ use Rattle.std.proofs.KnownBytes.{Appends-nil}
 use Rattle.spl_edge.specs.Causes.{AppendsPart}
 use Rattle.spl_circuit.specs.Nodes.{Node}
 use Rattle.spl_app.specs.Lines.{lines_of}
-use Rattle.spl_app.specs.Run.{IsRun, answers}
+use Rattle.spl_app.specs.Run.{HasFront, IsRun, answers}
 use Rattle.spl_app.specs.Schedule.{IsSchedule, IsBadAt, HasTooMany, had, run_of}
-use Rattle.spl_app.specs.Registered.{nodes_of}
+use Rattle.spl_app.specs.Registered.{nodes_in, nodes_of}
+use Rattle.spl_world.proofs.Leaving.{all_itself}
 use Rattle.spl_app.proofs.Given.{all_had}
 use Rattle.spl_app.proofs.Registries.{no_fault, had_no_fault, had_not_long}
 use Rattle.spl_app.proofs.top.splinter.Goals as goal
@@ -33,45 +34,45 @@ returns-in-Ok-clause-faulty g c = λ fault form sound bad short. absurd (no_faul
 pub returns-in-Ok-clause-ok : goal.returns-in-Ok-clause-ok
 returns-in-Ok-clause-ok g c = λ is.
     let given = appended_bytes (g.S.Source.taken c.args.schedule.now) (g.S.Source.taken c.replay.new.schedule) in
-    let (schedule, ended, wrote) = subst (λ (ns : List Node). IsSchedule ns given × IsAtEnd (g.S.Source.left c.replay.new.schedule) × Appends (g.W.Sink.written c.args.out.now) (g.W.Sink.written c.replay.new.out) (answers ns (lines_of given))) c.in-Ok.ensures.nodes (c.replay.ensures.ok is) in
+    let (schedule, ended, wrote) = subst (λ (ns : List Node). IsSchedule ns given × IsAtEnd (g.S.Source.left c.replay.new.schedule) × Appends (g.W.Sink.written c.args.out.now) (g.W.Sink.written c.replay.new.out) (answers ns (lines_of given))) (sym (ap nodes_in c.in-Ok.ensures.entries)) (c.replay.ensures.ok is) in
     (c.in-Ok.ensures.text, c.in-Ok.ensures.ended, schedule, ended, wrote)
 
 pub returns-in-Ok-clause-bad : goal.returns-in-Ok-clause-bad
 returns-in-Ok-clause-bad g c = λ line is.
     let given = appended_bytes (g.S.Source.taken c.args.schedule.now) (g.S.Source.taken c.replay.new.schedule) in
-    let (at, wrote) = subst (λ (ns : List Node). IsBadAt ns given (g.S.Source.left c.replay.new.schedule) line × Appends (g.W.Sink.written c.args.out.now) (g.W.Sink.written c.replay.new.out) (answers ns (take (line - 1) (run_of given)))) c.in-Ok.ensures.nodes (c.replay.ensures.bad line is) in
+    let (at, wrote) = subst (λ (ns : List Node). IsBadAt ns given (g.S.Source.left c.replay.new.schedule) line × Appends (g.W.Sink.written c.args.out.now) (g.W.Sink.written c.replay.new.out) (answers ns (take (line - 1) (run_of given)))) (sym (ap nodes_in c.in-Ok.ensures.entries)) (c.replay.ensures.bad line is) in
     (c.in-Ok.ensures.text, at, wrote)
 
 pub returns-in-Ok-clause-many : goal.returns-in-Ok-clause-many
 returns-in-Ok-clause-many g c = λ which is.
     let given = appended_bytes (g.S.Source.taken c.args.schedule.now) (g.S.Source.taken c.replay.new.schedule) in
     let found = c.replay.ensures.many which is in
-    (found.0, c.in-Ok.ensures.text, subst (λ (ns : List Node). HasTooMany ns given (g.W.Sink.written c.args.out.now) (g.W.Sink.written c.replay.new.out)) c.in-Ok.ensures.nodes found.1)
+    (found.0, c.in-Ok.ensures.text, subst (λ (ns : List Node). HasTooMany ns given (g.W.Sink.written c.args.out.now) (g.W.Sink.written c.replay.new.out)) (sym (ap nodes_in c.in-Ok.ensures.entries)) found.1)
 
 pub returns-in-Ok-clause-read : goal.returns-in-Ok-clause-read
 returns-in-Ok-clause-read g c = λ is.
     let given = appended_bytes (g.S.Source.taken c.args.schedule.now) (g.S.Source.taken c.replay.new.schedule) in
     let found = c.replay.ensures.read is in
-    let (run, wrote) = subst (λ (ns : List Node). IsRun ns (lines_of given) × Appends (g.W.Sink.written c.args.out.now) (g.W.Sink.written c.replay.new.out) (answers ns (lines_of given))) c.in-Ok.ensures.nodes (found.1, found.2) in
+    let (run, wrote) = subst (λ (ns : List Node). IsRun ns (lines_of given) × Appends (g.W.Sink.written c.args.out.now) (g.W.Sink.written c.replay.new.out) (answers ns (lines_of given))) (sym (ap nodes_in c.in-Ok.ensures.entries)) (found.1, found.2) in
     inr (found.0, c.in-Ok.ensures.text, run, wrote)
 
 pub returns-in-Ok-clause-long : goal.returns-in-Ok-clause-long
 returns-in-Ok-clause-long g c = λ is.
     let given = appended_bytes (g.S.Source.taken c.args.schedule.now) (g.S.Source.taken c.replay.new.schedule) in
     let found = c.replay.ensures.long is in
-    let (run, wrote) = subst (λ (ns : List Node). IsRun ns (run_of given) × Appends (g.W.Sink.written c.args.out.now) (g.W.Sink.written c.replay.new.out) (answers ns (run_of given))) c.in-Ok.ensures.nodes (found.1, found.3) in
+    let (run, wrote) = subst (λ (ns : List Node). IsRun ns (run_of given) × Appends (g.W.Sink.written c.args.out.now) (g.W.Sink.written c.replay.new.out) (answers ns (run_of given))) (sym (ap nodes_in c.in-Ok.ensures.entries)) (found.1, found.3) in
     inr (found.0, c.in-Ok.ensures.text, run, found.2, wrote)
 
 pub returns-in-Ok-clause-part : goal.returns-in-Ok-clause-part
 returns-in-Ok-clause-part g c =
     let given = appended_bytes (g.S.Source.taken c.args.schedule.now) (g.S.Source.taken c.replay.new.schedule) in
-    subst (λ (ns : List Node). AppendsPart (g.W.Sink.written c.args.out.now) (g.W.Sink.written c.replay.new.out) (answers ns (run_of given))) c.in-Ok.ensures.nodes c.replay.ensures.part
+    subst (λ (ns : List Node). AppendsPart (g.W.Sink.written c.args.out.now) (g.W.Sink.written c.replay.new.out) (answers ns (run_of given))) (sym (ap nodes_in c.in-Ok.ensures.entries)) c.replay.ensures.part
 
 pub returns-in-Ok-clause-complete : goal.returns-in-Ok-clause-complete
-returns-in-Ok-clause-complete g c = λ form sound read wrote text schedule.
+returns-in-Ok-clause-complete g c = λ form sound read wrote calm text schedule.
     let given = appended_bytes (g.S.Source.taken c.args.schedule.now) (g.S.Source.taken c.replay.new.schedule) in
-    let same = ap nodes_of (all_had (g.S.Source.left c.args.registry.now) (g.S.Source.left c.read_nodes.new.registry) (appended_bytes (g.S.Source.taken c.args.registry.now) (g.S.Source.taken c.read_nodes.new.registry)) c.read_nodes.ensures.taken c.in-Ok.ensures.ended) in
-    c.replay.ensures.complete read wrote (subst (λ (ns : List Node). IsSchedule ns (had (g.S.Source.left c.args.schedule.now) given)) (same ∙ sym c.in-Ok.ensures.nodes) schedule)
+    let same = ap nodes_of (all_had (g.S.Source.left c.args.registry.now) (g.S.Source.left c.read_registry.new.registry) (appended_bytes (g.S.Source.taken c.args.registry.now) (g.S.Source.taken c.read_registry.new.registry)) c.read_registry.ensures.taken c.in-Ok.ensures.ended) in
+    c.replay.ensures.complete calm read wrote (subst (λ (ns : List Node). IsSchedule ns (had (g.S.Source.left c.args.schedule.now) given)) (same ∙ ap nodes_in c.in-Ok.ensures.entries) schedule)
 
 pub returns-in-Err-Bad-clause-faulty : goal.returns-in-Err-Bad-clause-faulty
 returns-in-Err-Bad-clause-faulty g c = λ fault form sound bad short.
@@ -79,10 +80,32 @@ returns-in-Err-Bad-clause-faulty g c = λ fault form sound bad short.
     inl cc
 
 pub returns-in-Err-Bad-clause-complete : goal.returns-in-Err-Bad-clause-complete
-returns-in-Err-Bad-clause-complete g c = λ form sound read wrote text schedule.
+returns-in-Err-Bad-clause-complete g c = λ form sound read wrote calm text schedule.
     let found = c.in-Err-Bad.ensures.bad c.in-Err-Bad.fault (search rules) in
-    absurd (had_no_fault _ _ _ c.read_nodes.ensures.taken c.in-Err-Bad.fault found.1 text found.0)
+    absurd (had_no_fault _ _ _ c.read_registry.ensures.taken c.in-Err-Bad.fault found.1 text found.0)
 
 pub returns-in-Err-TooLong-clause-complete : goal.returns-in-Err-TooLong-clause-complete
-returns-in-Err-TooLong-clause-complete g c = λ form sound read wrote text schedule.
-    absurd (had_not_long _ _ _ c.read_nodes.ensures.taken text (c.in-Err-TooLong.ensures.long (search rules)))
+returns-in-Err-TooLong-clause-complete g c = λ form sound read wrote calm text schedule.
+    absurd (had_not_long _ _ _ c.read_registry.ensures.taken text (c.in-Err-TooLong.ensures.long (search rules)))
+
+pub returns-then-not-is_replay-clause-onward : goal.returns-then-not-is_replay-clause-onward
+returns-then-not-is_replay-clause-onward g c = all_itself _
+
+pub returns-in-Err-Bad-clause-onward : goal.returns-in-Err-Bad-clause-onward
+returns-in-Err-Bad-clause-onward g c = all_itself _
+
+pub returns-in-Err-Read-clause-onward : goal.returns-in-Err-Read-clause-onward
+returns-in-Err-Read-clause-onward g c = all_itself _
+
+pub returns-in-Err-TooLong-clause-onward : goal.returns-in-Err-TooLong-clause-onward
+returns-in-Err-TooLong-clause-onward g c = all_itself _
+
+pub returns-in-Err-NoMemory-clause-onward : goal.returns-in-Err-NoMemory-clause-onward
+returns-in-Err-NoMemory-clause-onward g c = all_itself _
+
+pub returns-in-Ok-clause-disk : goal.returns-in-Ok-clause-disk
+returns-in-Ok-clause-disk g c = λ node is.
+    let given = appended_bytes (g.S.Source.taken c.args.schedule.now) (g.S.Source.taken c.replay.new.schedule) in
+    let found = c.replay.ensures.disk node is in
+    let front = subst (λ (ns : List Node). HasFront ns (run_of given) (λ ls. Appends (g.W.Sink.written c.args.out.now) (g.W.Sink.written c.replay.new.out) (answers ns ls))) (sym (ap nodes_in c.in-Ok.ensures.entries)) found.0 in
+    (c.in-Ok.ensures.text, record { entries = c.in-Ok.found; spelled = c.in-Ok.ensures.entries; risen = found.1 }, front)

@@ -1,14 +1,17 @@
 use Rattle.std.proofs.Common.{Err, ◌≡◌, ◌-◌, ℕ, List, [], ◌∷◌, ◌++◌, take, sym, ◌∙◌, ap, subst, rules, arith}
 use Rattle.std.specs.List.{AllByRecursion}
 use Rattle.spl_circuit.specs.Nodes.{Node}
+use Rattle.spl_world.specs.Disks.{images}
+use Rattle.spl_world.proofs.Leaving.{all_then}
 use Rattle.spl_app.specs.declared.fault.RunFault.{RunFault}
-use Rattle.spl_app.specs.declared.fault.RunFault.TheVariants.{BadLine, TooMany}
+use Rattle.spl_app.specs.declared.fault.RunFault.TheVariants.{BadLine, TooMany, Disk}
 use Rattle.spl_app.specs.Lines.{lines_of}
 use Rattle.spl_app.specs.Run.{IsLine, IsRun, Bad, Past, StopsFor, answers}
 use Rattle.spl_app.specs.Due.{IsDue, IsDuePart}
 use Rattle.spl_app.specs.Behind.{IsBehind}
 use Rattle.spl_app.proofs.Dues.{due_same, due_whole}
 use Rattle.spl_app.proofs.Behinds.{at_own}
+use Rattle.spl_app.proofs.Benches.{rose_later}
 use Rattle.spl_app.proofs.Runs.{all-push, next_number, within, taken, behind, part_of_all, stops_at, none_left, all_counted}
 use Rattle.spl_app.proofs.run.Run.lines.Goals as goal
 
@@ -43,7 +46,7 @@ returns-in-Err-clause-part g c =
     let lines = lines_of c.args.text.now in
     let here = sym c.lines.invariant.left ∙ c.in-Some.ensures.0 in
     let front = take c.lines.count lines in
-    let part = c.line.ensures.part front _ (at_own _ _ _ _ _ c.lines.invariant.behind) (next_number lines c.lines.count c.lines.invariant.counted) in
+    let part = c.line.ensures.part front _ (at_own _ _ _ _ _ _ c.lines.invariant.behind) (next_number lines c.lines.count c.lines.invariant.counted) in
     part_of_all lines c.lines.count c.lines.invariant.counted c.in-Some.line.now (lines_of c.in-Some.behind.now) here _ _ _ _
     (subst (λ (ns : List Node). IsDuePart (g.W.Sink.written c.args.out.now) (g.W.Sink.written c.line.new.out) c.line.new.self.output (answers ns (front ++ c.in-Some.line.now ∷ []))) c.lines.invariant.behind.nodes part)
 
@@ -56,14 +59,16 @@ lines-preserved g c =
     let front = take c.lines.count lines in
     let more = sym (taken lines c.lines.count c.lines.invariant.counted line rest here) in
     let line_good = subst (λ (ns : List Node). IsLine ns line) c.lines.invariant.behind.nodes c.in_default-line.ensures.good in
-    let behind_line = c.in_default-line.ensures.ok front _ (at_own _ _ _ _ _ c.lines.invariant.behind) (next_number lines c.lines.count c.lines.invariant.counted) in
+    let behind_line = c.in_default-line.ensures.ok front _ (at_own _ _ _ _ _ _ c.lines.invariant.behind) (next_number lines c.lines.count c.lines.invariant.counted) in
     record {
       room = omega (arith, c.in-Some.ensures);
       left = sym (behind lines c.lines.count c.lines.invariant.counted line rest here);
       counted = omega (arith, within lines c.lines.count c.lines.invariant.counted line rest here);
       good = subst (AllByRecursion (IsLine c.args.self.now.nodes.items)) more (all-push _ _ _ c.lines.invariant.good line_good);
-      behind = subst (λ (ls : List (List ℕ)). IsBehind c.args.self.now.nodes.items ls c.line.new.self (g.W.Sink.written c.args.out.now) (g.W.Sink.written c.line.new.out)) more
-          (subst (λ (ns : List Node). IsBehind ns (front ++ line ∷ []) c.line.new.self (g.W.Sink.written c.args.out.now) (g.W.Sink.written c.line.new.out)) c.lines.invariant.behind.nodes behind_line);
+      behind = subst (λ (ls : List (List ℕ)). IsBehind c.args.self.now.nodes.items ls c.line.new.self (images g.D.Disk.image_at g.D.Disk.moment c.line.new.pairs.items) (g.W.Sink.written c.args.out.now) (g.W.Sink.written c.line.new.out)) more
+          (subst (λ (ns : List Node). IsBehind ns (front ++ line ∷ []) c.line.new.self (images g.D.Disk.image_at g.D.Disk.moment c.line.new.pairs.items) (g.W.Sink.written c.args.out.now) (g.W.Sink.written c.line.new.out)) c.lines.invariant.behind.nodes behind_line);
+      onward = all_then _ _ _ c.lines.invariant.onward c.line.ensures.onward;
+      seated = λ m seated. c.line.ensures.seated m (c.lines.invariant.seated m seated);
       later = search rules;
     }
 
@@ -84,3 +89,26 @@ pub returns-clause-part : goal.returns-clause-part
 returns-clause-part g c =
     let all = none_left (lines_of c.args.text.now) c.lines.count c.lines.invariant.counted (sym c.lines.invariant.left ∙ c.in_default.ensures) in
     due_whole _ _ _ _ (subst (λ (ls : List (List ℕ)). IsDue (g.W.Sink.written c.args.out.now) (g.W.Sink.written c.lines.out) c.lines.self.output (answers c.args.self.now.nodes.items ls)) all c.lines.invariant.behind.due)
+
+pub returns-in-Err-clause-whole : goal.returns-in-Err-clause-whole
+returns-in-Err-clause-whole g c = λ slot is.
+    let same : c.in-Err.fault ≡ Disk slot = cc in
+    let found = c.in-Err.ensures.whole slot (ap (λ (e : RunFault). Err e) same) in
+    record {
+      count = c.lines.count;
+      run = record { lines = c.lines.invariant.good; few = c.lines.invariant.behind.few };
+      holds = due_same _ _ _ c.lines.self.output _ _ found.1 found.0 c.lines.invariant.behind.due;
+    }
+
+pub returns-in-Err-clause-onward : goal.returns-in-Err-clause-onward
+returns-in-Err-clause-onward g c = all_then _ _ _ c.lines.invariant.onward c.line.ensures.onward
+
+pub returns-in-Err-clause-disk : goal.returns-in-Err-clause-disk
+returns-in-Err-clause-disk g c = λ slot is.
+    let same : c.in-Err.fault ≡ Disk slot = cc in
+    rose_later slot _ _ _ c.lines.invariant.onward c.line.ensures.onward (c.in-Err.ensures.disk slot (ap (λ (e : RunFault). Err e) same))
+
+pub returns-in-Err-clause-place : goal.returns-in-Err-clause-place
+returns-in-Err-clause-place g c = λ m slot seated is.
+    let same : c.in-Err.fault ≡ Disk slot = cc in
+    c.in-Err.ensures.place m slot (c.lines.invariant.seated m seated) (ap (λ (e : RunFault). Err e) same)

@@ -1,5 +1,7 @@
-use Rattle.std.proofs.Common.{◌≡◌, ◌≤◌, ◌+◌, length, take, drop}
+use Rattle.std.proofs.Common.{◌≡◌, ◌≤◌, ◌+◌, ℕ, length, take, drop}
 use Rattle.std.specs.List.{AllByRecursion}
+use Rattle.spl_world.specs.Disks.{AllGoOn, bench, images}
+use Rattle.spl_world.specs.Views.{IsSeated}
 use Rattle.spl_app.specs.Lines.{lines_of}
 use Rattle.spl_app.specs.Run.{IsLine}
 use Rattle.spl_app.specs.Behind.{IsBehind}
@@ -11,7 +13,9 @@ invariant-lines g l = record {
   left : lines_of l.rest ≡ drop l.count (lines_of l.text);
   counted : l.count ≤ length (lines_of l.text);
   good : AllByRecursion (IsLine l.initial.self.nodes.items) (take l.count (lines_of l.text));
-  behind : IsBehind l.initial.self.nodes.items (take l.count (lines_of l.text)) l.self (g.W.Sink.written l.initial.out) (g.W.Sink.written l.out);
+  behind : IsBehind l.initial.self.nodes.items (take l.count (lines_of l.text)) l.self (images g.D.Disk.image_at g.D.Disk.moment l.pairs.items) (g.W.Sink.written l.initial.out) (g.W.Sink.written l.out);
+  onward : AllGoOn (bench g.D.Disk.image_at g.D.Disk.moment g.D.Disk.faults g.D.Disk.armed g.D.Disk.picks l.initial.pairs.items) (bench g.D.Disk.image_at g.D.Disk.moment g.D.Disk.faults g.D.Disk.armed g.D.Disk.picks l.pairs.items);
+  seated : (m : ℕ) → IsSeated m l.initial.self.world → IsSeated m l.self.world;
   later : g.W.Sink.faults l.initial.out ≤ g.W.Sink.faults l.out;
 }
 

@@ -1,15 +1,19 @@
-use Rattle.std.proofs.Common.{ℕ, List, [], refl, rules, subst, sym}
+use Rattle.std.proofs.Common.{ℕ, List, [], rules, subst, sym}
+use Rattle.spl_world.proofs.Leaving.{leaves_ok}
 use Rattle.spl_app.specs.Due.{IsDue}
 use Rattle.spl_app.proofs.Dues.{due_waits}
 use Rattle.spl_app.proofs.Events.{none_within}
 use Rattle.spl_app.proofs.run.Run.new.Goals as goal
 
 pub returns-clause-behind : goal.returns-clause-behind
-returns-clause-behind c = λ start. record {
-  nodes = refl;
-  world = search rules;
-  running = search rules;
-  stands = search rules;
+returns-clause-behind g c = λ start. record {
+  nodes = c.in_ok-sorted_ids.ensures;
+  world = c.in_ok-new-2.ensures.ids;
+  running = c.in_ok-new-2.ensures.running;
+  stands = c.in_ok-new-2.ensures.stands;
   few = none_within _;
-  due = subst (λ (waiting : List ℕ). IsDue start start waiting []) (sym c.in_ok-new-2.ensures) (due_waits start []);
+  due = subst (λ (waiting : List ℕ). IsDue start start waiting []) (sym c.in_ok-new.ensures) (due_waits start []);
 }
+
+pub returns-clause-disks : goal.returns-clause-disks
+returns-clause-disks g c = leaves_ok _ _ _ c.new-3.ensures.disks.onward

@@ -1,8 +1,8 @@
-use Rattle.std.proofs.Common.{◌<◌, ◌≤◌, length, sym, ◌∙◌, ap, subst, arith}
+use Rattle.std.proofs.Common.{◌<◌, ◌≤◌, length, sym, ◌∙◌, ap, arith}
+use Rattle.spl_registry.specs.Tree.{registry_of}
 use Rattle.spl_app.specs.Lines.{limit}
-use Rattle.spl_app.specs.Registered.{Spells}
 use Rattle.spl_app.proofs.Given.{gives, limit_is}
-use Rattle.spl_app.proofs.registered.read_nodes.Goals as goal
+use Rattle.spl_app.proofs.registered.read_registry.Goals as goal
 
 pub returns-in-Ok-clause-text : goal.returns-in-Ok-clause-text
 returns-in-Ok-clause-text g c =
@@ -10,7 +10,7 @@ returns-in-Ok-clause-text g c =
     let short : length c.read_all-reading.result.bytes.items ≤ limit = omega (arith, no, limit_is) in
     let same = gives (g.S.Source.taken c.args.registry.now) (g.S.Source.taken c.read_all-reading.new.source) c.read_all-reading.result.bytes.items c.read_all-reading.ensures.taken in
     record {
-      spells = subst Spells (c.deref.ensures.value ∙ sym same) c.in-Ok.ensures.spells;
+      spells = (c.in-Ok.found, ap registry_of (same ∙ sym c.deref.ensures.value) ∙ c.in-Ok.ensures.ok);
       short = omega (arith, short, ap length same);
     }
 
