@@ -24,3 +24,8 @@ mod Ticking
 mod Turns
 mod Up
 pub mod Powering
+pub mod Holding
+pub mod HoldingNow
+pub mod HoldingStop
+pub mod HoldingSeats
+pub mod HoldingLines

@@ -4,3 +4,4 @@ pub mod Views
 pub mod Calms
 pub mod Counts
 pub mod Lines
+pub mod Held

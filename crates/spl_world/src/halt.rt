@@ -9,6 +9,7 @@ ghost use Rattle.spl_model.specs.Projection.{Ran};
 ghost use Rattle.spl_sched.specs.Grammar.{nodes_of, is_line};
 ghost use Rattle.spl_world.specs.Counts.{IsOver};
 ghost use Rattle.spl_world.specs.Disks.{StopsPair, bench, images};
+ghost use Rattle.spl_world.specs.Held.{AllHeld};
 ghost use Rattle.spl_world.specs.Lines.{stops};
 ghost use Rattle.spl_world.specs.Views.{Sits, Stands, ids_of, is_halted, places_of, seen, slot_id, slot_up, view_in};
 ghost use Rattle.spl_world.specs.declared.slot.Slot.{Slot as Seat};
@@ -48,6 +49,8 @@ impl World {
         // Where the node was up each of its two disks has one pick more; no other disk changed.
         ensures picks { (i : ℕ) (s : Seat) → slice_get self.old.slots.items i ≡ Some s → (before : List Ran) → Stands before self.old (images D.image_at D.moment pairs.old.items) → line.now ≡ Line.Stop (slot_id s) → OnOk result (StopsPair (slot_id s) (slot_up s) (view_in (seen D.image_at D.moment self.old pairs.old.items) s).cells s.position (bench D.image_at D.moment D.faults D.armed D.picks pairs.old.items) (bench D.image_at D.moment D.faults D.armed D.picks pairs.new.items)) }
         ensures sits { OnOk result (Sits (seen D.image_at D.moment self.new pairs.new.items)) }
+        // What the disks hold stands for what the nodes keep, and so does what they picked.
+        ensures held { (before : List Ran) → Stands before self.old (images D.image_at D.moment pairs.old.items) → AllHeld before self.old (bench D.image_at D.moment D.faults D.armed D.picks pairs.old.items) → OnOk result (AllHeld (before ++ by_rule line.now ∷ []) self.new (bench D.image_at D.moment D.faults D.armed D.picks pairs.new.items)) }
         ensures running { OnOk result (is_halted self.new ≡ false) }
         ensures halted { OnErr result (is_halted self.new ≡ true) }
     {

@@ -4,6 +4,7 @@ ghost use Rattle.spl_circuit.specs.Nodes.{sorted};
 ghost use Rattle.spl_circuit.specs.Rules.{ascends};
 ghost use Rattle.spl_registry.specs.Nodes.{ids_of as registered};
 ghost use Rattle.spl_world.specs.Disks.{AreBlank, LeavesDisks, bench, images, images_at};
+ghost use Rattle.spl_world.specs.Held.{AllHeld, AllUnpicked};
 ghost use Rattle.spl_world.specs.Views.{ArePlaced, Stands, ids_of, is_halted};
 
 use crate::events::Events;
@@ -50,6 +51,7 @@ impl World {
         ensures placed { IfOk result (ArePlaced registry.now) }
         ensures running { IfOk result (λ w. is_halted w ≡ false) }
         ensures stands { IfOk result (λ w. Stands [] w (images D.image_at D.moment pairs.new.items)) }
+        ensures held { AllUnpicked (bench D.image_at D.moment D.faults D.armed D.picks pairs.old.items) → IfOk result (λ w. AllHeld [] w (bench D.image_at D.moment D.faults D.armed D.picks pairs.new.items)) }
         ensures disks { LeavesDisks result (bench D.image_at D.moment D.faults D.armed D.picks pairs.old.items) (bench D.image_at D.moment D.faults D.armed D.picks pairs.new.items) }
     {
         let ids = sorted_ids(alloc, registry)?;

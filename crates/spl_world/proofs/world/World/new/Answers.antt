@@ -7,6 +7,7 @@ use Rattle.spl_world.specs.declared.slot.Slot.{Slot}
 use Rattle.spl_world.specs.Disks.{AreBlank, Images, images, images_of}
 use Rattle.spl_world.specs.Views.{slot_ids}
 use Rattle.spl_world.proofs.Handling.{one_leaves, one_onward}
+use Rattle.spl_world.proofs.HoldingLines.{held_first}
 use Rattle.spl_world.proofs.Leaving.{all_itself, all_then, leaves_failed, leaves_memory, leaves_ok, leaves_other, leaves_then}
 use Rattle.spl_world.proofs.Made.{AreMade, IsEntry, entry_at, entry_below, known_here, made_holds, made_placed, made_sits, none_made, one_more, still_there}
 use Rattle.spl_world.proofs.Pairing.{images_here, images_length, images_set, pair_here}
@@ -133,3 +134,6 @@ returns-clause-stands g c =
 
 pub returns-clause-disks : goal.returns-clause-disks
 returns-clause-disks g c = leaves_ok _ _ _ c.loop-id.invariant.onward
+
+pub returns-clause-held : goal.returns-clause-held
+returns-clause-held g c = λ unpicked. held_first g.D.Disk.image_at g.D.Disk.moment g.D.Disk.faults g.D.Disk.armed g.D.Disk.picks _ c.args.pairs.now.items c.loop-id.pairs.items (returns-clause-stands g c) unpicked c.loop-id.invariant.onward

@@ -1,0 +1,79 @@
+-- What the disks of nodes hold, and that it stands for their cells.
+use Rattle.std.proofs.Common.{◌≡◌, ℕ, zero, suc, List, [], ◌∷◌, slice_get, Option, Some, None, Result, Ok, Err, refl, ap, sym, subst, ◌∙◌}
+use Rattle.std.specs.Result.{IsOkAnd}
+use Rattle.spl_circuit.specs.Nodes.{NodeId, CircuitId}
+use Rattle.spl_edge.specs.Image.{Image}
+use Rattle.spl_edge.specs.Picks.{Picked}
+use Rattle.spl_edge.specs.declared.bench.Pair.{Pair}
+use Rattle.spl_edge.specs.declared.disk.Armed.{Armed}
+use Rattle.spl_model.specs.Projection.{Ran}
+use Rattle.spl_node.specs.Hosts.{host_cell}
+use Rattle.spl_node.specs.Records.{is_record}
+use Rattle.spl_node.specs.Stands.{Make, StandFor}
+use Rattle.spl_node.proofs.Hosting.{kept_stand}
+use Rattle.spl_rules.specs.Cells.{Cell}
+use Rattle.spl_rules.specs.Changes.{stopped_cell}
+use Rattle.spl_snapshot.specs.Counting.{IfBoth, pair_records}
+use Rattle.spl_world.specs.Disks.{Images, PairView, bench, images, images_at, pair_view}
+use Rattle.spl_world.specs.Held.{AllHeld, AllPicked, cells_behind}
+use Rattle.spl_world.specs.Views.{Stands, ids_of, places_of, slot_id, slot_ids, slot_places}
+use Rattle.spl_world.specs.declared.slot.Slot.{Slot}
+use Rattle.spl_world.specs.declared.world.World.{World}
+
+-- ---- disks that stand for the same cells
+
+makes_as : (n : NodeId) (f g : CircuitId → Cell) → ((c : CircuitId) → f c ≡ g c) → (r : Result (List (List ℕ)) ℕ) → IsOkAnd r (Make n f) → IsOkAnd r (Make n g)
+makes_as n f g same (Ok rs) h = λ c. h c ∙ ap stopped_cell (same c)
+makes_as n f g same (Err at) h = h
+
+pub stand_as : (n : NodeId) (f g : CircuitId → Cell) → ((c : CircuitId) → f c ≡ g c) → (o p : Option Image) → IfBoth o p (λ i j. StandFor n f i.bytes j.bytes) → IfBoth o p (λ i j. StandFor n g i.bytes j.bytes)
+stand_as n f g same None p h = tt
+stand_as n f g same (Some i) None h = tt
+stand_as n f g same (Some i) (Some j) h = makes_as n f g same (pair_records is_record i.bytes j.bytes) h
+
+-- ---- nodes that stand
+
+-- up or down, the disks of a node stand for its cells
+pub slot_held : (rs : List Ran) (w : World) (is : List Images) → Stands rs w is → (i : ℕ) (s : Slot) → slice_get w.slots.items i ≡ Some s
+    → IfBoth (images_at is s.position).0 (images_at is s.position).1 (λ i j. StandFor (slot_id s) (cells_behind (ids_of w) rs (slot_id s)) i.bytes j.bytes)
+slot_held rs w is stands i s there =
+    let q = images_at is s.position in
+    let host = stands.sits.each i s there in
+    stand_as (slot_id s) (host_cell s.host q.0 q.1) (cells_behind (ids_of w) rs (slot_id s)) (λ c. ((stands.each c).each i s there).state) q.0 q.1
+    (kept_stand s.host.id s.host.node q.0 q.1 host.up host.down)
+
+-- the node that has this id and this place
+pub record IsSlot (ss : List Slot) (i : ℕ) (n : NodeId) (k : ℕ) (s : Slot) : Type 0 where
+  pub there : slice_get ss i ≡ Some s
+  pub id_is : slot_id s ≡ n
+  pub place_is : s.position ≡ k
+
+pub slot_there : (ss : List Slot) (i : ℕ) (n : NodeId) (k : ℕ) → slice_get (slot_ids ss) i ≡ Some n → slice_get (slot_places ss) i ≡ Some k → (s : Slot) × IsSlot ss i n k s
+slot_there [] i n k e f = absurd cc
+slot_there (s ∷ ss) zero n k e f = let id : slot_id s ≡ n = cc in let place : s.position ≡ k = cc in (s, record { there = refl; id_is = id; place_is = place })
+slot_there (s ∷ ss) (suc i) n k e f = let r = slot_there ss i n k e f in (r.0, record { there = r.1.there; id_is = r.1.id_is; place_is = r.1.place_is })
+
+module _ {D : Type 0} (image_at : D → ℕ → Option Image) (moment faults : D → ℕ) (armed : D → Armed) (picks : D → List Picked) where
+  abbrev told : List (Pair D) → List PairView
+  told ps = bench image_at moment faults armed picks ps
+
+  -- what a pair tells is what it holds
+  told_images : (ps : List (Pair D)) (k : ℕ) (p : PairView) → slice_get (told ps) k ≡ Some p → images_at (images image_at moment ps) k ≡ (p.first.image_at p.first.moment, p.second.image_at p.second.moment)
+  told_images [] k p e = absurd cc
+  told_images (r ∷ ps) zero p e = let same : pair_view image_at moment faults armed picks r ≡ p = cc in ap (λ (v : PairView). (v.first.image_at v.first.moment, v.second.image_at v.second.moment)) same
+  told_images (r ∷ ps) (suc k) p e = told_images ps k p e
+
+  pub pair_held : (rs : List Ran) (w : World) (ps : List (Pair D)) → Stands rs w (images image_at moment ps) → (i : ℕ) (n : NodeId) (k : ℕ) (p : PairView) → slice_get (ids_of w) i ≡ Some n → slice_get (places_of w) i ≡ Some k → slice_get (told ps) k ≡ Some p
+      → IfBoth (p.first.image_at p.first.moment) (p.second.image_at p.second.moment) (λ i j. StandFor n (cells_behind (ids_of w) rs n) i.bytes j.bytes)
+  pair_held rs w ps stands i n k p at place there =
+      let f = slot_there w.slots.items i n k at place in
+      let s = f.0 in
+      let is : IsSlot w.slots.items i n k s = f.1 in
+      let q : images_at (images image_at moment ps) s.position ≡ (p.first.image_at p.first.moment, p.second.image_at p.second.moment) = ap (images_at (images image_at moment ps)) is.place_is ∙ told_images ps k p there in
+      subst (λ (m : NodeId). IfBoth (p.first.image_at p.first.moment) (p.second.image_at p.second.moment) (λ i j. StandFor m (cells_behind (ids_of w) rs m) i.bytes j.bytes)) is.id_is
+      (subst (λ (x : Images). IfBoth x.0 x.1 (λ i j. StandFor (slot_id s) (cells_behind (ids_of w) rs (slot_id s)) i.bytes j.bytes)) q
+      (slot_held rs w (images image_at moment ps) stands i s is.there))
+
+  -- the disks of all nodes hold what the nodes keep
+  pub all_held : (rs : List Ran) (w : World) (ps : List (Pair D)) → Stands rs w (images image_at moment ps) → AllPicked rs w (told ps) → AllHeld rs w (told ps)
+  all_held rs w ps stands picked = λ i n k p at place there. record { picked = picked i n k p at place there; now = pair_held rs w ps stands i n k p at place there }
