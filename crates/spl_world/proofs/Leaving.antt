@@ -6,6 +6,7 @@ use Rattle.spl_edge.specs.Image.{Image}
 use Rattle.spl_edge.specs.Picks.{Picked}
 use Rattle.spl_edge.specs.declared.bench.Pair.{Pair}
 use Rattle.spl_edge.specs.declared.disk.Armed.{Armed}
+use Rattle.spl_world.specs.Views.{IsPlace}
 use Rattle.spl_world.specs.declared.fault.WorldFault.{WorldFault}
 use Rattle.spl_world.specs.declared.fault.WorldFault.TheVariants.{Disk, NoMemory, TooMany}
 use Rattle.spl_world.specs.Disks.{DiskView, PairView, GoesOn, PairGoesOn, AllGoOn, HasRisen, RoseAt, LeavesDisks, bench, pair_view}
@@ -118,6 +119,15 @@ limit_no_disk (Err y) f n e is slot q = let same : y ≡ f = e.1 in cc
 pub memory_no_disk : {B : Type 0} (r : Result B WorldFault) → IsErr r × IsErrAnd r (λ y. y ≡ NoMemory) → (slot : ℕ) → IsErrOf r (Disk slot) → ⊥
 memory_no_disk (Ok b) e slot q = absurd e.1
 memory_no_disk (Err y) e slot q = let is : y ≡ NoMemory = e.1 in cc
+
+-- the place of the disk that failed is that of the call in it
+pub disk_at : {A B : Type 0} (ks ls : List ℕ) (r : Result B WorldFault) (f : WorldFault) → IsErr r × IsErrAnd r (λ y. y ≡ f) → ls ≡ ks → ((slot : ℕ) → IsErrOf (failed A f) (Disk slot) → IsPlace ls slot) → (slot : ℕ) → IsErrOf r (Disk slot) → IsPlace ks slot
+disk_at ks ls (Ok b) f e same k slot q = absurd e.1
+disk_at {A} ks ls (Err y) f e same k slot q = let is : y ≡ f = e.1 in let fault : f ≡ Disk slot = cc in subst (λ (ns : List ℕ). IsPlace ns slot) same (k slot (ap (failed A) fault))
+
+pub counted_no_disk : {A : Type 0} (r : Result A WorldFault) (n : ℕ) → OnErr r (IsErrOf r (TooMany n)) → (slot : ℕ) → IsErrOf r (Disk slot) → ⊥
+counted_no_disk (Ok a) n e slot q = cc
+counted_no_disk (Err f) n e slot q = cc
 
 -- ---- one pair
 

@@ -153,3 +153,8 @@ pub set_same : {X : Type 0} (xs : List X) (i : ℕ) (x : X) → slice_get xs i �
 set_same [] i x e = refl
 set_same (y ∷ xs) zero x e = let same : y ≡ x = cc in ap (λ z. z ∷ xs) (sym same)
 set_same (y ∷ xs) (suc i) x e = ap (λ zs. y ∷ zs) (set_same xs i x e)
+
+pub place_at : (xs : List Slot) (i : ℕ) (x : Slot) → slice_get xs i ≡ Some x → slice_get (slot_places xs) i ≡ Some x.position
+place_at [] i x h = absurd cc
+place_at (y ∷ xs) zero x h = let same : y ≡ x = cc in ap (λ (z : Slot). Some z.position) same
+place_at (y ∷ xs) (suc i) x h = place_at xs i x h

@@ -53,6 +53,10 @@ ups_of w = slot_ups w.slots.items
 abbrev pub places_of : World → List ℕ
 places_of w = slot_places w.slots.items
 
+-- one of them is this
+abbrev pub IsPlace : List ℕ → ℕ → Type 0
+IsPlace ks k = (i : ℕ) × (slice_get ks i ≡ Some k)
+
 -- the node of this index has this id
 abbrev pub IsAt : World → ℕ → NodeId → Type 0
 IsAt w i n = slice_get (ids_of w) i ≡ Some n

@@ -1,5 +1,5 @@
 //! A calm: passes of ticks and deliveries.
-ghost use Rattle.std.specs.Prelude.{◌≡◌, ◌+◌, ◌-◌, ◌<◌, ◌&&◌, List, length, false, true, IfOk, OnOk};
+ghost use Rattle.std.specs.Prelude.{◌≡◌, ◌+◌, ◌-◌, ◌<◌, ◌&&◌, List, length, false, true, IfOk, OnOk, ℕ, IsErrOf};
 ghost use Rattle.std.specs.List.{AllByRecursion};
 ghost use Rattle.std.specs.Str.{bytes_eq};
 ghost use Rattle.spl_circuit.specs.Nodes.{NodeId as Id};
@@ -10,7 +10,7 @@ ghost use Rattle.spl_rules.specs.Idle.{is_idle_note, is_idle};
 ghost use Rattle.spl_world.specs.Calms.{tick_at, tick_count, IsIdleTick, AreRows, IsSquare, row_of, sent_count};
 ghost use Rattle.spl_world.specs.Counts.{Counts};
 ghost use Rattle.spl_world.specs.Disks.{Images, LeavesDisks, bench};
-ghost use Rattle.spl_world.specs.Views.{Holds, IsAt, IsUp, Moves, Sits, Spares, places_of, ids_of, over, seen};
+ghost use Rattle.spl_world.specs.Views.{IsPlace, Holds, IsAt, IsUp, Moves, Sits, Spares, places_of, ids_of, over, seen};
 
 use crate::fault::WorldFault;
 use crate::world::World;
@@ -82,6 +82,7 @@ impl World {
         ensures moves { (n : Id) → IsAt self.old slot n → OnOk result (Moves circuit (tick_at circuit n) (seen D.image_at D.moment self.old pairs.old.items) (seen D.image_at D.moment self.new pairs.new.items)) }
         ensures sits { OnOk result (Sits (seen D.image_at D.moment self.new pairs.new.items)) }
         ensures disks { LeavesDisks result (bench D.image_at D.moment D.faults D.armed D.picks pairs.old.items) (bench D.image_at D.moment D.faults D.armed D.picks pairs.new.items) }
+        ensures place { (slot : ℕ) → IsErrOf result (WorldFault.Disk slot) → IsPlace (places_of self.old) slot }
     {
         if !self.is_open(slot, &circuit) {
             return Ok(false);
@@ -108,6 +109,7 @@ impl World {
         ensures moves { (z : Calming) → OnOk result (Moves circuit (λ m. (ticks circuit (record z { world = m }) (open_nodes m (ids_of self.old))).world) (seen D.image_at D.moment self.old pairs.old.items) (seen D.image_at D.moment self.new pairs.new.items)) }
         ensures sits { OnOk result (Sits (seen D.image_at D.moment self.new pairs.new.items)) }
         ensures disks { LeavesDisks result (bench D.image_at D.moment D.faults D.armed D.picks pairs.old.items) (bench D.image_at D.moment D.faults D.armed D.picks pairs.new.items) }
+        ensures place { (slot : ℕ) → IsErrOf result (WorldFault.Disk slot) → IsPlace (places_of self.old) slot }
     {
         let mut moved = false;
         for slot in 0..self.len() {
@@ -140,6 +142,7 @@ impl World {
         ensures moves { (z : Calming) (a b : Id) → IsAt self.old from a → IsAt self.old to b → OnOk result (Moves circuit (λ m. (delivers circuit (record z { world = m }) a b (taken + 1) (all - taken)).world) (seen D.image_at D.moment self.old pairs.old.items) (seen D.image_at D.moment self.new pairs.new.items)) }
         ensures sits { OnOk result (Sits (seen D.image_at D.moment self.new pairs.new.items)) }
         ensures disks { LeavesDisks result (bench D.image_at D.moment D.faults D.armed D.picks pairs.old.items) (bench D.image_at D.moment D.faults D.armed D.picks pairs.new.items) }
+        ensures place { (slot : ℕ) → IsErrOf result (WorldFault.Disk slot) → IsPlace (places_of self.old) slot }
     {
         for index in taken..all {
             self.events.add(1)?;
@@ -170,6 +173,7 @@ impl World {
         ensures moves { (z : Calming) (a b : Id) → IsAt self.old from a → IsAt self.old to b → z.taken a b ≡ taken → OnOk result (Moves circuit (λ m. (pair_turn circuit (record z { world = m }) a b).world) (seen D.image_at D.moment self.old pairs.old.items) (seen D.image_at D.moment self.new pairs.new.items)) }
         ensures sits { OnOk result (Sits (seen D.image_at D.moment self.new pairs.new.items)) }
         ensures disks { LeavesDisks result (bench D.image_at D.moment D.faults D.armed D.picks pairs.old.items) (bench D.image_at D.moment D.faults D.armed D.picks pairs.new.items) }
+        ensures place { (slot : ℕ) → IsErrOf result (WorldFault.Disk slot) → IsPlace (places_of self.old) slot }
     {
         if !self.is_up(to) {
             return Ok(taken);
@@ -203,6 +207,7 @@ impl World {
         ensures others { OnOk result (Spares circuit (seen D.image_at D.moment self.old pairs.old.items) (seen D.image_at D.moment self.new pairs.new.items)) }
         ensures sits { OnOk result (Sits (seen D.image_at D.moment self.new pairs.new.items)) }
         ensures disks { LeavesDisks result (bench D.image_at D.moment D.faults D.armed D.picks pairs.old.items) (bench D.image_at D.moment D.faults D.armed D.picks pairs.new.items) }
+        ensures place { (slot : ℕ) → IsErrOf result (WorldFault.Disk slot) → IsPlace (places_of self.old) slot }
     {
         for to in 0..self.len() {
             row[to] = self.pair_turn(alloc, pairs, circuit, from, to, row[to])?;
@@ -229,6 +234,7 @@ impl World {
         ensures others { OnOk result (Spares circuit (seen D.image_at D.moment self.old pairs.old.items) (seen D.image_at D.moment self.new pairs.new.items)) }
         ensures sits { OnOk result (Sits (seen D.image_at D.moment self.new pairs.new.items)) }
         ensures disks { LeavesDisks result (bench D.image_at D.moment D.faults D.armed D.picks pairs.old.items) (bench D.image_at D.moment D.faults D.armed D.picks pairs.new.items) }
+        ensures place { (slot : ℕ) → IsErrOf result (WorldFault.Disk slot) → IsPlace (places_of self.old) slot }
     {
         for from in 0..self.len() {
             self.to_all(alloc, pairs, circuit, from, &mut rows[from])?;
@@ -256,6 +262,7 @@ impl World {
         ensures others { OnOk result (Spares circuit (seen D.image_at D.moment self.old pairs.old.items) (seen D.image_at D.moment self.new pairs.new.items)) }
         ensures sits { OnOk result (Sits (seen D.image_at D.moment self.new pairs.new.items)) }
         ensures disks { LeavesDisks result (bench D.image_at D.moment D.faults D.armed D.picks pairs.old.items) (bench D.image_at D.moment D.faults D.armed D.picks pairs.new.items) }
+        ensures place { (slot : ℕ) → IsErrOf result (WorldFault.Disk slot) → IsPlace (places_of self.old) slot }
     {
         let moved = self.tick_all(alloc, pairs, circuit)?;
         let ticked = self.events.count();
@@ -281,6 +288,7 @@ impl World {
         ensures moves { OnOk result (Moves circuit (λ m. (calm circuit m passes).world) (seen D.image_at D.moment self.old pairs.old.items) (seen D.image_at D.moment self.new pairs.new.items)) }
         ensures sits { OnOk result (Sits (seen D.image_at D.moment self.new pairs.new.items)) }
         ensures disks { LeavesDisks result (bench D.image_at D.moment D.faults D.armed D.picks pairs.old.items) (bench D.image_at D.moment D.faults D.armed D.picks pairs.new.items) }
+        ensures place { (slot : ℕ) → IsErrOf result (WorldFault.Disk slot) → IsPlace (places_of self.old) slot }
     {
         let mut rows = self.rows(alloc, &circuit)?;
         for done in 0..passes {

@@ -13,7 +13,7 @@ use Rattle.spl_world.proofs.Composed.{spares_then}
 use Rattle.spl_world.proofs.Results.{on_ok}
 use Rattle.spl_world.proofs.Slots.{same_length}
 use Rattle.spl_world.specs.Disks.{images}
-use Rattle.spl_world.proofs.Leaving.{all_itself, all_then, leaves_counted, leaves_failed, leaves_memory, leaves_ok, leaves_then}
+use Rattle.spl_world.proofs.Leaving.{all_itself, all_then, leaves_counted, leaves_failed, leaves_memory, leaves_ok, leaves_then, memory_no_disk, disk_at, counted_no_disk}
 use Rattle.spl_world.proofs.world.World.calm.Goals as goal
 
 pub pass-requires-clause-square : goal.pass-requires-clause-square
@@ -125,3 +125,12 @@ returns-then-not-branch-clause-disks g c = leaves_counted c.add.result 1 c.add.e
 
 pub returns-clause-disks : goal.returns-clause-disks
 returns-clause-disks g c = leaves_ok _ _ _ c.loop-done.invariant.7
+
+pub returns-in_err-rows-clause-place : goal.returns-in_err-rows-clause-place
+returns-in_err-rows-clause-place g c = λ slot q. absurd (memory_no_disk c.from_residual.result c.from_residual.ensures slot q)
+
+pub returns-in_err-pass-clause-place : goal.returns-in_err-pass-clause-place
+returns-in_err-pass-clause-place g c = disk_at _ _ c.from_residual-in_err-pass.result _ c.from_residual-in_err-pass.ensures c.loop-done.invariant.8 c.in_err-pass.ensures.place
+
+pub returns-then-not-branch-clause-place : goal.returns-then-not-branch-clause-place
+returns-then-not-branch-clause-place g c = λ slot q. absurd (counted_no_disk c.add.result 1 c.add.ensures.fault slot q)

@@ -8,7 +8,7 @@ use Rattle.spl_world.proofs.Counting.{counts_done, counts_more, counts_failed, c
 use Rattle.spl_world.proofs.Delivery.{moves_as}
 use Rattle.spl_world.proofs.Slots.{same_length}
 use Rattle.spl_world.proofs.Turns.{delivered, deliver_more}
-use Rattle.spl_world.proofs.Leaving.{all_itself, all_then, leaves_failed, leaves_limit, leaves_ok, leaves_then}
+use Rattle.spl_world.proofs.Leaving.{all_itself, all_then, leaves_failed, leaves_limit, leaves_ok, leaves_then, limit_no_disk, disk_at}
 use Rattle.spl_world.proofs.world.World.deliver_from.Goals as goal
 
 pub deliver-requires-clause-from_below : goal.deliver-requires-clause-from_below
@@ -95,3 +95,9 @@ returns-in_err-deliver-clause-disks g c = leaves_failed c.from_residual-in_err-d
 
 pub returns-clause-disks : goal.returns-clause-disks
 returns-clause-disks g c = leaves_ok _ _ _ c.loop-index.invariant.8
+
+pub returns-in_err-add-clause-place : goal.returns-in_err-add-clause-place
+returns-in_err-add-clause-place g c = λ slot q. absurd (limit_no_disk c.from_residual.result _ 1 c.from_residual.ensures c.in_err-add.ensures.fault slot q)
+
+pub returns-in_err-deliver-clause-place : goal.returns-in_err-deliver-clause-place
+returns-in_err-deliver-clause-place g c = disk_at _ _ c.from_residual-in_err-deliver.result _ c.from_residual-in_err-deliver.ensures c.loop-index.invariant.9 c.in_err-deliver.ensures.place

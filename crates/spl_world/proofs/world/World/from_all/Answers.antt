@@ -11,7 +11,7 @@ use Rattle.spl_world.proofs.Composed.{spares_then}
 use Rattle.spl_world.proofs.Counting.{counts_done, counts_then, counts_failed, failed, at_most}
 use Rattle.spl_world.proofs.Slots.{some_at, same_length, length_ids, set_length}
 use Rattle.spl_world.proofs.Turns.{sender_own, from_all_next, square_set}
-use Rattle.spl_world.proofs.Leaving.{all_itself, all_then, leaves_failed, leaves_ok, leaves_then}
+use Rattle.spl_world.proofs.Leaving.{all_itself, all_then, leaves_failed, leaves_ok, leaves_then, disk_at}
 use Rattle.spl_world.proofs.world.World.from_all.Goals as goal
 
 pub loop-from-preserved : goal.loop-from-preserved
@@ -96,3 +96,6 @@ returns-in_err-to_all-clause-disks g c = leaves_failed c.from_residual.result _ 
 
 pub returns-clause-disks : goal.returns-clause-disks
 returns-clause-disks g c = leaves_ok _ _ _ c.loop-from.invariant.7
+
+pub returns-in_err-to_all-clause-place : goal.returns-in_err-to_all-clause-place
+returns-in_err-to_all-clause-place g c = disk_at _ _ c.from_residual.result _ c.from_residual.ensures c.loop-from.invariant.8 c.in_err-to_all.ensures.place

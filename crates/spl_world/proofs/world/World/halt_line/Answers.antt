@@ -1,5 +1,4 @@
 use Rattle.std.proofs.Common.{◌≡◌, ◌+◌, ◌∙◌, [], Some, ℕ, false, inl, inr, ap, sym, refl, slice_get, arith}
-use Rattle.spl_sched.specs.declared.line.Line.{Line}
 use Rattle.spl_sched.specs.declared.line.Line.TheVariants as line
 use Rattle.spl_model.specs.Outcomes.{by_rule}
 use Rattle.spl_world.specs.Disks.{images}

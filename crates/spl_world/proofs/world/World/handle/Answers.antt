@@ -1,4 +1,4 @@
-use Rattle.std.proofs.Common.{◌∙◌, arith, ap, refl, sym, length}
+use Rattle.std.proofs.Common.{Some, ◌∙◌, arith, ap, refl, sym, length}
 use Rattle.std.proofs.lemmas.Option.{slice_get_read}
 use Rattle.spl_model.specs.Worlds.{site_at}
 use Rattle.spl_rules.specs.Plans.{plan_of}
@@ -8,7 +8,7 @@ use Rattle.spl_world.specs.Views.{seen, slot_id}
 use Rattle.spl_world.proofs.Handling.{pair_below, own_stands, own_view, own_sits, own_moves, one_leaves}
 use Rattle.spl_world.proofs.Moving.{same_plan}
 use Rattle.spl_world.proofs.Results.{at_ok, ok_both, when_ok}
-use Rattle.spl_world.proofs.Slots.{same_ids, same_places, id_at}
+use Rattle.spl_world.proofs.Slots.{same_ids, same_places, id_at, place_at}
 use Rattle.spl_world.proofs.Up.{is_there_up, same_ups}
 use Rattle.spl_world.proofs.world.World.handle.Goals as goal
 
@@ -96,3 +96,10 @@ returns-clause-disks g c =
     let below = pair_below g.D.Disk.image_at g.D.Disk.moment ss ps c.args.slot s c.requires.sits there c.position.result c.position.ensures in
     let pair = slice_get_read ps (length ps) c.position.result c.index_mut-disks.result.now refl below c.index_mut-disks.ensures.value in
     one_leaves g.D.Disk.image_at g.D.Disk.moment g.D.Disk.faults g.D.Disk.armed g.D.Disk.picks c.handle.result ps c.position.result c.index_mut-disks.result.now c.handle.new.disks s.position pair c.position.ensures c.handle.ensures.onward c.handle.ensures.failed
+
+pub returns-clause-place : goal.returns-clause-place
+returns-clause-place g c = λ slot q.
+    let ss = c.args.self.now.slots.items in
+    let s = c.index_mut-here.result.now in
+    let at = place_at ss c.args.slot s (slice_get_read ss (length ss) c.args.slot s refl c.requires.below c.index_mut-here.ensures.value) in
+    (c.args.slot, at ∙ ap Some (sym (c.handle.ensures.failed slot q).0))

@@ -8,7 +8,7 @@ use Rattle.spl_world.proofs.Reading.{no_messages}
 use Rattle.spl_world.proofs.Turns.{delivered, same_turn, turn_is, turn_none, turn_taken, turns_count, none_delivered}
 use Rattle.spl_world.specs.Views.{seen}
 use Rattle.spl_world.specs.Disks.{images}
-use Rattle.spl_world.proofs.Leaving.{leaves_failed, leaves_ok, leaves_same}
+use Rattle.spl_world.proofs.Leaving.{leaves_failed, leaves_ok, leaves_same, disk_at}
 use Rattle.spl_world.proofs.world.World.pair_turn.Goals as goal
 
 -- the recipient is down
@@ -85,3 +85,6 @@ returns-in_err-deliver_from-clause-disks g c = leaves_failed c.from_residual.res
 
 pub returns-clause-disks : goal.returns-clause-disks
 returns-clause-disks g c = leaves_ok _ _ _ c.in_ok-deliver_from.ensures.disks.onward
+
+pub returns-in_err-deliver_from-clause-place : goal.returns-in_err-deliver_from-clause-place
+returns-in_err-deliver_from-clause-place g c = disk_at _ _ c.from_residual.result _ c.from_residual.ensures refl c.in_err-deliver_from.ensures.place

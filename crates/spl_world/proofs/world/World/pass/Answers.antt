@@ -11,7 +11,7 @@ use Rattle.spl_world.proofs.Counting.{counts_done, counts_more, counts_then, cou
 use Rattle.spl_world.proofs.Slots.{same_length}
 use Rattle.spl_world.proofs.Ticking.{or_false}
 use Rattle.spl_world.proofs.Turns.{rows_same, ticks_taken, some_calming}
-use Rattle.spl_world.proofs.Leaving.{all_then, leaves_failed, leaves_ok, leaves_then}
+use Rattle.spl_world.proofs.Leaving.{all_then, leaves_failed, leaves_ok, leaves_then, disk_at}
 use Rattle.spl_world.proofs.world.World.pass.Goals as goal
 
 pub from_all-requires-clause-square : goal.from_all-requires-clause-square
@@ -81,3 +81,9 @@ returns-in_err-from_all-clause-disks g c = leaves_failed c.from_residual-in_err-
 
 pub returns-clause-disks : goal.returns-clause-disks
 returns-clause-disks g c = leaves_ok _ _ _ (all_then _ _ _ c.in_ok-moved.ensures.disks.onward c.in_ok-from_all.ensures.disks.onward)
+
+pub returns-in_err-moved-clause-place : goal.returns-in_err-moved-clause-place
+returns-in_err-moved-clause-place g c = disk_at _ _ c.from_residual.result _ c.from_residual.ensures refl c.in_err-moved.ensures.place
+
+pub returns-in_err-from_all-clause-place : goal.returns-in_err-from_all-clause-place
+returns-in_err-from_all-clause-place g c = disk_at _ _ c.from_residual-in_err-from_all.result _ c.from_residual-in_err-from_all.ensures c.tick_all.ensures.places c.in_err-from_all.ensures.place

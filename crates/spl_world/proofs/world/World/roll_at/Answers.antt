@@ -2,16 +2,11 @@ use Rattle.std.proofs.Common.{◌≡◌, ◌∙◌, ◌++◌, ◌∷◌, [], ap,
 use Rattle.std.proofs.lemmas.Option.{slice_get_read}
 use Rattle.spl_circuit.specs.Nodes.{CircuitId}
 use Rattle.spl_sched.specs.declared.line.Line.TheVariants as line
-use Rattle.spl_wire.specs.declared.answer.Answer.{Answer}
 use Rattle.spl_wire.specs.declared.answer.Answer.TheVariants as answer
 use Rattle.spl_wire.specs.declared.answer.Refusal.TheVariants as refusal
 use Rattle.spl_model.specs.Answers.{bound_at, is_up}
 use Rattle.spl_model.specs.Outcomes.{by_rule}
-use Rattle.spl_model.specs.Projection.{Ran}
-use Rattle.spl_projection.specs.Apart.{moves-beside}
 use Rattle.spl_projection.specs.Whole.{whole_world}
-use Rattle.spl_projection.proofs.Ups.{whole-up}
-use Rattle.spl_model.specs.Worlds.{World as CircuitWorld}
 use Rattle.spl_world.proofs.Up.{is_there_up}
 use Rattle.spl_world.specs.Disks.{images_at}
 use Rattle.spl_world.specs.Views.{ids_of, over, view_in}

@@ -6,7 +6,7 @@ use Rattle.spl_projection.specs.Whole.{whole_world}
 use Rattle.spl_world.specs.Disks.{images}
 use Rattle.spl_world.specs.Views.{ids_of, seen}
 use Rattle.spl_world.proofs.Counting.{counts_failed, at_least}
-use Rattle.spl_world.proofs.Leaving.{all_itself, leaves_failed, leaves_limit, leaves_ok}
+use Rattle.spl_world.proofs.Leaving.{all_itself, leaves_failed, leaves_limit, leaves_ok, limit_no_disk, disk_at, memory_no_disk}
 use Rattle.spl_world.proofs.Powering.{stands_start, stands_roll}
 use Rattle.spl_world.proofs.Results.{ok_both}
 use Rattle.spl_world.proofs.Standing.{stands_after, counted_line, over_line, step_result, calm_answered, power_answered}
@@ -111,3 +111,21 @@ pub returns-in_err-add-in-Roll-clause-many : goal.returns-in_err-add-in-Roll-cla
 returns-in_err-add-in-Roll-clause-many g c = λ before which stands q.
     let l = line.Roll c.in-Roll.node in
     rw (c.in-Roll.is) (over_line c.from_residual-in_err-add-in-Roll.result 0 which c.args.self.now (images g.D.Disk.image_at g.D.Disk.moment c.args.pairs.now.items) before l 1 stands (rw (c.in-Roll.is) at c.requires.fits) refl (counts_failed c.from_residual-in_err-add-in-Roll.result _ c.from_residual-in_err-add-in-Roll.ensures c.args.self.now.events _ 0 0 1 1 c.in_err-add-in-Roll.ensures.counts (at_least 1 1 refl)) q)
+
+pub returns-in_err-add-in-Step-clause-place : goal.returns-in_err-add-in-Step-clause-place
+returns-in_err-add-in-Step-clause-place g c = λ slot q. absurd (limit_no_disk c.from_residual.result _ 1 c.from_residual.ensures c.in_err-add-in-Step.ensures.fault slot q)
+
+pub returns-in_err-calm-in-Calm-clause-place : goal.returns-in_err-calm-in-Calm-clause-place
+returns-in_err-calm-in-Calm-clause-place g c = disk_at _ _ c.from_residual-in_err-calm-in-Calm.result _ c.from_residual-in_err-calm-in-Calm.ensures refl c.in_err-calm-in-Calm.ensures.place
+
+pub returns-in_err-add-in-Start-clause-place : goal.returns-in_err-add-in-Start-clause-place
+returns-in_err-add-in-Start-clause-place g c = λ slot q. absurd (limit_no_disk c.from_residual-in_err-add-in-Start.result _ 1 c.from_residual-in_err-add-in-Start.ensures c.in_err-add-in-Start.ensures.fault slot q)
+
+pub returns-in_err-add-in-Roll-clause-place : goal.returns-in_err-add-in-Roll-clause-place
+returns-in_err-add-in-Roll-clause-place g c = λ slot q. absurd (limit_no_disk c.from_residual-in_err-add-in-Roll.result _ 1 c.from_residual-in_err-add-in-Roll.ensures c.in_err-add-in-Roll.ensures.fault slot q)
+
+pub returns-in_err-start_at-in-Start-clause-place : goal.returns-in_err-start_at-in-Start-clause-place
+returns-in_err-start_at-in-Start-clause-place g c = disk_at _ _ c.from_residual-in_err-start_at-in-Start.result _ c.from_residual-in_err-start_at-in-Start.ensures refl c.in_err-start_at-in-Start.ensures.place
+
+pub returns-in_err-roll_at-in-Roll-clause-place : goal.returns-in_err-roll_at-in-Roll-clause-place
+returns-in_err-roll_at-in-Roll-clause-place g c = λ slot q. absurd (memory_no_disk c.from_residual-in_err-roll_at-in-Roll.result c.from_residual-in_err-roll_at-in-Roll.ensures slot q)

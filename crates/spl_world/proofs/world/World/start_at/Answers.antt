@@ -1,16 +1,14 @@
-use Rattle.std.proofs.Common.{◌≡◌, ◌∙◌, arith, ap, refl, sym, subst, length, slice_get, Some, slice_set}
+use Rattle.std.proofs.Common.{◌∙◌, arith, ap, refl, sym, subst, length, Some, slice_set}
 use Rattle.std.proofs.lemmas.Option.{slice_get_read}
-use Rattle.spl_circuit.specs.Nodes.{NodeId, CircuitId}
-use Rattle.spl_model.specs.Worlds.{Starts, Stops, happens}
-use Rattle.spl_rules.specs.Changes.{stopped_cell}
-use Rattle.spl_rules.specs.Cells.{Cell}
+use Rattle.spl_circuit.specs.Nodes.{NodeId}
+use Rattle.spl_model.specs.Worlds.{Starts, happens}
 use Rattle.spl_world.specs.Disks.{images, images_of}
 use Rattle.spl_world.specs.Kept.{NodeView}
-use Rattle.spl_world.specs.Views.{Holds, Nodes, seen, slot_id, slot_up, node_view, view_in}
-use Rattle.spl_world.proofs.Handling.{pair_below, own_stands, own_view, own_sits, own_by, one_leaves, one_stops}
-use Rattle.spl_world.proofs.Powering.{starts, stops}
+use Rattle.spl_world.specs.Views.{Holds, Nodes, seen, slot_id}
+use Rattle.spl_world.proofs.Handling.{pair_below, own_stands, own_view, own_sits, own_by, one_leaves}
+use Rattle.spl_world.proofs.Powering.{starts}
 use Rattle.spl_world.proofs.Results.{at_ok, ok_both}
-use Rattle.spl_world.proofs.Slots.{same_at, same_ids, same_places}
+use Rattle.spl_world.proofs.Slots.{same_at, same_ids, same_places, place_at}
 use Rattle.spl_world.proofs.world.World.start_at.Goals as goal
 
 pub index_mut-disks-requires : goal.index_mut-disks-requires
@@ -76,3 +74,10 @@ returns-clause-disks g c =
     let below = pair_below g.D.Disk.image_at g.D.Disk.moment ss ps c.args.slot s c.requires.sits there c.position.result c.position.ensures in
     let pair = slice_get_read ps (length ps) c.position.result c.index_mut-disks.result.now refl below c.index_mut-disks.ensures.value in
     one_leaves g.D.Disk.image_at g.D.Disk.moment g.D.Disk.faults g.D.Disk.armed g.D.Disk.picks c.start.result ps c.position.result c.index_mut-disks.result.now c.start.new.disks s.position pair c.position.ensures c.start.ensures.onward c.start.ensures.failed
+
+pub returns-clause-place : goal.returns-clause-place
+returns-clause-place g c = λ slot q.
+    let ss = c.args.self.now.slots.items in
+    let s = c.index_mut-here.result.now in
+    let at = place_at ss c.args.slot s (slice_get_read ss (length ss) c.args.slot s refl c.requires.below c.index_mut-here.ensures.value) in
+    (c.args.slot, at ∙ ap Some (sym (c.start.ensures.failed slot q).0))

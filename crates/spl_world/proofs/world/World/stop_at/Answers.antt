@@ -1,15 +1,14 @@
-use Rattle.std.proofs.Common.{◌≡◌, ◌∙◌, arith, ap, refl, sym, subst, length, slice_get, Some, slice_set}
+use Rattle.std.proofs.Common.{◌≡◌, ◌∙◌, arith, ap, refl, sym, subst, length, Some, slice_set}
 use Rattle.std.proofs.lemmas.Option.{slice_get_read}
-use Rattle.spl_circuit.specs.Nodes.{NodeId, CircuitId}
-use Rattle.spl_model.specs.Worlds.{Starts, Stops, happens}
+use Rattle.spl_circuit.specs.Nodes.{NodeId}
+use Rattle.spl_model.specs.Worlds.{Stops, happens}
 use Rattle.spl_rules.specs.Changes.{stopped_cell}
-use Rattle.spl_rules.specs.Cells.{Cell}
 use Rattle.spl_world.specs.Disks.{BothPicked, StopsPair, bench, images, images_of, pair_view}
 use Rattle.spl_world.specs.Kept.{NodeView}
-use Rattle.spl_world.specs.Views.{Holds, Nodes, seen, slot_id, slot_up, node_view, view_in}
+use Rattle.spl_world.specs.Views.{Holds, Nodes, seen, slot_id, slot_up, view_in}
 use Rattle.spl_world.specs.declared.slot.Slot.{Slot}
-use Rattle.spl_world.proofs.Handling.{pair_below, own_stands, own_view, own_sits, own_by, one_leaves, one_stops}
-use Rattle.spl_world.proofs.Powering.{starts, stops}
+use Rattle.spl_world.proofs.Handling.{pair_below, own_stands, own_view, own_sits, own_by, one_stops}
+use Rattle.spl_world.proofs.Powering.{stops}
 use Rattle.spl_world.proofs.Results.{at_ok, ok_both}
 use Rattle.spl_world.proofs.Slots.{same_at, same_ids, same_places}
 use Rattle.spl_world.proofs.world.World.stop_at.Goals as goal

@@ -14,7 +14,7 @@ use Rattle.spl_world.proofs.Ticking.{opened_tick, idle_told, not_false}
 use Rattle.spl_world.proofs.Up.{world_up}
 use Rattle.spl_world.specs.Views.{seen}
 use Rattle.spl_world.specs.Disks.{images}
-use Rattle.spl_world.proofs.Leaving.{all_itself, leaves_failed, leaves_limit, leaves_ok, leaves_same}
+use Rattle.spl_world.proofs.Leaving.{all_itself, leaves_failed, leaves_limit, leaves_ok, leaves_same, limit_no_disk, disk_at}
 use Rattle.spl_world.proofs.world.World.tick.Goals as goal
 
 -- ---- where the node isn't open
@@ -71,3 +71,9 @@ returns-in_err-answer-clause-disks g c = leaves_failed c.from_residual-in_err-an
 
 pub returns-clause-disks : goal.returns-clause-disks
 returns-clause-disks g c = leaves_ok _ _ _ c.in_ok-answer.ensures.disks.onward
+
+pub returns-in_err-add-clause-place : goal.returns-in_err-add-clause-place
+returns-in_err-add-clause-place g c = λ slot q. absurd (limit_no_disk c.from_residual.result _ 1 c.from_residual.ensures c.in_err-add.ensures.fault slot q)
+
+pub returns-in_err-answer-clause-place : goal.returns-in_err-answer-clause-place
+returns-in_err-answer-clause-place g c = disk_at _ _ c.from_residual-in_err-answer.result _ c.from_residual-in_err-answer.ensures refl c.in_err-answer.ensures.place

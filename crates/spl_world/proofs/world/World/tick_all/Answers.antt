@@ -11,7 +11,7 @@ use Rattle.spl_world.proofs.Counting.{counts_done, counts_more, counts_failed, a
 use Rattle.spl_world.proofs.Slots.{some_at, same_length, length_ids, not_before}
 use Rattle.spl_world.proofs.Ticking.{ticked, tick_moves, count_more, idle_more, open_front, or_false}
 use Rattle.spl_world.proofs.Turns.{some_calming}
-use Rattle.spl_world.proofs.Leaving.{all_itself, all_then, leaves_failed, leaves_ok, leaves_then}
+use Rattle.spl_world.proofs.Leaving.{all_itself, all_then, leaves_failed, leaves_ok, leaves_then, disk_at}
 use Rattle.spl_world.proofs.world.World.tick_all.Goals as goal
 
 pub loop-slot-preserved : goal.loop-slot-preserved
@@ -82,3 +82,6 @@ returns-in_err-one-clause-disks g c = leaves_failed c.from_residual.result _ c.f
 
 pub returns-clause-disks : goal.returns-clause-disks
 returns-clause-disks g c = leaves_ok _ _ _ c.loop-slot.invariant.6
+
+pub returns-in_err-one-clause-place : goal.returns-in_err-one-clause-place
+returns-in_err-one-clause-place g c = disk_at _ _ c.from_residual.result _ c.from_residual.ensures c.loop-slot.invariant.7 c.in_err-one.ensures.place

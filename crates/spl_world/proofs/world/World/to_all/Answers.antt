@@ -9,7 +9,7 @@ use Rattle.spl_world.proofs.Composed.{spares_then}
 use Rattle.spl_world.proofs.Counting.{counts_done, counts_then, counts_failed, at_most}
 use Rattle.spl_world.proofs.Slots.{some_at, same_length, length_ids, set_length}
 use Rattle.spl_world.proofs.Turns.{turn_own, to_all_next, row_at, some_calming}
-use Rattle.spl_world.proofs.Leaving.{all_itself, all_then, leaves_failed, leaves_ok, leaves_then}
+use Rattle.spl_world.proofs.Leaving.{all_itself, all_then, leaves_failed, leaves_ok, leaves_then, disk_at}
 use Rattle.spl_world.proofs.world.World.to_all.Goals as goal
 
 pub loop-to-preserved : goal.loop-to-preserved
@@ -81,3 +81,6 @@ returns-in_err-row-clause-disks g c = leaves_failed c.from_residual.result _ c.f
 
 pub returns-clause-disks : goal.returns-clause-disks
 returns-clause-disks g c = leaves_ok _ _ _ c.loop-to.invariant.7
+
+pub returns-in_err-row-clause-place : goal.returns-in_err-row-clause-place
+returns-in_err-row-clause-place g c = disk_at _ _ c.from_residual.result _ c.from_residual.ensures c.loop-to.invariant.8 c.in_err-row.ensures.place
