@@ -15,7 +15,7 @@ use Rattle.spl_projection.proofs.Ups.{whole-up}
 use Rattle.spl_rules.specs.Cells.{Cell}
 use Rattle.spl_snapshot.specs.Counting.{IfBoth}
 use Rattle.spl_world.specs.Disks.{Images, IsPicked, PairView, StopsPair, bench, images}
-use Rattle.spl_world.specs.Held.{AllPickBy, AllPicked, IsUnarmed, KeepsPicks, PicksBy, PicksOnce, cells_behind, picks_at, stops_at}
+use Rattle.spl_world.specs.Held.{AllPicked, IsUnarmed, KeepsPicks, PicksBy, PicksOnce, cells_behind, picks_at, stops_at}
 use Rattle.spl_world.specs.Views.{Stands, ids_of, places_of, slot_id, slot_ids, slot_up}
 use Rattle.spl_world.specs.declared.slot.Slot.{Slot}
 use Rattle.spl_world.specs.declared.world.World.{World}
