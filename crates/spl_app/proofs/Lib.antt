@@ -1,6 +1,7 @@
 mod Agreed
 mod Behinds
 mod Benches
+mod Blanks
 mod Dues
 mod Events
 mod Feeds

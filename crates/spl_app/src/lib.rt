@@ -3,6 +3,7 @@
 #![tactic(auto)]
 
 mod agree;
+mod bench;
 mod fault;
 mod lines;
 mod output;
@@ -12,6 +13,7 @@ mod run;
 mod status;
 mod top;
 
+pub use bench::blank_bench;
 pub use status::Status;
 pub use top::splinter;
 

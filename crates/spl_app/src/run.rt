@@ -13,7 +13,7 @@ ghost use Rattle.spl_model.specs.Outcomes.{by_rule};
 ghost use Rattle.spl_model.specs.Answers.{answer_to};
 ghost use Rattle.spl_model.specs.Counts.{events_of};
 ghost use Rattle.spl_world.specs.Disks.{AllGoOn, AreBlank, LeavesDisks, RoseAt, bench, images, images_at};
-ghost use Rattle.spl_world.specs.Views.{IsSeated, Sits, Stands, ids_of, is_halted, seen};
+ghost use Rattle.spl_world.specs.Views.{ArePlaced, IsPlace, Sits, Stands, ids_of, is_halted, places_of, seen};
 
 use crate::fault::RunFault;
 use crate::lines::{LONGEST_LINE, first_line, is_silent};
@@ -51,7 +51,7 @@ impl Run {
         ensures behind { IfOk result (λ run. (start : Option (List ℕ)) → IsBehind (sorted (registered registry.now)) [] run (images D.image_at D.moment pairs.new.items) start start) }
         ensures disks { LeavesDisks result (bench D.image_at D.moment D.faults D.armed D.picks pairs.old.items) (bench D.image_at D.moment D.faults D.armed D.picks pairs.new.items) }
         ensures few { (which : ℕ) → IsErrOf result (WorldFault.TooMany which) → ⊥ }
-        ensures seated { IfOk result (λ run. IsSeated (length registry.now) run.world) }
+        ensures placed { IfOk result (λ run. ArePlaced registry.now run.world) }
         ensures place { (slot : ℕ) → IsErrOf result (WorldFault.Disk slot) → slot < length registry.now }
     {
         Ok(Run {
@@ -102,8 +102,8 @@ impl Run {
         ensures many { (before : List Ran) (which : ℕ) → Stands before self.old.world (images D.image_at D.moment pairs.old.items) → IsErrOf result (WorldFault.TooMany which) → MOST_EVENTS < events_of self.old.nodes.items (before ++ by_rule said.now ∷ []) }
         ensures output { self.new.output ≡ self.old.output }
         ensures disks { LeavesDisks result (bench D.image_at D.moment D.faults D.armed D.picks pairs.old.items) (bench D.image_at D.moment D.faults D.armed D.picks pairs.new.items) }
-        ensures seated { (m : ℕ) → IsSeated m self.old.world → IsSeated m self.new.world }
-        ensures place { (m slot : ℕ) → IsSeated m self.old.world → IsErrOf result (WorldFault.Disk slot) → slot < m }
+        ensures places { places_of self.new.world ≡ places_of self.old.world }
+        ensures place { (slot : ℕ) → IsErrOf result (WorldFault.Disk slot) → IsPlace (places_of self.old.world) slot }
     {
         let answer = self.world.step(alloc, pairs, said)?;
         self.text.clear();
@@ -140,8 +140,8 @@ impl Run {
         ensures whole { (slot : ℕ) → IsErrOf result (RunFault.Disk slot) → (self.new.output ≡ self.old.output) × (W.written out.new ≡ W.written out.old) }
         ensures onward { AllGoOn (bench D.image_at D.moment D.faults D.armed D.picks pairs.old.items) (bench D.image_at D.moment D.faults D.armed D.picks pairs.new.items) }
         ensures disk { (slot : ℕ) → IsErrOf result (RunFault.Disk slot) → RoseAt slot (bench D.image_at D.moment D.faults D.armed D.picks pairs.old.items) (bench D.image_at D.moment D.faults D.armed D.picks pairs.new.items) }
-        ensures seated { (m : ℕ) → IsSeated m self.old.world → IsSeated m self.new.world }
-        ensures place { (m slot : ℕ) → IsSeated m self.old.world → IsErrOf result (RunFault.Disk slot) → slot < m }
+        ensures places { places_of self.new.world ≡ places_of self.old.world }
+        ensures place { (slot : ℕ) → IsErrOf result (RunFault.Disk slot) → IsPlace (places_of self.old.world) slot }
         ensures write { IsErrOf result RunFault.Write → Rose (W.faults out.old) (W.faults out.new) }
         ensures later { W.faults out.old ≤ W.faults out.new }
     {
@@ -182,8 +182,8 @@ impl Run {
         ensures whole { (slot : ℕ) → IsErrOf result (RunFault.Disk slot) → (self.new.output ≡ self.old.output) × (W.written out.new ≡ W.written out.old) }
         ensures onward { AllGoOn (bench D.image_at D.moment D.faults D.armed D.picks pairs.old.items) (bench D.image_at D.moment D.faults D.armed D.picks pairs.new.items) }
         ensures disk { (slot : ℕ) → IsErrOf result (RunFault.Disk slot) → RoseAt slot (bench D.image_at D.moment D.faults D.armed D.picks pairs.old.items) (bench D.image_at D.moment D.faults D.armed D.picks pairs.new.items) }
-        ensures seated { (m : ℕ) → IsSeated m self.old.world → IsSeated m self.new.world }
-        ensures place { (m slot : ℕ) → IsSeated m self.old.world → IsErrOf result (RunFault.Disk slot) → slot < m }
+        ensures places { places_of self.new.world ≡ places_of self.old.world }
+        ensures place { (slot : ℕ) → IsErrOf result (RunFault.Disk slot) → IsPlace (places_of self.old.world) slot }
         ensures write { IsErrOf result RunFault.Write → Rose (W.faults out.old) (W.faults out.new) }
         ensures later { W.faults out.old ≤ W.faults out.new }
     {
@@ -217,7 +217,7 @@ impl Run {
         ensures whole { (slot : ℕ) → IsErrOf result (RunFault.Disk slot) → HasFront self.old.nodes.items (lines_of text.now) (λ ls. IsDue (W.written out.old) (W.written out.new) self.new.output (answers self.old.nodes.items ls)) }
         ensures onward { AllGoOn (bench D.image_at D.moment D.faults D.armed D.picks pairs.old.items) (bench D.image_at D.moment D.faults D.armed D.picks pairs.new.items) }
         ensures disk { (slot : ℕ) → IsErrOf result (RunFault.Disk slot) → RoseAt slot (bench D.image_at D.moment D.faults D.armed D.picks pairs.old.items) (bench D.image_at D.moment D.faults D.armed D.picks pairs.new.items) }
-        ensures place { (m slot : ℕ) → IsSeated m self.old.world → IsErrOf result (RunFault.Disk slot) → slot < m }
+        ensures place { (slot : ℕ) → IsErrOf result (RunFault.Disk slot) → IsPlace (places_of self.old.world) slot }
         ensures part { IsDuePart (W.written out.old) (W.written out.new) self.new.output (answers self.old.nodes.items (lines_of text.now)) }
         ensures write { IsErrOf result RunFault.Write → Rose (W.faults out.old) (W.faults out.new) }
         ensures later { W.faults out.old ≤ W.faults out.new }

@@ -8,7 +8,7 @@ use Rattle.spl_app.specs.Run.{Bad, Past, HasFront, StopsAt, answers}
 use Rattle.spl_app.specs.Due.{IsDue, IsDuePart}
 use Rattle.spl_app.specs.Behind.{IsBehind}
 use Rattle.spl_app.proofs.Dues.{part_flushed, due_flushed}
-use Rattle.spl_app.proofs.Benches.{rose_later}
+use Rattle.spl_app.proofs.Benches.{place_below, rose_later}
 use Rattle.spl_app.proofs.Events.{none_within}
 use Rattle.spl_app.proofs.Behinds.{ok_then}
 use Rattle.spl_app.proofs.run.run_lines.Goals as goal
@@ -59,7 +59,7 @@ pub returns-clause-disk : goal.returns-clause-disk
 returns-clause-disk g c = λ slot is. rose_later slot _ _ _ c.in-Ok.ensures.disks.onward c.lines-ended.ensures.onward (c.lines-ended.ensures.disk slot is)
 
 pub returns-clause-place : goal.returns-clause-place
-returns-clause-place g c = λ slot is. c.lines-ended.ensures.place _ slot c.in-Ok.ensures.seated is
+returns-clause-place g c = λ slot is. place_below c.args.registry.now c.in-Ok.run'.world slot c.in-Ok.ensures.placed (c.lines-ended.ensures.place slot is)
 
 pub returns-clause-whole : goal.returns-clause-whole
 returns-clause-whole g c = λ slot is.

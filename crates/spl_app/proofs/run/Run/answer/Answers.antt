@@ -34,6 +34,6 @@ returns-in-Err-Disk-clause-part g c = λ before stands.
     (due_part written written c.args.self.now.output c.args.self.now.output last (due_waits written c.args.self.now.output))
 
 pub returns-in-Err-Disk-clause-place : goal.returns-in-Err-Disk-clause-place
-returns-in-Err-Disk-clause-place g c = λ m slot seated is.
+returns-in-Err-Disk-clause-place g c = λ slot is.
     let same : c.in-Err-Disk.slot ≡ slot = cc in
-    c.in-Err-Disk.ensures.place m slot seated (ap (λ (f : WorldFault). Err f) (c.in-Err-Disk.field-0-is ∙ ap (λ (n : ℕ). Disk n) same))
+    c.in-Err-Disk.ensures.place slot (ap (λ (f : WorldFault). Err f) (c.in-Err-Disk.field-0-is ∙ ap (λ (n : ℕ). Disk n) same))

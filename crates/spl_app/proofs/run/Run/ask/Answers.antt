@@ -8,7 +8,7 @@ use Rattle.spl_model.specs.Counts.{events_of}
 use Rattle.spl_model.specs.declared.TheConstants.{MOST_EVENTS}
 use Rattle.spl_world.specs.declared.fault.WorldFault.TheVariants.{Disk, TooMany}
 use Rattle.spl_world.specs.declared.fault.WorldFault.{WorldFault}
-use Rattle.spl_app.proofs.Benches.{err_same}
+use Rattle.spl_app.proofs.Benches.{err_same, taken_steps}
 use Rattle.spl_world.proofs.Leaving.{leaves_failed, leaves_ok, leaves_other}
 use Rattle.spl_app.proofs.run.Run.ask.Goals as goal
 
@@ -32,6 +32,9 @@ pub returns-clause-disks : goal.returns-clause-disks
 returns-clause-disks g c = leaves_ok tt _ _ c.step.ensures.disks.onward
 
 pub returns-in_err-answer-clause-place : goal.returns-in_err-answer-clause-place
-returns-in_err-answer-clause-place g c = λ m slot seated is.
+returns-in_err-answer-clause-place g c = λ slot is.
     let same = err_same c.from_residual.result c.in_err-answer.field-0.0 (Disk slot) c.from_residual.ensures is in
-    c.in_err-answer.ensures.place m slot seated (ap (λ (f : WorldFault). Err f) same)
+    c.in_err-answer.ensures.place slot (ap (λ (f : WorldFault). Err f) same)
+
+pub step-requires-clause-steps : goal.step-requires-clause-steps
+step-requires-clause-steps g c = taken_steps c.args.said.now c.requires.known.taken

@@ -2,6 +2,7 @@ use Rattle.std.proofs.Common.{Err, ◌≡◌, ◌-◌, ℕ, List, [], ◌∷◌,
 use Rattle.std.specs.List.{AllByRecursion}
 use Rattle.spl_circuit.specs.Nodes.{Node}
 use Rattle.spl_world.specs.Disks.{images}
+use Rattle.spl_world.specs.Views.{IsPlace}
 use Rattle.spl_world.proofs.Leaving.{all_then}
 use Rattle.spl_app.specs.declared.fault.RunFault.{RunFault}
 use Rattle.spl_app.specs.declared.fault.RunFault.TheVariants.{BadLine, TooMany, Disk}
@@ -68,7 +69,7 @@ lines-preserved g c =
       behind = subst (λ (ls : List (List ℕ)). IsBehind c.args.self.now.nodes.items ls c.line.new.self (images g.D.Disk.image_at g.D.Disk.moment c.line.new.pairs.items) (g.W.Sink.written c.args.out.now) (g.W.Sink.written c.line.new.out)) more
           (subst (λ (ns : List Node). IsBehind ns (front ++ line ∷ []) c.line.new.self (images g.D.Disk.image_at g.D.Disk.moment c.line.new.pairs.items) (g.W.Sink.written c.args.out.now) (g.W.Sink.written c.line.new.out)) c.lines.invariant.behind.nodes behind_line);
       onward = all_then _ _ _ c.lines.invariant.onward c.line.ensures.onward;
-      seated = λ m seated. c.line.ensures.seated m (c.lines.invariant.seated m seated);
+      places = c.line.ensures.places ∙ c.lines.invariant.places;
       later = search rules;
     }
 
@@ -109,6 +110,6 @@ returns-in-Err-clause-disk g c = λ slot is.
     rose_later slot _ _ _ c.lines.invariant.onward c.line.ensures.onward (c.in-Err.ensures.disk slot (ap (λ (e : RunFault). Err e) same))
 
 pub returns-in-Err-clause-place : goal.returns-in-Err-clause-place
-returns-in-Err-clause-place g c = λ m slot seated is.
+returns-in-Err-clause-place g c = λ slot is.
     let same : c.in-Err.fault ≡ Disk slot = cc in
-    c.in-Err.ensures.place m slot (c.lines.invariant.seated m seated) (ap (λ (e : RunFault). Err e) same)
+    subst (λ (ks : List ℕ). IsPlace ks slot) c.lines.invariant.places (c.in-Err.ensures.place slot (ap (λ (e : RunFault). Err e) same))

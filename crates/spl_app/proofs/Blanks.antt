@@ -1,0 +1,25 @@
+-- Blank disks.
+use Rattle.std.proofs.Common.{◌≡◌, ◌<◌, ℕ, zero, suc, List, [], ◌∷◌, ◌++◌, length, Option, refl, sym, subst, arith}
+use Rattle.std.specs.Prelude.{IfSome}
+use Rattle.spl_edge.specs.declared.bench.Pair.{Pair}
+use Rattle.spl_edge.specs.Image.{Image}
+use Rattle.spl_journal.specs.Make.{IsBlank}
+use Rattle.spl_memory.specs.MemDisks.{IsFreshDisk, image_of, moment_of}
+use Rattle.spl_memory.specs.declared.mem_disk.MemDisk.{MemDisk}
+use Rattle.spl_world.specs.Disks.{AreBlank, images, images_at, images_of}
+
+fresh_blank : (d : MemDisk) → IsFreshDisk d → IfSome (image_of d (moment_of d)) IsBlank
+fresh_blank d fresh = subst (λ (o : Option Image). IfSome o IsBlank) (sym fresh.blank) (record { bytes = refl; settled = record { same = refl; none = refl; least = refl; greatest = refl } })
+
+pub pair_blank : (p : Pair MemDisk) → IsFreshDisk p.first → IsFreshDisk p.second → AreBlank (images_of image_of moment_of p)
+pair_blank p a b = record { first = fresh_blank p.first a; second = fresh_blank p.second b }
+
+-- each of these pairs is blank
+abbrev pub AllBlank : List (Pair MemDisk) → Type 0
+AllBlank ps = (i : ℕ) → i < length ps → AreBlank (images_at (images image_of moment_of ps) i)
+
+pub blank_more : (ps : List (Pair MemDisk)) (p : Pair MemDisk) → AllBlank ps → AreBlank (images_of image_of moment_of p) → AllBlank (ps ++ p ∷ [])
+blank_more [] p all blank zero lt = blank
+blank_more [] p all blank (suc i) lt = absurd (omega (arith, lt))
+blank_more (q ∷ ps) p all blank zero lt = let first : 0 < suc (length ps) = omega arith in all 0 first
+blank_more (q ∷ ps) p all blank (suc i) lt = blank_more ps p (λ k h. (let more : suc k < suc (length ps) = omega (arith, h) in all (suc k) more)) blank i (omega (arith, lt))

@@ -1,0 +1,39 @@
+//! Disks in memory for a run.
+ghost use Rattle.std.specs.Prelude.{◌≡◌, ◌<◌, ◌++◌, ◌∷◌, ℕ, [], length, IfOk, OnOk};
+ghost use Rattle.spl_memory.specs.MemDisks.{IsFreshDisk, image_of, moment_of};
+ghost use Rattle.spl_world.specs.Disks.{AreBlank, images, images_at};
+
+use spl_edge::{Bench, Pair};
+use spl_memory::MemDisk;
+use std::alloc::{AllocError, Global};
+
+// Two blank disks.
+fn blank_pair(alloc: Global) -> Pair<MemDisk>
+    ensures first { IsFreshDisk result.first }
+    ensures second { IsFreshDisk result.second }
+{
+    Pair {
+        first: MemDisk::new(alloc, Vec::new(alloc)),
+        second: MemDisk::new(alloc, Vec::new(alloc)),
+    }
+}
+
+// One pair more.
+fn join(pairs: &mut Vec<Pair<MemDisk>>, pair: Pair<MemDisk>) -> Result<(), AllocError>
+    ensures { OnOk result (pairs.new.items ≡ pairs.old.items ++ pair ∷ []) }
+{
+    pairs.push(pair)?;
+    Ok(())
+}
+
+/// Sixteen pairs of blank disks in memory.
+pub fn blank_bench(alloc: Global) -> Result<Bench<MemDisk>, AllocError>
+    ensures pairs { IfOk result (λ b. length b.pairs.items ≡ 16) }
+    ensures blank { IfOk result (λ b. (i : ℕ) → i < 16 → AreBlank (images_at (images image_of moment_of b.pairs.items) i)) }
+{
+    let mut pairs = Vec::new(alloc);
+    'pairs: while pairs.len() < 16 {
+        join(&mut pairs, blank_pair(alloc))?;
+    }
+    Ok(Bench { pairs })
+}
