@@ -5,18 +5,10 @@ use Rattle.std.proofs.lemmas.Option.{slice_get_within, slice_get-get_or}
 use Rattle.spl_circuit.specs.Nodes.{NodeId}
 use Rattle.spl_edge.specs.Picks.{Picked}
 use Rattle.spl_edge.specs.declared.disk.Armed.{Armed}
-<<<<<<< HEAD
 use Rattle.spl_model.specs.Answers.{is_up}
 use Rattle.spl_model.specs.Projection.{Ran}
 use Rattle.spl_world.specs.Disks.{PairView, PairGoesOn, AllGoOn}
 use Rattle.spl_world.specs.Held.{AllPickBy, AllPicked, AllUnpicked, ArePickedAt, ArePicksBehind, EachPair, HasPicked, KeepsPicks, PicksBy, PicksOnce, picks_at, pick_points, point_at, stops_at}
-=======
-use Rattle.spl_edge.specs.declared.disk.Arming.TheVariants.{Off}
-use Rattle.spl_model.specs.Answers.{is_up}
-use Rattle.spl_model.specs.Projection.{Ran}
-use Rattle.spl_world.specs.Disks.{PairView, PairGoesOn, AllGoOn}
-use Rattle.spl_world.specs.Held.{AllPickBy, AllPicked, AllUnpicked, ArePickedAt, ArePicksBehind, AreUnpicked, EachPair, HasPicked, KeepsPicks, PicksBy, PicksOnce, picks_at, pick_points, point_at, stops_at}
->>>>>>> 0a3e5f1fd23c65bdf1ecf61c815550b4ea1f0276
 use Rattle.spl_world.specs.Views.{ids_of, places_of}
 use Rattle.spl_world.specs.declared.world.World.{World}
 use Rattle.spl_world.proofs.Sends.{bool_cases}

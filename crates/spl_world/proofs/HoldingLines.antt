@@ -1,9 +1,5 @@
 -- Behind each line the disks of all nodes hold what the nodes keep.
-<<<<<<< HEAD
 use Rattle.std.proofs.Common.{◌≡◌, ℕ, true, false, true≢false, IsTrue, List, [], ◌∷◌, ◌++◌, slice_get, Option, Some, Result, Ok, Err, OnOk, refl, ap, sym, subst, ◌∙◌}
-=======
-use Rattle.std.proofs.Common.{◌≡◌, ℕ, true, false, true≢false, IsTrue, List, [], ◌∷◌, ◌++◌, slice_get, Option, Some, Result, Ok, Err, OnOk, IfOk, refl, ap, sym, subst, ◌∙◌}
->>>>>>> 0a3e5f1fd23c65bdf1ecf61c815550b4ea1f0276
 use Rattle.std.specs.List.{list_all}
 use Rattle.spl_base.specs.FormLaws.{both_true}
 use Rattle.spl_circuit.specs.Nodes.{NodeId, CircuitId, has_node}
@@ -20,11 +16,7 @@ use Rattle.spl_sched.specs.declared.line.Line.TheVariants as line
 use Rattle.spl_world.specs.Disks.{AllGoOn, Images, LeavesDisks, PairView, StopsPair, bench, images}
 use Rattle.spl_world.specs.Held.{AllHeld, AllPicked, AllUnpicked, stops_at}
 use Rattle.spl_world.specs.Lines.{steps, stops}
-<<<<<<< HEAD
 use Rattle.spl_world.specs.Views.{Stands, ids_of, places_of, slot_id, slot_up}
-=======
-use Rattle.spl_world.specs.Views.{Stands, ids_of, places_of, slot_id, slot_ids, slot_places, slot_up}
->>>>>>> 0a3e5f1fd23c65bdf1ecf61c815550b4ea1f0276
 use Rattle.spl_world.specs.declared.fault.WorldFault.{WorldFault}
 use Rattle.spl_world.specs.declared.slot.Slot.{Slot}
 use Rattle.spl_world.specs.declared.world.World.{World}

@@ -1,9 +1,5 @@
 -- What the disks of nodes hold, and that it stands for their cells.
-<<<<<<< HEAD
 use Rattle.std.proofs.Common.{◌≡◌, ℕ, zero, suc, List, [], ◌∷◌, slice_get, Option, Some, None, Result, Ok, Err, refl, ap, subst, ◌∙◌}
-=======
-use Rattle.std.proofs.Common.{◌≡◌, ℕ, zero, suc, List, [], ◌∷◌, slice_get, Option, Some, None, Result, Ok, Err, refl, ap, sym, subst, ◌∙◌}
->>>>>>> 0a3e5f1fd23c65bdf1ecf61c815550b4ea1f0276
 use Rattle.std.specs.Result.{IsOkAnd}
 use Rattle.spl_circuit.specs.Nodes.{NodeId, CircuitId}
 use Rattle.spl_edge.specs.Image.{Image}

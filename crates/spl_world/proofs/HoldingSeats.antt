@@ -1,9 +1,5 @@
 -- The nodes of a registry, each with the pair at its position there.
-<<<<<<< HEAD
 use Rattle.std.proofs.Common.{◌≡◌, ◌⊎◌, inl, inr, ℕ, zero, suc, ◌<◌, true, false, ltb, List, [], ◌∷◌, length, get_or, slice_get, option_map, Option, Some, None, refl, ap, sym, ◌∙◌, arith}
-=======
-use Rattle.std.proofs.Common.{◌≡◌, ◌⊎◌, inl, inr, ℕ, zero, suc, ◌<◌, ◌≤◌, true, false, ltb, List, [], ◌∷◌, length, get_or, slice_get, option_map, Option, Some, None, refl, ap, sym, ◌∙◌, subst, arith}
->>>>>>> 0a3e5f1fd23c65bdf1ecf61c815550b4ea1f0276
 use Rattle.std.proofs.lemmas.Option.{slice_get_within, slice_get-get_or, slice_get-map}
 use Rattle.std.specs.Str.{bytes_eq}
 use Rattle.spl_agree.proofs.Tests.{ltb_is, ltb_not}
@@ -12,11 +8,7 @@ use Rattle.spl_circuit.proofs.Sorting.{has_sorted}
 use Rattle.spl_model.specs.Projection.{Ran}
 use Rattle.spl_registry.specs.Nodes.{Entry, IsRegistry, ids_of as registered, node_at}
 use Rattle.spl_world.specs.Disks.{PairView}
-<<<<<<< HEAD
 use Rattle.spl_world.specs.Held.{AllHeld, AreHeld}
-=======
-use Rattle.spl_world.specs.Held.{AllHeld, AreHeld, IsHeld}
->>>>>>> 0a3e5f1fd23c65bdf1ecf61c815550b4ea1f0276
 use Rattle.spl_world.specs.Views.{ArePlaced, ids_of, places_of, slot_ids, slot_places}
 use Rattle.spl_world.specs.declared.slot.Slot.{Slot}
 use Rattle.spl_world.specs.declared.world.World.{World}
