@@ -1,17 +1,15 @@
 //! A journal on two disks. A row has what is done there, in turn.
 use crate::content::{content, told};
-use crate::disk::PlainDisk;
-use crate::kept::{Disks, Kept};
-use crate::row::{Contents, Row};
-use spl_edge::{Disk, Fill};
+use spl_edge::Fill;
 use spl_journal::{JournalFault, Records};
 use spl_rows::{Answered, RowFault, add, bytes, halves, long, words};
+use spl_trial::{Contents, Kept, PlainDisk, PlainDisks, Row};
 use std::alloc::Global;
 
 /// Two disks, and their journal where one is kept.
 #[derive(Drop)]
 struct Desk {
-    disks: Disks,
+    disks: PlainDisks,
     kept: Option<Kept>,
 }
 
@@ -35,29 +33,29 @@ pub fn fill(alloc: Global, word: &str) -> Result<Fill, RowFault> {
     }
 }
 
-/// The text of all bytes of a disk.
-pub fn disk_text(alloc: Global, disk: &mut PlainDisk) -> Answered {
-    told(alloc, &all_bytes(alloc, disk)?)
-}
-
-fn all_bytes(alloc: Global, disk: &mut PlainDisk) -> Result<Vec<u8>, RowFault> {
-    let Ok(len) = disk.len() else {
+/// The text of all bytes of two disks.
+pub fn bytes_text(alloc: Global, disks: &mut PlainDisks) -> Answered {
+    let (first, second) = (disks.first.bytes(alloc), disks.second.bytes(alloc));
+    let (Ok(first), Ok(second)) = (first, second) else {
         return Err(RowFault::BadRow);
     };
-    let mut found = vec![in alloc; 0u8; len as usize]?;
-    if disk.read(0, &mut found).is_err() {
-        return Err(RowFault::BadRow);
-    }
-    Ok(found)
+    let mut text = told(alloc, &first)?;
+    add(&mut text, " and ", told(alloc, &second)?.as_str())?;
+    Ok(text)
 }
 
-/// A disk that has these bytes.
-pub fn disk_of(alloc: Global, bytes: &[u8]) -> Result<PlainDisk, RowFault> {
-    let mut disk = PlainDisk::blank(alloc);
-    if disk.write_at(0, bytes).is_err() || disk.sync().is_err() {
-        return Err(RowFault::NoMemory);
-    }
-    Ok(disk)
+fn disk_of(alloc: Global, word: &str) -> Result<PlainDisk, RowFault> {
+    PlainDisk::of(alloc, &content(alloc, word)?)
+        .ok()
+        .ok_or(RowFault::NoMemory)
+}
+
+/// Two disks of the bytes of two words.
+pub fn disks_of(alloc: Global, first: &str, second: &str) -> Result<PlainDisks, RowFault> {
+    Ok(PlainDisks {
+        first: disk_of(alloc, first)?,
+        second: disk_of(alloc, second)?,
+    })
 }
 
 fn record(alloc: Global, word: &str) -> Result<Row, RowFault> {
@@ -80,6 +78,21 @@ fn records_text(alloc: Global, records: &Records) -> Answered {
     for record in records.as_slice() {
         add(&mut text, " ", told(alloc, record.bytes())?.as_str())?;
     }
+    Ok(text)
+}
+
+/// The length, base, room and epoch, and which disk counts.
+fn kept_text(alloc: Global, kept: &Kept) -> Answered {
+    let pairing = kept.pairing();
+    let room = if pairing.room() { "room" } else { "no room" };
+    let mut text = format!(in alloc; "len {} base {} ", pairing.len(), pairing.base())?;
+    text.push_str(room)?;
+    let epoch = format!(in alloc;
+        " epoch {} counting {}",
+        pairing.epoch(),
+        pairing.counting()
+    )?;
+    text.push_str(epoch.as_str())?;
     Ok(text)
 }
 
@@ -142,18 +155,11 @@ impl Desk {
         Ok(String::from_str(alloc, "picked")?)
     }
 
-    fn bytes(&mut self, alloc: Global) -> Answered {
-        let mut text = disk_text(alloc, &mut self.disks.first)?;
-        let second = disk_text(alloc, &mut self.disks.second)?;
-        add(&mut text, " and ", second.as_str())?;
-        Ok(text)
-    }
-
     fn tell(&self, alloc: Global) -> Answered {
         let Some(kept) = &self.kept else {
             return Err(RowFault::BadRow);
         };
-        kept.told(alloc)
+        kept_text(alloc, kept)
     }
 
     fn step(&mut self, alloc: Global, word: &str) -> Answered {
@@ -165,21 +171,11 @@ impl Desk {
             "open" => self.open(alloc),
             "stop" => self.stop(alloc, rest),
             "pick" => self.pick(alloc, rest),
-            "bytes" => self.bytes(alloc),
+            "bytes" => bytes_text(alloc, &mut self.disks),
             "tell" => self.tell(alloc),
             _ => Err(RowFault::BadRow),
         }
     }
-}
-
-fn desk_of(alloc: Global, first: &str, second: &str) -> Result<Desk, RowFault> {
-    Ok(Desk {
-        disks: Disks {
-            first: disk_of(alloc, &content(alloc, first)?)?,
-            second: disk_of(alloc, &content(alloc, second)?)?,
-        },
-        kept: None,
-    })
 }
 
 /// What each step answers over two disks of these bytes: FIRST SECOND STEP .., where a step is format, append=RECORD,
@@ -189,7 +185,10 @@ pub fn done(alloc: Global, text: &str) -> Answered {
     let [first, second, steps @ ..] = all.as_slice() else {
         return Err(RowFault::BadRow);
     };
-    let mut desk = desk_of(alloc, first, second)?;
+    let mut desk = Desk {
+        disks: disks_of(alloc, first, second)?,
+        kept: None,
+    };
     let mut told = String::new(alloc);
     for step in steps {
         add(&mut told, ", ", desk.step(alloc, step)?.as_str())?;

@@ -4,9 +4,8 @@
 
 mod content;
 mod desks;
-mod disk;
-mod kept;
-mod row;
+mod heard;
+mod posts;
 
 use spl_rows::{Answered, RowFault, print_answer, row_of};
 use std::alloc::Global;
@@ -15,6 +14,7 @@ use std::io;
 fn answer(alloc: Global, table: &str, rest: &str) -> Answered {
     match table {
         "disks" => desks::done(alloc, rest),
+        "node" => posts::done(alloc, rest),
         _ => Err(RowFault::BadRow),
     }
 }

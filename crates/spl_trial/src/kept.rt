@@ -2,18 +2,13 @@
 ghost use Rattle.std.specs.Prelude.{◌≡◌, true, false, None, OnOk};
 ghost use Rattle.spl_journal.specs.Journals.{has_ended, is_halted as journal_halted};
 ghost use Rattle.spl_snapshot.specs.Pairs.{PairWalks, walk_in, journal_in, is_halted};
-ghost use Rattle.spl_disk_checks.specs.Rows.{is_row};
+ghost use Rattle.spl_trial.specs.Rows.{is_row};
 
-use crate::disk::PlainDisk;
 use crate::row::{Contents, Row, RowForm};
-use spl_edge::Pair;
+use crate::{PlainDisk, PlainDisks};
 use spl_journal::{JournalFault, Records};
-use spl_rows::Answered;
 use spl_snapshot::{PairWalk, Pairing, format_pair, walk_pair};
 use std::alloc::Global;
-
-/// Two disks.
-pub type Disks = Pair<PlainDisk>;
 
 /// A pairing that isn't halted.
 #[derive(Drop)]
@@ -34,7 +29,7 @@ pub struct Opened {
 fn read_all(
     alloc: Global,
     walk: &mut PairWalk<RowForm>,
-    disks: &mut Disks,
+    disks: &mut PlainDisks,
 ) -> Result<Records, JournalFault>
     requires { PairWalks is_row walk.old None None }
     ensures walks { OnOk result (PairWalks is_row walk.new None None) }
@@ -47,15 +42,29 @@ fn read_all(
     Ok(records)
 }
 
+/// Reads the rest of the records, and keeps none.
+fn pass_all(
+    alloc: Global,
+    walk: &mut PairWalk<RowForm>,
+    disks: &mut PlainDisks,
+) -> Result<(), JournalFault>
+    requires { PairWalks is_row walk.old None None }
+    ensures walks { OnOk result (PairWalks is_row walk.new None None) }
+    ensures ended { OnOk result (has_ended (walk_in walk.new) ≡ true) }
+{
+    'records: while walk.next(alloc, disks)?.is_some() {}
+    Ok(())
+}
+
 impl Kept {
     /// Makes a journal on the first of two disks.
-    pub fn format(alloc: Global, disks: &mut Disks) -> Result<Kept, JournalFault> {
+    pub fn format(alloc: Global, disks: &mut PlainDisks) -> Result<Kept, JournalFault> {
         let pairing = format_pair::<RowForm, PlainDisk>(alloc, disks)?;
         Ok(Kept { pairing })
     }
 
     /// Reads the journal that counts.
-    pub fn open(alloc: Global, disks: &mut Disks) -> Result<Opened, JournalFault> {
+    pub fn open(alloc: Global, disks: &mut PlainDisks) -> Result<Opened, JournalFault> {
         let mut walk = walk_pair::<RowForm, PlainDisk>(disks)?;
         let records = read_all(alloc, &mut walk, disks)?;
         let kept = Kept {
@@ -64,9 +73,23 @@ impl Kept {
         Ok(Opened { kept, records })
     }
 
+    /// Reads the journal that counts, and tells no record.
+    pub fn reopen(alloc: Global, disks: &mut PlainDisks) -> Result<Kept, JournalFault> {
+        let mut walk = walk_pair::<RowForm, PlainDisk>(disks)?;
+        pass_all(alloc, &mut walk, disks)?;
+        Ok(Kept {
+            pairing: walk.finish(),
+        })
+    }
+
     /// Adds a record.
     #[tactic(auto, using(crate::proofs::Untold::stands_untold))]
-    pub fn append(self, alloc: Global, disks: &mut Disks, row: &Row) -> Result<Kept, JournalFault> {
+    pub fn append(
+        self,
+        alloc: Global,
+        disks: &mut PlainDisks,
+        row: &Row,
+    ) -> Result<Kept, JournalFault> {
         let Kept { mut pairing } = self;
         pairing.append(alloc, disks, row.bytes())?;
         Ok(Kept { pairing })
@@ -77,7 +100,7 @@ impl Kept {
     pub fn checkpoint(
         self,
         alloc: Global,
-        disks: &mut Disks,
+        disks: &mut PlainDisks,
         contents: &Contents,
     ) -> Result<Kept, JournalFault> {
         let Kept { mut pairing } = self;
@@ -88,18 +111,8 @@ impl Kept {
         Ok(Kept { pairing })
     }
 
-    /// Its length, base, room and epoch, and which disk counts.
-    pub fn told(&self, alloc: Global) -> Answered {
-        let pairing = &self.pairing;
-        let room = if pairing.room() { "room" } else { "no room" };
-        let mut text = format!(in alloc; "len {} base {} ", pairing.len(), pairing.base())?;
-        text.push_str(room)?;
-        let epoch = format!(in alloc;
-            " epoch {} counting {}",
-            pairing.epoch(),
-            pairing.counting()
-        )?;
-        text.push_str(epoch.as_str())?;
-        Ok(text)
+    /// The pairing.
+    pub fn pairing(&self) -> &Pairing<RowForm> {
+        &self.pairing
     }
 }

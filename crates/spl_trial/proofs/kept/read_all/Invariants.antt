@@ -1,8 +1,8 @@
 use Rattle.std.proofs.Common.{None}
 use Rattle.spl_journal.specs.Journals.{left_of}
 use Rattle.spl_snapshot.specs.Pairs.{PairWalks, walk_in}
-use Rattle.spl_disk_checks.specs.Rows.{is_row}
-use Rattle.spl_disk_checks.proofs.kept.read_all.Given as goal
+use Rattle.spl_trial.specs.Rows.{is_row}
+use Rattle.spl_trial.proofs.kept.read_all.Given as goal
 
 abbrev pub invariant-records : goal.invariant-records
 invariant-records l = PairWalks is_row l.walk None None

@@ -2,7 +2,7 @@
 ghost use Rattle.std.specs.Prelude.{◌≤◌, length, IfSome, None};
 ghost use Rattle.spl_memory.specs.MemDisks.{image_of, moment_of, faults_of};
 
-use spl_edge::{DeviceError, Disk, Fill, StopDisk};
+use spl_edge::{DeviceError, Disk, Fill, Pair, StopDisk};
 use spl_memory::MemDisk;
 use std::alloc::{AllocError, Global};
 
@@ -15,6 +15,9 @@ pub struct PlainDisk {
     ghost within: { IfSome (image_of disk (moment_of disk)) (λ i. least ≤ length i.bytes) },
 }
 
+/// Two of them.
+pub type PlainDisks = Pair<PlainDisk>;
+
 impl PlainDisk {
     /// A blank disk.
     pub fn blank(alloc: Global) -> PlainDisk {
@@ -22,6 +25,27 @@ impl PlainDisk {
             disk: MemDisk::new(alloc, Vec::new(alloc)),
             least: 0,
         }
+    }
+
+    /// A disk that has these bytes.
+    pub fn of(alloc: Global, bytes: &[u8]) -> Result<PlainDisk, DeviceError> {
+        let mut disk = PlainDisk::blank(alloc);
+        disk.write_at(0, bytes)?;
+        disk.sync()?;
+        Ok(disk)
+    }
+
+    /// All its bytes.
+    pub fn bytes(&mut self, alloc: Global) -> Result<Vec<u8>, DeviceError> {
+        let len = self.len()?;
+        let mut found = vec![in alloc; 0u8; len as usize]?;
+        self.read(0, &mut found)?;
+        Ok(found)
+    }
+
+    /// How many bytes it has at least, and exactly where no call failed. No call is made.
+    pub fn least(&self) -> u64 {
+        self.least
     }
 
     /// Lets so many more calls pass, and none behind them.

@@ -1,6 +1,6 @@
 //! The records of rows.
 ghost use Rattle.spl_journal.specs.Records.{IsGood, AreGood};
-ghost use Rattle.spl_disk_checks.specs.Rows.{is_row};
+ghost use Rattle.spl_trial.specs.Rows.{is_row};
 
 use spl_journal::{Form, Records};
 use std::alloc::{AllocError, Global};
@@ -53,7 +53,7 @@ pub struct Contents {
 impl Model for Contents {
     ghost use Rattle.std.specs.Prelude.{List, ℕ};
     ghost use Rattle.spl_journal.specs.Records.{AreGood};
-    ghost use Rattle.spl_disk_checks.specs.Rows.{is_row};
+    ghost use Rattle.spl_trial.specs.Rows.{is_row};
 
     ghost Value = { List (List ℕ) };
 
@@ -71,7 +71,7 @@ impl Contents {
     }
 
     /// These, and one more.
-    #[tactic(auto, using(crate::proofs::Contents::good_more))]
+    #[tactic(auto, using(crate::proofs::Records::good_more))]
     pub fn with(self, alloc: Global, row: &Row) -> Result<Contents, AllocError> {
         let Contents { mut records } = self;
         records.push(alloc, row.bytes())?;
