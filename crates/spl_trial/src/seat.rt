@@ -1,5 +1,5 @@
 //! A node over two disks.
-ghost use Rattle.std.specs.Prelude.{◌≡◌, false};
+ghost use Rattle.std.specs.Prelude.{◌≡◌, false, IfOk};
 ghost use Rattle.spl_journal.specs.Journals.{is_halted as journal_halted};
 ghost use Rattle.spl_snapshot.specs.Pairs.{journal_in};
 ghost use Rattle.spl_rules.specs.Valid.{IsFor};
@@ -33,18 +33,18 @@ pub struct Stepped {
 impl Seat {
     /// A node where nothing happened, over two blank disks.
     #[tactic(auto, using(crate::proofs::Untold::node_running))]
-    pub fn create(
-        alloc: Global,
-        here: NodeId,
-        disks: &mut PlainDisks,
-    ) -> Result<Seat, JournalFault> {
+    pub fn create(alloc: Global, here: NodeId, disks: &mut PlainDisks) -> Result<Seat, JournalFault>
+        ensures { IfOk result (λ s. s.here ≡ here) }
+    {
         let node = Node::create(alloc, here, disks)?;
         Ok(Seat { node, here })
     }
 
     /// The node that the disks stand for.
     #[tactic(auto, using(crate::proofs::Untold::node_running))]
-    pub fn open(alloc: Global, here: NodeId, disks: &mut PlainDisks) -> Result<Seat, JournalFault> {
+    pub fn open(alloc: Global, here: NodeId, disks: &mut PlainDisks) -> Result<Seat, JournalFault>
+        ensures { IfOk result (λ s. s.here ≡ here) }
+    {
         let node = Node::open(alloc, here, disks)?;
         Ok(Seat { node, here })
     }
@@ -71,6 +71,7 @@ impl Seat {
         event: &Event,
     ) -> Result<Stepped, JournalFault>
         requires { IsFor (site_at self.here circuit.now) event.now }
+        ensures { IfOk result (λ s. s.seat.here ≡ self.here) }
     {
         let Seat { mut node, here } = self;
         let outcome = node.step(alloc, disks, circuit, event)?;
