@@ -2,10 +2,14 @@
 #![tactic(auto)]
 
 mod answers;
+mod journals;
+mod lives;
 
 use spl_base::{Malformed, Reader};
 use spl_command::{Batch, execute};
+use spl_edge::DeviceError;
 use spl_frame::{FrameFault, Framer};
+use spl_journal::JournalFault;
 use spl_state::{Address, State};
 use spl_wire::Record;
 use std::alloc::{AllocError, Global};
@@ -18,6 +22,8 @@ enum Fault {
     NoMemory,
     Malformed,
     Frame,
+    Journal,
+    Device,
 }
 
 impl From<AllocError> for Fault {
@@ -35,6 +41,18 @@ impl From<Malformed> for Fault {
 impl From<FrameFault> for Fault {
     fn from(_: FrameFault) -> Fault {
         Fault::Frame
+    }
+}
+
+impl From<JournalFault> for Fault {
+    fn from(_: JournalFault) -> Fault {
+        Fault::Journal
+    }
+}
+
+impl From<DeviceError> for Fault {
+    fn from(_: DeviceError) -> Fault {
+        Fault::Device
     }
 }
 
@@ -133,6 +151,12 @@ fn run(rt: &HostRuntime) -> io::Result<Option<u64>> {
         "detail" => answers::detail(rt.alloc(), &bytes, number),
         "receipt" => answers::receipt(rt.alloc(), &bytes, number),
         "execute" => execution(rt.alloc(), &bytes, number),
+        "append" => journals::append(rt.alloc(), &bytes, number),
+        "checkpoint" => journals::checkpoint(rt.alloc(), &bytes, number),
+        "walk" => journals::walk(rt.alloc(), &bytes, number),
+        "bare" => lives::without_disks(rt.alloc(), &bytes, number),
+        "kept" => lives::kept(rt.alloc(), &bytes, number),
+        "open" => lives::open(rt.alloc(), &bytes, number),
         _ => return Ok(None),
     };
     Ok(done.ok())

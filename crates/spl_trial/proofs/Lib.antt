@@ -1,0 +1,3 @@
+pub mod Untold
+pub mod About
+pub mod Records
