@@ -1,4 +1,4 @@
-use crate::{Status, splinter};
+use crate::{Status, blank_bench, splinter};
 use spl_edge::{DeviceError, MemSink, MemSource, Sink};
 use spl_registry::RegistryFault;
 use std::alloc::{AllocError, Global};
@@ -37,7 +37,15 @@ fn run(
 ) -> Result<(Status, Vec<u8>), Fail> {
     let words = words(alloc, &["replay", "registry", "schedule"])?;
     let mut out = MemSink::new(alloc, writes.to_vec(alloc)?);
-    let status = splinter(alloc, &words, &mut registry, &mut schedule, &mut out);
+    let mut bench = blank_bench(alloc)?;
+    let status = splinter(
+        alloc,
+        &words,
+        &mut registry,
+        &mut schedule,
+        &mut out,
+        &mut bench,
+    );
     Ok((status, out.bytes().to_vec(alloc)?))
 }
 
@@ -224,16 +232,23 @@ fn statuses(rt: HostRuntime) -> Result<(), Fail> {
             &mut nodes,
             &mut source,
             &mut out,
+            &mut blank_bench(alloc)?,
         );
         assert_eq!(rt; status, Status::Usage);
     }
     let mut nodes = registry(alloc, &[])?;
     let mut source = MemSource::new(b"show alpha Ab3dE-00001\n".to_vec(alloc)?, Vec::new(alloc));
     let replay = words(alloc, &["replay", "r", "s"])?;
-    assert_eq!(rt;
-        splinter(alloc, &replay, &mut nodes, &mut source, &mut FullSink),
-        Status::NoMemory
+    let mut bench = blank_bench(alloc)?;
+    let status = splinter(
+        alloc,
+        &replay,
+        &mut nodes,
+        &mut source,
+        &mut FullSink,
+        &mut bench,
     );
+    assert_eq!(rt; status, Status::NoMemory);
     let lines = [
         (Status::Ok, 0, ""),
         (

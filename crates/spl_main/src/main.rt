@@ -7,7 +7,7 @@ ghost use Rattle.std.specs.IoError.{error_kind};
 mod adapters;
 
 use adapters::{FileSource, StdSink};
-use spl_app::{Status, splinter};
+use spl_app::{Status, blank_bench, splinter};
 use std::fs::File;
 use std::io::{ErrorKind, Write};
 use std::process::ExitCode;
@@ -50,7 +50,18 @@ fn run(rt: &HostRuntime) -> Status {
     let mut registry = source(rt, words.get(1));
     let mut schedule = source(rt, words.get(2));
     let mut out = StdSink::new(rt.stdout());
-    splinter(rt.alloc(), &words, &mut registry, &mut schedule, &mut out)
+    let mut bench = match blank_bench(rt.alloc()) {
+        Ok(bench) => bench,
+        Err(_) => return Status::NoMemory,
+    };
+    splinter(
+        rt.alloc(),
+        &words,
+        &mut registry,
+        &mut schedule,
+        &mut out,
+        &mut bench,
+    )
 }
 
 // One line on standard error.
