@@ -86,6 +86,19 @@ module _ {before after bytes text : List ℕ} (r : Gave before after bytes text)
   stop_run ns why a b number line same found = subst (λ (n : ℕ). StopsAt ns why (run_of (appended_bytes before after)) n × Appends a b (answers ns (take (n - 1) (run_of (appended_bytes before after))))) same
       (subst (λ (ls : List (List ℕ)). StopsAt ns why ls number × Appends a b (answers ns (take (number - 1) ls))) lines_run found)
 
+  -- what is said of the lines that ran
+  pub any_run : (P : List (List ℕ) → Type 0) → P (lines_of text) → P (run_of (appended_bytes before after))
+  any_run P h = subst P lines_run h
+
+  pub any_given : (P : List (List ℕ) → Type 0) → length bytes ≤ limit → P (lines_of text) → P (lines_of (appended_bytes before after))
+  any_given P short h = subst (λ (l : List ℕ). P (lines_of l)) (text_given short) h
+
+  pub any_stop : (P : List (List ℕ) → Type 0) (number line : ℕ) → number ≡ line → P (take (number - 1) (lines_of text)) → P (take (line - 1) (run_of (appended_bytes before after)))
+  any_stop P number line same h = subst (λ (n : ℕ). P (take (n - 1) (run_of (appended_bytes before after)))) same (subst (λ (ls : List (List ℕ)). P (take (number - 1) ls)) lines_run h)
+
+  pub any_rest : (P : List (List ℕ) → Type 0) (number : ℕ) → number ≡ length (lines_of text) + 1 → P (lines_of text) → P (take (number - 1) (run_of (appended_bytes before after)))
+  any_rest P number is h = subst (λ (ls : List (List ℕ)). P (take (number - 1) ls)) lines_run (subst P (sym (take_all (number - 1) (lines_of text) (omega arith))) h)
+
   pub front_run : (ns : List Node) (P : List (List ℕ) → Type 0) → HasFront ns (lines_of text) P → HasFront ns (run_of (appended_bytes before after)) P
   front_run ns P front = subst (λ (ls : List (List ℕ)). HasFront ns ls P) lines_run front
 

@@ -6,6 +6,7 @@ mod Dues
 mod Events
 mod Feeds
 mod Given
+mod Holds
 mod Outputs
 mod Registries
 mod Runs

@@ -5,7 +5,9 @@ use Rattle.spl_registry.specs.declared.fault.RegistryFault.{RegistryFault}
 use Rattle.spl_registry.specs.Nodes.{Entry, ids_of, node_at}
 use Rattle.spl_registry.specs.Tree.{registry_of}
 use Rattle.spl_world.specs.Disks.{PairView, RoseAt}
+use Rattle.spl_world.specs.Held.{AreHeld}
 use Rattle.spl_app.specs.Lines.{limit}
+use Rattle.spl_app.specs.Run.{ran}
 
 abbrev pub nodes_in : Result (List Entry) RegistryFault → List Node
 nodes_in (Ok entries) = sorted (ids_of entries)
@@ -35,6 +37,12 @@ pub record HasRisenIn (text : List ℕ) (node : Node) (old new : List PairView) 
   pub entries : List Entry
   pub spelled : registry_of text ≡ Ok entries
   pub risen : HasRisenAt entries node old new
+
+-- of the registry that bytes spell: the pair of each node, at its position there, holds what the node keeps behind these lines, and so did what it picked
+pub record Hold (text : List ℕ) (lines : List (List ℕ)) (ps : List PairView) : Type 0 where
+  pub entries : List Entry
+  pub spelled : registry_of text ≡ Ok entries
+  pub held : AreHeld (nodes_of text) (ran lines) entries ps
 
 -- a disk has failed more often
 abbrev pub SomeRose : List PairView → List PairView → Type 0

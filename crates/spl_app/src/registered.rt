@@ -1,6 +1,7 @@
 //! The nodes of a run: those of the registry that a source gives.
-ghost use Rattle.std.specs.Prelude.{◌≡◌, ◌<◌, Ok, Err, length, IfOk, OnOk, IsErrOf};
+ghost use Rattle.std.specs.Prelude.{◌≡◌, ◌≢◌, ◌<◌, Ok, Err, length, IfOk, OnOk, IsErrOf};
 ghost use Rattle.std.specs.Io.{appended_bytes};
+ghost use Rattle.std.specs.List.{AllPairs};
 ghost use Rattle.std.specs.Io.KnownBytes.{Consumes, IsAtEnd};
 ghost use Rattle.spl_edge.specs.Causes.{Rose};
 ghost use Rattle.spl_circuit.specs.Nodes.{sorted};
@@ -19,7 +20,8 @@ use std::alloc::{AllocError, Global};
 
 /// The ids of the nodes of a registry, in order.
 pub fn sorted_ids(alloc: Global, registry: &Registry) -> Result<Vec<NodeId>, AllocError>
-    ensures { IfOk result (λ v. v.items ≡ sorted (ids_of registry.now)) }
+    ensures ids { IfOk result (λ v. v.items ≡ sorted (ids_of registry.now)) }
+    ensures apart { OnOk result (AllPairs (λ a b. a ≢ b) (ids_of registry.now)) }
 {
     let mut ids = registry.ids(alloc)?;
     ids.sort_unstable();

@@ -7,9 +7,10 @@ ghost use Rattle.spl_circuit.specs.Nodes.{Node, sorted};
 ghost use Rattle.spl_registry.specs.declared.fault.RegistryFault.{RegistryFault};
 ghost use Rattle.spl_registry.specs.Nodes.{ids_of};
 ghost use Rattle.spl_world.specs.Disks.{AllGoOn, AreBlank, bench, images, images_at};
+ghost use Rattle.spl_world.specs.Held.{AllUnpicked, AreHeld};
 ghost use Rattle.spl_app.specs.Registered.{HasRisenAt, SomeRose};
 ghost use Rattle.spl_app.specs.Lines.{lines_of, rest_of, longest_line, limit};
-ghost use Rattle.spl_app.specs.Run.{HasFront, IsRun, answers};
+ghost use Rattle.spl_app.specs.Run.{HasFront, IsRun, ran, answers};
 ghost use Rattle.spl_app.specs.Schedule.{IsSchedule, IsBadAt, HasTooMany, had, run_of};
 
 use crate::Status;
@@ -62,6 +63,15 @@ pub fn replay<S: Source, W: Sink, D: StopDisk>(
     ensures disk { (node : Node) → result ≡ Status.DiskFault node → let given = appended_bytes (S.taken schedule.old) (S.taken schedule.new) in
         HasFront (sorted (ids_of registry.now)) (run_of given) (λ ls. Appends (W.written out.old) (W.written out.new) (answers (sorted (ids_of registry.now)) ls))
         × HasRisenAt registry.now node (bench D.image_at D.moment D.faults D.armed D.picks pairs.old.items) (bench D.image_at D.moment D.faults D.armed D.picks pairs.new.items) }
+    // Where the disks had picked nothing, those of each node hold what the node keeps behind the lines that ran.
+    ensures held_ok { result ≡ Status.Ok → AllUnpicked (bench D.image_at D.moment D.faults D.armed D.picks pairs.old.items) → let given = appended_bytes (S.taken schedule.old) (S.taken schedule.new) in
+        AreHeld (sorted (ids_of registry.now)) (ran (lines_of given)) registry.now (bench D.image_at D.moment D.faults D.armed D.picks pairs.new.items) }
+    ensures held_bad { (line : ℕ) → result ≡ Status.BadSchedule line → AllUnpicked (bench D.image_at D.moment D.faults D.armed D.picks pairs.old.items) → let given = appended_bytes (S.taken schedule.old) (S.taken schedule.new) in
+        AreHeld (sorted (ids_of registry.now)) (ran (take (line - 1) (run_of given))) registry.now (bench D.image_at D.moment D.faults D.armed D.picks pairs.new.items) }
+    ensures held_read { result ≡ Status.ReadFault → AllUnpicked (bench D.image_at D.moment D.faults D.armed D.picks pairs.old.items) → let given = appended_bytes (S.taken schedule.old) (S.taken schedule.new) in
+        AreHeld (sorted (ids_of registry.now)) (ran (lines_of given)) registry.now (bench D.image_at D.moment D.faults D.armed D.picks pairs.new.items) }
+    ensures held_long { result ≡ Status.TooLong → AllUnpicked (bench D.image_at D.moment D.faults D.armed D.picks pairs.old.items) → let given = appended_bytes (S.taken schedule.old) (S.taken schedule.new) in
+        AreHeld (sorted (ids_of registry.now)) (ran (run_of given)) registry.now (bench D.image_at D.moment D.faults D.armed D.picks pairs.new.items) }
     ensures onward { AllGoOn (bench D.image_at D.moment D.faults D.armed D.picks pairs.old.items) (bench D.image_at D.moment D.faults D.armed D.picks pairs.new.items) }
     ensures part { AppendsPart (W.written out.old) (W.written out.new)
         (answers (sorted (ids_of registry.now)) (run_of (appended_bytes (S.taken schedule.old) (S.taken schedule.new)))) }

@@ -1,6 +1,7 @@
 //! Runs the lines of a schedule.
-ghost use Rattle.std.specs.Prelude.{◌≡◌, false, ◌≤◌, ◌<◌, ◌+◌, ◌-◌, ◌^◌, ◌++◌, ◌∷◌, [], ℕ, List, Option, IfOk, IfSome, OnOk, IsErrOf, IsTrue, take, length};
+ghost use Rattle.std.specs.Prelude.{◌≡◌, ◌≢◌, false, ◌≤◌, ◌<◌, ◌+◌, ◌-◌, ◌^◌, ◌++◌, ◌∷◌, [], ℕ, List, Option, IfOk, IfSome, OnOk, IsErrOf, IsTrue, take, length};
 ghost use Rattle.std.specs.Io.KnownBytes.{Appends};
+ghost use Rattle.std.specs.List.{AllPairs};
 ghost use Rattle.spl_edge.specs.Causes.{Rose, AppendsPart};
 ghost use Rattle.spl_circuit.specs.Nodes.{sorted};
 ghost use Rattle.spl_registry.specs.Nodes.{ids_of as registered};
@@ -13,6 +14,7 @@ ghost use Rattle.spl_model.specs.Outcomes.{by_rule};
 ghost use Rattle.spl_model.specs.Answers.{answer_to};
 ghost use Rattle.spl_model.specs.Counts.{events_of};
 ghost use Rattle.spl_world.specs.Disks.{AllGoOn, AreBlank, LeavesDisks, RoseAt, bench, images, images_at};
+ghost use Rattle.spl_world.specs.Held.{AllHeld, AllUnpicked, AreHeld};
 ghost use Rattle.spl_world.specs.Views.{ArePlaced, IsPlace, Sits, Stands, ids_of, is_halted, places_of, seen};
 
 use crate::fault::RunFault;
@@ -52,6 +54,8 @@ impl Run {
         ensures disks { LeavesDisks result (bench D.image_at D.moment D.faults D.armed D.picks pairs.old.items) (bench D.image_at D.moment D.faults D.armed D.picks pairs.new.items) }
         ensures few { (which : ℕ) → IsErrOf result (WorldFault.TooMany which) → ⊥ }
         ensures placed { IfOk result (λ run. ArePlaced registry.now run.world) }
+        ensures held { AllUnpicked (bench D.image_at D.moment D.faults D.armed D.picks pairs.old.items) → IfOk result (λ run. AllHeld [] run.world (bench D.image_at D.moment D.faults D.armed D.picks pairs.new.items)) }
+        ensures apart { OnOk result (AllPairs (λ a b. a ≢ b) (registered registry.now)) }
         ensures place { (slot : ℕ) → IsErrOf result (WorldFault.Disk slot) → slot < length registry.now }
     {
         Ok(Run {
@@ -103,6 +107,7 @@ impl Run {
         ensures output { self.new.output ≡ self.old.output }
         ensures disks { LeavesDisks result (bench D.image_at D.moment D.faults D.armed D.picks pairs.old.items) (bench D.image_at D.moment D.faults D.armed D.picks pairs.new.items) }
         ensures places { places_of self.new.world ≡ places_of self.old.world }
+        ensures held { (before : List Ran) → Stands before self.old.world (images D.image_at D.moment pairs.old.items) → AllHeld before self.old.world (bench D.image_at D.moment D.faults D.armed D.picks pairs.old.items) → OnOk result (AllHeld (before ++ by_rule said.now ∷ []) self.new.world (bench D.image_at D.moment D.faults D.armed D.picks pairs.new.items)) }
         ensures place { (slot : ℕ) → IsErrOf result (WorldFault.Disk slot) → IsPlace (places_of self.old.world) slot }
     {
         let answer = self.world.step(alloc, pairs, said)?;
@@ -141,6 +146,7 @@ impl Run {
         ensures onward { AllGoOn (bench D.image_at D.moment D.faults D.armed D.picks pairs.old.items) (bench D.image_at D.moment D.faults D.armed D.picks pairs.new.items) }
         ensures disk { (slot : ℕ) → IsErrOf result (RunFault.Disk slot) → RoseAt slot (bench D.image_at D.moment D.faults D.armed D.picks pairs.old.items) (bench D.image_at D.moment D.faults D.armed D.picks pairs.new.items) }
         ensures places { places_of self.new.world ≡ places_of self.old.world }
+        ensures held { (before : List Ran) → Stands before self.old.world (images D.image_at D.moment pairs.old.items) → AllHeld before self.old.world (bench D.image_at D.moment D.faults D.armed D.picks pairs.old.items) → OnOk result (AllHeld (before ++ by_rule said.now ∷ []) self.new.world (bench D.image_at D.moment D.faults D.armed D.picks pairs.new.items)) }
         ensures place { (slot : ℕ) → IsErrOf result (RunFault.Disk slot) → IsPlace (places_of self.old.world) slot }
         ensures write { IsErrOf result RunFault.Write → Rose (W.faults out.old) (W.faults out.new) }
         ensures later { W.faults out.old ≤ W.faults out.new }
@@ -183,6 +189,8 @@ impl Run {
         ensures onward { AllGoOn (bench D.image_at D.moment D.faults D.armed D.picks pairs.old.items) (bench D.image_at D.moment D.faults D.armed D.picks pairs.new.items) }
         ensures disk { (slot : ℕ) → IsErrOf result (RunFault.Disk slot) → RoseAt slot (bench D.image_at D.moment D.faults D.armed D.picks pairs.old.items) (bench D.image_at D.moment D.faults D.armed D.picks pairs.new.items) }
         ensures places { places_of self.new.world ≡ places_of self.old.world }
+        ensures held { (lines : List (List ℕ)) → Stands (ran lines) self.old.world (images D.image_at D.moment pairs.old.items) → AllHeld (ran lines) self.old.world (bench D.image_at D.moment D.faults D.armed D.picks pairs.old.items) → OnOk result (AllHeld (ran (lines ++ line.now ∷ [])) self.new.world (bench D.image_at D.moment D.faults D.armed D.picks pairs.new.items)) }
+        ensures same { (n : ℕ) → IsErrOf result (RunFault.BadLine n) → pairs.new ≡ pairs.old }
         ensures place { (slot : ℕ) → IsErrOf result (RunFault.Disk slot) → IsPlace (places_of self.old.world) slot }
         ensures write { IsErrOf result RunFault.Write → Rose (W.faults out.old) (W.faults out.new) }
         ensures later { W.faults out.old ≤ W.faults out.new }
@@ -218,6 +226,8 @@ impl Run {
         ensures onward { AllGoOn (bench D.image_at D.moment D.faults D.armed D.picks pairs.old.items) (bench D.image_at D.moment D.faults D.armed D.picks pairs.new.items) }
         ensures disk { (slot : ℕ) → IsErrOf result (RunFault.Disk slot) → RoseAt slot (bench D.image_at D.moment D.faults D.armed D.picks pairs.old.items) (bench D.image_at D.moment D.faults D.armed D.picks pairs.new.items) }
         ensures place { (slot : ℕ) → IsErrOf result (RunFault.Disk slot) → IsPlace (places_of self.old.world) slot }
+        ensures held { AllHeld [] self.old.world (bench D.image_at D.moment D.faults D.armed D.picks pairs.old.items) → OnOk result (AllHeld (ran (lines_of text.now)) self.old.world (bench D.image_at D.moment D.faults D.armed D.picks pairs.new.items)) }
+        ensures bad_held { AllHeld [] self.old.world (bench D.image_at D.moment D.faults D.armed D.picks pairs.old.items) → (number : ℕ) → IsErrOf result (RunFault.BadLine number) → AllHeld (ran (take (number - 1) (lines_of text.now))) self.old.world (bench D.image_at D.moment D.faults D.armed D.picks pairs.new.items) }
         ensures part { IsDuePart (W.written out.old) (W.written out.new) self.new.output (answers self.old.nodes.items (lines_of text.now)) }
         ensures write { IsErrOf result RunFault.Write → Rose (W.faults out.old) (W.faults out.new) }
         ensures later { W.faults out.old ≤ W.faults out.new }
@@ -264,6 +274,10 @@ pub fn run_lines<W: Sink, D: StopDisk>(
     ensures whole { (slot : ℕ) → IsErrOf result (RunFault.Disk slot) → HasFront (sorted (registered registry.now)) (lines_of text.now) (λ ls. Appends (W.written out.old) (W.written out.new) (answers (sorted (registered registry.now)) ls)) }
     ensures disk { (slot : ℕ) → IsErrOf result (RunFault.Disk slot) → RoseAt slot (bench D.image_at D.moment D.faults D.armed D.picks pairs.old.items) (bench D.image_at D.moment D.faults D.armed D.picks pairs.new.items) }
     ensures place { (slot : ℕ) → IsErrOf result (RunFault.Disk slot) → slot < length registry.now }
+
+    // Where the disks had picked nothing, those of each node hold what the node keeps.
+    ensures held { AllUnpicked (bench D.image_at D.moment D.faults D.armed D.picks pairs.old.items) → OnOk result (AreHeld (sorted (registered registry.now)) (ran (lines_of text.now)) registry.now (bench D.image_at D.moment D.faults D.armed D.picks pairs.new.items)) }
+    ensures bad_held { AllUnpicked (bench D.image_at D.moment D.faults D.armed D.picks pairs.old.items) → (number : ℕ) → IsErrOf result (RunFault.BadLine number) → AreHeld (sorted (registered registry.now)) (ran (take (number - 1) (lines_of text.now))) registry.now (bench D.image_at D.moment D.faults D.armed D.picks pairs.new.items) }
 
     // Whatever the end.
     ensures onward { AllGoOn (bench D.image_at D.moment D.faults D.armed D.picks pairs.old.items) (bench D.image_at D.moment D.faults D.armed D.picks pairs.new.items) }

@@ -10,8 +10,9 @@ ghost use Rattle.spl_registry.specs.declared.fault.RegistryFault.{RegistryFault}
 ghost use Rattle.spl_registry.specs.Tree.{registry_of};
 ghost use Rattle.spl_circuit.specs.Nodes.{Node};
 ghost use Rattle.spl_world.specs.Disks.{AllGoOn, AreBlank, bench as bench_of, images, images_at};
+ghost use Rattle.spl_world.specs.Held.{AllUnpicked};
 ghost use Rattle.spl_app.specs.Run.{HasFront, IsRun, ran, answers};
-ghost use Rattle.spl_app.specs.Registered.{nodes_of, HasRisenIn, IsRegistryText, SomeRose};
+ghost use Rattle.spl_app.specs.Registered.{nodes_of, HasRisenIn, Hold, IsRegistryText, SomeRose};
 ghost use Rattle.spl_app.specs.Schedule.{IsReplay, IsSchedule, IsBadAt, HasTooMany, had, run_of};
 
 use crate::Status;
@@ -124,6 +125,22 @@ pub fn splinter<S: Source, W: Sink, D: StopDisk>(
         (answers (nodes_of (appended_bytes (S.taken registry.old) (S.taken registry.new))) (run_of (appended_bytes (S.taken schedule.old) (S.taken schedule.new)))) }
     ensures nodes_taken { Consumes (S.left registry.old) (S.left registry.new) (appended_bytes (S.taken registry.old) (S.taken registry.new)) }
     ensures taken { Consumes (S.left schedule.old) (S.left schedule.new) (appended_bytes (S.taken schedule.old) (S.taken schedule.new)) }
+
+    // Where the disks had picked nothing: at the end the two disks of each node, at its position in the
+    // registry, stand for what the node keeps behind the lines that ran; and each has one pick for
+    // each line that stopped the node, whose images stand for what it kept behind that line.
+    ensures held_ok { result ≡ Status.Ok → AllUnpicked (bench_of D.image_at D.moment D.faults D.armed D.picks bench.old.pairs.items) → let text = appended_bytes (S.taken registry.old) (S.taken registry.new) in
+        let given = appended_bytes (S.taken schedule.old) (S.taken schedule.new) in
+        Hold text (lines_of given) (bench_of D.image_at D.moment D.faults D.armed D.picks bench.new.pairs.items) }
+    ensures held_bad { (line : ℕ) → result ≡ Status.BadSchedule line → AllUnpicked (bench_of D.image_at D.moment D.faults D.armed D.picks bench.old.pairs.items) → let text = appended_bytes (S.taken registry.old) (S.taken registry.new) in
+        let given = appended_bytes (S.taken schedule.old) (S.taken schedule.new) in
+        Hold text (take (line - 1) (run_of given)) (bench_of D.image_at D.moment D.faults D.armed D.picks bench.new.pairs.items) }
+    ensures held_read { result ≡ Status.ReadFault → AllUnpicked (bench_of D.image_at D.moment D.faults D.armed D.picks bench.old.pairs.items) → let text = appended_bytes (S.taken registry.old) (S.taken registry.new) in
+        let given = appended_bytes (S.taken schedule.old) (S.taken schedule.new) in
+        Rose (S.faults registry.old) (S.faults registry.new) ⊎ Hold text (lines_of given) (bench_of D.image_at D.moment D.faults D.armed D.picks bench.new.pairs.items) }
+    ensures held_long { result ≡ Status.TooLong → AllUnpicked (bench_of D.image_at D.moment D.faults D.armed D.picks bench.old.pairs.items) → let text = appended_bytes (S.taken registry.old) (S.taken registry.new) in
+        let given = appended_bytes (S.taken schedule.old) (S.taken schedule.new) in
+        (limit < length text) ⊎ Hold text (run_of given) (bench_of D.image_at D.moment D.faults D.armed D.picks bench.new.pairs.items) }
 
     // No fault of a disk is forgotten, and none is armed or picked from.
     ensures onward { AllGoOn (bench_of D.image_at D.moment D.faults D.armed D.picks bench.old.pairs.items) (bench_of D.image_at D.moment D.faults D.armed D.picks bench.new.pairs.items) }

@@ -1,10 +1,12 @@
-use Rattle.std.proofs.Common.{ℕ, ◌≡◌, ◌+◌, ◌≤◌, length, ◌<◌, length-take, refl, ap, rules, arith, inl, inr}
-use Rattle.spl_app.specs.Run.{Bad, Past, answers}
+use Rattle.std.proofs.Common.{List, ℕ, ◌≡◌, ◌+◌, ◌≤◌, length, ◌<◌, length-take, refl, ap, rules, arith, inl, inr}
+use Rattle.spl_app.specs.Run.{ran, Bad, Past, answers}
 use Rattle.std.specs.Io.KnownBytes.{Appends}
 use Rattle.spl_circuit.specs.Nodes.{sorted}
 use Rattle.spl_registry.specs.Nodes.{ids_of, node_at}
 use Rattle.spl_app.specs.Lines.{limit}
-use Rattle.spl_app.proofs.Given.{gave, given_length, part_run, front_run, stop_run, good_run, good_given, had_short, runs_on, schedule_given, unfinished, cut, rest_short, rest_empty, rest_more, bad_rest, limit_is}
+use Rattle.spl_world.specs.Disks.{bench}
+use Rattle.spl_world.specs.Held.{AreHeld}
+use Rattle.spl_app.proofs.Given.{any_given, any_rest, any_run, any_stop, gave, given_length, part_run, front_run, stop_run, good_run, good_given, had_short, runs_on, schedule_given, unfinished, cut, rest_short, rest_empty, rest_more, bad_rest, limit_is}
 use Rattle.spl_app.proofs.replay.replay.Goals as goal
 
 pub run_lines-requires-clause-room : goal.run_lines-requires-clause-room
@@ -123,3 +125,33 @@ returns-in-Err-Disk-clause-disk g c = λ node is.
 
 pub returns-in-Err-Disk-clause-complete : goal.returns-in-Err-Disk-clause-complete
 returns-in-Err-Disk-clause-complete g c = λ calm read wrote schedule. absurd (calm (c.in-Err-Disk.slot, c.in-Err-Disk.ensures.disk c.in-Err-Disk.slot (search rules)))
+
+-- ---- what the disks hold
+
+pub returns-in-Err-BadLine-clause-held_bad : goal.returns-in-Err-BadLine-clause-held_bad
+returns-in-Err-BadLine-clause-held_bad g c = λ line is unpicked.
+    let same : c.in-Err-BadLine.line ≡ line = cc in
+    any_stop (gave c.read_all-reading.ensures.taken c.head-text.ensures c.deref.ensures.value) (λ (ls : List (List ℕ)). AreHeld (sorted (ids_of c.args.registry.now)) (ran ls) c.args.registry.now (bench g.D.Disk.image_at g.D.Disk.moment g.D.Disk.faults g.D.Disk.armed g.D.Disk.picks c.run_lines.new.pairs.items)) c.in-Err-BadLine.line line same (c.in-Err-BadLine.ensures.bad_held unpicked c.in-Err-BadLine.line (search rules))
+
+pub returns-in-Fault-clause-held_read : goal.returns-in-Fault-clause-held_read
+returns-in-Fault-clause-held_read g c = λ _ unpicked.
+    let no : 67108864 < length c.read_all-reading.result.bytes.items → ⊥ = λ long. cc (c.read_all-reading.ensures.too_long.1 long) in
+    let short : length c.read_all-reading.result.bytes.items ≤ limit = omega (arith, no, limit_is) in
+    any_given (gave c.read_all-reading.ensures.taken c.head-text.ensures c.deref.ensures.value) (λ (ls : List (List ℕ)). AreHeld (sorted (ids_of c.args.registry.now)) (ran ls) c.args.registry.now (bench g.D.Disk.image_at g.D.Disk.moment g.D.Disk.faults g.D.Disk.armed g.D.Disk.picks c.run_lines.new.pairs.items)) short (c.in-Ok.ensures.held unpicked)
+
+pub returns-in-Whole-clause-held_ok : goal.returns-in-Whole-clause-held_ok
+returns-in-Whole-clause-held_ok g c = λ _ unpicked.
+    let no : 67108864 < length c.read_all-reading.result.bytes.items → ⊥ = λ long. cc (c.read_all-reading.ensures.too_long.1 long) in
+    let short : length c.read_all-reading.result.bytes.items ≤ limit = omega (arith, no, limit_is) in
+    any_given (gave c.read_all-reading.ensures.taken c.head-text.ensures c.deref.ensures.value) (λ (ls : List (List ℕ)). AreHeld (sorted (ids_of c.args.registry.now)) (ran ls) c.args.registry.now (bench g.D.Disk.image_at g.D.Disk.moment g.D.Disk.faults g.D.Disk.armed g.D.Disk.picks c.run_lines.new.pairs.items)) short (c.in-Ok.ensures.held unpicked)
+
+pub returns-in-TooLong-clause-held_long : goal.returns-in-TooLong-clause-held_long
+returns-in-TooLong-clause-held_long g c = λ _ unpicked. any_run (gave c.read_all-reading.ensures.taken c.head-text.ensures c.deref.ensures.value) (λ (ls : List (List ℕ)). AreHeld (sorted (ids_of c.args.registry.now)) (ran ls) c.args.registry.now (bench g.D.Disk.image_at g.D.Disk.moment g.D.Disk.faults g.D.Disk.armed g.D.Disk.picks c.run_lines.new.pairs.items)) (c.in-Ok.ensures.held unpicked)
+
+pub returns-in-Whole-2-clause-held_bad : goal.returns-in-Whole-2-clause-held_bad
+returns-in-Whole-2-clause-held_bad g c = λ line is unpicked.
+    any_rest (gave c.read_all-reading.ensures.taken c.head-text.ensures c.deref.ensures.value) (λ (ls : List (List ℕ)). AreHeld (sorted (ids_of c.args.registry.now)) (ran ls) c.args.registry.now (bench g.D.Disk.image_at g.D.Disk.moment g.D.Disk.faults g.D.Disk.armed g.D.Disk.picks c.run_lines.new.pairs.items)) line (let same : c.in-Ok.count + 1 ≡ line = cc in omega (arith, c.in-Ok.ensures.count)) (c.in-Ok.ensures.held unpicked)
+
+pub returns-clause-held_bad : goal.returns-clause-held_bad
+returns-clause-held_bad g c = λ line is unpicked.
+    any_rest (gave c.read_all-reading.ensures.taken c.head-text.ensures c.deref.ensures.value) (λ (ls : List (List ℕ)). AreHeld (sorted (ids_of c.args.registry.now)) (ran ls) c.args.registry.now (bench g.D.Disk.image_at g.D.Disk.moment g.D.Disk.faults g.D.Disk.armed g.D.Disk.picks c.run_lines.new.pairs.items)) line (let same : c.in-Ok.count + 1 ≡ line = cc in omega (arith, c.in-Ok.ensures.count)) (c.in-Ok.ensures.held unpicked)

@@ -1,10 +1,12 @@
 use Rattle.std.proofs.Common.{◌-◌, List, [], take, sym, subst}
 use Rattle.spl_circuit.specs.Nodes.{Node}
-use Rattle.spl_world.specs.Disks.{images}
+use Rattle.spl_world.specs.Disks.{bench, images}
+use Rattle.spl_world.specs.Held.{AreHeld}
+use Rattle.spl_world.proofs.HoldingSeats.{seats_held}
 use Rattle.spl_app.specs.Lines.{lines_of}
 use Rattle.std.proofs.KnownBytes.{Appends-nil}
 use Rattle.spl_world.proofs.Leaving.{all_then}
-use Rattle.spl_app.specs.Run.{Bad, Past, HasFront, StopsAt, answers}
+use Rattle.spl_app.specs.Run.{ran, Bad, Past, HasFront, StopsAt, answers}
 use Rattle.spl_app.specs.Due.{IsDue, IsDuePart}
 use Rattle.spl_app.specs.Behind.{IsBehind}
 use Rattle.spl_app.proofs.Dues.{part_flushed, due_flushed}
@@ -65,3 +67,18 @@ pub returns-clause-whole : goal.returns-clause-whole
 returns-clause-whole g c = λ slot is.
     let found = subst (λ (ns : List Node). HasFront ns (lines_of c.args.text.now) (λ ls. IsDue (g.W.Sink.written c.args.out.now) (g.W.Sink.written c.lines-ended.new.out) c.lines-ended.new.self.output (answers ns ls))) c.in-Ok.ensures.nodes (c.lines-ended.ensures.whole slot is) in
     record { count = found.count; run = found.run; holds = due_flushed _ _ _ _ _ found.holds c.in_ok-flush.ensures.ok }
+
+pub returns-clause-held : goal.returns-clause-held
+returns-clause-held g c = λ unpicked.
+    let ids = (c.in-Ok.ensures.behind (g.W.Sink.written c.args.out.now)).world in
+    let rs = ran (lines_of c.args.text.now) in
+    let ps = bench g.D.Disk.image_at g.D.Disk.moment g.D.Disk.faults g.D.Disk.armed g.D.Disk.picks c.lines-ended.new.pairs.items in
+    ok_then c.lines-ended.result (c.lines-ended.ensures.held (c.in-Ok.ensures.held unpicked)) (λ h.
+    subst (λ (ns : List Node). AreHeld ns rs c.args.registry.now ps) ids (seats_held c.args.registry.now c.in-Ok.run'.world c.in-Ok.ensures.apart ids c.in-Ok.ensures.placed rs ps h))
+
+pub returns-clause-bad_held : goal.returns-clause-bad_held
+returns-clause-bad_held g c = λ unpicked number is.
+    let ids = (c.in-Ok.ensures.behind (g.W.Sink.written c.args.out.now)).world in
+    let rs = ran (take (number - 1) (lines_of c.args.text.now)) in
+    let ps = bench g.D.Disk.image_at g.D.Disk.moment g.D.Disk.faults g.D.Disk.armed g.D.Disk.picks c.lines-ended.new.pairs.items in
+    subst (λ (ns : List Node). AreHeld ns rs c.args.registry.now ps) ids (seats_held c.args.registry.now c.in-Ok.run'.world c.in-Ok.ensures.apart ids c.in-Ok.ensures.placed rs ps (c.lines-ended.ensures.bad_held (c.in-Ok.ensures.held unpicked) number is))

@@ -5,7 +5,9 @@ use Rattle.std.proofs.KnownBytes.{Appends-nil}
 use Rattle.spl_edge.specs.Causes.{AppendsPart}
 use Rattle.spl_circuit.specs.Nodes.{Node}
 use Rattle.spl_app.specs.Lines.{lines_of}
-use Rattle.spl_app.specs.Run.{HasFront, IsRun, answers}
+use Rattle.spl_world.specs.Disks.{bench}
+use Rattle.spl_world.specs.Held.{AreHeld}
+use Rattle.spl_app.specs.Run.{HasFront, IsRun, ran, answers}
 use Rattle.spl_app.specs.Schedule.{IsSchedule, IsBadAt, HasTooMany, had, run_of}
 use Rattle.spl_app.specs.Registered.{nodes_in, nodes_of}
 use Rattle.spl_world.proofs.Leaving.{all_itself}
@@ -109,3 +111,23 @@ returns-in-Ok-clause-disk g c = λ node is.
     let found = c.replay.ensures.disk node is in
     let front = subst (λ (ns : List Node). HasFront ns (run_of given) (λ ls. Appends (g.W.Sink.written c.args.out.now) (g.W.Sink.written c.replay.new.out) (answers ns ls))) (sym (ap nodes_in c.in-Ok.ensures.entries)) found.0 in
     (c.in-Ok.ensures.text, record { entries = c.in-Ok.found; spelled = c.in-Ok.ensures.entries; risen = found.1 }, front)
+
+pub returns-in-Ok-clause-held_ok : goal.returns-in-Ok-clause-held_ok
+returns-in-Ok-clause-held_ok g c = λ is unpicked.
+    let given = appended_bytes (g.S.Source.taken c.args.schedule.now) (g.S.Source.taken c.replay.new.schedule) in
+    record { entries = c.in-Ok.found; spelled = c.in-Ok.ensures.entries; held = subst (λ (ns : List Node). AreHeld ns (ran (lines_of given)) c.in-Ok.found (bench g.D.Disk.image_at g.D.Disk.moment g.D.Disk.faults g.D.Disk.armed g.D.Disk.picks c.replay.new.pairs.items)) (sym (ap nodes_in c.in-Ok.ensures.entries)) (c.replay.ensures.held_ok is unpicked) }
+
+pub returns-in-Ok-clause-held_bad : goal.returns-in-Ok-clause-held_bad
+returns-in-Ok-clause-held_bad g c = λ line is unpicked.
+    let given = appended_bytes (g.S.Source.taken c.args.schedule.now) (g.S.Source.taken c.replay.new.schedule) in
+    record { entries = c.in-Ok.found; spelled = c.in-Ok.ensures.entries; held = subst (λ (ns : List Node). AreHeld ns (ran (take (line - 1) (run_of given))) c.in-Ok.found (bench g.D.Disk.image_at g.D.Disk.moment g.D.Disk.faults g.D.Disk.armed g.D.Disk.picks c.replay.new.pairs.items)) (sym (ap nodes_in c.in-Ok.ensures.entries)) (c.replay.ensures.held_bad line is unpicked) }
+
+pub returns-in-Ok-clause-held_read : goal.returns-in-Ok-clause-held_read
+returns-in-Ok-clause-held_read g c = λ is unpicked.
+    let given = appended_bytes (g.S.Source.taken c.args.schedule.now) (g.S.Source.taken c.replay.new.schedule) in
+    inr (record { entries = c.in-Ok.found; spelled = c.in-Ok.ensures.entries; held = subst (λ (ns : List Node). AreHeld ns (ran (lines_of given)) c.in-Ok.found (bench g.D.Disk.image_at g.D.Disk.moment g.D.Disk.faults g.D.Disk.armed g.D.Disk.picks c.replay.new.pairs.items)) (sym (ap nodes_in c.in-Ok.ensures.entries)) (c.replay.ensures.held_read is unpicked) })
+
+pub returns-in-Ok-clause-held_long : goal.returns-in-Ok-clause-held_long
+returns-in-Ok-clause-held_long g c = λ is unpicked.
+    let given = appended_bytes (g.S.Source.taken c.args.schedule.now) (g.S.Source.taken c.replay.new.schedule) in
+    inr (record { entries = c.in-Ok.found; spelled = c.in-Ok.ensures.entries; held = subst (λ (ns : List Node). AreHeld ns (ran (run_of given)) c.in-Ok.found (bench g.D.Disk.image_at g.D.Disk.moment g.D.Disk.faults g.D.Disk.armed g.D.Disk.picks c.replay.new.pairs.items)) (sym (ap nodes_in c.in-Ok.ensures.entries)) (c.replay.ensures.held_long is unpicked) })

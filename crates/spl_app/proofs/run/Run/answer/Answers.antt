@@ -37,3 +37,6 @@ pub returns-in-Err-Disk-clause-place : goal.returns-in-Err-Disk-clause-place
 returns-in-Err-Disk-clause-place g c = λ slot is.
     let same : c.in-Err-Disk.slot ≡ slot = cc in
     c.in-Err-Disk.ensures.place slot (ap (λ (f : WorldFault). Err f) (c.in-Err-Disk.field-0-is ∙ ap (λ (n : ℕ). Disk n) same))
+
+pub returns-clause-held : goal.returns-clause-held
+returns-clause-held g c = λ before stands held. c.in-Ok.ensures.held before stands held

@@ -38,3 +38,6 @@ returns-in_err-answer-clause-place g c = λ slot is.
 
 pub step-requires-clause-steps : goal.step-requires-clause-steps
 step-requires-clause-steps g c = taken_steps c.args.said.now c.requires.known.taken
+
+pub returns-clause-held : goal.returns-clause-held
+returns-clause-held g c = λ before stands held. c.in_ok-answer.ensures.held before stands held

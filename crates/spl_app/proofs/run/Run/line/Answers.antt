@@ -1,6 +1,8 @@
 use Rattle.std.proofs.Common.{[], ◌∷◌, sym, ◌∙◌}
+use Rattle.spl_world.specs.Disks.{bench}
 use Rattle.spl_app.specs.Run.{ran}
-use Rattle.spl_app.proofs.Behinds.{on_ok, past_said, behind_part, behind_silent, behind_said, part_said}
+use Rattle.spl_app.proofs.Behinds.{ok_then, on_ok, past_said, behind_part, behind_silent, behind_said, part_said}
+use Rattle.spl_app.proofs.Holds.{held_said, held_silent}
 use Rattle.spl_app.proofs.run.Run.line.Goals as goal
 
 pub returns-in-Ok-None-clause-ok : goal.returns-in-Ok-None-clause-ok
@@ -31,3 +33,12 @@ returns-in-Err-BadLine-clause-part g c = λ lines start behind counted. behind_p
 
 pub returns-in-Err-NoMemory-clause-part : goal.returns-in-Err-NoMemory-clause-part
 returns-in-Err-NoMemory-clause-part g c = λ lines start behind counted. behind_part _ lines _ _ _ _ behind (c.args.line.now ∷ [])
+
+pub returns-in-Ok-None-clause-held : goal.returns-in-Ok-None-clause-held
+returns-in-Ok-None-clause-held g c = λ lines stands held.
+    held_silent lines c.args.line.now (sym c.in-Ok-None.ensures.said ∙ c.in-Ok-None.field-0-is) c.args.self.now.world (bench g.D.Disk.image_at g.D.Disk.moment g.D.Disk.faults g.D.Disk.armed g.D.Disk.picks c.args.pairs.now.items) held
+
+pub returns-in-Ok-Some-clause-held : goal.returns-in-Ok-Some-clause-held
+returns-in-Ok-Some-clause-held g c = λ lines stands held.
+    ok_then c.answer.result (c.answer.ensures.held (ran lines) stands held)
+    (held_said lines c.args.line.now c.in-Ok-Some.said (sym c.in-Ok-Some.ensures.said ∙ c.in-Ok-Some.field-0-is) c.answer.new.self.world (bench g.D.Disk.image_at g.D.Disk.moment g.D.Disk.faults g.D.Disk.armed g.D.Disk.picks c.answer.new.pairs.items))

@@ -1,18 +1,22 @@
 use Rattle.std.proofs.Common.{Err, ◌≡◌, ◌-◌, ℕ, List, [], ◌∷◌, ◌++◌, take, sym, ◌∙◌, ap, subst, rules, arith}
 use Rattle.std.specs.List.{AllByRecursion}
 use Rattle.spl_circuit.specs.Nodes.{Node}
-use Rattle.spl_world.specs.Disks.{images}
+use Rattle.spl_edge.specs.declared.bench.Pair.{Pair}
+use Rattle.std.specs.Global.{Vec}
+use Rattle.spl_world.specs.Disks.{bench, images}
+use Rattle.spl_world.specs.Held.{AllHeld}
 use Rattle.spl_world.specs.Views.{IsPlace}
 use Rattle.spl_world.proofs.Leaving.{all_then}
 use Rattle.spl_app.specs.declared.fault.RunFault.{RunFault}
 use Rattle.spl_app.specs.declared.fault.RunFault.TheVariants.{BadLine, TooMany, Disk}
 use Rattle.spl_app.specs.Lines.{lines_of}
-use Rattle.spl_app.specs.Run.{IsLine, IsRun, Bad, Past, StopsFor, answers}
+use Rattle.spl_app.specs.Run.{ran, IsLine, IsRun, Bad, Past, StopsFor, answers}
 use Rattle.spl_app.specs.Due.{IsDue, IsDuePart}
 use Rattle.spl_app.specs.Behind.{IsBehind}
 use Rattle.spl_app.proofs.Dues.{due_same, due_whole}
 use Rattle.spl_app.proofs.Behinds.{at_own}
 use Rattle.spl_app.proofs.Benches.{rose_later}
+use Rattle.spl_app.proofs.Holds.{held_as}
 use Rattle.spl_app.proofs.Runs.{all-push, next_number, within, taken, behind, part_of_all, stops_at, none_left, all_counted}
 use Rattle.spl_app.proofs.run.Run.lines.Goals as goal
 
@@ -70,6 +74,7 @@ lines-preserved g c =
           (subst (λ (ns : List Node). IsBehind ns (front ++ line ∷ []) c.line.new.self (images g.D.Disk.image_at g.D.Disk.moment c.line.new.pairs.items) (g.W.Sink.written c.args.out.now) (g.W.Sink.written c.line.new.out)) c.lines.invariant.behind.nodes behind_line);
       onward = all_then _ _ _ c.lines.invariant.onward c.line.ensures.onward;
       places = c.line.ensures.places ∙ c.lines.invariant.places;
+      held = λ h. subst (λ (ls : List (List ℕ)). AllHeld (ran ls) c.line.new.self.world (bench g.D.Disk.image_at g.D.Disk.moment g.D.Disk.faults g.D.Disk.armed g.D.Disk.picks c.line.new.pairs.items)) more (c.in_default-line.ensures.held front c.lines.invariant.behind.stands (c.lines.invariant.held h));
       later = search rules;
     }
 
@@ -113,3 +118,20 @@ pub returns-in-Err-clause-place : goal.returns-in-Err-clause-place
 returns-in-Err-clause-place g c = λ slot is.
     let same : c.in-Err.fault ≡ Disk slot = cc in
     subst (λ (ks : List ℕ). IsPlace ks slot) c.lines.invariant.places (c.in-Err.ensures.place slot (ap (λ (e : RunFault). Err e) same))
+
+pub returns-clause-held : goal.returns-clause-held
+returns-clause-held g c = λ h.
+    let all = none_left (lines_of c.args.text.now) c.lines.count c.lines.invariant.counted (sym c.lines.invariant.left ∙ c.in_default.ensures) in
+    subst (λ (ls : List (List ℕ)). AllHeld (ran ls) c.args.self.now.world (bench g.D.Disk.image_at g.D.Disk.moment g.D.Disk.faults g.D.Disk.armed g.D.Disk.picks c.lines.pairs.items)) all
+    (held_as (ran (take c.lines.count (lines_of c.args.text.now))) c.lines.self.world c.args.self.now.world (bench g.D.Disk.image_at g.D.Disk.moment g.D.Disk.faults g.D.Disk.armed g.D.Disk.picks c.lines.pairs.items) (c.requires.fresh.world ∙ sym c.lines.invariant.behind.world) (sym c.lines.invariant.places) (c.lines.invariant.held h))
+
+pub returns-in-Err-clause-bad_held : goal.returns-in-Err-clause-bad_held
+returns-in-Err-clause-bad_held g c = λ h number is.
+    let same : c.in-Err.fault ≡ BadLine number = cc in
+    let failed = ap (λ (e : RunFault). Err e) same in
+    let found = c.in-Err.ensures.bad number failed in
+    let still = c.in-Err.ensures.same number failed in
+    let before : number - 1 ≡ c.lines.count = omega (arith, found.0) in
+    subst (λ (k : ℕ). AllHeld (ran (take k (lines_of c.args.text.now))) c.args.self.now.world (bench g.D.Disk.image_at g.D.Disk.moment g.D.Disk.faults g.D.Disk.armed g.D.Disk.picks c.line.new.pairs.items)) (sym before)
+    (subst (λ (ps : Vec (Pair _)). AllHeld (ran (take c.lines.count (lines_of c.args.text.now))) c.args.self.now.world (bench g.D.Disk.image_at g.D.Disk.moment g.D.Disk.faults g.D.Disk.armed g.D.Disk.picks ps.items)) (sym still)
+    (held_as (ran (take c.lines.count (lines_of c.args.text.now))) c.lines.self.world c.args.self.now.world (bench g.D.Disk.image_at g.D.Disk.moment g.D.Disk.faults g.D.Disk.armed g.D.Disk.picks c.lines.pairs.items) (c.requires.fresh.world ∙ sym c.lines.invariant.behind.world) (sym c.lines.invariant.places) (c.lines.invariant.held h)))

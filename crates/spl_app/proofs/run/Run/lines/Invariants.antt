@@ -1,9 +1,10 @@
-use Rattle.std.proofs.Common.{◌≡◌, ◌≤◌, ◌+◌, ℕ, length, take, drop}
+use Rattle.std.proofs.Common.{◌≡◌, ◌≤◌, ◌+◌, ℕ, [], length, take, drop}
 use Rattle.std.specs.List.{AllByRecursion}
 use Rattle.spl_world.specs.Disks.{AllGoOn, bench, images}
+use Rattle.spl_world.specs.Held.{AllHeld}
 use Rattle.spl_world.specs.Views.{places_of}
 use Rattle.spl_app.specs.Lines.{lines_of}
-use Rattle.spl_app.specs.Run.{IsLine}
+use Rattle.spl_app.specs.Run.{IsLine, ran}
 use Rattle.spl_app.specs.Behind.{IsBehind}
 use Rattle.spl_app.proofs.run.Run.lines.Given as goal
 
@@ -16,6 +17,7 @@ invariant-lines g l = record {
   behind : IsBehind l.initial.self.nodes.items (take l.count (lines_of l.text)) l.self (images g.D.Disk.image_at g.D.Disk.moment l.pairs.items) (g.W.Sink.written l.initial.out) (g.W.Sink.written l.out);
   onward : AllGoOn (bench g.D.Disk.image_at g.D.Disk.moment g.D.Disk.faults g.D.Disk.armed g.D.Disk.picks l.initial.pairs.items) (bench g.D.Disk.image_at g.D.Disk.moment g.D.Disk.faults g.D.Disk.armed g.D.Disk.picks l.pairs.items);
   places : places_of l.self.world ≡ places_of l.initial.self.world;
+  held : AllHeld [] l.initial.self.world (bench g.D.Disk.image_at g.D.Disk.moment g.D.Disk.faults g.D.Disk.armed g.D.Disk.picks l.initial.pairs.items) → AllHeld (ran (take l.count (lines_of l.text))) l.self.world (bench g.D.Disk.image_at g.D.Disk.moment g.D.Disk.faults g.D.Disk.armed g.D.Disk.picks l.pairs.items);
   later : g.W.Sink.faults l.initial.out ≤ g.W.Sink.faults l.out;
 }
 

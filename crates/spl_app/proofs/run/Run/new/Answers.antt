@@ -7,7 +7,7 @@ use Rattle.spl_app.proofs.run.Run.new.Goals as goal
 
 pub returns-clause-behind : goal.returns-clause-behind
 returns-clause-behind g c = λ start. record {
-  nodes = c.in_ok-sorted_ids.ensures;
+  nodes = c.in_ok-sorted_ids.ensures.ids;
   world = c.in_ok-new-2.ensures.ids;
   running = c.in_ok-new-2.ensures.running;
   stands = c.in_ok-new-2.ensures.stands;
@@ -17,3 +17,6 @@ returns-clause-behind g c = λ start. record {
 
 pub returns-clause-disks : goal.returns-clause-disks
 returns-clause-disks g c = leaves_ok _ _ _ c.new-3.ensures.disks.onward
+
+pub returns-clause-held : goal.returns-clause-held
+returns-clause-held g c = λ unpicked. c.in_ok-new-2.ensures.held unpicked
