@@ -7,7 +7,7 @@ use Rattle.spl_world.specs.declared.fault.WorldFault.TheVariants.{Disk}
 use Rattle.spl_world.specs.Disks.{PairView, AllGoOn, RoseAt, LeavesDisks}
 use Rattle.spl_circuit.specs.Nodes.{NodeId}
 use Rattle.spl_registry.specs.Nodes.{Entry, node_at}
-use Rattle.spl_sched.specs.Taken.{is_taken}
+use Rattle.spl_app.specs.Taken.{is_taken}
 use Rattle.spl_sched.specs.declared.line.Line.{Line}
 use Rattle.spl_sched.specs.declared.line.Line.TheVariants as line
 use Rattle.spl_world.specs.Lines.{steps}

@@ -7,6 +7,7 @@ ghost use Rattle.spl_circuit.specs.Nodes.{sorted};
 ghost use Rattle.spl_registry.specs.Nodes.{ids_of as registered};
 ghost use Rattle.spl_app.specs.Lines.{lines_of};
 ghost use Rattle.spl_app.specs.Due.{IsDue, IsDuePart};
+ghost use Rattle.spl_app.specs.Taken.{is_taken};
 ghost use Rattle.spl_app.specs.Run.{IsLine, IsRunnable, IsRun, Bad, Past, StopsAt, HasFront, said, ran, printed, answers};
 ghost use Rattle.spl_answer.specs.Texts.{text as text_of};
 ghost use Rattle.spl_model.specs.Projection.{Ran};
@@ -37,6 +38,13 @@ pub struct Run {
     world: World,
     text: Vec<u8>,
     output: Output,
+}
+
+// A run takes the line.
+fn is_taken(line: &Line) -> bool
+    ensures { result ≡ is_taken line.now }
+{
+    matches!(line, Line::Step(_) | Line::Calm { .. })
 }
 
 impl Run {
@@ -80,7 +88,7 @@ impl Run {
             return Ok(None);
         }
         match read_line(alloc, line) {
-            Ok(said) if said.names_only(&self.nodes) && said.is_taken() => Ok(Some(said)),
+            Ok(said) if said.names_only(&self.nodes) && is_taken(&said) => Ok(Some(said)),
             Ok(_) => Err(LineFault::BadLine),
             Err(fault) => Err(fault),
         }

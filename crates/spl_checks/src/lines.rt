@@ -36,7 +36,7 @@ fn circuit_text(alloc: Global, line: &Line) -> Answered {
     }
 }
 
-/// What a line says: its circuit, whether a run takes it, its parts, and whether it is written back as it was.
+/// What a line says: its circuit, its parts, and whether it is written back as it was.
 pub fn said(alloc: Global, text: &str) -> Answered {
     let line = match read_line(alloc, text.as_bytes()) {
         Ok(line) => line,
@@ -45,18 +45,13 @@ pub fn said(alloc: Global, text: &str) -> Answered {
     };
     let circuit = circuit_text(alloc, &line)?;
     let parts = parts_text(alloc, &line)?;
-    let taken = if line.is_taken() {
-        "taken"
-    } else {
-        "not taken"
-    };
     let written = write_line(alloc, &line)?;
     let again = if written.bytes() == text.as_bytes() {
         "written back"
     } else {
         "written otherwise"
     };
-    Ok(format!(in alloc; "{circuit}, {taken}, {parts}, {again}")?)
+    Ok(format!(in alloc; "{circuit}, {parts}, {again}")?)
 }
 
 /// Whether a line names no node but these: NODE,NODE LINE.

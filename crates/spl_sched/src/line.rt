@@ -87,7 +87,6 @@ impl Line {
     ghost use Rattle.std.specs.List.{list_all};
     ghost use Rattle.spl_circuit.specs.Nodes.{has_node};
     ghost use Rattle.spl_sched.specs.Grammar.{nodes_of, circuit_of};
-    ghost use Rattle.spl_sched.specs.Taken.{is_taken};
 
     /// Each node that the line names is one of these: where it takes place, members, the nodes of
     /// services, and where a message comes from.
@@ -118,12 +117,5 @@ impl Line {
             Line::Cut { step, .. } => Some(step.circuit()),
             Line::Fail { step, .. } => Some(step.circuit()),
         }
-    }
-
-    /// A run takes the line today.
-    pub fn is_taken(&self) -> bool
-        ensures { result ≡ is_taken self.now }
-    {
-        matches!(self, Line::Step(_) | Line::Calm { .. })
     }
 }
