@@ -24,6 +24,7 @@ ghost use Rattle.spl_node.specs.Stands.{StandFor};
 ghost use Rattle.spl_node.specs.Stopping.{IsStopping, PicksArmed, cells_stopped, counting_arming, event_changes, fill_of, has_changes, keeps, other_arming, passing};
 ghost use Rattle.spl_node.specs.declared.host.Host.{Host as Kept};
 
+use crate::stopping::{arm, handle_armed, pick_both};
 use crate::{Node, Outcome, Stopping};
 use spl_base::{CircuitId, Listing, NodeId};
 use spl_edge::{Disk, Fill, Pair, StopDisk};
@@ -181,10 +182,10 @@ impl Host {
         ensures id { host_id self.new ≡ host_id self.old }
         ensures down { OnOk result (is_up self.new ≡ false) }
         ensures stands { OnOk result (HostStands self.new (D.image_at disks.new.first (D.moment disks.new.first)) (D.image_at disks.new.second (D.moment disks.new.second))) }
-        ensures tells { IfOk result (λ b. b ≡ has_changes (event_changes (host_id self.old) (host_cell self.old (D.image_at disks.old.first (D.moment disks.old.first)) (D.image_at disks.old.second (D.moment disks.old.second))) circuit.now (option_copied event))) }
+        ensures tells { IfOk result (λ b. b ≡ has_changes (event_changes (host_id self.old) (host_cell self.old (D.image_at disks.old.first (D.moment disks.old.first)) (D.image_at disks.old.second (D.moment disks.old.second))) circuit.now (option_copied event.entry))) }
 
         // The changes are made where their record is kept, and the open rounds are forgotten.
-        ensures cells { OnOk result ((c : CircuitId) → host_cell self.new (D.image_at disks.new.first (D.moment disks.new.first)) (D.image_at disks.new.second (D.moment disks.new.second)) c ≡ (cells_stopped (host_id self.old) (host_cell self.old (D.image_at disks.old.first (D.moment disks.old.first)) (D.image_at disks.old.second (D.moment disks.old.second))) circuit.now (event_changes (host_id self.old) (host_cell self.old (D.image_at disks.old.first (D.moment disks.old.first)) (D.image_at disks.old.second (D.moment disks.old.second))) circuit.now (option_copied event)) (keeps stopping)) c) }
+        ensures cells { OnOk result ((c : CircuitId) → host_cell self.new (D.image_at disks.new.first (D.moment disks.new.first)) (D.image_at disks.new.second (D.moment disks.new.second)) c ≡ (cells_stopped (host_id self.old) (host_cell self.old (D.image_at disks.old.first (D.moment disks.old.first)) (D.image_at disks.old.second (D.moment disks.old.second))) circuit.now (event_changes (host_id self.old) (host_cell self.old (D.image_at disks.old.first (D.moment disks.old.first)) (D.image_at disks.old.second (D.moment disks.old.second))) circuit.now (option_copied event.entry)) (keeps stopping)) c) }
 
         // The disk that counts is armed for the first four calls of the event, and the other for those behind them; both pick.
         ensures counts { IfBoth (D.image_at disks.old.first (D.moment disks.old.first)) (D.image_at disks.old.second (D.moment disks.old.second)) (λ i j. second_counts i.bytes j.bytes ≡ host_second self.old) }
@@ -194,12 +195,17 @@ impl Host {
             (D.armed disks.new.second) (D.picks disks.old.second) (D.picks disks.new.second)) }
 
         // Where a call that keeps the record didn't pass, a disk has failed.
-        ensures risen { OnOk result ((event_changes (host_id self.old) (host_cell self.old (D.image_at disks.old.first (D.moment disks.old.first)) (D.image_at disks.old.second (D.moment disks.old.second))) circuit.now (option_copied event)) ≢ [] → passing stopping < 4 → Rose (D.faults disks.old.first) (D.faults disks.new.first) ⊎ Rose (D.faults disks.old.second) (D.faults disks.new.second)) }
+        ensures risen { OnOk result ((event_changes (host_id self.old) (host_cell self.old (D.image_at disks.old.first (D.moment disks.old.first)) (D.image_at disks.old.second (D.moment disks.old.second))) circuit.now (option_copied event.entry)) ≢ [] → passing stopping < 4 → Rose (D.faults disks.old.first) (D.faults disks.new.first) ⊎ Rose (D.faults disks.old.second) (D.faults disks.new.second)) }
         ensures first_stays { D.faults disks.old.first ≤ D.faults disks.new.first }
         ensures second_stays { D.faults disks.old.second ≤ D.faults disks.new.second }
     {
-        self.node = None;
-        Err(AllocError)
+        let Some(mut node) = self.node.take() else {
+            unreachable!();
+        };
+        arm(disks, node.counting() == 1, stopping);
+        let changed = handle_armed(&mut node, alloc, disks, circuit, event, stopping)?;
+        pick_both(alloc, disks, stopping.fill())?;
+        Ok(changed)
     }
 
     /// Brings the node up: its cells are those that its disks make. A node that is up stays as it
