@@ -8,7 +8,7 @@ use Rattle.std.proofs.lemmas.Bool.{cases_lt}
 use Rattle.std.proofs.lemmas.Bool.Decides.{nat_tests}
 use Rattle.spl_agree.proofs.Tests.{bool_cases}
 use Rattle.spl_circuit.specs.Nodes.{NodeId, CircuitId}
-use Rattle.spl_edge.specs.Calls.{SamePast, armed_with, fails_at}
+use Rattle.spl_edge.specs.Calls.{armed_with, fails_at}
 use Rattle.spl_edge.specs.Causes.{Rose}
 use Rattle.spl_edge.specs.Image.{Image, MayLeave, IsSettled, settled_at}
 use Rattle.spl_edge.specs.Picks.{Picked, picked_bytes, picked_of}

@@ -108,8 +108,8 @@ pub(crate) fn pick_both<D: StopDisk>(
     disks.second.pick(alloc, fill)
 }
 
-/// An event at a node whose disks are armed. It tells whether the event has changes; an error comes
-/// for want of memory alone.
+/// An event at a node whose disk that counts is armed so. It tells whether the event has changes; an
+/// error comes for want of memory alone.
 fn step_armed<D: StopDisk>(
     node: &mut Node,
     alloc: Global,
@@ -131,7 +131,6 @@ fn step_armed<D: StopDisk>(
     ensures on_second { Onward (D.image_at disks.old.second) (D.image_at disks.new.second) (D.moment disks.old.second) (D.moment disks.new.second) (D.faults disks.old.second) (D.faults disks.new.second)
         (D.armed disks.old.second) (D.armed disks.new.second) (D.picks disks.old.second) (D.picks disks.new.second) }
 {
-    let _ = stopping;
     match node.step(alloc, disks, circuit, event) {
         Ok(outcome) => Ok(outcome.changed),
         Err(JournalFault::Disk) => Ok(true),

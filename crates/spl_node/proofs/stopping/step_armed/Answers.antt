@@ -1,23 +1,16 @@
-use Rattle.std.proofs.Common.{◌≡◌, ◌≢◌, ◌⊎◌, inl, inr, ⊎_elim, ℕ, ◌+◌, ◌<◌, ◌≤◌, List, [], Err, true, IfSome, Option, refl, sym, ◌∙◌, ap, subst, arith}
-use Rattle.std.specs.Prelude.{IsTrue}
-use Rattle.std.specs.Option.{option_map}
-use Rattle.spl_edge.specs.Calls.{fails_at}
-use Rattle.spl_edge.specs.Image.{Image, MayLeave}
-use Rattle.spl_edge.specs.Picks.{picked_bytes}
-use Rattle.spl_journal.specs.Gate.{ByCalls, opened}
+use Rattle.std.proofs.Common.{◌≡◌, ◌≢◌, inl, inr, ⊎_elim, ◌≤◌, [], Err, refl, ap, arith}
 use Rattle.spl_journal.specs.Journals.{end_of}
 use Rattle.spl_journal.specs.Records.{sized}
-use Rattle.spl_journal.specs.Stops.{is_kept}
-use Rattle.spl_snapshot.specs.Counting.{chosen, IfBoth, PairLeaves}
+use Rattle.spl_snapshot.specs.Counting.{chosen, PairLeaves}
 use Rattle.spl_snapshot.specs.Pairs.{is_second, journal_in}
 use Rattle.spl_wire.specs.Grouping.{record_of}
 use Rattle.spl_rules.specs.Plans.{plan_of}
 use Rattle.spl_node.specs.Kept.{cells_after}
 use Rattle.spl_node.specs.Records.{is_record, record_bytes, site_at}
 use Rattle.spl_node.specs.Stands.{StandFor, here_of, cell_of}
-use Rattle.spl_node.specs.Stopping.{PicksMake, cells_stopped, fill_of, keeps, passing}
+use Rattle.spl_node.specs.Stopping.{cells_stopped, fill_of, keeps, passing}
 use Rattle.spl_node.proofs.Disks.{settled_pair}
-use Rattle.spl_node.proofs.Halting.{Pass, after_cells, append_stopped, four_kept, four_pass, four_passed, has_some, none_or_some, picks_left, some_rose, stand_then}
+use Rattle.spl_node.proofs.Halting.{after_cells, append_stopped, four_kept, four_pass, four_passed, has_some, none_or_some, picks_left, some_rose, stand_then}
 use Rattle.spl_node.proofs.stopping.step_armed.Goals as goal
 
 pub returns-in-Ok-clause-left : goal.returns-in-Ok-clause-left

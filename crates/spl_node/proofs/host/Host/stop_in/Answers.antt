@@ -3,7 +3,7 @@ use Rattle.std.specs.Option.{option_copied}
 use Rattle.spl_edge.specs.declared.fill.Fill.{Fill}
 use Rattle.spl_snapshot.specs.Counting.{IfBoth}
 use Rattle.spl_node.specs.declared.node.Node.{Node}
-use Rattle.spl_node.specs.Hosts.{host_id, host_cell, kept_cell, made_cell}
+use Rattle.spl_node.specs.Hosts.{kept_cell, made_cell}
 use Rattle.spl_node.specs.Stands.{here_of, cell_of}
 use Rattle.spl_node.specs.Stopping.{PicksMake, cells_stopped, event_changes, keeps}
 use Rattle.spl_node.proofs.Halting.{picked_cells}
