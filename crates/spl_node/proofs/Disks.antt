@@ -135,7 +135,7 @@ calls_as most at first now f told armed ok failed other_ok other_failed oks fail
   whole = λ h. c.whole (oks h);
 }
 
-pub either_calls : (most : ℕ) (at : ℕ → Option Image) (first now : ℕ) (f : ℕ → Image → Image) (told : Option Image) (armed : Armed) (ok failed other_ok other_failed rest_ok rest_failed : Type 0) → (other_ok → ok) → (other_failed → failed)
-    → ByCalls most at first now f told armed ok failed ⊎ ByCalls most at first now f told armed rest_ok rest_failed → ByCalls most at first now f told armed other_ok other_failed ⊎ ByCalls most at first now f told armed rest_ok rest_failed
-either_calls most at first now f told armed ok failed other_ok other_failed rest_ok rest_failed oks fails (inl c) = inl (calls_as most at first now f told armed ok failed other_ok other_failed oks fails c)
-either_calls most at first now f told armed ok failed other_ok other_failed rest_ok rest_failed oks fails (inr c) = inr c
+pub either_calls : {S T U : Type 0} (most : ℕ) (at : ℕ → Option Image) (first now : ℕ) (f : ℕ → Image → Image) (told : Option Image) (armed : Armed) (ok failed other_ok other_failed rest_ok rest_failed : Type 0) → (other_ok → ok) → (other_failed → failed) → (T → U)
+    → (ByCalls most at first now f told armed ok failed × S) ⊎ (ByCalls most at first now f told armed rest_ok rest_failed × T) → (ByCalls most at first now f told armed other_ok other_failed × S) ⊎ (ByCalls most at first now f told armed rest_ok rest_failed × U)
+either_calls most at first now f told armed ok failed other_ok other_failed rest_ok rest_failed oks fails left (inl c) = inl (calls_as most at first now f told armed ok failed other_ok other_failed oks fails c.0, c.1)
+either_calls most at first now f told armed ok failed other_ok other_failed rest_ok rest_failed oks fails left (inr c) = inr (c.0, left c.1)

@@ -19,6 +19,7 @@ use Rattle.spl_node.specs.Done.{IsGiven, record_of_changes}
 use Rattle.spl_node.specs.Kept.{CellsView, AreOwn, cell_at, cells_after, packed_node}
 use Rattle.spl_node.specs.Records.{is_record, record_in, record_bytes, recorded_cell, site_at}
 use Rattle.spl_node.specs.Stands.{Make, StandFor, NodeStands, here_of, cell_of}
+use Rattle.spl_node.specs.Stopping.{has_changes}
 use Rattle.spl_node.proofs.Maps.{order}
 use Rattle.spl_node.proofs.Packs.{made_again}
 use Rattle.spl_node.proofs.Disks.{both_if}
@@ -27,6 +28,11 @@ use Rattle.spl_node.proofs.Standing.{more_made, stand_same}
 pub or_right : (a b : Bool) → (a || b) ≡ false → b ≡ false
 or_right true b h = cc
 or_right false b h = h
+
+-- neither
+pub or_neither : (a b y : Bool) → (a || b) ≡ false → y ≡ false → (a || y) ≡ false
+or_neither true b y h is = cc
+or_neither false b y h is = is
 
 -- the error of a call, handed on by another
 pub same_error : {A B E : Type 0} {x y : E} → IsErrOf {T = A} (Err x) y → IsErrOf {T = B} (Err x) y
@@ -45,12 +51,22 @@ some_in : (c : CircuitId) (xs : List Change) (bytes : List ℕ) → Some bytes �
 some_in c [] bytes h = cc
 some_in c (x ∷ xs) bytes h = cc
 
+some_changes : (c : CircuitId) (xs : List Change) (bytes : List ℕ) → Some bytes ≡ record_of_changes c xs → true ≡ has_changes xs
+some_changes c [] bytes h = cc
+some_changes c (x ∷ xs) bytes h = refl
+
 module _ (here : NodeId) (c : CircuitId) (before : CircuitId → Cell) (e : Event) (d : Done) (given : IsGiven (site_at here c) (before c) (plan_of (site_at here c) (before c) e) d) where
   pub none_changed : d.bytes ≡ None → (plan_of (site_at here c) (before c) e).changes ≡ []
   none_changed none = none_in c (plan_of (site_at here c) (before c) e).changes (sym none ∙ given.bytes_is)
 
   pub bytes_are_of : (bytes : List ℕ) → d.bytes ≡ Some bytes → bytes ≡ record_bytes (record_of c (plan_of (site_at here c) (before c) e).changes)
   bytes_are_of bytes some = some_in c (plan_of (site_at here c) (before c) e).changes bytes (sym some ∙ given.bytes_is)
+
+  pub has_none : d.bytes ≡ None → false ≡ has_changes (plan_of (site_at here c) (before c) e).changes
+  has_none none = sym (ap has_changes (none_changed none))
+
+  pub has_some : (bytes : List ℕ) → d.bytes ≡ Some bytes → true ≡ has_changes (plan_of (site_at here c) (before c) e).changes
+  has_some bytes some = some_changes c (plan_of (site_at here c) (before c) e).changes bytes (sym some ∙ given.bytes_is)
 
   pub more_kept : (bytes : List ℕ) → d.bytes ≡ Some bytes → (rs : List (List ℕ)) → Make here before rs → Make here (cells_after here before c e) (rs ++ bytes ∷ [])
   more_kept bytes some = more_made here c before e bytes (subst (λ (o : Option (List ℕ)). IfSome o (λ b. record_in b ≡ Some (record_of c (plan_of (site_at here c) (before c) e).changes))) some given.read) given.fits

@@ -85,7 +85,7 @@ some_of o i P is h = subst (λ (x : Option Image). IfSome x P) is h
 both_of : (o p : Option Image) (i j : Image) (P : Image → Image → Type 0) → o ≡ Some i → p ≡ Some j → IfBoth o p P → P i j
 both_of o p i j P is other_is h = subst (λ (y : Option Image). IfBoth (Some i) y P) other_is (subst (λ (x : Option Image). IfBoth x p P) is h)
 
-ok_of : (r : Result (List (List ℕ)) ℕ) (P : List (List ℕ) → Type 0) → IsOkAnd r P → IsOk r
+pub ok_of : (r : Result (List (List ℕ)) ℕ) (P : List (List ℕ) → Type 0) → IsOkAnd r P → IsOk r
 ok_of (Ok rs) P h = refl
 ok_of (Err at) P h = absurd h
 

@@ -13,3 +13,4 @@ pub mod Changing
 pub mod Rolls
 pub mod Walking
 pub mod Hosting
+pub mod Halting

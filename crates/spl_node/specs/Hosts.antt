@@ -6,6 +6,7 @@ use Rattle.spl_edge.specs.Image.{Image, IsSettled}
 use Rattle.spl_edge.specs.Picks.{Picked, Picks}
 use Rattle.spl_edge.specs.declared.disk.Armed.{Armed}
 use Rattle.spl_edge.specs.declared.disk.Arming.TheVariants.{Off}
+use Rattle.spl_edge.specs.declared.fill.Fill.{Fill}
 use Rattle.spl_edge.specs.declared.fill.Fill.TheVariants.{Old}
 use Rattle.spl_rules.specs.Cells.{Cell, Empty}
 use Rattle.spl_snapshot.specs.Counting.{pair_records, pair_records_of, IfBoth}
@@ -60,10 +61,14 @@ pub record HostStands (h : Host) (first second : Option Image) : Type 0 where
   pub up : IfSome h.node (Runs h.id first second)
   pub down : IfNone h.node (Rests first second)
 
--- a disk picked what it had at its last sync, and isn't armed any more
-pub record PicksOld (at new_at : ℕ → Option Image) (before now : ℕ) (faults later : ℕ) (was_armed is_armed : Armed) (had_picked has_picked : List Picked) : Type 0 where
-  pub picks : Picks Old was_armed.arming faults had_picked has_picked (at before) (new_at now)
+-- a disk picked with this fill, and isn't armed any more
+pub record PicksWith (fill : Fill) (at new_at : ℕ → Option Image) (before now : ℕ) (faults later : ℕ) (was_armed is_armed : Armed) (had_picked has_picked : List Picked) : Type 0 where
+  pub picks : Picks fill was_armed.arming faults had_picked has_picked (at before) (new_at now)
   pub disarmed : is_armed.arming ≡ Off
   pub past : SamePast at before new_at
   pub tick : now ≡ before + 1
   pub faults_stay : later ≡ faults
+
+-- it picked what it had at its last sync
+abbrev pub PicksOld : (ℕ → Option Image) → (ℕ → Option Image) → ℕ → ℕ → ℕ → ℕ → Armed → Armed → List Picked → List Picked → Type 0
+PicksOld at new_at before now faults later was_armed is_armed had_picked has_picked = PicksWith Old at new_at before now faults later was_armed is_armed had_picked has_picked

@@ -4,3 +4,4 @@ pub mod Done
 pub mod Stands
 pub mod Opening
 pub mod Hosts
+pub mod Stopping

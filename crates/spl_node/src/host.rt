@@ -1,6 +1,7 @@
 //! A node that goes down and comes up over its two disks.
-ghost use Rattle.std.specs.Prelude.{◌≡◌, ◌≢◌, ◌⊎◌, ◌&&◌, [], ℕ, Bool, true, false, Option, OnOk, IfOk, IfSome, IsErrOf};
+ghost use Rattle.std.specs.Prelude.{◌≡◌, ◌≢◌, ◌≤◌, ◌<◌, ◌⊎◌, ◌&&◌, [], ℕ, Bool, true, false, Option, OnOk, IfOk, IfSome, IsErrOf};
 ghost use Rattle.std.specs.List.{list_any};
+ghost use Rattle.std.specs.Option.{option_copied};
 ghost use Rattle.std.specs.List.Sorted.{IsStrictlySortedBy};
 ghost use Rattle.std.specs.Ordering.{nat_cmp};
 ghost use Rattle.std.specs.Cmp.Lexicographic.{slice_cmp};
@@ -10,7 +11,7 @@ ghost use Rattle.spl_edge.specs.Causes.{Rose};
 ghost use Rattle.spl_edge.specs.Image.{Image};
 ghost use Rattle.spl_journal.specs.Make.{IsBlank};
 ghost use Rattle.spl_journal.specs.Reads.{Stays};
-ghost use Rattle.spl_snapshot.specs.Counting.{IfBoth, PairLeavesInTurn, Onward};
+ghost use Rattle.spl_snapshot.specs.Counting.{chosen, second_counts, IfBoth, PairLeavesInTurn, Onward};
 ghost use Rattle.spl_wire.specs.Bounds.{AllSendable};
 ghost use Rattle.spl_rules.specs.Cells.{Empty, is_bound, is_open_cell};
 ghost use Rattle.spl_rules.specs.Changes.{stopped_cell};
@@ -20,9 +21,11 @@ ghost use Rattle.spl_node.specs.Hosts.{HostStands, PicksOld, host_id, host_cell,
 ghost use Rattle.spl_node.specs.Kept.{cells_after};
 ghost use Rattle.spl_node.specs.Records.{site_at};
 ghost use Rattle.spl_node.specs.Stands.{StandFor};
+ghost use Rattle.spl_node.specs.Stopping.{IsStopping, PicksArmed, cells_stopped, counting_arming, event_changes, fill_of, has_changes, keeps, other_arming, passing};
 ghost use Rattle.spl_node.specs.declared.host.Host.{Host as Kept};
 
-use crate::{Node, Outcome};
+use crate::stopping::{arm, handle_armed, pick_both};
+use crate::{Node, Outcome, Stopping};
 use spl_base::{CircuitId, Listing, NodeId};
 use spl_edge::{Disk, Fill, Pair, StopDisk};
 use spl_journal::JournalFault;
@@ -159,6 +162,50 @@ impl Host {
         self.node = None;
         disks.first.pick(alloc, Fill::Old)?;
         disks.second.pick(alloc, Fill::Old)
+    }
+
+    /// Takes the node down in an event at the cell of a circuit, or in none: its disks are armed, the
+    /// event is handled, and each disk picks what it keeps. Nothing is sent. It tells whether the
+    /// event has changes. An error comes for want of memory alone.
+    pub fn stop_in<D: StopDisk>(
+        &mut self,
+        alloc: Global,
+        disks: &mut Pair<D>,
+        circuit: &CircuitId,
+        event: Option<&Event>,
+        stopping: Stopping,
+    ) -> Result<bool, AllocError>
+        requires up { is_up self.old ≡ true }
+        requires own { IfSome (option_copied event) (IsFor (site_at (host_id self.old) circuit.now)) }
+        requires calls { IsStopping stopping }
+        requires stands { HostStands self.old (D.image_at disks.old.first (D.moment disks.old.first)) (D.image_at disks.old.second (D.moment disks.old.second)) }
+        ensures id { host_id self.new ≡ host_id self.old }
+        ensures down { OnOk result (is_up self.new ≡ false) }
+        ensures stands { OnOk result (HostStands self.new (D.image_at disks.new.first (D.moment disks.new.first)) (D.image_at disks.new.second (D.moment disks.new.second))) }
+        ensures tells { IfOk result (λ b. b ≡ has_changes (event_changes (host_id self.old) (host_cell self.old (D.image_at disks.old.first (D.moment disks.old.first)) (D.image_at disks.old.second (D.moment disks.old.second))) circuit.now (option_copied event.entry))) }
+
+        // The changes are made where their record is kept, and the open rounds are forgotten.
+        ensures cells { OnOk result ((c : CircuitId) → host_cell self.new (D.image_at disks.new.first (D.moment disks.new.first)) (D.image_at disks.new.second (D.moment disks.new.second)) c ≡ (cells_stopped (host_id self.old) (host_cell self.old (D.image_at disks.old.first (D.moment disks.old.first)) (D.image_at disks.old.second (D.moment disks.old.second))) circuit.now (event_changes (host_id self.old) (host_cell self.old (D.image_at disks.old.first (D.moment disks.old.first)) (D.image_at disks.old.second (D.moment disks.old.second))) circuit.now (option_copied event.entry)) (keeps stopping)) c) }
+
+        // The disk that counts is armed for the first four calls of the event, and the other for those behind them; both pick.
+        ensures counts { IfBoth (D.image_at disks.old.first (D.moment disks.old.first)) (D.image_at disks.old.second (D.moment disks.old.second)) (λ i j. second_counts i.bytes j.bytes ≡ host_second self.old) }
+        ensures picks_first { OnOk result (PicksArmed (fill_of stopping) (chosen (host_second self.old) (counting_arming stopping) (other_arming stopping)) (D.image_at disks.old.first) (D.image_at disks.new.first) (D.moment disks.old.first) (D.moment disks.new.first) (D.faults disks.old.first) (D.faults disks.new.first)
+            (D.armed disks.new.first) (D.picks disks.old.first) (D.picks disks.new.first)) }
+        ensures picks_second { OnOk result (PicksArmed (fill_of stopping) (chosen (host_second self.old) (other_arming stopping) (counting_arming stopping)) (D.image_at disks.old.second) (D.image_at disks.new.second) (D.moment disks.old.second) (D.moment disks.new.second) (D.faults disks.old.second) (D.faults disks.new.second)
+            (D.armed disks.new.second) (D.picks disks.old.second) (D.picks disks.new.second)) }
+
+        // Where a call that keeps the record didn't pass, a disk has failed.
+        ensures risen { OnOk result ((event_changes (host_id self.old) (host_cell self.old (D.image_at disks.old.first (D.moment disks.old.first)) (D.image_at disks.old.second (D.moment disks.old.second))) circuit.now (option_copied event.entry)) ≢ [] → passing stopping < 4 → Rose (D.faults disks.old.first) (D.faults disks.new.first) ⊎ Rose (D.faults disks.old.second) (D.faults disks.new.second)) }
+        ensures first_stays { D.faults disks.old.first ≤ D.faults disks.new.first }
+        ensures second_stays { D.faults disks.old.second ≤ D.faults disks.new.second }
+    {
+        let Some(mut node) = self.node.take() else {
+            unreachable!();
+        };
+        arm(disks, node.counting() == 1, stopping);
+        let changed = handle_armed(&mut node, alloc, disks, circuit, event, stopping)?;
+        pick_both(alloc, disks, stopping.fill())?;
+        Ok(changed)
     }
 
     /// Brings the node up: its cells are those that its disks make. A node that is up stays as it

@@ -8,7 +8,9 @@ mod host;
 mod node;
 mod opening;
 mod packing;
+mod stopping;
 
 pub use form::CellForm;
 pub use host::{Host, disks_stand_for_cells};
 pub use node::{Node, Outcome};
+pub use stopping::Stopping;

@@ -8,12 +8,15 @@ ghost use Rattle.std.specs.Str.{bytes_eq};
 ghost use Rattle.spl_circuit.specs.Nodes.{NodeId, CircuitId};
 ghost use Rattle.spl_edge.specs.Calls.{fails_at};
 ghost use Rattle.spl_edge.specs.Causes.{Rose};
+ghost use Rattle.spl_edge.specs.declared.fill.Fill.{Fill};
 ghost use Rattle.spl_journal.specs.Gate.{ByCalls, opened};
 ghost use Rattle.spl_journal.specs.Journals.{end_of, len_of, base_of, epoch_of, has_room};
 ghost use Rattle.spl_journal.specs.Make.{IsBlank};
 ghost use Rattle.spl_journal.specs.Records.{blocks, sized};
+ghost use Rattle.spl_journal.specs.Stops.{is_kept};
 ghost use Rattle.spl_snapshot.specs.Counting.{chosen, IfBoth, PairLeaves, PairLeavesInTurn, Onward};
 ghost use Rattle.spl_snapshot.specs.Pairs.{PairStands, is_second, journal_in};
+ghost use Rattle.spl_snapshot.specs.Stopped.{kept_on};
 ghost use Rattle.spl_wire.specs.Bounds.{AllSendable};
 ghost use Rattle.spl_wire.specs.Grouping.{record_of};
 ghost use Rattle.spl_rules.specs.Cells.{Empty, is_bound, is_open_cell};
@@ -22,6 +25,7 @@ ghost use Rattle.spl_rules.specs.Valid.{IsFor, are_legal};
 ghost use Rattle.spl_node.specs.Kept.{cells_after, packed_node};
 ghost use Rattle.spl_node.specs.Records.{is_record, record_bytes, site_at};
 ghost use Rattle.spl_node.specs.Stands.{NodeStands, StandFor, here_of, cell_of, is_halted};
+ghost use Rattle.spl_node.specs.Stopping.{has_changes};
 
 use crate::CellForm;
 use crate::cells::Cells;
@@ -29,7 +33,7 @@ use crate::done::Done;
 use spl_base::{CircuitId, Listing, NodeId};
 use spl_edge::{Disk, Pair};
 use spl_journal::JournalFault;
-use spl_snapshot::{Pairing, format_pair};
+use spl_snapshot::{Pairing, appends_to_pairs_are_kept_or_lost, format_pair};
 use spl_wire::{Answer, Event, SendList};
 use std::alloc::{AllocError, Global};
 
@@ -46,6 +50,8 @@ pub struct Node {
 pub struct Outcome {
     pub answer: Answer,
     pub sends: SendList,
+    /// Whether the event had changes, so that their record is on the disks.
+    pub changed: bool,
 }
 
 impl Node {
@@ -114,6 +120,7 @@ impl Node {
         ensures here { here_of self.new ≡ here_of self.old }
         ensures answer { IfOk result (λ o. o.answer ≡ (plan_of (site_at (here_of self.old) circuit.now) (cell_of self.old circuit.now) event.now).answer) }
         ensures sends { IfOk result (λ o. o.sends ≡ (plan_of (site_at (here_of self.old) circuit.now) (cell_of self.old circuit.now) event.now).sends) }
+        ensures changed { IfOk result (λ o. o.changed ≡ has_changes (plan_of (site_at (here_of self.old) circuit.now) (cell_of self.old circuit.now) event.now).changes) }
         ensures legal { IfOk result (λ o. are_legal o.sends ≡ true) }
         ensures sendable { IfOk result (λ o. AllSendable o.sends) }
 
@@ -130,13 +137,23 @@ impl Node {
         ensures pair { OnOk result (PairStands is_record self.new.pairing (D.image_at disks.new.first (D.moment disks.new.first)) (D.image_at disks.new.second (D.moment disks.new.second))) }
         ensures stands { OnOk result (IfBoth (D.image_at disks.old.first (D.moment disks.old.first)) (D.image_at disks.old.second (D.moment disks.old.second)) (λ i j. StandFor (here_of self.old) (cell_of self.old) i.bytes j.bytes → NodeStands self.new (D.image_at disks.new.first (D.moment disks.new.first)) (D.image_at disks.new.second (D.moment disks.new.second)))) }
 
-        // Without changes no call of a disk is made. With changes the record of them is kept, by four calls of the disk that counts, each of which succeeded or the last of which ended the step.
+        // Without changes no call of a disk is made. With changes the record of them is kept, by four calls of the disk that counts: the last of them ended the step, and the other disk is as it was; or each of them succeeded, and a stop behind the step leaves disks that stand for the cells after the event.
         ensures no_calls { (plan_of (site_at (here_of self.old) circuit.now) (cell_of self.old circuit.now) event.now).changes ≡ [] → disks.new ≡ disks.old }
         ensures by_calls { (plan_of (site_at (here_of self.old) circuit.now) (cell_of self.old circuit.now) event.now).changes ≢ [] →
-            ByCalls 4 (D.image_at (chosen (is_second self.old.pairing) disks.new.first disks.new.second)) (D.moment (chosen (is_second self.old.pairing) disks.old.first disks.old.second)) (D.moment (chosen (is_second self.old.pairing) disks.new.first disks.new.second))
+            (ByCalls 4 (D.image_at (chosen (is_second self.old.pairing) disks.new.first disks.new.second)) (D.moment (chosen (is_second self.old.pairing) disks.old.first disks.old.second)) (D.moment (chosen (is_second self.old.pairing) disks.new.first disks.new.second))
             (opened (end_of (journal_in self.old.pairing)) (sized (record_bytes (record_of circuit.now (plan_of (site_at (here_of self.old) circuit.now) (cell_of self.old circuit.now) event.now).changes)))) (D.image_at (chosen (is_second self.old.pairing) disks.old.first disks.old.second) (D.moment (chosen (is_second self.old.pairing) disks.old.first disks.old.second))) (D.armed (chosen (is_second self.old.pairing) disks.old.first disks.old.second)) (IsOk result) (IsErrOf result JournalFault.Disk)
-            ⊎ ByCalls 4 (D.image_at (chosen (is_second self.old.pairing) disks.new.first disks.new.second)) (D.moment (chosen (is_second self.old.pairing) disks.old.first disks.old.second)) (D.moment (chosen (is_second self.old.pairing) disks.new.first disks.new.second))
-            (opened (end_of (journal_in self.old.pairing)) (sized (record_bytes (record_of circuit.now (plan_of (site_at (here_of self.old) circuit.now) (cell_of self.old circuit.now) event.now).changes)))) (D.image_at (chosen (is_second self.old.pairing) disks.old.first disks.old.second) (D.moment (chosen (is_second self.old.pairing) disks.old.first disks.old.second))) (D.armed (chosen (is_second self.old.pairing) disks.old.first disks.old.second)) ⊤ ⊥ }
+            × (chosen (is_second self.old.pairing) disks.new.second disks.new.first ≡ chosen (is_second self.old.pairing) disks.old.second disks.old.first))
+            ⊎ (ByCalls 4 (D.image_at (chosen (is_second self.old.pairing) disks.new.first disks.new.second)) (D.moment (chosen (is_second self.old.pairing) disks.old.first disks.old.second)) (D.moment (chosen (is_second self.old.pairing) disks.new.first disks.new.second))
+            (opened (end_of (journal_in self.old.pairing)) (sized (record_bytes (record_of circuit.now (plan_of (site_at (here_of self.old) circuit.now) (cell_of self.old circuit.now) event.now).changes)))) (D.image_at (chosen (is_second self.old.pairing) disks.old.first disks.old.second) (D.moment (chosen (is_second self.old.pairing) disks.old.first disks.old.second))) (D.armed (chosen (is_second self.old.pairing) disks.old.first disks.old.second)) ⊤ ⊥
+            × IfBoth (D.image_at disks.old.first (D.moment disks.old.first)) (D.image_at disks.old.second (D.moment disks.old.second)) (λ i j. StandFor (here_of self.old) (cell_of self.old) i.bytes j.bytes →
+            PairLeaves (D.image_at disks.new.first) (D.moment disks.new.first) (D.moment disks.new.first) (D.image_at disks.new.second) (D.moment disks.new.second) (D.moment disks.new.second)
+            (StandFor (here_of self.old) (cells_after (here_of self.old) (cell_of self.old) circuit.now event.now)))) }
+
+        // A stop behind so many of these calls leaves disks that stand for the cells after the event where they keep the record, and for those before it otherwise.
+        ensures stopped { IsErrOf result JournalFault.Disk → (calls : ℕ) (fill : Fill) → IfBoth (D.image_at disks.old.first (D.moment disks.old.first)) (D.image_at disks.old.second (D.moment disks.old.second)) (λ i j. StandFor (here_of self.old) (cell_of self.old) i.bytes j.bytes →
+            StandFor (here_of self.old) (chosen (is_kept calls fill) (cell_of self.old) (cells_after (here_of self.old) (cell_of self.old) circuit.now event.now))
+            (kept_on (not (is_second self.old.pairing)) fill (end_of (journal_in self.old.pairing)) (sized (record_bytes (record_of circuit.now (plan_of (site_at (here_of self.old) circuit.now) (cell_of self.old circuit.now) event.now).changes))) calls i)
+            (kept_on (is_second self.old.pairing) fill (end_of (journal_in self.old.pairing)) (sized (record_bytes (record_of circuit.now (plan_of (site_at (here_of self.old) circuit.now) (cell_of self.old circuit.now) event.now).changes))) calls j)) }
 
         // Where the record leaves no room the other disk counts behind Ok, and none of its eight calls was one that it is armed for.
         ensures turned { OnOk result ((plan_of (site_at (here_of self.old) circuit.now) (cell_of self.old circuit.now) event.now).changes ≢ [] → 2 * base_of (journal_in self.old.pairing) + 65536 < len_of (journal_in self.old.pairing) + 5 + length (record_bytes (record_of circuit.now (plan_of (site_at (here_of self.old) circuit.now) (cell_of self.old circuit.now) event.now).changes)) → epoch_of (journal_in self.old.pairing) < 2 ^ 64 - 1
@@ -168,14 +185,23 @@ impl Node {
             sends,
         } = done;
         let Some(bytes) = bytes else {
-            return Ok(Outcome { answer, sends });
+            return Ok(Outcome {
+                answer,
+                sends,
+                changed: false,
+            });
         };
         self.cells.is_ordered();
+        appends_to_pairs_are_kept_or_lost();
         if let Err(fault) = self.pairing.keep(alloc, disks, bytes.bytes(), &self.cells) {
             self.halted = true;
             return Err(fault);
         }
-        Ok(Outcome { answer, sends })
+        Ok(Outcome {
+            answer,
+            sends,
+            changed: true,
+        })
     }
 
     /// The ids of the circuits that are bound here, in order. An error comes for want of memory

@@ -1,9 +1,12 @@
 -- An append, and then a checkpoint where there is no room.
 use Rattle.std.proofs.Common.{◌≡◌, inl, inr, ⊎_elim, ℕ, ◌≤◌, List, [], ◌∷◌, ◌++◌, get_or, Bool, true, false, Option, None, Some, IfSome, IsSome, Result, refl, sym, ap, subst, arith}
 use Rattle.std.specs.Result.{result_unwrap_or}
+use Rattle.std.specs.Prelude.{⊤}
 use Rattle.spl_edge.specs.Calls.{SamePast}
 use Rattle.spl_edge.specs.Image.{Image, MayLeave, IsSettled}
+use Rattle.spl_edge.specs.declared.disk.Armed.{Armed}
 use Rattle.spl_journal.specs.Clear.{IsAtRest}
+use Rattle.spl_journal.specs.Gate.{ByCalls}
 use Rattle.spl_journal.specs.Journals.{Stands}
 use Rattle.spl_snapshot.specs.declared.pairing.Pairing.{Pairing}
 use Rattle.spl_snapshot.specs.Pairs.{PairStands}
@@ -85,6 +88,15 @@ module _ (fits : List ℕ → Bool) (rs packed : List (List ℕ)) (r : List ℕ)
       pair_map at2 other2 m m1 n n1 (HaveEither fits (pair_records_of fits i.bytes j.bytes) packed) (HaveOneOf fits rs (rs ++ r ∷ []) packed)
       (λ c d h. later_one fits rs (rs ++ r ∷ []) packed c d (subst (λ (l : List (List ℕ)). HaveEither fits l packed c d) all h)) now)
 
+  pub checkpoint_last : m ≤ m1 → n ≤ n1 → IfBoth (at1 m) (other1 n) (λ i j. PairLeaves at2 m m1 other2 n n1 (HaveEither fits (pair_records_of fits i.bytes j.bytes) packed)) → PairLeaves at2 m1 m1 other2 n1 n1 (HaveEither fits (rs ++ r ∷ []) packed)
+  checkpoint_last later other_later left = both_told (at1 m) (other1 n) (PairLeaves at2 m1 m1 other2 n1 n1 (HaveEither fits (rs ++ r ∷ []) packed)) told other_told
+      (λ i j here there.
+      let all = between fits (rs ++ r ∷ []) at1 other1 m n i j here there (settled_of (at1 m) i here rest) (settled_of (other1 n) j there other_rest) mid in
+      let now = subst (λ (y : Option Image). IfSome y (λ v. PairLeaves at2 m m1 other2 n n1 (HaveEither fits (pair_records_of fits i.bytes v.bytes) packed))) there
+      (subst (λ (x : Option Image). IfBoth x (other1 n) (λ u v. PairLeaves at2 m m1 other2 n n1 (HaveEither fits (pair_records_of fits u.bytes v.bytes) packed))) here left) in
+      let behind : PairLeaves at2 m m1 other2 n n1 (HaveEither fits (rs ++ r ∷ []) packed) = subst (λ (l : List (List ℕ)). PairLeaves at2 m m1 other2 n n1 (HaveEither fits l packed)) all now in
+      λ k l low high low2 high2. behind k l (omega (arith, later, low)) high (omega (arith, other_later, low2)) high2)
+
   pub checkpoint_after : IfBoth (at1 m) (other1 n) (λ i j. PairLeaves at2 m1 m1 other2 n1 n1 (HaveRecords fits packed)) → PairLeaves at2 m1 m1 other2 n1 n1 (HaveEither fits (rs ++ r ∷ []) packed)
   checkpoint_after left = both_told (at1 m) (other1 n) (PairLeaves at2 m1 m1 other2 n1 n1 (HaveEither fits (rs ++ r ∷ []) packed)) told other_told
       (λ i j here there.
@@ -156,3 +168,29 @@ module _ {D : Type 0} (image_at : D → ℕ → Option Image) (moment : D → �
       both_two None y t l = tt
       both_two (Some i) None t l = tt
       both_two (Some i) (Some j) t l = checkpoint_after fits (pair_records_of fits i.bytes j.bytes) packed r (image_at a1) (image_at a2) (image_at b1) (image_at b2) (moment a1) (moment a2) (moment b1) (moment b2) rest.0 rest.1 t.0 t.1 l behind
+
+  -- and where the checkpoint failed
+  pub both_last : IfBoth (image_at a1 (moment a1)) (image_at b1 (moment b1)) (λ i j. PairLeaves (image_at a2) (moment a1) (moment a2) (image_at b2) (moment b1) (moment b2) (HaveEither fits (pair_records_of fits i.bytes j.bytes) packed))
+      → IfBoth o p (λ i j. PairLeaves (image_at a2) (moment a2) (moment a2) (image_at b2) (moment b2) (moment b2) (HaveEither fits (pair_records_of fits i.bytes j.bytes ++ r ∷ []) packed))
+  both_last behind = both_two o p tells after
+    where
+      both_two : (x y : Option Image) → IfBoth x y (λ i j. IsSome (image_at a1 (moment a1)) × IsSome (image_at b1 (moment b1)))
+          → IfBoth x y (λ i j. PairLeaves (image_at a1) (moment a1) (moment a1) (image_at b1) (moment b1) (moment b1) (HaveRecords fits (pair_records_of fits i.bytes j.bytes ++ r ∷ [])))
+          → IfBoth x y (λ i j. PairLeaves (image_at a2) (moment a2) (moment a2) (image_at b2) (moment b2) (moment b2) (HaveEither fits (pair_records_of fits i.bytes j.bytes ++ r ∷ []) packed))
+      both_two None y t l = tt
+      both_two (Some i) None t l = tt
+      both_two (Some i) (Some j) t l = checkpoint_last fits (pair_records_of fits i.bytes j.bytes) packed r (image_at a1) (image_at a2) (image_at b1) (image_at b2) (moment a1) (moment a2) (moment b1) (moment b2) rest.0 rest.1 t.0 t.1 l first_later second_later behind
+
+-- calls that all succeeded, on a disk that stays
+pub all_calls : {D : Type 0} (image_at : D → ℕ → Option Image) (moment : D → ℕ) (x y : D) (most first : ℕ) (f : ℕ → Image → Image) (told : Option Image) (armed : Armed) (ok failed : Type 0) → y ≡ x → ok
+    → ByCalls most (image_at x) first (moment x) f told armed ok failed → ByCalls most (image_at y) first (moment y) f told armed ⊤ ⊥
+all_calls image_at moment x y most first f told armed ok failed same is_ok h = subst (λ (d : _). ByCalls most (image_at d) first (moment d) f told armed ⊤ ⊥) (sym same) (record {
+  calls = h.calls;
+  at_most = h.at_most;
+  stands = h.stands;
+  last = h.last;
+  passed = h.passed;
+  still = h.still;
+  named = λ none. absurd none;
+  whole = λ all. h.whole is_ok;
+})

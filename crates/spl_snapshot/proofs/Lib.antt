@@ -5,3 +5,4 @@ mod Checkpoints
 mod Findings
 mod Turns
 mod Keeps
+mod Stopped

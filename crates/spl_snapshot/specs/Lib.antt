@@ -2,3 +2,4 @@ pub mod Counting
 pub mod Pairs
 pub mod Choices
 pub mod Anew
+pub mod Stopped

@@ -47,11 +47,15 @@ impl<R: Form> Pairing<R> {
         ensures room { OnOk result (epoch_of (journal_in self.new) < 2 ^ 64 - 1 → has_room (journal_in self.new) ≡ true) }
         ensures base { OnOk result ((base_of (journal_in self.new) ≡ base_of (journal_in self.old)) ⊎ (base_of (journal_in self.new) ≡ 18 + length (blocks (P.packed state.now)))) }
 
-        // The append comes first: it ended the call, or each of its four calls succeeded.
-        ensures by_calls { ByCalls 4 (D.image_at (chosen (is_second self.old) disks.new.first disks.new.second)) (D.moment (chosen (is_second self.old) disks.old.first disks.old.second)) (D.moment (chosen (is_second self.old) disks.new.first disks.new.second))
+        // The append comes first: it ended the call, and the other disk is as it was; or each of its four calls succeeded, and a stop behind the call leaves the new record or the packed ones.
+        ensures by_calls { (ByCalls 4 (D.image_at (chosen (is_second self.old) disks.new.first disks.new.second)) (D.moment (chosen (is_second self.old) disks.old.first disks.old.second)) (D.moment (chosen (is_second self.old) disks.new.first disks.new.second))
             (opened (end_of (journal_in self.old)) (sized bytes.now)) (D.image_at (chosen (is_second self.old) disks.old.first disks.old.second) (D.moment (chosen (is_second self.old) disks.old.first disks.old.second))) (D.armed (chosen (is_second self.old) disks.old.first disks.old.second)) (IsOk result) (IsErrOf result JournalFault.Disk)
-            ⊎ ByCalls 4 (D.image_at (chosen (is_second self.old) disks.new.first disks.new.second)) (D.moment (chosen (is_second self.old) disks.old.first disks.old.second)) (D.moment (chosen (is_second self.old) disks.new.first disks.new.second))
-            (opened (end_of (journal_in self.old)) (sized bytes.now)) (D.image_at (chosen (is_second self.old) disks.old.first disks.old.second) (D.moment (chosen (is_second self.old) disks.old.first disks.old.second))) (D.armed (chosen (is_second self.old) disks.old.first disks.old.second)) ⊤ ⊥ }
+            × (chosen (is_second self.old) disks.new.second disks.new.first ≡ chosen (is_second self.old) disks.old.second disks.old.first))
+            ⊎ (ByCalls 4 (D.image_at (chosen (is_second self.old) disks.new.first disks.new.second)) (D.moment (chosen (is_second self.old) disks.old.first disks.old.second)) (D.moment (chosen (is_second self.old) disks.new.first disks.new.second))
+            (opened (end_of (journal_in self.old)) (sized bytes.now)) (D.image_at (chosen (is_second self.old) disks.old.first disks.old.second) (D.moment (chosen (is_second self.old) disks.old.first disks.old.second))) (D.armed (chosen (is_second self.old) disks.old.first disks.old.second)) ⊤ ⊥
+            × IfBoth (D.image_at disks.old.first (D.moment disks.old.first)) (D.image_at disks.old.second (D.moment disks.old.second)) (λ i j.
+            PairLeaves (D.image_at disks.new.first) (D.moment disks.new.first) (D.moment disks.new.first) (D.image_at disks.new.second) (D.moment disks.new.second) (D.moment disks.new.second)
+            (HaveEither R.is_record (pair_records_of R.is_record i.bytes j.bytes ++ bytes.now ∷ []) (P.packed state.now)))) }
 
         // Where it leaves no room the other disk counts behind Ok, and none of its eight calls was one that it is armed for.
         ensures turned { OnOk result (2 * base_of (journal_in self.old) + 65536 < len_of (journal_in self.old) + 5 + length bytes.now → epoch_of (journal_in self.old) < 2 ^ 64 - 1

@@ -4,10 +4,12 @@
 mod anew;
 mod choice;
 mod keeping;
+mod laws;
 mod pairing;
 mod walking;
 
 pub use keeping::Packed;
+pub use laws::appends_to_pairs_are_kept_or_lost;
 pub use pairing::{Pairing, format_pair};
 pub use walking::{PairWalk, walk_pair};
 

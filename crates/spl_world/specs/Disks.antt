@@ -1,16 +1,13 @@
 -- What the disks of the nodes tell, and how a call leaves them.
-use Rattle.std.specs.Prelude.{Bool, true, false, ◌≡◌, ◌⊎◌, ◌<◌, ℕ, List, [], ◌∷◌, length, slice_get, Option, Some, None, Result, IsErrOf, IfSome}
-use Rattle.spl_circuit.specs.Nodes.{NodeId, CircuitId}
+use Rattle.std.specs.Prelude.{◌≡◌, ◌⊎◌, ◌<◌, ◌≤◌, ℕ, List, [], ◌∷◌, length, slice_get, Option, Some, None, Result, IsErrOf, IfSome}
 use Rattle.spl_edge.specs.Causes.{Rose}
 use Rattle.spl_edge.specs.Image.{Image}
 use Rattle.spl_edge.specs.Picks.{Picked}
 use Rattle.spl_edge.specs.declared.bench.Pair.{Pair}
 use Rattle.spl_edge.specs.declared.disk.Armed.{Armed}
+use Rattle.spl_edge.specs.declared.disk.Arming.TheVariants.{Off}
 use Rattle.spl_journal.specs.Make.{IsBlank}
-use Rattle.spl_node.specs.Hosts.{PicksOld}
-use Rattle.spl_node.specs.Stands.{StandFor}
-use Rattle.spl_rules.specs.Cells.{Cell}
-use Rattle.spl_snapshot.specs.Counting.{IfBoth, Onward}
+use Rattle.spl_snapshot.specs.Counting.{Onward}
 use Rattle.spl_world.specs.declared.fault.WorldFault.{WorldFault}
 use Rattle.spl_world.specs.declared.fault.WorldFault.TheVariants.{Disk}
 
@@ -91,24 +88,15 @@ pub record LeavesDisks {A : Type 0} (r : Result A WorldFault) (old new : List Pa
   pub onward : AllGoOn old new
   pub failed : (slot : ℕ) → IsErrOf r (Disk slot) → RoseAt slot old new
 
--- ---- how a disk is picked from
-
-abbrev pub image_now : DiskView → Option Image
-image_now x = x.image_at x.moment
-
--- a disk picked what it had at its last sync, and isn't armed any more
-abbrev pub IsPicked : DiskView → DiskView → Type 0
-IsPicked x y = PicksOld x.image_at y.image_at x.moment y.moment x.faults y.faults x.armed y.armed x.picks y.picks
-
--- so did both disks of a node, and what they picked stands for these cells
-pub record BothPicked (here : NodeId) (cells : CircuitId → Cell) (p q : PairView) : Type 0 where
-  pub first : IsPicked p.first q.first
-  pub second : IsPicked p.second q.second
-  pub stand : IfBoth (image_now q.first) (image_now q.second) (λ i j. StandFor here cells i.bytes j.bytes)
-
--- a node with these cells stopped: where it was up its two disks were picked from, and no disk changed otherwise
-pub record StopsPair (here : NodeId) (up : Bool) (cells : CircuitId → Cell) (k : ℕ) (old new : List PairView) : Type 0 where
+-- no fault of a disk is forgotten
+pub record NoneForgotten (old new : List PairView) : Type 0 where
   pub as_many : length new ≡ length old
-  pub others : (i : ℕ) → (i ≡ k → ⊥) → slice_get new i ≡ slice_get old i
-  pub picks : up ≡ true → (p q : PairView) → slice_get old k ≡ Some p → slice_get new k ≡ Some q → BothPicked here cells p q
-  pub none : up ≡ false → new ≡ old
+  pub first : (i : ℕ) (p q : PairView) → slice_get old i ≡ Some p → slice_get new i ≡ Some q → p.first.faults ≤ q.first.faults
+  pub second : (i : ℕ) (p q : PairView) → slice_get old i ≡ Some p → slice_get new i ≡ Some q → p.second.faults ≤ q.second.faults
+
+abbrev pub IsUnarmed : DiskView → Type 0
+IsUnarmed d = d.armed.arming ≡ Off
+
+-- no disk is armed
+abbrev pub AllUnarmed : List PairView → Type 0
+AllUnarmed ps = (i : ℕ) (p : PairView) → slice_get ps i ≡ Some p → IsUnarmed p.first × IsUnarmed p.second

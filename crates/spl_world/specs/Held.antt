@@ -1,21 +1,29 @@
--- What the disks of a node hold behind the lines that ran (docs/RULES.md, Journals).
-use Rattle.std.specs.Prelude.{◌≡◌, ℕ, Bool, true, false, ◌&&◌, List, [], ◌∷◌, ◌++◌, length, slice_get, Some, if◌then◌else◌}
+-- What the disks of a node hold behind the lines that ran (docs/RULES.md, Journals, Stops in an event).
+use Rattle.std.specs.Prelude.{◌≡◌, ◌≢◌, ◌⊎◌, ◌<◌, ◌≤◌, ℕ, Bool, true, false, ◌&&◌, List, [], ◌∷◌, ◌++◌, length, slice_get, Option, Some, None, if◌then◌else◌}
 use Rattle.std.specs.Str.{bytes_eq}
 use Rattle.spl_circuit.specs.Nodes.{NodeId, CircuitId}
+use Rattle.spl_edge.specs.Image.{Image}
 use Rattle.spl_edge.specs.Picks.{Picked}
+use Rattle.spl_edge.specs.declared.disk.Arming.{Arming}
 use Rattle.spl_edge.specs.declared.disk.Arming.TheVariants.{Off}
+use Rattle.spl_edge.specs.declared.fill.Fill.{Fill}
 use Rattle.spl_edge.specs.declared.fill.Fill.TheVariants.{Old}
 use Rattle.spl_model.specs.Answers.{is_up}
 use Rattle.spl_model.specs.Projection.{Ran}
+use Rattle.spl_model.specs.Worlds.{step_plan}
 use Rattle.spl_node.specs.Stands.{StandFor}
+use Rattle.spl_node.specs.Stopping.{PicksArmed, counting_arming, other_arming, fill_of, passing}
+use Rattle.spl_node.specs.declared.stopping.Stopping.{Stopping}
+use Rattle.spl_node.specs.declared.stopping.Stopping.TheVariants as stopping
 use Rattle.spl_projection.specs.Whole.{whole_world}
 use Rattle.spl_registry.specs.Nodes.{Entry, node_at}
 use Rattle.spl_rules.specs.Cells.{Cell}
 use Rattle.spl_sched.specs.declared.line.Line.{Line}
 use Rattle.spl_sched.specs.declared.line.Line.TheVariants as line
-use Rattle.spl_sched.specs.Grammar.{step_node}
-use Rattle.spl_snapshot.specs.Counting.{IfBoth}
-use Rattle.spl_world.specs.Disks.{DiskView, PairView}
+use Rattle.spl_sched.specs.declared.line.Step.{Step}
+use Rattle.spl_sched.specs.Grammar.{step_circuit, step_node}
+use Rattle.spl_snapshot.specs.Counting.{chosen, second_counts, IfBoth}
+use Rattle.spl_world.specs.Disks.{DiskView, PairView, IsUnarmed}
 use Rattle.spl_world.specs.Views.{ids_of, places_of}
 use Rattle.spl_world.specs.declared.world.World.{World}
 
@@ -23,7 +31,7 @@ use Rattle.spl_world.specs.declared.world.World.{World}
 abbrev pub cells_behind : List NodeId → List Ran → NodeId → CircuitId → Cell
 cells_behind ns rs n c = (whole_world ns c rs).at n
 
--- ---- picks
+-- ---- lines that stop a node
 
 -- the line stops this node, where it is up
 abbrev pub stops_at : NodeId → Line → Bool
@@ -36,33 +44,76 @@ stops_at n _ = false
 abbrev pub picks_at : NodeId → List Ran → Ran → Bool
 picks_at n before r = stops_at n r.line && is_up n before
 
-abbrev pub point_at : NodeId → List Ran → Ran → List (List Ran)
-point_at n before r = if picks_at n before r then (before ++ r ∷ []) ∷ [] else []
+-- how a line stops its node in an event
+abbrev pub stopping_of : Line → Option Stopping
+stopping_of (line.Cut calls fill s) = Some (stopping.Cut calls fill)
+stopping_of (line.Fail call s) = Some (stopping.Fail call)
+stopping_of _ = None
 
--- the lines up to each that stopped the node, this one too
-abbrev pub pick_points : NodeId → List Ran → List Ran → List (List Ran)
+-- what the disks keep there of what wasn't synced, and what the one that counts and the other were armed with
+abbrev pub pick_fill : Option Stopping → Fill
+pick_fill None = Old
+pick_fill (Some h) = fill_of h
+
+abbrev pub armed_counting : Option Stopping → Arming
+armed_counting None = Off
+armed_counting (Some h) = counting_arming h
+
+abbrev pub armed_other : Option Stopping → Arming
+armed_other None = Off
+armed_other (Some h) = other_arming h
+
+-- an event with changes behind these lines was stopped before its record was written
+abbrev pub IsTornBy : List NodeId → List Ran → Stopping → Step → Type 0
+IsTornBy ns before h s = (passing h < 4) × ((step_plan (whole_world ns (step_circuit s) before) s).changes ≢ [])
+
+abbrev pub IsTorn : List NodeId → List Ran → Line → Type 0
+IsTorn ns before (line.Cut calls fill s) = IsTornBy ns before (stopping.Cut calls fill) s
+IsTorn ns before (line.Fail call s) = IsTornBy ns before (stopping.Fail call) s
+IsTorn ns before _ = ⊥
+
+-- ---- picks
+
+-- a line, and those before it
+pub record Point : Type 0 where
+  pub before : List Ran
+  pub ran : Ran
+
+abbrev pub behind_point : Point → List Ran
+behind_point t = t.before ++ t.ran ∷ []
+
+abbrev pub point_at : NodeId → List Ran → Ran → List Point
+point_at n before r = if picks_at n before r then record { before = before; ran = r } ∷ [] else []
+
+-- the lines that stopped the node, each with those before it
+abbrev pub pick_points : NodeId → List Ran → List Ran → List Point
 pick_points n before [] = []
 pick_points n before (r ∷ rs) = point_at n before r ++ pick_points n (before ++ r ∷ []) rs
 
--- a pick of what was synced, of a disk that wasn't armed
-pub record IsPlainPick (p : Picked) : Type 0 where
-  pub fill : p.fill ≡ Old
-  pub arming : p.arming ≡ Off
+-- a pick with this fill of a disk that was armed so, and whose count of faults had come to this number before
+pub record IsPick (fill : Fill) (arming : Arming) (count : ℕ) (p : Picked) : Type 0 where
+  pub fill_is : p.fill ≡ fill
+  pub arming_is : p.arming ≡ arming
+  pub later : count ≤ p.faults
 
--- two plain picks of the disks of a node, whose images stand for its cells behind these lines
-pub record ArePicksBehind (ns : List NodeId) (n : NodeId) (rs : List Ran) (p q : Picked) : Type 0 where
-  pub first : IsPlainPick p
-  pub second : IsPlainPick q
-  pub stand : StandFor n (cells_behind ns rs n) p.image q.image
+-- two picks of the disks of a node by a line that stopped it; `second` is whether the second disk counted. The images stand for the cells behind the line
+pub record ArePicksAt (ns : List NodeId) (n : NodeId) (t : Point) (a b : ℕ) (p q : Picked) : Type 0 where
+  pub second : Bool
+  pub first_is : IsPick (pick_fill (stopping_of t.ran.line)) (chosen second (armed_counting (stopping_of t.ran.line)) (armed_other (stopping_of t.ran.line))) a p
+  pub second_is : IsPick (pick_fill (stopping_of t.ran.line)) (chosen second (armed_other (stopping_of t.ran.line)) (armed_counting (stopping_of t.ran.line))) b q
+  pub risen : IsTorn ns t.before t.ran.line → (a < p.faults) ⊎ (b < q.faults)
+  pub stand : StandFor n (cells_behind ns (behind_point t) n) p.image q.image
 
--- the picks of the two disks are one of each at each of these points, in order, and no other
-abbrev pub ArePickedAt : List NodeId → NodeId → List (List Ran) → List Picked → List Picked → Type 0
-ArePickedAt ns n [] [] [] = Unit {0}
-ArePickedAt ns n (rs ∷ rss) (p ∷ ps) (q ∷ qs) = ArePicksBehind ns n rs p q × ArePickedAt ns n rss ps qs
-ArePickedAt ns n rss ps qs = ⊥
+-- the picks of the two disks are one of each at each of these points, in order, and no other; at first their counts of faults were these
+abbrev pub ArePickedAt : List NodeId → NodeId → ℕ → ℕ → List Point → List Picked → List Picked → Type 0
+ArePickedAt ns n a b [] [] [] = Unit {0}
+ArePickedAt ns n a b (t ∷ ts) (p ∷ ps) (q ∷ qs) = ArePicksAt ns n t a b p q × ArePickedAt ns n p.faults q.faults ts ps qs
+ArePickedAt ns n a b ts ps qs = ⊥
 
-abbrev pub IsUnarmed : DiskView → Type 0
-IsUnarmed d = d.armed.arming ≡ Off
+-- the count that a disk kept with its last pick, or this one where it picked nothing
+abbrev pub last_count : ℕ → List Picked → ℕ
+last_count count [] = count
+last_count count (p ∷ ps) = last_count p.faults ps
 
 -- a disk from which nothing was picked, and that isn't armed
 pub record IsUnpicked (d : DiskView) : Type 0 where
@@ -76,56 +127,98 @@ pub record AreUnpicked (p : PairView) : Type 0 where
 abbrev pub AllUnpicked : List PairView → Type 0
 AllUnpicked ps = (i : ℕ) (p : PairView) → slice_get ps i ≡ Some p → AreUnpicked p
 
--- behind these lines the disks of the node picked at each line that stopped it, and nowhere else; neither is armed
-pub record HasPicked (ns : List NodeId) (rs : List Ran) (n : NodeId) (p : PairView) : Type 0 where
-  pub picks : ArePickedAt ns n (pick_points n [] rs) p.first.picks p.second.picks
-  pub first_off : IsUnarmed p.first
-  pub second_off : IsUnarmed p.second
+-- a disk that was so at the start isn't armed, and its count of faults isn't below the one of its last pick
+pub record IsCounted (s p : DiskView) : Type 0 where
+  pub off : IsUnarmed p
+  pub later : last_count s.faults p.picks ≤ p.faults
+
+-- behind these lines the disks of the node, which were so at the start, picked at each line that stopped it, and nowhere else
+pub record HasPicked (ns : List NodeId) (rs : List Ran) (n : NodeId) (s p : PairView) : Type 0 where
+  pub picks : ArePickedAt ns n s.first.faults s.second.faults (pick_points n [] rs) p.first.picks p.second.picks
+  pub first : IsCounted s.first p.first
+  pub second : IsCounted s.second p.second
 
 -- the disks of the node hold what it keeps behind these lines, and so did what they picked at its stops
-pub record IsHeld (ns : List NodeId) (rs : List Ran) (n : NodeId) (p : PairView) : Type 0 where
-  pub picked : HasPicked ns rs n p
+pub record IsHeld (ns : List NodeId) (rs : List Ran) (n : NodeId) (s p : PairView) : Type 0 where
+  pub picked : HasPicked ns rs n s p
   pub now : IfBoth (p.first.image_at p.first.moment) (p.second.image_at p.second.moment) (λ i j. StandFor n (cells_behind ns rs n) i.bytes j.bytes)
+
+-- ---- how disks are picked from
+
+abbrev pub image_now : DiskView → Option Image
+image_now x = x.image_at x.moment
+
+-- a disk that was armed so picked with this fill, and isn't armed any more; nothing of its past changed, and no fault is forgotten
+abbrev pub HasArmedPick : Fill → Arming → DiskView → DiskView → Type 0
+HasArmedPick fill arming x y = PicksArmed fill arming x.image_at y.image_at x.moment y.moment x.faults y.faults y.armed x.picks y.picks
+
+-- so did both disks of a node, and what they picked stands for these cells; `second` is whether the second disk counted
+pub record BothPicked (here : NodeId) (how : Option Stopping) (cells : CircuitId → Cell) (p q : PairView) : Type 0 where
+  pub second : Bool
+  pub counts : IfBoth (image_now p.first) (image_now p.second) (λ i j. second_counts i.bytes j.bytes ≡ second)
+  pub first_is : HasArmedPick (pick_fill how) (chosen second (armed_counting how) (armed_other how)) p.first q.first
+  pub second_is : HasArmedPick (pick_fill how) (chosen second (armed_other how) (armed_counting how)) p.second q.second
+  pub stand : IfBoth (image_now q.first) (image_now q.second) (λ i j. StandFor here cells i.bytes j.bytes)
+
+-- a node stopped so, and kept these cells: where it was up its two disks were picked from, and no disk changed otherwise
+pub record StopsPair (here : NodeId) (up : Bool) (how : Option Stopping) (cells : CircuitId → Cell) (k : ℕ) (old new : List PairView) : Type 0 where
+  pub as_many : length new ≡ length old
+  pub others : (i : ℕ) → (i ≡ k → ⊥) → slice_get new i ≡ slice_get old i
+  pub picks : up ≡ true → (p q : PairView) → slice_get old k ≡ Some p → slice_get new k ≡ Some q → BothPicked here how cells p q
+  pub none : up ≡ false → new ≡ old
+
+-- a disk of the pair has failed since it was last picked from
+abbrev pub HasFailedSince : PairView → PairView → Type 0
+HasFailedSince s p = (last_count s.first.faults p.first.picks < p.first.faults) ⊎ (last_count s.second.faults p.second.picks < p.second.faults)
+
+-- and that at this place
+pub record FailedSince (i : ℕ) (start now : List PairView) : Type 0 where
+  pub below : i < length now
+  pub failed : (s p : PairView) → slice_get start i ≡ Some s → slice_get now i ≡ Some p → HasFailedSince s p
 
 -- ---- all nodes
 
--- this holds of each of these nodes and the pair at its place
-abbrev pub EachPair : (NodeId → PairView → Type 0) → List NodeId → List ℕ → List PairView → Type 0
-EachPair P ids places ps = (i : ℕ) (n : NodeId) (k : ℕ) (p : PairView) → slice_get ids i ≡ Some n → slice_get places i ≡ Some k → slice_get ps k ≡ Some p → P n p
+-- this holds of each of these nodes and the pair at its place, as it was at the start and as it is
+abbrev pub EachPair : (NodeId → PairView → PairView → Type 0) → List NodeId → List ℕ → List PairView → List PairView → Type 0
+EachPair P ids places start ps = (i : ℕ) (n : NodeId) (k : ℕ) (s p : PairView) → slice_get ids i ≡ Some n → slice_get places i ≡ Some k → slice_get start k ≡ Some s → slice_get ps k ≡ Some p → P n s p
 
 -- the disks of all nodes of a world behind these lines
-abbrev pub AllPicked : List Ran → World → List PairView → Type 0
-AllPicked rs w ps = EachPair (HasPicked (ids_of w) rs) (ids_of w) (places_of w) ps
+abbrev pub AllPicked : List PairView → List Ran → World → List PairView → Type 0
+AllPicked start rs w ps = EachPair (HasPicked (ids_of w) rs) (ids_of w) (places_of w) start ps
 
-abbrev pub AllHeld : List Ran → World → List PairView → Type 0
-AllHeld rs w ps = EachPair (IsHeld (ids_of w) rs) (ids_of w) (places_of w) ps
+abbrev pub AllHeld : List PairView → List Ran → World → List PairView → Type 0
+AllHeld start rs w ps = EachPair (IsHeld (ids_of w) rs) (ids_of w) (places_of w) start ps
 
 -- each node of a registry, with the pair at its position there
-abbrev pub AreHeld : List NodeId → List Ran → List Entry → List PairView → Type 0
-AreHeld ns rs es ps = (k : ℕ) (n : NodeId) (p : PairView) → node_at es k ≡ Some n → slice_get ps k ≡ Some p → IsHeld ns rs n p
+abbrev pub AreHeld : List PairView → List NodeId → List Ran → List Entry → List PairView → Type 0
+AreHeld start ns rs es ps = (k : ℕ) (n : NodeId) (s p : PairView) → node_at es k ≡ Some n → slice_get start k ≡ Some s → slice_get ps k ≡ Some p → IsHeld ns rs n s p
 
 -- ---- a line
 
--- each of two disks picked once more, and the images stand for the cells of the node behind these lines
-pub record PicksOnce (ns : List NodeId) (rs : List Ran) (n : NodeId) (p q : PairView) : Type 0 where
+-- each of two disks picked once more by a line, of which the images stand for the cells of the node behind it, and neither is armed
+pub record PicksOnce (ns : List NodeId) (t : Point) (n : NodeId) (p q : PairView) : Type 0 where
   pub first : Picked
   pub second : Picked
-  pub behind : ArePicksBehind ns n rs first second
+  pub at : ArePicksAt ns n t p.first.faults p.second.faults first second
   pub first_picks : q.first.picks ≡ p.first.picks ++ first ∷ []
   pub second_picks : q.second.picks ≡ p.second.picks ++ second ∷ []
+  pub first_count : first.faults ≤ q.first.faults
+  pub second_count : second.faults ≤ q.second.faults
   pub first_off : IsUnarmed q.first
   pub second_off : IsUnarmed q.second
 
--- neither picked, nor was armed
+-- neither picked, nor was armed, and no fault is forgotten
 pub record KeepsPicks (p q : PairView) : Type 0 where
   pub first_picks : q.first.picks ≡ p.first.picks
   pub second_picks : q.second.picks ≡ p.second.picks
   pub first_armed : q.first.armed ≡ p.first.armed
   pub second_armed : q.second.armed ≡ p.second.armed
+  pub first_count : p.first.faults ≤ q.first.faults
+  pub second_count : p.second.faults ≤ q.second.faults
 
 -- the disks of the node pick once where the line stops it, and not elsewhere
 pub record PicksBy (ns : List NodeId) (before : List Ran) (r : Ran) (n : NodeId) (p q : PairView) : Type 0 where
-  pub stopped : picks_at n before r ≡ true → PicksOnce ns (before ++ r ∷ []) n p q
+  pub stopped : picks_at n before r ≡ true → PicksOnce ns (record { before = before; ran = r }) n p q
   pub went_on : picks_at n before r ≡ false → KeepsPicks p q
 
 pub record AllPickBy (before : List Ran) (r : Ran) (w : World) (old new : List PairView) : Type 0 where

@@ -8,10 +8,10 @@ ghost use Rattle.spl_model.specs.Outcomes.{by_rule};
 ghost use Rattle.spl_model.specs.Projection.{Ran};
 ghost use Rattle.spl_sched.specs.Grammar.{nodes_of, is_line};
 ghost use Rattle.spl_world.specs.Counts.{IsOver};
-ghost use Rattle.spl_world.specs.Disks.{StopsPair, bench, images};
-ghost use Rattle.spl_world.specs.Held.{AllHeld};
+ghost use Rattle.spl_world.specs.Disks.{AllUnarmed, NoneForgotten, PairView, bench, images};
+ghost use Rattle.spl_world.specs.Held.{AllHeld, StopsPair, cells_behind, stopping_of, stops_at};
 ghost use Rattle.spl_world.specs.Lines.{stops};
-ghost use Rattle.spl_world.specs.Views.{Sits, Stands, ids_of, is_halted, places_of, seen, slot_id, slot_up, view_in};
+ghost use Rattle.spl_world.specs.Views.{Sits, Stands, ids_of, is_halted, places_of, seen, slot_id, slot_up};
 ghost use Rattle.spl_world.specs.declared.slot.Slot.{Slot as Seat};
 
 use crate::fault::WorldFault;
@@ -47,10 +47,12 @@ impl World {
         ensures few { (before : List Ran) → Stands before self.old (images D.image_at D.moment pairs.old.items) → OnOk result (events_of (ids_of self.old) (before ++ by_rule line.now ∷ []) ≤ MOST_EVENTS) }
         ensures fewer { (before : List Ran) → Stands before self.old (images D.image_at D.moment pairs.old.items) → OnOk result (stops_of (before ++ by_rule line.now ∷ []) ≤ MOST_STOPS) }
         // Where the node was up each of its two disks has one pick more; no other disk changed.
-        ensures picks { (i : ℕ) (s : Seat) → slice_get self.old.slots.items i ≡ Some s → (before : List Ran) → Stands before self.old (images D.image_at D.moment pairs.old.items) → line.now ≡ Line.Stop (slot_id s) → OnOk result (StopsPair (slot_id s) (slot_up s) (view_in (seen D.image_at D.moment self.old pairs.old.items) s).cells s.position (bench D.image_at D.moment D.faults D.armed D.picks pairs.old.items) (bench D.image_at D.moment D.faults D.armed D.picks pairs.new.items)) }
+        ensures picks { (i : ℕ) (s : Seat) → slice_get self.old.slots.items i ≡ Some s → (before : List Ran) → Stands before self.old (images D.image_at D.moment pairs.old.items) → AllUnarmed (bench D.image_at D.moment D.faults D.armed D.picks pairs.old.items) → stops_at (slot_id s) line.now ≡ true → OnOk result (StopsPair (slot_id s) (slot_up s) (stopping_of line.now) (cells_behind (ids_of self.old) (before ++ by_rule line.now ∷ []) (slot_id s)) s.position (bench D.image_at D.moment D.faults D.armed D.picks pairs.old.items) (bench D.image_at D.moment D.faults D.armed D.picks pairs.new.items)) }
         ensures sits { OnOk result (Sits (seen D.image_at D.moment self.new pairs.new.items)) }
         // What the disks hold stands for what the nodes keep, and so does what they picked.
-        ensures held { (before : List Ran) → Stands before self.old (images D.image_at D.moment pairs.old.items) → AllHeld before self.old (bench D.image_at D.moment D.faults D.armed D.picks pairs.old.items) → OnOk result (AllHeld (before ++ by_rule line.now ∷ []) self.new (bench D.image_at D.moment D.faults D.armed D.picks pairs.new.items)) }
+        ensures held { (start : List PairView) (before : List Ran) → Stands before self.old (images D.image_at D.moment pairs.old.items) → AllHeld start before self.old (bench D.image_at D.moment D.faults D.armed D.picks pairs.old.items) → OnOk result (AllHeld start (before ++ by_rule line.now ∷ []) self.new (bench D.image_at D.moment D.faults D.armed D.picks pairs.new.items)) }
+        ensures onward { NoneForgotten (bench D.image_at D.moment D.faults D.armed D.picks pairs.old.items) (bench D.image_at D.moment D.faults D.armed D.picks pairs.new.items) }
+        ensures unarmed { AllUnarmed (bench D.image_at D.moment D.faults D.armed D.picks pairs.old.items) → OnOk result (AllUnarmed (bench D.image_at D.moment D.faults D.armed D.picks pairs.new.items)) }
         ensures running { OnOk result (is_halted self.new ≡ false) }
         ensures halted { OnErr result (is_halted self.new ≡ true) }
     {
@@ -80,7 +82,7 @@ impl World {
         ensures many { (before : List Ran) (which : ℕ) → Stands before self.old (images D.image_at D.moment pairs.old.items) → IsErrOf result (WorldFault.TooMany which) → IsOver (ids_of self.old) (before ++ by_rule line.now ∷ []) which }
         ensures disk { (slot : ℕ) → IsErrOf result (WorldFault.Disk slot) → ⊥ }
         // Where the node was up each of its two disks has one pick more; no other disk changed.
-        ensures picks { (i : ℕ) (s : Seat) → slice_get self.old.slots.items i ≡ Some s → (before : List Ran) → Stands before self.old (images D.image_at D.moment pairs.old.items) → line.now ≡ Line.Stop (slot_id s) → OnOk result (StopsPair (slot_id s) (slot_up s) (view_in (seen D.image_at D.moment self.old pairs.old.items) s).cells s.position (bench D.image_at D.moment D.faults D.armed D.picks pairs.old.items) (bench D.image_at D.moment D.faults D.armed D.picks pairs.new.items)) }
+        ensures picks { (i : ℕ) (s : Seat) → slice_get self.old.slots.items i ≡ Some s → (before : List Ran) → Stands before self.old (images D.image_at D.moment pairs.old.items) → AllUnarmed (bench D.image_at D.moment D.faults D.armed D.picks pairs.old.items) → stops_at (slot_id s) line.now ≡ true → OnOk result (StopsPair (slot_id s) (slot_up s) (stopping_of line.now) (cells_behind (ids_of self.old) (before ++ by_rule line.now ∷ []) (slot_id s)) s.position (bench D.image_at D.moment D.faults D.armed D.picks pairs.old.items) (bench D.image_at D.moment D.faults D.armed D.picks pairs.new.items)) }
         ensures sits { OnOk result (Sits (seen D.image_at D.moment self.new pairs.new.items)) }
     {
         match line {
@@ -91,6 +93,7 @@ impl World {
                 self.stop_at(alloc, pairs, slot)?;
                 Ok(Answer::Power { up: false })
             }
+            Line::Cut { .. } | Line::Fail { .. } => Err(WorldFault::NoMemory),
             _ => unreachable!(),
         }
     }

@@ -51,7 +51,7 @@ impl World {
         ensures placed { IfOk result (ArePlaced registry.now) }
         ensures running { IfOk result (λ w. is_halted w ≡ false) }
         ensures stands { IfOk result (λ w. Stands [] w (images D.image_at D.moment pairs.new.items)) }
-        ensures held { AllUnpicked (bench D.image_at D.moment D.faults D.armed D.picks pairs.old.items) → IfOk result (λ w. AllHeld [] w (bench D.image_at D.moment D.faults D.armed D.picks pairs.new.items)) }
+        ensures held { AllUnpicked (bench D.image_at D.moment D.faults D.armed D.picks pairs.old.items) → IfOk result (λ w. AllHeld (bench D.image_at D.moment D.faults D.armed D.picks pairs.old.items) [] w (bench D.image_at D.moment D.faults D.armed D.picks pairs.new.items)) }
         ensures disks { LeavesDisks result (bench D.image_at D.moment D.faults D.armed D.picks pairs.old.items) (bench D.image_at D.moment D.faults D.armed D.picks pairs.new.items) }
     {
         let ids = sorted_ids(alloc, registry)?;

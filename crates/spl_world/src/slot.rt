@@ -113,7 +113,7 @@ impl Slot {
         ensures few { (which : ℕ) → IsErrOf result (WorldFault.TooMany which) → ⊥ }
     {
         match self.host.handle(alloc, disks, circuit, event) {
-            Ok(Outcome { answer, sends }) => {
+            Ok(Outcome { answer, sends, .. }) => {
                 self.posts.post(alloc, *circuit, sends.as_slice())?;
                 Ok(answer)
             }

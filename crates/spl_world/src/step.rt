@@ -8,9 +8,9 @@ ghost use Rattle.spl_sched.specs.Grammar.{nodes_of, step_nodes, step_circuit, is
 ghost use Rattle.spl_model.specs.Worlds.{World as CircuitWorld, step_plan, step_world};
 ghost use Rattle.spl_model.specs.Answers.{answer_to};
 ghost use Rattle.spl_model.specs.Counts.{events_of};
-ghost use Rattle.spl_world.specs.Lines.{steps};
-ghost use Rattle.spl_world.specs.Disks.{LeavesDisks, bench, images};
-ghost use Rattle.spl_world.specs.Held.{AllHeld};
+ghost use Rattle.spl_world.specs.Lines.{stops};
+ghost use Rattle.spl_world.specs.Disks.{LeavesDisks, PairView, bench, images};
+ghost use Rattle.spl_world.specs.Held.{AllHeld, FailedSince};
 ghost use Rattle.spl_world.specs.Views.{IsPlace, Holds, Moves, Sits, Stands, Stays, places_of, ids_of, is_halted, seen};
 
 use crate::fault::WorldFault;
@@ -85,7 +85,7 @@ impl World {
         requires running { is_halted self.old ≡ false }
         requires known { IsTrue (list_all (has_node (ids_of self.old)) (nodes_of line.now)) }
         requires fits { IsTrue (is_line line.now) }
-        requires steps { steps line.now ≡ true }
+        requires steps { stops line.now ≡ false }
         requires sits { Sits (seen D.image_at D.moment self.old pairs.old.items) }
         ensures ids { ids_of self.new ≡ ids_of self.old }
         ensures places { places_of self.new ≡ places_of self.old }
@@ -99,7 +99,8 @@ impl World {
         ensures sits { OnOk result (Sits (seen D.image_at D.moment self.new pairs.new.items)) }
         ensures disks { LeavesDisks result (bench D.image_at D.moment D.faults D.armed D.picks pairs.old.items) (bench D.image_at D.moment D.faults D.armed D.picks pairs.new.items) }
         // What the disks hold stands for what the nodes keep, and so does what they picked.
-        ensures held { (before : List Ran) → Stands before self.old (images D.image_at D.moment pairs.old.items) → AllHeld before self.old (bench D.image_at D.moment D.faults D.armed D.picks pairs.old.items) → OnOk result (AllHeld (before ++ by_rule line.now ∷ []) self.new (bench D.image_at D.moment D.faults D.armed D.picks pairs.new.items)) }
+        ensures held { (start : List PairView) (before : List Ran) → Stands before self.old (images D.image_at D.moment pairs.old.items) → AllHeld start before self.old (bench D.image_at D.moment D.faults D.armed D.picks pairs.old.items) → OnOk result (AllHeld start (before ++ by_rule line.now ∷ []) self.new (bench D.image_at D.moment D.faults D.armed D.picks pairs.new.items)) }
+        ensures failed { (start : List PairView) (before : List Ran) (slot : ℕ) → IsErrOf result (WorldFault.Disk slot) → AllHeld start before self.old (bench D.image_at D.moment D.faults D.armed D.picks pairs.old.items) → FailedSince slot start (bench D.image_at D.moment D.faults D.armed D.picks pairs.new.items) }
         ensures place { (slot : ℕ) → IsErrOf result (WorldFault.Disk slot) → IsPlace (places_of self.old) slot }
         ensures running { OnOk result (is_halted self.new ≡ false) }
         ensures halted { OnErr result (is_halted self.new ≡ true) }
@@ -120,7 +121,7 @@ impl World {
     ) -> Result<Answer, WorldFault>
         requires known { IsTrue (list_all (has_node (ids_of self.old)) (nodes_of line.now)) }
         requires fits { IsTrue (is_line line.now) }
-        requires steps { steps line.now ≡ true }
+        requires steps { stops line.now ≡ false }
         requires sits { Sits (seen D.image_at D.moment self.old pairs.old.items) }
         ensures ids { ids_of self.new ≡ ids_of self.old }
         ensures places { places_of self.new ≡ places_of self.old }

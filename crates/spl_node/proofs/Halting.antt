@@ -1,0 +1,306 @@
+-- What a stop in an event leaves of a node.
+use Rattle.std.proofs.Common.{◌≡◌, ◌≢◌, ◌⊎◌, inl, inr, ⊎_elim, ℕ, zero, suc, ◌+◌, ◌-◌, ◌<◌, ◌≤◌, ◌==◌, Bool, true, false, not, List, [], ◌∷◌, ◌++◌, Option, Some, None, IfSome, Result, Ok, Err, refl, sym, ◌∙◌, ap, subst, arith}
+use Rattle.std.specs.Prelude.{⊤, nat_le, IsTrue, IsSome, if◌then◌else◌}
+use Rattle.std.specs.Option.{option_map}
+use Rattle.std.specs.Result.{IsOkAnd, result_unwrap_or}
+use Rattle.std.specs.Str.{bytes_eq}
+use Rattle.std.proofs.lemmas.Bool.{cases_lt}
+use Rattle.std.proofs.lemmas.Bool.Decides.{nat_tests}
+use Rattle.spl_agree.proofs.Tests.{bool_cases}
+use Rattle.spl_circuit.specs.Nodes.{NodeId, CircuitId}
+use Rattle.spl_edge.specs.Calls.{armed_with, fails_at}
+use Rattle.spl_edge.specs.Causes.{Rose}
+use Rattle.spl_edge.specs.Image.{Image, MayLeave, IsSettled, settled_at}
+use Rattle.spl_edge.specs.Picks.{Picked, picked_bytes, picked_of}
+use Rattle.spl_edge.specs.declared.disk.Armed.{Armed}
+use Rattle.spl_edge.specs.declared.disk.Arming.{Arming}
+use Rattle.spl_edge.specs.declared.disk.Arming.TheVariants.{Off, After, At}
+use Rattle.spl_edge.specs.declared.fill.Fill.{Fill}
+use Rattle.spl_edge.specs.declared.fill.Fill.TheVariants.{Old}
+use Rattle.spl_journal.proofs.Images.{only_settled}
+use Rattle.spl_journal.specs.Gate.{ByCalls, opened}
+use Rattle.spl_journal.specs.Stops.{is_kept}
+use Rattle.spl_snapshot.specs.Counting.{chosen, pair_records, IfBoth, PairLeaves, Onward}
+use Rattle.spl_snapshot.specs.Stopped.{kept_on}
+use Rattle.spl_wire.specs.declared.change.Change.{Change}
+use Rattle.spl_wire.specs.declared.event.Event.{Event}
+use Rattle.spl_rules.specs.Cells.{Cell}
+use Rattle.spl_rules.specs.Changes.{made, stopped_cell}
+use Rattle.spl_rules.specs.Plans.{plan_of}
+use Rattle.spl_node.specs.Hosts.{PicksWith, Rests, made_cell}
+use Rattle.spl_node.specs.Kept.{cells_after}
+use Rattle.spl_node.specs.Records.{is_record, recorded_cell, site_at}
+use Rattle.spl_node.specs.Stands.{Make, StandFor}
+use Rattle.spl_node.specs.Stopping.{Arms, HaveCells, IsStopping, PicksArmed, PicksMake, cells_stopped, counting_arming, fill_of, has_changes, keeps, passing}
+use Rattle.spl_node.specs.declared.stopping.Stopping.{Stopping}
+use Rattle.spl_node.specs.declared.stopping.Stopping.TheVariants.{Cut, Fail}
+use Rattle.spl_node.proofs.Booleans.{bytes_are, le_is, is_le}
+use Rattle.spl_node.proofs.Disks.{both_if}
+use Rattle.spl_node.proofs.Hosting.{both_apply, both_told, ok_of, settled_now}
+use Rattle.spl_node.proofs.Stops.{stopped-moved}
+
+-- ---- which calls pass
+
+eq_is : (a b : ℕ) → a ≡ b → (a == b) ≡ true
+eq_is a b h = grind (arith, nat_tests)
+
+is_eq : (a b : ℕ) → (a == b) ≡ true → a ≡ b
+is_eq a b h = grind (arith, nat_tests)
+
+not_le : (a b : ℕ) → nat_le a b ≡ false → b < a
+not_le a b h = grind (arith, nat_tests)
+
+-- the calls from this moment on that pass
+abbrev pub Pass : Armed → ℕ → ℕ → Type 0
+Pass armed m n = (j : ℕ) → j < n → IsTrue (fails_at armed (m + j)) → ⊥
+
+after_most : (k m n : ℕ) → Pass (armed_with (After k) m) m n → n ≤ k
+after_most k m n h = ⊎_elim (λ (lt : k < n). absurd (h k lt (le_is k (m + k - m) (omega arith)))) (λ (le : n ≤ k). le) (cases_lt k n)
+
+at_most : (k m n : ℕ) → 1 ≤ k → Pass (armed_with (At k) m) m n → n < k
+at_most k m n pos h = ⊎_elim (λ (lt : n < k). lt) (λ (le : k ≤ n). absurd (h (k - 1) (omega (arith, pos, le)) (eq_is (m + (k - 1) - m + 1) k (omega (arith, pos))))) (cases_lt n k)
+
+is_after : (k m n : ℕ) → IsTrue (fails_at (armed_with (After k) m) (m + n)) → k ≤ n
+is_after k m n due = let le : k ≤ m + n - m = is_le k (m + n - m) due in omega (arith, le)
+
+is_at : (k m n : ℕ) → IsTrue (fails_at (armed_with (At k) m) (m + n)) → n ≡ k - 1
+is_at k m n due = let same : m + n - m + 1 ≡ k = is_eq (m + n - m + 1) k due in omega (arith, same)
+
+kept_four : (n : ℕ) (fill : Fill) → 4 ≤ n → is_kept n fill ≡ true
+kept_four zero fill le = absurd (omega (arith, le))
+kept_four (suc zero) fill le = absurd (omega (arith, le))
+kept_four (suc (suc zero)) fill le = absurd (omega (arith, le))
+kept_four (suc (suc (suc zero))) fill le = absurd (omega (arith, le))
+kept_four (suc (suc (suc (suc n)))) fill le = refl
+
+four_fail : (call m : ℕ) (low : Bool) → nat_le call 4 ≡ low → 1 ≤ call → Pass (armed_with (if low then At call else After 4) m) m 4 → 4 ≤ call - 1
+four_fail call m true is pos h = let lt : 4 < call = at_most call m 4 pos h in omega (arith, lt)
+four_fail call m false is pos h = let lt : 4 < call = not_le call 4 is in omega (arith, lt)
+
+-- where the four calls of a record pass the arming lets them pass
+pub four_pass : (h : Stopping) (armed : Armed) (m : ℕ) → armed ≡ armed_with (counting_arming h) m → IsStopping h → Pass armed m 4 → 4 ≤ passing h
+four_pass (Cut calls fill) armed m is stopping pass = after_most calls m 4 (subst (λ (a : Armed). Pass a m 4) is pass)
+four_pass (Fail call) armed m is stopping pass = four_fail call m (nat_le call 4) refl stopping (subst (λ (a : Armed). Pass a m 4) is pass)
+
+pub four_kept : (h : Stopping) (armed : Armed) (m : ℕ) → armed ≡ armed_with (counting_arming h) m → IsStopping h → Pass armed m 4 → keeps h ≡ true
+four_kept h armed m is stopping pass = kept_four (passing h) (fill_of h) (four_pass h armed m is stopping pass)
+
+kept_fail : (call m n : ℕ) (low : Bool) → nat_le call 4 ≡ low → 1 ≤ call → IsTrue (fails_at (armed_with (if low then At call else After 4) m) (m + n)) → is_kept n Old ≡ is_kept (call - 1) Old
+kept_fail call m n true is pos due = ap (λ (k : ℕ). is_kept k Old) (is_at call m n due)
+kept_fail call m n false is pos due = let lt : 4 < call = not_le call 4 is in kept_four n Old (is_after 4 m n due) ∙ sym (kept_four (call - 1) Old (omega (arith, lt)))
+
+-- the calls before the one that the arming names are those that pass
+pub named_kept : (h : Stopping) (armed : Armed) (m n : ℕ) → armed ≡ armed_with (counting_arming h) m → IsStopping h → Pass armed m n → IsTrue (fails_at armed (m + n)) → is_kept n (fill_of h) ≡ keeps h
+named_kept (Cut calls fill) armed m n is stopping pass due =
+    let most : n ≤ calls = after_most calls m n (subst (λ (a : Armed). Pass a m n) is pass) in
+    let least : calls ≤ n = is_after calls m n (subst (λ (a : Armed). IsTrue (fails_at a (m + n))) is due) in
+    let same : n ≡ calls = omega (arith, most, least) in
+    ap (λ (k : ℕ). is_kept k fill) same
+named_kept (Fail call) armed m n is stopping pass due = kept_fail call m n (nat_le call 4) refl stopping (subst (λ (a : Armed). IsTrue (fails_at a (m + n))) is due)
+
+off_fail : (call : ℕ) (low : Bool) → (if low then At call else After 4) ≡ Off → ⊥
+off_fail call true off = cc
+off_fail call false off = cc
+
+never_off : (h : Stopping) → counting_arming h ≡ Off → ⊥
+never_off (Cut calls fill) off = cc
+never_off (Fail call) off = off_fail call (nat_le call 4) off
+
+pub is_armed : (h : Stopping) (armed : Armed) (m : ℕ) → armed ≡ armed_with (counting_arming h) m → armed.arming ≡ Off → ⊥
+is_armed h armed m is off = never_off h (sym (ap (λ (a : Armed). a.arming) is) ∙ off)
+
+-- ---- whether there are changes
+
+pub none_or_some : (xs : List Change) → (xs ≡ []) ⊎ (xs ≢ [])
+none_or_some [] = inl refl
+none_or_some (x ∷ xs) = inr (λ h. cc)
+
+pub has_some : (xs : List Change) → xs ≢ [] → true ≡ has_changes xs
+has_some [] some = absurd (some refl)
+has_some (x ∷ xs) some = refl
+
+-- a disk failed, so there are
+pub some_rose : {T : Type 0} (f g : T → ℕ) (old new : T) (xs : List Change) → (xs ≡ [] → new ≡ old) → Rose (f old) (f new) ⊎ Rose (g old) (g new) → xs ≢ []
+some_rose f g old new xs still rose none = ⊎_elim (λ (r : f old < f new). let same : f new ≡ f old = ap f (still none) in absurd (omega (arith, r, same))) (λ (r : g old < g new). let same : g new ≡ g old = ap g (still none) in absurd (omega (arith, r, same))) rose
+
+-- ---- the cells
+
+pub have_cells : (here : NodeId) (cells target : CircuitId → Cell) (x y : List ℕ) → ((i : CircuitId) → stopped_cell (cells i) ≡ target i) → StandFor here cells x y → HaveCells here target x y
+have_cells here cells target x y same stands = by (pair_records is_record x y) stands
+  where
+    by : (r : Result (List (List ℕ)) ℕ) → IsOkAnd r (Make here cells) → IsOkAnd r (λ rs. (c : CircuitId) → recorded_cell here c rs ≡ target c)
+    by (Ok rs) h = λ i. h i ∙ same i
+    by (Err at) h = h
+
+module _ (here : NodeId) (c : CircuitId) (before : CircuitId → Cell) where
+  -- nothing was kept, or there was nothing
+  pub before_cells : (xs : List Change) (kept : Bool) → (kept ≡ false) ⊎ (xs ≡ []) → (i : CircuitId) → stopped_cell (before i) ≡ cells_stopped here before c xs kept i
+  before_cells xs kept lost i = by (bool_cases (bytes_eq c i))
+    where
+      lost_is : (k : Bool) → (k ≡ false) ⊎ (xs ≡ []) → stopped_cell (before c) ≡ stopped_cell (if k then made here (before c) xs else before c)
+      lost_is false l = refl
+      lost_is true (inl wrong) = cc
+      lost_is true (inr none) = ap (λ (ys : List Change). stopped_cell (made here (before c) ys)) (sym none)
+
+      by : (bytes_eq c i ≡ true) ⊎ (bytes_eq c i ≡ false) → stopped_cell (before i) ≡ cells_stopped here before c xs kept i
+      by (inl h) = rw h (ap (λ (k : CircuitId). stopped_cell (before k)) (sym (bytes_are c i h)) ∙ lost_is kept lost)
+      by (inr h) = rw h refl
+
+  module _ (e : Event) where
+    pub after_cells : (kept : Bool) → (kept ≡ true) ⊎ ((plan_of (site_at here c) (before c) e).changes ≡ []) → (i : CircuitId) → stopped_cell (cells_after here before c e i) ≡ cells_stopped here before c (plan_of (site_at here c) (before c) e).changes kept i
+    after_cells kept all i = by (bool_cases (bytes_eq c i))
+      where
+        kept_is : (k : Bool) → (k ≡ true) ⊎ ((plan_of (site_at here c) (before c) e).changes ≡ []) → stopped_cell (made here (before c) (plan_of (site_at here c) (before c) e).changes) ≡ stopped_cell (if k then made here (before c) (plan_of (site_at here c) (before c) e).changes else before c)
+        kept_is true l = refl
+        kept_is false (inl wrong) = cc
+        kept_is false (inr none) = ap (λ (ys : List Change). stopped_cell (made here (before c) ys)) none
+
+        by : (bytes_eq c i ≡ true) ⊎ (bytes_eq c i ≡ false) → stopped_cell (cells_after here before c e i) ≡ cells_stopped here before c (plan_of (site_at here c) (before c) e).changes kept i
+        by (inl h) = rw h (stopped-moved here (made here (before c) (plan_of (site_at here c) (before c) e).changes) (plan_of (site_at here c) (before c) e).admin (plan_of (site_at here c) (before c) e).service ∙ kept_is kept all)
+        by (inr h) = rw h refl
+
+    pub have_kept : (kept : Bool) (x y : List ℕ) → StandFor here (chosen kept before (cells_after here before c e)) x y → HaveCells here (cells_stopped here before c (plan_of (site_at here c) (before c) e).changes kept) x y
+    have_kept false x y stands = have_cells here before (cells_stopped here before c (plan_of (site_at here c) (before c) e).changes false) x y (before_cells (plan_of (site_at here c) (before c) e).changes false (inl refl)) stands
+    have_kept true x y stands = have_cells here (cells_after here before c e) (cells_stopped here before c (plan_of (site_at here c) (before c) e).changes true) x y (after_cells true (inl refl)) stands
+
+-- ---- what is picked
+
+-- two disks that tell stand for the cells, and something follows from that
+pub stand_then : (here : NodeId) (before : CircuitId → Cell) (o p : Option Image) (Q : Type 0) → IsSome o → IsSome p → IfBoth o p (λ i j. StandFor here before i.bytes j.bytes) → IfBoth o p (λ i j. StandFor here before i.bytes j.bytes → Q) → Q
+stand_then here before o p Q told other_told stands h = both_told o p (λ i j. Q) Q told other_told (both_apply o p (λ i j. StandFor here before i.bytes j.bytes) (λ i j. Q) stands h) (λ i j is other_is q. q)
+
+-- each image at the last moments stands for these cells
+pub picks_left : (fill : Fill) (here : NodeId) (cells target : CircuitId → Cell) (at other : ℕ → Option Image) (m n : ℕ) → ((i : CircuitId) → stopped_cell (cells i) ≡ target i) → PairLeaves at m m other n n (StandFor here cells) → IfBoth (at m) (other n) (PicksMake fill here target)
+picks_left fill here cells target at other m n same left = both_if (at m) (other n) (λ i j. (c d : List ℕ) → MayLeave i c → MayLeave j d → StandFor here cells c d) (PicksMake fill here target) (left m n (omega arith) (omega arith) (omega arith) (omega arith))
+    (λ i j all a b. have_cells here cells target (picked_bytes fill i) (picked_bytes fill j) same (all (picked_bytes fill i) (picked_bytes fill j) a b))
+
+-- nothing is pending on either
+pub picks_rest : (fill : Fill) (here : NodeId) (cells target : CircuitId → Cell) (o p : Option Image) → ((i : CircuitId) → stopped_cell (cells i) ≡ target i) → IfSome o IsSettled → IfSome p IsSettled → IfBoth o p (λ i j. StandFor here cells i.bytes j.bytes) → IfBoth o p (PicksMake fill here target)
+picks_rest fill here cells target None p same a b stands = tt
+picks_rest fill here cells target (Some i) None same a b stands = tt
+picks_rest fill here cells target (Some i) (Some j) same a b stands = λ c_left d_left.
+    have_cells here cells target (picked_bytes fill i) (picked_bytes fill j) same
+    (subst (λ (c : List ℕ). StandFor here cells c (picked_bytes fill j)) (sym (only_settled i (picked_bytes fill i) a c_left))
+    (subst (λ (d : List ℕ). StandFor here cells i.bytes d) (sym (only_settled j (picked_bytes fill j) b d_left)) stands))
+
+-- so many calls of an append succeeded on the disk that counts, and the other is as it was
+pub picks_stopped : (second : Bool) (fill : Fill) (S : List ℕ → List ℕ → Type 0) (end : ℕ) (piece : List ℕ) (n : ℕ) (o p x y : Option Image) → IfSome o IsSettled → IfSome p IsSettled → IsSome o → IsSome p
+    → chosen second x y ≡ option_map (opened end piece n) (chosen second o p) → chosen second y x ≡ chosen second p o
+    → IfBoth o p (λ i j. S (kept_on (not second) fill end piece n i) (kept_on second fill end piece n j))
+    → IfBoth x y (λ i j. MayLeave i (picked_bytes fill i) → MayLeave j (picked_bytes fill j) → S (picked_bytes fill i) (picked_bytes fill j))
+picks_stopped second fill S end piece n None p x y a b told other_told is other_is h = cc
+picks_stopped second fill S end piece n (Some i) None x y a b told other_told is other_is h = cc
+picks_stopped false fill S end piece n (Some i) (Some j) x y a b told other_told is other_is h =
+    subst (λ (u : Option Image). IfBoth u y (λ i j. MayLeave i (picked_bytes fill i) → MayLeave j (picked_bytes fill j) → S (picked_bytes fill i) (picked_bytes fill j))) (sym is)
+    (subst (λ (v : Option Image). IfBoth (Some (opened end piece n i)) v (λ i j. MayLeave i (picked_bytes fill i) → MayLeave j (picked_bytes fill j) → S (picked_bytes fill i) (picked_bytes fill j))) (sym other_is)
+    (λ c_left d_left. subst (λ (d : List ℕ). S (picked_bytes fill (opened end piece n i)) d) (sym (only_settled j (picked_bytes fill j) b d_left)) h))
+picks_stopped true fill S end piece n (Some i) (Some j) x y a b told other_told is other_is h =
+    subst (λ (v : Option Image). IfBoth x v (λ i j. MayLeave i (picked_bytes fill i) → MayLeave j (picked_bytes fill j) → S (picked_bytes fill i) (picked_bytes fill j))) (sym is)
+    (subst (λ (u : Option Image). IfBoth u (Some (opened end piece n j)) (λ i j. MayLeave i (picked_bytes fill i) → MayLeave j (picked_bytes fill j) → S (picked_bytes fill i) (picked_bytes fill j))) (sym other_is)
+    (λ c_left d_left. subst (λ (c : List ℕ). S c (picked_bytes fill (opened end piece n j))) (sym (only_settled i (picked_bytes fill i) a c_left)) h))
+
+-- what holds of each of two disks, of the chosen one
+pub chosen_ap : {T U : Type 0} (f : T → U) (second : Bool) (a b : T) → f (chosen second a b) ≡ chosen second (f a) (f b)
+chosen_ap f false a b = refl
+chosen_ap f true a b = refl
+
+-- ---- the calls of a record
+
+pub four_passed : {S T : Type 0} (at : ℕ → Option Image) (first now : ℕ) (f : ℕ → Image → Image) (told : Option Image) (armed : Armed) (ok failed : Type 0) → ok → (ByCalls 4 at first now f told armed ok failed × S) ⊎ (ByCalls 4 at first now f told armed ⊤ ⊥ × T) → Pass armed first 4
+four_passed at first now f told armed ok failed is_ok (inl h) = λ j low due. let all : h.0.calls ≡ 4 = h.0.whole is_ok in h.0.passed j (omega (arith, all, low)) due
+four_passed at first now f told armed ok failed is_ok (inr h) = λ j low due. let all : h.0.calls ≡ 4 = h.0.whole tt in h.0.passed j (omega (arith, all, low)) due
+
+-- where a disk has failed: a call of the record was named, or all four of them passed
+module _ {D : Type 0} (h : Stopping) (here : NodeId) (c : CircuitId) (before : CircuitId → Cell) (e : Event) (image_at : D → ℕ → Option Image) (moment : D → ℕ) (second : Bool) (a b x y : D) (end : ℕ) (piece : List ℕ) (armed : Armed)
+    (is : armed ≡ armed_with (counting_arming h) (moment (chosen second a b))) (stopping : IsStopping h) (rest : IfSome (image_at a (moment a)) IsSettled) (other_rest : IfSome (image_at b (moment b)) IsSettled) (told : IsSome (image_at a (moment a))) (other_told : IsSome (image_at b (moment b)))
+    (stands : IfBoth (image_at a (moment a)) (image_at b (moment b)) (λ i j. StandFor here before i.bytes j.bytes))
+    (stopped : (n : ℕ) (fill : Fill) → IfBoth (image_at a (moment a)) (image_at b (moment b)) (λ i j. StandFor here before i.bytes j.bytes → StandFor here (chosen (is_kept n fill) before (cells_after here before c e)) (kept_on (not second) fill end piece n i) (kept_on second fill end piece n j))) where
+  abbrev Behind : Type 0
+  Behind = PairLeaves (image_at x) (moment x) (moment x) (image_at y) (moment y) (moment y) (StandFor here (cells_after here before c e))
+
+  abbrev Left : Type 0
+  Left = IfBoth (image_at x (moment x)) (image_at y (moment y)) (PicksMake (fill_of h) here (cells_stopped here before c (plan_of (site_at here c) (before c) e).changes (keeps h)))
+
+  lost_at : (n : ℕ) → is_kept n (fill_of h) ≡ keeps h → image_at (chosen second x y) (moment (chosen second x y)) ≡ option_map (opened end piece n) (image_at (chosen second a b) (moment (chosen second a b))) → chosen second y x ≡ chosen second b a → Left
+  lost_at n same now other = picks_stopped second (fill_of h) (HaveCells here (cells_stopped here before c (plan_of (site_at here c) (before c) e).changes (keeps h))) end piece n
+      (image_at a (moment a)) (image_at b (moment b)) (image_at x (moment x)) (image_at y (moment y)) rest other_rest told other_told
+      (sym (chosen_ap (λ (d : D). image_at d (moment d)) second x y) ∙ (now ∙ ap (option_map (opened end piece n)) (chosen_ap (λ (d : D). image_at d (moment d)) second a b)))
+      (sym (chosen_ap (λ (d : D). image_at d (moment d)) second y x) ∙ (ap (λ (d : D). image_at d (moment d)) other ∙ chosen_ap (λ (d : D). image_at d (moment d)) second b a))
+      (both_if (image_at a (moment a)) (image_at b (moment b))
+      (λ i j. StandFor here (chosen (is_kept n (fill_of h)) before (cells_after here before c e)) (kept_on (not second) (fill_of h) end piece n i) (kept_on second (fill_of h) end piece n j))
+      (λ i j. HaveCells here (cells_stopped here before c (plan_of (site_at here c) (before c) e).changes (keeps h)) (kept_on (not second) (fill_of h) end piece n i) (kept_on second (fill_of h) end piece n j))
+      (both_apply (image_at a (moment a)) (image_at b (moment b)) (λ i j. StandFor here before i.bytes j.bytes) (λ i j. StandFor here (chosen (is_kept n (fill_of h)) before (cells_after here before c e)) (kept_on (not second) (fill_of h) end piece n i) (kept_on second (fill_of h) end piece n j)) stands (stopped n (fill_of h)))
+      (λ i j s. have_kept here c before e (keeps h) (kept_on (not second) (fill_of h) end piece n i) (kept_on second (fill_of h) end piece n j)
+      (subst (λ (k : Bool). StandFor here (chosen k before (cells_after here before c e)) (kept_on (not second) (fill_of h) end piece n i) (kept_on second (fill_of h) end piece n j)) same s)))
+
+  pub append_stopped : {ok failed : Type 0} → failed
+      → (ByCalls 4 (image_at (chosen second x y)) (moment (chosen second a b)) (moment (chosen second x y)) (opened end piece) (image_at (chosen second a b) (moment (chosen second a b))) armed ok failed × (chosen second y x ≡ chosen second b a))
+      ⊎ (ByCalls 4 (image_at (chosen second x y)) (moment (chosen second a b)) (moment (chosen second x y)) (opened end piece) (image_at (chosen second a b) (moment (chosen second a b))) armed ⊤ ⊥ × IfBoth (image_at a (moment a)) (image_at b (moment b)) (λ i j. StandFor here before i.bytes j.bytes → Behind)) → Left
+  append_stopped fault (inl k) =
+      let due : IsTrue (fails_at armed (moment (chosen second a b) + k.0.calls)) = k.0.named fault (is_armed h armed (moment (chosen second a b)) is) in
+      lost_at k.0.calls (named_kept h armed (moment (chosen second a b)) k.0.calls is stopping k.0.passed due) (k.0.still due ∙ k.0.stands) k.1
+  append_stopped fault (inr k) = picks_left (fill_of h) here (cells_after here before c e) (cells_stopped here before c (plan_of (site_at here c) (before c) e).changes (keeps h)) (image_at x) (image_at y) (moment x) (moment y)
+      (after_cells here c before e (keeps h) (inl (four_kept h armed (moment (chosen second a b)) is stopping (λ j low due. let all : k.0.calls ≡ 4 = k.0.whole tt in k.0.passed j (omega (arith, all, low)) due))))
+      (stand_then here before (image_at a (moment a)) (image_at b (moment b)) Behind told other_told stands k.1)
+
+-- ---- armed, handled, picked
+
+-- a disk that was armed tells what it told
+pub arms_told : (arming : Arming) (at new_at : ℕ → Option Image) (before now faults later : ℕ) (armed : Armed) (had has : List Picked) → Arms arming at new_at before now faults later armed had has → new_at now ≡ at before
+arms_told arming at new_at before now faults later armed had has arms = ap new_at arms.moment ∙ arms.same before
+
+pub is_one : (second : Bool) → (chosen second 0 1 == 1) ≡ second
+is_one false = refl
+is_one true = refl
+
+-- the disk that counts is armed for the calls of the record
+pub armed_counting : {D : Type 0} (armed : D → Armed) (moment : D → ℕ) (second : Bool) (a b x y : D) (k l : Arming) → armed x ≡ armed_with (chosen second k l) (moment a) → moment x ≡ moment a → armed y ≡ armed_with (chosen second l k) (moment b) → moment y ≡ moment b
+    → armed (chosen second x y) ≡ armed_with k (moment (chosen second x y))
+armed_counting armed moment false a b x y k l first first_now other other_now = first ∙ ap (armed_with k) (sym first_now)
+armed_counting armed moment true a b x y k l first first_now other other_now = other ∙ ap (armed_with k) (sym other_now)
+
+pub picks_armed : (fill : Fill) (arming : Arming) (at at1 at2 at3 : ℕ → Option Image) (m m1 m2 m3 f f1 f2 f3 : ℕ) (a1 a2 a3 : Armed) (p p1 p2 p3 : List Picked)
+    → Arms arming at at1 m m1 f f1 a1 p p1 → Onward at1 at2 m1 m2 f1 f2 a1 a2 p1 p2 → PicksWith fill at2 at3 m2 m3 f2 f3 a2 a3 p2 p3 → PicksArmed fill arming at at3 m m3 f f3 a3 p p3
+picks_armed fill arming at at1 at2 at3 m m1 m2 m3 f f1 f2 f3 a1 a2 a3 p p1 p2 p3 arms on picks =
+    let one : m1 ≡ m = arms.moment in
+    let two : m1 ≤ m2 = on.later in
+    let three : m3 ≡ m2 + 1 = picks.tick in
+    let none : f1 ≡ f = arms.faults_stay in
+    let more : f1 ≤ f2 = on.no_less in
+    let stay : f3 ≡ f2 = picks.faults_stay in
+    record {
+      image = picked_bytes fill picks.picks.image;
+      kept = picks.picks.kept
+          ∙ (ap (λ (l : List Picked). l ++ picked_of fill a2.arming f2 picks.picks.image ∷ []) (on.picks ∙ arms.picks_stay)
+          ∙ (ap (λ (a : Armed). p ++ picked_of fill a.arming f2 picks.picks.image ∷ []) (on.armed ∙ arms.armed)
+          ∙ ap (λ (n : ℕ). p ++ picked_of fill arming n picks.picks.image ∷ []) (sym stay)));
+      holds = picks.picks.holds;
+      disarmed = picks.disarmed;
+      past = λ t low. picks.past t (omega (arith, one, two, low)) ∙ (on.past t (omega (arith, one, low)) ∙ arms.same t);
+      later = omega (arith, one, two, three);
+      no_less = omega (arith, none, more, stay);
+    }
+
+-- ---- the host behind it
+
+module _ (fill : Fill) (here : NodeId) (target : CircuitId → Cell) (o p x y : Option Image) (i j : Image) (is : o ≡ Some i) (other_is : p ≡ Some j) (left : MayLeave i (picked_bytes fill i)) (other_left : MayLeave j (picked_bytes fill j))
+    (holds : x ≡ Some (settled_at (picked_bytes fill i))) (other_holds : y ≡ Some (settled_at (picked_bytes fill j))) (make : IfBoth o p (PicksMake fill here target)) where
+  have : HaveCells here target (picked_bytes fill i) (picked_bytes fill j)
+  have = subst (λ (u : Option Image). IfSome u (λ k. PicksMake fill here target i k)) other_is (subst (λ (u : Option Image). IfBoth u p (PicksMake fill here target)) is make) left other_left
+
+  at_picked : (P : Option Image → Option Image → Type 0) → P (Some (settled_at (picked_bytes fill i))) (Some (settled_at (picked_bytes fill j))) → P x y
+  at_picked P h = subst (λ (u : Option Image). P u y) (sym holds) (subst (λ (v : Option Image). P (Some (settled_at (picked_bytes fill i))) v) (sym other_holds) h)
+
+  pub picked_rests : Rests x y
+  picked_rests = at_picked Rests (record {
+    first_is = settled_now (picked_bytes fill i);
+    second_is = settled_now (picked_bytes fill j);
+    journal = ok_of (pair_records is_record (picked_bytes fill i) (picked_bytes fill j)) (λ rs. (c : CircuitId) → recorded_cell here c rs ≡ target c) have;
+  })
+
+  pub picked_cells : (c : CircuitId) → made_cell here c x y ≡ target c
+  picked_cells c = at_picked (λ u v. made_cell here c u v ≡ target c) (made_is (pair_records is_record (picked_bytes fill i) (picked_bytes fill j)) have)
+    where
+      made_is : (r : Result (List (List ℕ)) ℕ) → IsOkAnd r (λ rs. (c : CircuitId) → recorded_cell here c rs ≡ target c) → recorded_cell here c (result_unwrap_or r []) ≡ target c
+      made_is (Ok rs) h = h c
+      made_is (Err at) h = absurd h

@@ -1,0 +1,24 @@
+use Rattle.std.proofs.Common.{◌≢◌, ◌⊎◌, inr, ◌<◌, List, [], OnOk, sym, ap, subst}
+use Rattle.std.specs.Option.{option_copied}
+use Rattle.spl_edge.specs.Causes.{Rose}
+use Rattle.spl_snapshot.specs.Counting.{IfBoth}
+use Rattle.spl_wire.specs.declared.change.Change.{Change}
+use Rattle.spl_node.specs.Records.{is_record}
+use Rattle.spl_node.specs.Stands.{here_of, cell_of}
+use Rattle.spl_node.specs.Stopping.{PicksMake, cells_stopped, event_changes, fill_of, keeps, passing}
+use Rattle.spl_node.proofs.Disks.{settled_pair}
+use Rattle.spl_node.proofs.Halting.{before_cells, picks_rest}
+use Rattle.spl_node.proofs.stopping.handle_armed.Goals as goal
+
+pub returns-in-None-clause-left : goal.returns-in-None-clause-left
+returns-in-None-clause-left g c = picks_rest (fill_of c.args.stopping) (here_of c.args.node.now) (cell_of c.args.node.now) (cells_stopped (here_of c.args.node.now) (cell_of c.args.node.now) c.args.circuit.now (event_changes (here_of c.args.node.now) (cell_of c.args.node.now) c.args.circuit.now (option_copied c.args.event)) (keeps c.args.stopping)) (g.D.Disk.image_at c.args.disks.now.first (g.D.Disk.moment c.args.disks.now.first)) (g.D.Disk.image_at c.args.disks.now.second (g.D.Disk.moment c.args.disks.now.second))
+    (before_cells (here_of c.args.node.now) c.args.circuit.now (cell_of c.args.node.now) (event_changes (here_of c.args.node.now) (cell_of c.args.node.now) c.args.circuit.now (option_copied c.args.event)) (keeps c.args.stopping) (inr (ap (λ (o : _). event_changes (here_of c.args.node.now) (cell_of c.args.node.now) c.args.circuit.now (option_copied o)) c.in-None.is)))
+    (settled_pair is_record c.args.node.now.pairing (g.D.Disk.image_at c.args.disks.now.first (g.D.Disk.moment c.args.disks.now.first)) (g.D.Disk.image_at c.args.disks.now.second (g.D.Disk.moment c.args.disks.now.second)) c.requires.stands.pair).0 (settled_pair is_record c.args.node.now.pairing (g.D.Disk.image_at c.args.disks.now.first (g.D.Disk.moment c.args.disks.now.first)) (g.D.Disk.image_at c.args.disks.now.second (g.D.Disk.moment c.args.disks.now.second)) c.requires.stands.pair).1 c.requires.stands.cells
+
+pub returns-in-Some-clause-left : goal.returns-in-Some-clause-left
+returns-in-Some-clause-left g c = subst (λ (xs : List Change). OnOk c.step_armed.result (IfBoth (g.D.Disk.image_at c.step_armed.new.disks.first (g.D.Disk.moment c.step_armed.new.disks.first)) (g.D.Disk.image_at c.step_armed.new.disks.second (g.D.Disk.moment c.step_armed.new.disks.second)) (PicksMake (fill_of c.args.stopping) (here_of c.args.node.now) (cells_stopped (here_of c.args.node.now) (cell_of c.args.node.now) c.args.circuit.now xs (keeps c.args.stopping)))))
+    (sym (ap (λ (o : _). event_changes (here_of c.args.node.now) (cell_of c.args.node.now) c.args.circuit.now (option_copied o)) c.in-Some.is)) c.step_armed.ensures.left
+
+pub returns-in-Some-clause-risen : goal.returns-in-Some-clause-risen
+returns-in-Some-clause-risen g c = subst (λ (xs : List Change). OnOk c.step_armed.result (xs ≢ [] → passing c.args.stopping < 4 → Rose (g.D.Disk.faults c.args.disks.now.first) (g.D.Disk.faults c.step_armed.new.disks.first) ⊎ Rose (g.D.Disk.faults c.args.disks.now.second) (g.D.Disk.faults c.step_armed.new.disks.second)))
+    (sym (ap (λ (o : _). event_changes (here_of c.args.node.now) (cell_of c.args.node.now) c.args.circuit.now (option_copied o)) c.in-Some.is)) c.step_armed.ensures.risen

@@ -1,0 +1,34 @@
+use Rattle.std.proofs.Common.{◌≡◌, ◌≢◌, inl, inr, ⊎_elim, ◌≤◌, [], Err, refl, ap, arith}
+use Rattle.spl_journal.specs.Journals.{end_of}
+use Rattle.spl_journal.specs.Records.{sized}
+use Rattle.spl_snapshot.specs.Counting.{chosen, PairLeaves}
+use Rattle.spl_snapshot.specs.Pairs.{is_second, journal_in}
+use Rattle.spl_wire.specs.Grouping.{record_of}
+use Rattle.spl_rules.specs.Plans.{plan_of}
+use Rattle.spl_node.specs.Kept.{cells_after}
+use Rattle.spl_node.specs.Records.{is_record, record_bytes, site_at}
+use Rattle.spl_node.specs.Stands.{StandFor, here_of, cell_of}
+use Rattle.spl_node.specs.Stopping.{cells_stopped, fill_of, keeps, passing}
+use Rattle.spl_node.proofs.Disks.{settled_pair}
+use Rattle.spl_node.proofs.Halting.{after_cells, append_stopped, four_kept, four_pass, four_passed, has_some, none_or_some, picks_left, some_rose, stand_then}
+use Rattle.spl_node.proofs.stopping.step_armed.Goals as goal
+
+pub returns-in-Ok-clause-left : goal.returns-in-Ok-clause-left
+returns-in-Ok-clause-left g c = picks_left (fill_of c.args.stopping) (here_of c.args.node.now) (cells_after (here_of c.args.node.now) (cell_of c.args.node.now) c.args.circuit.now c.args.event.now) (cells_stopped (here_of c.args.node.now) (cell_of c.args.node.now) c.args.circuit.now (plan_of (site_at (here_of c.args.node.now) c.args.circuit.now) (cell_of c.args.node.now c.args.circuit.now) c.args.event.now).changes (keeps c.args.stopping)) (g.D.Disk.image_at c.step.new.disks.first) (g.D.Disk.image_at c.step.new.disks.second) (g.D.Disk.moment c.step.new.disks.first) (g.D.Disk.moment c.step.new.disks.second)
+    (after_cells (here_of c.args.node.now) c.args.circuit.now (cell_of c.args.node.now) c.args.event.now (keeps c.args.stopping)
+    (⊎_elim (λ (none : (plan_of (site_at (here_of c.args.node.now) c.args.circuit.now) (cell_of c.args.node.now c.args.circuit.now) c.args.event.now).changes ≡ []). inr none) (λ (some : (plan_of (site_at (here_of c.args.node.now) c.args.circuit.now) (cell_of c.args.node.now c.args.circuit.now) c.args.event.now).changes ≢ []). inl (four_kept c.args.stopping (g.D.Disk.armed (chosen (is_second c.args.node.now.pairing) c.args.disks.now.first c.args.disks.now.second)) (g.D.Disk.moment (chosen (is_second c.args.node.now.pairing) c.args.disks.now.first c.args.disks.now.second)) c.requires.armed c.requires.calls (four_passed _ _ _ _ _ _ _ _ refl (c.in-Ok.ensures.by_calls some)))) (none_or_some (plan_of (site_at (here_of c.args.node.now) c.args.circuit.now) (cell_of c.args.node.now c.args.circuit.now) c.args.event.now).changes)))
+    (stand_then (here_of c.args.node.now) (cell_of c.args.node.now) (g.D.Disk.image_at c.args.disks.now.first (g.D.Disk.moment c.args.disks.now.first)) (g.D.Disk.image_at c.args.disks.now.second (g.D.Disk.moment c.args.disks.now.second)) (PairLeaves (g.D.Disk.image_at c.step.new.disks.first) (g.D.Disk.moment c.step.new.disks.first) (g.D.Disk.moment c.step.new.disks.first) (g.D.Disk.image_at c.step.new.disks.second) (g.D.Disk.moment c.step.new.disks.second) (g.D.Disk.moment c.step.new.disks.second) (StandFor (here_of c.args.node.now) (cells_after (here_of c.args.node.now) (cell_of c.args.node.now) c.args.circuit.now c.args.event.now))) (g.met.D.StopDisk.tells c.args.disks.now.first) (g.met.D.StopDisk.tells c.args.disks.now.second) c.requires.stands.cells c.in-Ok.ensures.after)
+
+pub returns-in-Ok-clause-risen : goal.returns-in-Ok-clause-risen
+returns-in-Ok-clause-risen g c = λ some few.
+    let four : 4 ≤ passing c.args.stopping = four_pass c.args.stopping (g.D.Disk.armed (chosen (is_second c.args.node.now.pairing) c.args.disks.now.first c.args.disks.now.second)) (g.D.Disk.moment (chosen (is_second c.args.node.now.pairing) c.args.disks.now.first c.args.disks.now.second)) c.requires.armed c.requires.calls (four_passed _ _ _ _ _ _ _ _ refl (c.in-Ok.ensures.by_calls some)) in
+    absurd (omega (arith, four, few))
+
+pub returns-in-Err-Disk-clause-tells : goal.returns-in-Err-Disk-clause-tells
+returns-in-Err-Disk-clause-tells g c = has_some (plan_of (site_at (here_of c.args.node.now) c.args.circuit.now) (cell_of c.args.node.now c.args.circuit.now) c.args.event.now).changes (some_rose (λ (d : _). g.D.Disk.faults d.first) (λ (d : _). g.D.Disk.faults d.second) c.args.disks.now c.step.new.disks (plan_of (site_at (here_of c.args.node.now) c.args.circuit.now) (cell_of c.args.node.now c.args.circuit.now) c.args.event.now).changes c.step.ensures.no_calls (c.in-Err-Disk.ensures.failed (ap Err c.in-Err-Disk.field-0-is)))
+
+pub returns-in-Err-Disk-clause-left : goal.returns-in-Err-Disk-clause-left
+returns-in-Err-Disk-clause-left g c =
+    let some : (plan_of (site_at (here_of c.args.node.now) c.args.circuit.now) (cell_of c.args.node.now c.args.circuit.now) c.args.event.now).changes ≢ [] = some_rose (λ (d : _). g.D.Disk.faults d.first) (λ (d : _). g.D.Disk.faults d.second) c.args.disks.now c.step.new.disks (plan_of (site_at (here_of c.args.node.now) c.args.circuit.now) (cell_of c.args.node.now c.args.circuit.now) c.args.event.now).changes c.step.ensures.no_calls (c.in-Err-Disk.ensures.failed (ap Err c.in-Err-Disk.field-0-is)) in
+    append_stopped c.args.stopping (here_of c.args.node.now) c.args.circuit.now (cell_of c.args.node.now) c.args.event.now g.D.Disk.image_at g.D.Disk.moment (is_second c.args.node.now.pairing) c.args.disks.now.first c.args.disks.now.second c.step.new.disks.first c.step.new.disks.second (end_of (journal_in c.args.node.now.pairing)) (sized (record_bytes (record_of c.args.circuit.now (plan_of (site_at (here_of c.args.node.now) c.args.circuit.now) (cell_of c.args.node.now c.args.circuit.now) c.args.event.now).changes))) (g.D.Disk.armed (chosen (is_second c.args.node.now.pairing) c.args.disks.now.first c.args.disks.now.second))
+    c.requires.armed c.requires.calls (settled_pair is_record c.args.node.now.pairing (g.D.Disk.image_at c.args.disks.now.first (g.D.Disk.moment c.args.disks.now.first)) (g.D.Disk.image_at c.args.disks.now.second (g.D.Disk.moment c.args.disks.now.second)) c.requires.stands.pair).0 (settled_pair is_record c.args.node.now.pairing (g.D.Disk.image_at c.args.disks.now.first (g.D.Disk.moment c.args.disks.now.first)) (g.D.Disk.image_at c.args.disks.now.second (g.D.Disk.moment c.args.disks.now.second)) c.requires.stands.pair).1 (g.met.D.StopDisk.tells c.args.disks.now.first) (g.met.D.StopDisk.tells c.args.disks.now.second) c.requires.stands.cells (c.in-Err-Disk.ensures.stopped (ap Err c.in-Err-Disk.field-0-is)) (ap Err c.in-Err-Disk.field-0-is) (c.in-Err-Disk.ensures.by_calls some)

@@ -1,0 +1,91 @@
+-- What a stop in an event leaves of a node (docs/RULES.md, Stops in an event).
+use Rattle.std.specs.Prelude.{◌≡◌, ◌≤◌, ◌-◌, ◌++◌, ◌∷◌, [], ℕ, nat_le, List, Bool, true, false, Option, Some, None, if◌then◌else◌}
+use Rattle.std.specs.Result.{IsOkAnd}
+use Rattle.std.specs.Str.{bytes_eq}
+use Rattle.spl_circuit.specs.Nodes.{NodeId, CircuitId}
+use Rattle.spl_edge.specs.Calls.{SamePast, armed_with}
+use Rattle.spl_edge.specs.Image.{Image, MayLeave, settled_at}
+use Rattle.spl_edge.specs.Picks.{Picked, picked_bytes}
+use Rattle.spl_edge.specs.declared.disk.Armed.{Armed}
+use Rattle.spl_edge.specs.declared.disk.Arming.{Arming}
+use Rattle.spl_edge.specs.declared.disk.Arming.TheVariants.{Off, After, At}
+use Rattle.spl_edge.specs.declared.fill.Fill.{Fill}
+use Rattle.spl_edge.specs.declared.fill.Fill.TheVariants.{Old}
+use Rattle.spl_journal.specs.Stops.{is_kept}
+use Rattle.spl_snapshot.specs.Counting.{pair_records}
+use Rattle.spl_rules.specs.Cells.{Cell}
+use Rattle.spl_rules.specs.Changes.{made, stopped_cell}
+use Rattle.spl_rules.specs.Plans.{plan_of}
+use Rattle.spl_wire.specs.declared.change.Change.{Change}
+use Rattle.spl_wire.specs.declared.event.Event.{Event}
+use Rattle.spl_node.specs.Records.{is_record, recorded_cell, site_at}
+use Rattle.spl_node.specs.declared.stopping.Stopping.{Stopping}
+use Rattle.spl_node.specs.declared.stopping.Stopping.TheVariants.{Cut, Fail}
+
+-- what the disk that counts is armed with: it has the first four calls of an event
+abbrev pub counting_arming : Stopping → Arming
+counting_arming (Cut calls fill) = After calls
+counting_arming (Fail call) = if nat_le call 4 then At call else After 4
+
+-- and the other, which has those behind them
+abbrev pub other_arming : Stopping → Arming
+other_arming (Cut calls fill) = After (calls - 4)
+other_arming (Fail call) = if nat_le call 4 then After 4 else At (call - 4)
+
+-- what the disks keep of what wasn't synced
+abbrev pub fill_of : Stopping → Fill
+fill_of (Cut calls fill) = fill
+fill_of (Fail call) = Old
+
+-- the calls that pass
+abbrev pub passing : Stopping → ℕ
+passing (Cut calls fill) = calls
+passing (Fail call) = call - 1
+
+-- whether the disks have the record of the event
+abbrev pub keeps : Stopping → Bool
+keeps h = is_kept (passing h) (fill_of h)
+
+-- calls are numbered from 1
+abbrev pub IsStopping : Stopping → Type 0
+IsStopping (Cut calls fill) = Unit {0}
+IsStopping (Fail call) = 1 ≤ call
+
+-- the changes of an event at the cell of a circuit; none where there is no event
+abbrev pub event_changes : NodeId → (CircuitId → Cell) → CircuitId → Option Event → List Change
+event_changes here cells c None = []
+event_changes here cells c (Some e) = (plan_of (site_at here c) (cells c) e).changes
+
+abbrev pub has_changes : List Change → Bool
+has_changes [] = false
+has_changes (x ∷ xs) = true
+
+-- the cells behind a stop in an event: open rounds are forgotten, and the changes are made where their record is kept
+abbrev pub cells_stopped : NodeId → (CircuitId → Cell) → CircuitId → List Change → Bool → CircuitId → Cell
+cells_stopped here cells c xs kept id = if bytes_eq c id then stopped_cell (if kept then made here (cells c) xs else cells c) else stopped_cell (cells id)
+
+-- the records of two disks make these cells
+abbrev pub HaveCells : NodeId → (CircuitId → Cell) → List ℕ → List ℕ → Type 0
+HaveCells here cells first second = IsOkAnd (pair_records is_record first second) (λ rs. (c : CircuitId) → recorded_cell here c rs ≡ cells c)
+
+-- what is picked of two images with this fill makes these cells
+abbrev pub PicksMake : Fill → NodeId → (CircuitId → Cell) → Image → Image → Type 0
+PicksMake fill here cells i j = MayLeave i (picked_bytes fill i) → MayLeave j (picked_bytes fill j) → HaveCells here cells (picked_bytes fill i) (picked_bytes fill j)
+
+-- a disk was armed so, and nothing else of it changed
+pub record Arms (arming : Arming) (at new_at : ℕ → Option Image) (before now faults later : ℕ) (is_armed : Armed) (had_picked has_picked : List Picked) : Type 0 where
+  pub armed : is_armed ≡ armed_with arming before
+  pub same : (t : ℕ) → new_at t ≡ at t
+  pub moment : now ≡ before
+  pub faults_stay : later ≡ faults
+  pub picks_stay : has_picked ≡ had_picked
+
+-- a disk that was armed so picked with this fill, and isn't armed any more; no fault is forgotten
+pub record PicksArmed (fill : Fill) (arming : Arming) (at new_at : ℕ → Option Image) (before now : ℕ) (faults risen : ℕ) (is_armed : Armed) (had_picked has_picked : List Picked) : Type 0 where
+  pub image : List ℕ
+  pub kept : has_picked ≡ had_picked ++ record { image = image; fill = fill; arming = arming; faults = risen } ∷ []
+  pub holds : new_at now ≡ Some (settled_at image)
+  pub disarmed : is_armed.arming ≡ Off
+  pub past : SamePast at before new_at
+  pub later : before ≤ now
+  pub no_less : faults ≤ risen

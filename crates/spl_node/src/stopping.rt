@@ -1,0 +1,167 @@
+//! How a node is stopped in an event.
+ghost use Rattle.std.specs.Prelude.{◌≡◌, ◌≢◌, ◌<◌, ◌⊎◌, [], false, IfOk, IfSome, OnOk};
+ghost use Rattle.std.specs.Option.{option_copied};
+ghost use Rattle.spl_edge.specs.Calls.{armed_with};
+ghost use Rattle.spl_edge.specs.Causes.{Rose};
+ghost use Rattle.spl_snapshot.specs.Counting.{chosen, IfBoth, Onward};
+ghost use Rattle.spl_snapshot.specs.Pairs.{is_second};
+ghost use Rattle.spl_rules.specs.Plans.{plan_of};
+ghost use Rattle.spl_rules.specs.Valid.{IsFor};
+ghost use Rattle.spl_node.specs.Hosts.{PicksWith};
+ghost use Rattle.spl_node.specs.Records.{site_at};
+ghost use Rattle.spl_node.specs.Stands.{NodeStands, here_of, cell_of, is_halted};
+ghost use Rattle.spl_node.specs.Stopping.{Arms, IsStopping, PicksMake, cells_stopped, counting_arming, event_changes, fill_of, has_changes, keeps, other_arming, passing};
+
+use crate::Node;
+use spl_base::CircuitId;
+use spl_edge::{Fill, Pair, StopDisk};
+use spl_journal::JournalFault;
+use spl_wire::Event;
+use std::alloc::{AllocError, Global};
+
+/// How a node is stopped in an event (docs/RULES.md, Stops in an event).
+#[derive(Clone, Copy, Debug, PartialEq, Eq)]
+pub enum Stopping {
+    /// So many calls of its disks pass, and none behind them. The disks keep this of what wasn't
+    /// synced.
+    Cut { calls: u8, fill: Fill },
+    /// The call of this number, from 1 on, fails. The disks keep nothing that wasn't synced.
+    Fail { call: u8 },
+}
+
+impl Stopping {
+    /// What the disks keep of what wasn't synced.
+    pub(crate) fn fill(self) -> Fill
+        ensures { result ≡ fill_of self }
+    {
+        match self {
+            Stopping::Cut { fill, .. } => fill,
+            Stopping::Fail { .. } => Fill::Old,
+        }
+    }
+}
+
+/// Arms the disk that counts, which has the first four calls of an event.
+fn arm_counting<D: StopDisk>(disk: &mut D, stopping: Stopping)
+    ensures { Arms (counting_arming stopping) (D.image_at disk.old) (D.image_at disk.new) (D.moment disk.old) (D.moment disk.new) (D.faults disk.old) (D.faults disk.new)
+        (D.armed disk.new) (D.picks disk.old) (D.picks disk.new) }
+{
+    match stopping {
+        Stopping::Cut { calls, .. } => disk.stop_after(u32::from(calls)),
+        Stopping::Fail { call } => {
+            if call <= 4 {
+                disk.fail_at(u32::from(call));
+            } else {
+                disk.stop_after(4);
+            }
+        }
+    }
+}
+
+/// Arms the other disk, which has the calls behind them.
+fn arm_other<D: StopDisk>(disk: &mut D, stopping: Stopping)
+    ensures { Arms (other_arming stopping) (D.image_at disk.old) (D.image_at disk.new) (D.moment disk.old) (D.moment disk.new) (D.faults disk.old) (D.faults disk.new)
+        (D.armed disk.new) (D.picks disk.old) (D.picks disk.new) }
+{
+    match stopping {
+        Stopping::Cut { calls, .. } => disk.stop_after(u32::from(calls.saturating_sub(4))),
+        Stopping::Fail { call } => {
+            if call <= 4 {
+                disk.stop_after(4);
+            } else {
+                disk.fail_at(u32::from(call - 4));
+            }
+        }
+    }
+}
+
+/// Arms both disks, of which the second counts where this is true.
+pub(crate) fn arm<D: StopDisk>(disks: &mut Pair<D>, second: bool, stopping: Stopping)
+    ensures first { Arms (chosen second (counting_arming stopping) (other_arming stopping)) (D.image_at disks.old.first) (D.image_at disks.new.first) (D.moment disks.old.first) (D.moment disks.new.first) (D.faults disks.old.first) (D.faults disks.new.first)
+        (D.armed disks.new.first) (D.picks disks.old.first) (D.picks disks.new.first) }
+    ensures second { Arms (chosen second (other_arming stopping) (counting_arming stopping)) (D.image_at disks.old.second) (D.image_at disks.new.second) (D.moment disks.old.second) (D.moment disks.new.second) (D.faults disks.old.second) (D.faults disks.new.second)
+        (D.armed disks.new.second) (D.picks disks.old.second) (D.picks disks.new.second) }
+{
+    if second {
+        arm_other(&mut disks.first, stopping);
+        arm_counting(&mut disks.second, stopping);
+    } else {
+        arm_counting(&mut disks.first, stopping);
+        arm_other(&mut disks.second, stopping);
+    }
+}
+
+/// Lets both disks pick. An error comes for want of memory alone.
+pub(crate) fn pick_both<D: StopDisk>(
+    alloc: Global,
+    disks: &mut Pair<D>,
+    fill: Fill,
+) -> Result<(), AllocError>
+    ensures first { OnOk result (PicksWith fill (D.image_at disks.old.first) (D.image_at disks.new.first) (D.moment disks.old.first) (D.moment disks.new.first) (D.faults disks.old.first) (D.faults disks.new.first)
+        (D.armed disks.old.first) (D.armed disks.new.first) (D.picks disks.old.first) (D.picks disks.new.first)) }
+    ensures second { OnOk result (PicksWith fill (D.image_at disks.old.second) (D.image_at disks.new.second) (D.moment disks.old.second) (D.moment disks.new.second) (D.faults disks.old.second) (D.faults disks.new.second)
+        (D.armed disks.old.second) (D.armed disks.new.second) (D.picks disks.old.second) (D.picks disks.new.second)) }
+    ensures first_faults { D.faults disks.new.first ≡ D.faults disks.old.first }
+    ensures second_faults { D.faults disks.new.second ≡ D.faults disks.old.second }
+{
+    disks.first.pick(alloc, fill)?;
+    disks.second.pick(alloc, fill)
+}
+
+/// An event at a node whose disk that counts is armed so. It tells whether the event has changes; an
+/// error comes for want of memory alone.
+fn step_armed<D: StopDisk>(
+    node: &mut Node,
+    alloc: Global,
+    disks: &mut Pair<D>,
+    circuit: &CircuitId,
+    event: &Event,
+    stopping: Stopping,
+) -> Result<bool, AllocError>
+    requires running { is_halted node.old ≡ false }
+    requires own { IsFor (site_at (here_of node.old) circuit.now) event.now }
+    requires calls { IsStopping stopping }
+    requires stands { NodeStands node.old (D.image_at disks.old.first (D.moment disks.old.first)) (D.image_at disks.old.second (D.moment disks.old.second)) }
+    requires armed { D.armed (chosen (is_second node.old.pairing) disks.old.first disks.old.second) ≡ armed_with (counting_arming stopping) (D.moment (chosen (is_second node.old.pairing) disks.old.first disks.old.second)) }
+    ensures tells { IfOk result (λ b. b ≡ has_changes (plan_of (site_at (here_of node.old) circuit.now) (cell_of node.old circuit.now) event.now).changes) }
+    ensures left { OnOk result (IfBoth (D.image_at disks.new.first (D.moment disks.new.first)) (D.image_at disks.new.second (D.moment disks.new.second)) (PicksMake (fill_of stopping) (here_of node.old) (cells_stopped (here_of node.old) (cell_of node.old) circuit.now (plan_of (site_at (here_of node.old) circuit.now) (cell_of node.old circuit.now) event.now).changes (keeps stopping)))) }
+    ensures risen { OnOk result ((plan_of (site_at (here_of node.old) circuit.now) (cell_of node.old circuit.now) event.now).changes ≢ [] → passing stopping < 4 → Rose (D.faults disks.old.first) (D.faults disks.new.first) ⊎ Rose (D.faults disks.old.second) (D.faults disks.new.second)) }
+    ensures on_first { Onward (D.image_at disks.old.first) (D.image_at disks.new.first) (D.moment disks.old.first) (D.moment disks.new.first) (D.faults disks.old.first) (D.faults disks.new.first)
+        (D.armed disks.old.first) (D.armed disks.new.first) (D.picks disks.old.first) (D.picks disks.new.first) }
+    ensures on_second { Onward (D.image_at disks.old.second) (D.image_at disks.new.second) (D.moment disks.old.second) (D.moment disks.new.second) (D.faults disks.old.second) (D.faults disks.new.second)
+        (D.armed disks.old.second) (D.armed disks.new.second) (D.picks disks.old.second) (D.picks disks.new.second) }
+{
+    match node.step(alloc, disks, circuit, event) {
+        Ok(outcome) => Ok(outcome.changed),
+        Err(JournalFault::Disk) => Ok(true),
+        Err(_) => Err(AllocError),
+    }
+}
+
+/// The same where there may be no event.
+pub(crate) fn handle_armed<D: StopDisk>(
+    node: &mut Node,
+    alloc: Global,
+    disks: &mut Pair<D>,
+    circuit: &CircuitId,
+    event: Option<&Event>,
+    stopping: Stopping,
+) -> Result<bool, AllocError>
+    requires running { is_halted node.old ≡ false }
+    requires own { IfSome (option_copied event) (IsFor (site_at (here_of node.old) circuit.now)) }
+    requires calls { IsStopping stopping }
+    requires stands { NodeStands node.old (D.image_at disks.old.first (D.moment disks.old.first)) (D.image_at disks.old.second (D.moment disks.old.second)) }
+    requires armed { D.armed (chosen (is_second node.old.pairing) disks.old.first disks.old.second) ≡ armed_with (counting_arming stopping) (D.moment (chosen (is_second node.old.pairing) disks.old.first disks.old.second)) }
+    ensures tells { IfOk result (λ b. b ≡ has_changes (event_changes (here_of node.old) (cell_of node.old) circuit.now (option_copied event.entry))) }
+    ensures left { OnOk result (IfBoth (D.image_at disks.new.first (D.moment disks.new.first)) (D.image_at disks.new.second (D.moment disks.new.second)) (PicksMake (fill_of stopping) (here_of node.old) (cells_stopped (here_of node.old) (cell_of node.old) circuit.now (event_changes (here_of node.old) (cell_of node.old) circuit.now (option_copied event.entry)) (keeps stopping)))) }
+    ensures risen { OnOk result ((event_changes (here_of node.old) (cell_of node.old) circuit.now (option_copied event.entry)) ≢ [] → passing stopping < 4 → Rose (D.faults disks.old.first) (D.faults disks.new.first) ⊎ Rose (D.faults disks.old.second) (D.faults disks.new.second)) }
+    ensures on_first { Onward (D.image_at disks.old.first) (D.image_at disks.new.first) (D.moment disks.old.first) (D.moment disks.new.first) (D.faults disks.old.first) (D.faults disks.new.first)
+        (D.armed disks.old.first) (D.armed disks.new.first) (D.picks disks.old.first) (D.picks disks.new.first) }
+    ensures on_second { Onward (D.image_at disks.old.second) (D.image_at disks.new.second) (D.moment disks.old.second) (D.moment disks.new.second) (D.faults disks.old.second) (D.faults disks.new.second)
+        (D.armed disks.old.second) (D.armed disks.new.second) (D.picks disks.old.second) (D.picks disks.new.second) }
+{
+    match event {
+        None => Ok(false),
+        Some(event) => step_armed(node, alloc, disks, circuit, event, stopping),
+    }
+}

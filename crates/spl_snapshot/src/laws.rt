@@ -1,0 +1,20 @@
+//! What a stop in an append to one of two disks leaves, as a law of the definitions.
+ghost use Rattle.std.specs.Prelude.{◌≡◌, List, ℕ, Bool, not};
+ghost use Rattle.spl_edge.specs.Image.{Image};
+ghost use Rattle.spl_edge.specs.declared.fill.Fill.{Fill};
+ghost use Rattle.spl_journal.specs.Records.{sized, IsGood, Standing};
+ghost use Rattle.spl_journal.specs.Stops.{is_kept, kept_records};
+ghost use Rattle.spl_snapshot.specs.Counting.{chosen, second_counts, pair_records_of, HaveRecords};
+ghost use Rattle.spl_snapshot.specs.Stopped.{kept_on};
+
+use spl_journal::appends_are_kept_or_lost;
+
+/// Where so many calls of an append to the disk that counts succeeded and a fill is picked, the
+/// records of both disks are those of before, with the new one where it is kept.
+pub fn appends_to_pairs_are_kept_or_lost()
+    ensures { (fits : List ℕ → Bool) (second : Bool) (end extent epoch : ℕ) (i j : Image) (r : List ℕ) (calls : ℕ) (fill : Fill)
+        → Standing fits end extent epoch (chosen second i j) → second_counts i.bytes j.bytes ≡ second → IsGood fits r
+        → HaveRecords fits (kept_records (is_kept calls fill) (pair_records_of fits i.bytes j.bytes) r) (kept_on (not second) fill end (sized r) calls i) (kept_on second fill end (sized r) calls j) }
+{
+    appends_are_kept_or_lost();
+}
