@@ -1,5 +1,5 @@
 //! A node that goes down and comes up over its two disks.
-ghost use Rattle.std.specs.Prelude.{◌≡◌, ◌≢◌, ◌≤◌, ◌<◌, ◌⊎◌, ◌&&◌,  [], ℕ, Bool, true, false, Option, OnOk, IfOk, IfSome, IsErrOf};
+ghost use Rattle.std.specs.Prelude.{◌≡◌, ◌≢◌, ◌≤◌, ◌<◌, ◌⊎◌, ◌&&◌, [], ℕ, Bool, true, false, Option, OnOk, IfOk, IfSome, IsErrOf};
 ghost use Rattle.std.specs.List.{list_any};
 ghost use Rattle.std.specs.Option.{option_copied};
 ghost use Rattle.std.specs.List.Sorted.{IsStrictlySortedBy};
@@ -154,6 +154,8 @@ impl Host {
         ensures picks_second { OnOk result (is_up self.old ≡ true → PicksOld (D.image_at disks.old.second) (D.image_at disks.new.second) (D.moment disks.old.second) (D.moment disks.new.second) (D.faults disks.old.second) (D.faults disks.new.second)
             (D.armed disks.old.second) (D.armed disks.new.second) (D.picks disks.old.second) (D.picks disks.new.second)) }
         ensures picked { OnOk result (is_up self.old ≡ true → IfBoth (D.image_at disks.new.first (D.moment disks.new.first)) (D.image_at disks.new.second (D.moment disks.new.second)) (λ i j. StandFor (host_id self.old) (host_cell self.old (D.image_at disks.old.first (D.moment disks.old.first)) (D.image_at disks.old.second (D.moment disks.old.second))) i.bytes j.bytes)) }
+        ensures first_stays { D.faults disks.old.first ≤ D.faults disks.new.first }
+        ensures second_stays { D.faults disks.old.second ≤ D.faults disks.new.second }
     {
         if self.node.is_none() {
             return Ok(());
@@ -181,10 +183,10 @@ impl Host {
         ensures id { host_id self.new ≡ host_id self.old }
         ensures down { OnOk result (is_up self.new ≡ false) }
         ensures stands { OnOk result (HostStands self.new (D.image_at disks.new.first (D.moment disks.new.first)) (D.image_at disks.new.second (D.moment disks.new.second))) }
-        ensures tells { IfOk result (λ b. b ≡ has_changes (event_changes (host_id self.old) (host_cell self.old (D.image_at disks.old.first (D.moment disks.old.first)) (D.image_at disks.old.second (D.moment disks.old.second))) circuit.now (option_copied event))) }
+        ensures tells { IfOk result (λ b. b ≡ has_changes (event_changes (host_id self.old) (host_cell self.old (D.image_at disks.old.first (D.moment disks.old.first)) (D.image_at disks.old.second (D.moment disks.old.second))) circuit.now (option_copied event.entry))) }
 
         // The changes are made where their record is kept, and the open rounds are forgotten.
-        ensures cells { OnOk result ((c : CircuitId) → host_cell self.new (D.image_at disks.new.first (D.moment disks.new.first)) (D.image_at disks.new.second (D.moment disks.new.second)) c ≡ (cells_stopped (host_id self.old) (host_cell self.old (D.image_at disks.old.first (D.moment disks.old.first)) (D.image_at disks.old.second (D.moment disks.old.second))) circuit.now (event_changes (host_id self.old) (host_cell self.old (D.image_at disks.old.first (D.moment disks.old.first)) (D.image_at disks.old.second (D.moment disks.old.second))) circuit.now (option_copied event)) (keeps stopping)) c) }
+        ensures cells { OnOk result ((c : CircuitId) → host_cell self.new (D.image_at disks.new.first (D.moment disks.new.first)) (D.image_at disks.new.second (D.moment disks.new.second)) c ≡ (cells_stopped (host_id self.old) (host_cell self.old (D.image_at disks.old.first (D.moment disks.old.first)) (D.image_at disks.old.second (D.moment disks.old.second))) circuit.now (event_changes (host_id self.old) (host_cell self.old (D.image_at disks.old.first (D.moment disks.old.first)) (D.image_at disks.old.second (D.moment disks.old.second))) circuit.now (option_copied event.entry)) (keeps stopping)) c) }
 
         // The disk that counts is armed for the first four calls of the event, and the other for those behind them; both pick.
         ensures counts { IfBoth (D.image_at disks.old.first (D.moment disks.old.first)) (D.image_at disks.old.second (D.moment disks.old.second)) (λ i j. second_counts i.bytes j.bytes ≡ host_second self.old) }
@@ -194,7 +196,7 @@ impl Host {
             (D.armed disks.new.second) (D.picks disks.old.second) (D.picks disks.new.second)) }
 
         // Where a call that keeps the record didn't pass, a disk has failed.
-        ensures risen { OnOk result ((event_changes (host_id self.old) (host_cell self.old (D.image_at disks.old.first (D.moment disks.old.first)) (D.image_at disks.old.second (D.moment disks.old.second))) circuit.now (option_copied event)) ≢ [] → passing stopping < 4 → Rose (D.faults disks.old.first) (D.faults disks.new.first) ⊎ Rose (D.faults disks.old.second) (D.faults disks.new.second)) }
+        ensures risen { OnOk result ((event_changes (host_id self.old) (host_cell self.old (D.image_at disks.old.first (D.moment disks.old.first)) (D.image_at disks.old.second (D.moment disks.old.second))) circuit.now (option_copied event.entry)) ≢ [] → passing stopping < 4 → Rose (D.faults disks.old.first) (D.faults disks.new.first) ⊎ Rose (D.faults disks.old.second) (D.faults disks.new.second)) }
         ensures first_stays { D.faults disks.old.first ≤ D.faults disks.new.first }
         ensures second_stays { D.faults disks.old.second ≤ D.faults disks.new.second }
     {
