@@ -155,6 +155,8 @@ impl Host {
         ensures picks_second { OnOk result (is_up self.old ≡ true → PicksOld (D.image_at disks.old.second) (D.image_at disks.new.second) (D.moment disks.old.second) (D.moment disks.new.second) (D.faults disks.old.second) (D.faults disks.new.second)
             (D.armed disks.old.second) (D.armed disks.new.second) (D.picks disks.old.second) (D.picks disks.new.second)) }
         ensures picked { OnOk result (is_up self.old ≡ true → IfBoth (D.image_at disks.new.first (D.moment disks.new.first)) (D.image_at disks.new.second (D.moment disks.new.second)) (λ i j. StandFor (host_id self.old) (host_cell self.old (D.image_at disks.old.first (D.moment disks.old.first)) (D.image_at disks.old.second (D.moment disks.old.second))) i.bytes j.bytes)) }
+        ensures first_stays { D.faults disks.old.first ≤ D.faults disks.new.first }
+        ensures second_stays { D.faults disks.old.second ≤ D.faults disks.new.second }
     {
         if self.node.is_none() {
             return Ok(());

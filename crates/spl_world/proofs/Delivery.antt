@@ -1,9 +1,11 @@
 -- A delivery in the world of its circuit.
-use Rattle.std.proofs.Common.{◌≡◌, ℕ, ◌+◌, ◌-◌, ◌⊎◌, inl, inr, true, false, List, [], ◌∷◌, ◌++◌, Some, None, slice_get, refl, ap, sym, ◌∙◌, subst, arith}
+use Rattle.std.proofs.Common.{◌≡◌, ℕ, ◌+◌, ◌-◌, ◌⊎◌, inl, inr, true, false, List, [], ◌∷◌, ◌++◌, Option, Some, None, slice_get, refl, ap, sym, ◌∙◌, subst, arith}
 use Rattle.std.specs.Str.{bytes_eq}
 use Rattle.spl_circuit.specs.Nodes.{NodeId, CircuitId}
 use Rattle.spl_wire.specs.declared.message.Message.{Message}
+use Rattle.spl_wire.specs.declared.event.Event.{Event}
 use Rattle.spl_wire.specs.declared.event.Event.TheVariants as event
+use Rattle.spl_wire.specs.declared.plan.Plan.{Plan}
 use Rattle.spl_wire.specs.declared.answer.Answer.{Answer}
 use Rattle.spl_wire.specs.declared.answer.Answer.TheVariants as answer
 use Rattle.spl_wire.specs.declared.answer.Refusal.TheVariants as refusal
@@ -15,6 +17,7 @@ use Rattle.spl_rules.specs.Plans.{plan_of, tells_only}
 use Rattle.spl_rules.specs.Changes.{after_plan}
 use Rattle.spl_model.specs.Worlds.{site_at, World as CircuitWorld, Sent, messages, delivery, on_pair, put_at, carried_out, step_plan, step_world}
 use Rattle.spl_model.specs.Puts.{put_at-here, put_at-other}
+use Rattle.spl_world.specs.Halts.{IsEventOf, delivery_of}
 use Rattle.spl_world.specs.Views.{Nodes, Holds, Moves, slot_id}
 use Rattle.spl_world.proofs.Up.{step_up, world_down}
 use Rattle.spl_world.proofs.Sends.{bool_cases, bytes_are}
@@ -27,6 +30,26 @@ delivery_is m c a b index x found up = sym (step_up m (step.Deliver a b c (index
 
 pub no_delivery : (m : CircuitWorld) (c : CircuitId) (a b : NodeId) (index : ℕ) → slice_get (messages m a b) index ≡ None → m.up b ≡ true → step_plan m (step.Deliver a b c (index + 1)) ≡ tells_only (answer.Refused refusal.NoMessage)
 no_delivery m c a b index found up = step_up m (step.Deliver a b c (index + 1)) up ∙ ap (λ (k : ℕ). delivery c m a b (slice_get (messages m a b) k)) (number index) ∙ ap (delivery c m a b) found
+
+-- an event that is the delivery of a message, or of none, does what the step does
+delivery_by : (m : CircuitWorld) (c : CircuitId) (a b : NodeId) (index : ℕ) (e : Event) (o : Option Message) → slice_get (messages m a b) index ≡ o → Some e ≡ delivery_of a o → m.up b ≡ true → plan_of (site_at b c) (m.at b) e ≡ step_plan m (step.Deliver a b c (index + 1))
+delivery_by m c a b index e None found is up = cc
+delivery_by m c a b index e (Some x) found is up = let same : e ≡ event.Deliver a x = cc in ap (plan_of (site_at b c) (m.at b)) same ∙ delivery_is m c a b index x found up
+
+pub delivered_as : (m : CircuitWorld) (c : CircuitId) (a b : NodeId) (index : ℕ) (e : Event) → Some e ≡ delivery_of a (slice_get (messages m a b) index) → m.up b ≡ true → plan_of (site_at b c) (m.at b) e ≡ step_plan m (step.Deliver a b c (index + 1))
+delivered_as m c a b index e is up = delivery_by m c a b index e (slice_get (messages m a b) index) refl is up
+
+pub none_delivered : (a : NodeId) (o : Option Message) → None ≡ delivery_of a o → o ≡ None
+none_delivered a None is = refl
+none_delivered a (Some x) is = cc
+
+-- so where a node stops in it
+pub event_at : (m : CircuitWorld) (n : NodeId) (c : CircuitId) (e : Event) → m.up n ≡ true → IsEventOf (Some e) m (step.At n c e)
+event_at m n c e up = ap (λ (p : Plan). p.changes) (sym (step_up m (step.At n c e) up))
+
+pub event_delivered : (m : CircuitWorld) (a b : NodeId) (c : CircuitId) (index : ℕ) (o : Option Event) → o ≡ delivery_of a (slice_get (messages m a b) index) → m.up b ≡ true → IsEventOf o m (step.Deliver a b c (index + 1))
+event_delivered m a b c index None is up = ap (λ (p : Plan). p.changes) (sym (no_delivery m c a b index (none_delivered a (slice_get (messages m a b) index) is) up))
+event_delivered m a b c index (Some e) is up = ap (λ (p : Plan). p.changes) (delivered_as m c a b index e is up)
 
 -- the same by other words
 pub moves_as : (c : CircuitId) (f g : CircuitWorld → CircuitWorld) (xs ys : Nodes) → ((m : CircuitWorld) → Holds c m xs → f m ≡ g m) → Moves c f xs ys → Moves c g xs ys

@@ -1,5 +1,5 @@
 -- A call of one node over its pair of disks.
-use Rattle.std.proofs.Common.{◌≡◌, ◌<◌, ℕ, false, List, length, slice_get, slice_set, Option, Some, Result, ap, sym, subst, ◌∙◌, Bool, true}
+use Rattle.std.proofs.Common.{◌≡◌, ◌<◌, ℕ, false, List, length, slice_get, slice_set, Option, Some, Result, ap, sym, subst, ◌∙◌}
 use Rattle.std.specs.Prelude.{IsErrOf}
 use Rattle.std.specs.Str.{bytes_eq}
 use Rattle.spl_circuit.specs.Nodes.{NodeId, CircuitId}
@@ -13,13 +13,11 @@ use Rattle.spl_rules.specs.Plans.{plan_of}
 use Rattle.spl_wire.specs.declared.event.Event.{Event}
 use Rattle.spl_world.specs.declared.fault.WorldFault.{WorldFault}
 use Rattle.spl_world.specs.declared.fault.WorldFault.TheVariants.{Disk}
-use Rattle.spl_world.specs.Disks.{AllGoOn, HasRisen, Images, LeavesDisks, PairGoesOn, bench, images, images_at, images_of, pair_view, BothPicked, StopsPair, PairView}
+use Rattle.spl_world.specs.Disks.{AllGoOn, HasRisen, Images, LeavesDisks, PairGoesOn, bench, images, images_at, images_of, pair_view}
 use Rattle.spl_world.specs.Kept.{IsDone, NodeView, place_of}
 use Rattle.spl_world.specs.Views.{Moves, Nodes, Sits, node_view, slot_id, slot_ids, slot_up, view_in}
 use Rattle.spl_world.specs.declared.slot.Slot.{Slot}
-use Rattle.spl_rules.specs.Cells.{Cell}
-use Rattle.spl_world.proofs.Slots.{set_else, set_here, set_length, set_same}
-use Rattle.spl_world.proofs.Leaving.{all_one, bench_here, bench_set, leaves_one, get_below}
+use Rattle.spl_world.proofs.Leaving.{all_one, bench_here, bench_set, leaves_one}
 use Rattle.spl_world.proofs.Moving.{event_moves}
 use Rattle.spl_world.proofs.Pairing.{images_here, images_length, images_set, pair_here, sits_changed, changed}
 
@@ -78,27 +76,3 @@ pub one_onward : {D : Type 0} (image_at : D → ℕ → Option Image) (moment fa
 one_onward image_at moment faults armed picks ps k p r pair on =
     subst (AllGoOn (bench image_at moment faults armed picks ps)) (sym (bench_set image_at moment faults armed picks ps k r))
     (all_one (bench image_at moment faults armed picks ps) k (pair_view image_at moment faults armed picks p) (pair_view image_at moment faults armed picks r) (bench_here image_at moment faults armed picks ps k p pair) on)
-
--- one pair was picked from
-stops_one : (here : NodeId) (up : Bool) (cells : CircuitId → Cell) (k : ℕ) (xs : List PairView) (x y : PairView) → slice_get xs k ≡ Some x → (up ≡ true → BothPicked here cells x y) → (up ≡ false → slice_set xs k y ≡ xs) → StopsPair here up cells k xs (slice_set xs k y)
-stops_one here up cells k xs x y there picked none = record {
-  as_many = set_length xs k y;
-  others = λ i off. set_else xs k i y (λ e. off (sym e));
-  picks = λ u p q e f.
-      let is : Some x ≡ Some p = sym there ∙ e in
-      let was : x ≡ p = cc in
-      let at : Some y ≡ Some q = sym (set_here xs k y (get_below xs k x there)) ∙ f in
-      let now : y ≡ q = cc in
-      subst (λ (z : PairView). BothPicked here cells z q) was (subst (BothPicked here cells x) now (picked u));
-  none = none;
-}
-
-pub one_stops : {D : Type 0} (image_at : D → ℕ → Option Image) (moment faults : D → ℕ) (armed : D → Armed) (picks : D → List Picked) (here : NodeId) (up : Bool) (cells : CircuitId → Cell) (ps : List (Pair D)) (k : ℕ) (p r : Pair D) (position : ℕ) → slice_get ps k ≡ Some p → k ≡ position
-    → (up ≡ true → BothPicked here cells (pair_view image_at moment faults armed picks p) (pair_view image_at moment faults armed picks r)) → (up ≡ false → r ≡ p)
-    → StopsPair here up cells position (bench image_at moment faults armed picks ps) (bench image_at moment faults armed picks (slice_set ps k r))
-one_stops image_at moment faults armed picks here up cells ps k p r position pair place picked none =
-    subst (λ (n : ℕ). StopsPair here up cells n (bench image_at moment faults armed picks ps) (bench image_at moment faults armed picks (slice_set ps k r))) place
-    (subst (StopsPair here up cells k (bench image_at moment faults armed picks ps)) (sym (bench_set image_at moment faults armed picks ps k r))
-    (stops_one here up cells k (bench image_at moment faults armed picks ps) (pair_view image_at moment faults armed picks p) (pair_view image_at moment faults armed picks r) (bench_here image_at moment faults armed picks ps k p pair) picked
-    (λ d. ap (λ (z : Pair _). slice_set (bench image_at moment faults armed picks ps) k (pair_view image_at moment faults armed picks z)) (none d)
-    ∙ set_same (bench image_at moment faults armed picks ps) k (pair_view image_at moment faults armed picks p) (bench_here image_at moment faults armed picks ps k p pair))))

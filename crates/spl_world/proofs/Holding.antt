@@ -1,5 +1,5 @@
 -- What the disks of nodes picked, line by line.
-use Rattle.std.proofs.Common.{◌≡◌, ℕ, ◌<◌, ◌⊎◌, inl, inr, Bool, true, false, true≢false, ◌&&◌, List, [], ◌∷◌, ◌++◌, length, slice_get, get_or, Some, if◌then◌else◌, refl, ap, sym, subst, ◌∙◌, append_assoc}
+use Rattle.std.proofs.Common.{◌≡◌, ℕ, zero, suc, ◌<◌, ◌≤◌, ◌⊎◌, inl, inr, Bool, true, false, true≢false, ◌&&◌, List, [], ◌∷◌, ◌++◌, length, slice_get, get_or, Some, if◌then◌else◌, refl, ap, sym, subst, ◌∙◌, append_assoc, arith}
 use Rattle.std.proofs.lemmas.List.{append-nil}
 use Rattle.std.proofs.lemmas.Option.{slice_get_within, slice_get-get_or}
 use Rattle.spl_circuit.specs.Nodes.{NodeId}
@@ -7,101 +7,143 @@ use Rattle.spl_edge.specs.Picks.{Picked}
 use Rattle.spl_edge.specs.declared.disk.Armed.{Armed}
 use Rattle.spl_model.specs.Answers.{is_up}
 use Rattle.spl_model.specs.Projection.{Ran}
-use Rattle.spl_world.specs.Disks.{PairView, PairGoesOn, AllGoOn}
-use Rattle.spl_world.specs.Held.{AllPickBy, AllPicked, AllUnpicked, ArePickedAt, ArePicksBehind, EachPair, HasPicked, KeepsPicks, PicksBy, PicksOnce, picks_at, pick_points, point_at, stops_at}
-use Rattle.spl_world.specs.Views.{ids_of, places_of}
+use Rattle.spl_world.specs.Disks.{DiskView, PairView, GoesOn, HasRisen, IsUnarmed, PairGoesOn, AllGoOn, RoseAt}
+use Rattle.spl_world.specs.Held.{AllPickBy, AllPicked, AllUnpicked, ArePickedAt, ArePicksAt, EachPair, FailedSince, HasFailedSince, HasPicked, IsCounted, IsUnpicked, KeepsPicks, PicksBy, PicksOnce, Point, last_count, picks_at, pick_points, point_at, stops_at}
+use Rattle.spl_world.specs.Views.{IsPlace, ids_of, places_of, slot_id, slot_ids, slot_places}
+use Rattle.spl_world.specs.declared.slot.Slot.{Slot}
 use Rattle.spl_world.specs.declared.world.World.{World}
 use Rattle.spl_world.proofs.Sends.{bool_cases}
+
+-- a place is that of a node
+id_there : (ss : List Slot) (i k : ℕ) → slice_get (slot_places ss) i ≡ Some k → (n : NodeId) × (slice_get (slot_ids ss) i ≡ Some n)
+id_there [] i k e = absurd cc
+id_there (s ∷ ss) zero k e = (slot_id s, refl)
+id_there (s ∷ ss) (suc i) k e = id_there ss i k e
 
 -- ---- points
 
 points_from : (n : NodeId) (start rs : List Ran) (r : Ran) (before : List Ran) → before ≡ start ++ rs → pick_points n start (rs ++ r ∷ []) ≡ pick_points n start rs ++ point_at n before r
 points_from n start [] r before e = append-nil (point_at n start r) ∙ ap (λ (bs : List Ran). point_at n bs r) (sym (e ∙ append-nil start))
 points_from n start (x ∷ rs) r before e =
-    ap (λ (ps : List (List Ran)). point_at n start x ++ ps) (points_from n (start ++ x ∷ []) rs r before (e ∙ sym (append_assoc start (x ∷ []) rs)))
+    ap (λ (ps : List Point). point_at n start x ++ ps) (points_from n (start ++ x ∷ []) rs r before (e ∙ sym (append_assoc start (x ∷ []) rs)))
     ∙ sym (append_assoc (point_at n start x) (pick_points n (start ++ x ∷ []) rs) (point_at n before r))
 
-points_by : (n : NodeId) (rs : List Ran) (r : Ran) (b : Bool) → picks_at n rs r ≡ b → pick_points n [] (rs ++ r ∷ []) ≡ pick_points n [] rs ++ (if b then (rs ++ r ∷ []) ∷ [] else [])
-points_by n rs r b e = points_from n [] rs r rs refl ∙ ap (λ (c : Bool). pick_points n [] rs ++ (if c then (rs ++ r ∷ []) ∷ [] else [])) e
+points_by : (n : NodeId) (rs : List Ran) (r : Ran) (b : Bool) → picks_at n rs r ≡ b → pick_points n [] (rs ++ r ∷ []) ≡ pick_points n [] rs ++ (if b then record { before = rs; ran = r } ∷ [] else [])
+points_by n rs r b e = points_from n [] rs r rs refl ∙ ap (λ (c : Bool). pick_points n [] rs ++ (if c then record { before = rs; ran = r } ∷ [] else [])) e
 
 -- one point more, or as many
-pub points_stopped : (n : NodeId) (rs : List Ran) (r : Ran) → picks_at n rs r ≡ true → pick_points n [] (rs ++ r ∷ []) ≡ pick_points n [] rs ++ (rs ++ r ∷ []) ∷ []
+pub points_stopped : (n : NodeId) (rs : List Ran) (r : Ran) → picks_at n rs r ≡ true → pick_points n [] (rs ++ r ∷ []) ≡ pick_points n [] rs ++ record { before = rs; ran = r } ∷ []
 points_stopped n rs r e = points_by n rs r true e
 
 pub points_stay : (n : NodeId) (rs : List Ran) (r : Ran) → picks_at n rs r ≡ false → pick_points n [] (rs ++ r ∷ []) ≡ pick_points n [] rs
 points_stay n rs r e = points_by n rs r false e ∙ append-nil (pick_points n [] rs)
 
--- ---- one pair
+-- ---- picks
 
-picked_more : (ns : List NodeId) (n : NodeId) (rss : List (List Ran)) (rs : List Ran) (ps qs : List Picked) (p q : Picked) → ArePickedAt ns n rss ps qs → ArePicksBehind ns n rs p q → ArePickedAt ns n (rss ++ rs ∷ []) (ps ++ p ∷ []) (qs ++ q ∷ [])
-picked_more ns n [] rs [] [] p q h one = (one, tt)
-picked_more ns n [] rs [] (b ∷ qs) p q h one = absurd h
-picked_more ns n [] rs (a ∷ ps) [] p q h one = absurd h
-picked_more ns n [] rs (a ∷ ps) (b ∷ qs) p q h one = absurd h
-picked_more ns n (x ∷ rss) rs [] [] p q h one = absurd h
-picked_more ns n (x ∷ rss) rs [] (b ∷ qs) p q h one = absurd h
-picked_more ns n (x ∷ rss) rs (a ∷ ps) [] p q h one = absurd h
-picked_more ns n (x ∷ rss) rs (a ∷ ps) (b ∷ qs) p q h one = (h.0, picked_more ns n rss rs ps qs p q h.1 one)
+-- two picks more, of disks whose counts had come to these numbers
+module _ (ns : List NodeId) (n : NodeId) (t : Point) (x y : ℕ) (p q : Picked) (one : ArePicksAt ns n t x y p q) where
+  picks_later : (a b : ℕ) → a ≤ x → b ≤ y → ArePicksAt ns n t a b p q
+  picks_later a b h k = record {
+    second = one.second;
+    first_is = record { fill_is = one.first_is.fill_is; arming_is = one.first_is.arming_is; later = omega (arith, h, one.first_is.later) };
+    second_is = record { fill_is = one.second_is.fill_is; arming_is = one.second_is.arming_is; later = omega (arith, k, one.second_is.later) };
+    risen = λ torn. go (one.risen torn);
+    stand = one.stand;
+  }
+    where
+      go : (x < p.faults) ⊎ (y < q.faults) → (a < p.faults) ⊎ (b < q.faults)
+      go (inl r) = inl (omega (arith, h, r))
+      go (inr r) = inr (omega (arith, k, r))
+
+  picked_more : (a b : ℕ) (ts : List Point) (ps qs : List Picked) → ArePickedAt ns n a b ts ps qs → last_count a ps ≤ x → last_count b qs ≤ y → ArePickedAt ns n a b (ts ++ t ∷ []) (ps ++ p ∷ []) (qs ++ q ∷ [])
+  picked_more a b [] [] [] h k l = (picks_later a b k l, tt)
+  picked_more a b [] [] (d ∷ qs) h k l = absurd h
+  picked_more a b [] (c ∷ ps) [] h k l = absurd h
+  picked_more a b [] (c ∷ ps) (d ∷ qs) h k l = absurd h
+  picked_more a b (u ∷ ts) [] [] h k l = absurd h
+  picked_more a b (u ∷ ts) [] (d ∷ qs) h k l = absurd h
+  picked_more a b (u ∷ ts) (c ∷ ps) [] h k l = absurd h
+  picked_more a b (u ∷ ts) (c ∷ ps) (d ∷ qs) h k l = (h.0, picked_more c.faults d.faults ts ps qs h.1 k l)
+
+last_picked : (a : ℕ) (ps : List Picked) (p : Picked) → last_count a (ps ++ p ∷ []) ≡ p.faults
+last_picked a [] p = refl
+last_picked a (x ∷ ps) p = last_picked x.faults ps p
 
 -- the same points and picks under other names
-picked_as : (ns : List NodeId) (n : NodeId) (xs ys : List (List Ran)) (ps qs us vs : List Picked) → ys ≡ xs → us ≡ ps → vs ≡ qs → ArePickedAt ns n xs ps qs → ArePickedAt ns n ys us vs
-picked_as ns n xs ys ps qs us vs e f g h =
-    subst (λ (zs : List (List Ran)). ArePickedAt ns n zs us vs) (sym e)
-    (subst (λ (zs : List Picked). ArePickedAt ns n xs zs vs) (sym f)
-    (subst (λ (zs : List Picked). ArePickedAt ns n xs ps zs) (sym g) h))
+picked_as : (ns : List NodeId) (n : NodeId) (a b : ℕ) (xs ys : List Point) (ps qs us vs : List Picked) → ys ≡ xs → us ≡ ps → vs ≡ qs → ArePickedAt ns n a b xs ps qs → ArePickedAt ns n a b ys us vs
+picked_as ns n a b xs ys ps qs us vs e f g h =
+    subst (λ (zs : List Point). ArePickedAt ns n a b zs us vs) (sym e)
+    (subst (λ (zs : List Picked). ArePickedAt ns n a b xs zs vs) (sym f)
+    (subst (λ (zs : List Picked). ArePickedAt ns n a b xs ps zs) (sym g) h))
 
-module _ (ns : List NodeId) (before : List Ran) (r : Ran) (n : NodeId) (p q : PairView) (h : HasPicked ns before n p) where
-  one_stopped : picks_at n before r ≡ true → PicksOnce ns (before ++ r ∷ []) n p q → HasPicked ns (before ++ r ∷ []) n q
+-- ---- one pair
+
+counted_pick : (s p q : DiskView) (one : Picked) → q.picks ≡ p.picks ++ one ∷ [] → one.faults ≤ q.faults → IsUnarmed q → IsCounted s q
+counted_pick s p q one kept less off =
+    let last : last_count s.faults q.picks ≡ one.faults = ap (last_count s.faults) kept ∙ last_picked s.faults p.picks one in
+    record { off = off; later = omega (arith, last, less) }
+
+counted_on : (s p q : DiskView) → q.picks ≡ p.picks → q.armed ≡ p.armed → p.faults ≤ q.faults → IsCounted s p → IsCounted s q
+counted_on s p q same armed less h =
+    let last : last_count s.faults q.picks ≡ last_count s.faults p.picks = ap (last_count s.faults) same in
+    record { off = ap (λ (a : Armed). a.arming) armed ∙ h.off; later = omega (arith, last, less, h.later) }
+
+module _ (ns : List NodeId) (before : List Ran) (r : Ran) (n : NodeId) (s p q : PairView) (h : HasPicked ns before n s p) where
+  abbrev point : Point
+  point = record { before = before; ran = r }
+
+  one_stopped : picks_at n before r ≡ true → PicksOnce ns point n p q → HasPicked ns (before ++ r ∷ []) n s q
   one_stopped e o = record {
-    picks = picked_as ns n (pick_points n [] before ++ (before ++ r ∷ []) ∷ []) (pick_points n [] (before ++ r ∷ [])) (p.first.picks ++ o.first ∷ []) (p.second.picks ++ o.second ∷ []) q.first.picks q.second.picks
+    picks = picked_as ns n s.first.faults s.second.faults (pick_points n [] before ++ point ∷ []) (pick_points n [] (before ++ r ∷ [])) (p.first.picks ++ o.first ∷ []) (p.second.picks ++ o.second ∷ []) q.first.picks q.second.picks
         (points_stopped n before r e) o.first_picks o.second_picks
-        (picked_more ns n (pick_points n [] before) (before ++ r ∷ []) p.first.picks p.second.picks o.first o.second h.picks o.behind);
-    first_off = o.first_off;
-    second_off = o.second_off;
+        (picked_more ns n point p.first.faults p.second.faults o.first o.second o.at s.first.faults s.second.faults (pick_points n [] before) p.first.picks p.second.picks h.picks h.first.later h.second.later);
+    first = counted_pick s.first p.first q.first o.first o.first_picks o.first_count o.first_off;
+    second = counted_pick s.second p.second q.second o.second o.second_picks o.second_count o.second_off;
   }
 
-  one_stays : picks_at n before r ≡ false → KeepsPicks p q → HasPicked ns (before ++ r ∷ []) n q
+  one_stays : picks_at n before r ≡ false → KeepsPicks p q → HasPicked ns (before ++ r ∷ []) n s q
   one_stays e k = record {
-    picks = picked_as ns n (pick_points n [] before) (pick_points n [] (before ++ r ∷ [])) p.first.picks p.second.picks q.first.picks q.second.picks (points_stay n before r e) k.first_picks k.second_picks h.picks;
-    first_off = ap (λ (a : Armed). a.arming) k.first_armed ∙ h.first_off;
-    second_off = ap (λ (a : Armed). a.arming) k.second_armed ∙ h.second_off;
+    picks = picked_as ns n s.first.faults s.second.faults (pick_points n [] before) (pick_points n [] (before ++ r ∷ [])) p.first.picks p.second.picks q.first.picks q.second.picks (points_stay n before r e) k.first_picks k.second_picks h.picks;
+    first = counted_on s.first p.first q.first k.first_picks k.first_armed k.first_count h.first;
+    second = counted_on s.second p.second q.second k.second_picks k.second_armed k.second_count h.second;
   }
 
-  one_by : PicksBy ns before r n p q → HasPicked ns (before ++ r ∷ []) n q
+  one_by : PicksBy ns before r n p q → HasPicked ns (before ++ r ∷ []) n s q
   one_by by = go (bool_cases (picks_at n before r))
     where
-      go : (picks_at n before r ≡ true) ⊎ (picks_at n before r ≡ false) → HasPicked ns (before ++ r ∷ []) n q
+      go : (picks_at n before r ≡ true) ⊎ (picks_at n before r ≡ false) → HasPicked ns (before ++ r ∷ []) n s q
       go (inl e) = one_stopped e (by.stopped e)
       go (inr e) = one_stays e (by.went_on e)
 
 -- ---- all pairs
 
 -- the pair that stood there before
-old_there : (old new : List PairView) (k : ℕ) (q : PairView) → length new ≡ length old → slice_get new k ≡ Some q → slice_get old k ≡ Some (get_or old k q)
+pub old_there : (old new : List PairView) (k : ℕ) (q : PairView) → length new ≡ length old → slice_get new k ≡ Some q → slice_get old k ≡ Some (get_or old k q)
 old_there old new k q e there = slice_get-get_or old k q (subst (λ (n : ℕ). k < n) e (slice_get_within new k q there))
 
 -- the same nodes at the same places, whatever is said of them
-pub each_as : (P Q : NodeId → PairView → Type 0) (ids ns : List NodeId) (places ks : List ℕ) (ps : List PairView) → ns ≡ ids → ks ≡ places → ((n : NodeId) (p : PairView) → P n p → Q n p) → EachPair P ids places ps → EachPair Q ns ks ps
-each_as P Q ids ns places ks ps same put more h = λ i n k p at place there.
-    more n p (h i n k p (ap (λ (xs : List NodeId). slice_get xs i) (sym same) ∙ at) (ap (λ (xs : List ℕ). slice_get xs i) (sym put) ∙ place) there)
+pub each_as : (P Q : NodeId → PairView → PairView → Type 0) (ids ns : List NodeId) (places ks : List ℕ) (start ps : List PairView) → ns ≡ ids → ks ≡ places → ((n : NodeId) (s p : PairView) → P n s p → Q n s p) → EachPair P ids places start ps → EachPair Q ns ks start ps
+each_as P Q ids ns places ks start ps same put more h = λ i n k s p at place was there.
+    more n s p (h i n k s p (ap (λ (xs : List NodeId). slice_get xs i) (sym same) ∙ at) (ap (λ (xs : List ℕ). slice_get xs i) (sym put) ∙ place) was there)
 
-module _ (before : List Ran) (r : Ran) (w v : World) (old new : List PairView) (same : ids_of v ≡ ids_of w) (put : places_of v ≡ places_of w) where
+module _ (start : List PairView) (before : List Ran) (r : Ran) (w v : World) (old new : List PairView) (same : ids_of v ≡ ids_of w) (put : places_of v ≡ places_of w) where
   -- where all pick by a line, they have picked behind it
-  pub all_picked_by : AllPicked before w old → AllPickBy before r w old new → AllPicked (before ++ r ∷ []) v new
-  all_picked_by h by = each_as (HasPicked (ids_of w) (before ++ r ∷ [])) (HasPicked (ids_of v) (before ++ r ∷ [])) (ids_of w) (ids_of v) (places_of w) (places_of v) new same put
-      (λ n p x. subst (λ (ns : List NodeId). HasPicked ns (before ++ r ∷ []) n p) (sym same) x)
-      (λ i n k q at place there.
+  pub all_picked_by : AllPicked start before w old → AllPickBy before r w old new → AllPicked start (before ++ r ∷ []) v new
+  all_picked_by h by = each_as (HasPicked (ids_of w) (before ++ r ∷ [])) (HasPicked (ids_of v) (before ++ r ∷ [])) (ids_of w) (ids_of v) (places_of w) (places_of v) start new same put
+      (λ n s p x. subst (λ (ns : List NodeId). HasPicked ns (before ++ r ∷ []) n s p) (sym same) x)
+      (λ i n k s q at place first there.
       let was = old_there old new k q by.as_many there in
-      one_by (ids_of w) before r n (get_or old k q) q (h i n k (get_or old k q) at place was) (by.each i n k (get_or old k q) q at place was there))
+      let picked = h i n k s (get_or old k q) at place first was in
+      one_by (ids_of w) before r n s (get_or old k q) q picked (by.each i n k (get_or old k q) q at place was there (picked.first.off, picked.second.off)))
 
   keeps_on : (p q : PairView) → PairGoesOn p q → KeepsPicks p q
-  keeps_on p q on = record { first_picks = on.first.picks; second_picks = on.second.picks; first_armed = on.first.armed; second_armed = on.second.armed }
+  keeps_on p q on = record { first_picks = on.first.picks; second_picks = on.second.picks; first_armed = on.first.armed; second_armed = on.second.armed; first_count = on.first.no_less; second_count = on.second.no_less }
 
   -- a line that stops no node that is up lets all go on
-  pub all_picked_on : ((n : NodeId) → picks_at n before r ≡ false) → AllGoOn old new → AllPicked before w old → AllPicked (before ++ r ∷ []) v new
+  pub all_picked_on : ((n : NodeId) → picks_at n before r ≡ false) → AllGoOn old new → AllPicked start before w old → AllPicked start (before ++ r ∷ []) v new
   all_picked_on none on h = all_picked_by h (record {
     as_many = on.as_many;
-    each = λ i n k p q at place was there. record {
+    each = λ i n k p q at place was there off. record {
       stopped = λ e. absurd (true≢false (sym e ∙ none n));
       went_on = λ e. keeps_on p q (on.each k p q was there);
     };
@@ -113,18 +155,39 @@ stops_none before r n e = ap (λ (b : Bool). b && is_up n before) e
 
 -- ---- the first moment
 
-pub unpicked_on : (old new : List PairView) → AllUnpicked old → AllGoOn old new → AllUnpicked new
-unpicked_on old new h on = λ i q there.
-    let was = old_there old new i q on.as_many there in
-    let u = h i (get_or old i q) was in
-    let k = on.each i (get_or old i q) q was there in record {
-      first = record { picks = k.first.picks ∙ u.first.picks; off = ap (λ (a : Armed). a.arming) k.first.armed ∙ u.first.off };
-      second = record { picks = k.second.picks ∙ u.second.picks; off = ap (λ (a : Armed). a.arming) k.second.armed ∙ u.second.off };
+pub none_picked : (w : World) (start now : List PairView) → AllUnpicked start → AllGoOn start now → AllPicked start [] w now
+none_picked w start now h on = λ i n k s p at place was there.
+    let u = h k s was in
+    let g = on.each k s p was there in
+    record {
+      picks = picked_as (ids_of w) n s.first.faults s.second.faults [] [] [] [] p.first.picks p.second.picks refl (g.first.picks ∙ u.first.picks) (g.second.picks ∙ u.second.picks) tt;
+      first = counted_first s.first p.first u.first g.first;
+      second = counted_first s.second p.second u.second g.second;
     }
+  where
+    counted_first : (x y : DiskView) → IsUnpicked x → GoesOn x y → IsCounted x y
+    counted_first x y u g =
+        let last : last_count x.faults y.picks ≡ x.faults = ap (last_count x.faults) (g.picks ∙ u.picks) in
+        record { off = ap (λ (a : Armed). a.arming) g.armed ∙ u.off; later = omega (arith, last, g.no_less) }
 
-pub none_picked : (w : World) (ps : List PairView) → AllUnpicked ps → AllPicked [] w ps
-none_picked w ps h = λ i n k p at place there. let u = h k p there in record {
-  picks = picked_as (ids_of w) n [] [] [] [] p.first.picks p.second.picks refl u.first.picks u.second.picks tt;
-  first_off = u.first.off;
-  second_off = u.second.off;
+-- ---- disks that fail
+
+failed_since : (s p q : PairView) → IsCounted s.first p.first → IsCounted s.second p.second → PairGoesOn p q → HasRisen p q → HasFailedSince s q
+failed_since s p q one other on (inl rose) =
+    let last : last_count s.first.faults q.first.picks ≡ last_count s.first.faults p.first.picks = ap (last_count s.first.faults) on.first.picks in
+    inl (omega (arith, last, one.later, rose))
+failed_since s p q one other on (inr rose) =
+    let last : last_count s.second.faults q.second.picks ≡ last_count s.second.faults p.second.picks = ap (last_count s.second.faults) on.second.picks in
+    inr (omega (arith, last, other.later, rose))
+
+-- a disk that fails does so behind its last pick
+pub failed_behind : (start : List PairView) (before : List Ran) (w : World) (old new : List PairView) (slot : ℕ) → AllPicked start before w old → AllGoOn old new → RoseAt slot old new → IsPlace (places_of w) slot → FailedSince slot start new
+failed_behind start before w old new slot h on rose place = record {
+  below = subst (λ (n : ℕ). slot < n) (sym on.as_many) rose.below;
+  failed = λ s q first there.
+      let was = old_there old new slot q on.as_many there in
+      let p = get_or old slot q in
+      let node = id_there w.slots.items place.0 slot place.1 in
+      let picked = h place.0 node.0 slot s p node.1 place.1 first was in
+      failed_since s p q picked.first picked.second (on.each slot p q was there) (rose.rose p q was there);
 }

@@ -75,5 +75,5 @@ module _ {D : Type 0} (image_at : D → ℕ → Option Image) (moment faults : D
       (slot_held rs w (images image_at moment ps) stands i s is.there))
 
   -- the disks of all nodes hold what the nodes keep
-  pub all_held : (rs : List Ran) (w : World) (ps : List (Pair D)) → Stands rs w (images image_at moment ps) → AllPicked rs w (told ps) → AllHeld rs w (told ps)
-  all_held rs w ps stands picked = λ i n k p at place there. record { picked = picked i n k p at place there; now = pair_held rs w ps stands i n k p at place there }
+  pub all_held : (start : List PairView) (rs : List Ran) (w : World) (ps : List (Pair D)) → Stands rs w (images image_at moment ps) → AllPicked start rs w (told ps) → AllHeld start rs w (told ps)
+  all_held start rs w ps stands picked = λ i n k s p at place was there. record { picked = picked i n k s p at place was there; now = pair_held rs w ps stands i n k p at place there }

@@ -1,5 +1,5 @@
 -- The nodes of a registry, each with the pair at its position there.
-use Rattle.std.proofs.Common.{◌≡◌, ◌≢◌, ◌⊎◌, inl, inr, ℕ, zero, suc, ◌<◌, true, false, ltb, List, [], ◌∷◌, length, get_or, slice_get, option_map, Option, Some, None, refl, ap, sym, ◌∙◌, arith}
+use Rattle.std.proofs.Common.{◌≡◌, ◌≢◌, ◌⊎◌, inl, inr, ℕ, zero, suc, ◌<◌, true, false, ltb, List, [], ◌∷◌, length, get_or, slice_get, Some, refl, ap, sym, ◌∙◌, arith}
 use Rattle.std.proofs.lemmas.Option.{slice_get_within, slice_get-get_or, slice_get-map}
 use Rattle.std.specs.List.{AllPairs}
 use Rattle.std.specs.Str.{bytes_eq}
@@ -64,5 +64,5 @@ module _ (es : List Entry) (w : World) (differ : AllPairs (λ x y. x ≢ y) (reg
       let same : place.0 ≡ k = one_position (registered es) place.0 k n differ (id_there es place.0 n (placed here.0 n place.0 here.1 place.1)) (id_there es k n at) in
       (here.0, here.1, place.1 ∙ ap (λ (m : ℕ). Some m) same)
 
-  pub seats_held : (rs : List Ran) (ps : List PairView) → AllHeld rs w ps → AreHeld (ids_of w) rs es ps
-  seats_held rs ps h = λ k n p at there. let s = is_seated k n at in h s.0 n k p s.1 s.2 there
+  pub seats_held : (start : List PairView) (rs : List Ran) (ps : List PairView) → AllHeld start rs w ps → AreHeld start (ids_of w) rs es ps
+  seats_held start rs ps h = λ k n p q at was there. let s = is_seated k n at in h s.0 n k p q s.1 s.2 was there

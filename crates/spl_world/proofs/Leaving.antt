@@ -43,7 +43,7 @@ get_below [] i x h = absurd cc
 get_below (y ∷ xs) zero x h = omega arith
 get_below (y ∷ xs) (suc i) x h = let r : i < length xs = get_below xs i x h in omega (arith, r)
 
-same_there : {X : Type 0} (xs : List X) (i : ℕ) (x y : X) → slice_get xs i ≡ Some x → slice_get xs i ≡ Some y → x ≡ y
+pub same_there : {X : Type 0} (xs : List X) (i : ℕ) (x y : X) → slice_get xs i ≡ Some x → slice_get xs i ≡ Some y → x ≡ y
 same_there xs i x y e f = let q : Some x ≡ Some y = sym e ∙ f in cc
 
 pub all_itself : (xs : List PairView) → AllGoOn xs xs
@@ -165,12 +165,12 @@ rose_one : (xs : List PairView) (k : ℕ) (x y : PairView) → slice_get xs k �
 rose_one xs k x y there rose p q e (inl c) = subst (λ (z : PairView). HasRisen z q) (same_there xs k x p there e) (subst (HasRisen x) c.1 rose)
 rose_one xs k x y there rose p q e (inr c) = absurd (c.0 refl)
 
+pub rose_at : (xs : List PairView) (k : ℕ) (x y : PairView) → slice_get xs k ≡ Some x → HasRisen x y → RoseAt k xs (slice_set xs k y)
+rose_at xs k x y there rose = record { below = get_below xs k x there; rose = λ p z e h. rose_one xs k x y there rose p z e (set_cases xs k k y z h) }
+
 -- a call of one pair
 pub leaves_one : {A : Type 0} (r : Result A WorldFault) (xs : List PairView) (k : ℕ) (x y : PairView) → slice_get xs k ≡ Some x → PairGoesOn x y → ((slot : ℕ) → IsErrOf r (Disk slot) → (slot ≡ k) × HasRisen x y) → LeavesDisks r xs (slice_set xs k y)
 leaves_one r xs k x y there on f = record {
   onward = all_one xs k x y there on;
-  failed = λ slot q. let g = f slot q in subst (λ (i : ℕ). RoseAt i xs (slice_set xs k y)) (sym g.0) (record {
-    below = get_below xs k x there;
-    rose = λ p z e h. rose_one xs k x y there g.1 p z e (set_cases xs k k y z h);
-  });
+  failed = λ slot q. let g = f slot q in subst (λ (i : ℕ). RoseAt i xs (slice_set xs k y)) (sym g.0) (rose_at xs k x y there g.1);
 }

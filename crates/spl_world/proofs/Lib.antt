@@ -24,6 +24,8 @@ mod Ticking
 mod Turns
 mod Up
 pub mod Powering
+pub mod Cutting
+pub mod Picking
 pub mod Holding
 pub mod HoldingNow
 pub mod HoldingStop

@@ -4,20 +4,18 @@ use Rattle.std.specs.Str.{bytes_eq}
 use Rattle.spl_agree.proofs.Tests.{if_true, if_false}
 use Rattle.spl_circuit.specs.Nodes.{NodeId, CircuitId, has_node}
 use Rattle.spl_circuit.specs.Rules.{ascends}
-use Rattle.spl_edge.specs.declared.fill.Fill.{Fill}
 use Rattle.spl_sched.specs.declared.line.Step.{Step}
 use Rattle.spl_sched.specs.declared.line.Line.TheVariants as line
-use Rattle.spl_sched.specs.Grammar.{step_node, step_circuit, circuit_of, is_line}
+use Rattle.spl_sched.specs.Grammar.{step_node, is_line}
 use Rattle.spl_rules.specs.Changes.{made, stopped_cell}
-use Rattle.spl_model.specs.Worlds.{World as CircuitWorld, Sent, on_pair, step_plan, stopped, started, halted, Stops, Starts, Halts, happens}
+use Rattle.spl_model.specs.Worlds.{World as CircuitWorld, Sent, first_world, on_pair, step_plan, stopped, started, halted, Stops, Starts, Halts, happens}
 use Rattle.spl_model.specs.Puts.{put_at-here, put_at-other}
-use Rattle.spl_model.specs.Projection.{Ran, lines_fit, names, names_circuit}
-use Rattle.spl_model.specs.Answers.{line_world}
+use Rattle.spl_model.specs.Projection.{Ran, lines_fit, names}
 use Rattle.spl_model.proofs.LinesAsOccurrences.{fit-append}
 use Rattle.spl_model.specs.Counts.{line_events, events_of, line_stops, stops_of}
 use Rattle.spl_projection.proofs.Counts.{events-more}
-use Rattle.spl_projection.specs.Whole.{world_beside, whole_world}
-use Rattle.spl_projection.specs.Apart.{moves-own, moves-beside}
+use Rattle.spl_projection.specs.Whole.{world_after, world_beside, whole_world}
+use Rattle.spl_projection.specs.Apart.{moves-beside, whole_from-append}
 use Rattle.spl_rules.specs.Cells.{Cell}
 use Rattle.spl_world.specs.Disks.{Images}
 use Rattle.spl_world.specs.Kept.{NodeView, Posted, lists_about, sent_to}
@@ -25,7 +23,7 @@ use Rattle.spl_world.specs.Views.{Nodes, Holds, IsAs, Sits, Stands, ids_of, node
 use Rattle.spl_world.specs.declared.slot.Slot.{Slot}
 use Rattle.spl_world.specs.declared.world.World.{World}
 use Rattle.spl_world.proofs.About.{same_itself}
-use Rattle.spl_world.proofs.Sends.{bool_cases, bytes_are}
+use Rattle.spl_world.proofs.Sends.{bool_cases}
 use Rattle.spl_world.proofs.Pairing.{changed, view_else, view_here}
 use Rattle.spl_world.proofs.Standing.{stops_after}
 use Rattle.spl_world.proofs.Slots.{id_at, same_ids, set_cases, apart}
@@ -150,41 +148,12 @@ module _ (before : List Ran) (old new : World) (was is : List Images) (ids : ids
   beside : (r : Ran) (c : CircuitId) → names c r.line ≡ false → Holds c (world_beside (whole_world (ids_of old) c before) r.line) (over new is) → Holds c (whole_world (ids_of old) c (before ++ r ∷ [])) (over new is)
   beside r c miss h = subst (λ (m : CircuitWorld). Holds c m (over new is)) (sym (moves-beside (ids_of old) before r c miss)) h
 
-  pub stands_stop : (n : NodeId) (kept : Bool) → is_line (line.Stop n) ≡ true → 1 ≡ now → ((c : CircuitId) (m : CircuitWorld) → Holds c m (over old was) → Holds c (happens m (Stops n)) (over new is)) → Stands (before ++ record { line = line.Stop n; kept = kept } ∷ []) new is
-  stands_stop n kept k o h = stands_by (record { line = line.Stop n; kept = kept }) k refl o (λ c. beside (record { line = line.Stop n; kept = kept }) c refl (h c (whole_world (ids_of old) c before) (stands.each c)))
+  -- by what it does in each world
+  pub stands_line : (r : Ran) → is_line r.line ≡ true → IsOne r → line_stops r.line ≡ now → ((c : CircuitId) (m : CircuitWorld) → Holds c m (over old was) → Holds c (world_after c m r) (over new is)) → Stands (before ++ r ∷ []) new is
+  stands_line r k n o h = stands_by r k n o (λ c. subst (λ (m : CircuitWorld). Holds c m (over new is)) (sym (whole_from-append c (first_world (ids_of old)) before (r ∷ []))) (h c (whole_world (ids_of old) c before) (stands.each c)))
 
   pub stands_start : (n : NodeId) (kept : Bool) → is_line (line.Start n) ≡ true → 0 ≡ now → ((c : CircuitId) (m : CircuitWorld) → Holds c m (over old was) → Holds c (happens m (Starts n)) (over new is)) → Stands (before ++ record { line = line.Start n; kept = kept } ∷ []) new is
   stands_start n kept k o h = stands_by (record { line = line.Start n; kept = kept }) k refl o (λ c. beside (record { line = line.Start n; kept = kept }) c refl (h c (whole_world (ids_of old) c before) (stands.each c)))
 
   pub stands_roll : (n : NodeId) (kept : Bool) → is_line (line.Roll n) ≡ true → 0 ≡ now → ((c : CircuitId) (m : CircuitWorld) → Holds c m (over old was) → Holds c m (over new is)) → Stands (before ++ record { line = line.Roll n; kept = kept } ∷ []) new is
   stands_roll n kept k o h = stands_by (record { line = line.Roll n; kept = kept }) k refl o (λ c. beside (record { line = line.Roll n; kept = kept }) c refl (h c (whole_world (ids_of old) c before) (stands.each c)))
-
-  -- a cut or a fail: in its circuit's world the node stops in the event, in each other it stops
-  stands_halt : (r : Ran) (s : Step) → is_line r.line ≡ true → IsOne r → line_stops r.line ≡ now → circuit_of r.line ≡ Some (step_circuit s) → ((w : CircuitWorld) → line_world w r.line r.kept ≡ happens w (Halts r.kept s)) → ((w : CircuitWorld) → world_beside w r.line ≡ happens w (Stops (step_node s)))
-      → ((m : CircuitWorld) → Holds (step_circuit s) m (over old was) → Holds (step_circuit s) (happens m (Halts r.kept s)) (over new is))
-      → ((d : CircuitId) (m : CircuitWorld) → bytes_eq (step_circuit s) d ≡ false → Holds d m (over old was) → Holds d (happens m (Stops (step_node s))) (over new is)) → Stands (before ++ r ∷ []) new is
-  stands_halt r s k n o about own_is other_is own others = stands_by r k n o (λ d. go d (bool_cases (bytes_eq (step_circuit s) d)))
-    where
-      ns : List NodeId
-      ns = ids_of old
-
-      at_own : (d : CircuitId) → step_circuit s ≡ d → Holds d (happens (whole_world ns d before) (Halts r.kept s)) (over new is)
-      at_own d e = subst (λ (z : NodeId). Holds z (happens (whole_world ns z before) (Halts r.kept s)) (over new is)) e (own (whole_world ns (step_circuit s) before) (stands.each (step_circuit s)))
-
-      go : (d : CircuitId) → (bytes_eq (step_circuit s) d ≡ true) ⊎ (bytes_eq (step_circuit s) d ≡ false) → Holds d (whole_world ns d (before ++ r ∷ [])) (over new is)
-      go d (inl q) =
-          let hit : names d r.line ≡ true = ap (names_circuit d) about ∙ q in
-          subst (λ (m : CircuitWorld). Holds d m (over new is)) (sym (moves-own ns before r d hit ∙ own_is (whole_world ns d before))) (at_own d (bytes_are (step_circuit s) d q))
-      go d (inr q) =
-          let miss : names d r.line ≡ false = ap (names_circuit d) about ∙ q in
-          beside r d miss (subst (λ (m : CircuitWorld). Holds d m (over new is)) (sym (other_is (whole_world ns d before))) (others d (whole_world ns d before) q (stands.each d)))
-
-  pub stands_cut : (calls : ℕ) (f : Fill) (s : Step) (kept : Bool) → is_line (line.Cut calls f s) ≡ true → 1 ≡ now
-      → ((m : CircuitWorld) → Holds (step_circuit s) m (over old was) → Holds (step_circuit s) (happens m (Halts kept s)) (over new is))
-      → ((d : CircuitId) (m : CircuitWorld) → bytes_eq (step_circuit s) d ≡ false → Holds d m (over old was) → Holds d (happens m (Stops (step_node s))) (over new is)) → Stands (before ++ record { line = line.Cut calls f s; kept = kept } ∷ []) new is
-  stands_cut calls f s kept k o own others = stands_halt (record { line = line.Cut calls f s; kept = kept }) s k refl o refl (λ w. refl) (λ w. refl) own others
-
-  pub stands_fail : (call : ℕ) (s : Step) (kept : Bool) → is_line (line.Fail call s) ≡ true → 1 ≡ now
-      → ((m : CircuitWorld) → Holds (step_circuit s) m (over old was) → Holds (step_circuit s) (happens m (Halts kept s)) (over new is))
-      → ((d : CircuitId) (m : CircuitWorld) → bytes_eq (step_circuit s) d ≡ false → Holds d m (over old was) → Holds d (happens m (Stops (step_node s))) (over new is)) → Stands (before ++ record { line = line.Fail call s; kept = kept } ∷ []) new is
-  stands_fail call s kept k o own others = stands_halt (record { line = line.Fail call s; kept = kept }) s k refl o refl (λ w. refl) (λ w. refl) own others

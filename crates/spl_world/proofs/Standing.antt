@@ -1,5 +1,5 @@
 -- What stands behind a line more.
-use Rattle.std.proofs.Common.{◌≡◌, ◌⊎◌, inl, inr, ℕ, ◌+◌, ◌<◌, ◌≤◌, Bool, true, false, List, [], ◌∷◌, ◌++◌, Some, Result, IfOk, ap, sym, ◌∙◌, subst, arith, Ok, Err}
+use Rattle.std.proofs.Common.{◌≡◌, ◌⊎◌, inl, inr, ℕ, ◌+◌, ◌<◌, ◌≤◌, Bool, true, false, true≢false, List, [], ◌∷◌, ◌++◌, Some, Result, IfOk, refl, ap, sym, ◌∙◌, subst, arith, Ok, Err}
 use Rattle.std.specs.Prelude.{IsErrOf, IsErr}
 use Rattle.std.specs.Str.{bytes_eq}
 use Rattle.spl_circuit.specs.Nodes.{NodeId, CircuitId}
@@ -26,6 +26,7 @@ use Rattle.spl_world.specs.declared.fault.WorldFault.{WorldFault}
 use Rattle.spl_world.specs.declared.fault.WorldFault.TheVariants.{TooMany}
 use Rattle.spl_world.specs.Counts.{Counts}
 use Rattle.spl_world.specs.Disks.{Images}
+use Rattle.spl_world.specs.Lines.{stops}
 use Rattle.spl_world.specs.Views.{Holds, Moves, Sits, Stands, ids_of, over}
 use Rattle.spl_world.specs.declared.world.World.{World}
 use Rattle.spl_world.proofs.Results.{when_ok}
@@ -36,7 +37,7 @@ pub fits_after : (before : List Ran) (l : Line) → lines_fit before ≡ true �
 fits_after before l h k = fit-append before (by_rule l ∷ []) h (rw k)
 
 -- the events of lines, and of one more, which are so many in the world behind all lines
-events_after : (old : World) (was : List Images) (before : List Ran) (l : Line) (n : ℕ) → Stands before old was → is_line l ≡ true → line_events (λ c. whole_world (ids_of old) c before) l ≡ n → events_of (ids_of old) (before ++ by_rule l ∷ []) ≡ old.events + n
+pub events_after : (old : World) (was : List Images) (before : List Ran) (l : Line) (n : ℕ) → Stands before old was → is_line l ≡ true → line_events (λ c. whole_world (ids_of old) c before) l ≡ n → events_of (ids_of old) (before ++ by_rule l ∷ []) ≡ old.events + n
 events_after old was before l n stands fits e =
     events-more (ids_of old) before (by_rule l) (fits_after before l stands.fit fits)
     ∙ ap (λ (k : ℕ). k + line_events (λ c. whole_world (ids_of old) c before) l) (sym stands.counted) ∙ ap (λ (k : ℕ). old.events + k) e
@@ -96,6 +97,17 @@ within_stops before w is stands within = subst (λ (k : ℕ). k ≤ MOST_STOPS) 
 -- one stop more than there is room for
 pub over_stops : (before : List Ran) (r : Ran) (old : World) (was : List Images) → Stands before old was → old.stops ≡ MOST_STOPS → line_stops r.line ≡ 1 → MOST_STOPS < stops_of (before ++ r ∷ [])
 over_stops before r old was stands full one = let more = stops_after before r in let were = stands.stopped in omega (arith, more, were, full, one)
+
+-- a line that stops a node is one event and one stop
+pub one_event : (worlds : CircuitId → CircuitWorld) (l : Line) → stops l ≡ true → line_events worlds l ≡ 1
+one_event worlds (line.Calm c k) h = absurd (true≢false (sym h))
+one_event worlds _ h = refl
+
+pub one_stop : (l : Line) → stops l ≡ true → line_stops l ≡ 1
+one_stop (line.Stop n) h = refl
+one_stop (line.Cut calls f s) h = refl
+one_stop (line.Fail call s) h = refl
+one_stop _ h = absurd (true≢false (sym h))
 
 -- the limit that a call names, where it is that of the call in it
 pub limit_is : {A B : Type 0} (r : Result B WorldFault) (f : WorldFault) (n which : ℕ) → IsErr r × IsErrAnd r (λ y. y ≡ f) → IsErrOf (failed A f) (TooMany n) → IsErrOf r (TooMany which) → which ≡ n

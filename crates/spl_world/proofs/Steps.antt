@@ -8,8 +8,9 @@ use Rattle.spl_circuit.specs.Nodes.{NodeId, CircuitId, has_node}
 use Rattle.spl_model.specs.Worlds.{site_at}
 use Rattle.spl_wire.specs.declared.event.Event.{Event}
 use Rattle.spl_wire.specs.declared.event.Event.TheVariants as event
+use Rattle.spl_sched.specs.declared.line.Step.{Step}
 use Rattle.spl_sched.specs.declared.line.Step.TheVariants as step
-use Rattle.spl_sched.specs.Grammar.{is_event, is_step, step_nodes, is_definition}
+use Rattle.spl_sched.specs.Grammar.{event_nodes, is_event, is_step, step_node, step_nodes, is_definition}
 use Rattle.spl_rules.specs.Valid.{IsFor}
 use Rattle.spl_world.proofs.Defined.{defined_by}
 
@@ -43,3 +44,8 @@ number_back from to c k h = back k (both_true (nat_le 1 k) (nat_lt k (2 ^ 32)) (
 
 pub second_known : (ns : List NodeId) (from to : NodeId) (c : CircuitId) (k : ℕ) → list_all (has_node ns) (step_nodes (step.Deliver from to c k)) ≡ true → has_node ns to ≡ true
 second_known ns from to c k h = (both_true (has_node ns to) true (both_true (has_node ns from) (list_all (has_node ns) (to ∷ [])) h).1).0
+
+-- the node at which a step takes place is known
+pub node_known : (ns : List NodeId) (s : Step) → list_all (has_node ns) (step_nodes s) ≡ true → has_node ns (step_node s) ≡ true
+node_known ns (step.At n c e) h = (both_true (has_node ns n) (list_all (has_node ns) (event_nodes e)) h).0
+node_known ns (step.Deliver from to c k) h = second_known ns from to c k h

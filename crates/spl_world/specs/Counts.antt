@@ -1,5 +1,5 @@
 -- How a call counts the events of a line (docs/RULES.md, Limits).
-use Rattle.std.specs.Prelude.{◌≡◌, ◌⊎◌, ◌+◌, ◌<◌, ℕ, List, Result, OnOk, IsErrOf}
+use Rattle.std.specs.Prelude.{◌≡◌, ◌⊎◌, ◌+◌, ◌<◌, ◌≤◌, ℕ, List, Result, OnOk, IsErrOf}
 use Rattle.spl_circuit.specs.Nodes.{NodeId}
 use Rattle.spl_model.specs.declared.TheConstants.{MOST_EVENTS, MOST_STOPS}
 use Rattle.spl_model.specs.Counts.{events_of, stops_of}
@@ -13,6 +13,6 @@ pub record Counts {A : Type 0} (r : Result A WorldFault) (old new before after :
   pub ok : OnOk r (new + before ≡ old + after)
   pub many : (which : ℕ) → IsErrOf r (TooMany which) → (which ≡ 1) × (MOST_EVENTS + before < old + after)
 
--- lines have more events than a run may, which is limit 1, or stop more often, which is limit 2
+-- lines have more events than a run may, which is limit 1; or no more, and stop more often than it may, which is limit 2
 abbrev pub IsOver : List NodeId → List Ran → ℕ → Type 0
-IsOver ns rs which = ((which ≡ 1) × (MOST_EVENTS < events_of ns rs)) ⊎ ((which ≡ 2) × (MOST_STOPS < stops_of rs))
+IsOver ns rs which = ((which ≡ 1) × (MOST_EVENTS < events_of ns rs)) ⊎ ((which ≡ 2) × (events_of ns rs ≤ MOST_EVENTS) × (MOST_STOPS < stops_of rs))

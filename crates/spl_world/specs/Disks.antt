@@ -97,6 +97,9 @@ pub record NoneForgotten (old new : List PairView) : Type 0 where
 abbrev pub IsUnarmed : DiskView → Type 0
 IsUnarmed d = d.armed.arming ≡ Off
 
+abbrev pub IsPairUnarmed : PairView → Type 0
+IsPairUnarmed p = IsUnarmed p.first × IsUnarmed p.second
+
 -- no disk is armed
 abbrev pub AllUnarmed : List PairView → Type 0
-AllUnarmed ps = (i : ℕ) (p : PairView) → slice_get ps i ≡ Some p → IsUnarmed p.first × IsUnarmed p.second
+AllUnarmed ps = (i : ℕ) (p : PairView) → slice_get ps i ≡ Some p → IsPairUnarmed p

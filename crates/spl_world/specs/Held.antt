@@ -10,7 +10,7 @@ use Rattle.spl_edge.specs.declared.fill.Fill.{Fill}
 use Rattle.spl_edge.specs.declared.fill.Fill.TheVariants.{Old}
 use Rattle.spl_model.specs.Answers.{is_up}
 use Rattle.spl_model.specs.Projection.{Ran}
-use Rattle.spl_model.specs.Worlds.{step_plan}
+use Rattle.spl_model.specs.Worlds.{World as CircuitWorld, step_plan}
 use Rattle.spl_node.specs.Stands.{StandFor}
 use Rattle.spl_node.specs.Stopping.{PicksArmed, counting_arming, other_arming, fill_of, passing}
 use Rattle.spl_node.specs.declared.stopping.Stopping.{Stopping}
@@ -23,8 +23,9 @@ use Rattle.spl_sched.specs.declared.line.Line.TheVariants as line
 use Rattle.spl_sched.specs.declared.line.Step.{Step}
 use Rattle.spl_sched.specs.Grammar.{step_circuit, step_node}
 use Rattle.spl_snapshot.specs.Counting.{chosen, second_counts, IfBoth}
-use Rattle.spl_world.specs.Disks.{DiskView, PairView, IsUnarmed}
-use Rattle.spl_world.specs.Views.{ids_of, places_of}
+use Rattle.spl_world.specs.Disks.{DiskView, PairView, IsPairUnarmed, IsUnarmed, RoseAt}
+use Rattle.spl_world.specs.Views.{Holds, Nodes, ids_of, places_of, slot_id, slot_up}
+use Rattle.spl_world.specs.declared.slot.Slot.{Slot}
 use Rattle.spl_world.specs.declared.world.World.{World}
 
 -- what a node keeps of each circuit behind these lines
@@ -63,14 +64,18 @@ abbrev pub armed_other : Option Stopping → Arming
 armed_other None = Off
 armed_other (Some h) = other_arming h
 
--- an event with changes behind these lines was stopped before its record was written
-abbrev pub IsTornBy : List NodeId → List Ran → Stopping → Step → Type 0
-IsTornBy ns before h s = (passing h < 4) × ((step_plan (whole_world ns (step_circuit s) before) s).changes ≢ [])
+-- an event with changes in this world was stopped before its record was written
+abbrev pub IsTornBy : CircuitWorld → Stopping → Step → Type 0
+IsTornBy m h s = (passing h < 4) × ((step_plan m s).changes ≢ [])
 
+abbrev pub IsTornIn : (CircuitId → CircuitWorld) → Line → Type 0
+IsTornIn worlds (line.Cut calls fill s) = IsTornBy (worlds (step_circuit s)) (stopping.Cut calls fill) s
+IsTornIn worlds (line.Fail call s) = IsTornBy (worlds (step_circuit s)) (stopping.Fail call) s
+IsTornIn worlds _ = ⊥
+
+-- so was that of a line behind these lines
 abbrev pub IsTorn : List NodeId → List Ran → Line → Type 0
-IsTorn ns before (line.Cut calls fill s) = IsTornBy ns before (stopping.Cut calls fill) s
-IsTorn ns before (line.Fail call s) = IsTornBy ns before (stopping.Fail call) s
-IsTorn ns before _ = ⊥
+IsTorn ns before l = IsTornIn (λ c. whole_world ns c before) l
 
 -- ---- picks
 
@@ -152,20 +157,47 @@ image_now x = x.image_at x.moment
 abbrev pub HasArmedPick : Fill → Arming → DiskView → DiskView → Type 0
 HasArmedPick fill arming x y = PicksArmed fill arming x.image_at y.image_at x.moment y.moment x.faults y.faults y.armed x.picks y.picks
 
--- so did both disks of a node, and what they picked stands for these cells; `second` is whether the second disk counted
-pub record BothPicked (here : NodeId) (how : Option Stopping) (cells : CircuitId → Cell) (p q : PairView) : Type 0 where
+-- so did both disks of a node; `second` is whether the second disk counted
+pub record HavePicked (how : Option Stopping) (p q : PairView) : Type 0 where
   pub second : Bool
   pub counts : IfBoth (image_now p.first) (image_now p.second) (λ i j. second_counts i.bytes j.bytes ≡ second)
   pub first_is : HasArmedPick (pick_fill how) (chosen second (armed_counting how) (armed_other how)) p.first q.first
   pub second_is : HasArmedPick (pick_fill how) (chosen second (armed_other how) (armed_counting how)) p.second q.second
+
+-- so they did where neither was armed before
+abbrev pub PickUnarmed : Option Stopping → PairView → PairView → Type 0
+PickUnarmed how p q = IsPairUnarmed p → HavePicked how p q
+
+-- and what they picked stands for these cells
+pub record BothPicked (here : NodeId) (how : Option Stopping) (cells : CircuitId → Cell) (p q : PairView) : Type 0 where
+  pub picked : HavePicked how p q
   pub stand : IfBoth (image_now q.first) (image_now q.second) (λ i j. StandFor here cells i.bytes j.bytes)
 
--- a node stopped so, and kept these cells: where it was up its two disks were picked from, and no disk changed otherwise
-pub record StopsPair (here : NodeId) (up : Bool) (how : Option Stopping) (cells : CircuitId → Cell) (k : ℕ) (old new : List PairView) : Type 0 where
+-- a node stopped: where it was up this holds of its two disks, and no disk changed otherwise
+pub record StopsAt (P : PairView → PairView → Type 0) (up : Bool) (k : ℕ) (old new : List PairView) : Type 0 where
   pub as_many : length new ≡ length old
   pub others : (i : ℕ) → (i ≡ k → ⊥) → slice_get new i ≡ slice_get old i
-  pub picks : up ≡ true → (p q : PairView) → slice_get old k ≡ Some p → slice_get new k ≡ Some q → BothPicked here how cells p q
+  pub picks : up ≡ true → (p q : PairView) → slice_get old k ≡ Some p → slice_get new k ≡ Some q → P p q
   pub none : up ≡ false → new ≡ old
+
+-- it stopped so, and kept these cells: where it was up its two disks were picked from
+abbrev pub StopsPair : NodeId → Bool → Option Stopping → (CircuitId → Cell) → ℕ → List PairView → List PairView → Type 0
+StopsPair here up how cells k old new = StopsAt (BothPicked here how cells) up k old new
+
+-- the node of a slot stopped so, and its disks failed where, in the worlds that the nodes stood for, its event was torn
+pub record StopsSlot (here : NodeId) (how : Option Stopping) (torn : (CircuitId → CircuitWorld) → Type 0) (xs : Nodes) (old new : List PairView) : Type 0 where
+  pub index : ℕ
+  pub slot : Slot
+  pub there : slice_get xs.slots index ≡ Some slot
+  pub id_is : slot_id slot ≡ here
+  pub stop : StopsAt (PickUnarmed how) (slot_up slot) slot.position old new
+  pub risen : (worlds : CircuitId → CircuitWorld) → ((c : CircuitId) → Holds c (worlds c) xs) → torn worlds → RoseAt slot.position old new
+
+-- a line stopped its node
+pub record StopsBy (l : Line) (xs : Nodes) (old new : List PairView) : Type 0 where
+  pub here : NodeId
+  pub named : (n : NodeId) → stops_at n l ≡ bytes_eq n here
+  pub slot : StopsSlot here (stopping_of l) (λ worlds. IsTornIn worlds l) xs old new
 
 -- a disk of the pair has failed since it was last picked from
 abbrev pub HasFailedSince : PairView → PairView → Type 0
@@ -221,6 +253,7 @@ pub record PicksBy (ns : List NodeId) (before : List Ran) (r : Ran) (n : NodeId)
   pub stopped : picks_at n before r ≡ true → PicksOnce ns (record { before = before; ran = r }) n p q
   pub went_on : picks_at n before r ≡ false → KeepsPicks p q
 
+-- so do those of all nodes, where they weren't armed before
 pub record AllPickBy (before : List Ran) (r : Ran) (w : World) (old new : List PairView) : Type 0 where
   pub as_many : length new ≡ length old
-  pub each : (i : ℕ) (n : NodeId) (k : ℕ) (p q : PairView) → slice_get (ids_of w) i ≡ Some n → slice_get (places_of w) i ≡ Some k → slice_get old k ≡ Some p → slice_get new k ≡ Some q → PicksBy (ids_of w) before r n p q
+  pub each : (i : ℕ) (n : NodeId) (k : ℕ) (p q : PairView) → slice_get (ids_of w) i ≡ Some n → slice_get (places_of w) i ≡ Some k → slice_get old k ≡ Some p → slice_get new k ≡ Some q → IsPairUnarmed p → PicksBy (ids_of w) before r n p q

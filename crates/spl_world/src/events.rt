@@ -1,5 +1,5 @@
 //! How many events ran.
-ghost use Rattle.std.specs.Prelude.{◌≡◌, ◌≤◌, false, OnErr, IsErrOf};
+ghost use Rattle.std.specs.Prelude.{◌≡◌, ◌≤◌, false, OnErr, OnOk, IsErrOf};
 ghost use Rattle.spl_world.specs.Counts.{Counts};
 
 use crate::fault::WorldFault;
@@ -56,6 +56,7 @@ impl Events {
     /// So many more, where the limit has room for them.
     pub fn add(&mut self, more: u32) -> Result<(), WorldFault>
         ensures counts { Counts result self.old self.new 0 more }
+        ensures within { OnOk result (self.new ≤ MOST_EVENTS) }
         ensures fault { OnErr result (IsErrOf result (WorldFault.TooMany 1)) }
     {
         if more > MOST_EVENTS - self.count {

@@ -1,32 +1,56 @@
 //! A line that stops a node.
 ghost use Rattle.std.specs.Prelude.{◌≡◌, ◌++◌, ◌∷◌, [], ℕ, ◌≤◌, List, Some, slice_get, true, false, IsTrue, IfOk, OnOk, OnErr, IsErrOf};
 ghost use Rattle.std.specs.List.{list_all};
-ghost use Rattle.spl_circuit.specs.Nodes.{has_node};
-ghost use Rattle.spl_model.specs.Answers.{answer_to};
+ghost use Rattle.spl_circuit.specs.Nodes.{NodeId as Id, has_node};
+ghost use Rattle.spl_model.specs.Answers.{answer_to, line_answer};
 ghost use Rattle.spl_model.specs.Counts.{events_of, stops_of};
-ghost use Rattle.spl_model.specs.Outcomes.{by_rule};
+ghost use Rattle.spl_model.specs.Outcomes.{by_rule, keeps_record};
 ghost use Rattle.spl_model.specs.Projection.{Ran};
+ghost use Rattle.spl_model.specs.Worlds.{World as CircuitWorld};
+ghost use Rattle.spl_projection.specs.Whole.{world_after};
 ghost use Rattle.spl_sched.specs.Grammar.{nodes_of, is_line};
 ghost use Rattle.spl_world.specs.Counts.{IsOver};
 ghost use Rattle.spl_world.specs.Disks.{AllUnarmed, NoneForgotten, PairView, bench, images};
-ghost use Rattle.spl_world.specs.Held.{AllHeld, StopsPair, cells_behind, stopping_of, stops_at};
+ghost use Rattle.spl_world.specs.Halts.{said};
+ghost use Rattle.spl_world.specs.Held.{AllHeld, StopsBy, StopsPair, cells_behind, stopping_of, stops_at};
 ghost use Rattle.spl_world.specs.Lines.{stops};
-ghost use Rattle.spl_world.specs.Views.{Sits, Stands, ids_of, is_halted, places_of, seen, slot_id, slot_up};
+ghost use Rattle.spl_world.specs.Views.{Holds, Sits, Stands, ids_of, is_halted, places_of, seen, slot_id, slot_up};
 ghost use Rattle.spl_world.specs.declared.slot.Slot.{Slot as Seat};
 
 use crate::fault::WorldFault;
 use crate::world::World;
 use spl_edge::{Pair, StopDisk};
 use spl_model::{MOST_EVENTS, MOST_STOPS};
+use spl_node::Stopping;
 use spl_sched::Line;
-use spl_wire::Answer;
-use std::alloc::Global;
+use spl_wire::{Answer, Bit, Refusal};
+use std::alloc::{AllocError, Global};
+
+// What a cut is answered.
+fn cut_answer(bit: Option<Bit>) -> Answer
+    ensures { result ≡ said Answer.Cut bit }
+{
+    match bit {
+        Some(bit) => Answer::Cut(bit),
+        None => Answer::Refused(Refusal::Down),
+    }
+}
+
+// What a call that fails is answered.
+fn fail_answer(bit: Option<Bit>) -> Answer
+    ensures { result ≡ said Answer.Fault bit }
+{
+    match bit {
+        Some(bit) => Answer::Fault(bit),
+        None => Answer::Refused(Refusal::Down),
+    }
+}
 
 impl World {
-    /// Runs a line that stops a node, and answers it. `before` are the lines that ran so far.
-    /// `TooMany` comes exactly where the events of these lines and of this one are more than
-    /// `MOST_EVENTS`, or their stops more than `MOST_STOPS`. Any other error is want of memory.
-    /// After an error the world is halted.
+    /// Runs a line that stops a node, and answers it: a stop, or a step in which its node goes down.
+    /// `before` are the lines that ran so far. `TooMany` comes exactly where the events of these
+    /// lines and of this one are more than `MOST_EVENTS`, or, where they aren't, their stops more
+    /// than `MOST_STOPS`. Any other error is want of memory. After an error the world is halted.
     pub fn halt<D: StopDisk>(
         &mut self,
         alloc: Global,
@@ -43,6 +67,7 @@ impl World {
         ensures answer { (before : List Ran) → Stands before self.old (images D.image_at D.moment pairs.old.items) → IfOk result (λ a. a ≡ answer_to (ids_of self.old) before (by_rule line.now)) }
         ensures stands { (before : List Ran) → Stands before self.old (images D.image_at D.moment pairs.old.items) → OnOk result (Stands (before ++ by_rule line.now ∷ []) self.new (images D.image_at D.moment pairs.new.items)) }
         ensures many { (before : List Ran) (which : ℕ) → Stands before self.old (images D.image_at D.moment pairs.old.items) → IsErrOf result (WorldFault.TooMany which) → IsOver (ids_of self.old) (before ++ by_rule line.now ∷ []) which }
+        ensures kept { (which : ℕ) → IsErrOf result (WorldFault.TooMany which) → pairs.new ≡ pairs.old }
         ensures disk { (slot : ℕ) → IsErrOf result (WorldFault.Disk slot) → ⊥ }
         ensures few { (before : List Ran) → Stands before self.old (images D.image_at D.moment pairs.old.items) → OnOk result (events_of (ids_of self.old) (before ++ by_rule line.now ∷ []) ≤ MOST_EVENTS) }
         ensures fewer { (before : List Ran) → Stands before self.old (images D.image_at D.moment pairs.old.items) → OnOk result (stops_of (before ++ by_rule line.now ∷ []) ≤ MOST_STOPS) }
@@ -80,20 +105,57 @@ impl World {
         ensures answer { (before : List Ran) → Stands before self.old (images D.image_at D.moment pairs.old.items) → IfOk result (λ a. a ≡ answer_to (ids_of self.old) before (by_rule line.now)) }
         ensures stands { (before : List Ran) → Stands before self.old (images D.image_at D.moment pairs.old.items) → OnOk result (Stands (before ++ by_rule line.now ∷ []) self.new (images D.image_at D.moment pairs.new.items)) }
         ensures many { (before : List Ran) (which : ℕ) → Stands before self.old (images D.image_at D.moment pairs.old.items) → IsErrOf result (WorldFault.TooMany which) → IsOver (ids_of self.old) (before ++ by_rule line.now ∷ []) which }
+        ensures kept { (which : ℕ) → IsErrOf result (WorldFault.TooMany which) → pairs.new ≡ pairs.old }
         ensures disk { (slot : ℕ) → IsErrOf result (WorldFault.Disk slot) → ⊥ }
-        // Where the node was up each of its two disks has one pick more; no other disk changed.
-        ensures picks { (i : ℕ) (s : Seat) → slice_get self.old.slots.items i ≡ Some s → (before : List Ran) → Stands before self.old (images D.image_at D.moment pairs.old.items) → AllUnarmed (bench D.image_at D.moment D.faults D.armed D.picks pairs.old.items) → stops_at (slot_id s) line.now ≡ true → OnOk result (StopsPair (slot_id s) (slot_up s) (stopping_of line.now) (cells_behind (ids_of self.old) (before ++ by_rule line.now ∷ []) (slot_id s)) s.position (bench D.image_at D.moment D.faults D.armed D.picks pairs.old.items) (bench D.image_at D.moment D.faults D.armed D.picks pairs.new.items)) }
         ensures sits { OnOk result (Sits (seen D.image_at D.moment self.new pairs.new.items)) }
+        ensures slot { OnOk result (StopsBy line.now (seen D.image_at D.moment self.old pairs.old.items) (bench D.image_at D.moment D.faults D.armed D.picks pairs.old.items) (bench D.image_at D.moment D.faults D.armed D.picks pairs.new.items)) }
+        ensures onward { NoneForgotten (bench D.image_at D.moment D.faults D.armed D.picks pairs.old.items) (bench D.image_at D.moment D.faults D.armed D.picks pairs.new.items) }
+    {
+        self.events.add(1)?;
+        self.stops.add()?;
+        Ok(self.halt_node(alloc, pairs, line)?)
+    }
+
+    // The node of a line stops.
+    fn halt_node<D: StopDisk>(
+        &mut self,
+        alloc: Global,
+        pairs: &mut Vec<Pair<D>>,
+        line: &Line,
+    ) -> Result<Answer, AllocError>
+        requires known { IsTrue (list_all (has_node (ids_of self.old)) (nodes_of line.now)) }
+        requires fits { IsTrue (is_line line.now) }
+        requires stops { stops line.now ≡ true }
+        requires sits { Sits (seen D.image_at D.moment self.old pairs.old.items) }
+        ensures ids { ids_of self.new ≡ ids_of self.old }
+        ensures places { places_of self.new ≡ places_of self.old }
+        ensures stops { self.new.stops ≡ self.old.stops }
+        ensures events { self.new.events ≡ self.old.events }
+        ensures answer { (worlds : Id → CircuitWorld) (roll : Id → Answer) → ((c : Id) → Holds c (worlds c) (seen D.image_at D.moment self.old pairs.old.items)) → IfOk result (λ a. a ≡ line_answer worlds roll line.now (keeps_record line.now)) }
+        ensures holds { (c : Id) (m : CircuitWorld) → Holds c m (seen D.image_at D.moment self.old pairs.old.items) → OnOk result (Holds c (world_after c m (by_rule line.now)) (seen D.image_at D.moment self.new pairs.new.items)) }
+        ensures sits { OnOk result (Sits (seen D.image_at D.moment self.new pairs.new.items)) }
+        ensures slot { OnOk result (StopsBy line.now (seen D.image_at D.moment self.old pairs.old.items) (bench D.image_at D.moment D.faults D.armed D.picks pairs.old.items) (bench D.image_at D.moment D.faults D.armed D.picks pairs.new.items)) }
+        ensures onward { NoneForgotten (bench D.image_at D.moment D.faults D.armed D.picks pairs.old.items) (bench D.image_at D.moment D.faults D.armed D.picks pairs.new.items) }
     {
         match line {
             Line::Stop(node) => {
-                self.events.add(1)?;
-                self.stops.add()?;
                 let slot = self.slot(node);
                 self.stop_at(alloc, pairs, slot)?;
                 Ok(Answer::Power { up: false })
             }
-            Line::Cut { .. } | Line::Fail { .. } => Err(WorldFault::NoMemory),
+            Line::Cut { calls, fill, step } => {
+                let stopping = Stopping::Cut {
+                    calls: *calls,
+                    fill: *fill,
+                };
+                let bit = self.halt_step(alloc, pairs, step, stopping)?;
+                Ok(cut_answer(bit))
+            }
+            Line::Fail { call, step } => {
+                let stopping = Stopping::Fail { call: *call };
+                let bit = self.halt_step(alloc, pairs, step, stopping)?;
+                Ok(fail_answer(bit))
+            }
             _ => unreachable!(),
         }
     }

@@ -2,9 +2,11 @@
 #![tactic(auto)]
 
 mod calm;
+mod cut;
 mod events;
 mod fault;
 mod halt;
+mod lines;
 mod making;
 mod outbox;
 mod posts;
@@ -15,4 +17,5 @@ mod stops;
 mod world;
 
 pub use fault::WorldFault;
+pub use lines::stops_node;
 pub use world::World;

@@ -1,5 +1,5 @@
 //! Nodes that go down and come up, and what is bound at one.
-ghost use Rattle.std.specs.Prelude.{◌≡◌, ◌++◌, ◌∷◌, [], ◌<◌, ℕ, List, Some, true, length, slice_get, IfOk, OnOk, IsErrOf};
+ghost use Rattle.std.specs.Prelude.{◌≡◌, ◌++◌, ◌∷◌, [], ◌<◌, ℕ, List, Some, None, true, length, slice_get, IfOk, OnOk, IsErrOf};
 ghost use Rattle.spl_circuit.specs.Nodes.{NodeId as Id};
 ghost use Rattle.spl_model.specs.Answers.{roll_answer};
 ghost use Rattle.spl_model.specs.Outcomes.{by_rule};
@@ -8,8 +8,9 @@ ghost use Rattle.spl_projection.specs.Whole.{whole_world};
 ghost use Rattle.spl_model.specs.Worlds.{World as CircuitWorld, Starts, Stops, happens};
 ghost use Rattle.spl_sched.specs.Grammar.{is_line};
 ghost use Rattle.spl_sched.specs.declared.line.Line.TheVariants as line;
-ghost use Rattle.spl_world.specs.Disks.{Images, LeavesDisks, StopsPair, bench};
-ghost use Rattle.spl_world.specs.Views.{IsPlace, Holds, IsAt, Sits, ids_of, over, places_of, seen, slot_id, slot_up, view_in};
+ghost use Rattle.spl_world.specs.Disks.{Images, LeavesDisks, NoneForgotten, bench};
+ghost use Rattle.spl_world.specs.Held.{PickUnarmed, StopsAt};
+ghost use Rattle.spl_world.specs.Views.{IsPlace, Holds, IsAt, Sits, ids_of, over, places_of, seen, slot_up};
 ghost use Rattle.spl_world.specs.declared.slot.Slot.{Slot as Seat};
 
 use crate::fault::WorldFault;
@@ -58,7 +59,8 @@ impl World {
         ensures events { self.new.events ≡ self.old.events }
         ensures holds { (c n : Id) (m : CircuitWorld) → IsAt self.old slot n → Holds c m (seen D.image_at D.moment self.old pairs.old.items) → OnOk result (Holds c (happens m (Stops n)) (seen D.image_at D.moment self.new pairs.new.items)) }
         ensures sits { OnOk result (Sits (seen D.image_at D.moment self.new pairs.new.items)) }
-        ensures picks { (s : Seat) → slice_get self.old.slots.items slot ≡ Some s → OnOk result (StopsPair (slot_id s) (slot_up s) (view_in (seen D.image_at D.moment self.old pairs.old.items) s).cells s.position (bench D.image_at D.moment D.faults D.armed D.picks pairs.old.items) (bench D.image_at D.moment D.faults D.armed D.picks pairs.new.items)) }
+        ensures picks { (s : Seat) → slice_get self.old.slots.items slot ≡ Some s → OnOk result (StopsAt (PickUnarmed None) (slot_up s) s.position (bench D.image_at D.moment D.faults D.armed D.picks pairs.old.items) (bench D.image_at D.moment D.faults D.armed D.picks pairs.new.items)) }
+        ensures onward { NoneForgotten (bench D.image_at D.moment D.faults D.armed D.picks pairs.old.items) (bench D.image_at D.moment D.faults D.armed D.picks pairs.new.items) }
     {
         let here = &mut self.slots[slot];
         let disks = &mut pairs[here.position()];

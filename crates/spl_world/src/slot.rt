@@ -1,5 +1,5 @@
 //! A node of the world.
-ghost use Rattle.std.specs.Prelude.{◌≡◌, ◌&&◌, ◌<◌, ℕ, length, slice_get, true, false, IfOk, IfSome, OnOk, IsErrOf};
+ghost use Rattle.std.specs.Prelude.{◌≡◌, ◌≢◌, ◌&&◌, ◌<◌, ◌≤◌, ℕ, [], length, slice_get, Option, Some, None, true, false, IfOk, IfSome, OnOk, IsErrOf};
 ghost use Rattle.std.specs.Option.{option_copied};
 ghost use Rattle.std.specs.List.{list_any};
 ghost use Rattle.std.specs.List.Sorted.{IsStrictlySortedBy};
@@ -13,7 +13,9 @@ ghost use Rattle.spl_rules.specs.Cells.{is_bound, is_open_cell};
 ghost use Rattle.spl_rules.specs.Changes.{stopped_cell};
 ghost use Rattle.spl_rules.specs.Plans.{plan_of};
 ghost use Rattle.spl_rules.specs.Valid.{IsFor};
-ghost use Rattle.spl_world.specs.Disks.{AreBlank, BothPicked, HasRisen, Images, PairGoesOn, images_of, pair_view};
+ghost use Rattle.spl_node.specs.Stopping.{IsStopping, cells_stopped, event_changes, has_changes, keeps, passing};
+ghost use Rattle.spl_world.specs.Disks.{AreBlank, HasRisen, Images, PairGoesOn, images_of, pair_view};
+ghost use Rattle.spl_world.specs.Held.{HavePicked, PickUnarmed};
 ghost use Rattle.spl_world.specs.Kept.{IsDone, AllBelong, place_of, lists_about, sent_to};
 ghost use Rattle.spl_world.specs.Views.{IsFresh, node_view, slot_id, slot_up};
 
@@ -21,7 +23,7 @@ use crate::fault::{WorldFault, journal_fault};
 use crate::posts::Posts;
 use spl_base::{CircuitId, Listing, NodeId};
 use spl_edge::{Pair, StopDisk};
-use spl_node::{Host, Outcome};
+use spl_node::{Host, Outcome, Stopping};
 use spl_wire::{Answer, Event, Message};
 use std::alloc::{AllocError, Global};
 
@@ -160,9 +162,43 @@ impl Slot {
         ensures same { slot_up self.old ≡ false → (c : Id) → (node_view self.new (images_of D.image_at D.moment disks.new)).cells c ≡ (node_view self.old (images_of D.image_at D.moment disks.old)).cells c }
         ensures none { slot_up self.old ≡ false → disks.new ≡ disks.old }
         ensures stands { OnOk result (HostStands self.new.host (D.image_at disks.new.first (D.moment disks.new.first)) (D.image_at disks.new.second (D.moment disks.new.second))) }
-        ensures picks { OnOk result (slot_up self.old ≡ true → BothPicked (slot_id self.old) (node_view self.old (images_of D.image_at D.moment disks.old)).cells (pair_view D.image_at D.moment D.faults D.armed D.picks disks.old) (pair_view D.image_at D.moment D.faults D.armed D.picks disks.new)) }
+        // Where it was up both disks picked what they had.
+        ensures picks { OnOk result (slot_up self.old ≡ true → PickUnarmed None (pair_view D.image_at D.moment D.faults D.armed D.picks disks.old) (pair_view D.image_at D.moment D.faults D.armed D.picks disks.new)) }
+        ensures first_stays { D.faults disks.old.first ≤ D.faults disks.new.first }
+        ensures second_stays { D.faults disks.old.second ≤ D.faults disks.new.second }
     {
         self.host.stop(alloc, disks)
+    }
+
+    /// The node goes down in an event at the cell of a circuit, or in none: it forgets its open
+    /// rounds, the changes of the event are made where the disks have their record, and nothing is
+    /// posted. Answers whether the event has changes.
+    pub fn stop_in<D: StopDisk>(
+        &mut self,
+        alloc: Global,
+        disks: &mut Pair<D>,
+        circuit: &CircuitId,
+        event: Option<&Event>,
+        stopping: Stopping,
+    ) -> Result<bool, AllocError>
+        requires up { slot_up self.old ≡ true }
+        requires own { IfSome (option_copied event) (IsFor (site_at (slot_id self.old) circuit.now)) }
+        requires calls { IsStopping stopping }
+        requires stands { HostStands self.old.host (D.image_at disks.old.first (D.moment disks.old.first)) (D.image_at disks.old.second (D.moment disks.old.second)) }
+        ensures id { slot_id self.new ≡ slot_id self.old }
+        ensures position { self.new.position ≡ self.old.position }
+        ensures posts { self.new.posts ≡ self.old.posts }
+        ensures down { OnOk result (slot_up self.new ≡ false) }
+        ensures tells { IfOk result (λ b. b ≡ has_changes (event_changes (slot_id self.old) (node_view self.old (images_of D.image_at D.moment disks.old)).cells circuit.now (option_copied event.entry))) }
+        ensures stopped { OnOk result ((c : Id) → (node_view self.new (images_of D.image_at D.moment disks.new)).cells c ≡ (cells_stopped (slot_id self.old) (node_view self.old (images_of D.image_at D.moment disks.old)).cells circuit.now (event_changes (slot_id self.old) (node_view self.old (images_of D.image_at D.moment disks.old)).cells circuit.now (option_copied event.entry)) (keeps stopping)) c) }
+        ensures stands { OnOk result (HostStands self.new.host (D.image_at disks.new.first (D.moment disks.new.first)) (D.image_at disks.new.second (D.moment disks.new.second))) }
+        ensures picks { OnOk result (HavePicked (Some stopping) (pair_view D.image_at D.moment D.faults D.armed D.picks disks.old) (pair_view D.image_at D.moment D.faults D.armed D.picks disks.new)) }
+        // Where a call that keeps the record didn't pass, a disk has failed.
+        ensures risen { OnOk result ((event_changes (slot_id self.old) (node_view self.old (images_of D.image_at D.moment disks.old)).cells circuit.now (option_copied event.entry)) ≢ [] → passing stopping < 4 → HasRisen (pair_view D.image_at D.moment D.faults D.armed D.picks disks.old) (pair_view D.image_at D.moment D.faults D.armed D.picks disks.new)) }
+        ensures first_stays { D.faults disks.old.first ≤ D.faults disks.new.first }
+        ensures second_stays { D.faults disks.old.second ≤ D.faults disks.new.second }
+    {
+        self.host.stop_in(alloc, disks, circuit, event, stopping)
     }
 
     /// The ids of the circuits that are bound there, in order.

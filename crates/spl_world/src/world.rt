@@ -1,5 +1,5 @@
 //! All nodes of a run, and what happens at one of them.
-ghost use Rattle.std.specs.Prelude.{◌≡◌, ◌+◌, ◌<◌, ◌&&◌, ℕ, List, length, true, false, IfOk, OnOk, IsErrOf};
+ghost use Rattle.std.specs.Prelude.{◌≡◌, ◌+◌, ◌<◌, ◌&&◌, ℕ, List, Some, length, slice_get, true, false, IfOk, IfSome, OnOk, IsErrOf};
 ghost use Rattle.std.specs.List.{position_from};
 ghost use Rattle.std.specs.Str.{bytes_eq};
 ghost use Rattle.spl_circuit.specs.Nodes.{NodeId as Id, has_node};
@@ -9,6 +9,7 @@ ghost use Rattle.spl_rules.specs.Plans.{plan_of};
 ghost use Rattle.spl_rules.specs.Valid.{IsFor};
 ghost use Rattle.spl_model.specs.Worlds.{site_at, World as CircuitWorld, messages, carried_out, step_plan, step_world};
 ghost use Rattle.spl_world.specs.Disks.{Images, LeavesDisks, bench};
+ghost use Rattle.spl_world.specs.Halts.{delivery_of};
 ghost use Rattle.spl_world.specs.Views.{IsPlace, Holds, IsAt, IsUp, Moves, Sits, has_id, places_of, ids_of, is_halted, over, seen, ups_of};
 
 use crate::events::Events;
@@ -118,6 +119,7 @@ impl World {
         requires below { slot < length self.now.slots.items }
         ensures world { (is : List Images) (c : Id) (m : CircuitWorld) (n : Id) → Holds c m (over self.now is) → IsAt self.now slot n → result ≡ m.up n }
         ensures up { result ≡ true → IsUp self.now slot }
+        ensures down { result ≡ false → slice_get (ups_of self.now) slot ≡ Some false }
     {
         self.slots[slot].is_up()
     }
@@ -153,6 +155,34 @@ impl World {
         self.slots[from].count(circuit, &recipient)
     }
 
+    // The delivery of the message of this index, from 0, of those about a circuit that one node sent
+    // to another; None exactly where there are fewer.
+    pub(crate) fn delivery(
+        &self,
+        alloc: Global,
+        from: usize,
+        to: usize,
+        circuit: &CircuitId,
+        index: usize,
+    ) -> Result<Option<Event>, AllocError>
+        requires from_below { from < length self.now.slots.items }
+        requires to_below { to < length self.now.slots.items }
+        requires apart { (a b : Id) → IsAt self.now from a → IsAt self.now to b → bytes_eq a b ≡ false }
+        ensures event { (is : List Images) (m : CircuitWorld) (a b : Id) → Holds circuit.now m (over self.now is) → IsAt self.now from a → IsAt self.now to b → IfOk result (λ e. e ≡ delivery_of a (slice_get (messages m a b) index)) }
+        ensures own { (n : Id) → IsAt self.now to n → IfOk result (λ e. IfSome e (IsFor (site_at n circuit.now))) }
+    {
+        let sender = self.slots[from].id();
+        let recipient = self.slots[to].id();
+        let message = match self.slots[from].message(circuit, &recipient, index) {
+            Some(message) => boxed(alloc, message)?,
+            None => return Ok(None),
+        };
+        Ok(Some(Event::Deliver {
+            from: sender,
+            message,
+        }))
+    }
+
     // The message of this index, from 0, of those about a circuit that one node sent to another
     // comes there, where that one is up; and the answer.
     pub(crate) fn deliver<D: StopDisk>(
@@ -181,16 +211,10 @@ impl World {
         ensures place { (slot : ℕ) → IsErrOf result (WorldFault.Disk slot) → IsPlace (places_of self.old) slot }
         ensures few { (which : ℕ) → IsErrOf result (WorldFault.TooMany which) → ⊥ }
     {
-        let sender = self.slots[from].id();
-        let recipient = self.slots[to].id();
-        let message = match self.slots[from].message(&circuit, &recipient, index) {
-            Some(message) => boxed(alloc, message)?,
-            None => return Ok(Answer::Refused(Refusal::NoMessage)),
-        };
-        let event = Event::Deliver {
-            from: sender,
-            message,
-        };
-        self.handle(alloc, pairs, to, circuit, &event)
+        let delivery = self.delivery(alloc, from, to, &circuit, index)?;
+        match delivery {
+            Some(event) => self.handle(alloc, pairs, to, circuit, &event),
+            None => Ok(Answer::Refused(Refusal::NoMessage)),
+        }
     }
 }

@@ -1,8 +1,8 @@
 use Rattle.std.proofs.Common.{◌++◌, ◌∷◌, []}
 use Rattle.spl_model.specs.Outcomes.{by_rule}
 use Rattle.spl_world.specs.Disks.{images}
-use Rattle.spl_world.specs.Views.{ids_of, seen, view_in}
-use Rattle.spl_world.proofs.HoldingLines.{held_halt, known_stop, stop_node}
+use Rattle.spl_world.specs.Views.{ids_of}
+use Rattle.spl_world.proofs.HoldingLines.{held_halt, picks_halt, unarmed_halt}
 use Rattle.spl_world.proofs.Results.{at_ok, ok_is, err_is}
 use Rattle.spl_world.proofs.Standing.{stands_still, within_line, within_stops}
 use Rattle.spl_world.proofs.world.World.halt.Goals as goal
@@ -22,9 +22,15 @@ returns-clause-few g c = λ before stands. at_ok c.halt_line-answered.result (λ
 pub returns-clause-fewer : goal.returns-clause-fewer
 returns-clause-fewer g c = λ before stands. at_ok c.halt_line-answered.result (λ standing. within_stops (before ++ by_rule c.args.line.now ∷ []) c.halt_line-answered.new.self (images g.D.Disk.image_at g.D.Disk.moment c.halt_line-answered.new.pairs.items) standing c.are_within-2.ensures) (c.halt_line-answered.ensures.stands before stands)
 
+pub returns-clause-picks : goal.returns-clause-picks
+returns-clause-picks g c = λ i s at before stands off e.
+    picks_halt g.D.Disk.image_at g.D.Disk.moment g.D.Disk.faults g.D.Disk.armed g.D.Disk.picks before c.args.line.now c.args.self.now c.halt_line-answered.new.self c.args.pairs.now.items c.halt_line-answered.new.pairs.items c.halt_line-answered.ensures.ids c.halt_line-answered.ensures.places
+    c.halt_line-answered.result stands (c.halt_line-answered.ensures.stands before stands) c.halt_line-answered.ensures.slot i s at off e
+
 pub returns-clause-held : goal.returns-clause-held
-returns-clause-held g c = λ before stands held.
-    let node = stop_node c.args.line.now c.requires.stops in
-    held_halt g.D.Disk.image_at g.D.Disk.moment g.D.Disk.faults g.D.Disk.armed g.D.Disk.picks before c.args.line.now c.args.self.now c.halt_line-answered.new.self c.args.pairs.now.items c.halt_line-answered.new.pairs.items c.halt_line-answered.ensures.ids c.halt_line-answered.ensures.places held
-    c.halt_line-answered.result node.0 (λ s. (view_in (seen g.D.Disk.image_at g.D.Disk.moment c.args.self.now c.args.pairs.now.items) s).cells) node.1 (known_stop (ids_of c.args.self.now) c.args.line.now node.0 node.1 c.requires.known) stands
-    (c.halt_line-answered.ensures.stands before stands) (λ i s at is. c.halt_line-answered.ensures.picks i s at before stands is)
+returns-clause-held g c = λ start before stands held.
+    held_halt g.D.Disk.image_at g.D.Disk.moment g.D.Disk.faults g.D.Disk.armed g.D.Disk.picks before c.args.line.now c.args.self.now c.halt_line-answered.new.self c.args.pairs.now.items c.halt_line-answered.new.pairs.items c.halt_line-answered.ensures.ids c.halt_line-answered.ensures.places
+    c.halt_line-answered.result start held stands (c.halt_line-answered.ensures.stands before stands) c.halt_line-answered.ensures.slot
+
+pub returns-clause-unarmed : goal.returns-clause-unarmed
+returns-clause-unarmed g c = λ off. unarmed_halt c.halt_line-answered.result c.args.line.now _ _ _ c.halt_line-answered.ensures.slot off

@@ -13,3 +13,8 @@ pub returns-clause-up : goal.returns-clause-up
 returns-clause-up c = λ up.
     let xs = c.args.self.now.slots.items in
     up_at xs c.args.slot c.index.result.now (slice_get_read xs (length xs) c.args.slot c.index.result.now refl c.requires.below c.index.ensures) ∙ ap (λ b. Some b) (sym c.is_up.ensures ∙ up)
+
+pub returns-clause-down : goal.returns-clause-down
+returns-clause-down c = λ down.
+    let xs = c.args.self.now.slots.items in
+    up_at xs c.args.slot c.index.result.now (slice_get_read xs (length xs) c.args.slot c.index.result.now refl c.requires.below c.index.ensures) ∙ ap (λ b. Some b) (sym c.is_up.ensures ∙ down)

@@ -2,7 +2,7 @@ use Rattle.std.proofs.Common.{◌++◌, ◌∷◌, []}
 use Rattle.spl_model.specs.Outcomes.{by_rule}
 use Rattle.spl_world.specs.Disks.{images}
 use Rattle.spl_world.specs.Views.{ids_of}
-use Rattle.spl_world.proofs.HoldingLines.{held_step, steps_none}
+use Rattle.spl_world.proofs.HoldingLines.{failed_step, held_step, steps_none}
 use Rattle.spl_world.proofs.Results.{at_ok, ok_is, err_is}
 use Rattle.spl_world.proofs.Standing.{stands_still, within_line}
 use Rattle.spl_world.proofs.world.World.step.Goals as goal
@@ -20,6 +20,11 @@ pub returns-clause-few : goal.returns-clause-few
 returns-clause-few g c = λ before stands. at_ok c.run_line-answered.result (λ standing. within_line (before ++ by_rule c.args.line.now ∷ []) c.run_line-answered.new.self (images g.D.Disk.image_at g.D.Disk.moment c.run_line-answered.new.pairs.items) (ids_of c.args.self.now) c.run_line-answered.ensures.ids standing c.are_within.ensures) (c.run_line-answered.ensures.stands before stands)
 
 pub returns-clause-held : goal.returns-clause-held
-returns-clause-held g c = λ before stands held.
-    held_step g.D.Disk.image_at g.D.Disk.moment g.D.Disk.faults g.D.Disk.armed g.D.Disk.picks before c.args.line.now c.args.self.now c.run_line-answered.new.self c.args.pairs.now.items c.run_line-answered.new.pairs.items c.run_line-answered.ensures.ids c.run_line-answered.ensures.places held
-    c.run_line-answered.result (steps_none c.args.line.now c.requires.steps) (c.run_line-answered.ensures.stands before stands) c.run_line-answered.ensures.disks
+returns-clause-held g c = λ start before stands held.
+    held_step g.D.Disk.image_at g.D.Disk.moment g.D.Disk.faults g.D.Disk.armed g.D.Disk.picks before c.args.line.now c.args.self.now c.run_line-answered.new.self c.args.pairs.now.items c.run_line-answered.new.pairs.items c.run_line-answered.ensures.ids c.run_line-answered.ensures.places
+    c.run_line-answered.result start held (steps_none c.args.line.now c.requires.steps) (c.run_line-answered.ensures.stands before stands) c.run_line-answered.ensures.disks
+
+pub returns-clause-failed : goal.returns-clause-failed
+returns-clause-failed g c = λ start before slot e held.
+    failed_step g.D.Disk.image_at g.D.Disk.moment g.D.Disk.faults g.D.Disk.armed g.D.Disk.picks before c.args.line.now c.args.self.now c.run_line-answered.new.self c.args.pairs.now.items c.run_line-answered.new.pairs.items c.run_line-answered.ensures.ids c.run_line-answered.ensures.places
+    c.run_line-answered.result start slot held c.run_line-answered.ensures.disks e (c.run_line-answered.ensures.place slot e)

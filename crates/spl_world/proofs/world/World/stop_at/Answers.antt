@@ -1,13 +1,15 @@
-use Rattle.std.proofs.Common.{◌≡◌, ◌∙◌, arith, ap, refl, sym, subst, length, Some, slice_set}
+use Rattle.std.proofs.Common.{◌≡◌, ◌∙◌, arith, ap, refl, sym, subst, length, Some, None, slice_set}
 use Rattle.std.proofs.lemmas.Option.{slice_get_read}
 use Rattle.spl_circuit.specs.Nodes.{NodeId}
 use Rattle.spl_model.specs.Worlds.{Stops, happens}
 use Rattle.spl_rules.specs.Changes.{stopped_cell}
-use Rattle.spl_world.specs.Disks.{BothPicked, StopsPair, bench, images, images_of, pair_view}
+use Rattle.spl_world.specs.Disks.{bench, images, images_of}
+use Rattle.spl_world.specs.Held.{PickUnarmed, StopsAt}
 use Rattle.spl_world.specs.Kept.{NodeView}
-use Rattle.spl_world.specs.Views.{Holds, Nodes, seen, slot_id, slot_up, view_in}
+use Rattle.spl_world.specs.Views.{Holds, Nodes, seen, slot_id, slot_up}
 use Rattle.spl_world.specs.declared.slot.Slot.{Slot}
-use Rattle.spl_world.proofs.Handling.{pair_below, own_stands, own_view, own_sits, own_by, one_stops}
+use Rattle.spl_world.proofs.Handling.{pair_below, own_stands, own_view, own_sits, own_by}
+use Rattle.spl_world.proofs.Picking.{one_forgets, one_stops}
 use Rattle.spl_world.proofs.Powering.{stops}
 use Rattle.spl_world.proofs.Results.{at_ok, ok_both}
 use Rattle.spl_world.proofs.Slots.{same_at, same_ids, same_places}
@@ -75,8 +77,17 @@ returns-clause-picks g c = λ t at.
     let there = slice_get_read ss (length ss) c.args.slot s refl c.requires.below c.index_mut-here.ensures.value in
     let below = pair_below g.D.Disk.image_at g.D.Disk.moment ss ps c.args.slot s c.requires.sits there c.position.result c.position.ensures in
     let pair = slice_get_read ps (length ps) c.position.result c.index_mut-disks.result.now refl below c.index_mut-disks.ensures.value in
-    let view = own_view g.D.Disk.image_at g.D.Disk.moment ss ps c.args.slot s c.requires.sits there c.position.result c.position.ensures c.index_mut-disks.result.now pair in
     let same : s ≡ t = (let e : Some s ≡ Some t = sym there ∙ at in cc) in
-    at_ok c.stop.result (λ picked. subst (λ (u : Slot). StopsPair (slot_id u) (slot_up u) (view_in (seen g.D.Disk.image_at g.D.Disk.moment c.args.self.now ps) u).cells u.position (bench g.D.Disk.image_at g.D.Disk.moment g.D.Disk.faults g.D.Disk.armed g.D.Disk.picks ps) (bench g.D.Disk.image_at g.D.Disk.moment g.D.Disk.faults g.D.Disk.armed g.D.Disk.picks (slice_set ps c.position.result c.stop.new.disks))) same
-    (one_stops g.D.Disk.image_at g.D.Disk.moment g.D.Disk.faults g.D.Disk.armed g.D.Disk.picks (slot_id s) (slot_up s) (view_in (seen g.D.Disk.image_at g.D.Disk.moment c.args.self.now ps) s).cells ps c.position.result c.index_mut-disks.result.now c.stop.new.disks s.position pair c.position.ensures
-    (λ u. subst (λ (v : NodeView). BothPicked (slot_id s) v.cells (pair_view g.D.Disk.image_at g.D.Disk.moment g.D.Disk.faults g.D.Disk.armed g.D.Disk.picks c.index_mut-disks.result.now) (pair_view g.D.Disk.image_at g.D.Disk.moment g.D.Disk.faults g.D.Disk.armed g.D.Disk.picks c.stop.new.disks)) (sym view) (picked u)) c.stop.ensures.none)) c.stop.ensures.picks
+    at_ok c.stop.result (λ picked. subst (λ (u : Slot). StopsAt (PickUnarmed None) (slot_up u) u.position (bench g.D.Disk.image_at g.D.Disk.moment g.D.Disk.faults g.D.Disk.armed g.D.Disk.picks ps) (bench g.D.Disk.image_at g.D.Disk.moment g.D.Disk.faults g.D.Disk.armed g.D.Disk.picks (slice_set ps c.position.result c.stop.new.disks))) same
+    (one_stops g.D.Disk.image_at g.D.Disk.moment g.D.Disk.faults g.D.Disk.armed g.D.Disk.picks ps c.position.result c.index_mut-disks.result.now c.stop.new.disks pair (PickUnarmed None) (slot_up s) s.position c.position.ensures
+    picked c.stop.ensures.none)) c.stop.ensures.picks
+
+pub returns-clause-onward : goal.returns-clause-onward
+returns-clause-onward g c =
+    let ss = c.args.self.now.slots.items in
+    let ps = c.args.pairs.now.items in
+    let s = c.index_mut-here.result.now in
+    let there = slice_get_read ss (length ss) c.args.slot s refl c.requires.below c.index_mut-here.ensures.value in
+    let below = pair_below g.D.Disk.image_at g.D.Disk.moment ss ps c.args.slot s c.requires.sits there c.position.result c.position.ensures in
+    let pair = slice_get_read ps (length ps) c.position.result c.index_mut-disks.result.now refl below c.index_mut-disks.ensures.value in
+    one_forgets g.D.Disk.image_at g.D.Disk.moment g.D.Disk.faults g.D.Disk.armed g.D.Disk.picks ps c.position.result c.index_mut-disks.result.now c.stop.new.disks pair c.stop.ensures.first_stays c.stop.ensures.second_stays

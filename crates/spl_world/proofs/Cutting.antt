@@ -1,0 +1,160 @@
+-- A node that stops in an event.
+use Rattle.std.proofs.Common.{◌≡◌, ℕ, zero, suc, ◌-◌, ◌≤◌, ◌⊎◌, inl, inr, Bool, true, false, ◌&&◌, ◌||◌, nat_le, nat_lt, ◌^◌, List, [], ◌∷◌, slice_get, Option, Some, None, if◌then◌else◌, refl, ap, sym, subst, ◌∙◌, arith}
+use Rattle.std.proofs.lemmas.Bool.Decides.{nat_tests}
+use Rattle.std.specs.Prelude.{◌==◌}
+use Rattle.std.specs.Str.{bytes_eq}
+use Rattle.spl_agree.proofs.Tests.{if_true, if_false}
+use Rattle.spl_base.specs.FormLaws.{both_true}
+use Rattle.spl_circuit.specs.Nodes.{NodeId, CircuitId}
+use Rattle.spl_edge.specs.declared.fill.Fill.{Fill}
+use Rattle.spl_edge.specs.declared.fill.Fill.TheVariants as fill
+use Rattle.spl_journal.specs.Stops.{is_kept, opens as leaves_open}
+use Rattle.spl_model.specs.Answers.{bit_of, halt_answer}
+use Rattle.spl_model.specs.Outcomes.{keeps_record, opens}
+use Rattle.spl_model.specs.Worlds.{World as CircuitWorld, Halts, Stops, happens, site_at, step_plan}
+use Rattle.spl_node.specs.Stopping.{cells_stopped, event_changes, keeps}
+use Rattle.spl_node.specs.declared.stopping.Stopping.{Stopping}
+use Rattle.spl_node.specs.declared.stopping.Stopping.TheVariants as stopping
+use Rattle.spl_wire.specs.declared.plan.Plan.{Plan}
+use Rattle.spl_rules.specs.Cells.{Cell}
+use Rattle.spl_rules.specs.Changes.{made, stopped_cell}
+use Rattle.spl_rules.specs.Plans.{plan_of}
+use Rattle.spl_sched.specs.Grammar.{is_fill, is_line, is_step, step_circuit, step_node}
+use Rattle.spl_sched.specs.declared.line.Line.TheVariants as line
+use Rattle.spl_sched.specs.declared.line.Step.{Step}
+use Rattle.spl_wire.specs.declared.answer.Answer.{Answer}
+use Rattle.spl_wire.specs.declared.answer.Bit.{Bit}
+use Rattle.spl_wire.specs.declared.change.Change.{Change}
+use Rattle.spl_wire.specs.declared.event.Event.{Event}
+use Rattle.spl_world.specs.Halts.{IsEventOf, bit_in, said}
+use Rattle.spl_world.specs.Held.{IsTornBy}
+use Rattle.spl_world.specs.Views.{Holds, Nodes, slot_id, slot_ids, slot_up, slot_ups, view_in}
+use Rattle.spl_world.specs.declared.slot.Slot.{Slot}
+use Rattle.spl_world.proofs.About.{same_itself}
+use Rattle.spl_world.proofs.Up.{step_down, up_at}
+use Rattle.spl_world.proofs.Sends.{bool_cases, bytes_are}
+
+-- ---- which record is kept
+
+le_is : (a b : ℕ) → a ≤ b → nat_le a b ≡ true
+le_is a b h = grind (arith, nat_tests)
+
+pub opens_same : (f : Fill) → leaves_open f ≡ opens f
+opens_same fill.Old = refl
+opens_same fill.New = refl
+opens_same (fill.Byte b) = refl
+
+-- by four calls, or by three that leave the gate open
+pub kept_by : (n : ℕ) (f : Fill) → is_kept n f ≡ (nat_le 4 n || (n == 3 && opens f))
+kept_by zero f = refl
+kept_by (suc zero) f = refl
+kept_by (suc (suc zero)) f = refl
+kept_by (suc (suc (suc zero))) f = opens_same f
+kept_by (suc (suc (suc (suc n)))) f = sym (ap (λ (b : Bool). b || (suc (suc (suc (suc n))) == 3 && opens f)) (le_is 4 (suc (suc (suc (suc n)))) (omega arith)))
+
+-- by a call that fails, where it isn't one of the first four
+kept_but : (n : ℕ) → is_kept n fill.Old ≡ nat_le 5 (suc n)
+kept_but zero = refl
+kept_but (suc zero) = refl
+kept_but (suc (suc zero)) = refl
+kept_but (suc (suc (suc zero))) = refl
+kept_but (suc (suc (suc (suc n)))) = sym (le_is 5 (suc (suc (suc (suc (suc n))))) (omega arith))
+
+kept_before : (call : ℕ) → 1 ≤ call → is_kept (call - 1) fill.Old ≡ nat_le 5 call
+kept_before zero h = absurd (omega (arith, h))
+kept_before (suc n) h = let less : suc n - 1 ≡ n = omega arith in ap (λ (k : ℕ). is_kept k fill.Old) less ∙ kept_but n
+
+-- the rule of lines
+pub keeps_cut : (calls : ℕ) (f : Fill) (s : Step) → keeps (stopping.Cut calls f) ≡ keeps_record (line.Cut calls f s)
+keeps_cut calls f s = kept_by calls f
+
+pub keeps_fail : (call : ℕ) (s : Step) → 1 ≤ call → keeps (stopping.Fail call) ≡ keeps_record (line.Fail call s)
+keeps_fail call s h = kept_before call h
+
+-- calls of a line are numbered from 1
+pub fail_from_one : (call : ℕ) (s : Step) → is_line (line.Fail call s) ≡ true → 1 ≤ call
+fail_from_one zero s h = absurd cc
+fail_from_one (suc n) s h = omega arith
+
+-- the step of a line is within its bounds
+pub cut_step : (calls : ℕ) (f : Fill) (s : Step) → is_line (line.Cut calls f s) ≡ true → is_step s ≡ true
+cut_step calls f s h = (both_true (nat_lt calls (2 ^ 8) && is_fill f) (is_step s) h).1
+
+pub fail_step : (call : ℕ) (s : Step) → is_line (line.Fail call s) ≡ true → is_step s ≡ true
+fail_step call s h = (both_true (nat_le 1 call && nat_lt call (2 ^ 8)) (is_step s) h).1
+
+-- ---- the node
+
+-- an event changes what it does by the cell where it comes
+changes_same : (here : NodeId) (f g : CircuitId → Cell) (c : CircuitId) (e : Option Event) → f c ≡ g c → event_changes here f c e ≡ event_changes here g c e
+changes_same here f g c None same = refl
+changes_same here f g c (Some e) same = ap (λ (k : Cell). (plan_of (site_at here c) k e).changes) same
+
+module _ (xs : Nodes) (i : ℕ) (x : Slot) (m : CircuitWorld) (s : Step) (c : CircuitId) (e : Option Event) (h : Holds c m xs) (there : slice_get xs.slots i ≡ Some x) (id : slot_id x ≡ step_node s) (about : step_circuit s ≡ c) (is : IsEventOf e m s) where
+  cell_is : (view_in xs x).cells c ≡ m.at (slot_id x)
+  cell_is = (h.each i x there).state
+
+  -- it changes at the node what the step does in the world
+  pub changes_here : event_changes (slot_id x) (view_in xs x).cells c e ≡ (step_plan m s).changes
+  changes_here =
+      changes_same (slot_id x) (view_in xs x).cells (λ d. m.at (slot_id x)) c e cell_is
+      ∙ ap (λ (n : NodeId). event_changes n (λ d. m.at n) c e) id
+      ∙ ap (λ (d : CircuitId). event_changes (step_node s) (λ b. m.at (step_node s)) d e) (sym about) ∙ is
+
+  pub halted_here : (kept : Bool) → cells_stopped (slot_id x) (view_in xs x).cells c (event_changes (slot_id x) (view_in xs x).cells c e) kept c ≡ stopped_cell (if kept then made (slot_id x) (m.at (slot_id x)) (step_plan m s).changes else m.at (slot_id x))
+  halted_here kept =
+      let cells = (view_in xs x).cells in
+      let ys = event_changes (slot_id x) cells c e in
+      ap (λ (b : Bool). if b then stopped_cell (if kept then made (slot_id x) (cells c) ys else cells c) else stopped_cell (cells c)) (same_itself c)
+      ∙ ap (λ (k : Cell). stopped_cell (if kept then made (slot_id x) k ys else k)) cell_is
+      ∙ ap (λ (zs : List Change). stopped_cell (if kept then made (slot_id x) (m.at (slot_id x)) zs else m.at (slot_id x))) changes_here
+
+-- the cells of other circuits are those of a node that stops
+pub stopped_else : (here : NodeId) (cells : CircuitId → Cell) (c : CircuitId) (ys : List Change) (kept : Bool) (d : CircuitId) → bytes_eq c d ≡ false → cells_stopped here cells c ys kept d ≡ stopped_cell (cells d)
+stopped_else here cells c ys kept d off = ap (λ (b : Bool). if b then stopped_cell (if kept then made here (cells c) ys else cells c) else stopped_cell (cells d)) off
+
+-- ---- slots
+
+pub seat_at : (ss : List Slot) (i : ℕ) (n : NodeId) → slice_get (slot_ids ss) i ≡ Some n → (z : Slot) × (slice_get ss i ≡ Some z)
+seat_at [] i n e = absurd cc
+seat_at (s ∷ ss) zero n e = (s, refl)
+seat_at (s ∷ ss) (suc i) n e = seat_at ss i n e
+
+pub slot_down : (ss : List Slot) (i : ℕ) (z : Slot) → slice_get ss i ≡ Some z → slice_get (slot_ups ss) i ≡ Some false → slot_up z ≡ false
+slot_down ss i z there down = let is : Some (slot_up z) ≡ Some false = sym (up_at ss i z there) ∙ down in cc
+
+-- no event is torn at a node that is down
+pub down_not_torn : (m : CircuitWorld) (h : Stopping) (s : Step) → m.up (step_node s) ≡ false → IsTornBy m h s → ⊥
+down_not_torn m h s down torn = torn.1 (ap (λ (p : Plan). p.changes) (step_down m s down))
+
+-- ---- what is told
+
+pub bit_up : (m : CircuitWorld) (s : Step) (kept : Bool) → m.up (step_node s) ≡ true → bit_in m s kept ≡ Some (bit_of kept (step_plan m s).changes)
+bit_up m s kept up = ap (λ (b : Bool). if b then Some (bit_of kept (step_plan m s).changes) else None) up
+
+pub bit_down : (m : CircuitWorld) (s : Step) (kept : Bool) → m.up (step_node s) ≡ false → bit_in m s kept ≡ None
+bit_down m s kept down = ap (λ (b : Bool). if b then Some (bit_of kept (step_plan m s).changes) else None) down
+
+-- so a line is answered
+pub said_so : (say : Bit → Answer) (m : CircuitWorld) (s : Step) (kept : Bool) → said say (bit_in m s kept) ≡ halt_answer say m s kept
+said_so say m s kept = go (m.up (step_node s))
+  where
+    go : (b : Bool) → said say (if b then Some (bit_of kept (step_plan m s).changes) else None) ≡ (if b then say (bit_of kept (step_plan m s).changes) else said say None)
+    go true = refl
+    go false = refl
+
+-- ---- the worlds
+
+-- in the world of the step's circuit its node stops in it, and in each other it stops
+pub halted_each : (c : CircuitId) (m : CircuitWorld) (s : Step) (kept : Bool) (old new : Nodes) → Holds c m old
+    → ((w : CircuitWorld) → Holds (step_circuit s) w old → Holds (step_circuit s) (happens w (Halts kept s)) new)
+    → ((d : CircuitId) (w : CircuitWorld) → bytes_eq (step_circuit s) d ≡ false → Holds d w old → Holds d (happens w (Stops (step_node s))) new)
+    → Holds c (if bytes_eq (step_circuit s) c then happens m (Halts kept s) else happens m (Stops (step_node s))) new
+halted_each c m s kept old new h own others = go (bool_cases (bytes_eq (step_circuit s) c))
+  where
+    go : (bytes_eq (step_circuit s) c ≡ true) ⊎ (bytes_eq (step_circuit s) c ≡ false) → Holds c (if bytes_eq (step_circuit s) c then happens m (Halts kept s) else happens m (Stops (step_node s))) new
+    go (inl q) =
+        let same : step_circuit s ≡ c = bytes_are (step_circuit s) c q in
+        if_true (λ (w : CircuitWorld). Holds c w new) (bytes_eq (step_circuit s) c) (happens m (Halts kept s)) (happens m (Stops (step_node s))) q
+        (subst (λ (d : CircuitId). Holds d (happens m (Halts kept s)) new) same (own m (subst (λ (d : CircuitId). Holds d m old) (sym same) h)))
+    go (inr q) = if_false (λ (w : CircuitWorld). Holds c w new) (bytes_eq (step_circuit s) c) (happens m (Halts kept s)) (happens m (Stops (step_node s))) q (others c m q h)

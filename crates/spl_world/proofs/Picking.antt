@@ -1,0 +1,118 @@
+-- Disks of one node that are picked from.
+use Rattle.std.proofs.Common.{◌≡◌, ℕ, ◌≤◌, ◌⊎◌, inl, inr, Bool, true, false, true≢false, List, [], ◌∷◌, ◌++◌, slice_get, slice_set, Option, Some, None, refl, ap, sym, subst, ◌∙◌, arith}
+use Rattle.spl_edge.specs.Image.{Image}
+use Rattle.spl_edge.specs.Picks.{Picked}
+use Rattle.spl_edge.specs.declared.bench.Pair.{Pair}
+use Rattle.spl_edge.specs.declared.disk.Armed.{Armed}
+use Rattle.spl_edge.specs.declared.disk.Arming.{Arming}
+use Rattle.spl_edge.specs.declared.disk.Arming.TheVariants.{Off}
+use Rattle.spl_edge.specs.declared.fill.Fill.TheVariants.{Old}
+use Rattle.spl_node.specs.Hosts.{PicksOld}
+use Rattle.spl_snapshot.specs.Counting.{IfBoth, chosen, second_counts}
+use Rattle.spl_world.specs.Disks.{DiskView, HasRisen, IsPairUnarmed, IsUnarmed, NoneForgotten, PairView, RoseAt, bench, pair_view}
+use Rattle.spl_world.specs.Held.{HasArmedPick, HavePicked, StopsAt, image_now}
+use Rattle.spl_world.proofs.Leaving.{bench_here, bench_set, get_below, rose_at, same_there}
+use Rattle.spl_world.proofs.Slots.{set_cases, set_else, set_here, set_length, set_same}
+
+-- ---- a plain stop
+
+-- which of two disks counts
+counting : (o p : Option Image) → (b : Bool) × IfBoth o p (λ i j. second_counts i.bytes j.bytes ≡ b)
+counting None p = (false, tt)
+counting (Some i) None = (false, tt)
+counting (Some i) (Some j) = (second_counts i.bytes j.bytes, refl)
+
+chosen_same : {T : Type 0} (b : Bool) (x : T) → chosen b x x ≡ x
+chosen_same true x = refl
+chosen_same false x = refl
+
+-- a disk that wasn't armed picked what was synced
+plain : (b : Bool) (x y : DiskView) → IsUnarmed x → PicksOld x.image_at y.image_at x.moment y.moment x.faults y.faults x.armed y.armed x.picks y.picks → HasArmedPick Old (chosen b Off Off) x y
+plain b x y off one = record {
+  image = one.picks.image.synced;
+  kept = one.picks.kept ∙ ap (λ (a : Arming). more a x.faults) (off ∙ sym (chosen_same b Off)) ∙ ap (λ (f : ℕ). more (chosen b Off Off) f) (sym one.faults_stay);
+  holds = one.picks.holds;
+  disarmed = one.disarmed;
+  past = one.past;
+  later = omega (arith, one.tick);
+  no_less = omega (arith, one.faults_stay);
+}
+  where
+    more : Arming → ℕ → List Picked
+    more a f = x.picks ++ record { image = one.picks.image.synced; fill = Old; arming = a; faults = f } ∷ []
+
+pub plain_picks : (p q : PairView) → IsPairUnarmed p → PicksOld p.first.image_at q.first.image_at p.first.moment q.first.moment p.first.faults q.first.faults p.first.armed q.first.armed p.first.picks q.first.picks
+    → PicksOld p.second.image_at q.second.image_at p.second.moment q.second.moment p.second.faults q.second.faults p.second.armed q.second.armed p.second.picks q.second.picks → HavePicked None p q
+plain_picks p q off one other =
+    let b = counting (image_now p.first) (image_now p.second) in
+    record { second = b.0; counts = b.1; first_is = plain b.0 p.first q.first off.0 one; second_is = plain b.0 p.second q.second off.1 other }
+
+-- ---- one pair of many
+
+module _ (xs : List PairView) (k : ℕ) (x y : PairView) (there : slice_get xs k ≡ Some x) where
+  -- its node stopped
+  stops_one : (P : PairView → PairView → Type 0) (up : Bool) → (up ≡ true → P x y) → (up ≡ false → slice_set xs k y ≡ xs) → StopsAt P up k xs (slice_set xs k y)
+  stops_one P up picked none = record {
+    as_many = set_length xs k y;
+    others = λ i off. set_else xs k i y (λ e. off (sym e));
+    picks = λ u p q e f.
+        let was : x ≡ p = same_there xs k x p there e in
+        let at : Some y ≡ Some q = sym (set_here xs k y (get_below xs k x there)) ∙ f in
+        let now : y ≡ q = cc in
+        subst (λ (z : PairView). P z q) was (subst (P x) now (picked u));
+    none = none;
+  }
+
+  -- none of its faults is forgotten
+  forgets_one : x.first.faults ≤ y.first.faults → x.second.faults ≤ y.second.faults → NoneForgotten xs (slice_set xs k y)
+  forgets_one a b = record {
+    as_many = set_length xs k y;
+    first = λ i p q e f. go (λ (d : PairView). d.first.faults) a i p q e f;
+    second = λ i p q e f. go (λ (d : PairView). d.second.faults) b i p q e f;
+  }
+    where
+      go : (count : PairView → ℕ) → count x ≤ count y → (i : ℕ) (p q : PairView) → slice_get xs i ≡ Some p → slice_get (slice_set xs k y) i ≡ Some q → count p ≤ count q
+      go count less i p q e f = by (set_cases xs k i y q f)
+        where
+          by : ((i ≡ k) × (y ≡ q)) ⊎ ((i ≡ k → ⊥) × (slice_get xs i ≡ Some q)) → count p ≤ count q
+          by (inl c) = let is : x ≡ p = same_there xs k x p there (ap (λ (j : ℕ). slice_get xs j) (sym c.0) ∙ e) in subst (λ (z : PairView). count z ≤ count q) is (subst (λ (z : PairView). count x ≤ count z) c.1 less)
+          by (inr c) = subst (λ (z : PairView). count p ≤ count z) (same_there xs i p q e c.1) (omega arith)
+
+-- where nothing happens nothing is forgotten
+pub forgets_none : (xs : List PairView) → NoneForgotten xs xs
+forgets_none xs = record {
+  as_many = refl;
+  first = λ i p q e f. subst (λ (z : PairView). p.first.faults ≤ z.first.faults) (same_there xs i p q e f) (omega arith);
+  second = λ i p q e f. subst (λ (z : PairView). p.second.faults ≤ z.second.faults) (same_there xs i p q e f) (omega arith);
+}
+
+-- a node that was down stays so
+pub stops_none : (P : PairView → PairView → Type 0) (up : Bool) (k : ℕ) (xs : List PairView) → up ≡ false → StopsAt P up k xs xs
+stops_none P up k xs down = record { as_many = refl; others = λ i off. refl; picks = λ u. absurd (true≢false (sym u ∙ down)); none = λ d. refl }
+
+-- ---- by the pair itself
+
+module _ {D : Type 0} (image_at : D → ℕ → Option Image) (moment faults : D → ℕ) (armed : D → Armed) (picks : D → List Picked) (ps : List (Pair D)) (k : ℕ) (p r : Pair D) (pair : slice_get ps k ≡ Some p) where
+  abbrev told : List (Pair D) → List PairView
+  told qs = bench image_at moment faults armed picks qs
+
+  abbrev one : Pair D → PairView
+  one q = pair_view image_at moment faults armed picks q
+
+  there : slice_get (told ps) k ≡ Some (one p)
+  there = bench_here image_at moment faults armed picks ps k p pair
+
+  -- what is said of all pairs behind the write
+  behind : (P : List PairView → Type 0) → P (slice_set (told ps) k (one r)) → P (told (slice_set ps k r))
+  behind P h = subst P (sym (bench_set image_at moment faults armed picks ps k r)) h
+
+  pub one_stops : (P : PairView → PairView → Type 0) (up : Bool) (position : ℕ) → k ≡ position → (up ≡ true → P (one p) (one r)) → (up ≡ false → r ≡ p) → StopsAt P up position (told ps) (told (slice_set ps k r))
+  one_stops P up position place picked none = subst (λ (n : ℕ). StopsAt P up n (told ps) (told (slice_set ps k r))) place
+      (behind (StopsAt P up k (told ps)) (stops_one (told ps) k (one p) (one r) there P up picked
+      (λ d. ap (λ (z : Pair D). slice_set (told ps) k (one z)) (none d) ∙ set_same (told ps) k (one p) there)))
+
+  pub one_forgets : faults p.first ≤ faults r.first → faults p.second ≤ faults r.second → NoneForgotten (told ps) (told (slice_set ps k r))
+  one_forgets a b = behind (NoneForgotten (told ps)) (forgets_one (told ps) k (one p) (one r) there a b)
+
+  pub one_rose : (position : ℕ) → k ≡ position → HasRisen (one p) (one r) → RoseAt position (told ps) (told (slice_set ps k r))
+  one_rose position place rose = subst (λ (n : ℕ). RoseAt n (told ps) (told (slice_set ps k r))) place (behind (RoseAt k (told ps)) (rose_at (told ps) k (one p) (one r) there rose))

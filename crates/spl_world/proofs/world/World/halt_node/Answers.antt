@@ -1,0 +1,75 @@
+use Rattle.std.proofs.Common.{◌∙◌, Bool, ap, refl, subst}
+use Rattle.spl_model.specs.Answers.{halt_answer}
+use Rattle.spl_model.specs.Outcomes.{keeps_record}
+use Rattle.spl_model.specs.Worlds.{Halts, happens}
+use Rattle.spl_node.specs.Stopping.{keeps}
+use Rattle.spl_node.specs.declared.stopping.Stopping.TheVariants as stopping
+use Rattle.spl_sched.specs.Grammar.{step_circuit, step_node}
+use Rattle.spl_sched.specs.declared.line.Line.TheVariants as line
+use Rattle.spl_wire.specs.declared.answer.Answer.TheVariants as answer
+use Rattle.spl_world.specs.Halts.{said}
+use Rattle.spl_world.specs.Views.{Holds, seen}
+use Rattle.spl_world.proofs.Cutting.{cut_step, fail_from_one, halted_each, keeps_cut, keeps_fail, said_so, seat_at}
+use Rattle.spl_world.proofs.Slots.{same_at}
+use Rattle.spl_world.proofs.world.World.halt_node.Goals as goal
+
+-- ---- a stop
+
+pub returns-in_ok-stop_at-in-Stop-clause-holds : goal.returns-in_ok-stop_at-in-Stop-clause-holds
+returns-in_ok-stop_at-in-Stop-clause-holds g c = λ k m h. rw (c.in-Stop.is) (c.in_ok-stop_at-in-Stop.ensures.holds k c.in-Stop.node m c.slot-slot.ensures.at h)
+
+pub returns-in_ok-stop_at-in-Stop-clause-slot : goal.returns-in_ok-stop_at-in-Stop-clause-slot
+returns-in_ok-stop_at-in-Stop-clause-slot g c =
+    let ss = c.args.self.now.slots.items in
+    let z = seat_at ss c.slot-slot.result c.in-Stop.node c.slot-slot.ensures.at in
+    rw (c.in-Stop.is) (record {
+      here = c.in-Stop.node;
+      named = λ n. refl;
+      slot = record {
+        index = c.slot-slot.result;
+        slot = z.0;
+        there = z.1;
+        id_is = same_at ss c.slot-slot.result z.0 c.in-Stop.node z.1 c.slot-slot.ensures.at;
+        stop = c.in_ok-stop_at-in-Stop.ensures.picks z.0 z.1;
+        risen = λ worlds h torn. absurd torn;
+      };
+    })
+
+-- ---- a cut
+
+pub halt_step-requires-clause-fits : goal.halt_step-requires-clause-fits
+halt_step-requires-clause-fits g c = cut_step c.in-Cut.calls c.in-Cut.fill c.in-Cut.step (rw (c.in-Cut.is) at c.requires.fits)
+
+pub returns-in_ok-bit-in-Cut-clause-answer : goal.returns-in_ok-bit-in-Cut-clause-answer
+returns-in_ok-bit-in-Cut-clause-answer g c = λ worlds roll h.
+    let s = c.in-Cut.step in
+    rw (c.in-Cut.is) (c.cut_answer.ensures ∙ ap (said answer.Cut) (c.in_ok-bit-in-Cut.ensures.bit (worlds (step_circuit s)) (h (step_circuit s))) ∙ said_so answer.Cut (worlds (step_circuit s)) s (keeps (stopping.Cut c.in-Cut.calls c.in-Cut.fill))
+    ∙ ap (halt_answer answer.Cut (worlds (step_circuit s)) s) (keeps_cut c.in-Cut.calls c.in-Cut.fill s))
+
+pub returns-in_ok-bit-in-Cut-clause-holds : goal.returns-in_ok-bit-in-Cut-clause-holds
+returns-in_ok-bit-in-Cut-clause-holds g c = λ k m h.
+    let s = c.in-Cut.step in
+    rw (c.in-Cut.is) (halted_each k m s (keeps_record (line.Cut c.in-Cut.calls c.in-Cut.fill c.in-Cut.step)) (seen g.D.Disk.image_at g.D.Disk.moment c.args.self.now c.args.pairs.now.items) (seen g.D.Disk.image_at g.D.Disk.moment c.halt_step.new.self c.halt_step.new.pairs.items) h
+    (λ w x. subst (λ (b : Bool). Holds (step_circuit s) (happens w (Halts b s)) (seen g.D.Disk.image_at g.D.Disk.moment c.halt_step.new.self c.halt_step.new.pairs.items)) (keeps_cut c.in-Cut.calls c.in-Cut.fill s) (c.in_ok-bit-in-Cut.ensures.own w x))
+    c.in_ok-bit-in-Cut.ensures.others)
+
+pub returns-in_ok-bit-in-Cut-clause-slot : goal.returns-in_ok-bit-in-Cut-clause-slot
+returns-in_ok-bit-in-Cut-clause-slot g c = rw (c.in-Cut.is) (record { here = step_node c.in-Cut.step; named = λ n. refl; slot = c.in_ok-bit-in-Cut.ensures.slot })
+
+-- ---- a fail
+
+pub returns-in_ok-bit-in-Fail-clause-answer : goal.returns-in_ok-bit-in-Fail-clause-answer
+returns-in_ok-bit-in-Fail-clause-answer g c = λ worlds roll h.
+    let s = c.in-Fail.step in
+    rw (c.in-Fail.is) (c.fail_answer.ensures ∙ ap (said answer.Fault) (c.in_ok-bit-in-Fail.ensures.bit (worlds (step_circuit s)) (h (step_circuit s))) ∙ said_so answer.Fault (worlds (step_circuit s)) s (keeps (stopping.Fail c.in-Fail.call))
+    ∙ ap (halt_answer answer.Fault (worlds (step_circuit s)) s) (keeps_fail c.in-Fail.call s (fail_from_one c.in-Fail.call s (rw (c.in-Fail.is) at c.requires.fits))))
+
+pub returns-in_ok-bit-in-Fail-clause-holds : goal.returns-in_ok-bit-in-Fail-clause-holds
+returns-in_ok-bit-in-Fail-clause-holds g c = λ k m h.
+    let s = c.in-Fail.step in
+    rw (c.in-Fail.is) (halted_each k m s (keeps_record (line.Fail c.in-Fail.call c.in-Fail.step)) (seen g.D.Disk.image_at g.D.Disk.moment c.args.self.now c.args.pairs.now.items) (seen g.D.Disk.image_at g.D.Disk.moment c.halt_step-in-Fail.new.self c.halt_step-in-Fail.new.pairs.items) h
+    (λ w x. subst (λ (b : Bool). Holds (step_circuit s) (happens w (Halts b s)) (seen g.D.Disk.image_at g.D.Disk.moment c.halt_step-in-Fail.new.self c.halt_step-in-Fail.new.pairs.items)) (keeps_fail c.in-Fail.call s (fail_from_one c.in-Fail.call s (rw (c.in-Fail.is) at c.requires.fits))) (c.in_ok-bit-in-Fail.ensures.own w x))
+    c.in_ok-bit-in-Fail.ensures.others)
+
+pub returns-in_ok-bit-in-Fail-clause-slot : goal.returns-in_ok-bit-in-Fail-clause-slot
+returns-in_ok-bit-in-Fail-clause-slot g c = rw (c.in-Fail.is) (record { here = step_node c.in-Fail.step; named = λ n. refl; slot = c.in_ok-bit-in-Fail.ensures.slot })

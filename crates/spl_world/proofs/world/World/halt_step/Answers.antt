@@ -1,0 +1,75 @@
+use Rattle.std.proofs.Common.{◌≡◌, ◌∙◌, Some, true, ap, sym, subst}
+use Rattle.spl_circuit.specs.Nodes.{NodeId, has_node}
+use Rattle.spl_model.specs.Answers.{bit_of}
+use Rattle.spl_model.specs.Worlds.{step_plan}
+use Rattle.spl_node.specs.Stopping.{keeps}
+use Rattle.spl_sched.specs.Grammar.{step_circuit, step_node}
+use Rattle.spl_world.specs.Disks.{images}
+use Rattle.spl_world.specs.Held.{PickUnarmed}
+use Rattle.spl_world.specs.Views.{ids_of, seen, slot_up}
+use Rattle.spl_world.proofs.Cutting.{bit_down, bit_up, down_not_torn, seat_at, slot_down}
+use Rattle.spl_world.proofs.Picking.{stops_none}
+use Rattle.spl_world.proofs.Powering.{halt_none, stop_none}
+use Rattle.spl_world.proofs.Slots.{same_at}
+use Rattle.spl_world.proofs.Steps.{node_known}
+use Rattle.spl_world.proofs.world.World.halt_step.Goals as goal
+
+pub slot-slot-requires : goal.slot-slot-requires
+slot-slot-requires g c = record { known = subst (λ (n : NodeId). has_node (ids_of c.args.self.now) n ≡ true) (sym c.node.ensures) (node_known (ids_of c.args.self.now) c.args.step.now c.requires.known) }
+
+-- ---- a node that is down
+
+pub returns-then-not-is_up-clause-bit : goal.returns-then-not-is_up-clause-bit
+returns-then-not-is_up-clause-bit g c = λ m h.
+    let s = c.args.step.now in
+    sym (bit_down m s (keeps c.args.stopping) (sym (c.is_up.ensures.world (images g.D.Disk.image_at g.D.Disk.moment c.args.pairs.now.items) (step_circuit s) m (step_node s) h (c.slot-slot.ensures.at ∙ ap Some c.node.ensures)) ∙ c.if-not-is_up.true))
+
+pub returns-then-not-is_up-clause-own : goal.returns-then-not-is_up-clause-own
+returns-then-not-is_up-clause-own g c = λ m h.
+    let s = c.args.step.now in
+    halt_none (step_circuit s) m (seen g.D.Disk.image_at g.D.Disk.moment c.args.self.now c.args.pairs.now.items) s (keeps c.args.stopping) h (sym (c.is_up.ensures.world (images g.D.Disk.image_at g.D.Disk.moment c.args.pairs.now.items) (step_circuit s) m (step_node s) h (c.slot-slot.ensures.at ∙ ap Some c.node.ensures)) ∙ c.if-not-is_up.true)
+
+pub returns-then-not-is_up-clause-others : goal.returns-then-not-is_up-clause-others
+returns-then-not-is_up-clause-others g c = λ d m off h.
+    let s = c.args.step.now in
+    stop_none d m (seen g.D.Disk.image_at g.D.Disk.moment c.args.self.now c.args.pairs.now.items) (step_node s) h (sym (c.is_up.ensures.world (images g.D.Disk.image_at g.D.Disk.moment c.args.pairs.now.items) d m (step_node s) h (c.slot-slot.ensures.at ∙ ap Some c.node.ensures)) ∙ c.if-not-is_up.true)
+
+pub returns-then-not-is_up-clause-slot : goal.returns-then-not-is_up-clause-slot
+returns-then-not-is_up-clause-slot g c =
+    let s = c.args.step.now in
+    let ss = c.args.self.now.slots.items in
+    let at = c.slot-slot.ensures.at ∙ ap Some c.node.ensures in
+    let z = seat_at ss c.slot-slot.result (step_node s) at in
+    record {
+      index = c.slot-slot.result;
+      slot = z.0;
+      there = z.1;
+      id_is = same_at ss c.slot-slot.result z.0 (step_node s) z.1 at;
+      stop = stops_none (PickUnarmed (Some c.args.stopping)) (slot_up z.0) z.0.position _ (slot_down ss c.slot-slot.result z.0 z.1 (c.is_up.ensures.down c.if-not-is_up.true));
+      risen = λ worlds h torn. absurd (down_not_torn (worlds (step_circuit s)) c.args.stopping s (sym (c.is_up.ensures.world (images g.D.Disk.image_at g.D.Disk.moment c.args.pairs.now.items) (step_circuit s) (worlds (step_circuit s)) (step_node s) (h (step_circuit s)) at) ∙ c.if-not-is_up.true) torn);
+    }
+
+-- ---- one that is up
+
+pub returns-clause-bit : goal.returns-clause-bit
+returns-clause-bit g c = λ m h.
+    let s = c.args.step.now in
+    let kept = keeps c.args.stopping in
+    let xs = (step_plan m s).changes in
+    let up = sym (c.is_up.ensures.world (images g.D.Disk.image_at g.D.Disk.moment c.args.pairs.now.items) (step_circuit s) m (step_node s) h (c.slot-slot.ensures.at ∙ ap Some c.node.ensures)) ∙ c.if-not-is_up.false in
+    ap Some (c.bit.ensures xs (c.in_ok-changes.ensures.tells m h) ∙ ap (λ b. bit_of b xs) c.keeps.ensures) ∙ sym (bit_up m s kept up)
+
+pub returns-clause-slot : goal.returns-clause-slot
+returns-clause-slot g c =
+    let s = c.args.step.now in
+    let ss = c.args.self.now.slots.items in
+    let at = c.slot-slot.ensures.at ∙ ap Some c.node.ensures in
+    let z = seat_at ss c.slot-slot.result (step_node s) at in
+    record {
+      index = c.slot-slot.result;
+      slot = z.0;
+      there = z.1;
+      id_is = same_at ss c.slot-slot.result z.0 (step_node s) z.1 at;
+      stop = c.in_ok-changes.ensures.picks z.0 z.1;
+      risen = λ worlds h torn. c.in_ok-changes.ensures.risen z.0 (worlds (step_circuit s)) z.1 (h (step_circuit s)) torn;
+    }

@@ -1,0 +1,150 @@
+use Rattle.std.proofs.Common.{◌≡◌, ◌∙◌, arith, ap, refl, sym, subst, length, Some, slice_set, true≢false}
+use Rattle.std.proofs.lemmas.Option.{slice_get_read}
+use Rattle.std.specs.Option.{option_copied}
+use Rattle.spl_circuit.specs.Nodes.{NodeId}
+use Rattle.spl_model.specs.Worlds.{Halts, Stops, happens}
+use Rattle.spl_node.specs.Stopping.{cells_stopped, event_changes, has_changes, keeps}
+use Rattle.spl_rules.specs.Changes.{stopped_cell}
+use Rattle.spl_world.specs.Disks.{RoseAt, bench, images, images_of}
+use Rattle.spl_world.specs.Held.{PickUnarmed, StopsAt}
+use Rattle.spl_world.specs.Kept.{NodeView}
+use Rattle.spl_world.specs.Views.{Holds, Nodes, node_view, seen, slot_id, slot_up}
+use Rattle.spl_world.specs.declared.slot.Slot.{Slot}
+use Rattle.spl_world.proofs.Cutting.{changes_here, halted_here, stopped_else}
+use Rattle.spl_world.proofs.Handling.{pair_below, own_stands, own_view, own_sits, own_by}
+use Rattle.spl_world.proofs.Picking.{one_forgets, one_rose, one_stops}
+use Rattle.spl_world.proofs.Powering.{halt_holds, stop_holds}
+use Rattle.spl_world.proofs.Results.{at_ok, ok_both, when_ok}
+use Rattle.spl_world.proofs.Slots.{id_at, same_at, same_ids, same_places}
+use Rattle.spl_world.proofs.Up.{is_there_up}
+use Rattle.spl_world.proofs.world.World.stop_in_at.Goals as goal
+
+pub index_mut-disks-requires : goal.index_mut-disks-requires
+index_mut-disks-requires g c =
+    let ss = c.args.self.now.slots.items in
+    let there = slice_get_read ss (length ss) c.args.slot c.index_mut-here.result.now refl c.requires.below c.index_mut-here.ensures.value in
+    let below = pair_below g.D.Disk.image_at g.D.Disk.moment ss c.args.pairs.now.items c.args.slot c.index_mut-here.result.now c.requires.sits there c.position.result c.position.ensures in
+    omega (arith, below, c.args.pairs.now.ok.0)
+
+pub stop_in-requires : goal.stop_in-requires
+stop_in-requires g c =
+    let ss = c.args.self.now.slots.items in
+    let ps = c.args.pairs.now.items in
+    let s = c.index_mut-here.result.now in
+    let there = slice_get_read ss (length ss) c.args.slot s refl c.requires.below c.index_mut-here.ensures.value in
+    let below = pair_below g.D.Disk.image_at g.D.Disk.moment ss ps c.args.slot s c.requires.sits there c.position.result c.position.ensures in
+    let pair = slice_get_read ps (length ps) c.position.result c.index_mut-disks.result.now refl below c.index_mut-disks.ensures.value in
+    record { up = is_there_up ss c.args.slot s there c.requires.up; own = c.requires.own (slot_id s) (id_at ss c.args.slot s there); calls = c.requires.calls; stands = own_stands g.D.Disk.image_at g.D.Disk.moment ss ps c.args.slot s c.requires.sits there c.position.result c.position.ensures c.index_mut-disks.result.now pair }
+
+pub returns-clause-ids : goal.returns-clause-ids
+returns-clause-ids g c =
+    let ss = c.args.self.now.slots.items in
+    same_ids ss c.args.slot c.index_mut-here.result.now c.stop_in.new.self (slice_get_read ss (length ss) c.args.slot c.index_mut-here.result.now refl c.requires.below c.index_mut-here.ensures.value) c.stop_in.ensures.id
+
+pub returns-clause-places : goal.returns-clause-places
+returns-clause-places g c =
+    let ss = c.args.self.now.slots.items in
+    same_places ss c.args.slot c.index_mut-here.result.now c.stop_in.new.self (slice_get_read ss (length ss) c.args.slot c.index_mut-here.result.now refl c.requires.below c.index_mut-here.ensures.value) c.stop_in.ensures.position
+
+pub returns-clause-sits : goal.returns-clause-sits
+returns-clause-sits g c =
+    let ss = c.args.self.now.slots.items in
+    let ps = c.args.pairs.now.items in
+    let s = c.index_mut-here.result.now in
+    let there = slice_get_read ss (length ss) c.args.slot s refl c.requires.below c.index_mut-here.ensures.value in
+    let below = pair_below g.D.Disk.image_at g.D.Disk.moment ss ps c.args.slot s c.requires.sits there c.position.result c.position.ensures in
+    let pair = slice_get_read ps (length ps) c.position.result c.index_mut-disks.result.now refl below c.index_mut-disks.ensures.value in
+    at_ok c.stop_in.result (own_sits g.D.Disk.image_at g.D.Disk.moment ss ps c.args.slot s c.requires.sits there c.position.result c.position.ensures c.index_mut-disks.result.now pair c.stop_in.new.self c.stop_in.new.disks c.stop_in.ensures.position) c.stop_in.ensures.stands
+
+pub returns-clause-tells : goal.returns-clause-tells
+returns-clause-tells g c = λ m step at about is h.
+    let ss = c.args.self.now.slots.items in
+    let ps = c.args.pairs.now.items in
+    let s = c.index_mut-here.result.now in
+    let there = slice_get_read ss (length ss) c.args.slot s refl c.requires.below c.index_mut-here.ensures.value in
+    let below = pair_below g.D.Disk.image_at g.D.Disk.moment ss ps c.args.slot s c.requires.sits there c.position.result c.position.ensures in
+    let pair = slice_get_read ps (length ps) c.position.result c.index_mut-disks.result.now refl below c.index_mut-disks.ensures.value in
+    let view = own_view g.D.Disk.image_at g.D.Disk.moment ss ps c.args.slot s c.requires.sits there c.position.result c.position.ensures c.index_mut-disks.result.now pair in
+    let nodes = seen g.D.Disk.image_at g.D.Disk.moment c.args.self.now ps in
+    let id = same_at ss c.args.slot s _ there at in
+    when_ok c.stop_in.result (λ b told. told ∙ ap has_changes (ap (λ (v : NodeView). event_changes (slot_id s) v.cells c.args.circuit.now (option_copied c.args.event)) (sym view)
+    ∙ changes_here nodes c.args.slot s m step c.args.circuit.now (option_copied c.args.event) h there id about is)) c.stop_in.ensures.tells
+
+pub returns-clause-own : goal.returns-clause-own
+returns-clause-own g c = λ m step at about is h.
+    let ss = c.args.self.now.slots.items in
+    let ps = c.args.pairs.now.items in
+    let s = c.index_mut-here.result.now in
+    let there = slice_get_read ss (length ss) c.args.slot s refl c.requires.below c.index_mut-here.ensures.value in
+    let below = pair_below g.D.Disk.image_at g.D.Disk.moment ss ps c.args.slot s c.requires.sits there c.position.result c.position.ensures in
+    let pair = slice_get_read ps (length ps) c.position.result c.index_mut-disks.result.now refl below c.index_mut-disks.ensures.value in
+    let view = own_view g.D.Disk.image_at g.D.Disk.moment ss ps c.args.slot s c.requires.sits there c.position.result c.position.ensures c.index_mut-disks.result.now pair in
+    let nodes = seen g.D.Disk.image_at g.D.Disk.moment c.args.self.now ps in
+    let r = images_of g.D.Disk.image_at g.D.Disk.moment c.stop_in.new.disks in
+    let id = same_at ss c.args.slot s _ there at in
+    let kept = keeps c.args.stopping in
+    ok_both c.stop_in.result (λ down stopped. own_by g.D.Disk.image_at g.D.Disk.moment ss ps c.args.slot s c.requires.sits there c.position.result c.position.ensures c.index_mut-disks.result.now pair c.stop_in.new.self c.stop_in.new.disks (λ (xs : Nodes). Holds c.args.circuit.now (happens m (Halts kept step)) xs)
+    (halt_holds nodes c.args.slot s c.stop_in.new.self r c.requires.sits there c.stop_in.ensures.position c.stop_in.ensures.id c.args.circuit.now m step kept (sym id) h (is_there_up ss c.args.slot s there c.requires.up) down
+    (stopped c.args.circuit.now ∙ ap (λ (v : NodeView). cells_stopped (slot_id s) v.cells c.args.circuit.now (event_changes (slot_id s) v.cells c.args.circuit.now (option_copied c.args.event)) kept c.args.circuit.now) (sym view)
+    ∙ halted_here nodes c.args.slot s m step c.args.circuit.now (option_copied c.args.event) h there id about is kept) c.stop_in.ensures.posts))
+    c.stop_in.ensures.down c.stop_in.ensures.stopped
+
+pub returns-clause-others : goal.returns-clause-others
+returns-clause-others g c = λ d n m at off h.
+    let ss = c.args.self.now.slots.items in
+    let ps = c.args.pairs.now.items in
+    let s = c.index_mut-here.result.now in
+    let there = slice_get_read ss (length ss) c.args.slot s refl c.requires.below c.index_mut-here.ensures.value in
+    let below = pair_below g.D.Disk.image_at g.D.Disk.moment ss ps c.args.slot s c.requires.sits there c.position.result c.position.ensures in
+    let pair = slice_get_read ps (length ps) c.position.result c.index_mut-disks.result.now refl below c.index_mut-disks.ensures.value in
+    let view = own_view g.D.Disk.image_at g.D.Disk.moment ss ps c.args.slot s c.requires.sits there c.position.result c.position.ensures c.index_mut-disks.result.now pair in
+    let nodes = seen g.D.Disk.image_at g.D.Disk.moment c.args.self.now ps in
+    let r = images_of g.D.Disk.image_at g.D.Disk.moment c.stop_in.new.disks in
+    let same = same_at ss c.args.slot s n there at in
+    let cells = (node_view s (images_of g.D.Disk.image_at g.D.Disk.moment c.index_mut-disks.result.now)).cells in
+    ok_both c.stop_in.result (λ down stopped. subst (λ (i : NodeId). Holds d (happens m (Stops i)) (record { slots = slice_set ss c.args.slot c.stop_in.new.self; disks = images g.D.Disk.image_at g.D.Disk.moment (slice_set ps c.position.result c.stop_in.new.disks) })) same
+    (own_by g.D.Disk.image_at g.D.Disk.moment ss ps c.args.slot s c.requires.sits there c.position.result c.position.ensures c.index_mut-disks.result.now pair c.stop_in.new.self c.stop_in.new.disks (λ (xs : Nodes). Holds d (happens m (Stops (slot_id s))) xs)
+    (stop_holds nodes c.args.slot s c.stop_in.new.self r c.requires.sits there c.stop_in.ensures.position c.stop_in.ensures.id d m h (is_there_up ss c.args.slot s there c.requires.up) down
+    (stopped d ∙ stopped_else (slot_id s) cells c.args.circuit.now (event_changes (slot_id s) cells c.args.circuit.now (option_copied c.args.event)) (keeps c.args.stopping) d off ∙ ap (λ (v : NodeView). stopped_cell (v.cells d)) (sym view)) c.stop_in.ensures.posts)))
+    c.stop_in.ensures.down c.stop_in.ensures.stopped
+
+pub returns-clause-picks : goal.returns-clause-picks
+returns-clause-picks g c = λ t at.
+    let ss = c.args.self.now.slots.items in
+    let ps = c.args.pairs.now.items in
+    let s = c.index_mut-here.result.now in
+    let there = slice_get_read ss (length ss) c.args.slot s refl c.requires.below c.index_mut-here.ensures.value in
+    let below = pair_below g.D.Disk.image_at g.D.Disk.moment ss ps c.args.slot s c.requires.sits there c.position.result c.position.ensures in
+    let pair = slice_get_read ps (length ps) c.position.result c.index_mut-disks.result.now refl below c.index_mut-disks.ensures.value in
+    let up = is_there_up ss c.args.slot s there c.requires.up in
+    let same : s ≡ t = (let e : Some s ≡ Some t = sym there ∙ at in cc) in
+    at_ok c.stop_in.result (λ picked. subst (λ (u : Slot). StopsAt (PickUnarmed (Some c.args.stopping)) (slot_up u) u.position (bench g.D.Disk.image_at g.D.Disk.moment g.D.Disk.faults g.D.Disk.armed g.D.Disk.picks ps) (bench g.D.Disk.image_at g.D.Disk.moment g.D.Disk.faults g.D.Disk.armed g.D.Disk.picks (slice_set ps c.position.result c.stop_in.new.disks))) same
+    (one_stops g.D.Disk.image_at g.D.Disk.moment g.D.Disk.faults g.D.Disk.armed g.D.Disk.picks ps c.position.result c.index_mut-disks.result.now c.stop_in.new.disks pair (PickUnarmed (Some c.args.stopping)) (slot_up s) s.position c.position.ensures
+    (λ u off. picked) (λ down. absurd (true≢false (sym up ∙ down))))) c.stop_in.ensures.picks
+
+pub returns-clause-risen : goal.returns-clause-risen
+returns-clause-risen g c = λ t m step here at about is h.
+    let ss = c.args.self.now.slots.items in
+    let ps = c.args.pairs.now.items in
+    let s = c.index_mut-here.result.now in
+    let there = slice_get_read ss (length ss) c.args.slot s refl c.requires.below c.index_mut-here.ensures.value in
+    let below = pair_below g.D.Disk.image_at g.D.Disk.moment ss ps c.args.slot s c.requires.sits there c.position.result c.position.ensures in
+    let pair = slice_get_read ps (length ps) c.position.result c.index_mut-disks.result.now refl below c.index_mut-disks.ensures.value in
+    let view = own_view g.D.Disk.image_at g.D.Disk.moment ss ps c.args.slot s c.requires.sits there c.position.result c.position.ensures c.index_mut-disks.result.now pair in
+    let nodes = seen g.D.Disk.image_at g.D.Disk.moment c.args.self.now ps in
+    let id = same_at ss c.args.slot s _ there at in
+    let same : s ≡ t = (let e : Some s ≡ Some t = sym there ∙ here in cc) in
+    let changes = ap (λ (v : NodeView). event_changes (slot_id s) v.cells c.args.circuit.now (option_copied c.args.event)) (sym view) ∙ changes_here nodes c.args.slot s m step c.args.circuit.now (option_copied c.args.event) h there id about is in
+    at_ok c.stop_in.result (λ rose torn. subst (λ (u : Slot). RoseAt u.position (bench g.D.Disk.image_at g.D.Disk.moment g.D.Disk.faults g.D.Disk.armed g.D.Disk.picks ps) (bench g.D.Disk.image_at g.D.Disk.moment g.D.Disk.faults g.D.Disk.armed g.D.Disk.picks (slice_set ps c.position.result c.stop_in.new.disks))) same
+    (one_rose g.D.Disk.image_at g.D.Disk.moment g.D.Disk.faults g.D.Disk.armed g.D.Disk.picks ps c.position.result c.index_mut-disks.result.now c.stop_in.new.disks pair s.position c.position.ensures
+    (rose (λ none. torn.1 (sym changes ∙ none)) torn.0))) c.stop_in.ensures.risen
+
+pub returns-clause-onward : goal.returns-clause-onward
+returns-clause-onward g c =
+    let ss = c.args.self.now.slots.items in
+    let ps = c.args.pairs.now.items in
+    let s = c.index_mut-here.result.now in
+    let there = slice_get_read ss (length ss) c.args.slot s refl c.requires.below c.index_mut-here.ensures.value in
+    let below = pair_below g.D.Disk.image_at g.D.Disk.moment ss ps c.args.slot s c.requires.sits there c.position.result c.position.ensures in
+    let pair = slice_get_read ps (length ps) c.position.result c.index_mut-disks.result.now refl below c.index_mut-disks.ensures.value in
+    one_forgets g.D.Disk.image_at g.D.Disk.moment g.D.Disk.faults g.D.Disk.armed g.D.Disk.picks ps c.position.result c.index_mut-disks.result.now c.stop_in.new.disks pair c.stop_in.ensures.first_stays c.stop_in.ensures.second_stays

@@ -1,0 +1,177 @@
+//! Nodes that stop in an event.
+ghost use Rattle.std.specs.Prelude.{◌≡◌, ◌<◌, List, Some, true, false, length, slice_get, IfOk, IfSome, OnOk};
+ghost use Rattle.std.specs.List.{list_all};
+ghost use Rattle.std.specs.Option.{option_copied};
+ghost use Rattle.std.specs.Str.{bytes_eq};
+ghost use Rattle.spl_circuit.specs.Nodes.{NodeId as Id, has_node};
+ghost use Rattle.spl_model.specs.Answers.{bit_of};
+ghost use Rattle.spl_model.specs.Outcomes.{opens};
+ghost use Rattle.spl_model.specs.Worlds.{World as CircuitWorld, Halts, Stops, happens, site_at, step_plan};
+ghost use Rattle.spl_node.specs.Stopping.{IsStopping, has_changes, keeps};
+ghost use Rattle.spl_rules.specs.Valid.{IsFor};
+ghost use Rattle.spl_sched.specs.Grammar.{is_step, step_circuit, step_node, step_nodes};
+ghost use Rattle.spl_wire.specs.declared.change.Change.{Change};
+ghost use Rattle.spl_world.specs.Disks.{NoneForgotten, RoseAt, bench};
+ghost use Rattle.spl_world.specs.Halts.{IsEventOf, bit_in};
+ghost use Rattle.spl_world.specs.Held.{IsTornBy, PickUnarmed, StopsAt, StopsSlot};
+ghost use Rattle.spl_world.specs.Views.{Holds, IsAt, IsUp, Sits, ids_of, places_of, seen, slot_id, slot_up};
+ghost use Rattle.spl_world.specs.declared.slot.Slot.{Slot as Seat};
+
+use crate::world::World;
+use spl_base::CircuitId;
+use spl_edge::{Fill, Pair, StopDisk};
+use spl_node::Stopping;
+use spl_sched::Step;
+use spl_wire::{Bit, Event};
+use std::alloc::{AllocError, Global};
+
+// Whether a disk keeps a gate open that was written and not synced.
+fn opens(fill: Fill) -> bool
+    ensures { result ≡ opens fill }
+{
+    match fill {
+        Fill::Old => false,
+        Fill::New => true,
+        Fill::Byte(byte) => byte == 1,
+    }
+}
+
+// Whether the disks have the record of an event whose node stopped so.
+fn keeps(stopping: Stopping) -> bool
+    ensures { result ≡ keeps stopping }
+{
+    match stopping {
+        Stopping::Cut { calls, fill } => calls >= 4 || calls == 3 && opens(fill),
+        Stopping::Fail { call } => call >= 5,
+    }
+}
+
+// What became of the record of an event, by whether it is kept and whether the event has changes.
+fn bit(kept: bool, changes: bool) -> Bit
+    ensures { (xs : List Change) → changes ≡ has_changes xs → result ≡ bit_of kept xs }
+{
+    match (changes, kept) {
+        (false, _) => Bit::Nothing,
+        (true, true) => Bit::Kept,
+        (true, false) => Bit::Lost,
+    }
+}
+
+impl World {
+    // The node of this index goes down in an event at the cell of a circuit, or in none. Answers
+    // whether the event has changes.
+    fn stop_in_at<D: StopDisk>(
+        &mut self,
+        alloc: Global,
+        pairs: &mut Vec<Pair<D>>,
+        slot: usize,
+        circuit: &CircuitId,
+        event: Option<&Event>,
+        stopping: Stopping,
+    ) -> Result<bool, AllocError>
+        requires below { slot < length self.old.slots.items }
+        requires up { IsUp self.old slot }
+        requires own { (n : Id) → IsAt self.old slot n → IfSome (option_copied event) (IsFor (site_at n circuit.now)) }
+        requires calls { IsStopping stopping }
+        requires sits { Sits (seen D.image_at D.moment self.old pairs.old.items) }
+        ensures ids { ids_of self.new ≡ ids_of self.old }
+        ensures places { places_of self.new ≡ places_of self.old }
+        ensures stops { self.new.stops ≡ self.old.stops }
+        ensures events { self.new.events ≡ self.old.events }
+        ensures tells { (m : CircuitWorld) (s : Step) → IsAt self.old slot (step_node s) → step_circuit s ≡ circuit.now → IsEventOf (option_copied event.entry) m s → Holds circuit.now m (seen D.image_at D.moment self.old pairs.old.items) → IfOk result (λ b. b ≡ has_changes (step_plan m s).changes) }
+        ensures own { (m : CircuitWorld) (s : Step) → IsAt self.old slot (step_node s) → step_circuit s ≡ circuit.now → IsEventOf (option_copied event.entry) m s → Holds circuit.now m (seen D.image_at D.moment self.old pairs.old.items) → OnOk result (Holds circuit.now (happens m (Halts (keeps stopping) s)) (seen D.image_at D.moment self.new pairs.new.items)) }
+        ensures others { (d n : Id) (m : CircuitWorld) → IsAt self.old slot n → bytes_eq circuit.now d ≡ false → Holds d m (seen D.image_at D.moment self.old pairs.old.items) → OnOk result (Holds d (happens m (Stops n)) (seen D.image_at D.moment self.new pairs.new.items)) }
+        ensures sits { OnOk result (Sits (seen D.image_at D.moment self.new pairs.new.items)) }
+        ensures picks { (t : Seat) → slice_get self.old.slots.items slot ≡ Some t → OnOk result (StopsAt (PickUnarmed (Some stopping)) (slot_up t) t.position (bench D.image_at D.moment D.faults D.armed D.picks pairs.old.items) (bench D.image_at D.moment D.faults D.armed D.picks pairs.new.items)) }
+        ensures risen { (t : Seat) (m : CircuitWorld) (s : Step) → slice_get self.old.slots.items slot ≡ Some t → IsAt self.old slot (step_node s) → step_circuit s ≡ circuit.now → IsEventOf (option_copied event.entry) m s → Holds circuit.now m (seen D.image_at D.moment self.old pairs.old.items) → OnOk result (IsTornBy m stopping s → RoseAt t.position (bench D.image_at D.moment D.faults D.armed D.picks pairs.old.items) (bench D.image_at D.moment D.faults D.armed D.picks pairs.new.items)) }
+        ensures onward { NoneForgotten (bench D.image_at D.moment D.faults D.armed D.picks pairs.old.items) (bench D.image_at D.moment D.faults D.armed D.picks pairs.new.items) }
+    {
+        let here = &mut self.slots[slot];
+        let disks = &mut pairs[here.position()];
+        here.stop_in(alloc, disks, circuit, event, stopping)
+    }
+
+    // The node of this index, at which a step takes place, goes down in it. Answers whether the step
+    // has changes.
+    fn stop_in_step<D: StopDisk>(
+        &mut self,
+        alloc: Global,
+        pairs: &mut Vec<Pair<D>>,
+        slot: usize,
+        step: &Step,
+        stopping: Stopping,
+    ) -> Result<bool, AllocError>
+        requires below { slot < length self.old.slots.items }
+        requires at { IsAt self.old slot (step_node step.now) }
+        requires up { IsUp self.old slot }
+        requires known { list_all (has_node (ids_of self.old)) (step_nodes step.now) ≡ true }
+        requires fits { is_step step.now ≡ true }
+        requires calls { IsStopping stopping }
+        requires sits { Sits (seen D.image_at D.moment self.old pairs.old.items) }
+        ensures ids { ids_of self.new ≡ ids_of self.old }
+        ensures places { places_of self.new ≡ places_of self.old }
+        ensures stops { self.new.stops ≡ self.old.stops }
+        ensures events { self.new.events ≡ self.old.events }
+        ensures tells { (m : CircuitWorld) → Holds (step_circuit step.now) m (seen D.image_at D.moment self.old pairs.old.items) → IfOk result (λ b. b ≡ has_changes (step_plan m step.now).changes) }
+        ensures own { (m : CircuitWorld) → Holds (step_circuit step.now) m (seen D.image_at D.moment self.old pairs.old.items) → OnOk result (Holds (step_circuit step.now) (happens m (Halts (keeps stopping) step.now)) (seen D.image_at D.moment self.new pairs.new.items)) }
+        ensures others { (d : Id) (m : CircuitWorld) → bytes_eq (step_circuit step.now) d ≡ false → Holds d m (seen D.image_at D.moment self.old pairs.old.items) → OnOk result (Holds d (happens m (Stops (step_node step.now))) (seen D.image_at D.moment self.new pairs.new.items)) }
+        ensures sits { OnOk result (Sits (seen D.image_at D.moment self.new pairs.new.items)) }
+        ensures picks { (t : Seat) → slice_get self.old.slots.items slot ≡ Some t → OnOk result (StopsAt (PickUnarmed (Some stopping)) (slot_up t) t.position (bench D.image_at D.moment D.faults D.armed D.picks pairs.old.items) (bench D.image_at D.moment D.faults D.armed D.picks pairs.new.items)) }
+        ensures risen { (t : Seat) (m : CircuitWorld) → slice_get self.old.slots.items slot ≡ Some t → Holds (step_circuit step.now) m (seen D.image_at D.moment self.old pairs.old.items) → OnOk result (IsTornBy m stopping step.now → RoseAt t.position (bench D.image_at D.moment D.faults D.armed D.picks pairs.old.items) (bench D.image_at D.moment D.faults D.armed D.picks pairs.new.items)) }
+        ensures onward { NoneForgotten (bench D.image_at D.moment D.faults D.armed D.picks pairs.old.items) (bench D.image_at D.moment D.faults D.armed D.picks pairs.new.items) }
+    {
+        match step {
+            Step::At { circuit, event, .. } => {
+                self.stop_in_at(alloc, pairs, slot, circuit, Some(event), stopping)
+            }
+            Step::Deliver {
+                from,
+                circuit,
+                number,
+                ..
+            } => {
+                let sender = self.slot(from);
+                let index = (*number - 1) as usize;
+                let delivery = self.delivery(alloc, sender, slot, circuit, index)?;
+                match delivery {
+                    Some(event) => {
+                        self.stop_in_at(alloc, pairs, slot, circuit, Some(&event), stopping)
+                    }
+                    None => self.stop_in_at(alloc, pairs, slot, circuit, None, stopping),
+                }
+            }
+        }
+    }
+
+    // The node of a step goes down in it. Answers what became of its record; None where the node was
+    // down.
+    pub(crate) fn halt_step<D: StopDisk>(
+        &mut self,
+        alloc: Global,
+        pairs: &mut Vec<Pair<D>>,
+        step: &Step,
+        stopping: Stopping,
+    ) -> Result<Option<Bit>, AllocError>
+        requires known { list_all (has_node (ids_of self.old)) (step_nodes step.now) ≡ true }
+        requires fits { is_step step.now ≡ true }
+        requires calls { IsStopping stopping }
+        requires sits { Sits (seen D.image_at D.moment self.old pairs.old.items) }
+        ensures ids { ids_of self.new ≡ ids_of self.old }
+        ensures places { places_of self.new ≡ places_of self.old }
+        ensures stops { self.new.stops ≡ self.old.stops }
+        ensures events { self.new.events ≡ self.old.events }
+        ensures bit { (m : CircuitWorld) → Holds (step_circuit step.now) m (seen D.image_at D.moment self.old pairs.old.items) → IfOk result (λ b. b ≡ bit_in m step.now (keeps stopping)) }
+        ensures own { (m : CircuitWorld) → Holds (step_circuit step.now) m (seen D.image_at D.moment self.old pairs.old.items) → OnOk result (Holds (step_circuit step.now) (happens m (Halts (keeps stopping) step.now)) (seen D.image_at D.moment self.new pairs.new.items)) }
+        ensures others { (d : Id) (m : CircuitWorld) → bytes_eq (step_circuit step.now) d ≡ false → Holds d m (seen D.image_at D.moment self.old pairs.old.items) → OnOk result (Holds d (happens m (Stops (step_node step.now))) (seen D.image_at D.moment self.new pairs.new.items)) }
+        ensures sits { OnOk result (Sits (seen D.image_at D.moment self.new pairs.new.items)) }
+        ensures slot { OnOk result (StopsSlot (step_node step.now) (Some stopping) (λ worlds. IsTornBy (worlds (step_circuit step.now)) stopping step.now) (seen D.image_at D.moment self.old pairs.old.items) (bench D.image_at D.moment D.faults D.armed D.picks pairs.old.items) (bench D.image_at D.moment D.faults D.armed D.picks pairs.new.items)) }
+        ensures onward { NoneForgotten (bench D.image_at D.moment D.faults D.armed D.picks pairs.old.items) (bench D.image_at D.moment D.faults D.armed D.picks pairs.new.items) }
+    {
+        let slot = self.slot(&step.node());
+        if !self.is_up(slot) {
+            return Ok(None);
+        }
+        let changes = self.stop_in_step(alloc, pairs, slot, step, stopping)?;
+        Ok(Some(bit(keeps(stopping), changes)))
+    }
+}
