@@ -29,3 +29,6 @@ pub mod HoldingNow
 pub mod HoldingStop
 pub mod HoldingSeats
 pub mod HoldingLines
+mod Ending
+mod EndingParts
+mod EndingLines

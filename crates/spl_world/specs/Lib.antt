@@ -5,3 +5,4 @@ pub mod Calms
 pub mod Counts
 pub mod Lines
 pub mod Held
+pub mod Ended

@@ -1,5 +1,5 @@
 //! A line of a schedule in the world.
-ghost use Rattle.std.specs.Prelude.{◌≡◌, ◌++◌, ◌∷◌, [], ℕ, ◌<◌, ◌≤◌, List, true, false, IsTrue, IfOk, OnOk, OnErr, IsErrOf};
+ghost use Rattle.std.specs.Prelude.{◌≡◌, ◌++◌, ◌∷◌, [], ℕ, ◌<◌, ◌≤◌, List, true, false, IsTrue, IfErr, IfOk, OnOk, OnErr, IsErrOf};
 ghost use Rattle.std.specs.List.{list_all};
 ghost use Rattle.spl_circuit.specs.Nodes.{has_node};
 ghost use Rattle.spl_model.specs.Projection.{Ran};
@@ -10,6 +10,8 @@ ghost use Rattle.spl_model.specs.Answers.{answer_to};
 ghost use Rattle.spl_model.specs.Counts.{events_of};
 ghost use Rattle.spl_world.specs.Lines.{steps};
 ghost use Rattle.spl_world.specs.Disks.{LeavesDisks, bench, images};
+ghost use Rattle.spl_projection.specs.Whole.{whole_world};
+ghost use Rattle.spl_world.specs.Ended.{EventEnds, LineEnds};
 ghost use Rattle.spl_world.specs.Held.{AllHeld};
 ghost use Rattle.spl_world.specs.Views.{IsPlace, Holds, Moves, Sits, Stands, Stays, places_of, ids_of, is_halted, seen};
 
@@ -42,6 +44,7 @@ impl World {
         ensures disks { LeavesDisks result (bench D.image_at D.moment D.faults D.armed D.picks pairs.old.items) (bench D.image_at D.moment D.faults D.armed D.picks pairs.new.items) }
         ensures place { (slot : ℕ) → IsErrOf result (WorldFault.Disk slot) → IsPlace (places_of self.old) slot }
         ensures few { (which : ℕ) → IsErrOf result (WorldFault.TooMany which) → ⊥ }
+        ensures ended { (m : CircuitWorld) → Holds (step_circuit step.now) m (seen D.image_at D.moment self.old pairs.old.items) → IfErr result (λ e. EventEnds (step_circuit step.now) (step_world m step.now) e (seen D.image_at D.moment self.old pairs.old.items) (images D.image_at D.moment pairs.new.items)) }
     {
         match step {
             Step::At {
@@ -103,6 +106,9 @@ impl World {
         ensures place { (slot : ℕ) → IsErrOf result (WorldFault.Disk slot) → IsPlace (places_of self.old) slot }
         ensures running { OnOk result (is_halted self.new ≡ false) }
         ensures halted { OnErr result (is_halted self.new ≡ true) }
+        // Where it ends with an error, the disks of all nodes hold what the nodes keep at one moment of the line, but for one node
+        // where a disk failed or memory was wanting, and those of that node hold what it keeps at that moment or another.
+        ensures ended { (before : List Ran) → Stands before self.old (images D.image_at D.moment pairs.old.items) → IfErr result (λ e. LineEnds (λ c. whole_world (ids_of self.old) c before) (by_rule line.now) e (ids_of self.old) (places_of self.old) (images D.image_at D.moment pairs.new.items)) }
     {
         let answered = self.run_line(alloc, pairs, line);
         self.events.are_within();
@@ -132,6 +138,7 @@ impl World {
         ensures refused { (why : Refusal) → IfOk result (λ a. a ≡ Answer.Refused why → Stays (seen D.image_at D.moment self.old pairs.old.items) (seen D.image_at D.moment self.new pairs.new.items)) }
         ensures disks { LeavesDisks result (bench D.image_at D.moment D.faults D.armed D.picks pairs.old.items) (bench D.image_at D.moment D.faults D.armed D.picks pairs.new.items) }
         ensures place { (slot : ℕ) → IsErrOf result (WorldFault.Disk slot) → IsPlace (places_of self.old) slot }
+        ensures ended { (before : List Ran) → Stands before self.old (images D.image_at D.moment pairs.old.items) → IfErr result (λ e. LineEnds (λ c. whole_world (ids_of self.old) c before) (by_rule line.now) e (ids_of self.old) (places_of self.old) (images D.image_at D.moment pairs.new.items)) }
     {
         match line {
             Line::Step(step) => {
