@@ -1,5 +1,5 @@
 -- Where a part of a calm ended with an error.
-use Rattle.std.proofs.Common.{◌≡◌, ℕ, zero, suc, ◌+◌, ◌-◌, ◌≤◌, true≢false, Some, List, [], ◌∷◌, ◌++◌, ◌&&◌, append-nil, append_assoc, length, take, drop, slice_get, refl, sym, ap, subst, ◌∙◌, arith}
+use Rattle.std.proofs.Common.{◌≡◌, ℕ, zero, suc, ◌+◌, ◌-◌, ◌≤◌, true, true≢false, Some, List, [], ◌∷◌, ◌++◌, ◌&&◌, append-nil, append_assoc, length, take, drop, slice_get, refl, sym, ap, subst, ◌∙◌, arith}
 use Rattle.std.specs.List.{filter}
 use Rattle.std.proofs.lemmas.List.{take-append-drop}
 use Rattle.std.proofs.lemmas.List.Elements.{filter-append}
@@ -45,7 +45,7 @@ module _ (c : CircuitId) where
   leads_ticks z [] = leads_same z
   leads_ticks z (n ∷ ns) = let y = calming_step z (step.At n c event.Tick) in leads_then z y (ticks c y ns) (leads_step z (step.At n c event.Tick)) (leads_ticks y ns)
 
-  leads_delivers : (z : Calming) (a b : NodeId) (number k : ℕ) → Leads z (delivers c z a b number k)
+  pub leads_delivers : (z : Calming) (a b : NodeId) (number k : ℕ) → Leads z (delivers c z a b number k)
   leads_delivers z a b number zero = leads_same z
   leads_delivers z a b number (suc k) = let y = calming_step z (step.Deliver a b c number) in leads_then z y (delivers c y a b (number + 1) k) (leads_step z (step.Deliver a b c number)) (leads_delivers y a b (number + 1) k)
 
