@@ -1,6 +1,6 @@
 -- Where a line ended with an error.
-use Rattle.std.proofs.Common.{◌≡◌, ◌⊎◌, inl, inr, ℕ, Bool, true, false, true≢false, List, [], ◌∷◌, ◌++◌, slice_get, Option, Some, None, refl, ap, sym, subst, ◌∙◌}
-use Rattle.std.specs.Prelude.{if◌then◌else◌}
+use Rattle.std.proofs.Common.{◌≡◌, ◌⊎◌, inl, inr, ℕ, Bool, true, false, true≢false, List, [], ◌∷◌, ◌++◌, slice_get, Option, Some, None, Result, Ok, Err, refl, ap, sym, subst, ◌∙◌}
+use Rattle.std.specs.Prelude.{IfErr, IsErrOf, if◌then◌else◌}
 use Rattle.std.specs.Str.{bytes_eq}
 use Rattle.spl_circuit.specs.Nodes.{NodeId, CircuitId}
 use Rattle.spl_model.specs.Answers.{occurrences_in}
@@ -22,6 +22,7 @@ use Rattle.spl_world.specs.declared.fault.WorldFault.{WorldFault}
 use Rattle.spl_world.specs.declared.fault.WorldFault.TheVariants.{Disk, NoMemory, TooMany}
 use Rattle.spl_world.specs.declared.slot.Slot.{Slot}
 use Rattle.spl_world.specs.declared.world.World.{World}
+use Rattle.spl_world.proofs.Counting.{failed}
 use Rattle.spl_world.proofs.Ending.{either_as, left_as, left_either, stands_left}
 use Rattle.spl_world.proofs.EndingParts.{leads_then}
 use Rattle.spl_world.proofs.HoldingNow.{IsSlot, slot_there}
@@ -205,3 +206,17 @@ module _ (before : List Ran) (w : World) (was : List Images) (stands : Stands be
     ended_calm l l_is = subst (λ (x : Line). LineEnds own (by_rule x) e (ids_of w) (places_of w) is) (sym l_is)
         (subst (λ (ns : List NodeId). LineEnds own (by_rule (line.Calm c k)) e ns (places_of w) is) ends.ids
         (subst (λ (ks : List ℕ). LineEnds own (by_rule (line.Calm c k)) e (ids_in ends.last) ks is) ends.places calm_at))
+
+-- ---- where the error comes from
+
+pub limit_named : {A : Type 0} (f : WorldFault) (n : ℕ) (ks : List ℕ) → IsErrOf (failed A f) (TooMany n) → (k : ℕ) → f ≡ Disk k → IsPlace ks k
+limit_named f n ks is k q = absurd cc
+
+pub memory_named : (ks : List ℕ) (k : ℕ) → NoMemory ≡ Disk k → IsPlace ks k
+memory_named ks k q = absurd cc
+
+-- a step as it ended
+pub ended_by : {A : Type 0} (before : List Ran) (w : World) (was : List Images) → Stands before w was → (r : Result A WorldFault) (l : Line) (s : Step) (is : List Images) → l ≡ line.Step s → ((k : ℕ) → IsErrOf r (Disk k) → IsPlace (places_of w) k)
+    → IfErr r (λ e. EventEnds (step_circuit s) (step_world (whole_world (ids_of w) (step_circuit s) before) s) e (over w was) is) → IfErr r (λ e. LineEnds (λ c. whole_world (ids_of w) c before) (by_rule l) e (ids_of w) (places_of w) is)
+ended_by before w was stands (Ok a) l s is l_is place h = tt
+ended_by {A} before w was stands (Err e) l s is l_is place h = ended_step before w was stands e (λ k q. place k (ap (failed A) q)) l s is l_is h
