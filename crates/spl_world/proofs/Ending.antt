@@ -4,7 +4,7 @@ use Rattle.std.specs.Prelude.{IsErr, IsErrOf, IsSome, IfErr, IfNone, ifâ—Œthenâ—
 use Rattle.std.specs.Result.{IsErrAnd, IsOkAnd}
 use Rattle.std.specs.Str.{bytes_eq}
 use Rattle.spl_circuit.specs.Nodes.{NodeId, CircuitId}
-use Rattle.spl_edge.specs.Image.{Image, IsSettled, MayLeave}
+use Rattle.spl_edge.specs.Image.{Image, IsSettled}
 use Rattle.spl_edge.specs.declared.bench.Pair.{Pair}
 use Rattle.spl_journal.proofs.Images.{only_settled}
 use Rattle.spl_model.specs.Puts.{put_at-here}
@@ -24,7 +24,7 @@ use Rattle.spl_rules.specs.Plans.{plan_of}
 use Rattle.spl_snapshot.specs.Counting.{IfBoth, IsInTurn, PairLeavesInTurn, pair_records}
 use Rattle.spl_wire.specs.declared.event.Event.{Event}
 use Rattle.spl_world.specs.Disks.{Images, images, images_at, images_of, images_or_none}
-use Rattle.spl_world.specs.Ended.{EventEnds, IsLeftAtOne, LeaveEither, LeaveFor, LeaveNow, cells_in}
+use Rattle.spl_world.specs.Ended.{EventEnds, LeaveEither, LeaveFor, LeaveNow, cells_in}
 use Rattle.spl_world.specs.Kept.{NodeView}
 use Rattle.spl_world.specs.Views.{Holds, Nodes, Sits, node_view, slot_id, slot_ids, view_in}
 use Rattle.spl_world.specs.declared.fault.WorldFault.{WorldFault}
@@ -34,7 +34,6 @@ use Rattle.spl_world.proofs.About.{same_itself}
 use Rattle.spl_world.proofs.Counting.{failed}
 use Rattle.spl_world.proofs.Handling.{disks_are, own_view}
 use Rattle.spl_world.proofs.Pairing.{images_here, images_set, pair_here}
-use Rattle.spl_world.proofs.Sends.{bool_cases}
 use Rattle.spl_world.proofs.Slots.{same_at, set_else, set_here, set_same}
 
 -- ---- two disks

@@ -1,23 +1,22 @@
 -- Where a line ended with an error.
-use Rattle.std.proofs.Common.{◌≡◌, ◌⊎◌, inl, inr, ℕ, Bool, true, false, true≢false, List, [], ◌∷◌, ◌++◌, slice_get, Option, Some, None, Result, Ok, Err, refl, ap, sym, subst, ◌∙◌}
+use Rattle.std.proofs.Common.{◌≡◌, ◌⊎◌, inl, inr, ℕ, Bool, true, false, true≢false, List, [], ◌∷◌, ◌++◌, slice_get, Some, Result, Ok, Err, refl, ap, sym, subst, ◌∙◌}
 use Rattle.std.specs.Prelude.{IfErr, IsErrOf, if◌then◌else◌}
 use Rattle.std.specs.Str.{bytes_eq}
 use Rattle.spl_circuit.specs.Nodes.{NodeId, CircuitId}
 use Rattle.spl_model.specs.Answers.{occurrences_in}
 use Rattle.spl_model.specs.Calm.{Calming, calming, calm}
 use Rattle.spl_model.specs.Outcomes.{by_rule}
-use Rattle.spl_model.specs.Projection.{Ran, names, names_circuit}
-use Rattle.spl_model.specs.Worlds.{World as CircuitWorld, Occurrence, Steps, step_world, occur}
+use Rattle.spl_model.specs.Projection.{Ran, names_circuit}
+use Rattle.spl_model.specs.Worlds.{World as CircuitWorld, Occurrence, Steps, step_world}
 use Rattle.spl_projection.specs.Moments.{AreAtMoment, IsMoment}
 use Rattle.spl_projection.specs.Whole.{whole_world}
-use Rattle.spl_rules.specs.Cells.{Cell}
 use Rattle.spl_sched.specs.Grammar.{circuit_of, step_circuit}
 use Rattle.spl_sched.specs.declared.line.Line.{Line}
 use Rattle.spl_sched.specs.declared.line.Line.TheVariants as line
 use Rattle.spl_sched.specs.declared.line.Step.{Step}
 use Rattle.spl_world.specs.Disks.{Images, images_at}
-use Rattle.spl_world.specs.Ended.{EachAt, EventEnds, IsLeftAtOne, Leads, LeaveEither, LeaveFor, LineEnds, PartEnds, cells_in}
-use Rattle.spl_world.specs.Views.{Holds, IsPlace, Nodes, Sits, Spares, Stands, ids_in, ids_of, over, places_of, slot_id, slot_places, view_in}
+use Rattle.spl_world.specs.Ended.{EachAt, EventEnds, IsLeftAtOne, Leads, LeaveEither, LeaveFor, LineEnds, PartEnds, cells_in, is_calm}
+use Rattle.spl_world.specs.Views.{Holds, IsPlace, Nodes, Sits, Stands, ids_in, ids_of, over, places_of, slot_id, slot_places, view_in}
 use Rattle.spl_world.specs.declared.fault.WorldFault.{WorldFault}
 use Rattle.spl_world.specs.declared.fault.WorldFault.TheVariants.{Disk, NoMemory, TooMany}
 use Rattle.spl_world.specs.declared.slot.Slot.{Slot}
@@ -127,7 +126,7 @@ some_place ks (TooMany which) h = (0, λ k q. cc)
 some_place ks (Disk slot) h = let p = h slot refl in (p.0, λ k q. let same : slot ≡ k = cc in p.1 ∙ ap Some same)
 some_place ks NoMemory h = (0, λ k q. cc)
 
-module _ (own : CircuitId → CircuitWorld) (r : Ran) (e : WorldFault) (xs : Nodes) (worlds : CircuitId → CircuitWorld) (sits : Sits xs) (holds : (d : CircuitId) → Holds d (worlds d) xs) (moment : AreAtMoment own own r (λ d n. (worlds d).at n)) (named : (k : ℕ) → e ≡ Disk k → IsPlace (slot_places xs.slots) k) where
+module _ (own : CircuitId → CircuitWorld) (r : Ran) (e : WorldFault) (xs : Nodes) (worlds : CircuitId → CircuitWorld) (sits : Sits xs) (holds : (d : CircuitId) → Holds d (worlds d) xs) (moment : AreAtMoment own own r (λ d n. (worlds d).at n)) (first : is_calm r.line ≡ false → (d : CircuitId) (n : NodeId) → (worlds d).at n ≡ (own d).at n) (named : (k : ℕ) → e ≡ Disk k → IsPlace (slot_places xs.slots) k) where
   -- the disks hold what the nodes keep
   line_still : LineEnds own r e (ids_in xs) (slot_places xs.slots) xs.disks
   line_still =
@@ -135,6 +134,7 @@ module _ (own : CircuitId → CircuitWorld) (r : Ran) (e : WorldFault) (xs : Nod
       let all = all_left xs worlds sits holds in record {
         cells = λ d n. (worlds d).at n;
         moment = moment;
+        before = first;
         later = λ d n. (worlds d).at n;
         later_moment = moment;
         limit = λ which q. all;
@@ -153,6 +153,7 @@ module _ (own : CircuitId → CircuitWorld) (r : Ran) (e : WorldFault) (xs : Nod
       go (inr one) = record {
         cells = λ d n. (worlds d).at n;
         moment = moment;
+        before = first;
         later = λ d n. (with_world c behind worlds d).at n;
         later_moment = later_moment;
         limit = λ which q. subst (λ (ps : List Images). EachAt (λ i n p. LeaveFor n (λ d. (worlds d).at n) p) (ids_in xs) (slot_places xs.slots) ps) (sym (ends.limit which q)) (all_left xs worlds sits holds);
@@ -170,14 +171,14 @@ module _ (before : List Ran) (w : World) (was : List Images) (stands : Stands be
 
   -- no disk changed
   pub ended_still : (l : Line) (is : List Images) → is ≡ was → LineEnds own (by_rule l) e (ids_of w) (places_of w) is
-  ended_still l is same = subst (λ (ps : List Images). LineEnds own (by_rule l) e (ids_of w) (places_of w) ps) (sym same) (line_still own (by_rule l) e (over w was) own stands.sits stands.each (first_moment own (by_rule l)) named)
+  ended_still l is same = subst (λ (ps : List Images). LineEnds own (by_rule l) e (ids_of w) (places_of w) ps) (sym same) (line_still own (by_rule l) e (over w was) own stands.sits stands.each (first_moment own (by_rule l)) (λ q d n. refl) named)
 
   pub ended_step : (l : Line) (s : Step) (is : List Images) → l ≡ line.Step s → EventEnds (step_circuit s) (step_world (own (step_circuit s)) s) e (over w was) is → LineEnds own (by_rule l) e (ids_of w) (places_of w) is
   ended_step l s is l_is ends =
       let c = step_circuit s in
       let m = step_world (own c) s in
       subst (λ (x : Line). LineEnds own (by_rule x) e (ids_of w) (places_of w) is) (sym l_is)
-      (line_event own (by_rule (line.Step s)) e (over w was) own stands.sits stands.each (first_moment own (by_rule (line.Step s))) named c m is
+      (line_event own (by_rule (line.Step s)) e (over w was) own stands.sits stands.each (first_moment own (by_rule (line.Step s))) (λ q d n. refl) named c m is
       (one_moment own own c m (by_rule (line.Step s)) refl (step_moment own s) (λ d off n. refl)) ends)
 
   -- a calm
@@ -198,7 +199,7 @@ module _ (before : List Ran) (w : World) (was : List Images) (stands : Stands be
         let on = leads_then ends.here ends.next (calm c (own c) k) ends.event ends.left in
         line_event own r e ends.last worlds ends.sits calm_holds
         (one_moment own own c ends.here.world r refl (calm_moment c (own c) k ends.here ends.reached on) (λ d off n. refl))
-        (λ j q. subst (λ (ks : List ℕ). IsPlace ks j) (sym ends.places) (named j q)) c ends.next.world is
+        (λ q d n. absurd (true≢false q)) (λ j q. subst (λ (ks : List ℕ). IsPlace ks j) (sym ends.places) (named j q)) c ends.next.world is
         (one_moment own worlds c ends.next.world r refl (calm_moment c (own c) k ends.next (leads_then (calming (own c)) ends.here ends.next ends.reached ends.event) ends.left) (with_else c ends.here.world own))
         ends.ends
 

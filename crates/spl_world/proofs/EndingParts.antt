@@ -1,6 +1,5 @@
 -- Where a part of a calm ended with an error.
 use Rattle.std.proofs.Common.{◌≡◌, ℕ, zero, suc, ◌+◌, ◌-◌, ◌≤◌, true, true≢false, Some, List, [], ◌∷◌, ◌++◌, ◌&&◌, append-nil, append_assoc, length, take, drop, slice_get, refl, sym, ap, subst, ◌∙◌, arith}
-use Rattle.std.specs.List.{filter}
 use Rattle.std.proofs.lemmas.List.{take-append-drop}
 use Rattle.std.proofs.lemmas.List.Elements.{filter-append}
 use Rattle.spl_agree.proofs.Tests.{if_holds}

@@ -1,5 +1,5 @@
 -- What the disks of the nodes hold where a line ends with an error (docs/RULES.md, Journals).
-use Rattle.std.specs.Prelude.{◌≡◌, ◌⊎◌, ℕ, List, ◌++◌, slice_get, Some, if◌then◌else◌}
+use Rattle.std.specs.Prelude.{◌≡◌, ◌⊎◌, ℕ, Bool, true, false, List, ◌++◌, slice_get, Some, if◌then◌else◌}
 use Rattle.std.specs.Str.{bytes_eq}
 use Rattle.spl_circuit.specs.Nodes.{NodeId, CircuitId}
 use Rattle.spl_edge.specs.Image.{MayLeave}
@@ -9,6 +9,8 @@ use Rattle.spl_model.specs.Worlds.{World as CircuitWorld, Occurrence, occur}
 use Rattle.spl_node.specs.Stands.{StandFor}
 use Rattle.spl_projection.specs.Moments.{AreAtMoment}
 use Rattle.spl_rules.specs.Cells.{Cell}
+use Rattle.spl_sched.specs.declared.line.Line.{Line}
+use Rattle.spl_sched.specs.declared.line.Line.TheVariants as line
 use Rattle.spl_snapshot.specs.Counting.{IfBoth}
 use Rattle.spl_world.specs.Disks.{Images, images_at}
 use Rattle.spl_world.specs.Views.{Holds, Nodes, Sits, Spares, ids_in, slot_id, slot_places, view_in}
@@ -36,7 +38,8 @@ LeaveEither n before behind is = LeaveNow (λ c d. StandFor n before c d ⊎ Sta
 abbrev pub cells_in : CircuitId → CircuitWorld → NodeId → (CircuitId → Cell) → CircuitId → Cell
 cells_in c m n cells d = if bytes_eq c d then m.at n else cells d
 
--- of the disks of one node a stop leaves what stands for its cells, or for those in this world of a circuit; all others hold what they held
+-- what a stop leaves of the disks of one node stands for its cells, or for those that it has in this world of a circuit; all
+-- other disks hold what they held. An error that names disks names those
 pub record IsLeftAtOne (c : CircuitId) (behind : CircuitWorld) (e : WorldFault) (xs : Nodes) (is : List Images) : Type 0 where
   pub index : ℕ
   pub slot : Slot
@@ -45,7 +48,8 @@ pub record IsLeftAtOne (c : CircuitId) (behind : CircuitWorld) (e : WorldFault) 
   pub others : (k : ℕ) → (k ≡ slot.position → ⊥) → images_at is k ≡ images_at xs.disks k
   pub own : LeaveEither (slot_id slot) (view_in xs slot).cells (cells_in c behind (slot_id slot) (view_in xs slot).cells) (images_at is slot.position)
 
--- an event that leads to this world of a circuit ended with an error, where the nodes stood so: a limit leaves the disks as they were
+-- an event that leads to this world of a circuit ended with an error, and before it the nodes stood so: a limit leaves all
+-- disks as they were
 pub record EventEnds (c : CircuitId) (behind : CircuitWorld) (e : WorldFault) (xs : Nodes) (is : List Images) : Type 0 where
   pub limit : (which : ℕ) → e ≡ TooMany which → is ≡ xs.disks
   pub others : (is ≡ xs.disks) ⊎ IsLeftAtOne c behind e xs is
@@ -58,7 +62,7 @@ pub record Leads (from to : Calming) : Type 0 where
   pub happened : to.happened ≡ from.happened ++ steps
   pub world : to.world ≡ occur from.world steps
 
--- a part of a calm ended with an error in an event on its way, before which the nodes stood for the world at that moment
+-- a part of a calm ended with an error in an event on its way, before which the nodes stood for the world so far
 pub record PartEnds (c : CircuitId) (from to : Calming) (e : WorldFault) (old : Nodes) (is : List Images) : Type 0 where
   pub here : Calming
   pub next : Calming
@@ -79,12 +83,18 @@ pub record PartEnds (c : CircuitId) (from to : Calming) (e : WorldFault) (old : 
 abbrev pub EachAt : (ℕ → NodeId → Images → Type 0) → List NodeId → List ℕ → List Images → Type 0
 EachAt P ids places is = (i : ℕ) (n : NodeId) (k : ℕ) → slice_get ids i ≡ Some n → slice_get places i ≡ Some k → P i n (images_at is k)
 
--- a line ended with an error, before it nodes kept what these worlds have: of the disks of each a stop leaves what stands
--- for its cells at one moment of the line, the same for all. Where it was no limit, this holds of all but one, whose disks
--- stand for its cells at that moment or at another
+abbrev pub is_calm : Line → Bool
+is_calm (line.Calm c k) = true
+is_calm _ = false
+
+-- A line ended with an error, and before it the nodes kept what these worlds have. Whatever a stop leaves of the disks of
+-- each node stands for its cells at one moment of the line, the same for all; that is the moment before it, but in a calm.
+-- Where the error is no limit one node is left out, and what a stop leaves of its disks stands for its cells at that moment
+-- or at another of the line. It is the node whose disk the error names
 pub record LineEnds (own : CircuitId → CircuitWorld) (r : Ran) (e : WorldFault) (ids : List NodeId) (places : List ℕ) (is : List Images) : Type 0 where
   pub cells : CircuitId → NodeId → Cell
   pub moment : AreAtMoment own own r cells
+  pub before : is_calm r.line ≡ false → (c : CircuitId) (n : NodeId) → cells c n ≡ (own c).at n
   pub later : CircuitId → NodeId → Cell
   pub later_moment : AreAtMoment own own r later
   pub limit : (which : ℕ) → e ≡ TooMany which → EachAt (λ i n p. LeaveFor n (λ c. cells c n) p) ids places is
