@@ -9,7 +9,7 @@ use Rattle.spl_edge.specs.declared.bench.Pair.{Pair}
 use Rattle.spl_journal.proofs.Images.{only_settled}
 use Rattle.spl_model.specs.Puts.{put_at-here}
 use Rattle.spl_model.specs.Worlds.{World as CircuitWorld, site_at, carried_out}
-use Rattle.spl_node.proofs.Disks.{safe_map, settled_pair}
+use Rattle.spl_node.proofs.Disks.{both_if, safe_map, settled_pair}
 use Rattle.spl_node.proofs.Hosting.{both_told, kept_stand}
 use Rattle.spl_journal.specs.Reads.{Stays}
 use Rattle.spl_node.specs.Hosts.{HostStands, Rests, Runs, host_cell, host_id, host_second}
@@ -24,7 +24,7 @@ use Rattle.spl_rules.specs.Plans.{plan_of}
 use Rattle.spl_snapshot.specs.Counting.{IfBoth, IsInTurn, PairLeavesInTurn, pair_records}
 use Rattle.spl_wire.specs.declared.event.Event.{Event}
 use Rattle.spl_world.specs.Disks.{Images, images, images_at, images_of, images_or_none}
-use Rattle.spl_world.specs.Ended.{EventEnds, LeaveEither, LeaveFor, LeaveNow, cells_in}
+use Rattle.spl_world.specs.Ended.{EventEnds, LeaveEither, HoldFor, LeaveNow, cells_in}
 use Rattle.spl_world.specs.Kept.{NodeView}
 use Rattle.spl_world.specs.Views.{Holds, Nodes, Sits, node_view, slot_id, slot_ids, view_in}
 use Rattle.spl_world.specs.declared.fault.WorldFault.{WorldFault}
@@ -79,10 +79,11 @@ settled here (Some n) x y up down = settled_pair is_record n.pairing x y up.stan
 settled here None x y up down = (down.first_is, down.second_is)
 
 -- the disks of a host that stands
-pub stands_left : (s : Slot) (is : Images) → HostStands s.host is.0 is.1 → LeaveFor (slot_id s) (node_view s is).cells is
-stands_left s is h =
+pub stands_hold : (s : Slot) (is : Images) → HostStands s.host is.0 is.1 → HoldFor (slot_id s) (node_view s is).cells is
+stands_hold s is h =
     let rest = settled s.host.id s.host.node is.0 is.1 h.up h.down in
-    left_settled (StandFor (slot_id s) (node_view s is).cells) is.0 is.1 rest.0 rest.1 (kept_stand s.host.id s.host.node is.0 is.1 h.up h.down)
+    let stand = kept_stand s.host.id s.host.node is.0 is.1 h.up h.down in
+    record { read = stand; left = left_settled (StandFor (slot_id s) (node_view s is).cells) is.0 is.1 rest.0 rest.1 stand }
 
 -- ---- the same cells by other words
 
@@ -93,8 +94,11 @@ makes_as n f g same (Err at) h = h
 stand_as : (n : NodeId) (f g : CircuitId → Cell) → ((c : CircuitId) → f c ≡ g c) → (x y : List ℕ) → StandFor n f x y → StandFor n g x y
 stand_as n f g same x y h = makes_as n f g same (pair_records is_record x y) h
 
-pub left_as : (n : NodeId) (f g : CircuitId → Cell) → ((c : CircuitId) → f c ≡ g c) → (is : Images) → LeaveFor n f is → LeaveFor n g is
-left_as n f g same is h = safe_map (StandFor n f) (StandFor n g) (stand_as n f g same) is.0 is.1 h
+pub hold_as : (n : NodeId) (f g : CircuitId → Cell) → ((c : CircuitId) → f c ≡ g c) → (is : Images) → HoldFor n f is → HoldFor n g is
+hold_as n f g same is h = record {
+  read = both_if is.0 is.1 (λ i j. StandFor n f i.bytes j.bytes) (λ i j. StandFor n g i.bytes j.bytes) h.read (λ i j p. stand_as n f g same i.bytes j.bytes p);
+  left = safe_map (StandFor n f) (StandFor n g) (stand_as n f g same) is.0 is.1 h.left;
+}
 
 pub either_as : (n : NodeId) (f g k l : CircuitId → Cell) → ((c : CircuitId) → f c ≡ k c) → ((c : CircuitId) → g c ≡ l c) → (is : Images) → LeaveEither n f g is → LeaveEither n k l is
 either_as n f g k l same other is h = safe_map (λ x y. StandFor n f x y ⊎ StandFor n g x y) (λ x y. StandFor n k x y ⊎ StandFor n l x y) both is.0 is.1 h
@@ -103,8 +107,8 @@ either_as n f g k l same other is h = safe_map (λ x y. StandFor n f x y ⊎ Sta
     both x y (inl p) = inl (stand_as n f k same x y p)
     both x y (inr p) = inr (stand_as n g l other x y p)
 
-pub left_either : (n : NodeId) (f g : CircuitId → Cell) (is : Images) → LeaveFor n f is → LeaveEither n f g is
-left_either n f g is h = safe_map (StandFor n f) (λ x y. StandFor n f x y ⊎ StandFor n g x y) (λ x y p. inl p) is.0 is.1 h
+pub hold_either : (n : NodeId) (f g : CircuitId → Cell) (is : Images) → HoldFor n f is → LeaveEither n f g is
+hold_either n f g is h = safe_map (StandFor n f) (λ x y. StandFor n f x y ⊎ StandFor n g x y) (λ x y p. inl p) is.0 is.1 h.left
 
 -- ---- results
 

@@ -15,14 +15,14 @@ use Rattle.spl_sched.specs.declared.line.Line.{Line}
 use Rattle.spl_sched.specs.declared.line.Line.TheVariants as line
 use Rattle.spl_sched.specs.declared.line.Step.{Step}
 use Rattle.spl_world.specs.Disks.{Images, images_at}
-use Rattle.spl_world.specs.Ended.{EachAt, EventEnds, IsLeftAtOne, Leads, LeaveEither, LeaveFor, LineEnds, PartEnds, cells_in, is_calm}
+use Rattle.spl_world.specs.Ended.{EachAt, EventEnds, IsLeftAtOne, Leads, LeaveEither, HoldFor, LineEnds, PartEnds, cells_in, is_calm}
 use Rattle.spl_world.specs.Views.{Holds, IsPlace, Nodes, Sits, Stands, ids_in, ids_of, over, places_of, slot_id, slot_places, view_in}
 use Rattle.spl_world.specs.declared.fault.WorldFault.{WorldFault}
 use Rattle.spl_world.specs.declared.fault.WorldFault.TheVariants.{Disk, NoMemory, TooMany}
 use Rattle.spl_world.specs.declared.slot.Slot.{Slot}
 use Rattle.spl_world.specs.declared.world.World.{World}
 use Rattle.spl_world.proofs.Counting.{failed}
-use Rattle.spl_world.proofs.Ending.{either_as, left_as, left_either, stands_left}
+use Rattle.spl_world.proofs.Ending.{either_as, hold_as, hold_either, stands_hold}
 use Rattle.spl_world.proofs.EndingParts.{leads_then}
 use Rattle.spl_world.proofs.HoldingNow.{IsSlot, slot_there}
 use Rattle.spl_world.proofs.Sends.{bool_cases, bytes_are}
@@ -71,14 +71,14 @@ module _ (xs : Nodes) (worlds : CircuitId → CircuitWorld) (sits : Sits xs) (ho
   seen_cell : (i : ℕ) (s : Slot) → slice_get xs.slots i ≡ Some s → (d : CircuitId) → (view_in xs s).cells d ≡ (worlds d).at (slot_id s)
   seen_cell i s there d = ((holds d).each i s there).state
 
-  node_left : (i : ℕ) (n : NodeId) (k : ℕ) (s : Slot) → IsSlot xs.slots i n k s → LeaveFor n (λ d. (worlds d).at n) (images_at xs.disks k)
-  node_left i n k s is =
-      subst (λ (m : NodeId). LeaveFor m (λ d. (worlds d).at m) (images_at xs.disks k)) is.id_is
-      (subst (λ (l : ℕ). LeaveFor (slot_id s) (λ d. (worlds d).at (slot_id s)) (images_at xs.disks l)) is.place_is
-      (left_as (slot_id s) (view_in xs s).cells (λ d. (worlds d).at (slot_id s)) (seen_cell i s is.there) (images_at xs.disks s.position) (stands_left s (images_at xs.disks s.position) (sits.each i s is.there))))
+  node_holds : (i : ℕ) (n : NodeId) (k : ℕ) (s : Slot) → IsSlot xs.slots i n k s → HoldFor n (λ d. (worlds d).at n) (images_at xs.disks k)
+  node_holds i n k s is =
+      subst (λ (m : NodeId). HoldFor m (λ d. (worlds d).at m) (images_at xs.disks k)) is.id_is
+      (subst (λ (l : ℕ). HoldFor (slot_id s) (λ d. (worlds d).at (slot_id s)) (images_at xs.disks l)) is.place_is
+      (hold_as (slot_id s) (view_in xs s).cells (λ d. (worlds d).at (slot_id s)) (seen_cell i s is.there) (images_at xs.disks s.position) (stands_hold s (images_at xs.disks s.position) (sits.each i s is.there))))
 
-  all_left : EachAt (λ i n p. LeaveFor n (λ d. (worlds d).at n) p) (ids_in xs) (slot_places xs.slots) xs.disks
-  all_left = λ i n k at place. let f = slot_there xs.slots i n k at place in node_left i n k f.0 f.1
+  all_hold : EachAt (λ i n p. HoldFor n (λ d. (worlds d).at n) p) (ids_in xs) (slot_places xs.slots) xs.disks
+  all_hold = λ i n k at place. let f = slot_there xs.slots i n k at place in node_holds i n k f.0 f.1
 
   -- ---- where an event ended at one of them
   module _ (c : CircuitId) (behind : CircuitWorld) (e : WorldFault) (is : List Images) (one : IsLeftAtOne c behind e xs is) where
@@ -88,12 +88,12 @@ module _ (xs : Nodes) (worlds : CircuitId → CircuitWorld) (sits : Sits xs) (ho
     same_slot : (i : ℕ) (s : Slot) → slice_get xs.slots i ≡ Some s → i ≡ one.index → one.slot ≡ s
     same_slot i s there e = let q : Some one.slot ≡ Some s = sym one.there ∙ ap (λ (j : ℕ). slice_get xs.slots j) (sym e) ∙ there in cc
 
-    else_left : EachAt (λ i n p. (i ≡ one.index → ⊥) → LeaveFor n (λ d. (worlds d).at n) p) (ids_in xs) (slot_places xs.slots) is
-    else_left = λ i n k at place off.
+    else_hold : EachAt (λ i n p. (i ≡ one.index → ⊥) → HoldFor n (λ d. (worlds d).at n) p) (ids_in xs) (slot_places xs.slots) is
+    else_hold = λ i n k at place off.
         let f = slot_there xs.slots i n k at place in
         let s : Slot = f.0 in
         let there : IsSlot xs.slots i n k s = f.1 in
-        subst (LeaveFor n (λ d. (worlds d).at n)) (sym (one.others k (λ e. off (sits.apart one.index i one.slot s one.there there.there (sym e ∙ sym there.place_is))))) (node_left i n k s there)
+        subst (HoldFor n (λ d. (worlds d).at n)) (sym (one.others k (λ e. off (sits.apart one.index i one.slot s one.there there.there (sym e ∙ sym there.place_is))))) (node_holds i n k s there)
 
     later_cell : (d : CircuitId) → cells_in c behind (slot_id one.slot) (view_in xs one.slot).cells d ≡ (later d).at (slot_id one.slot)
     later_cell d = go (bytes_eq c d)
@@ -102,8 +102,8 @@ module _ (xs : Nodes) (worlds : CircuitId → CircuitWorld) (sits : Sits xs) (ho
         go true = refl
         go false = seen_cell one.index one.slot one.there d
 
-    own_left : EachAt (λ i n p. i ≡ one.index → LeaveEither n (λ d. (worlds d).at n) (λ d. (later d).at n) p) (ids_in xs) (slot_places xs.slots) is
-    own_left = λ i n k at place here.
+    own_leaves : EachAt (λ i n p. i ≡ one.index → LeaveEither n (λ d. (worlds d).at n) (λ d. (later d).at n) p) (ids_in xs) (slot_places xs.slots) is
+    own_leaves = λ i n k at place here.
         let f = slot_there xs.slots i n k at place in
         let s : Slot = f.0 in
         let there : IsSlot xs.slots i n k s = f.1 in
@@ -131,7 +131,7 @@ module _ (own : CircuitId → CircuitWorld) (r : Ran) (e : WorldFault) (xs : Nod
   line_still : LineEnds own r e (ids_in xs) (slot_places xs.slots) xs.disks
   line_still =
       let p = some_place (slot_places xs.slots) e named in
-      let all = all_left xs worlds sits holds in record {
+      let all = all_hold xs worlds sits holds in record {
         cells = λ d n. (worlds d).at n;
         moment = moment;
         before = first;
@@ -141,7 +141,7 @@ module _ (own : CircuitId → CircuitWorld) (r : Ran) (e : WorldFault) (xs : Nod
         one = p.0;
         one_place = p.1;
         others = λ i n k at place off. all i n k at place;
-        own_disks = λ i n k at place here. left_either n (λ d. (worlds d).at n) (λ d. (worlds d).at n) (images_at xs.disks k) (all i n k at place);
+        own_disks = λ i n k at place here. hold_either n (λ d. (worlds d).at n) (λ d. (worlds d).at n) (images_at xs.disks k) (all i n k at place);
       }
 
   -- an event ended with an error
@@ -156,11 +156,11 @@ module _ (own : CircuitId → CircuitWorld) (r : Ran) (e : WorldFault) (xs : Nod
         before = first;
         later = λ d n. (with_world c behind worlds d).at n;
         later_moment = later_moment;
-        limit = λ which q. subst (λ (ps : List Images). EachAt (λ i n p. LeaveFor n (λ d. (worlds d).at n) p) (ids_in xs) (slot_places xs.slots) ps) (sym (ends.limit which q)) (all_left xs worlds sits holds);
+        limit = λ which q. subst (λ (ps : List Images). EachAt (λ i n p. HoldFor n (λ d. (worlds d).at n) p) (ids_in xs) (slot_places xs.slots) ps) (sym (ends.limit which q)) (all_hold xs worlds sits holds);
         one = one.index;
         one_place = one_at xs worlds sits holds c behind e is one;
-        others = else_left xs worlds sits holds c behind e is one;
-        own_disks = own_left xs worlds sits holds c behind e is one;
+        others = else_hold xs worlds sits holds c behind e is one;
+        own_disks = own_leaves xs worlds sits holds c behind e is one;
       }
 
 -- ---- the lines of a world

@@ -24,11 +24,12 @@ use Rattle.spl_world.specs.declared.slot.Slot.{Slot}
 abbrev pub LeaveNow : (List ℕ → List ℕ → Type 0) → Images → Type 0
 LeaveNow P is = IfBoth is.0 is.1 (λ i j. (c d : List ℕ) → MayLeave i c → MayLeave j d → P c d)
 
--- it stands for these cells of a node
-abbrev pub LeaveFor : NodeId → (CircuitId → Cell) → Images → Type 0
-LeaveFor n cells is = LeaveNow (StandFor n cells) is
+-- what a read gives of them stands for these cells of a node, and so does whatever a stop leaves
+pub record HoldFor (n : NodeId) (cells : CircuitId → Cell) (is : Images) : Type 0 where
+  pub read : IfBoth is.0 is.1 (λ i j. StandFor n cells i.bytes j.bytes)
+  pub left : LeaveNow (StandFor n cells) is
 
--- it stands for these cells or for those
+-- whatever a stop leaves stands for these cells or for those
 abbrev pub LeaveEither : NodeId → (CircuitId → Cell) → (CircuitId → Cell) → Images → Type 0
 LeaveEither n before behind is = LeaveNow (λ c d. StandFor n before c d ⊎ StandFor n behind c d) is
 
@@ -87,18 +88,18 @@ abbrev pub is_calm : Line → Bool
 is_calm (line.Calm c k) = true
 is_calm _ = false
 
--- A line ended with an error, and before it the nodes kept what these worlds have. Whatever a stop leaves of the disks of
--- each node stands for its cells at one moment of the line, the same for all; that is the moment before it, but in a calm.
--- Where the error is no limit one node is left out, and what a stop leaves of its disks stands for its cells at that moment
--- or at another of the line. It is the node whose disk the error names
+-- A line ended with an error, and before it the nodes kept what these worlds have. The disks of each node stand for its
+-- cells at one moment of the line, the same for all; that is the moment before it, but in a calm. Where the error is no limit
+-- one node is left out, and what a stop leaves of its disks stands for its cells at that moment or at another of the line. It
+-- is the node whose disk the error names
 pub record LineEnds (own : CircuitId → CircuitWorld) (r : Ran) (e : WorldFault) (ids : List NodeId) (places : List ℕ) (is : List Images) : Type 0 where
   pub cells : CircuitId → NodeId → Cell
   pub moment : AreAtMoment own own r cells
   pub before : is_calm r.line ≡ false → (c : CircuitId) (n : NodeId) → cells c n ≡ (own c).at n
   pub later : CircuitId → NodeId → Cell
   pub later_moment : AreAtMoment own own r later
-  pub limit : (which : ℕ) → e ≡ TooMany which → EachAt (λ i n p. LeaveFor n (λ c. cells c n) p) ids places is
+  pub limit : (which : ℕ) → e ≡ TooMany which → EachAt (λ i n p. HoldFor n (λ c. cells c n) p) ids places is
   pub one : ℕ
   pub one_place : (k : ℕ) → e ≡ Disk k → slice_get places one ≡ Some k
-  pub others : EachAt (λ i n p. (i ≡ one → ⊥) → LeaveFor n (λ c. cells c n) p) ids places is
+  pub others : EachAt (λ i n p. (i ≡ one → ⊥) → HoldFor n (λ c. cells c n) p) ids places is
   pub own_disks : EachAt (λ i n p. i ≡ one → LeaveEither n (λ c. cells c n) (λ c. later c n) p) ids places is
