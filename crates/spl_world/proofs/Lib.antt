@@ -32,4 +32,4 @@ pub mod HoldingLines
 mod Ending
 mod EndingParts
 mod EndingLines
-mod Settling
+mod Settles

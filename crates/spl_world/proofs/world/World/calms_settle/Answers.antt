@@ -1,5 +1,5 @@
 use Rattle.spl_world.specs.Views.{ids_of}
-use Rattle.spl_world.proofs.Settling.{few_happened}
+use Rattle.spl_world.proofs.Settles.{few_happened}
 use Rattle.spl_world.proofs.world.World.calms_settle.Goals as goal
 
 pub returns : goal.returns

@@ -7,7 +7,7 @@ use Rattle.spl_world.specs.Disks.{images}
 use Rattle.spl_world.specs.Views.{ids_of}
 use Rattle.spl_world.proofs.HoldingLines.{held_step, steps_none}
 use Rattle.spl_world.proofs.Results.{at_ok, ok_is, err_is}
-use Rattle.spl_world.proofs.Settling.{behind_calm}
+use Rattle.spl_world.proofs.Settles.{behind_calm}
 use Rattle.spl_world.proofs.Standing.{stands_still, within_line}
 use Rattle.spl_world.proofs.world.World.step.Goals as goal
 
