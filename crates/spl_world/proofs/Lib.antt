@@ -31,3 +31,7 @@ pub mod HoldingNow
 pub mod HoldingStop
 pub mod HoldingSeats
 pub mod HoldingLines
+mod Ending
+mod EndingParts
+mod EndingLines
+mod Settles

@@ -6,3 +6,4 @@ pub mod Counts
 pub mod Lines
 pub mod Held
 pub mod Halts
+pub mod Ended

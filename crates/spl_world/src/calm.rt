@@ -1,15 +1,16 @@
 //! A calm: passes of ticks and deliveries.
-ghost use Rattle.std.specs.Prelude.{◌≡◌, ◌+◌, ◌-◌, ◌<◌, ◌&&◌, List, length, false, true, IfOk, OnOk, ℕ, IsErrOf};
+ghost use Rattle.std.specs.Prelude.{◌≡◌, ◌+◌, ◌-◌, ◌<◌, ◌&&◌, List, length, false, true, IfErr, IfOk, OnOk, ℕ, IsErrOf};
 ghost use Rattle.std.specs.List.{AllByRecursion};
 ghost use Rattle.std.specs.Str.{bytes_eq};
 ghost use Rattle.spl_circuit.specs.Nodes.{NodeId as Id};
 ghost use Rattle.spl_model.specs.Worlds.{World as CircuitWorld};
-ghost use Rattle.spl_model.specs.Calm.{Calming, ticks, open_nodes, delivers, pair_turn, to_all, from_all, pass, calm};
+ghost use Rattle.spl_model.specs.Calm.{Calming, calming, ticks, open_nodes, delivers, pair_turn, to_all, from_all, pass, calm};
 ghost use Rattle.spl_model.specs.Quiet.{IsIdleAt, IsQuiet};
 ghost use Rattle.spl_rules.specs.Idle.{is_idle_note, is_idle};
 ghost use Rattle.spl_world.specs.Calms.{tick_at, tick_count, IsIdleTick, AreRows, IsSquare, row_of, sent_count};
 ghost use Rattle.spl_world.specs.Counts.{Counts};
-ghost use Rattle.spl_world.specs.Disks.{Images, LeavesDisks, bench};
+ghost use Rattle.spl_world.specs.Disks.{Images, LeavesDisks, bench, images};
+ghost use Rattle.spl_world.specs.Ended.{EventEnds, PartEnds};
 ghost use Rattle.spl_world.specs.Views.{IsPlace, Holds, IsAt, IsUp, Moves, Sits, Spares, places_of, ids_of, over, seen};
 
 use crate::fault::WorldFault;
@@ -83,6 +84,7 @@ impl World {
         ensures sits { OnOk result (Sits (seen D.image_at D.moment self.new pairs.new.items)) }
         ensures disks { LeavesDisks result (bench D.image_at D.moment D.faults D.armed D.picks pairs.old.items) (bench D.image_at D.moment D.faults D.armed D.picks pairs.new.items) }
         ensures place { (slot : ℕ) → IsErrOf result (WorldFault.Disk slot) → IsPlace (places_of self.old) slot }
+        ensures ended { (m : CircuitWorld) (n : Id) → Holds circuit m (seen D.image_at D.moment self.old pairs.old.items) → IsAt self.old slot n → IfErr result (λ e. EventEnds circuit (tick_at circuit n m) e (seen D.image_at D.moment self.old pairs.old.items) (images D.image_at D.moment pairs.new.items)) }
     {
         if !self.is_open(slot, &circuit) {
             return Ok(false);
@@ -110,6 +112,7 @@ impl World {
         ensures sits { OnOk result (Sits (seen D.image_at D.moment self.new pairs.new.items)) }
         ensures disks { LeavesDisks result (bench D.image_at D.moment D.faults D.armed D.picks pairs.old.items) (bench D.image_at D.moment D.faults D.armed D.picks pairs.new.items) }
         ensures place { (slot : ℕ) → IsErrOf result (WorldFault.Disk slot) → IsPlace (places_of self.old) slot }
+        ensures ended { (z : Calming) → Holds circuit z.world (seen D.image_at D.moment self.old pairs.old.items) → IfErr result (λ e. PartEnds circuit z (ticks circuit z (open_nodes z.world (ids_of self.old))) e (seen D.image_at D.moment self.old pairs.old.items) (images D.image_at D.moment pairs.new.items)) }
     {
         let mut moved = false;
         for slot in 0..self.len() {
@@ -143,6 +146,7 @@ impl World {
         ensures sits { OnOk result (Sits (seen D.image_at D.moment self.new pairs.new.items)) }
         ensures disks { LeavesDisks result (bench D.image_at D.moment D.faults D.armed D.picks pairs.old.items) (bench D.image_at D.moment D.faults D.armed D.picks pairs.new.items) }
         ensures place { (slot : ℕ) → IsErrOf result (WorldFault.Disk slot) → IsPlace (places_of self.old) slot }
+        ensures ended { (z : Calming) (a b : Id) → Holds circuit z.world (seen D.image_at D.moment self.old pairs.old.items) → IsAt self.old from a → IsAt self.old to b → IfErr result (λ e. PartEnds circuit z (delivers circuit z a b (taken + 1) (all - taken)) e (seen D.image_at D.moment self.old pairs.old.items) (images D.image_at D.moment pairs.new.items)) }
     {
         for index in taken..all {
             self.events.add(1)?;
@@ -174,6 +178,7 @@ impl World {
         ensures sits { OnOk result (Sits (seen D.image_at D.moment self.new pairs.new.items)) }
         ensures disks { LeavesDisks result (bench D.image_at D.moment D.faults D.armed D.picks pairs.old.items) (bench D.image_at D.moment D.faults D.armed D.picks pairs.new.items) }
         ensures place { (slot : ℕ) → IsErrOf result (WorldFault.Disk slot) → IsPlace (places_of self.old) slot }
+        ensures ended { (z : Calming) (a b : Id) → Holds circuit z.world (seen D.image_at D.moment self.old pairs.old.items) → IsAt self.old from a → IsAt self.old to b → z.taken a b ≡ taken → IfErr result (λ e. PartEnds circuit z (pair_turn circuit z a b) e (seen D.image_at D.moment self.old pairs.old.items) (images D.image_at D.moment pairs.new.items)) }
     {
         if !self.is_up(to) {
             return Ok(taken);
@@ -208,6 +213,7 @@ impl World {
         ensures sits { OnOk result (Sits (seen D.image_at D.moment self.new pairs.new.items)) }
         ensures disks { LeavesDisks result (bench D.image_at D.moment D.faults D.armed D.picks pairs.old.items) (bench D.image_at D.moment D.faults D.armed D.picks pairs.new.items) }
         ensures place { (slot : ℕ) → IsErrOf result (WorldFault.Disk slot) → IsPlace (places_of self.old) slot }
+        ensures ended { (z : Calming) (a : Id) → Holds circuit z.world (seen D.image_at D.moment self.old pairs.old.items) → IsAt self.old from a → row.old.items ≡ row_of z.taken a (ids_of self.old) → IfErr result (λ e. PartEnds circuit z (to_all circuit z a (ids_of self.old)) e (seen D.image_at D.moment self.old pairs.old.items) (images D.image_at D.moment pairs.new.items)) }
     {
         for to in 0..self.len() {
             row[to] = self.pair_turn(alloc, pairs, circuit, from, to, row[to])?;
@@ -235,6 +241,7 @@ impl World {
         ensures sits { OnOk result (Sits (seen D.image_at D.moment self.new pairs.new.items)) }
         ensures disks { LeavesDisks result (bench D.image_at D.moment D.faults D.armed D.picks pairs.old.items) (bench D.image_at D.moment D.faults D.armed D.picks pairs.new.items) }
         ensures place { (slot : ℕ) → IsErrOf result (WorldFault.Disk slot) → IsPlace (places_of self.old) slot }
+        ensures ended { (z : Calming) → Holds circuit z.world (seen D.image_at D.moment self.old pairs.old.items) → AreRows z.taken (ids_of self.old) rows.old.items → IfErr result (λ e. PartEnds circuit z (from_all circuit z (ids_of self.old) (ids_of self.old)) e (seen D.image_at D.moment self.old pairs.old.items) (images D.image_at D.moment pairs.new.items)) }
     {
         for from in 0..self.len() {
             self.to_all(alloc, pairs, circuit, from, &mut rows[from])?;
@@ -263,6 +270,7 @@ impl World {
         ensures sits { OnOk result (Sits (seen D.image_at D.moment self.new pairs.new.items)) }
         ensures disks { LeavesDisks result (bench D.image_at D.moment D.faults D.armed D.picks pairs.old.items) (bench D.image_at D.moment D.faults D.armed D.picks pairs.new.items) }
         ensures place { (slot : ℕ) → IsErrOf result (WorldFault.Disk slot) → IsPlace (places_of self.old) slot }
+        ensures ended { (z : Calming) → Holds circuit z.world (seen D.image_at D.moment self.old pairs.old.items) → AreRows z.taken (ids_of self.old) rows.old.items → IfErr result (λ e. PartEnds circuit z (pass circuit (ids_of self.old) z) e (seen D.image_at D.moment self.old pairs.old.items) (images D.image_at D.moment pairs.new.items)) }
     {
         let moved = self.tick_all(alloc, pairs, circuit)?;
         let ticked = self.events.count();
@@ -289,6 +297,7 @@ impl World {
         ensures sits { OnOk result (Sits (seen D.image_at D.moment self.new pairs.new.items)) }
         ensures disks { LeavesDisks result (bench D.image_at D.moment D.faults D.armed D.picks pairs.old.items) (bench D.image_at D.moment D.faults D.armed D.picks pairs.new.items) }
         ensures place { (slot : ℕ) → IsErrOf result (WorldFault.Disk slot) → IsPlace (places_of self.old) slot }
+        ensures ended { (m : CircuitWorld) → Holds circuit m (seen D.image_at D.moment self.old pairs.old.items) → IfErr result (λ e. PartEnds circuit (calming m) (calm circuit m passes) e (seen D.image_at D.moment self.old pairs.old.items) (images D.image_at D.moment pairs.new.items)) }
     {
         let mut rows = self.rows(alloc, &circuit)?;
         for done in 0..passes {

@@ -11,6 +11,7 @@ mod making;
 mod outbox;
 mod posts;
 mod power;
+mod settling;
 mod slot;
 mod step;
 mod stops;

@@ -8,7 +8,7 @@ ghost use Rattle.spl_projection.specs.Whole.{whole_world};
 ghost use Rattle.spl_model.specs.Worlds.{World as CircuitWorld, Starts, Stops, happens};
 ghost use Rattle.spl_sched.specs.Grammar.{is_line};
 ghost use Rattle.spl_sched.specs.declared.line.Line.TheVariants as line;
-ghost use Rattle.spl_world.specs.Disks.{Images, LeavesDisks, NoneForgotten, bench};
+ghost use Rattle.spl_world.specs.Disks.{Images, LeavesDisks, NoneForgotten, bench, images};
 ghost use Rattle.spl_world.specs.Held.{PickUnarmed, StopsAt};
 ghost use Rattle.spl_world.specs.Views.{IsPlace, Holds, IsAt, Sits, ids_of, over, places_of, seen, slot_up};
 ghost use Rattle.spl_world.specs.declared.slot.Slot.{Slot as Seat};
@@ -37,6 +37,7 @@ impl World {
         ensures sits { OnOk result (Sits (seen D.image_at D.moment self.new pairs.new.items)) }
         ensures disks { LeavesDisks result (bench D.image_at D.moment D.faults D.armed D.picks pairs.old.items) (bench D.image_at D.moment D.faults D.armed D.picks pairs.new.items) }
         ensures place { (slot : ℕ) → IsErrOf result (WorldFault.Disk slot) → IsPlace (places_of self.old) slot }
+        ensures same { images D.image_at D.moment pairs.new.items ≡ images D.image_at D.moment pairs.old.items }
         ensures few { (which : ℕ) → IsErrOf result (WorldFault.TooMany which) → ⊥ }
     {
         let here = &mut self.slots[slot];

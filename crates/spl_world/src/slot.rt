@@ -16,6 +16,8 @@ ghost use Rattle.spl_rules.specs.Valid.{IsFor};
 ghost use Rattle.spl_node.specs.Stopping.{IsStopping, cells_stopped, event_changes, has_changes, keeps, passing};
 ghost use Rattle.spl_world.specs.Disks.{AreBlank, HasRisen, Images, PairGoesOn, images_of, pair_view};
 ghost use Rattle.spl_world.specs.Held.{HavePicked, PickUnarmed};
+ghost use Rattle.spl_node.specs.Kept.{cells_after};
+ghost use Rattle.spl_world.specs.Ended.{LeaveEither};
 ghost use Rattle.spl_world.specs.Kept.{IsDone, AllBelong, place_of, lists_about, sent_to};
 ghost use Rattle.spl_world.specs.Views.{IsFresh, node_view, slot_id, slot_up};
 
@@ -111,6 +113,8 @@ impl Slot {
         ensures others { OnOk result ((c : Id) → bytes_eq circuit.now c ≡ false → place_of (node_view self.new (images_of D.image_at D.moment disks.new)) c ≡ place_of (node_view self.old (images_of D.image_at D.moment disks.old)) c) }
         ensures stands { OnOk result (HostStands self.new.host (D.image_at disks.new.first (D.moment disks.new.first)) (D.image_at disks.new.second (D.moment disks.new.second))) }
         ensures onward { PairGoesOn (pair_view D.image_at D.moment D.faults D.armed D.picks disks.old) (pair_view D.image_at D.moment D.faults D.armed D.picks disks.new) }
+        // Whatever the result, a stop leaves what stands for the cells before the event or for those after it.
+        ensures leaves { LeaveEither (slot_id self.old) (node_view self.old (images_of D.image_at D.moment disks.old)).cells (cells_after (slot_id self.old) (node_view self.old (images_of D.image_at D.moment disks.old)).cells circuit.now event.now) (images_of D.image_at D.moment disks.new) }
         ensures failed { (slot : ℕ) → IsErrOf result (WorldFault.Disk slot) → (slot ≡ self.old.position) × HasRisen (pair_view D.image_at D.moment D.faults D.armed D.picks disks.old) (pair_view D.image_at D.moment D.faults D.armed D.picks disks.new) }
         ensures few { (which : ℕ) → IsErrOf result (WorldFault.TooMany which) → ⊥ }
     {
@@ -137,6 +141,8 @@ impl Slot {
         ensures cells { OnOk result ((c : Id) → (node_view self.new (images_of D.image_at D.moment disks.new)).cells c ≡ (node_view self.old (images_of D.image_at D.moment disks.old)).cells c) }
         ensures stands { OnOk result (HostStands self.new.host (D.image_at disks.new.first (D.moment disks.new.first)) (D.image_at disks.new.second (D.moment disks.new.second))) }
         ensures onward { PairGoesOn (pair_view D.image_at D.moment D.faults D.armed D.picks disks.old) (pair_view D.image_at D.moment D.faults D.armed D.picks disks.new) }
+        // Whatever the result, its disks hold what they held.
+        ensures same { images_of D.image_at D.moment disks.new ≡ images_of D.image_at D.moment disks.old }
         ensures failed { (slot : ℕ) → IsErrOf result (WorldFault.Disk slot) → (slot ≡ self.old.position) × HasRisen (pair_view D.image_at D.moment D.faults D.armed D.picks disks.old) (pair_view D.image_at D.moment D.faults D.armed D.picks disks.new) }
         ensures few { (which : ℕ) → IsErrOf result (WorldFault.TooMany which) → ⊥ }
     {

@@ -1,7 +1,12 @@
 //! A line of a schedule in the world.
-ghost use Rattle.std.specs.Prelude.{◌≡◌, ◌++◌, ◌∷◌, [], ℕ, ◌<◌, ◌≤◌, List, true, false, IsTrue, IfOk, OnOk, OnErr, IsErrOf};
+ghost use Rattle.std.specs.Prelude.{◌≡◌, ◌++◌, ◌∷◌, [], ℕ, ◌<◌, ◌≤◌, List, true, false, IsTrue, IfErr, IfOk, OnOk, OnErr, IsErrOf};
 ghost use Rattle.std.specs.List.{list_all};
-ghost use Rattle.spl_circuit.specs.Nodes.{has_node};
+ghost use Rattle.spl_calm.specs.Settled.{acts_kept, batches_kept, IsActiveAll, IsSettled, IsWhole};
+ghost use Rattle.spl_circuit.specs.Nodes.{CircuitId, has_node};
+ghost use Rattle.spl_circuit.specs.Rules.{admin, service};
+ghost use Rattle.spl_circuit.specs.declared.act.Act.{Act};
+ghost use Rattle.spl_circuit.specs.declared.definition.Definition.{Definition};
+ghost use Rattle.spl_command.specs.declared.batch.Batch.{Batch};
 ghost use Rattle.spl_model.specs.Projection.{Ran};
 ghost use Rattle.spl_model.specs.Outcomes.{by_rule};
 ghost use Rattle.spl_sched.specs.Grammar.{nodes_of, step_nodes, step_circuit, is_line, is_step};
@@ -11,6 +16,8 @@ ghost use Rattle.spl_model.specs.Counts.{events_of};
 ghost use Rattle.spl_world.specs.Lines.{stops};
 ghost use Rattle.spl_world.specs.Disks.{LeavesDisks, PairView, bench, images};
 ghost use Rattle.spl_world.specs.Held.{AllHeld, FailedSince};
+ghost use Rattle.spl_projection.specs.Whole.{whole_world};
+ghost use Rattle.spl_world.specs.Ended.{EventEnds, LineEnds};
 ghost use Rattle.spl_world.specs.Views.{IsPlace, Holds, Moves, Sits, Stands, Stays, places_of, ids_of, is_halted, seen};
 
 use crate::fault::WorldFault;
@@ -42,6 +49,7 @@ impl World {
         ensures disks { LeavesDisks result (bench D.image_at D.moment D.faults D.armed D.picks pairs.old.items) (bench D.image_at D.moment D.faults D.armed D.picks pairs.new.items) }
         ensures place { (slot : ℕ) → IsErrOf result (WorldFault.Disk slot) → IsPlace (places_of self.old) slot }
         ensures few { (which : ℕ) → IsErrOf result (WorldFault.TooMany which) → ⊥ }
+        ensures ended { (m : CircuitWorld) → Holds (step_circuit step.now) m (seen D.image_at D.moment self.old pairs.old.items) → IfErr result (λ e. EventEnds (step_circuit step.now) (step_world m step.now) e (seen D.image_at D.moment self.old pairs.old.items) (images D.image_at D.moment pairs.new.items)) }
     {
         match step {
             Step::At {
@@ -104,7 +112,15 @@ impl World {
         ensures place { (slot : ℕ) → IsErrOf result (WorldFault.Disk slot) → IsPlace (places_of self.old) slot }
         ensures running { OnOk result (is_halted self.new ≡ false) }
         ensures halted { OnErr result (is_halted self.new ≡ true) }
+        // A calm of six passes or more settles the first pending act, and the first pending batch, of a
+        // circuit whose members are all up, bound and open.
+        ensures settles_acts { (before : List Ran) (c : CircuitId) (k : ℕ) (d : Definition) (v : Act) (rest : List Act) → Stands before self.old (images D.image_at D.moment pairs.old.items) → line.now ≡ Line.Calm c k → 6 ≤ k → IsWhole (whole_world (ids_of self.old) c before) d → (acts_kept (whole_world (ids_of self.old) c before) (admin d)).pending ≡ v ∷ rest → OnOk result (IsSettled d (admin d) v (acts_kept (whole_world (ids_of self.old) c (before ++ by_rule line.now ∷ [])))) }
+        ensures settles_batches { (before : List Ran) (c : CircuitId) (k : ℕ) (d : Definition) (v : Batch) (rest : List Batch) → Stands before self.old (images D.image_at D.moment pairs.old.items) → line.now ≡ Line.Calm c k → 6 ≤ k → IsWhole (whole_world (ids_of self.old) c before) d → IsActiveAll (whole_world (ids_of self.old) c before) d → (batches_kept (whole_world (ids_of self.old) c before) (service d)).pending ≡ v ∷ rest → OnOk result (IsSettled d (service d) v (batches_kept (whole_world (ids_of self.old) c (before ++ by_rule line.now ∷ [])))) }
+        // Where it ends with an error, the disks of all nodes hold what the nodes keep at one moment of the line, but for one node
+        // where a disk failed or memory was wanting, and those of that node hold what it keeps at that moment or another.
+        ensures ended { (before : List Ran) → Stands before self.old (images D.image_at D.moment pairs.old.items) → IfErr result (λ e. LineEnds (λ c. whole_world (ids_of self.old) c before) (by_rule line.now) e (ids_of self.old) (places_of self.old) (images D.image_at D.moment pairs.new.items)) }
     {
+        self.calms_settle();
         let answered = self.run_line(alloc, pairs, line);
         self.events.are_within();
         let failed = answered.is_err();
@@ -133,6 +149,7 @@ impl World {
         ensures refused { (why : Refusal) → IfOk result (λ a. a ≡ Answer.Refused why → Stays (seen D.image_at D.moment self.old pairs.old.items) (seen D.image_at D.moment self.new pairs.new.items)) }
         ensures disks { LeavesDisks result (bench D.image_at D.moment D.faults D.armed D.picks pairs.old.items) (bench D.image_at D.moment D.faults D.armed D.picks pairs.new.items) }
         ensures place { (slot : ℕ) → IsErrOf result (WorldFault.Disk slot) → IsPlace (places_of self.old) slot }
+        ensures ended { (before : List Ran) → Stands before self.old (images D.image_at D.moment pairs.old.items) → IfErr result (λ e. LineEnds (λ c. whole_world (ids_of self.old) c before) (by_rule line.now) e (ids_of self.old) (places_of self.old) (images D.image_at D.moment pairs.new.items)) }
     {
         match line {
             Line::Step(step) => {

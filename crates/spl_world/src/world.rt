@@ -1,5 +1,5 @@
 //! All nodes of a run, and what happens at one of them.
-ghost use Rattle.std.specs.Prelude.{◌≡◌, ◌+◌, ◌<◌, ◌&&◌, ℕ, List, Some, length, slice_get, true, false, IfOk, IfSome, OnOk, IsErrOf};
+ghost use Rattle.std.specs.Prelude.{◌≡◌, ◌+◌, ◌<◌, ◌&&◌, ℕ, List, Some, length, slice_get, true, false, IfOk, IfSome, OnOk, IsErrOf, IfErr};
 ghost use Rattle.std.specs.List.{position_from};
 ghost use Rattle.std.specs.Str.{bytes_eq};
 ghost use Rattle.spl_circuit.specs.Nodes.{NodeId as Id, has_node};
@@ -8,8 +8,9 @@ ghost use Rattle.spl_rules.specs.Cells.{is_open_cell};
 ghost use Rattle.spl_rules.specs.Plans.{plan_of};
 ghost use Rattle.spl_rules.specs.Valid.{IsFor};
 ghost use Rattle.spl_model.specs.Worlds.{site_at, World as CircuitWorld, messages, carried_out, step_plan, step_world};
-ghost use Rattle.spl_world.specs.Disks.{Images, LeavesDisks, bench};
+ghost use Rattle.spl_world.specs.Disks.{Images, LeavesDisks, bench, images};
 ghost use Rattle.spl_world.specs.Halts.{delivery_of};
+ghost use Rattle.spl_world.specs.Ended.{EventEnds};
 ghost use Rattle.spl_world.specs.Views.{IsPlace, Holds, IsAt, IsUp, Moves, Sits, has_id, places_of, ids_of, is_halted, over, seen, ups_of};
 
 use crate::events::Events;
@@ -107,6 +108,7 @@ impl World {
         ensures sits { OnOk result (Sits (seen D.image_at D.moment self.new pairs.new.items)) }
         ensures disks { LeavesDisks result (bench D.image_at D.moment D.faults D.armed D.picks pairs.old.items) (bench D.image_at D.moment D.faults D.armed D.picks pairs.new.items) }
         ensures place { (slot : ℕ) → IsErrOf result (WorldFault.Disk slot) → IsPlace (places_of self.old) slot }
+        ensures ended { (m : CircuitWorld) (n : Id) → Holds circuit m (seen D.image_at D.moment self.old pairs.old.items) → IsAt self.old slot n → IfErr result (λ e. EventEnds circuit (carried_out m n (plan_of (site_at n circuit) (m.at n) event.now)) e (seen D.image_at D.moment self.old pairs.old.items) (images D.image_at D.moment pairs.new.items)) }
         ensures few { (which : ℕ) → IsErrOf result (WorldFault.TooMany which) → ⊥ }
     {
         let here = &mut self.slots[slot];
@@ -209,6 +211,7 @@ impl World {
         ensures sits { OnOk result (Sits (seen D.image_at D.moment self.new pairs.new.items)) }
         ensures disks { LeavesDisks result (bench D.image_at D.moment D.faults D.armed D.picks pairs.old.items) (bench D.image_at D.moment D.faults D.armed D.picks pairs.new.items) }
         ensures place { (slot : ℕ) → IsErrOf result (WorldFault.Disk slot) → IsPlace (places_of self.old) slot }
+        ensures ended { (m : CircuitWorld) (a b : Id) → Holds circuit m (seen D.image_at D.moment self.old pairs.old.items) → IsAt self.old from a → IsAt self.old to b → IfErr result (λ e. EventEnds circuit (step_world m (step.Deliver a b circuit (index + 1))) e (seen D.image_at D.moment self.old pairs.old.items) (images D.image_at D.moment pairs.new.items)) }
         ensures few { (which : ℕ) → IsErrOf result (WorldFault.TooMany which) → ⊥ }
     {
         let delivery = self.delivery(alloc, from, to, &circuit, index)?;

@@ -6,6 +6,7 @@ use Rattle.spl_world.specs.Disks.{images_of}
 use Rattle.spl_world.specs.Kept.{SendsBelong}
 use Rattle.spl_world.specs.Views.{node_view, slot_id}
 use Rattle.spl_world.proofs.About.{plan_about}
+use Rattle.spl_world.proofs.Ending.{host_left}
 use Rattle.spl_world.proofs.slot.Slot.handle.Goals as goal
 
 pub post-requires : goal.post-requires
@@ -15,3 +16,15 @@ post-requires g c =
     let cell = (node_view here (images_of g.D.Disk.image_at g.D.Disk.moment c.args.disks.now)).cells c.args.circuit.now in
     subst (λ (os : List Outgoing). SendsBelong c.args.circuit.now os) (sym (c.as_slice.ensures ∙ c.in-Ok.ensures.sends))
     (plan_about site cell c.args.event.now (ap (λ (os : List Outgoing). are_legal os) (sym c.in-Ok.ensures.sends) ∙ c.in-Ok.ensures.legal))
+
+pub returns-in_err-post-in-Ok-clause-leaves : goal.returns-in_err-post-in-Ok-clause-leaves
+returns-in_err-post-in-Ok-clause-leaves g c =
+    host_left g.D.Disk.image_at g.D.Disk.moment c.args.self.now.host c.args.disks.now c.handle.new.disks c.args.circuit.now c.args.event.now (g.met.D.StopDisk.tells c.args.disks.now.first) (g.met.D.StopDisk.tells c.args.disks.now.second) c.handle.ensures.on_first.later c.handle.ensures.on_second.later c.handle.ensures.any_moment
+
+pub returns-in_ok-post-in-Ok-clause-leaves : goal.returns-in_ok-post-in-Ok-clause-leaves
+returns-in_ok-post-in-Ok-clause-leaves g c =
+    host_left g.D.Disk.image_at g.D.Disk.moment c.args.self.now.host c.args.disks.now c.handle.new.disks c.args.circuit.now c.args.event.now (g.met.D.StopDisk.tells c.args.disks.now.first) (g.met.D.StopDisk.tells c.args.disks.now.second) c.handle.ensures.on_first.later c.handle.ensures.on_second.later c.handle.ensures.any_moment
+
+pub returns-in-Err-clause-leaves : goal.returns-in-Err-clause-leaves
+returns-in-Err-clause-leaves g c =
+    host_left g.D.Disk.image_at g.D.Disk.moment c.args.self.now.host c.args.disks.now c.handle.new.disks c.args.circuit.now c.args.event.now (g.met.D.StopDisk.tells c.args.disks.now.first) (g.met.D.StopDisk.tells c.args.disks.now.second) c.handle.ensures.on_first.later c.handle.ensures.on_second.later c.handle.ensures.any_moment

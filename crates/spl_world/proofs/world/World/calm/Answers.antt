@@ -14,6 +14,9 @@ use Rattle.spl_world.proofs.Results.{on_ok}
 use Rattle.spl_world.proofs.Slots.{same_length}
 use Rattle.spl_world.specs.Disks.{images}
 use Rattle.spl_world.proofs.Leaving.{all_itself, all_then, leaves_counted, leaves_failed, leaves_memory, leaves_ok, leaves_then, memory_no_disk, disk_at, counted_no_disk}
+use Rattle.spl_world.proofs.Ending.{any_fault, failed_ends}
+use Rattle.spl_world.proofs.EndingParts.{leads_pass, leads_same, leads_then, leads_to, next_pass_leads, part_still, part_then, passes_so_far}
+use Rattle.spl_world.specs.Ended.{PartEnds}
 use Rattle.spl_world.proofs.world.World.calm.Goals as goal
 
 pub pass-requires-clause-square : goal.pass-requires-clause-square
@@ -134,3 +137,49 @@ returns-in_err-pass-clause-place g c = disk_at _ _ c.from_residual-in_err-pass.r
 
 pub returns-then-not-branch-clause-place : goal.returns-then-not-branch-clause-place
 returns-then-not-branch-clause-place g c = λ slot q. absurd (counted_no_disk c.add.result 1 c.add.ensures.fault slot q)
+
+-- ---- an error
+
+pub returns-in_err-rows-clause-ended : goal.returns-in_err-rows-clause-ended
+returns-in_err-rows-clause-ended g c = λ m h.
+    let old = (seen g.D.Disk.image_at g.D.Disk.moment c.args.self.now c.args.pairs.now.items) in
+    let ids = ids_of c.args.self.now in
+    let whole : Calming = calm c.args.circuit m c.args.passes in
+    any_fault c.from_residual.result (λ e. PartEnds c.args.circuit (calming m) whole e old old.disks)
+    (λ e. part_still c.args.circuit (calming m) (calming m) whole e old old (leads_same (calming m)) (leads_to (calming m) (passes c.args.circuit ids c.args.passes (calming m)) whole (calm_is c.args.circuit m old c.args.passes h) (passes_so_far c.args.circuit ids c.args.passes (calming m)))
+    refl refl c.requires.sits h (λ d w off k. k))
+
+pub returns-in_err-pass-clause-ended : goal.returns-in_err-pass-clause-ended
+returns-in_err-pass-clause-ended g c = λ m h.
+    let old = (seen g.D.Disk.image_at g.D.Disk.moment c.args.self.now c.args.pairs.now.items) in
+    let mid = seen g.D.Disk.image_at g.D.Disk.moment c.loop-done.self c.loop-done.pairs.items in
+    let is = images g.D.Disk.image_at g.D.Disk.moment c.pass.new.pairs.items in
+    let ids = ids_of c.args.self.now in
+    let whole : Calming = calm c.args.circuit m c.args.passes in
+    let so_far = c.loop-done.invariant.3 m h in
+    let y : Calming = passes c.args.circuit ids c.loop-done.done (calming m) in
+    let rows = subst (λ (ns : List NodeId). AreRows y.taken ns c.loop-done.rows.items) (sym c.loop-done.invariant.1) so_far.1 in
+    let most : c.loop-done.done + 1 ≤ c.args.passes = omega (arith, c.loop-done-test.true) in
+    let part = subst (λ (ns : List NodeId). PartEnds c.args.circuit y (pass c.args.circuit ns y) c.in_err-pass.field-0.0 mid is) c.loop-done.invariant.1 (c.in_err-pass.ensures.ended y so_far.0 rows) in
+    failed_ends c.from_residual-in_err-pass.result _ c.from_residual-in_err-pass.ensures (λ e. PartEnds c.args.circuit (calming m) whole e old is)
+    (part_then c.args.circuit (calming m) y (pass c.args.circuit ids y) whole c.in_err-pass.field-0.0 old mid is (passes_so_far c.args.circuit ids c.loop-done.done (calming m))
+    (leads_to (pass c.args.circuit ids y) (passes c.args.circuit ids c.args.passes (calming m)) whole (calm_is c.args.circuit m old c.args.passes h) (next_pass_leads c.args.circuit ids c.loop-done.done c.args.passes (calming m) most))
+    c.loop-done.invariant.1 c.loop-done.invariant.8 c.loop-done.invariant.4 part)
+
+pub returns-then-not-branch-clause-ended : goal.returns-then-not-branch-clause-ended
+returns-then-not-branch-clause-ended g c = λ m h.
+    let old = (seen g.D.Disk.image_at g.D.Disk.moment c.args.self.now c.args.pairs.now.items) in
+    let mid = seen g.D.Disk.image_at g.D.Disk.moment c.loop-done.self c.loop-done.pairs.items in
+    let last = seen g.D.Disk.image_at g.D.Disk.moment c.pass.new.self c.pass.new.pairs.items in
+    let ids = ids_of c.args.self.now in
+    let whole : Calming = calm c.args.circuit m c.args.passes in
+    let so_far = c.loop-done.invariant.3 m h in
+    let y : Calming = passes c.args.circuit ids c.loop-done.done (calming m) in
+    let here : Calming = pass c.args.circuit ids y in
+    let rows = subst (λ (ns : List NodeId). AreRows y.taken ns c.loop-done.rows.items) (sym c.loop-done.invariant.1) so_far.1 in
+    let most : c.loop-done.done + 1 ≤ c.args.passes = omega (arith, c.loop-done-test.true) in
+    let behind = subst (λ (ns : List NodeId). Holds c.args.circuit (pass c.args.circuit ns y).world last) c.loop-done.invariant.1 (c.in_ok-pass.ensures.own y so_far.0 rows).0 in
+    any_fault c.add.result (λ e. PartEnds c.args.circuit (calming m) whole e old last.disks)
+    (λ e. part_still c.args.circuit (calming m) here whole e old last (leads_then (calming m) y here (passes_so_far c.args.circuit ids c.loop-done.done (calming m)) (leads_pass c.args.circuit ids y))
+    (leads_to here (passes c.args.circuit ids c.args.passes (calming m)) whole (calm_is c.args.circuit m old c.args.passes h) (next_pass_leads c.args.circuit ids c.loop-done.done c.args.passes (calming m) most))
+    (c.pass.ensures.ids ∙ c.loop-done.invariant.1) (c.pass.ensures.places ∙ c.loop-done.invariant.8) c.in_ok-pass.ensures.sits behind (spares_then c.args.circuit old mid last c.loop-done.invariant.4 c.in_ok-pass.ensures.others))

@@ -12,6 +12,10 @@ use Rattle.spl_world.proofs.Delivery.{delivered_as, moves_as, no_delivery, none_
 use Rattle.spl_world.proofs.Leaving.{leaves_same}
 use Rattle.spl_world.proofs.Results.{at_ok, when_ok}
 use Rattle.spl_world.proofs.Up.{node_up}
+use Rattle.spl_world.proofs.Ending.{any_fault, still_ended}
+use Rattle.spl_world.specs.Ended.{EventEnds}
+use Rattle.spl_world.specs.Disks.{images}
+use Rattle.std.specs.Prelude.{IfErr}
 use Rattle.spl_world.proofs.world.World.deliver.Given.{Over}
 use Rattle.spl_world.proofs.world.World.deliver.Goals as goal
 
@@ -44,3 +48,14 @@ returns-in-Some-clause-moves g c = λ a b at to. at_ok c.handle.result (λ moves
 
 pub returns-in-None-clause-disks : goal.returns-in-None-clause-disks
 returns-in-None-clause-disks g c = leaves_same _ _
+
+-- ---- an error
+
+pub returns-in_err-message-in-Some-clause-ended : goal.returns-in_err-message-in-Some-clause-ended
+returns-in_err-message-in-Some-clause-ended g c = λ m a b h at to.
+    let xs = (seen g.D.Disk.image_at g.D.Disk.moment c.args.self.now c.args.pairs.now.items) in
+    any_fault c.from_residual.result (λ e. EventEnds c.args.circuit (step_world m (step.Deliver a b c.args.circuit (c.args.index + 1))) e xs xs.disks) (λ e. still_ended c.args.circuit (step_world m (step.Deliver a b c.args.circuit (c.args.index + 1))) e xs)
+
+pub returns-clause-ended : goal.returns-clause-ended
+returns-clause-ended g c = λ m a b h at to.
+    subst (λ (w : CircuitWorld). IfErr c.handle.result (λ e. EventEnds c.args.circuit w e (seen g.D.Disk.image_at g.D.Disk.moment c.args.self.now c.args.pairs.now.items) (images g.D.Disk.image_at g.D.Disk.moment c.handle.new.pairs.items))) (ap (carried_out m b) (one g c m a b h at to)) (c.handle.ensures.ended m b h to)

@@ -1,7 +1,7 @@
 use Rattle.std.proofs.Common.{◌≡◌, ◌+◌, ◌-◌, ◌<◌, ◌≤◌, ℕ, ◌∙◌, ap, sym, subst, slice_get, Some, Bool, true, List, arith, refl}
 use Rattle.spl_circuit.specs.Nodes.{NodeId}
 use Rattle.spl_sched.specs.declared.line.Step.TheVariants as step
-use Rattle.spl_model.specs.Worlds.{step_world}
+use Rattle.spl_model.specs.Worlds.{step_world, World as CircuitWorld}
 use Rattle.spl_world.specs.Views.{Moves, seen}
 use Rattle.spl_world.proofs.Composed.{moves_nothing, moves_then}
 use Rattle.spl_world.proofs.Counting.{counts_done, counts_more, counts_failed, counts_other}
@@ -9,6 +9,11 @@ use Rattle.spl_world.proofs.Delivery.{moves_as}
 use Rattle.spl_world.proofs.Slots.{same_length}
 use Rattle.spl_world.proofs.Turns.{delivered, deliver_more}
 use Rattle.spl_world.proofs.Leaving.{all_itself, all_then, leaves_failed, leaves_limit, leaves_ok, leaves_then, limit_no_disk, disk_at}
+use Rattle.spl_world.proofs.Ending.{any_fault, failed_ends}
+use Rattle.spl_world.proofs.EndingParts.{delivers_front, leads_delivers, part_event, part_still}
+use Rattle.spl_world.specs.Ended.{EventEnds, PartEnds}
+use Rattle.spl_world.specs.Disks.{images}
+use Rattle.spl_model.specs.Calm.{Calming, delivers}
 use Rattle.spl_world.proofs.world.World.deliver_from.Goals as goal
 
 pub deliver-requires-clause-from_below : goal.deliver-requires-clause-from_below
@@ -101,3 +106,34 @@ returns-in_err-add-clause-place g c = λ slot q. absurd (limit_no_disk c.from_re
 
 pub returns-in_err-deliver-clause-place : goal.returns-in_err-deliver-clause-place
 returns-in_err-deliver-clause-place g c = disk_at _ _ c.from_residual-in_err-deliver.result _ c.from_residual-in_err-deliver.ensures c.loop-index.invariant.9 c.in_err-deliver.ensures.place
+
+-- ---- an error
+
+pub returns-in_err-add-clause-ended : goal.returns-in_err-add-clause-ended
+returns-in_err-add-clause-ended g c = λ z a b h at to.
+    let old = (seen g.D.Disk.image_at g.D.Disk.moment c.args.self.now c.args.pairs.now.items) in
+    let mid = seen g.D.Disk.image_at g.D.Disk.moment c.loop-index.self c.loop-index.pairs.items in
+    let here : Calming = delivers c.args.circuit z a b (c.args.taken + 1) (c.loop-index.index - c.args.taken) in
+    let all : Calming = delivers c.args.circuit z a b (c.args.taken + 1) (c.args.all - c.args.taken) in
+    let moves = c.loop-index.invariant.5 z a b at to in
+    any_fault c.from_residual.result (λ e. PartEnds c.args.circuit z all e old mid.disks)
+    (λ e. part_still c.args.circuit z here all e old mid (leads_delivers c.args.circuit z a b (c.args.taken + 1) (c.loop-index.index - c.args.taken)) (delivers_front c.args.circuit z a b (c.args.taken + 1) (c.loop-index.index - c.args.taken) (c.args.all - c.args.taken) c.loop-index.invariant.4)
+    c.loop-index.invariant.1 c.loop-index.invariant.9 c.loop-index.invariant.7 (moves.own z.world h) moves.others)
+
+pub returns-in_err-deliver-clause-ended : goal.returns-in_err-deliver-clause-ended
+returns-in_err-deliver-clause-ended g c = λ z a b h at to.
+    let old = (seen g.D.Disk.image_at g.D.Disk.moment c.args.self.now c.args.pairs.now.items) in
+    let mid = seen g.D.Disk.image_at g.D.Disk.moment c.loop-index.self c.loop-index.pairs.items in
+    let is = images g.D.Disk.image_at g.D.Disk.moment c.deliver.new.pairs.items in
+    let here : Calming = delivers c.args.circuit z a b (c.args.taken + 1) (c.loop-index.index - c.args.taken) in
+    let next : Calming = delivers c.args.circuit z a b (c.args.taken + 1) ((c.loop-index.index + 1) - c.args.taken) in
+    let all : Calming = delivers c.args.circuit z a b (c.args.taken + 1) (c.args.all - c.args.taken) in
+    let moves = c.loop-index.invariant.5 z a b at to in
+    let first = ap (λ (ns : List NodeId). slice_get ns c.args.from) c.loop-index.invariant.1 ∙ at in
+    let second = ap (λ (ns : List NodeId). slice_get ns c.args.to) c.loop-index.invariant.1 ∙ to in
+    let more : c.loop-index.index - c.args.taken ≤ (c.loop-index.index + 1) - c.args.taken = omega arith in
+    let most : (c.loop-index.index + 1) - c.args.taken ≤ c.args.all - c.args.taken = omega (arith, c.loop-index.invariant.3, c.loop-index.invariant.4, c.loop-index-test.true) in
+    let ended = subst (λ (w : CircuitWorld). EventEnds c.args.circuit w c.in_err-deliver.field-0.0 mid is) (deliver_more c.args.circuit z a b c.args.taken c.loop-index.index z.world c.loop-index.invariant.3) (c.in_err-deliver.ensures.ended here.world a b (moves.own z.world h) first second) in
+    failed_ends c.from_residual-in_err-deliver.result _ c.from_residual-in_err-deliver.ensures (λ e. PartEnds c.args.circuit z all e old is)
+    (part_event c.args.circuit z here next all c.in_err-deliver.field-0.0 old mid is (leads_delivers c.args.circuit z a b (c.args.taken + 1) (c.loop-index.index - c.args.taken)) (delivers_front c.args.circuit z a b (c.args.taken + 1) (c.loop-index.index - c.args.taken) ((c.loop-index.index + 1) - c.args.taken) more) (delivers_front c.args.circuit z a b (c.args.taken + 1) ((c.loop-index.index + 1) - c.args.taken) (c.args.all - c.args.taken) most)
+    c.loop-index.invariant.1 c.loop-index.invariant.9 c.loop-index.invariant.7 (moves.own z.world h) moves.others ended)

@@ -12,6 +12,10 @@ use Rattle.spl_world.proofs.Counting.{counts_done, counts_then, counts_failed, f
 use Rattle.spl_world.proofs.Slots.{some_at, same_length, length_ids, set_length}
 use Rattle.spl_world.proofs.Turns.{sender_own, from_all_next, square_set}
 use Rattle.spl_world.proofs.Leaving.{all_itself, all_then, leaves_failed, leaves_ok, leaves_then, disk_at}
+use Rattle.spl_world.proofs.Ending.{failed_ends}
+use Rattle.spl_world.proofs.EndingParts.{from_all_turn, leads_from_all, part_then}
+use Rattle.spl_world.specs.Ended.{PartEnds}
+use Rattle.spl_world.specs.Disks.{images}
 use Rattle.spl_world.proofs.world.World.from_all.Goals as goal
 
 pub loop-from-preserved : goal.loop-from-preserved
@@ -99,3 +103,25 @@ returns-clause-disks g c = leaves_ok _ _ _ c.loop-from.invariant.7
 
 pub returns-in_err-to_all-clause-place : goal.returns-in_err-to_all-clause-place
 returns-in_err-to_all-clause-place g c = disk_at _ _ c.from_residual.result _ c.from_residual.ensures c.loop-from.invariant.8 c.in_err-to_all.ensures.place
+
+-- ---- an error
+
+pub returns-in_err-to_all-clause-ended : goal.returns-in_err-to_all-clause-ended
+returns-in_err-to_all-clause-ended g c = λ z h rows.
+    let old = (seen g.D.Disk.image_at g.D.Disk.moment c.args.self.now c.args.pairs.now.items) in
+    let mid = seen g.D.Disk.image_at g.D.Disk.moment c.loop-from.self c.loop-from.pairs.items in
+    let is = images g.D.Disk.image_at g.D.Disk.moment c.to_all.new.pairs.items in
+    let ids = ids_of c.args.self.now in
+    let below = rw (c.len-from-end.ensures) at c.loop-from-test.true in
+    let sender = some_at c.args.self.now.slots.items c.loop-from.from below in
+    let there : slice_get c.loop-from.rows.items c.loop-from.from ≡ Some c.index_mut.result.now =
+    slice_get_read c.loop-from.rows.items (length c.loop-from.rows.items) c.loop-from.from c.index_mut.result.now refl (subst (λ (n : ℕ). c.loop-from.from < n) (sym c.loop-from.invariant.2.tall) below) c.index_mut.ensures.value in
+    let y : Calming = from_all c.args.circuit z ids (take c.loop-from.from ids) in
+    let whole : Calming = from_all c.args.circuit z ids ids in
+    let so_far = c.loop-from.invariant.3 z h rows in
+    let here : slice_get (ids_of c.loop-from.self) c.loop-from.from ≡ Some sender.0 = ap (λ (ns : List NodeId). slice_get ns c.loop-from.from) c.loop-from.invariant.1 ∙ sender.1 in
+    let row = subst (λ (ns : List NodeId). c.index_mut.result.now.items ≡ row_of y.taken sender.0 ns) (sym c.loop-from.invariant.1) (so_far.1 c.loop-from.from sender.0 c.index_mut.result.now sender.1 there) in
+    let part = subst (λ (ns : List NodeId). PartEnds c.args.circuit y (to_all c.args.circuit y sender.0 ns) c.in_err-to_all.field-0.0 mid is) c.loop-from.invariant.1 (c.in_err-to_all.ensures.ended y sender.0 so_far.0 here row) in
+    failed_ends c.from_residual.result _ c.from_residual.ensures (λ e. PartEnds c.args.circuit z whole e old is)
+    (part_then c.args.circuit z y (to_all c.args.circuit y sender.0 ids) whole c.in_err-to_all.field-0.0 old mid is (leads_from_all c.args.circuit z ids (take c.loop-from.from ids)) (from_all_turn c.args.circuit z ids c.loop-from.from sender.0 sender.1)
+    c.loop-from.invariant.1 c.loop-from.invariant.8 c.loop-from.invariant.4 part)

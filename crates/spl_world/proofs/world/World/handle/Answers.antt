@@ -10,6 +10,7 @@ use Rattle.spl_world.proofs.Moving.{same_plan}
 use Rattle.spl_world.proofs.Results.{at_ok, ok_both, when_ok}
 use Rattle.spl_world.proofs.Slots.{same_ids, same_places, id_at, place_at}
 use Rattle.spl_world.proofs.Up.{is_there_up, same_ups}
+use Rattle.spl_world.proofs.Ending.{own_ended}
 use Rattle.spl_world.proofs.world.World.handle.Goals as goal
 
 pub index_mut-disks-requires : goal.index_mut-disks-requires
@@ -103,3 +104,14 @@ returns-clause-place g c = λ slot q.
     let s = c.index_mut-here.result.now in
     let at = place_at ss c.args.slot s (slice_get_read ss (length ss) c.args.slot s refl c.requires.below c.index_mut-here.ensures.value) in
     (c.args.slot, at ∙ ap Some (sym (c.handle.ensures.failed slot q).0))
+
+pub returns-clause-ended : goal.returns-clause-ended
+returns-clause-ended g c = λ m n h at.
+    let ss = c.args.self.now.slots.items in
+    let ps = c.args.pairs.now.items in
+    let s = c.index_mut-here.result.now in
+    let there = slice_get_read ss (length ss) c.args.slot s refl c.requires.below c.index_mut-here.ensures.value in
+    let below = pair_below g.D.Disk.image_at g.D.Disk.moment ss ps c.args.slot s c.requires.sits there c.position.result c.position.ensures in
+    let pair = slice_get_read ps (length ps) c.position.result c.index_mut-disks.result.now refl below c.index_mut-disks.ensures.value in
+    own_ended g.D.Disk.image_at g.D.Disk.moment ss ps c.args.slot s c.requires.sits there c.position.result c.position.ensures c.index_mut-disks.result.now pair c.handle.new.self c.handle.new.disks c.args.circuit n c.args.event.now m at h
+    c.handle.result c.handle.ensures.few (λ slot q. (c.handle.ensures.failed slot q).0) c.handle.ensures.leaves

@@ -1,6 +1,6 @@
 use Rattle.std.proofs.Common.{◌≡◌, ◌+◌, ◌-◌, true, false, ◌∙◌, ap, sym, refl, length, arith}
 use Rattle.spl_model.specs.Worlds.{messages}
-use Rattle.spl_model.specs.Calm.{Calming, pair_turn}
+use Rattle.spl_model.specs.Calm.{Calming, pair_turn, delivers}
 use Rattle.spl_world.proofs.Composed.{moves_nothing}
 use Rattle.spl_world.proofs.Counting.{counts_none, counts_done, counts_more, counts_failed, counts_to, at_least}
 use Rattle.spl_world.proofs.Delivery.{moves_as}
@@ -9,6 +9,9 @@ use Rattle.spl_world.proofs.Turns.{delivered, same_turn, turn_is, turn_none, tur
 use Rattle.spl_world.specs.Views.{seen}
 use Rattle.spl_world.specs.Disks.{images}
 use Rattle.spl_world.proofs.Leaving.{leaves_failed, leaves_ok, leaves_same, disk_at}
+use Rattle.spl_world.proofs.Ending.{failed_ends}
+use Rattle.spl_world.proofs.EndingParts.{leads_same, part_then, turn_leads}
+use Rattle.spl_world.specs.Ended.{PartEnds}
 use Rattle.spl_world.proofs.world.World.pair_turn.Goals as goal
 
 -- the recipient is down
@@ -88,3 +91,16 @@ returns-clause-disks g c = leaves_ok _ _ _ c.in_ok-deliver_from.ensures.disks.on
 
 pub returns-in_err-deliver_from-clause-place : goal.returns-in_err-deliver_from-clause-place
 returns-in_err-deliver_from-clause-place g c = disk_at _ _ c.from_residual.result _ c.from_residual.ensures refl c.in_err-deliver_from.ensures.place
+
+-- ---- an error
+
+pub returns-in_err-deliver_from-clause-ended : goal.returns-in_err-deliver_from-clause-ended
+returns-in_err-deliver_from-clause-ended g c = λ z a b h at to e.
+    let old = (seen g.D.Disk.image_at g.D.Disk.moment c.args.self.now c.args.pairs.now.items) in
+    let is = images g.D.Disk.image_at g.D.Disk.moment c.deliver_from.new.pairs.items in
+    let up : z.world.up b ≡ true = sym (c.is_up.ensures.world (images g.D.Disk.image_at g.D.Disk.moment c.args.pairs.now.items) c.args.circuit z.world b h to) ∙ c.if-not-is_up.false in
+    let all = c.count-all.ensures (images g.D.Disk.image_at g.D.Disk.moment c.args.pairs.now.items) z.world a b h at to in
+    let part : Calming = delivers c.args.circuit z a b (c.args.taken + 1) (c.count-all.result - c.args.taken) in
+    let whole : Calming = pair_turn c.args.circuit z a b in
+    failed_ends c.from_residual.result _ c.from_residual.ensures (λ f. PartEnds c.args.circuit z whole f old is)
+    (part_then c.args.circuit z z part whole c.in_err-deliver_from.field-0.0 old old is (leads_same z) (turn_leads c.args.circuit z a b c.args.taken c.count-all.result e all up) refl refl (λ d m off k. k) (c.in_err-deliver_from.ensures.ended z a b h at to))

@@ -12,6 +12,10 @@ use Rattle.spl_world.proofs.Slots.{same_length}
 use Rattle.spl_world.proofs.Ticking.{or_false}
 use Rattle.spl_world.proofs.Turns.{rows_same, ticks_taken, some_calming}
 use Rattle.spl_world.proofs.Leaving.{all_then, leaves_failed, leaves_ok, leaves_then, disk_at}
+use Rattle.spl_world.proofs.Ending.{failed_ends}
+use Rattle.spl_world.proofs.EndingParts.{leads_from_all, leads_same, leads_ticks, part_then}
+use Rattle.spl_world.specs.Ended.{PartEnds}
+use Rattle.spl_world.specs.Disks.{images}
 use Rattle.spl_world.proofs.world.World.pass.Goals as goal
 
 pub from_all-requires-clause-square : goal.from_all-requires-clause-square
@@ -87,3 +91,27 @@ returns-in_err-moved-clause-place g c = disk_at _ _ c.from_residual.result _ c.f
 
 pub returns-in_err-from_all-clause-place : goal.returns-in_err-from_all-clause-place
 returns-in_err-from_all-clause-place g c = disk_at _ _ c.from_residual-in_err-from_all.result _ c.from_residual-in_err-from_all.ensures c.tick_all.ensures.places c.in_err-from_all.ensures.place
+
+-- ---- an error
+
+pub returns-in_err-moved-clause-ended : goal.returns-in_err-moved-clause-ended
+returns-in_err-moved-clause-ended g c = λ z h rows.
+    let old = (seen g.D.Disk.image_at g.D.Disk.moment c.args.self.now c.args.pairs.now.items) in
+    let is = images g.D.Disk.image_at g.D.Disk.moment c.tick_all.new.pairs.items in
+    let ids = ids_of c.args.self.now in
+    let y : Calming = ticks c.args.circuit z (open_nodes z.world ids) in
+    failed_ends c.from_residual.result _ c.from_residual.ensures (λ e. PartEnds c.args.circuit z (pass c.args.circuit ids z) e old is)
+    (part_then c.args.circuit z z y (pass c.args.circuit ids z) c.in_err-moved.field-0.0 old old is (leads_same z) (leads_from_all c.args.circuit y ids ids) refl refl (λ d m off k. k) (c.in_err-moved.ensures.ended z h))
+
+pub returns-in_err-from_all-clause-ended : goal.returns-in_err-from_all-clause-ended
+returns-in_err-from_all-clause-ended g c = λ z h rows.
+    let old = (seen g.D.Disk.image_at g.D.Disk.moment c.args.self.now c.args.pairs.now.items) in
+    let mid = seen g.D.Disk.image_at g.D.Disk.moment c.tick_all.new.self c.tick_all.new.pairs.items in
+    let is = images g.D.Disk.image_at g.D.Disk.moment c.from_all.new.pairs.items in
+    let ids = ids_of c.args.self.now in
+    let y : Calming = ticks c.args.circuit z (open_nodes z.world ids) in
+    let whole : Calming = pass c.args.circuit ids z in
+    let taken = subst (λ (ns : List NodeId). AreRows y.taken ns c.args.rows.now.items) (sym c.tick_all.ensures.ids) (rows_same z.taken y.taken ids c.args.rows.now.items (λ a b. sym (ticks_taken c.args.circuit z (open_nodes z.world ids) a b)) rows) in
+    let part = subst (λ (ns : List NodeId). PartEnds c.args.circuit y (from_all c.args.circuit y ns ns) c.in_err-from_all.field-0.0 mid is) c.tick_all.ensures.ids (c.in_err-from_all.ensures.ended y ((c.in_ok-moved.ensures.moves z).own z.world h) taken) in
+    failed_ends c.from_residual-in_err-from_all.result _ c.from_residual-in_err-from_all.ensures (λ e. PartEnds c.args.circuit z whole e old is)
+    (part_then c.args.circuit z y whole whole c.in_err-from_all.field-0.0 old mid is (leads_ticks c.args.circuit z (open_nodes z.world ids)) (leads_same whole) c.tick_all.ensures.ids c.tick_all.ensures.places (c.in_ok-moved.ensures.moves z).others part)

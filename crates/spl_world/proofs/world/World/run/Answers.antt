@@ -1,11 +1,11 @@
-use Rattle.std.proofs.Common.{◌≡◌, ℕ, ◌∙◌, ap, sym, subst, Some, false, IfOk, OnOk}
+use Rattle.std.proofs.Common.{◌≡◌, ℕ, ◌∙◌, ap, sym, subst, Some, false, IfOk, OnOk, true}
 use Rattle.std.specs.Str.{bytes_eq}
 use Rattle.spl_circuit.specs.Nodes.{NodeId}
 use Rattle.spl_wire.specs.declared.answer.Answer.{Answer}
 use Rattle.spl_wire.specs.declared.plan.Plan.{Plan}
 use Rattle.spl_rules.specs.Plans.{plan_of}
 use Rattle.spl_sched.specs.declared.line.Step.TheVariants as step
-use Rattle.spl_model.specs.Worlds.{site_at, carried_out, step_plan, step_world}
+use Rattle.spl_model.specs.Worlds.{site_at, carried_out, step_plan, step_world, World as CircuitWorld}
 use Rattle.spl_world.specs.Disks.{images}
 use Rattle.spl_world.specs.Views.{Moves, ids_of, seen}
 use Rattle.spl_world.proofs.Delivery.{moves_as, down_moves}
@@ -13,6 +13,8 @@ use Rattle.spl_world.proofs.Leaving.{leaves_same}
 use Rattle.spl_world.proofs.Results.{at_ok, when_ok}
 use Rattle.spl_world.proofs.Up.{step_up, world_up, step_down}
 use Rattle.spl_world.proofs.Steps.{step_for, pair_apart, number_back, second_known}
+use Rattle.spl_world.specs.Ended.{EventEnds}
+use Rattle.std.specs.Prelude.{IfErr}
 use Rattle.spl_world.proofs.world.World.run.Goals as goal
 
 pub handle-requires-clause-own : goal.handle-requires-clause-own
@@ -83,3 +85,21 @@ returns-then-not-is_up-clause-disks g c = leaves_same _ _
 
 pub returns-then-not-is_up-2-clause-disks : goal.returns-then-not-is_up-2-clause-disks
 returns-then-not-is_up-2-clause-disks g c = leaves_same _ _
+
+-- ---- an error
+
+pub returns-else-not-is_up-clause-ended : goal.returns-else-not-is_up-clause-ended
+returns-else-not-is_up-clause-ended g c = λ m h.
+    let circuit = c.in-At.circuit in
+    let s = step.At c.in-At.node circuit c.in-At.event in
+    let is = images g.D.Disk.image_at g.D.Disk.moment c.handle.new.pairs.items in
+    let up : m.up c.in-At.node ≡ true = sym (c.is_up.ensures.world (images g.D.Disk.image_at g.D.Disk.moment c.args.pairs.now.items) circuit m c.in-At.node (rw (c.in-At.is) at h) c.slot-slot.ensures.at) ∙ c.if-not-is_up.false in
+    let same : carried_out m c.in-At.node (plan_of (site_at c.in-At.node circuit) (m.at c.in-At.node) c.in-At.event) ≡ step_world m s = sym (world_up m s up) in
+    rw (c.in-At.is) (subst (λ (w : CircuitWorld). IfErr c.handle.result (λ e. EventEnds circuit w e (seen g.D.Disk.image_at g.D.Disk.moment c.args.self.now c.args.pairs.now.items) is)) same (c.handle.ensures.ended m c.in-At.node (rw (c.in-At.is) at h) c.slot-slot.ensures.at))
+
+pub returns-else-not-is_up-2-clause-ended : goal.returns-else-not-is_up-2-clause-ended
+returns-else-not-is_up-2-clause-ended g c = λ m h.
+    let back = number_back c.in-Deliver.from c.in-Deliver.to c.in-Deliver.circuit c.in-Deliver.number (rw (c.in-Deliver.is) at c.requires.fits) in
+    let is = images g.D.Disk.image_at g.D.Disk.moment c.deliver.new.pairs.items in
+    rw (c.in-Deliver.is) (subst (λ (k : ℕ). IfErr c.deliver.result (λ e. EventEnds c.in-Deliver.circuit (step_world m (step.Deliver c.in-Deliver.from c.in-Deliver.to c.in-Deliver.circuit k)) e (seen g.D.Disk.image_at g.D.Disk.moment c.args.self.now c.args.pairs.now.items) is)) back
+    (c.deliver.ensures.ended m c.in-Deliver.from c.in-Deliver.to (rw (c.in-Deliver.is) at h) c.slot-sender.ensures.at c.slot-recipient.ensures.at))

@@ -1,16 +1,21 @@
-use Rattle.std.proofs.Common.{◌≡◌, ◌+◌, ◌∙◌, false, sym, refl, length, arith}
+use Rattle.std.proofs.Common.{◌≡◌, ◌+◌, ◌∙◌, false, sym, refl, length, arith, ap}
 use Rattle.spl_sched.specs.declared.line.Line.TheVariants as line
 use Rattle.spl_sched.specs.Grammar.{step_circuit}
 use Rattle.spl_model.specs.Calm.{calm}
 use Rattle.spl_projection.specs.Whole.{whole_world}
 use Rattle.spl_world.specs.Disks.{images}
-use Rattle.spl_world.specs.Views.{ids_of, seen}
-use Rattle.spl_world.proofs.Counting.{counts_failed, at_least}
+use Rattle.spl_world.specs.Views.{ids_of, seen, places_of}
+use Rattle.spl_world.proofs.Counting.{counts_failed, at_least, failed}
 use Rattle.spl_world.proofs.Leaving.{all_itself, leaves_failed, leaves_limit, leaves_ok, limit_no_disk, disk_at, memory_no_disk}
 use Rattle.spl_world.proofs.Powering.{stands_start, stands_roll}
 use Rattle.spl_world.proofs.Results.{ok_both}
 use Rattle.spl_world.proofs.Standing.{stands_after, counted_line, over_line, step_result, calm_answered, power_answered}
 use Rattle.spl_world.proofs.Staying.{stays_refused}
+use Rattle.spl_world.specs.Ended.{LineEnds}
+use Rattle.spl_world.proofs.Ending.{failed_ends}
+use Rattle.spl_world.proofs.EndingLines.{ended_by, ended_calm, ended_still, limit_named, memory_named}
+use Rattle.spl_model.specs.Outcomes.{by_rule}
+use Rattle.spl_world.specs.declared.fault.WorldFault.TheVariants.{NoMemory}
 use Rattle.spl_world.proofs.world.World.run_line.Goals as goal
 
 -- ---- a step
@@ -129,3 +134,52 @@ returns-in_err-start_at-in-Start-clause-place g c = disk_at _ _ c.from_residual-
 
 pub returns-in_err-roll_at-in-Roll-clause-place : goal.returns-in_err-roll_at-in-Roll-clause-place
 returns-in_err-roll_at-in-Roll-clause-place g c = λ slot q. absurd (memory_no_disk c.from_residual-in_err-roll_at-in-Roll.result c.from_residual-in_err-roll_at-in-Roll.ensures slot q)
+
+-- ---- an error
+
+pub returns-in_ok-add-in-Step-clause-ended : goal.returns-in_ok-add-in-Step-clause-ended
+returns-in_ok-add-in-Step-clause-ended g c = λ before stands.
+    let s = c.in-Step.step in
+    ended_by before c.args.self.now (images g.D.Disk.image_at g.D.Disk.moment c.args.pairs.now.items) stands c.run.result c.args.line.now s (images g.D.Disk.image_at g.D.Disk.moment c.run.new.pairs.items) c.in-Step.is c.run.ensures.place
+    (c.run.ensures.ended (whole_world (ids_of c.args.self.now) (step_circuit s) before) (stands.each (step_circuit s)))
+
+pub returns-in_err-calm-in-Calm-clause-ended : goal.returns-in_err-calm-in-Calm-clause-ended
+returns-in_err-calm-in-Calm-clause-ended g c = λ before stands.
+    let was = images g.D.Disk.image_at g.D.Disk.moment c.args.pairs.now.items in
+    let is = images g.D.Disk.image_at g.D.Disk.moment c.calm.new.pairs.items in
+    let f = c.in_err-calm-in-Calm.field-0.0 in
+    failed_ends c.from_residual-in_err-calm-in-Calm.result f c.from_residual-in_err-calm-in-Calm.ensures (λ e. LineEnds (λ k. whole_world (ids_of c.args.self.now) k before) (by_rule c.args.line.now) e (ids_of c.args.self.now) (places_of c.args.self.now) is)
+    (ended_calm before c.args.self.now was stands f (λ k q. c.in_err-calm-in-Calm.ensures.place k (ap (failed (Unit {0})) q)) c.in-Calm.circuit c.in-Calm.passes is
+    (c.in_err-calm-in-Calm.ensures.ended (whole_world (ids_of c.args.self.now) c.in-Calm.circuit before) (stands.each c.in-Calm.circuit)) c.args.line.now c.in-Calm.is)
+
+pub returns-in_err-start_at-in-Start-clause-ended : goal.returns-in_err-start_at-in-Start-clause-ended
+returns-in_err-start_at-in-Start-clause-ended g c = λ before stands.
+    let was = images g.D.Disk.image_at g.D.Disk.moment c.args.pairs.now.items in
+    let is = images g.D.Disk.image_at g.D.Disk.moment c.start_at.new.pairs.items in
+    let f = c.in_err-start_at-in-Start.field-0.0 in
+    failed_ends c.from_residual-in_err-start_at-in-Start.result f c.from_residual-in_err-start_at-in-Start.ensures (λ e. LineEnds (λ k. whole_world (ids_of c.args.self.now) k before) (by_rule c.args.line.now) e (ids_of c.args.self.now) (places_of c.args.self.now) is)
+    (ended_still before c.args.self.now was stands f (λ k q. c.in_err-start_at-in-Start.ensures.place k (ap (failed (Unit {0})) q)) c.args.line.now is c.start_at.ensures.same)
+
+pub returns-in_err-add-in-Step-clause-ended : goal.returns-in_err-add-in-Step-clause-ended
+returns-in_err-add-in-Step-clause-ended g c = λ before stands.
+    let was = images g.D.Disk.image_at g.D.Disk.moment c.args.pairs.now.items in
+    failed_ends c.from_residual.result c.in_err-add-in-Step.field-0.0 c.from_residual.ensures (λ e. LineEnds (λ k. whole_world (ids_of c.args.self.now) k before) (by_rule c.args.line.now) e (ids_of c.args.self.now) (places_of c.args.self.now) was)
+    (ended_still before c.args.self.now was stands c.in_err-add-in-Step.field-0.0 (limit_named c.in_err-add-in-Step.field-0.0 1 (places_of c.args.self.now) c.in_err-add-in-Step.ensures.fault) c.args.line.now was refl)
+
+pub returns-in_err-add-in-Start-clause-ended : goal.returns-in_err-add-in-Start-clause-ended
+returns-in_err-add-in-Start-clause-ended g c = λ before stands.
+    let was = images g.D.Disk.image_at g.D.Disk.moment c.args.pairs.now.items in
+    failed_ends c.from_residual-in_err-add-in-Start.result c.in_err-add-in-Start.field-0.0 c.from_residual-in_err-add-in-Start.ensures (λ e. LineEnds (λ k. whole_world (ids_of c.args.self.now) k before) (by_rule c.args.line.now) e (ids_of c.args.self.now) (places_of c.args.self.now) was)
+    (ended_still before c.args.self.now was stands c.in_err-add-in-Start.field-0.0 (limit_named c.in_err-add-in-Start.field-0.0 1 (places_of c.args.self.now) c.in_err-add-in-Start.ensures.fault) c.args.line.now was refl)
+
+pub returns-in_err-add-in-Roll-clause-ended : goal.returns-in_err-add-in-Roll-clause-ended
+returns-in_err-add-in-Roll-clause-ended g c = λ before stands.
+    let was = images g.D.Disk.image_at g.D.Disk.moment c.args.pairs.now.items in
+    failed_ends c.from_residual-in_err-add-in-Roll.result c.in_err-add-in-Roll.field-0.0 c.from_residual-in_err-add-in-Roll.ensures (λ e. LineEnds (λ k. whole_world (ids_of c.args.self.now) k before) (by_rule c.args.line.now) e (ids_of c.args.self.now) (places_of c.args.self.now) was)
+    (ended_still before c.args.self.now was stands c.in_err-add-in-Roll.field-0.0 (limit_named c.in_err-add-in-Roll.field-0.0 1 (places_of c.args.self.now) c.in_err-add-in-Roll.ensures.fault) c.args.line.now was refl)
+
+pub returns-in_err-roll_at-in-Roll-clause-ended : goal.returns-in_err-roll_at-in-Roll-clause-ended
+returns-in_err-roll_at-in-Roll-clause-ended g c = λ before stands.
+    let was = images g.D.Disk.image_at g.D.Disk.moment c.args.pairs.now.items in
+    failed_ends c.from_residual-in_err-roll_at-in-Roll.result NoMemory c.from_residual-in_err-roll_at-in-Roll.ensures (λ e. LineEnds (λ k. whole_world (ids_of c.args.self.now) k before) (by_rule c.args.line.now) e (ids_of c.args.self.now) (places_of c.args.self.now) was)
+    (ended_still before c.args.self.now was stands NoMemory (memory_named (places_of c.args.self.now)) c.args.line.now was refl)

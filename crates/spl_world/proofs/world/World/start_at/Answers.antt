@@ -9,6 +9,7 @@ use Rattle.spl_world.proofs.Handling.{pair_below, own_stands, own_view, own_sits
 use Rattle.spl_world.proofs.Powering.{starts}
 use Rattle.spl_world.proofs.Results.{at_ok, ok_both}
 use Rattle.spl_world.proofs.Slots.{same_at, same_ids, same_places, place_at}
+use Rattle.spl_world.proofs.Ending.{same_images}
 use Rattle.spl_world.proofs.world.World.start_at.Goals as goal
 
 pub index_mut-disks-requires : goal.index_mut-disks-requires
@@ -81,3 +82,13 @@ returns-clause-place g c = λ slot q.
     let s = c.index_mut-here.result.now in
     let at = place_at ss c.args.slot s (slice_get_read ss (length ss) c.args.slot s refl c.requires.below c.index_mut-here.ensures.value) in
     (c.args.slot, at ∙ ap Some (sym (c.start.ensures.failed slot q).0))
+
+pub returns-clause-same : goal.returns-clause-same
+returns-clause-same g c =
+    let ss = c.args.self.now.slots.items in
+    let ps = c.args.pairs.now.items in
+    let s = c.index_mut-here.result.now in
+    let there = slice_get_read ss (length ss) c.args.slot s refl c.requires.below c.index_mut-here.ensures.value in
+    let below = pair_below g.D.Disk.image_at g.D.Disk.moment ss ps c.args.slot s c.requires.sits there c.position.result c.position.ensures in
+    let pair = slice_get_read ps (length ps) c.position.result c.index_mut-disks.result.now refl below c.index_mut-disks.ensures.value in
+    same_images g.D.Disk.image_at g.D.Disk.moment ps c.position.result c.index_mut-disks.result.now c.start.new.disks pair c.start.ensures.same

@@ -1,10 +1,10 @@
-use Rattle.std.proofs.Common.{◌≡◌, ◌≤◌, Bool, ◌&&◌, true, false, true≢false, ◌∙◌, ap, sym, arith, Ok, refl}
+use Rattle.std.proofs.Common.{◌≡◌, ◌≤◌, Bool, ◌&&◌, true, false, true≢false, ◌∙◌, ap, sym, arith, Ok, refl, subst}
 use Rattle.std.specs.Prelude.{if◌then◌else◌}
 use Rattle.spl_agree.proofs.Tests.{and_left}
 use Rattle.spl_rules.specs.Cells.{is_open_cell}
 use Rattle.spl_sched.specs.declared.line.Step.TheVariants as step
 use Rattle.spl_wire.specs.declared.event.Event.TheVariants as event
-use Rattle.spl_model.specs.Worlds.{site_at, carried_out}
+use Rattle.spl_model.specs.Worlds.{site_at, carried_out, World as CircuitWorld}
 use Rattle.spl_rules.specs.Plans.{plan_of}
 use Rattle.spl_world.specs.Calms.{tick_at, tick_count}
 use Rattle.spl_world.proofs.Composed.{moves_nothing}
@@ -15,6 +15,8 @@ use Rattle.spl_world.proofs.Up.{world_up}
 use Rattle.spl_world.specs.Views.{seen}
 use Rattle.spl_world.specs.Disks.{images}
 use Rattle.spl_world.proofs.Leaving.{all_itself, leaves_failed, leaves_limit, leaves_ok, leaves_same, limit_no_disk, disk_at}
+use Rattle.spl_world.proofs.Ending.{any_fault, failed_ends, still_ended}
+use Rattle.spl_world.specs.Ended.{EventEnds}
 use Rattle.spl_world.proofs.world.World.tick.Goals as goal
 
 -- ---- where the node isn't open
@@ -77,3 +79,19 @@ returns-in_err-add-clause-place g c = λ slot q. absurd (limit_no_disk c.from_re
 
 pub returns-in_err-answer-clause-place : goal.returns-in_err-answer-clause-place
 returns-in_err-answer-clause-place g c = disk_at _ _ c.from_residual-in_err-answer.result _ c.from_residual-in_err-answer.ensures refl c.in_err-answer.ensures.place
+
+-- ---- an error
+
+pub returns-in_err-add-clause-ended : goal.returns-in_err-add-clause-ended
+returns-in_err-add-clause-ended g c = λ m n h at.
+    let xs = (seen g.D.Disk.image_at g.D.Disk.moment c.args.self.now c.args.pairs.now.items) in
+    any_fault c.from_residual.result (λ e. EventEnds c.args.circuit (tick_at c.args.circuit n m) e xs xs.disks) (λ e. still_ended c.args.circuit (tick_at c.args.circuit n m) e xs)
+
+pub returns-in_err-answer-clause-ended : goal.returns-in_err-answer-clause-ended
+returns-in_err-answer-clause-ended g c = λ m n h at.
+    let xs = (seen g.D.Disk.image_at g.D.Disk.moment c.args.self.now c.args.pairs.now.items) in
+    let is = images g.D.Disk.image_at g.D.Disk.moment c.handle.new.pairs.items in
+    let ready : (m.up n && is_open_cell (m.at n)) ≡ true = sym (c.is_open.ensures.world (images g.D.Disk.image_at g.D.Disk.moment c.args.pairs.now.items) m n h at) ∙ c.if-not-is_open.false in
+    let same : carried_out m n (plan_of (site_at n c.args.circuit) (m.at n) event.Tick) ≡ tick_at c.args.circuit n m = sym (world_up m (step.At n c.args.circuit event.Tick) (and_left (m.up n) (is_open_cell (m.at n)) ready)) ∙ opened_tick c.args.circuit n m ready in
+    failed_ends c.from_residual-in_err-answer.result _ c.from_residual-in_err-answer.ensures (λ e. EventEnds c.args.circuit (tick_at c.args.circuit n m) e xs is)
+    (subst (λ (w : CircuitWorld). EventEnds c.args.circuit w c.in_err-answer.field-0.0 xs is) same (c.in_err-answer.ensures.ended m n h at))

@@ -10,6 +10,10 @@ use Rattle.spl_world.proofs.Counting.{counts_done, counts_then, counts_failed, a
 use Rattle.spl_world.proofs.Slots.{some_at, same_length, length_ids, set_length}
 use Rattle.spl_world.proofs.Turns.{turn_own, to_all_next, row_at, some_calming}
 use Rattle.spl_world.proofs.Leaving.{all_itself, all_then, leaves_failed, leaves_ok, leaves_then, disk_at}
+use Rattle.spl_world.proofs.Ending.{failed_ends}
+use Rattle.spl_world.proofs.EndingParts.{part_then, to_all_so_far, to_all_turn}
+use Rattle.spl_world.specs.Ended.{PartEnds}
+use Rattle.spl_world.specs.Disks.{images}
 use Rattle.spl_world.proofs.world.World.to_all.Goals as goal
 
 pub loop-to-preserved : goal.loop-to-preserved
@@ -84,3 +88,22 @@ returns-clause-disks g c = leaves_ok _ _ _ c.loop-to.invariant.7
 
 pub returns-in_err-row-clause-place : goal.returns-in_err-row-clause-place
 returns-in_err-row-clause-place g c = disk_at _ _ c.from_residual.result _ c.from_residual.ensures c.loop-to.invariant.8 c.in_err-row.ensures.place
+
+-- ---- an error
+
+pub returns-in_err-row-clause-ended : goal.returns-in_err-row-clause-ended
+returns-in_err-row-clause-ended g c = λ z a h at row.
+    let old = (seen g.D.Disk.image_at g.D.Disk.moment c.args.self.now c.args.pairs.now.items) in
+    let mid = seen g.D.Disk.image_at g.D.Disk.moment c.loop-to.self c.loop-to.pairs.items in
+    let is = images g.D.Disk.image_at g.D.Disk.moment c.pair_turn.new.pairs.items in
+    let ids = ids_of c.args.self.now in
+    let recipient = some_at c.args.self.now.slots.items c.loop-to.to (rw (c.len-to-end.ensures) at c.loop-to-test.true) in
+    let to : slice_get (ids_of c.loop-to.self) c.loop-to.to ≡ Some recipient.0 = ap (λ (ns : List NodeId). slice_get ns c.loop-to.to) c.loop-to.invariant.1 ∙ recipient.1 in
+    let y : Calming = to_all c.args.circuit z a (take c.loop-to.to ids) in
+    let whole : Calming = to_all c.args.circuit z a ids in
+    let so_far = c.loop-to.invariant.3 z a h at row in
+    let here : slice_get (ids_of c.loop-to.self) c.args.from ≡ Some a = ap (λ (ns : List NodeId). slice_get ns c.args.from) c.loop-to.invariant.1 ∙ at in
+    let taken : y.taken a recipient.0 ≡ c.index.result.now = sym (c.index.ensures ∙ ap (λ (r : List ℕ). get_or r c.loop-to.to c.index.result.now) so_far.1 ∙ row_at y.taken a ids c.loop-to.to recipient.0 c.index.result.now recipient.1) in
+    failed_ends c.from_residual.result _ c.from_residual.ensures (λ e. PartEnds c.args.circuit z whole e old is)
+    (part_then c.args.circuit z y (pair_turn c.args.circuit y a recipient.0) whole c.in_err-row.field-0.0 old mid is (to_all_so_far c.args.circuit z a ids c.loop-to.to) (to_all_turn c.args.circuit z a ids c.loop-to.to recipient.0 recipient.1)
+    c.loop-to.invariant.1 c.loop-to.invariant.8 c.loop-to.invariant.4 (c.in_err-row.ensures.ended y a recipient.0 so_far.0 here to taken))

@@ -1,0 +1,182 @@
+-- What a stop leaves of disks where an event ended with an error.
+use Rattle.std.proofs.Common.{◌≡◌, ◌⊎◌, inl, inr, ℕ, ◌≤◌, Bool, true, false, List, slice_get, slice_set, Option, Some, None, IfSome, Result, Ok, Err, refl, ap, sym, subst, ◌∙◌, arith}
+use Rattle.std.specs.Prelude.{IsErr, IsErrOf, IsSome, IfErr, IfNone, if◌then◌else◌}
+use Rattle.std.specs.Result.{IsErrAnd, IsOkAnd}
+use Rattle.std.specs.Str.{bytes_eq}
+use Rattle.spl_circuit.specs.Nodes.{NodeId, CircuitId}
+use Rattle.spl_edge.specs.Image.{Image, IsSettled}
+use Rattle.spl_edge.specs.declared.bench.Pair.{Pair}
+use Rattle.spl_journal.proofs.Images.{only_settled}
+use Rattle.spl_model.specs.Puts.{put_at-here}
+use Rattle.spl_model.specs.Worlds.{World as CircuitWorld, site_at, carried_out}
+use Rattle.spl_node.proofs.Disks.{both_if, safe_map, settled_pair}
+use Rattle.spl_node.proofs.Hosting.{both_told, kept_stand}
+use Rattle.spl_journal.specs.Reads.{Stays}
+use Rattle.spl_node.specs.Hosts.{HostStands, Rests, Runs, host_cell, host_id, host_second}
+use Rattle.spl_node.specs.declared.host.Host.{Host}
+use Rattle.spl_node.specs.Kept.{cells_after}
+use Rattle.spl_node.specs.Records.{is_record}
+use Rattle.spl_node.specs.Stands.{Make, StandFor}
+use Rattle.spl_node.specs.declared.node.Node.{Node}
+use Rattle.spl_rules.specs.Cells.{Cell}
+use Rattle.spl_rules.specs.Changes.{after_plan, stopped_cell}
+use Rattle.spl_rules.specs.Plans.{plan_of}
+use Rattle.spl_snapshot.specs.Counting.{IfBoth, IsInTurn, PairLeavesInTurn, pair_records}
+use Rattle.spl_wire.specs.declared.event.Event.{Event}
+use Rattle.spl_world.specs.Disks.{Images, images, images_at, images_of, images_or_none}
+use Rattle.spl_world.specs.Ended.{EventEnds, LeaveEither, HoldFor, LeaveNow, cells_in}
+use Rattle.spl_world.specs.Kept.{NodeView}
+use Rattle.spl_world.specs.Views.{Holds, Nodes, Sits, node_view, slot_id, slot_ids, view_in}
+use Rattle.spl_world.specs.declared.fault.WorldFault.{WorldFault}
+use Rattle.spl_world.specs.declared.fault.WorldFault.TheVariants.{Disk, TooMany}
+use Rattle.spl_world.specs.declared.slot.Slot.{Slot}
+use Rattle.spl_world.proofs.About.{same_itself}
+use Rattle.spl_world.proofs.Counting.{failed}
+use Rattle.spl_world.proofs.Handling.{disks_are, own_view}
+use Rattle.spl_world.proofs.Pairing.{images_here, images_set, pair_here}
+use Rattle.spl_world.proofs.Slots.{same_at, set_else, set_here, set_same}
+
+-- ---- two disks
+
+turn_last : (second : Bool) (k m l n : ℕ) → IsInTurn second m k m n l n
+turn_last false k m l n = inr refl
+turn_last true k m l n = inr refl
+
+-- what a stop at any moment leaves it leaves at the last
+pub left_in_turn : (second : Bool) (o p : Option Image) (at other : ℕ → Option Image) (k m l n : ℕ) (P : List ℕ → List ℕ → Type 0) → IsSome o → IsSome p → k ≤ m → l ≤ n → IfBoth o p (λ i j. PairLeavesInTurn second at k m other l n P) → LeaveNow P (at m, other n)
+left_in_turn second o p at other k m l n P told other_told low other_low h =
+    both_told o p (λ i j. PairLeavesInTurn second at k m other l n P) (LeaveNow P (at m, other n)) told other_told h
+    (λ i j is other_is left. left m n low (omega arith) other_low (omega arith) (turn_last second k m l n))
+
+-- an event at a host
+pub host_left : {D : Type 0} (image_at : D → ℕ → Option Image) (moment : D → ℕ) (h : Host) (old new : Pair D) (c : CircuitId) (e : Event) → IsSome (image_at old.first (moment old.first)) → IsSome (image_at old.second (moment old.second)) → moment old.first ≤ moment new.first → moment old.second ≤ moment new.second
+    → IfBoth (image_at old.first (moment old.first)) (image_at old.second (moment old.second)) (λ i j. PairLeavesInTurn (host_second h) (image_at new.first) (moment old.first) (moment new.first) (image_at new.second) (moment old.second) (moment new.second)
+    (λ x y. StandFor (host_id h) (host_cell h (image_at old.first (moment old.first)) (image_at old.second (moment old.second))) x y ⊎ StandFor (host_id h) (cells_after (host_id h) (host_cell h (image_at old.first (moment old.first)) (image_at old.second (moment old.second))) c e) x y))
+    → LeaveEither (host_id h) (host_cell h (image_at old.first (moment old.first)) (image_at old.second (moment old.second))) (cells_after (host_id h) (host_cell h (image_at old.first (moment old.first)) (image_at old.second (moment old.second))) c e) (images_of image_at moment new)
+host_left image_at moment h old new c e told other_told low other_low left =
+    left_in_turn (host_second h) (image_at old.first (moment old.first)) (image_at old.second (moment old.second)) (image_at new.first) (image_at new.second) (moment old.first) (moment new.first) (moment old.second) (moment new.second)
+    (λ x y. StandFor (host_id h) (host_cell h (image_at old.first (moment old.first)) (image_at old.second (moment old.second))) x y ⊎ StandFor (host_id h) (cells_after (host_id h) (host_cell h (image_at old.first (moment old.first)) (image_at old.second (moment old.second))) c e) x y)
+    told other_told low other_low left
+
+pub held_still : {D : Type 0} (image_at : D → ℕ → Option Image) (moment : D → ℕ) (old new : Pair D) → Stays (image_at old.first) (moment old.first) (image_at new.first) (moment new.first) → Stays (image_at old.second) (moment old.second) (image_at new.second) (moment new.second) → images_of image_at moment new ≡ images_of image_at moment old
+held_still image_at moment old new s t =
+    let one : image_at new.first (moment new.first) ≡ image_at old.first (moment old.first) = s.still (moment new.first) s.later (omega arith) in
+    let other : image_at new.second (moment new.second) ≡ image_at old.second (moment old.second) = t.still (moment new.second) t.later (omega arith) in
+    cc
+
+pub same_images : {D : Type 0} (image_at : D → ℕ → Option Image) (moment : D → ℕ) (ps : List (Pair D)) (k : ℕ) (p r : Pair D) → slice_get ps k ≡ Some p → images_of image_at moment r ≡ images_of image_at moment p → images image_at moment (slice_set ps k r) ≡ images image_at moment ps
+same_images image_at moment ps k p r pair e =
+    images_set image_at moment ps k r ∙ ap (λ (q : Images). slice_set (images image_at moment ps) k q) e
+    ∙ set_same (images image_at moment ps) k (images_of image_at moment p) (images_here image_at moment ps k p pair)
+
+left_settled : (P : List ℕ → List ℕ → Type 0) (o p : Option Image) → IfSome o IsSettled → IfSome p IsSettled → IfBoth o p (λ i j. P i.bytes j.bytes) → LeaveNow P (o, p)
+left_settled P None p a b h = tt
+left_settled P (Some i) None a b h = tt
+left_settled P (Some i) (Some j) a b h = λ c d x y. subst (λ (e : List ℕ). P e d) (sym (only_settled i c a x)) (subst (λ (e : List ℕ). P i.bytes e) (sym (only_settled j d b y)) h)
+
+settled : (here : NodeId) (o : Option Node) (x y : Option Image) → IfSome o (Runs here x y) → IfNone o (Rests x y) → IfSome x IsSettled × IfSome y IsSettled
+settled here (Some n) x y up down = settled_pair is_record n.pairing x y up.stands.pair
+settled here None x y up down = (down.first_is, down.second_is)
+
+-- the disks of a host that stands
+pub stands_hold : (s : Slot) (is : Images) → HostStands s.host is.0 is.1 → HoldFor (slot_id s) (node_view s is).cells is
+stands_hold s is h =
+    let rest = settled s.host.id s.host.node is.0 is.1 h.up h.down in
+    let stand = kept_stand s.host.id s.host.node is.0 is.1 h.up h.down in
+    record { read = stand; left = left_settled (StandFor (slot_id s) (node_view s is).cells) is.0 is.1 rest.0 rest.1 stand }
+
+-- ---- the same cells by other words
+
+makes_as : (n : NodeId) (f g : CircuitId → Cell) → ((c : CircuitId) → f c ≡ g c) → (r : Result (List (List ℕ)) ℕ) → IsOkAnd r (Make n f) → IsOkAnd r (Make n g)
+makes_as n f g same (Ok rs) h = λ c. h c ∙ ap stopped_cell (same c)
+makes_as n f g same (Err at) h = h
+
+stand_as : (n : NodeId) (f g : CircuitId → Cell) → ((c : CircuitId) → f c ≡ g c) → (x y : List ℕ) → StandFor n f x y → StandFor n g x y
+stand_as n f g same x y h = makes_as n f g same (pair_records is_record x y) h
+
+pub hold_as : (n : NodeId) (f g : CircuitId → Cell) → ((c : CircuitId) → f c ≡ g c) → (is : Images) → HoldFor n f is → HoldFor n g is
+hold_as n f g same is h = record {
+  read = both_if is.0 is.1 (λ i j. StandFor n f i.bytes j.bytes) (λ i j. StandFor n g i.bytes j.bytes) h.read (λ i j p. stand_as n f g same i.bytes j.bytes p);
+  left = safe_map (StandFor n f) (StandFor n g) (stand_as n f g same) is.0 is.1 h.left;
+}
+
+pub either_as : (n : NodeId) (f g k l : CircuitId → Cell) → ((c : CircuitId) → f c ≡ k c) → ((c : CircuitId) → g c ≡ l c) → (is : Images) → LeaveEither n f g is → LeaveEither n k l is
+either_as n f g k l same other is h = safe_map (λ x y. StandFor n f x y ⊎ StandFor n g x y) (λ x y. StandFor n k x y ⊎ StandFor n l x y) both is.0 is.1 h
+  where
+    both : (x y : List ℕ) → StandFor n f x y ⊎ StandFor n g x y → StandFor n k x y ⊎ StandFor n l x y
+    both x y (inl p) = inl (stand_as n f k same x y p)
+    both x y (inr p) = inr (stand_as n g l other x y p)
+
+pub hold_either : (n : NodeId) (f g : CircuitId → Cell) (is : Images) → HoldFor n f is → LeaveEither n f g is
+hold_either n f g is h = safe_map (StandFor n f) (λ x y. StandFor n f x y ⊎ StandFor n g x y) (λ x y p. inl p) is.0 is.1 h.left
+
+-- ---- results
+
+-- a call that failed as the call in it did
+pub failed_ends : {B : Type 0} (r : Result B WorldFault) (f : WorldFault) → IsErr r × IsErrAnd r (λ y. y ≡ f) → (P : WorldFault → Type 0) → P f → IfErr r P
+failed_ends (Ok b) f e P h = tt
+failed_ends (Err y) f e P h = subst P (sym e.1) h
+
+pub at_fault : {A : Type 0} (r : Result A WorldFault) (P Q : WorldFault → Type 0) → ((e : WorldFault) → P e → Q e) → IfErr r P → IfErr r Q
+at_fault (Ok a) P Q f h = tt
+at_fault (Err e) P Q f h = f e h
+
+pub any_fault : {A : Type 0} (r : Result A WorldFault) (P : WorldFault → Type 0) → ((e : WorldFault) → P e) → IfErr r P
+any_fault (Ok a) P f = tt
+any_fault (Err e) P f = f e
+
+-- ---- an event
+
+-- it ended before a call of a disk
+pub still_ended : (c : CircuitId) (behind : CircuitWorld) (e : WorldFault) (xs : Nodes) → EventEnds c behind e xs xs.disks
+still_ended c behind e xs = record { limit = λ which q. refl; others = inl refl }
+
+module _ (c : CircuitId) (behind : CircuitWorld) (xs : Nodes) (is : List Images) (i : ℕ) (s : Slot) (there : slice_get xs.slots i ≡ Some s) where
+  one_ended : {A : Type 0} (r : Result A WorldFault) → ((which : ℕ) → IsErrOf r (TooMany which) → ⊥) → ((k : ℕ) → IsErrOf r (Disk k) → k ≡ s.position) → ((k : ℕ) → (k ≡ s.position → ⊥) → images_at is k ≡ images_at xs.disks k)
+      → LeaveEither (slot_id s) (view_in xs s).cells (cells_in c behind (slot_id s) (view_in xs s).cells) (images_at is s.position) → IfErr r (λ e. EventEnds c behind e xs is)
+  one_ended (Ok a) few place others own = tt
+  one_ended {A} (Err e) few place others own = record {
+    limit = λ which q. absurd (few which (ap (failed A) q));
+    others = inr (record { index = i; slot = s; there = there; place = λ k q. place k (ap (failed A) q); others = others; own = own });
+  }
+
+module _ {D : Type 0} (image_at : D → ℕ → Option Image) (moment : D → ℕ) (ss : List Slot) (ps : List (Pair D)) (i : ℕ) (s : Slot) (sits : Sits (record { slots = ss; disks = images image_at moment ps })) (there : slice_get ss i ≡ Some s) where
+  abbrev nodes : Nodes
+  nodes = record { slots = ss; disks = images image_at moment ps }
+
+  module _ (k : ℕ) (place : k ≡ s.position) (p : Pair D) (pair : slice_get ps k ≡ Some p) (t : Slot) (r : Pair D) where
+    else_disks : (j : ℕ) → (j ≡ s.position → ⊥) → images_at (images image_at moment (slice_set ps k r)) j ≡ images_at (images image_at moment ps) j
+    else_disks j off = ap (λ (is : List Images). images_at is j) (images_set image_at moment ps k r) ∙ ap images_or_none (set_else (images image_at moment ps) k j (images_of image_at moment r) (λ e. off (sym e ∙ place)))
+
+    own_disks : images_at (images image_at moment (slice_set ps k r)) s.position ≡ images_of image_at moment r
+    own_disks =
+        let q : Images = images_of image_at moment r in
+        ap (λ (is : List Images). images_at is s.position) (sym (disks_are image_at moment ss ps i s sits there k place p pair t r))
+        ∙ pair_here (slice_set (images image_at moment ps) s.position q) s.position q (set_here (images image_at moment ps) s.position q (sits.below i s there))
+
+    module _ (c : CircuitId) (n : NodeId) (e : Event) (m : CircuitWorld) (at : slice_get (slot_ids ss) i ≡ Some n) (h : Holds c m nodes) where
+      abbrev behind : CircuitWorld
+      behind = carried_out m n (plan_of (site_at n c) (m.at n) e)
+
+      abbrev old_cells : CircuitId → Cell
+      old_cells = (view_in nodes s).cells
+
+      own_cell : after_plan (slot_id s) (old_cells c) (plan_of (site_at (slot_id s) c) (old_cells c) e) ≡ behind.at (slot_id s)
+      own_cell =
+          let here : slot_id s ≡ n = same_at ss i s n there at in
+          ap (λ (x : Cell). after_plan (slot_id s) x (plan_of (site_at (slot_id s) c) x e)) (h.each i s there).state
+          ∙ ap (λ (j : NodeId). after_plan j (m.at j) (plan_of (site_at j c) (m.at j) e)) here
+          ∙ sym (put_at-here m.at n (slot_id s) (after_plan n (m.at n) (plan_of (site_at n c) (m.at n) e)) (ap (λ (j : NodeId). bytes_eq j n) here ∙ same_itself n))
+
+      cells_behind : (d : CircuitId) → cells_after (slot_id s) old_cells c e d ≡ cells_in c behind (slot_id s) old_cells d
+      cells_behind d = ap (λ (x : Cell). if bytes_eq c d then x else old_cells d) own_cell
+
+      -- an event at a node over its own pair
+      pub own_ended : {A : Type 0} (x : Result A WorldFault) → ((which : ℕ) → IsErrOf x (TooMany which) → ⊥) → ((slot : ℕ) → IsErrOf x (Disk slot) → slot ≡ s.position)
+          → LeaveEither (slot_id s) (node_view s (images_of image_at moment p)).cells (cells_after (slot_id s) (node_view s (images_of image_at moment p)).cells c e) (images_of image_at moment r)
+          → IfErr x (λ f. EventEnds c behind f nodes (images image_at moment (slice_set ps k r)))
+      own_ended x few failed left =
+          one_ended c behind nodes (images image_at moment (slice_set ps k r)) i s there x few failed else_disks
+          (either_as (slot_id s) old_cells (cells_after (slot_id s) old_cells c e) old_cells (cells_in c behind (slot_id s) old_cells) (λ d. refl) cells_behind (images_at (images image_at moment (slice_set ps k r)) s.position)
+          (subst (λ (is : Images). LeaveEither (slot_id s) old_cells (cells_after (slot_id s) old_cells c e) is) (sym own_disks)
+          (subst (λ (v : NodeView). LeaveEither (slot_id s) v.cells (cells_after (slot_id s) v.cells c e) (images_of image_at moment r)) (sym (own_view image_at moment ss ps i s sits there k place p pair)) left)))
