@@ -5,6 +5,7 @@ mod calm;
 mod events;
 mod fault;
 mod halt;
+mod lines;
 mod making;
 mod outbox;
 mod posts;
@@ -15,4 +16,5 @@ mod stops;
 mod world;
 
 pub use fault::WorldFault;
+pub use lines::stops_node;
 pub use world::World;
