@@ -43,6 +43,7 @@ impl World {
         ensures answer { (before : List Ran) → Stands before self.old (images D.image_at D.moment pairs.old.items) → IfOk result (λ a. a ≡ answer_to (ids_of self.old) before (by_rule line.now)) }
         ensures stands { (before : List Ran) → Stands before self.old (images D.image_at D.moment pairs.old.items) → OnOk result (Stands (before ++ by_rule line.now ∷ []) self.new (images D.image_at D.moment pairs.new.items)) }
         ensures many { (before : List Ran) (which : ℕ) → Stands before self.old (images D.image_at D.moment pairs.old.items) → IsErrOf result (WorldFault.TooMany which) → IsOver (ids_of self.old) (before ++ by_rule line.now ∷ []) which }
+        ensures kept { (which : ℕ) → IsErrOf result (WorldFault.TooMany which) → pairs.new ≡ pairs.old }
         ensures disk { (slot : ℕ) → IsErrOf result (WorldFault.Disk slot) → ⊥ }
         ensures few { (before : List Ran) → Stands before self.old (images D.image_at D.moment pairs.old.items) → OnOk result (events_of (ids_of self.old) (before ++ by_rule line.now ∷ []) ≤ MOST_EVENTS) }
         ensures fewer { (before : List Ran) → Stands before self.old (images D.image_at D.moment pairs.old.items) → OnOk result (stops_of (before ++ by_rule line.now ∷ []) ≤ MOST_STOPS) }
@@ -80,6 +81,7 @@ impl World {
         ensures answer { (before : List Ran) → Stands before self.old (images D.image_at D.moment pairs.old.items) → IfOk result (λ a. a ≡ answer_to (ids_of self.old) before (by_rule line.now)) }
         ensures stands { (before : List Ran) → Stands before self.old (images D.image_at D.moment pairs.old.items) → OnOk result (Stands (before ++ by_rule line.now ∷ []) self.new (images D.image_at D.moment pairs.new.items)) }
         ensures many { (before : List Ran) (which : ℕ) → Stands before self.old (images D.image_at D.moment pairs.old.items) → IsErrOf result (WorldFault.TooMany which) → IsOver (ids_of self.old) (before ++ by_rule line.now ∷ []) which }
+        ensures kept { (which : ℕ) → IsErrOf result (WorldFault.TooMany which) → pairs.new ≡ pairs.old }
         ensures disk { (slot : ℕ) → IsErrOf result (WorldFault.Disk slot) → ⊥ }
         // Where the node was up each of its two disks has one pick more; no other disk changed.
         ensures picks { (i : ℕ) (s : Seat) → slice_get self.old.slots.items i ≡ Some s → (before : List Ran) → Stands before self.old (images D.image_at D.moment pairs.old.items) → AllUnarmed (bench D.image_at D.moment D.faults D.armed D.picks pairs.old.items) → stops_at (slot_id s) line.now ≡ true → OnOk result (StopsPair (slot_id s) (slot_up s) (stopping_of line.now) (cells_behind (ids_of self.old) (before ++ by_rule line.now ∷ []) (slot_id s)) s.position (bench D.image_at D.moment D.faults D.armed D.picks pairs.old.items) (bench D.image_at D.moment D.faults D.armed D.picks pairs.new.items)) }
