@@ -1,18 +1,17 @@
 -- A run, one line further.
-use Rattle.std.proofs.Common.{◌≡◌, ◌<◌, ◌≤◌, ℕ, ◌+◌, false, List, [], ◌∷◌, ◌++◌, Option, Some, None, Result, Ok, Err, OnOk, length, sym, subst}
+use Rattle.std.proofs.Common.{◌≡◌, ℕ, ◌+◌, false, List, [], ◌∷◌, ◌++◌, Option, Some, None, Result, Ok, Err, OnOk, length, sym, subst}
 use Rattle.spl_circuit.specs.Nodes.{Node}
 use Rattle.spl_sched.specs.declared.line.Line.{Line}
 use Rattle.spl_model.specs.Projection.{Ran}
 use Rattle.spl_model.specs.Outcomes.{by_rule}
 use Rattle.spl_model.specs.Answers.{answer_to}
-use Rattle.spl_model.specs.Counts.{events_of}
-use Rattle.spl_model.specs.declared.TheConstants.{MOST_EVENTS}
 use Rattle.spl_answer.specs.Texts.{text}
+use Rattle.spl_world.specs.Counts.{IsOver}
 use Rattle.spl_world.specs.Disks.{Images}
 use Rattle.spl_world.specs.Views.{ids_of, is_halted, Stands}
 use Rattle.spl_app.specs.declared.run.Run.{Run}
 use Rattle.spl_app.specs.Due.{IsDue, IsDuePart}
-use Rattle.spl_app.specs.Run.{said, numbered, ran, printed, outputs, answers}
+use Rattle.spl_app.specs.Run.{IsWithin, said, numbered, ran, printed, outputs, answers}
 use Rattle.spl_app.specs.Behind.{IsBehind}
 use Rattle.spl_app.proofs.Dues.{due_part, due_due, due_then}
 use Rattle.spl_app.proofs.Outputs.{answers-append, answers_silent, ran_silent, answers_said, ran_said}
@@ -31,9 +30,9 @@ ok_then (Err e) p f = tt
 pub at_own : (ns : List Node) (lines : List (List ℕ)) (run : Run) (is : List Images) (a b : Option (List ℕ)) → IsBehind ns lines run is a b → IsBehind run.nodes.items lines run is a b
 at_own ns lines run is a b behind = subst (λ (ms : List Node). IsBehind ms lines run is a b) (sym behind.nodes) behind
 
--- with a line that is run the events pass the limit
-pub past_said : (ns : List Node) (lines : List (List ℕ)) (line : List ℕ) (l : Line) → said line ≡ Some l → MOST_EVENTS < events_of ns (ran lines ++ by_rule l ∷ []) → MOST_EVENTS < events_of ns (ran (lines ++ line ∷ []))
-past_said ns lines line l is over = subst (λ (ls : List Ran). MOST_EVENTS < events_of ns ls) (sym (ran_said lines line l is)) over
+-- with a line that is run the lines pass a limit
+pub past_said : (ns : List Node) (lines : List (List ℕ)) (line : List ℕ) (l : Line) (which : ℕ) → said line ≡ Some l → IsOver ns (ran lines ++ by_rule l ∷ []) which → IsOver ns (ran (lines ++ line ∷ [])) which
+past_said ns lines line l which is over = subst (λ (ls : List Ran). IsOver ns ls which) (sym (ran_said lines line l is)) over
 
 module _ (ns : List Node) (lines : List (List ℕ)) (run : Run) (held : List Images) (a b : Option (List ℕ)) (behind : IsBehind ns lines run held a b) where
   -- all that is due so far comes first
@@ -47,20 +46,20 @@ module _ (ns : List Node) (lines : List (List ℕ)) (run : Run) (held : List Ima
       world = behind.world;
       running = behind.running;
       stands = subst (λ (ls : List Ran). Stands ls run.world held) (sym (ran_silent lines line is)) behind.stands;
-      few = subst (λ (ls : List Ran). events_of ns ls ≤ MOST_EVENTS) (sym (ran_silent lines line is)) behind.few;
+      few = subst (IsWithin ns) (sym (ran_silent lines line is)) behind.few;
       due = subst (IsDue a b run.output) (sym (answers_silent lines line ns is)) behind.due;
     }
 
     module _ (number : ℕ) (l : Line) (counted : number ≡ length lines + 1) (is : said line ≡ Some l) (c : Option (List ℕ)) (later : Run) where
       pub behind_said : (now : List Images) → later.nodes.items ≡ ns → ids_of later.world ≡ ns → is_halted later.world ≡ false → Stands (ran lines ++ by_rule l ∷ []) later.world now
-          → events_of ns (ran lines ++ by_rule l ∷ []) ≤ MOST_EVENTS
+          → IsWithin ns (ran lines ++ by_rule l ∷ [])
           → IsDue b c later.output (run.output ++ printed number (text (answer_to ns (ran lines) (by_rule l)))) → IsBehind ns (lines ++ line ∷ []) later now a c
       behind_said now nodes world running stands few due = record {
         nodes = nodes;
         world = world;
         running = running;
         stands = subst (λ (ls : List Ran). Stands ls later.world now) (sym (ran_said lines line l is)) stands;
-        few = subst (λ (ls : List Ran). events_of ns ls ≤ MOST_EVENTS) (sym (ran_said lines line l is)) few;
+        few = subst (IsWithin ns) (sym (ran_said lines line l is)) few;
         due = subst (IsDue a c later.output) (sym (answers_said lines line ns number l counted is)) (due_due a b c _ _ _ _ behind.due due);
       }
 

@@ -1,40 +1,91 @@
 -- Disks that go on, and those that fail.
-use Rattle.std.proofs.Common.{◌≡◌, ◌<◌, ℕ, zero, suc, true, List, [], ◌∷◌, length, slice_get, Some, arith, Result, Ok, Err, refl}
+use Rattle.std.proofs.Common.{◌≡◌, ◌<◌, ◌≤◌, inl, inr, ℕ, zero, suc, List, [], ◌∷◌, length, get_or, slice_get, Some, Result, Ok, Err, arith, refl, sym, ap, subst, ◌∙◌}
+use Rattle.std.proofs.lemmas.Option.{slice_get_within, slice_get-get_or}
 use Rattle.std.specs.Prelude.{IsErr, IsErrOf}
 use Rattle.std.specs.Result.{IsErrAnd}
-use Rattle.spl_world.specs.declared.fault.WorldFault.{WorldFault}
-use Rattle.spl_world.specs.declared.fault.WorldFault.TheVariants.{Disk}
-use Rattle.spl_world.specs.Disks.{PairView, AllGoOn, RoseAt, LeavesDisks}
 use Rattle.spl_circuit.specs.Nodes.{NodeId}
+use Rattle.spl_edge.specs.Picks.{Picked}
+use Rattle.spl_edge.specs.declared.disk.Armed.{Armed}
 use Rattle.spl_registry.specs.Nodes.{Entry, node_at}
-use Rattle.spl_app.specs.Taken.{is_taken}
-use Rattle.spl_sched.specs.declared.line.Line.{Line}
-use Rattle.spl_sched.specs.declared.line.Line.TheVariants as line
-use Rattle.spl_world.specs.Lines.{steps}
+use Rattle.spl_world.specs.declared.fault.WorldFault.{WorldFault}
+use Rattle.spl_world.specs.Disks.{AllGoOn, AllUnarmed, DiskView, GoesOn, HasRisen, IsUnarmed, NoneForgotten, PairGoesOn, PairView, RoseAt}
+use Rattle.spl_world.specs.Held.{AllUnpicked, AreUnpicked, FailedSince, HasFailedSince, IsUnpicked, last_count}
 use Rattle.spl_world.specs.Views.{ArePlaced, IsPlace, places_of, slot_ids, slot_id, slot_places}
 use Rattle.spl_world.specs.declared.slot.Slot.{Slot}
 use Rattle.spl_world.specs.declared.world.World.{World}
-use Rattle.spl_world.proofs.Leaving.{leaves_then}
-
--- what rose behind some calls rose with them
-pub rose_later : (slot : ℕ) (xs ys zs : List PairView) → AllGoOn xs ys → AllGoOn ys zs → RoseAt slot ys zs → RoseAt slot xs zs
-rose_later slot xs ys zs first then rose =
-    (leaves_then {A = ℕ} (Err (Disk slot)) xs ys zs first record { onward = then; failed = λ s is. (let same : slot ≡ s = cc in rw (← same) rose) }).failed slot refl
 
 -- a call that fails as the call in it does
 pub err_same : {A : Type 0} (r : Result A WorldFault) (f d : WorldFault) → IsErr r × IsErrAnd r (λ y. y ≡ f) → IsErrOf r d → f ≡ d
 err_same (Ok a) f d e q = absurd e.1
 err_same (Err y) f d e q = let is : y ≡ f = e.1 in cc
 
--- a line that a run takes is a step of the world
-pub taken_steps : (l : Line) → is_taken l ≡ true → steps l ≡ true
-taken_steps (line.Step s) h = refl
-taken_steps (line.Calm id passes) h = refl
-taken_steps (line.Stop n) h = absurd cc
-taken_steps (line.Start n) h = absurd cc
-taken_steps (line.Roll n) h = absurd cc
-taken_steps (line.Cut calls fill s) h = absurd cc
-taken_steps (line.Fail call s) h = absurd cc
+pub err_back : {A : Type 0} (r : Result A WorldFault) (f d : WorldFault) → IsErr r × IsErrAnd r (λ y. y ≡ f) → f ≡ d → IsErrOf r d
+err_back (Ok a) f d e same = absurd e.1
+err_back (Err y) f d e same = let is : y ≡ f = e.1 in ap (λ (z : WorldFault). Err z) (is ∙ same)
+
+-- ---- no fault is forgotten
+
+pub none_itself : (xs : List PairView) → NoneForgotten xs xs
+none_itself xs = record {
+  as_many = refl;
+  first = λ i p q e f. let is = there i p q e f in subst (λ (z : PairView). p.first.faults ≤ z.first.faults) is (omega arith);
+  second = λ i p q e f. let is = there i p q e f in subst (λ (z : PairView). p.second.faults ≤ z.second.faults) is (omega arith);
+}
+  where
+    there : (i : ℕ) (p q : PairView) → slice_get xs i ≡ Some p → slice_get xs i ≡ Some q → p ≡ q
+    there i p q e f = let same : Some p ≡ Some q = sym e ∙ f in cc
+
+-- the pair that stood there before
+pair_there : (xs ys : List PairView) (i : ℕ) (q : PairView) → length ys ≡ length xs → slice_get ys i ≡ Some q → slice_get xs i ≡ Some (get_or xs i q)
+pair_there xs ys i q same e =
+    let within : i < length ys = slice_get_within ys i q e in
+    let below : i < length xs = omega (arith, within, same) in
+    slice_get-get_or xs i q below
+
+pub none_then : (xs ys zs : List PairView) → NoneForgotten xs ys → NoneForgotten ys zs → NoneForgotten xs zs
+none_then xs ys zs a b = record {
+  as_many = b.as_many ∙ a.as_many;
+  first = λ i p q e f. let one = a.first i p (get_or ys i q) e (pair_there ys zs i q b.as_many f) in let other = b.first i (get_or ys i q) q (pair_there ys zs i q b.as_many f) f in omega (arith, one, other);
+  second = λ i p q e f. let one = a.second i p (get_or ys i q) e (pair_there ys zs i q b.as_many f) in let other = b.second i (get_or ys i q) q (pair_there ys zs i q b.as_many f) f in omega (arith, one, other);
+}
+
+pub none_on : (xs ys : List PairView) → AllGoOn xs ys → NoneForgotten xs ys
+none_on xs ys on = record {
+  as_many = on.as_many;
+  first = λ i p q e f. (on.each i p q e f).first.no_less;
+  second = λ i p q e f. (on.each i p q e f).second.no_less;
+}
+
+-- ---- none is armed
+
+unarmed_one : (x y : DiskView) → GoesOn x y → IsUnarmed x → IsUnarmed y
+unarmed_one x y on off = ap (λ (a : Armed). a.arming) on.armed ∙ off
+
+pub unarmed_on : (xs ys : List PairView) → AllGoOn xs ys → AllUnarmed xs → AllUnarmed ys
+unarmed_on xs ys on off = λ i q f.
+    let e = pair_there xs ys i q on.as_many f in
+    let both = on.each i (get_or xs i q) q e f in
+    let was = off i (get_or xs i q) e in
+    (unarmed_one (get_or xs i q).first q.first both.first was.0, unarmed_one (get_or xs i q).second q.second both.second was.1)
+
+pub unpicked_unarmed : (xs : List PairView) → AllUnpicked xs → AllUnarmed xs
+unpicked_unarmed xs h = λ i p e. let u = h i p e in (u.first.off, u.second.off)
+
+-- ---- a disk failed
+
+failed_one : (s p : DiskView) → GoesOn s p → IsUnpicked s → s.faults < p.faults → last_count s.faults p.picks < p.faults
+failed_one s p on u rose = subst (λ (ps : List Picked). last_count s.faults ps < p.faults) (sym (on.picks ∙ u.picks)) rose
+
+failed_pair : (s p : PairView) → PairGoesOn s p → AreUnpicked s → HasRisen s p → HasFailedSince s p
+failed_pair s p on u (inl rose) = inl (failed_one s.first p.first on.first u.first rose)
+failed_pair s p on u (inr rose) = inr (failed_one s.second p.second on.second u.second rose)
+
+-- where nothing was picked, one that failed more often has failed since
+pub rose_failed : (slot : ℕ) (xs ys : List PairView) → AllUnpicked xs → AllGoOn xs ys → RoseAt slot xs ys → FailedSince slot xs ys
+rose_failed slot xs ys h on rose = record {
+  below = (let within : slot < length xs = rose.below in omega (arith, within, on.as_many));
+  failed = λ s p e f. failed_pair s p (on.each slot s p e f) (h slot s e) (rose.rose s p e f);
+}
 
 -- ---- the positions of nodes
 

@@ -1,12 +1,14 @@
 -- Blank disks.
-use Rattle.std.proofs.Common.{◌≡◌, ◌<◌, ℕ, zero, suc, List, [], ◌∷◌, ◌++◌, length, Option, refl, sym, subst, arith}
+use Rattle.std.proofs.Common.{◌≡◌, ◌<◌, ℕ, zero, suc, List, [], ◌∷◌, ◌++◌, length, Option, ap, refl, sym, subst, arith}
 use Rattle.std.specs.Prelude.{IfSome}
 use Rattle.spl_edge.specs.declared.bench.Pair.{Pair}
 use Rattle.spl_edge.specs.Image.{Image}
+use Rattle.spl_edge.specs.declared.disk.Armed.{Armed}
 use Rattle.spl_journal.specs.Make.{IsBlank}
-use Rattle.spl_memory.specs.MemDisks.{IsFreshDisk, image_of, moment_of}
+use Rattle.spl_memory.specs.MemDisks.{IsFreshDisk, armed_of, faults_of, image_of, moment_of, picked_by}
 use Rattle.spl_memory.specs.declared.mem_disk.MemDisk.{MemDisk}
-use Rattle.spl_world.specs.Disks.{AreBlank, images, images_at, images_of}
+use Rattle.spl_world.specs.Disks.{AreBlank, PairView, bench, disk_view, images, images_at, images_of, pair_view}
+use Rattle.spl_world.specs.Held.{AllUnpicked, AreUnpicked, IsUnpicked}
 
 fresh_blank : (d : MemDisk) → IsFreshDisk d → IfSome (image_of d (moment_of d)) IsBlank
 fresh_blank d fresh = subst (λ (o : Option Image). IfSome o IsBlank) (sym fresh.blank) (record { bytes = refl; settled = record { same = refl; none = refl; least = refl; greatest = refl } })
@@ -23,3 +25,24 @@ blank_more [] p all blank zero lt = blank
 blank_more [] p all blank (suc i) lt = absurd (omega (arith, lt))
 blank_more (q ∷ ps) p all blank zero lt = let first : 0 < suc (length ps) = omega arith in all 0 first
 blank_more (q ∷ ps) p all blank (suc i) lt = blank_more ps p (λ k h. (let more : suc k < suc (length ps) = omega (arith, h) in all (suc k) more)) blank i (omega (arith, lt))
+
+-- ---- nothing was picked
+
+-- what each pair tells
+abbrev pub told : List (Pair MemDisk) → List PairView
+told ps = bench image_of moment_of faults_of armed_of picked_by ps
+
+abbrev told_one : Pair MemDisk → PairView
+told_one p = pair_view image_of moment_of faults_of armed_of picked_by p
+
+fresh_unpicked : (d : MemDisk) → IsFreshDisk d → IsUnpicked (disk_view image_of moment_of faults_of armed_of picked_by d)
+fresh_unpicked d fresh = record { picks = fresh.picks; off = ap (λ (a : Armed). a.arming) fresh.armed }
+
+pub pair_unpicked : (p : Pair MemDisk) → IsFreshDisk p.first → IsFreshDisk p.second → AreUnpicked (pair_view image_of moment_of faults_of armed_of picked_by p)
+pair_unpicked p a b = record { first = fresh_unpicked p.first a; second = fresh_unpicked p.second b }
+
+pub unpicked_more : (ps : List (Pair MemDisk)) (p : Pair MemDisk) → AllUnpicked (told ps) → AreUnpicked (pair_view image_of moment_of faults_of armed_of picked_by p) → AllUnpicked (told (ps ++ p ∷ []))
+unpicked_more [] p all one zero q e = let same : told_one p ≡ q = cc in subst AreUnpicked same one
+unpicked_more [] p all one (suc i) q e = absurd cc
+unpicked_more (x ∷ ps) p all one zero q e = all 0 q e
+unpicked_more (x ∷ ps) p all one (suc i) q e = unpicked_more ps p (λ k r h. all (suc k) r h) one i q e

@@ -1,20 +1,22 @@
--- The events of a front of some lines.
-use Rattle.std.proofs.Common.{◌≡◌, ◌≤◌, ◌-◌, ℕ, zero, suc, List, [], ◌∷◌, ◌++◌, take, drop, sym, ◌∙◌, ap, subst, arith, append_assoc, take-append-drop}
+-- The events and the stops of a front of some lines.
+use Rattle.std.proofs.Common.{◌≡◌, ◌≤◌, ◌-◌, inl, inr, ℕ, zero, suc, List, [], ◌∷◌, ◌++◌, take, drop, sym, ◌∙◌, ap, subst, arith, append_assoc, take-append-drop}
 use Rattle.std.specs.List.{AllByRecursion}
 use Rattle.spl_circuit.specs.Nodes.{NodeId}
 use Rattle.spl_model.specs.Projection.{Ran}
-use Rattle.spl_model.specs.Counts.{events_behind, events_of}
+use Rattle.spl_model.specs.Counts.{events_behind, events_of, stops_of}
 use Rattle.spl_projection.proofs.Counts.{events-none}
+use Rattle.spl_world.specs.Counts.{IsOver}
 use Rattle.spl_app.specs.Lines.{lines_of}
 use Rattle.spl_app.specs.Run.{IsLine, IsWithin, IsRun, Reason, Bad, Past, StopsAt, ran}
 use Rattle.spl_app.proofs.Feeds.{lines_front, all_front}
+use Rattle.spl_app.proofs.Halts.{stops-append}
 use Rattle.spl_app.proofs.Outputs.{ran-append}
 
--- where no line ran the events are within the limit
+-- where no line ran they are within their limits
 pub none_within : (ns : List NodeId) → IsWithin ns []
 none_within ns =
-    let none : events_of ns (ran []) ≡ 0 = events-none ns in
-    omega (arith, none)
+    let none : events_of ns [] ≡ 0 = events-none ns in
+    (omega (arith, none), omega arith)
 
 front-behind : (ns : List NodeId) (before xs ys : List Ran) → events_behind ns before xs ≤ events_behind ns before (xs ++ ys)
 front-behind ns before [] ys = omega arith
@@ -23,16 +25,20 @@ front-behind ns before (r ∷ xs) ys =
     omega (arith, rest)
 
 -- it has no more than all of them
+stops_front : (xs ys : List Ran) → stops_of xs ≤ stops_of (xs ++ ys)
+stops_front xs ys = omega (arith, stops-append xs ys)
+
 events_front : (ns : List NodeId) (xs ys : List Ran) → events_of ns xs ≤ events_of ns (xs ++ ys)
 unfolding events_of
 events_front ns xs ys = front-behind ns [] xs ys
 
 run_front : (ns : List NodeId) (xs ys : List (List ℕ)) → IsRun ns (xs ++ ys) → IsRun ns xs
 run_front ns xs ys run =
-    let fewer = subst (λ (rs : List Ran). events_of ns (ran xs) ≤ events_of ns rs) (sym (ran-append xs ys)) (events_front ns (ran xs) _) in
+    let events = subst (λ (rs : List Ran). events_of ns (ran xs) ≤ events_of ns rs) (sym (ran-append xs ys)) (events_front ns (ran xs) _) in
+    let stops = subst (λ (rs : List Ran). stops_of (ran xs) ≤ stops_of rs) (sym (ran-append xs ys)) (stops_front (ran xs) _) in
     record {
       lines = all_front (IsLine ns) xs ys run.lines;
-      few = omega (arith, fewer, run.few);
+      few = (omega (arith, events, run.few.0), omega (arith, stops, run.few.1));
     }
 
 -- a run that answers the lines of a text answers those of its fronts
@@ -45,12 +51,17 @@ all_at ns [] (suc n) line behind place good = absurd (cc)
 all_at ns (l ∷ lines) zero line behind place good = let same : l ≡ line = cc in subst (IsLine ns) same good.0
 all_at ns (l ∷ lines) (suc n) line behind place good = all_at ns lines n line behind place good.1
 
+-- lines within their limits pass none
+not_over : (ns : List NodeId) (rs : List Ran) (which : ℕ) → IsWithin ns rs → IsOver ns rs which → ⊥
+not_over ns rs which few (inl over) = omega (arith, few.0, over.1)
+not_over ns rs which few (inr over) = omega (arith, few.1, over.2)
+
 -- it stops at none of them
 pub no_stop : (ns : List NodeId) (why : Reason) (lines : List (List ℕ)) (number : ℕ) → IsRun ns lines → StopsAt ns why lines number → ⊥
 no_stop ns Bad lines number run found = found.stops (all_at ns lines (number - 1) found.line found.behind found.place run.lines)
-no_stop ns Past lines number run found =
+no_stop ns (Past which) lines number run found =
     let front = take (number - 1) lines in
     let whole : lines ≡ (front ++ found.line ∷ []) ++ found.behind =
     sym (take-append-drop (number - 1) lines) ∙ ap (λ (l : List (List ℕ)). front ++ l) found.place ∙ sym (append_assoc front (found.line ∷ []) found.behind) in
     let few = (run_front ns (front ++ found.line ∷ []) found.behind (subst (IsRun ns) whole run)).few in
-    absurd (omega (arith, found.stops.1, few))
+    not_over ns (ran (front ++ found.line ∷ [])) which few found.stops.1

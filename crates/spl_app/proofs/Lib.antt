@@ -6,6 +6,7 @@ mod Dues
 mod Events
 mod Feeds
 mod Given
+mod Halts
 mod Holds
 mod Outputs
 mod Registries

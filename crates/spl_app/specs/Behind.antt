@@ -7,11 +7,11 @@ use Rattle.spl_app.specs.declared.run.Run.{Run}
 use Rattle.spl_app.specs.Due.{IsDue}
 use Rattle.spl_app.specs.Run.{ran, IsWithin, answers}
 
--- in a run over these nodes, whose disks hold these images, these lines ran, within the limit of events, and their answers were written or wait
+-- in a run over these nodes, whose disks hold these images, these lines ran, within the limits, and their answers were written or wait
 pub record IsBehind (ns : List Node) (lines : List (List ℕ)) (run : Run) (is : List Images) (old new : Option (List ℕ)) : Type 0 where
   pub nodes : run.nodes.items ≡ ns
   pub world : ids_of run.world ≡ ns
   pub running : is_halted run.world ≡ false
   pub stands : Stands (ran lines) run.world is
-  pub few : IsWithin ns lines
+  pub few : IsWithin ns (ran lines)
   pub due : IsDue old new run.output (answers ns lines)

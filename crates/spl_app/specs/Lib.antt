@@ -1,7 +1,6 @@
 pub mod Lines
 pub mod Due
 pub mod Faults
-pub mod Taken
 pub mod Run
 pub mod Behind
 pub mod Schedule

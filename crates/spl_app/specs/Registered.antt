@@ -4,8 +4,8 @@ use Rattle.spl_circuit.specs.Nodes.{Node, sorted}
 use Rattle.spl_registry.specs.declared.fault.RegistryFault.{RegistryFault}
 use Rattle.spl_registry.specs.Nodes.{Entry, ids_of, node_at}
 use Rattle.spl_registry.specs.Tree.{registry_of}
-use Rattle.spl_world.specs.Disks.{PairView, RoseAt}
-use Rattle.spl_world.specs.Held.{AreHeld}
+use Rattle.spl_world.specs.Disks.{PairView}
+use Rattle.spl_world.specs.Held.{AreHeld, FailedSince}
 use Rattle.spl_app.specs.Lines.{limit}
 use Rattle.spl_app.specs.Run.{ran}
 
@@ -26,24 +26,24 @@ pub record IsRegistryText (text : List ℕ) : Type 0 where
   pub spells : Spells text
   pub short : length text ≤ limit
 
--- a disk of the pair at this node's position has failed more often
-pub record HasRisenAt (entries : List Entry) (node : Node) (old new : List PairView) : Type 0 where
+-- a disk of the pair at this node's position has failed since it was last picked from
+pub record HasFailedAt (entries : List Entry) (node : Node) (start now : List PairView) : Type 0 where
   pub position : ℕ
   pub at : node_at entries position ≡ Some node
-  pub rose : RoseAt position old new
+  pub failed : FailedSince position start now
 
 -- of the registry that bytes spell
-pub record HasRisenIn (text : List ℕ) (node : Node) (old new : List PairView) : Type 0 where
+pub record HasFailedIn (text : List ℕ) (node : Node) (start now : List PairView) : Type 0 where
   pub entries : List Entry
   pub spelled : registry_of text ≡ Ok entries
-  pub risen : HasRisenAt entries node old new
+  pub failed : HasFailedAt entries node start now
 
--- of the registry that bytes spell: the pair of each node, at its position there, holds what the node keeps behind these lines, and so did what it picked
-pub record Hold (text : List ℕ) (lines : List (List ℕ)) (ps : List PairView) : Type 0 where
+-- some disk has failed since it was last picked from
+abbrev pub SomeFailed : List PairView → List PairView → Type 0
+SomeFailed start now = (position : ℕ) × FailedSince position start now
+
+-- of the registry that bytes spell: the pair of each node, at its position there, holds what the node keeps behind these lines, and so did what it picked at its stops
+pub record Hold (text : List ℕ) (lines : List (List ℕ)) (start now : List PairView) : Type 0 where
   pub entries : List Entry
   pub spelled : registry_of text ≡ Ok entries
-  pub held : AreHeld (nodes_of text) (ran lines) entries ps
-
--- a disk has failed more often
-abbrev pub SomeRose : List PairView → List PairView → Type 0
-SomeRose old new = (position : ℕ) × RoseAt position old new
+  pub held : AreHeld start (nodes_of text) (ran lines) entries now

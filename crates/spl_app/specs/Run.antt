@@ -1,27 +1,26 @@
 -- The lines of a schedule, and what a run writes (docs/RULES.md, Schedules, Answers).
-use Rattle.std.specs.Prelude.{true, ◌≡◌, ◌⊎◌, ◌<◌, ◌≤◌, ◌+◌, ◌-◌, ℕ, List, [], ◌∷◌, ◌++◌, Option, Some, None, IsSomeAnd, IsTrue, if◌then◌else◌, take, drop, length, map, decimal}
+use Rattle.std.specs.Prelude.{◌≡◌, ◌⊎◌, ◌<◌, ◌≤◌, ◌+◌, ◌-◌, ℕ, List, [], ◌∷◌, ◌++◌, Option, Some, None, IsSomeAnd, IsTrue, if◌then◌else◌, take, drop, length, map, decimal}
 use Rattle.std.specs.List.{AllByRecursion, list_all}
 use Rattle.spl_circuit.specs.Nodes.{Node, has_node}
 use Rattle.spl_sched.specs.declared.line.Line.{Line}
 use Rattle.spl_sched.specs.Grammar.{line_of, nodes_of, is_line}
-use Rattle.spl_app.specs.Taken.{is_taken}
 use Rattle.spl_model.specs.Projection.{Ran}
 use Rattle.spl_model.specs.Outcomes.{by_rule}
 use Rattle.spl_model.specs.Answers.{answer_to}
-use Rattle.spl_model.specs.Counts.{events_of}
-use Rattle.spl_model.specs.declared.TheConstants.{MOST_EVENTS}
+use Rattle.spl_model.specs.Counts.{events_of, stops_of}
+use Rattle.spl_model.specs.declared.TheConstants.{MOST_EVENTS, MOST_STOPS}
 use Rattle.spl_answer.specs.Texts.{text}
+use Rattle.spl_world.specs.Counts.{IsOver}
 use Rattle.spl_app.specs.Lines.{is_silent, longest_line}
 
--- the line names no other node than these, and a run takes it
+-- the line names no other node than these
 abbrev pub IsAdmitted : List Node → Line → Type 0
-IsAdmitted ns l = IsTrue (list_all (has_node ns) (nodes_of l)) × IsTrue (is_taken l)
+IsAdmitted ns l = IsTrue (list_all (has_node ns) (nodes_of l))
 
 -- a line that the world of these nodes runs
 pub record IsRunnable (ns : List Node) (l : Line) : Type 0 where
-  pub known : IsTrue (list_all (has_node ns) (nodes_of l))
+  pub known : IsAdmitted ns l
   pub fits : IsTrue (is_line l)
-  pub taken : is_taken l ≡ true
 
 -- a line that a schedule over these nodes may have
 abbrev pub IsLine : List Node → List ℕ → Type 0
@@ -57,23 +56,23 @@ outputs ns before (x ∷ xs) = printed x.0 (text (answer_to ns before (by_rule x
 abbrev pub answers : List Node → List (List ℕ) → List ℕ
 answers ns lines = outputs ns [] (numbered 1 lines)
 
--- the events of these lines are within the limit
-abbrev pub IsWithin : List Node → List (List ℕ) → Type 0
-IsWithin ns lines = events_of ns (ran lines) ≤ MOST_EVENTS
+-- the events of these lines are within their limit, and so are their stops
+abbrev pub IsWithin : List Node → List Ran → Type 0
+IsWithin ns rs = (events_of ns rs ≤ MOST_EVENTS) × (stops_of rs ≤ MOST_STOPS)
 
--- lines that a run over these nodes answers: each is one that a schedule may have, and their events are within the limit
+-- lines that a run over these nodes answers: each is one that a schedule may have, and their events and stops are within the limits
 pub record IsRun (ns : List Node) (ls : List (List ℕ)) : Type 0 where
   pub lines : AllByRecursion (IsLine ns) ls
-  pub few : IsWithin ns ls
+  pub few : IsWithin ns (ran ls)
 
--- why a run stops at a line: a schedule may not have it, or the events of the lines pass the limit with it
+-- why a run stops at a line: a schedule may not have it, or the lines pass the limit of this number with it, 1 of events and 2 of stops
 pub data Reason : Type 0 where
   Bad : Reason
-  Past : Reason
+  Past : ℕ → Reason
 
 abbrev pub StopsFor : List Node → Reason → List (List ℕ) → List ℕ → Type 0
 StopsFor ns Bad before line = IsLine ns line → ⊥
-StopsFor ns Past before line = IsLine ns line × (MOST_EVENTS < events_of ns (ran (before ++ line ∷ [])))
+StopsFor ns (Past which) before line = IsLine ns line × IsOver ns (ran (before ++ line ∷ [])) which
 
 -- the line with this number is the first at which the run stops, and this is why
 pub record StopsAt (ns : List Node) (why : Reason) (lines : List (List ℕ)) (number : ℕ) : Type 0 where

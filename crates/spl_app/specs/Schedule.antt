@@ -45,8 +45,8 @@ pub record IsBadRest (ns : List Node) (given : List ℕ) (left : Option (List �
 abbrev pub IsBadAt : List Node → List ℕ → Option (List ℕ) → ℕ → Type 0
 IsBadAt ns given left number = StopsAt ns Bad (run_of given) number ⊎ IsBadRest ns given left number
 
--- the events of the lines given pass the limit with one of them, and the answers to those before it are written
-pub record HasTooMany (ns : List Node) (given : List ℕ) (old new : Option (List ℕ)) : Type 0 where
+-- the lines given pass the limit of this number with one of them, and the answers to those before it are written
+pub record HasTooMany (ns : List Node) (given : List ℕ) (old new : Option (List ℕ)) (which : ℕ) : Type 0 where
   pub number : ℕ
-  pub stops : StopsAt ns Past (run_of given) number
+  pub stops : StopsAt ns (Past which) (run_of given) number
   pub written : Appends old new (answers ns (take (number - 1) (run_of given)))

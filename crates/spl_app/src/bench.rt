@@ -1,7 +1,8 @@
 //! Disks in memory for a run.
 ghost use Rattle.std.specs.Prelude.{◌≡◌, ◌<◌, ◌++◌, ◌∷◌, ℕ, [], length, IfOk, OnOk};
-ghost use Rattle.spl_memory.specs.MemDisks.{IsFreshDisk, image_of, moment_of};
-ghost use Rattle.spl_world.specs.Disks.{AreBlank, images, images_at};
+ghost use Rattle.spl_memory.specs.MemDisks.{IsFreshDisk, armed_of, faults_of, image_of, moment_of, picked_by};
+ghost use Rattle.spl_world.specs.Disks.{AreBlank, bench, images, images_at};
+ghost use Rattle.spl_world.specs.Held.{AllUnpicked};
 
 use spl_edge::{Bench, Pair};
 use spl_memory::MemDisk;
@@ -30,6 +31,7 @@ fn join(pairs: &mut Vec<Pair<MemDisk>>, pair: Pair<MemDisk>) -> Result<(), Alloc
 pub fn blank_bench(alloc: Global) -> Result<Bench<MemDisk>, AllocError>
     ensures pairs { IfOk result (λ b. length b.pairs.items ≡ 16) }
     ensures blank { IfOk result (λ b. (i : ℕ) → i < 16 → AreBlank (images_at (images image_of moment_of b.pairs.items) i)) }
+    ensures unpicked { IfOk result (λ b. AllUnpicked (bench image_of moment_of faults_of armed_of picked_by b.pairs.items)) }
 {
     let mut pairs = Vec::new(alloc);
     'pairs: while pairs.len() < 16 {

@@ -12,8 +12,9 @@ use std::alloc::AllocError;
 pub enum RunFault {
     /// A schedule may not have the line of this number.
     BadLine(u32),
-    /// The events of the lines pass the limit with the line of this number.
-    TooMany(u32),
+    /// The lines pass the limit of the number `which` with the line of this number: 1 is events, 2 is
+    /// stops.
+    TooMany { line: u32, which: u8 },
     /// A disk of the node at this position of the registry failed.
     Disk(u8),
     /// An answer could not be written.

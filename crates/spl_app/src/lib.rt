@@ -11,6 +11,7 @@ mod registered;
 mod replay;
 mod run;
 mod status;
+mod take;
 mod top;
 
 pub use bench::blank_bench;

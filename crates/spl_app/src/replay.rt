@@ -6,9 +6,9 @@ ghost use Rattle.spl_edge.specs.Causes.{Rose, AppendsPart};
 ghost use Rattle.spl_circuit.specs.Nodes.{Node, sorted};
 ghost use Rattle.spl_registry.specs.declared.fault.RegistryFault.{RegistryFault};
 ghost use Rattle.spl_registry.specs.Nodes.{ids_of};
-ghost use Rattle.spl_world.specs.Disks.{AllGoOn, AreBlank, bench, images, images_at};
+ghost use Rattle.spl_world.specs.Disks.{AllUnarmed, AreBlank, NoneForgotten, bench, images, images_at};
 ghost use Rattle.spl_world.specs.Held.{AllUnpicked, AreHeld};
-ghost use Rattle.spl_app.specs.Registered.{HasRisenAt, SomeRose};
+ghost use Rattle.spl_app.specs.Registered.{HasFailedAt, SomeFailed};
 ghost use Rattle.spl_app.specs.Lines.{lines_of, rest_of, longest_line, limit};
 ghost use Rattle.spl_app.specs.Run.{HasFront, IsRun, ran, answers};
 ghost use Rattle.spl_app.specs.Schedule.{IsSchedule, IsBadAt, HasTooMany, had, run_of};
@@ -43,6 +43,7 @@ pub fn replay<S: Source, W: Sink, D: StopDisk>(
 ) -> Status
     requires pairs { length registry.now ≤ length pairs.old.items }
     requires blank { (i : ℕ) → i < length registry.now → AreBlank (images_at (images D.image_at D.moment pairs.old.items) i) }
+    requires unpicked { AllUnpicked (bench D.image_at D.moment D.faults D.armed D.picks pairs.old.items) }
     ensures words { result ≡ Status.Usage → ⊥ }
     ensures registry { (fault : RegistryFault) → result ≡ Status.BadRegistry fault → ⊥ }
     ensures ok { result ≡ Status.Ok → let given = appended_bytes (S.taken schedule.old) (S.taken schedule.new) in
@@ -51,8 +52,8 @@ pub fn replay<S: Source, W: Sink, D: StopDisk>(
     ensures bad { (line : ℕ) → result ≡ Status.BadSchedule line → let given = appended_bytes (S.taken schedule.old) (S.taken schedule.new) in
         IsBadAt (sorted (ids_of registry.now)) given (S.left schedule.new) line
         × Appends (W.written out.old) (W.written out.new) (answers (sorted (ids_of registry.now)) (take (line - 1) (run_of given))) }
-    ensures many { (which : ℕ) → result ≡ Status.TooMany which → (which ≡ 1)
-        × HasTooMany (sorted (ids_of registry.now)) (appended_bytes (S.taken schedule.old) (S.taken schedule.new)) (W.written out.old) (W.written out.new) }
+    ensures many { (which : ℕ) → result ≡ Status.TooMany which
+        → HasTooMany (sorted (ids_of registry.now)) (appended_bytes (S.taken schedule.old) (S.taken schedule.new)) (W.written out.old) (W.written out.new) which }
     ensures read { result ≡ Status.ReadFault → let given = appended_bytes (S.taken schedule.old) (S.taken schedule.new) in
         Rose (S.faults schedule.old) (S.faults schedule.new) × IsRun (sorted (ids_of registry.now)) (lines_of given)
         × Appends (W.written out.old) (W.written out.new) (answers (sorted (ids_of registry.now)) (lines_of given)) }
@@ -62,21 +63,22 @@ pub fn replay<S: Source, W: Sink, D: StopDisk>(
         × Appends (W.written out.old) (W.written out.new) (answers (sorted (ids_of registry.now)) (run_of given)) }
     ensures disk { (node : Node) → result ≡ Status.DiskFault node → let given = appended_bytes (S.taken schedule.old) (S.taken schedule.new) in
         HasFront (sorted (ids_of registry.now)) (run_of given) (λ ls. Appends (W.written out.old) (W.written out.new) (answers (sorted (ids_of registry.now)) ls))
-        × HasRisenAt registry.now node (bench D.image_at D.moment D.faults D.armed D.picks pairs.old.items) (bench D.image_at D.moment D.faults D.armed D.picks pairs.new.items) }
-    // Where the disks had picked nothing, those of each node hold what the node keeps behind the lines that ran.
-    ensures held_ok { result ≡ Status.Ok → AllUnpicked (bench D.image_at D.moment D.faults D.armed D.picks pairs.old.items) → let given = appended_bytes (S.taken schedule.old) (S.taken schedule.new) in
-        AreHeld (sorted (ids_of registry.now)) (ran (lines_of given)) registry.now (bench D.image_at D.moment D.faults D.armed D.picks pairs.new.items) }
-    ensures held_bad { (line : ℕ) → result ≡ Status.BadSchedule line → AllUnpicked (bench D.image_at D.moment D.faults D.armed D.picks pairs.old.items) → let given = appended_bytes (S.taken schedule.old) (S.taken schedule.new) in
-        AreHeld (sorted (ids_of registry.now)) (ran (take (line - 1) (run_of given))) registry.now (bench D.image_at D.moment D.faults D.armed D.picks pairs.new.items) }
-    ensures held_read { result ≡ Status.ReadFault → AllUnpicked (bench D.image_at D.moment D.faults D.armed D.picks pairs.old.items) → let given = appended_bytes (S.taken schedule.old) (S.taken schedule.new) in
-        AreHeld (sorted (ids_of registry.now)) (ran (lines_of given)) registry.now (bench D.image_at D.moment D.faults D.armed D.picks pairs.new.items) }
-    ensures held_long { result ≡ Status.TooLong → AllUnpicked (bench D.image_at D.moment D.faults D.armed D.picks pairs.old.items) → let given = appended_bytes (S.taken schedule.old) (S.taken schedule.new) in
-        AreHeld (sorted (ids_of registry.now)) (ran (run_of given)) registry.now (bench D.image_at D.moment D.faults D.armed D.picks pairs.new.items) }
-    ensures onward { AllGoOn (bench D.image_at D.moment D.faults D.armed D.picks pairs.old.items) (bench D.image_at D.moment D.faults D.armed D.picks pairs.new.items) }
+        × HasFailedAt registry.now node (bench D.image_at D.moment D.faults D.armed D.picks pairs.old.items) (bench D.image_at D.moment D.faults D.armed D.picks pairs.new.items) }
+    // The disks of each node hold what the node keeps behind the lines that ran.
+    ensures held_ok { result ≡ Status.Ok → let given = appended_bytes (S.taken schedule.old) (S.taken schedule.new) in
+        AreHeld (bench D.image_at D.moment D.faults D.armed D.picks pairs.old.items) (sorted (ids_of registry.now)) (ran (lines_of given)) registry.now (bench D.image_at D.moment D.faults D.armed D.picks pairs.new.items) }
+    ensures held_bad { (line : ℕ) → result ≡ Status.BadSchedule line → let given = appended_bytes (S.taken schedule.old) (S.taken schedule.new) in
+        AreHeld (bench D.image_at D.moment D.faults D.armed D.picks pairs.old.items) (sorted (ids_of registry.now)) (ran (take (line - 1) (run_of given))) registry.now (bench D.image_at D.moment D.faults D.armed D.picks pairs.new.items) }
+    ensures held_read { result ≡ Status.ReadFault → let given = appended_bytes (S.taken schedule.old) (S.taken schedule.new) in
+        AreHeld (bench D.image_at D.moment D.faults D.armed D.picks pairs.old.items) (sorted (ids_of registry.now)) (ran (lines_of given)) registry.now (bench D.image_at D.moment D.faults D.armed D.picks pairs.new.items) }
+    ensures held_long { result ≡ Status.TooLong → let given = appended_bytes (S.taken schedule.old) (S.taken schedule.new) in
+        AreHeld (bench D.image_at D.moment D.faults D.armed D.picks pairs.old.items) (sorted (ids_of registry.now)) (ran (run_of given)) registry.now (bench D.image_at D.moment D.faults D.armed D.picks pairs.new.items) }
+    ensures onward { NoneForgotten (bench D.image_at D.moment D.faults D.armed D.picks pairs.old.items) (bench D.image_at D.moment D.faults D.armed D.picks pairs.new.items) }
+    ensures unarmed { (result ≡ Status.NoMemory → ⊥) → AllUnarmed (bench D.image_at D.moment D.faults D.armed D.picks pairs.new.items) }
     ensures part { AppendsPart (W.written out.old) (W.written out.new)
         (answers (sorted (ids_of registry.now)) (run_of (appended_bytes (S.taken schedule.old) (S.taken schedule.new)))) }
     ensures taken { Consumes (S.left schedule.old) (S.left schedule.new) (appended_bytes (S.taken schedule.old) (S.taken schedule.new)) }
-    ensures complete { (SomeRose (bench D.image_at D.moment D.faults D.armed D.picks pairs.old.items) (bench D.image_at D.moment D.faults D.armed D.picks pairs.new.items) → ⊥) → (Rose (S.faults schedule.old) (S.faults schedule.new) → ⊥) → (Rose (W.faults out.old) (W.faults out.new) → ⊥)
+    ensures complete { (SomeFailed (bench D.image_at D.moment D.faults D.armed D.picks pairs.old.items) (bench D.image_at D.moment D.faults D.armed D.picks pairs.new.items) → ⊥) → (Rose (S.faults schedule.old) (S.faults schedule.new) → ⊥) → (Rose (W.faults out.old) (W.faults out.new) → ⊥)
         → IsSchedule (sorted (ids_of registry.now)) (had (S.left schedule.old) (appended_bytes (S.taken schedule.old) (S.taken schedule.new)))
         → (result ≡ Status.Ok) ⊎ (result ≡ Status.NoMemory) }
 {
@@ -84,7 +86,7 @@ pub fn replay<S: Source, W: Sink, D: StopDisk>(
     let text = head(&reading.bytes);
     match run_lines(alloc, registry, pairs, text, out) {
         Err(RunFault::BadLine(line)) => Status::BadSchedule { line },
-        Err(RunFault::TooMany(line)) => Status::TooMany { which: 1 },
+        Err(RunFault::TooMany { line, which }) => Status::TooMany { which },
         Err(RunFault::Disk(slot)) => Status::DiskFault {
             node: registry.node(slot),
         },

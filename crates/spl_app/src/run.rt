@@ -7,25 +7,24 @@ ghost use Rattle.spl_circuit.specs.Nodes.{sorted};
 ghost use Rattle.spl_registry.specs.Nodes.{ids_of as registered};
 ghost use Rattle.spl_app.specs.Lines.{lines_of};
 ghost use Rattle.spl_app.specs.Due.{IsDue, IsDuePart};
-ghost use Rattle.spl_app.specs.Taken.{is_taken};
-ghost use Rattle.spl_app.specs.Run.{IsLine, IsRunnable, IsRun, Bad, Past, StopsAt, HasFront, said, ran, printed, answers};
+ghost use Rattle.spl_app.specs.Run.{IsLine, IsRunnable, IsRun, IsWithin, Bad, Past, StopsAt, HasFront, said, ran, printed, answers};
 ghost use Rattle.spl_answer.specs.Texts.{text as text_of};
 ghost use Rattle.spl_model.specs.Projection.{Ran};
 ghost use Rattle.spl_model.specs.Outcomes.{by_rule};
 ghost use Rattle.spl_model.specs.Answers.{answer_to};
-ghost use Rattle.spl_model.specs.Counts.{events_of};
-ghost use Rattle.spl_world.specs.Disks.{AllGoOn, AreBlank, LeavesDisks, RoseAt, bench, images, images_at};
-ghost use Rattle.spl_world.specs.Held.{AllHeld, AllUnpicked, AreHeld};
+ghost use Rattle.spl_world.specs.Counts.{IsOver};
+ghost use Rattle.spl_world.specs.Disks.{AllUnarmed, AreBlank, NoneForgotten, PairView, bench, images, images_at};
+ghost use Rattle.spl_world.specs.Held.{AllHeld, AllUnpicked, AreHeld, FailedSince};
 ghost use Rattle.spl_world.specs.Views.{ArePlaced, IsPlace, Sits, Stands, ids_of, is_halted, places_of, seen};
 
 use crate::fault::RunFault;
 use crate::lines::{LONGEST_LINE, first_line, is_silent};
 use crate::output::Output;
 use crate::registered::sorted_ids;
+use crate::take::take_line;
 use spl_answer::append_text;
 use spl_base::NodeId;
 use spl_edge::{Pair, Sink, StopDisk};
-use spl_model::MOST_EVENTS;
 use spl_registry::Registry;
 use spl_sched::{Line, LineFault, read_line};
 use spl_world::{World, WorldFault};
@@ -40,13 +39,6 @@ pub struct Run {
     output: Output,
 }
 
-// A run takes the line.
-fn is_taken(line: &Line) -> bool
-    ensures { result ≡ is_taken line.now }
-{
-    matches!(line, Line::Step(_) | Line::Calm { .. })
-}
-
 impl Run {
     ghost use Rattle.spl_app.specs.Behind.{IsBehind};
 
@@ -57,12 +49,15 @@ impl Run {
     ) -> Result<Run, WorldFault>
         requires room { length registry.now ≤ length pairs.old.items }
         requires blank { (i : ℕ) → i < length registry.now → AreBlank (images_at (images D.image_at D.moment pairs.old.items) i) }
+        requires unpicked { AllUnpicked (bench D.image_at D.moment D.faults D.armed D.picks pairs.old.items) }
         ensures nodes { IfOk result (λ run. run.nodes.items ≡ sorted (registered registry.now)) }
         ensures behind { IfOk result (λ run. (start : Option (List ℕ)) → IsBehind (sorted (registered registry.now)) [] run (images D.image_at D.moment pairs.new.items) start start) }
-        ensures disks { LeavesDisks result (bench D.image_at D.moment D.faults D.armed D.picks pairs.old.items) (bench D.image_at D.moment D.faults D.armed D.picks pairs.new.items) }
+        ensures onward { NoneForgotten (bench D.image_at D.moment D.faults D.armed D.picks pairs.old.items) (bench D.image_at D.moment D.faults D.armed D.picks pairs.new.items) }
+        ensures unarmed { AllUnarmed (bench D.image_at D.moment D.faults D.armed D.picks pairs.new.items) }
+        ensures failed { (slot : ℕ) → IsErrOf result (WorldFault.Disk slot) → FailedSince slot (bench D.image_at D.moment D.faults D.armed D.picks pairs.old.items) (bench D.image_at D.moment D.faults D.armed D.picks pairs.new.items) }
         ensures few { (which : ℕ) → IsErrOf result (WorldFault.TooMany which) → ⊥ }
         ensures placed { IfOk result (λ run. ArePlaced registry.now run.world) }
-        ensures held { AllUnpicked (bench D.image_at D.moment D.faults D.armed D.picks pairs.old.items) → IfOk result (λ run. AllHeld [] run.world (bench D.image_at D.moment D.faults D.armed D.picks pairs.new.items)) }
+        ensures held { IfOk result (λ run. AllHeld (bench D.image_at D.moment D.faults D.armed D.picks pairs.old.items) [] run.world (bench D.image_at D.moment D.faults D.armed D.picks pairs.new.items)) }
         ensures apart { OnOk result (AllPairs (λ a b. a ≢ b) (registered registry.now)) }
         ensures place { (slot : ℕ) → IsErrOf result (WorldFault.Disk slot) → slot < length registry.now }
     {
@@ -88,7 +83,7 @@ impl Run {
             return Ok(None);
         }
         match read_line(alloc, line) {
-            Ok(said) if said.names_only(&self.nodes) && is_taken(&said) => Ok(Some(said)),
+            Ok(said) if said.names_only(&self.nodes) => Ok(Some(said)),
             Ok(_) => Err(LineFault::BadLine),
             Err(fault) => Err(fault),
         }
@@ -110,21 +105,23 @@ impl Run {
         ensures running { OnOk result (is_halted self.new.world ≡ false) }
         ensures stands { (before : List Ran) → Stands before self.old.world (images D.image_at D.moment pairs.old.items) → OnOk result (Stands (before ++ by_rule said.now ∷ []) self.new.world (images D.image_at D.moment pairs.new.items)) }
         ensures text { (before : List Ran) → Stands before self.old.world (images D.image_at D.moment pairs.old.items) → OnOk result (self.new.text.items ≡ text_of (answer_to self.old.nodes.items before (by_rule said.now))) }
-        ensures few { (before : List Ran) → Stands before self.old.world (images D.image_at D.moment pairs.old.items) → OnOk result (events_of self.old.nodes.items (before ++ by_rule said.now ∷ []) ≤ MOST_EVENTS) }
-        ensures many { (before : List Ran) (which : ℕ) → Stands before self.old.world (images D.image_at D.moment pairs.old.items) → IsErrOf result (WorldFault.TooMany which) → MOST_EVENTS < events_of self.old.nodes.items (before ++ by_rule said.now ∷ []) }
+        ensures few { (before : List Ran) → Stands before self.old.world (images D.image_at D.moment pairs.old.items) → IsWithin self.old.nodes.items before → OnOk result (IsWithin self.old.nodes.items (before ++ by_rule said.now ∷ [])) }
+        ensures many { (before : List Ran) (which : ℕ) → Stands before self.old.world (images D.image_at D.moment pairs.old.items) → IsErrOf result (WorldFault.TooMany which) → IsOver self.old.nodes.items (before ++ by_rule said.now ∷ []) which }
         ensures output { self.new.output ≡ self.old.output }
-        ensures disks { LeavesDisks result (bench D.image_at D.moment D.faults D.armed D.picks pairs.old.items) (bench D.image_at D.moment D.faults D.armed D.picks pairs.new.items) }
+        ensures onward { NoneForgotten (bench D.image_at D.moment D.faults D.armed D.picks pairs.old.items) (bench D.image_at D.moment D.faults D.armed D.picks pairs.new.items) }
+        ensures unarmed { AllUnarmed (bench D.image_at D.moment D.faults D.armed D.picks pairs.old.items) → (IsErrOf result WorldFault.NoMemory → ⊥) → AllUnarmed (bench D.image_at D.moment D.faults D.armed D.picks pairs.new.items) }
+        ensures failed { (start : List PairView) (before : List Ran) (slot : ℕ) → IsErrOf result (WorldFault.Disk slot) → AllHeld start before self.old.world (bench D.image_at D.moment D.faults D.armed D.picks pairs.old.items) → FailedSince slot start (bench D.image_at D.moment D.faults D.armed D.picks pairs.new.items) }
         ensures places { places_of self.new.world ≡ places_of self.old.world }
-        ensures held { (before : List Ran) → Stands before self.old.world (images D.image_at D.moment pairs.old.items) → AllHeld before self.old.world (bench D.image_at D.moment D.faults D.armed D.picks pairs.old.items) → OnOk result (AllHeld (before ++ by_rule said.now ∷ []) self.new.world (bench D.image_at D.moment D.faults D.armed D.picks pairs.new.items)) }
+        ensures held { (start : List PairView) (before : List Ran) → Stands before self.old.world (images D.image_at D.moment pairs.old.items) → AllHeld start before self.old.world (bench D.image_at D.moment D.faults D.armed D.picks pairs.old.items) → OnOk result (AllHeld start (before ++ by_rule said.now ∷ []) self.new.world (bench D.image_at D.moment D.faults D.armed D.picks pairs.new.items)) }
         ensures place { (slot : ℕ) → IsErrOf result (WorldFault.Disk slot) → IsPlace (places_of self.old.world) slot }
     {
-        let answer = self.world.step(alloc, pairs, said)?;
+        let answer = take_line(alloc, &mut self.world, pairs, said)?;
         self.text.clear();
         append_text(&answer, &mut self.text)?;
         Ok(())
     }
 
-    // Runs a line that says this, and lets the answer wait. Where the events pass the limit with it
+    // Runs a line that says this, and lets the answer wait. Where the lines pass a limit with it
     // there is none.
     fn answer<W: Sink, D: StopDisk>(
         &mut self,
@@ -147,21 +144,27 @@ impl Run {
         ensures part { (before : List Ran) → Stands before self.old.world (images D.image_at D.moment pairs.old.items) → IsDuePart (W.written out.old) (W.written out.new) self.new.output
             (self.old.output ++ printed number (text_of (answer_to self.old.nodes.items before (by_rule said.now)))) }
         ensures good { (n : ℕ) → IsErrOf result (RunFault.BadLine n) → ⊥ }
-        ensures few { (before : List Ran) → Stands before self.old.world (images D.image_at D.moment pairs.old.items) → OnOk result (events_of self.old.nodes.items (before ++ by_rule said.now ∷ []) ≤ MOST_EVENTS) }
-        ensures many { (before : List Ran) (n : ℕ) → Stands before self.old.world (images D.image_at D.moment pairs.old.items) → IsErrOf result (RunFault.TooMany n) → MOST_EVENTS < events_of self.old.nodes.items (before ++ by_rule said.now ∷ []) }
-        ensures kept { (n : ℕ) → IsErrOf result (RunFault.TooMany n) → (n ≡ number) × (self.new.output ≡ self.old.output) × (W.written out.new ≡ W.written out.old) }
+        ensures few { (before : List Ran) → Stands before self.old.world (images D.image_at D.moment pairs.old.items) → IsWithin self.old.nodes.items before → OnOk result (IsWithin self.old.nodes.items (before ++ by_rule said.now ∷ [])) }
+        ensures many { (before : List Ran) (n which : ℕ) → Stands before self.old.world (images D.image_at D.moment pairs.old.items) → IsErrOf result (RunFault.TooMany n which) → IsOver self.old.nodes.items (before ++ by_rule said.now ∷ []) which }
+        ensures kept { (n which : ℕ) → IsErrOf result (RunFault.TooMany n which) → (n ≡ number) × (self.new.output ≡ self.old.output) × (W.written out.new ≡ W.written out.old) }
         ensures whole { (slot : ℕ) → IsErrOf result (RunFault.Disk slot) → (self.new.output ≡ self.old.output) × (W.written out.new ≡ W.written out.old) }
-        ensures onward { AllGoOn (bench D.image_at D.moment D.faults D.armed D.picks pairs.old.items) (bench D.image_at D.moment D.faults D.armed D.picks pairs.new.items) }
-        ensures disk { (slot : ℕ) → IsErrOf result (RunFault.Disk slot) → RoseAt slot (bench D.image_at D.moment D.faults D.armed D.picks pairs.old.items) (bench D.image_at D.moment D.faults D.armed D.picks pairs.new.items) }
+        ensures onward { NoneForgotten (bench D.image_at D.moment D.faults D.armed D.picks pairs.old.items) (bench D.image_at D.moment D.faults D.armed D.picks pairs.new.items) }
+        ensures unarmed { AllUnarmed (bench D.image_at D.moment D.faults D.armed D.picks pairs.old.items) → (IsErrOf result RunFault.NoMemory → ⊥) → AllUnarmed (bench D.image_at D.moment D.faults D.armed D.picks pairs.new.items) }
+        ensures failed { (start : List PairView) (before : List Ran) (slot : ℕ) → IsErrOf result (RunFault.Disk slot) → AllHeld start before self.old.world (bench D.image_at D.moment D.faults D.armed D.picks pairs.old.items) → FailedSince slot start (bench D.image_at D.moment D.faults D.armed D.picks pairs.new.items) }
         ensures places { places_of self.new.world ≡ places_of self.old.world }
-        ensures held { (before : List Ran) → Stands before self.old.world (images D.image_at D.moment pairs.old.items) → AllHeld before self.old.world (bench D.image_at D.moment D.faults D.armed D.picks pairs.old.items) → OnOk result (AllHeld (before ++ by_rule said.now ∷ []) self.new.world (bench D.image_at D.moment D.faults D.armed D.picks pairs.new.items)) }
+        ensures held { (start : List PairView) (before : List Ran) → Stands before self.old.world (images D.image_at D.moment pairs.old.items) → AllHeld start before self.old.world (bench D.image_at D.moment D.faults D.armed D.picks pairs.old.items) → OnOk result (AllHeld start (before ++ by_rule said.now ∷ []) self.new.world (bench D.image_at D.moment D.faults D.armed D.picks pairs.new.items)) }
         ensures place { (slot : ℕ) → IsErrOf result (RunFault.Disk slot) → IsPlace (places_of self.old.world) slot }
         ensures write { IsErrOf result RunFault.Write → Rose (W.faults out.old) (W.faults out.new) }
         ensures later { W.faults out.old ≤ W.faults out.new }
     {
         match self.ask(alloc, pairs, said) {
             Ok(()) => (),
-            Err(WorldFault::TooMany { .. }) => return Err(RunFault::TooMany(number)),
+            Err(WorldFault::TooMany { which }) => {
+                return Err(RunFault::TooMany {
+                    line: number,
+                    which,
+                });
+            }
             Err(WorldFault::Disk { slot }) => return Err(RunFault::Disk(slot)),
             Err(WorldFault::NoMemory) => return Err(RunFault::NoMemory),
         }
@@ -170,7 +173,7 @@ impl Run {
     }
 
     // Runs one line. A line that a schedule may not have changes nothing, and one with which the
-    // events pass the limit has no answer.
+    // lines pass a limit has no answer.
     fn line<W: Sink, D: StopDisk>(
         &mut self,
         alloc: Global,
@@ -187,17 +190,18 @@ impl Run {
         ensures good { OnOk result (IsLine self.old.nodes.items line.now) }
         ensures bad { (n : ℕ) → IsErrOf result (RunFault.BadLine n)
             → (n ≡ number) × (IsLine self.old.nodes.items line.now → ⊥) × (self.new ≡ self.old) × (W.written out.new ≡ W.written out.old) }
-        ensures many { (n : ℕ) → IsErrOf result (RunFault.TooMany n)
+        ensures many { (n which : ℕ) → IsErrOf result (RunFault.TooMany n which)
             → (n ≡ number) × IsLine self.old.nodes.items line.now × (self.new.output ≡ self.old.output) × (W.written out.new ≡ W.written out.old) }
-        ensures past { (lines : List (List ℕ)) (n : ℕ) → Stands (ran lines) self.old.world (images D.image_at D.moment pairs.old.items) → IsErrOf result (RunFault.TooMany n)
-            → MOST_EVENTS < events_of self.old.nodes.items (ran (lines ++ line.now ∷ [])) }
+        ensures past { (lines : List (List ℕ)) (n which : ℕ) → Stands (ran lines) self.old.world (images D.image_at D.moment pairs.old.items) → IsErrOf result (RunFault.TooMany n which)
+            → IsOver self.old.nodes.items (ran (lines ++ line.now ∷ [])) which }
         ensures part { (lines : List (List ℕ)) → (start : Option (List ℕ)) → IsBehind self.old.nodes.items lines self.old (images D.image_at D.moment pairs.old.items) start (W.written out.old) → number ≡ length lines + 1
             → IsDuePart start (W.written out.new) self.new.output (answers self.old.nodes.items (lines ++ line.now ∷ [])) }
         ensures whole { (slot : ℕ) → IsErrOf result (RunFault.Disk slot) → (self.new.output ≡ self.old.output) × (W.written out.new ≡ W.written out.old) }
-        ensures onward { AllGoOn (bench D.image_at D.moment D.faults D.armed D.picks pairs.old.items) (bench D.image_at D.moment D.faults D.armed D.picks pairs.new.items) }
-        ensures disk { (slot : ℕ) → IsErrOf result (RunFault.Disk slot) → RoseAt slot (bench D.image_at D.moment D.faults D.armed D.picks pairs.old.items) (bench D.image_at D.moment D.faults D.armed D.picks pairs.new.items) }
+        ensures onward { NoneForgotten (bench D.image_at D.moment D.faults D.armed D.picks pairs.old.items) (bench D.image_at D.moment D.faults D.armed D.picks pairs.new.items) }
+        ensures unarmed { AllUnarmed (bench D.image_at D.moment D.faults D.armed D.picks pairs.old.items) → (IsErrOf result RunFault.NoMemory → ⊥) → AllUnarmed (bench D.image_at D.moment D.faults D.armed D.picks pairs.new.items) }
+        ensures failed { (start : List PairView) (before : List Ran) (slot : ℕ) → IsErrOf result (RunFault.Disk slot) → AllHeld start before self.old.world (bench D.image_at D.moment D.faults D.armed D.picks pairs.old.items) → FailedSince slot start (bench D.image_at D.moment D.faults D.armed D.picks pairs.new.items) }
         ensures places { places_of self.new.world ≡ places_of self.old.world }
-        ensures held { (lines : List (List ℕ)) → Stands (ran lines) self.old.world (images D.image_at D.moment pairs.old.items) → AllHeld (ran lines) self.old.world (bench D.image_at D.moment D.faults D.armed D.picks pairs.old.items) → OnOk result (AllHeld (ran (lines ++ line.now ∷ [])) self.new.world (bench D.image_at D.moment D.faults D.armed D.picks pairs.new.items)) }
+        ensures held { (start : List PairView) (lines : List (List ℕ)) → Stands (ran lines) self.old.world (images D.image_at D.moment pairs.old.items) → AllHeld start (ran lines) self.old.world (bench D.image_at D.moment D.faults D.armed D.picks pairs.old.items) → OnOk result (AllHeld start (ran (lines ++ line.now ∷ [])) self.new.world (bench D.image_at D.moment D.faults D.armed D.picks pairs.new.items)) }
         ensures same { (n : ℕ) → IsErrOf result (RunFault.BadLine n) → pairs.new ≡ pairs.old }
         ensures place { (slot : ℕ) → IsErrOf result (RunFault.Disk slot) → IsPlace (places_of self.old.world) slot }
         ensures write { IsErrOf result RunFault.Write → Rose (W.faults out.old) (W.faults out.new) }
@@ -211,7 +215,7 @@ impl Run {
         }
     }
 
-    // Runs each line, up to the first that a schedule may not have or with which the events pass the
+    // Runs each line, up to the first that a schedule may not have or with which the lines pass a
     // limit, and tells how many there were.
     fn lines<W: Sink, D: StopDisk>(
         &mut self,
@@ -228,14 +232,15 @@ impl Run {
         ensures due { OnOk result (IsDue (W.written out.old) (W.written out.new) self.new.output (answers self.old.nodes.items (lines_of text.now))) }
         ensures bad { (number : ℕ) → IsErrOf result (RunFault.BadLine number) → StopsAt self.old.nodes.items Bad (lines_of text.now) number
             × IsDue (W.written out.old) (W.written out.new) self.new.output (answers self.old.nodes.items (take (number - 1) (lines_of text.now))) }
-        ensures many { (number : ℕ) → IsErrOf result (RunFault.TooMany number) → StopsAt self.old.nodes.items Past (lines_of text.now) number
+        ensures many { (number which : ℕ) → IsErrOf result (RunFault.TooMany number which) → StopsAt self.old.nodes.items (Past which) (lines_of text.now) number
             × IsDue (W.written out.old) (W.written out.new) self.new.output (answers self.old.nodes.items (take (number - 1) (lines_of text.now))) }
         ensures whole { (slot : ℕ) → IsErrOf result (RunFault.Disk slot) → HasFront self.old.nodes.items (lines_of text.now) (λ ls. IsDue (W.written out.old) (W.written out.new) self.new.output (answers self.old.nodes.items ls)) }
-        ensures onward { AllGoOn (bench D.image_at D.moment D.faults D.armed D.picks pairs.old.items) (bench D.image_at D.moment D.faults D.armed D.picks pairs.new.items) }
-        ensures disk { (slot : ℕ) → IsErrOf result (RunFault.Disk slot) → RoseAt slot (bench D.image_at D.moment D.faults D.armed D.picks pairs.old.items) (bench D.image_at D.moment D.faults D.armed D.picks pairs.new.items) }
+        ensures onward { NoneForgotten (bench D.image_at D.moment D.faults D.armed D.picks pairs.old.items) (bench D.image_at D.moment D.faults D.armed D.picks pairs.new.items) }
+        ensures unarmed { AllUnarmed (bench D.image_at D.moment D.faults D.armed D.picks pairs.old.items) → (IsErrOf result RunFault.NoMemory → ⊥) → AllUnarmed (bench D.image_at D.moment D.faults D.armed D.picks pairs.new.items) }
+        ensures failed { (start : List PairView) → AllHeld start [] self.old.world (bench D.image_at D.moment D.faults D.armed D.picks pairs.old.items) → (slot : ℕ) → IsErrOf result (RunFault.Disk slot) → FailedSince slot start (bench D.image_at D.moment D.faults D.armed D.picks pairs.new.items) }
         ensures place { (slot : ℕ) → IsErrOf result (RunFault.Disk slot) → IsPlace (places_of self.old.world) slot }
-        ensures held { AllHeld [] self.old.world (bench D.image_at D.moment D.faults D.armed D.picks pairs.old.items) → OnOk result (AllHeld (ran (lines_of text.now)) self.old.world (bench D.image_at D.moment D.faults D.armed D.picks pairs.new.items)) }
-        ensures bad_held { AllHeld [] self.old.world (bench D.image_at D.moment D.faults D.armed D.picks pairs.old.items) → (number : ℕ) → IsErrOf result (RunFault.BadLine number) → AllHeld (ran (take (number - 1) (lines_of text.now))) self.old.world (bench D.image_at D.moment D.faults D.armed D.picks pairs.new.items) }
+        ensures held { (start : List PairView) → AllHeld start [] self.old.world (bench D.image_at D.moment D.faults D.armed D.picks pairs.old.items) → OnOk result (AllHeld start (ran (lines_of text.now)) self.old.world (bench D.image_at D.moment D.faults D.armed D.picks pairs.new.items)) }
+        ensures bad_held { (start : List PairView) → AllHeld start [] self.old.world (bench D.image_at D.moment D.faults D.armed D.picks pairs.old.items) → (number : ℕ) → IsErrOf result (RunFault.BadLine number) → AllHeld start (ran (take (number - 1) (lines_of text.now))) self.old.world (bench D.image_at D.moment D.faults D.armed D.picks pairs.new.items) }
         ensures part { IsDuePart (W.written out.old) (W.written out.new) self.new.output (answers self.old.nodes.items (lines_of text.now)) }
         ensures write { IsErrOf result RunFault.Write → Rose (W.faults out.old) (W.faults out.new) }
         ensures later { W.faults out.old ≤ W.faults out.new }
@@ -253,8 +258,17 @@ impl Run {
     }
 }
 
-/// Runs each line of a text over the nodes of a registry, whose disks are blank, up to the first that a schedule may not have or with which the events
-/// pass the limit, writes the answers, and tells how many lines there were.
+// Whether a run ended for want of memory.
+fn lacks_memory(ended: &Result<u32, RunFault>) -> bool
+    ensures { result ≡ false → IsErrOf ended.now RunFault.NoMemory → ⊥ }
+{
+    matches!(ended, Err(RunFault::NoMemory))
+}
+
+/// Runs each line of a text over the nodes of a registry, whose disks are blank, up to the first
+/// that a schedule may not have or with which the lines pass a limit, writes the answers, and tells
+/// how many lines there were. Want of memory is told before a fault of the sink, since it may leave
+/// disks armed.
 pub fn run_lines<W: Sink, D: StopDisk>(
     alloc: Global,
     registry: &Registry,
@@ -264,6 +278,7 @@ pub fn run_lines<W: Sink, D: StopDisk>(
 ) -> Result<u32, RunFault>
     requires pairs { length registry.now ≤ length pairs.old.items }
     requires blank { (i : ℕ) → i < length registry.now → AreBlank (images_at (images D.image_at D.moment pairs.old.items) i) }
+    requires unpicked { AllUnpicked (bench D.image_at D.moment D.faults D.armed D.picks pairs.old.items) }
     requires room { length text.now < 2 ^ 32 - 1 }
     ensures count { IfOk result (λ count. count ≡ length (lines_of text.now)) }
     ensures room { IfOk result (λ count. count ≤ length text.now) }
@@ -274,21 +289,22 @@ pub fn run_lines<W: Sink, D: StopDisk>(
     ensures bad { (number : ℕ) → IsErrOf result (RunFault.BadLine number) → StopsAt (sorted (registered registry.now)) Bad (lines_of text.now) number
         × Appends (W.written out.old) (W.written out.new) (answers (sorted (registered registry.now)) (take (number - 1) (lines_of text.now))) }
 
-    // The first line with which the events pass the limit.
-    ensures many { (number : ℕ) → IsErrOf result (RunFault.TooMany number) → StopsAt (sorted (registered registry.now)) Past (lines_of text.now) number
+    // The first line with which the lines pass the limit `which`.
+    ensures many { (number which : ℕ) → IsErrOf result (RunFault.TooMany number which) → StopsAt (sorted (registered registry.now)) (Past which) (lines_of text.now) number
         × Appends (W.written out.old) (W.written out.new) (answers (sorted (registered registry.now)) (take (number - 1) (lines_of text.now))) }
 
     // A disk failed. The answers to the lines before are written.
     ensures whole { (slot : ℕ) → IsErrOf result (RunFault.Disk slot) → HasFront (sorted (registered registry.now)) (lines_of text.now) (λ ls. Appends (W.written out.old) (W.written out.new) (answers (sorted (registered registry.now)) ls)) }
-    ensures disk { (slot : ℕ) → IsErrOf result (RunFault.Disk slot) → RoseAt slot (bench D.image_at D.moment D.faults D.armed D.picks pairs.old.items) (bench D.image_at D.moment D.faults D.armed D.picks pairs.new.items) }
+    ensures failed { (slot : ℕ) → IsErrOf result (RunFault.Disk slot) → FailedSince slot (bench D.image_at D.moment D.faults D.armed D.picks pairs.old.items) (bench D.image_at D.moment D.faults D.armed D.picks pairs.new.items) }
     ensures place { (slot : ℕ) → IsErrOf result (RunFault.Disk slot) → slot < length registry.now }
 
-    // Where the disks had picked nothing, those of each node hold what the node keeps.
-    ensures held { AllUnpicked (bench D.image_at D.moment D.faults D.armed D.picks pairs.old.items) → OnOk result (AreHeld (sorted (registered registry.now)) (ran (lines_of text.now)) registry.now (bench D.image_at D.moment D.faults D.armed D.picks pairs.new.items)) }
-    ensures bad_held { AllUnpicked (bench D.image_at D.moment D.faults D.armed D.picks pairs.old.items) → (number : ℕ) → IsErrOf result (RunFault.BadLine number) → AreHeld (sorted (registered registry.now)) (ran (take (number - 1) (lines_of text.now))) registry.now (bench D.image_at D.moment D.faults D.armed D.picks pairs.new.items) }
+    // The disks of each node hold what the node keeps.
+    ensures held { OnOk result (AreHeld (bench D.image_at D.moment D.faults D.armed D.picks pairs.old.items) (sorted (registered registry.now)) (ran (lines_of text.now)) registry.now (bench D.image_at D.moment D.faults D.armed D.picks pairs.new.items)) }
+    ensures bad_held { (number : ℕ) → IsErrOf result (RunFault.BadLine number) → AreHeld (bench D.image_at D.moment D.faults D.armed D.picks pairs.old.items) (sorted (registered registry.now)) (ran (take (number - 1) (lines_of text.now))) registry.now (bench D.image_at D.moment D.faults D.armed D.picks pairs.new.items) }
 
     // Whatever the end.
-    ensures onward { AllGoOn (bench D.image_at D.moment D.faults D.armed D.picks pairs.old.items) (bench D.image_at D.moment D.faults D.armed D.picks pairs.new.items) }
+    ensures onward { NoneForgotten (bench D.image_at D.moment D.faults D.armed D.picks pairs.old.items) (bench D.image_at D.moment D.faults D.armed D.picks pairs.new.items) }
+    ensures unarmed { (IsErrOf result RunFault.NoMemory → ⊥) → AllUnarmed (bench D.image_at D.moment D.faults D.armed D.picks pairs.new.items) }
     ensures part { AppendsPart (W.written out.old) (W.written out.new) (answers (sorted (registered registry.now)) (lines_of text.now)) }
     ensures write { IsErrOf result RunFault.Write → Rose (W.faults out.old) (W.faults out.new) }
     ensures later { W.faults out.old ≤ W.faults out.new }
@@ -299,6 +315,10 @@ pub fn run_lines<W: Sink, D: StopDisk>(
         Err(_) => return Err(RunFault::NoMemory),
     };
     let ended = run.lines(alloc, pairs, text, out);
-    run.output.flush(out)?;
+    let flushed = run.output.flush(out);
+    if lacks_memory(&ended) {
+        return Err(RunFault::NoMemory);
+    }
+    flushed?;
     ended
 }

@@ -9,10 +9,10 @@ ghost use Rattle.spl_agreement.specs.OneList.{TellOneList};
 ghost use Rattle.spl_registry.specs.declared.fault.RegistryFault.{RegistryFault};
 ghost use Rattle.spl_registry.specs.Tree.{registry_of};
 ghost use Rattle.spl_circuit.specs.Nodes.{Node};
-ghost use Rattle.spl_world.specs.Disks.{AllGoOn, AreBlank, bench as bench_of, images, images_at};
+ghost use Rattle.spl_world.specs.Disks.{AllUnarmed, AreBlank, NoneForgotten, bench as bench_of, images, images_at};
 ghost use Rattle.spl_world.specs.Held.{AllUnpicked};
 ghost use Rattle.spl_app.specs.Run.{HasFront, IsRun, ran, answers};
-ghost use Rattle.spl_app.specs.Registered.{nodes_of, HasRisenIn, Hold, IsRegistryText, SomeRose};
+ghost use Rattle.spl_app.specs.Registered.{HasFailedIn, Hold, IsRegistryText, SomeFailed, nodes_of};
 ghost use Rattle.spl_app.specs.Schedule.{IsReplay, IsSchedule, IsBadAt, HasTooMany, had, run_of};
 
 use crate::Status;
@@ -45,6 +45,7 @@ pub fn splinter<S: Source, W: Sink, D: StopDisk>(
 ) -> Status
     requires pairs { length bench.old.pairs.items ≡ 16 }
     requires blank { (i : ℕ) → i < 16 → AreBlank (images_at (images D.image_at D.moment bench.old.pairs.items) i) }
+    requires unpicked { AllUnpicked (bench_of D.image_at D.moment D.faults D.armed D.picks bench.old.pairs.items) }
 
     // Exactly where the words aren't this command. Nothing is written.
     ensures usage { (result ≡ Status.Usage) ↔ (IsReplay (map string_bytes words.now) → ⊥) }
@@ -75,11 +76,11 @@ pub fn splinter<S: Source, W: Sink, D: StopDisk>(
         IsRegistryText text × IsBadAt (nodes_of text) given (S.left schedule.new) line
         × Appends (W.written out.old) (W.written out.new) (answers (nodes_of text) (take (line - 1) (run_of given))) }
 
-    // The run has too many events with a line, and not before. The answers to the lines before it
-    // are written.
+    // The run has too many events with a line, where this is 1, or too many stops, where it is 2, and
+    // not before. The answers to the lines before it are written.
     ensures many { (which : ℕ) → result ≡ Status.TooMany which → let text = appended_bytes (S.taken registry.old) (S.taken registry.new) in
-        (which ≡ 1) × IsRegistryText text
-        × HasTooMany (nodes_of text) (appended_bytes (S.taken schedule.old) (S.taken schedule.new)) (W.written out.old) (W.written out.new) }
+        let given = appended_bytes (S.taken schedule.old) (S.taken schedule.new) in
+        IsRegistryText text × HasTooMany (nodes_of text) given (W.written out.old) (W.written out.new) which }
 
     // A source failed: that of the registry, and nothing is written, or that of the schedule, and
     // the answers to all lines that it gave are written.
@@ -89,10 +90,11 @@ pub fn splinter<S: Source, W: Sink, D: StopDisk>(
         ⊎ (Rose (S.faults schedule.old) (S.faults schedule.new) × IsRegistryText text × IsRun (nodes_of text) (lines_of given)
         × Appends (W.written out.old) (W.written out.new) (answers (nodes_of text) (lines_of given))) }
 
-    // A disk of this node of the registry failed. The answers to the lines before are written.
+    // A disk of this node of the registry has failed since it was last picked from. The answers to
+    // the lines before are written.
     ensures disk { (node : Node) → result ≡ Status.DiskFault node → let text = appended_bytes (S.taken registry.old) (S.taken registry.new) in
         let given = appended_bytes (S.taken schedule.old) (S.taken schedule.new) in
-        IsRegistryText text × HasRisenIn text node (bench_of D.image_at D.moment D.faults D.armed D.picks bench.old.pairs.items) (bench_of D.image_at D.moment D.faults D.armed D.picks bench.new.pairs.items)
+        IsRegistryText text × HasFailedIn text node (bench_of D.image_at D.moment D.faults D.armed D.picks bench.old.pairs.items) (bench_of D.image_at D.moment D.faults D.armed D.picks bench.new.pairs.items)
         × HasFront (nodes_of text) (run_of given) (λ ls. Appends (W.written out.old) (W.written out.new) (answers (nodes_of text) ls)) }
 
     // The sink failed.
@@ -126,32 +128,36 @@ pub fn splinter<S: Source, W: Sink, D: StopDisk>(
     ensures nodes_taken { Consumes (S.left registry.old) (S.left registry.new) (appended_bytes (S.taken registry.old) (S.taken registry.new)) }
     ensures taken { Consumes (S.left schedule.old) (S.left schedule.new) (appended_bytes (S.taken schedule.old) (S.taken schedule.new)) }
 
-    // Where the disks had picked nothing: at the end the two disks of each node, at its position in the
-    // registry, stand for what the node keeps behind the lines that ran; and each has one pick for
-    // each line that stopped the node, whose images stand for what it kept behind that line.
-    ensures held_ok { result ≡ Status.Ok → AllUnpicked (bench_of D.image_at D.moment D.faults D.armed D.picks bench.old.pairs.items) → let text = appended_bytes (S.taken registry.old) (S.taken registry.new) in
+    // At the end the two disks of each node, at its position in the registry, stand for what the node
+    // keeps behind the lines that ran. Each was picked from once at each line that found the node up
+    // and stopped it, and nowhere else, armed and filled as the line says. The two images stand for
+    // what the node kept behind that line; where the line stopped an event with changes before its
+    // record was written, the count of faults of one of the two had risen since the pick before.
+    ensures held_ok { result ≡ Status.Ok → let text = appended_bytes (S.taken registry.old) (S.taken registry.new) in
         let given = appended_bytes (S.taken schedule.old) (S.taken schedule.new) in
-        Hold text (lines_of given) (bench_of D.image_at D.moment D.faults D.armed D.picks bench.new.pairs.items) }
-    ensures held_bad { (line : ℕ) → result ≡ Status.BadSchedule line → AllUnpicked (bench_of D.image_at D.moment D.faults D.armed D.picks bench.old.pairs.items) → let text = appended_bytes (S.taken registry.old) (S.taken registry.new) in
+        Hold text (lines_of given) (bench_of D.image_at D.moment D.faults D.armed D.picks bench.old.pairs.items) (bench_of D.image_at D.moment D.faults D.armed D.picks bench.new.pairs.items) }
+    ensures held_bad { (line : ℕ) → result ≡ Status.BadSchedule line → let text = appended_bytes (S.taken registry.old) (S.taken registry.new) in
         let given = appended_bytes (S.taken schedule.old) (S.taken schedule.new) in
-        Hold text (take (line - 1) (run_of given)) (bench_of D.image_at D.moment D.faults D.armed D.picks bench.new.pairs.items) }
-    ensures held_read { result ≡ Status.ReadFault → AllUnpicked (bench_of D.image_at D.moment D.faults D.armed D.picks bench.old.pairs.items) → let text = appended_bytes (S.taken registry.old) (S.taken registry.new) in
+        Hold text (take (line - 1) (run_of given)) (bench_of D.image_at D.moment D.faults D.armed D.picks bench.old.pairs.items) (bench_of D.image_at D.moment D.faults D.armed D.picks bench.new.pairs.items) }
+    ensures held_read { result ≡ Status.ReadFault → let text = appended_bytes (S.taken registry.old) (S.taken registry.new) in
         let given = appended_bytes (S.taken schedule.old) (S.taken schedule.new) in
-        Rose (S.faults registry.old) (S.faults registry.new) ⊎ Hold text (lines_of given) (bench_of D.image_at D.moment D.faults D.armed D.picks bench.new.pairs.items) }
-    ensures held_long { result ≡ Status.TooLong → AllUnpicked (bench_of D.image_at D.moment D.faults D.armed D.picks bench.old.pairs.items) → let text = appended_bytes (S.taken registry.old) (S.taken registry.new) in
+        Rose (S.faults registry.old) (S.faults registry.new) ⊎ Hold text (lines_of given) (bench_of D.image_at D.moment D.faults D.armed D.picks bench.old.pairs.items) (bench_of D.image_at D.moment D.faults D.armed D.picks bench.new.pairs.items) }
+    ensures held_long { result ≡ Status.TooLong → let text = appended_bytes (S.taken registry.old) (S.taken registry.new) in
         let given = appended_bytes (S.taken schedule.old) (S.taken schedule.new) in
-        (limit < length text) ⊎ Hold text (run_of given) (bench_of D.image_at D.moment D.faults D.armed D.picks bench.new.pairs.items) }
+        (limit < length text) ⊎ Hold text (run_of given) (bench_of D.image_at D.moment D.faults D.armed D.picks bench.old.pairs.items) (bench_of D.image_at D.moment D.faults D.armed D.picks bench.new.pairs.items) }
 
-    // No fault of a disk is forgotten, and none is armed or picked from.
-    ensures onward { AllGoOn (bench_of D.image_at D.moment D.faults D.armed D.picks bench.old.pairs.items) (bench_of D.image_at D.moment D.faults D.armed D.picks bench.new.pairs.items) }
+    // With every status no fault of a disk is forgotten, and but for want of memory no disk is armed.
+    ensures onward { NoneForgotten (bench_of D.image_at D.moment D.faults D.armed D.picks bench.old.pairs.items) (bench_of D.image_at D.moment D.faults D.armed D.picks bench.new.pairs.items) }
+    ensures unarmed { (result ≡ Status.NoMemory → ⊥) → AllUnarmed (bench_of D.image_at D.moment D.faults D.armed D.picks bench.new.pairs.items) }
 
-    // Where the sources had a registry and a schedule it doesn't give up by itself.
+    // Where the sources had a registry and a schedule, and neither they nor the sink failed, nor a disk
+    // since it was last picked from, it doesn't give up by itself.
     ensures complete { IsReplay (map string_bytes words.now)
         → (Rose (S.faults registry.old) (S.faults registry.new) → ⊥) → (Rose (S.faults schedule.old) (S.faults schedule.new) → ⊥)
         → (Rose (W.faults out.old) (W.faults out.new) → ⊥)
         → let text = had (S.left registry.old) (appended_bytes (S.taken registry.old) (S.taken registry.new)) in
         let given = had (S.left schedule.old) (appended_bytes (S.taken schedule.old) (S.taken schedule.new)) in
-        (SomeRose (bench_of D.image_at D.moment D.faults D.armed D.picks bench.old.pairs.items) (bench_of D.image_at D.moment D.faults D.armed D.picks bench.new.pairs.items) → ⊥) → IsRegistryText text → IsSchedule (nodes_of text) given → (result ≡ Status.Ok) ⊎ (result ≡ Status.NoMemory) }
+        (SomeFailed (bench_of D.image_at D.moment D.faults D.armed D.picks bench.old.pairs.items) (bench_of D.image_at D.moment D.faults D.armed D.picks bench.new.pairs.items) → ⊥) → IsRegistryText text → IsSchedule (nodes_of text) given → (result ≡ Status.Ok) ⊎ (result ≡ Status.NoMemory) }
 {
     runs_agree();
     if !is_replay(words) {

@@ -1,4 +1,4 @@
-use Rattle.std.proofs.Common.{◌≡◌, ◌≢◌, List, sym, ◌∙◌, ap, subst}
+use Rattle.std.proofs.Common.{◌≢◌, sym, ◌∙◌, ap, subst}
 use Rattle.std.specs.List.{AllPairs}
 use Rattle.spl_circuit.specs.Nodes.{Node, sorted}
 use Rattle.spl_circuit.proofs.Sorting.{sort_is_sorted}

@@ -1,8 +1,7 @@
 use Rattle.std.proofs.Common.{List, ℕ, ◌≡◌, ◌+◌, ◌≤◌, length, ◌<◌, length-take, refl, ap, rules, arith, inl, inr}
-use Rattle.spl_app.specs.Run.{ran, Bad, Past, answers}
-use Rattle.std.specs.Io.KnownBytes.{Appends}
+use Rattle.spl_app.specs.Run.{ran, Bad, Past}
 use Rattle.spl_circuit.specs.Nodes.{sorted}
-use Rattle.spl_registry.specs.Nodes.{ids_of, node_at}
+use Rattle.spl_registry.specs.Nodes.{ids_of}
 use Rattle.spl_app.specs.Lines.{limit}
 use Rattle.spl_world.specs.Disks.{bench}
 use Rattle.spl_world.specs.Held.{AreHeld}
@@ -52,14 +51,15 @@ returns-in-Err-TooMany-clause-part g c = part_run (gave c.read_all-reading.ensur
 
 pub returns-in-Err-TooMany-clause-many : goal.returns-in-Err-TooMany-clause-many
 returns-in-Err-TooMany-clause-many g c = λ which is.
+    let same : c.in-Err-TooMany.which ≡ which = cc in
     let number = c.in-Err-TooMany.line in
-    let found = stop_run (gave c.read_all-reading.ensures.taken c.head-text.ensures c.deref.ensures.value) _ Past _ _ number number refl (c.in-Err-TooMany.ensures.many number (search rules)) in
-    (cc, record { number = number; stops = found.0; written = found.1 })
+    let found = stop_run (gave c.read_all-reading.ensures.taken c.head-text.ensures c.deref.ensures.value) _ (Past which) _ _ number number refl (c.in-Err-TooMany.ensures.many number which (search rules)) in
+    record { number = number; stops = found.0; written = found.1 }
 
 pub returns-in-Err-TooMany-clause-complete : goal.returns-in-Err-TooMany-clause-complete
 returns-in-Err-TooMany-clause-complete g c = λ calm read wrote schedule.
-    let found = c.in-Err-TooMany.ensures.many c.in-Err-TooMany.line (search rules) in
-    absurd (runs_on (gave c.read_all-reading.ensures.taken c.head-text.ensures c.deref.ensures.value) _ _ _ c.read_all-reading.ensures.left schedule Past _ found.0)
+    let found = c.in-Err-TooMany.ensures.many c.in-Err-TooMany.line c.in-Err-TooMany.which (search rules) in
+    absurd (runs_on (gave c.read_all-reading.ensures.taken c.head-text.ensures c.deref.ensures.value) _ _ _ c.read_all-reading.ensures.left schedule (Past c.in-Err-TooMany.which) _ found.0)
 
 pub returns-in-Fault-clause-read : goal.returns-in-Fault-clause-read
 returns-in-Fault-clause-read g c = λ _.
@@ -118,40 +118,40 @@ pub returns-in-Err-Disk-clause-disk : goal.returns-in-Err-Disk-clause-disk
 returns-in-Err-Disk-clause-disk g c = λ node is.
     let same : c.node.result ≡ node = cc in
     let front = c.in-Err-Disk.ensures.whole c.in-Err-Disk.slot (search rules) in
-    let rose = c.in-Err-Disk.ensures.disk c.in-Err-Disk.slot (search rules) in (
+    let failed = c.in-Err-Disk.ensures.failed c.in-Err-Disk.slot (search rules) in (
       front_run (gave c.read_all-reading.ensures.taken c.head-text.ensures c.deref.ensures.value) _ _ front,
-      record { position = c.in-Err-Disk.slot; at = rw (← same) (rw c.in-Err-Disk.field-0-is at c.node.ensures); rose = rose },
+      record { position = c.in-Err-Disk.slot; at = rw (← same) (rw c.in-Err-Disk.field-0-is at c.node.ensures); failed = failed },
     )
 
 pub returns-in-Err-Disk-clause-complete : goal.returns-in-Err-Disk-clause-complete
-returns-in-Err-Disk-clause-complete g c = λ calm read wrote schedule. absurd (calm (c.in-Err-Disk.slot, c.in-Err-Disk.ensures.disk c.in-Err-Disk.slot (search rules)))
+returns-in-Err-Disk-clause-complete g c = λ calm read wrote schedule. absurd (calm (c.in-Err-Disk.slot, c.in-Err-Disk.ensures.failed c.in-Err-Disk.slot (search rules)))
 
 -- ---- what the disks hold
 
 pub returns-in-Err-BadLine-clause-held_bad : goal.returns-in-Err-BadLine-clause-held_bad
-returns-in-Err-BadLine-clause-held_bad g c = λ line is unpicked.
+returns-in-Err-BadLine-clause-held_bad g c = λ line is.
     let same : c.in-Err-BadLine.line ≡ line = cc in
-    any_stop (gave c.read_all-reading.ensures.taken c.head-text.ensures c.deref.ensures.value) (λ (ls : List (List ℕ)). AreHeld (sorted (ids_of c.args.registry.now)) (ran ls) c.args.registry.now (bench g.D.Disk.image_at g.D.Disk.moment g.D.Disk.faults g.D.Disk.armed g.D.Disk.picks c.run_lines.new.pairs.items)) c.in-Err-BadLine.line line same (c.in-Err-BadLine.ensures.bad_held unpicked c.in-Err-BadLine.line (search rules))
+    any_stop (gave c.read_all-reading.ensures.taken c.head-text.ensures c.deref.ensures.value) (λ (ls : List (List ℕ)). AreHeld (bench g.D.Disk.image_at g.D.Disk.moment g.D.Disk.faults g.D.Disk.armed g.D.Disk.picks c.args.pairs.now.items) (sorted (ids_of c.args.registry.now)) (ran ls) c.args.registry.now (bench g.D.Disk.image_at g.D.Disk.moment g.D.Disk.faults g.D.Disk.armed g.D.Disk.picks c.run_lines.new.pairs.items)) c.in-Err-BadLine.line line same (c.in-Err-BadLine.ensures.bad_held c.in-Err-BadLine.line (search rules))
 
 pub returns-in-Fault-clause-held_read : goal.returns-in-Fault-clause-held_read
-returns-in-Fault-clause-held_read g c = λ _ unpicked.
+returns-in-Fault-clause-held_read g c = λ _.
     let no : 67108864 < length c.read_all-reading.result.bytes.items → ⊥ = λ long. cc (c.read_all-reading.ensures.too_long.1 long) in
     let short : length c.read_all-reading.result.bytes.items ≤ limit = omega (arith, no, limit_is) in
-    any_given (gave c.read_all-reading.ensures.taken c.head-text.ensures c.deref.ensures.value) (λ (ls : List (List ℕ)). AreHeld (sorted (ids_of c.args.registry.now)) (ran ls) c.args.registry.now (bench g.D.Disk.image_at g.D.Disk.moment g.D.Disk.faults g.D.Disk.armed g.D.Disk.picks c.run_lines.new.pairs.items)) short (c.in-Ok.ensures.held unpicked)
+    any_given (gave c.read_all-reading.ensures.taken c.head-text.ensures c.deref.ensures.value) (λ (ls : List (List ℕ)). AreHeld (bench g.D.Disk.image_at g.D.Disk.moment g.D.Disk.faults g.D.Disk.armed g.D.Disk.picks c.args.pairs.now.items) (sorted (ids_of c.args.registry.now)) (ran ls) c.args.registry.now (bench g.D.Disk.image_at g.D.Disk.moment g.D.Disk.faults g.D.Disk.armed g.D.Disk.picks c.run_lines.new.pairs.items)) short c.in-Ok.ensures.held
 
 pub returns-in-Whole-clause-held_ok : goal.returns-in-Whole-clause-held_ok
-returns-in-Whole-clause-held_ok g c = λ _ unpicked.
+returns-in-Whole-clause-held_ok g c = λ _.
     let no : 67108864 < length c.read_all-reading.result.bytes.items → ⊥ = λ long. cc (c.read_all-reading.ensures.too_long.1 long) in
     let short : length c.read_all-reading.result.bytes.items ≤ limit = omega (arith, no, limit_is) in
-    any_given (gave c.read_all-reading.ensures.taken c.head-text.ensures c.deref.ensures.value) (λ (ls : List (List ℕ)). AreHeld (sorted (ids_of c.args.registry.now)) (ran ls) c.args.registry.now (bench g.D.Disk.image_at g.D.Disk.moment g.D.Disk.faults g.D.Disk.armed g.D.Disk.picks c.run_lines.new.pairs.items)) short (c.in-Ok.ensures.held unpicked)
+    any_given (gave c.read_all-reading.ensures.taken c.head-text.ensures c.deref.ensures.value) (λ (ls : List (List ℕ)). AreHeld (bench g.D.Disk.image_at g.D.Disk.moment g.D.Disk.faults g.D.Disk.armed g.D.Disk.picks c.args.pairs.now.items) (sorted (ids_of c.args.registry.now)) (ran ls) c.args.registry.now (bench g.D.Disk.image_at g.D.Disk.moment g.D.Disk.faults g.D.Disk.armed g.D.Disk.picks c.run_lines.new.pairs.items)) short c.in-Ok.ensures.held
 
 pub returns-in-TooLong-clause-held_long : goal.returns-in-TooLong-clause-held_long
-returns-in-TooLong-clause-held_long g c = λ _ unpicked. any_run (gave c.read_all-reading.ensures.taken c.head-text.ensures c.deref.ensures.value) (λ (ls : List (List ℕ)). AreHeld (sorted (ids_of c.args.registry.now)) (ran ls) c.args.registry.now (bench g.D.Disk.image_at g.D.Disk.moment g.D.Disk.faults g.D.Disk.armed g.D.Disk.picks c.run_lines.new.pairs.items)) (c.in-Ok.ensures.held unpicked)
+returns-in-TooLong-clause-held_long g c = λ _. any_run (gave c.read_all-reading.ensures.taken c.head-text.ensures c.deref.ensures.value) (λ (ls : List (List ℕ)). AreHeld (bench g.D.Disk.image_at g.D.Disk.moment g.D.Disk.faults g.D.Disk.armed g.D.Disk.picks c.args.pairs.now.items) (sorted (ids_of c.args.registry.now)) (ran ls) c.args.registry.now (bench g.D.Disk.image_at g.D.Disk.moment g.D.Disk.faults g.D.Disk.armed g.D.Disk.picks c.run_lines.new.pairs.items)) c.in-Ok.ensures.held
 
 pub returns-in-Whole-2-clause-held_bad : goal.returns-in-Whole-2-clause-held_bad
-returns-in-Whole-2-clause-held_bad g c = λ line is unpicked.
-    any_rest (gave c.read_all-reading.ensures.taken c.head-text.ensures c.deref.ensures.value) (λ (ls : List (List ℕ)). AreHeld (sorted (ids_of c.args.registry.now)) (ran ls) c.args.registry.now (bench g.D.Disk.image_at g.D.Disk.moment g.D.Disk.faults g.D.Disk.armed g.D.Disk.picks c.run_lines.new.pairs.items)) line (let same : c.in-Ok.count + 1 ≡ line = cc in omega (arith, c.in-Ok.ensures.count)) (c.in-Ok.ensures.held unpicked)
+returns-in-Whole-2-clause-held_bad g c = λ line is.
+    any_rest (gave c.read_all-reading.ensures.taken c.head-text.ensures c.deref.ensures.value) (λ (ls : List (List ℕ)). AreHeld (bench g.D.Disk.image_at g.D.Disk.moment g.D.Disk.faults g.D.Disk.armed g.D.Disk.picks c.args.pairs.now.items) (sorted (ids_of c.args.registry.now)) (ran ls) c.args.registry.now (bench g.D.Disk.image_at g.D.Disk.moment g.D.Disk.faults g.D.Disk.armed g.D.Disk.picks c.run_lines.new.pairs.items)) line (let same : c.in-Ok.count + 1 ≡ line = cc in omega (arith, c.in-Ok.ensures.count)) c.in-Ok.ensures.held
 
 pub returns-clause-held_bad : goal.returns-clause-held_bad
-returns-clause-held_bad g c = λ line is unpicked.
-    any_rest (gave c.read_all-reading.ensures.taken c.head-text.ensures c.deref.ensures.value) (λ (ls : List (List ℕ)). AreHeld (sorted (ids_of c.args.registry.now)) (ran ls) c.args.registry.now (bench g.D.Disk.image_at g.D.Disk.moment g.D.Disk.faults g.D.Disk.armed g.D.Disk.picks c.run_lines.new.pairs.items)) line (let same : c.in-Ok.count + 1 ≡ line = cc in omega (arith, c.in-Ok.ensures.count)) (c.in-Ok.ensures.held unpicked)
+returns-clause-held_bad g c = λ line is.
+    any_rest (gave c.read_all-reading.ensures.taken c.head-text.ensures c.deref.ensures.value) (λ (ls : List (List ℕ)). AreHeld (bench g.D.Disk.image_at g.D.Disk.moment g.D.Disk.faults g.D.Disk.armed g.D.Disk.picks c.args.pairs.now.items) (sorted (ids_of c.args.registry.now)) (ran ls) c.args.registry.now (bench g.D.Disk.image_at g.D.Disk.moment g.D.Disk.faults g.D.Disk.armed g.D.Disk.picks c.run_lines.new.pairs.items)) line (let same : c.in-Ok.count + 1 ≡ line = cc in omega (arith, c.in-Ok.ensures.count)) c.in-Ok.ensures.held

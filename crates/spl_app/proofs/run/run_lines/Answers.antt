@@ -2,17 +2,16 @@ use Rattle.std.proofs.Common.{◌-◌, List, [], take, sym, subst}
 use Rattle.spl_circuit.specs.Nodes.{Node}
 use Rattle.spl_world.specs.Disks.{bench, images}
 use Rattle.spl_world.specs.Held.{AreHeld}
-use Rattle.spl_world.proofs.HoldingSeats.{seats_held}
 use Rattle.spl_app.specs.Lines.{lines_of}
 use Rattle.std.proofs.KnownBytes.{Appends-nil}
-use Rattle.spl_world.proofs.Leaving.{all_then}
 use Rattle.spl_app.specs.Run.{ran, Bad, Past, HasFront, StopsAt, answers}
 use Rattle.spl_app.specs.Due.{IsDue, IsDuePart}
 use Rattle.spl_app.specs.Behind.{IsBehind}
 use Rattle.spl_app.proofs.Dues.{part_flushed, due_flushed}
-use Rattle.spl_app.proofs.Benches.{place_below, rose_later}
+use Rattle.spl_app.proofs.Benches.{none_then, place_below}
 use Rattle.spl_app.proofs.Events.{none_within}
 use Rattle.spl_app.proofs.Behinds.{ok_then}
+use Rattle.spl_world.proofs.HoldingSeats.{seats_held}
 use Rattle.spl_app.proofs.run.run_lines.Goals as goal
 
 pub lines-ended-requires-clause-fresh : goal.lines-ended-requires-clause-fresh
@@ -20,45 +19,48 @@ lines-ended-requires-clause-fresh g c =
     let start = g.W.Sink.written c.args.out.now in
     subst (λ (ns : List Node). IsBehind ns [] c.in-Ok.run' (images g.D.Disk.image_at g.D.Disk.moment c.new.new.pairs.items) start start) (sym c.in-Ok.ensures.nodes) (c.in-Ok.ensures.behind start)
 
-pub returns-in_err-flush-clause-part : goal.returns-in_err-flush-clause-part
-returns-in_err-flush-clause-part g c =
+pub returns-in_err-flushed-clause-part : goal.returns-in_err-flushed-clause-part
+returns-in_err-flushed-clause-part g c =
     let part = subst (λ (ns : List Node). IsDuePart (g.W.Sink.written c.args.out.now) (g.W.Sink.written c.lines-ended.new.out) c.lines-ended.new.self.output (answers ns (lines_of c.args.text.now))) c.in-Ok.ensures.nodes c.lines-ended.ensures.part in
-    part_flushed _ _ _ _ _ part c.flush.ensures.part
+    part_flushed _ _ _ _ _ part c.flush-flushed.ensures.part
 
 pub returns-clause-part : goal.returns-clause-part
 returns-clause-part g c =
     let part = subst (λ (ns : List Node). IsDuePart (g.W.Sink.written c.args.out.now) (g.W.Sink.written c.lines-ended.new.out) c.lines-ended.new.self.output (answers ns (lines_of c.args.text.now))) c.in-Ok.ensures.nodes c.lines-ended.ensures.part in
-    part_flushed _ _ _ _ _ part c.flush.ensures.part
+    part_flushed _ _ _ _ _ part c.flush-flushed.ensures.part
 
 pub returns-clause-written : goal.returns-clause-written
 returns-clause-written g c = ok_then c.lines-ended.result c.lines-ended.ensures.due (λ due.
     due_flushed _ _ _ _ _
     (subst (λ (ns : List Node). IsDue (g.W.Sink.written c.args.out.now) (g.W.Sink.written c.lines-ended.new.out) c.lines-ended.new.self.output (answers ns (lines_of c.args.text.now))) c.in-Ok.ensures.nodes due)
-    c.in_ok-flush.ensures.ok)
+    c.in_ok-flushed.ensures.ok)
 
 pub returns-clause-bad : goal.returns-clause-bad
 returns-clause-bad g c = λ number is.
     let found = subst (λ (ns : List Node). StopsAt ns Bad (lines_of c.args.text.now) number
     × IsDue (g.W.Sink.written c.args.out.now) (g.W.Sink.written c.lines-ended.new.out) c.lines-ended.new.self.output (answers ns (take (number - 1) (lines_of c.args.text.now)))) c.in-Ok.ensures.nodes (c.lines-ended.ensures.bad number is) in
-    (found.0, due_flushed _ _ _ _ _ found.1 c.in_ok-flush.ensures.ok)
+    (found.0, due_flushed _ _ _ _ _ found.1 c.in_ok-flushed.ensures.ok)
 
 pub returns-clause-many : goal.returns-clause-many
-returns-clause-many g c = λ number is.
-    let found = subst (λ (ns : List Node). StopsAt ns Past (lines_of c.args.text.now) number
-    × IsDue (g.W.Sink.written c.args.out.now) (g.W.Sink.written c.lines-ended.new.out) c.lines-ended.new.self.output (answers ns (take (number - 1) (lines_of c.args.text.now)))) c.in-Ok.ensures.nodes (c.lines-ended.ensures.many number is) in
-    (found.0, due_flushed _ _ _ _ _ found.1 c.in_ok-flush.ensures.ok)
+returns-clause-many g c = λ number which is.
+    let found = subst (λ (ns : List Node). StopsAt ns (Past which) (lines_of c.args.text.now) number
+    × IsDue (g.W.Sink.written c.args.out.now) (g.W.Sink.written c.lines-ended.new.out) c.lines-ended.new.self.output (answers ns (take (number - 1) (lines_of c.args.text.now)))) c.in-Ok.ensures.nodes (c.lines-ended.ensures.many number which is) in
+    (found.0, due_flushed _ _ _ _ _ found.1 c.in_ok-flushed.ensures.ok)
 
 pub returns-in-Err-Disk-clause-whole : goal.returns-in-Err-Disk-clause-whole
 returns-in-Err-Disk-clause-whole g c = λ slot is. record { count = 0; run = record { lines = tt; few = none_within _ }; holds = Appends-nil _ }
 
-pub returns-in_err-flush-clause-onward : goal.returns-in_err-flush-clause-onward
-returns-in_err-flush-clause-onward g c = all_then _ _ _ c.in-Ok.ensures.disks.onward c.lines-ended.ensures.onward
+pub returns-in_err-flushed-clause-onward : goal.returns-in_err-flushed-clause-onward
+returns-in_err-flushed-clause-onward g c = none_then _ _ _ c.in-Ok.ensures.onward c.lines-ended.ensures.onward
 
 pub returns-clause-onward : goal.returns-clause-onward
-returns-clause-onward g c = all_then _ _ _ c.in-Ok.ensures.disks.onward c.lines-ended.ensures.onward
+returns-clause-onward g c = none_then _ _ _ c.in-Ok.ensures.onward c.lines-ended.ensures.onward
 
-pub returns-clause-disk : goal.returns-clause-disk
-returns-clause-disk g c = λ slot is. rose_later slot _ _ _ c.in-Ok.ensures.disks.onward c.lines-ended.ensures.onward (c.lines-ended.ensures.disk slot is)
+pub returns-clause-failed : goal.returns-clause-failed
+returns-clause-failed g c = λ slot is. c.lines-ended.ensures.failed _ c.in-Ok.ensures.held slot is
+
+pub returns-clause-unarmed : goal.returns-clause-unarmed
+returns-clause-unarmed g c = λ room. c.lines-ended.ensures.unarmed c.in-Ok.ensures.unarmed room
 
 pub returns-clause-place : goal.returns-clause-place
 returns-clause-place g c = λ slot is. place_below c.args.registry.now c.in-Ok.run'.world slot c.in-Ok.ensures.placed (c.lines-ended.ensures.place slot is)
@@ -66,19 +68,32 @@ returns-clause-place g c = λ slot is. place_below c.args.registry.now c.in-Ok.r
 pub returns-clause-whole : goal.returns-clause-whole
 returns-clause-whole g c = λ slot is.
     let found = subst (λ (ns : List Node). HasFront ns (lines_of c.args.text.now) (λ ls. IsDue (g.W.Sink.written c.args.out.now) (g.W.Sink.written c.lines-ended.new.out) c.lines-ended.new.self.output (answers ns ls))) c.in-Ok.ensures.nodes (c.lines-ended.ensures.whole slot is) in
-    record { count = found.count; run = found.run; holds = due_flushed _ _ _ _ _ found.holds c.in_ok-flush.ensures.ok }
+    record { count = found.count; run = found.run; holds = due_flushed _ _ _ _ _ found.holds c.in_ok-flushed.ensures.ok }
 
 pub returns-clause-held : goal.returns-clause-held
-returns-clause-held g c = λ unpicked.
+returns-clause-held g c =
     let ids = (c.in-Ok.ensures.behind (g.W.Sink.written c.args.out.now)).world in
     let rs = ran (lines_of c.args.text.now) in
-    let ps = bench g.D.Disk.image_at g.D.Disk.moment g.D.Disk.faults g.D.Disk.armed g.D.Disk.picks c.lines-ended.new.pairs.items in
-    ok_then c.lines-ended.result (c.lines-ended.ensures.held (c.in-Ok.ensures.held unpicked)) (λ h.
-    subst (λ (ns : List Node). AreHeld ns rs c.args.registry.now ps) ids (seats_held c.args.registry.now c.in-Ok.run'.world c.in-Ok.ensures.apart ids c.in-Ok.ensures.placed rs ps h))
+    let start = bench g.D.Disk.image_at g.D.Disk.moment g.D.Disk.faults g.D.Disk.armed g.D.Disk.picks c.args.pairs.now.items in
+    let now = bench g.D.Disk.image_at g.D.Disk.moment g.D.Disk.faults g.D.Disk.armed g.D.Disk.picks c.lines-ended.new.pairs.items in
+    ok_then c.lines-ended.result (c.lines-ended.ensures.held start c.in-Ok.ensures.held) (λ h.
+    subst (λ (ns : List Node). AreHeld start ns rs c.args.registry.now now) ids (seats_held c.args.registry.now c.in-Ok.run'.world c.in-Ok.ensures.apart ids c.in-Ok.ensures.placed start rs now h))
 
 pub returns-clause-bad_held : goal.returns-clause-bad_held
-returns-clause-bad_held g c = λ unpicked number is.
+returns-clause-bad_held g c = λ number is.
     let ids = (c.in-Ok.ensures.behind (g.W.Sink.written c.args.out.now)).world in
     let rs = ran (take (number - 1) (lines_of c.args.text.now)) in
-    let ps = bench g.D.Disk.image_at g.D.Disk.moment g.D.Disk.faults g.D.Disk.armed g.D.Disk.picks c.lines-ended.new.pairs.items in
-    subst (λ (ns : List Node). AreHeld ns rs c.args.registry.now ps) ids (seats_held c.args.registry.now c.in-Ok.run'.world c.in-Ok.ensures.apart ids c.in-Ok.ensures.placed rs ps (c.lines-ended.ensures.bad_held (c.in-Ok.ensures.held unpicked) number is))
+    let start = bench g.D.Disk.image_at g.D.Disk.moment g.D.Disk.faults g.D.Disk.armed g.D.Disk.picks c.args.pairs.now.items in
+    let now = bench g.D.Disk.image_at g.D.Disk.moment g.D.Disk.faults g.D.Disk.armed g.D.Disk.picks c.lines-ended.new.pairs.items in
+    subst (λ (ns : List Node). AreHeld start ns rs c.args.registry.now now) ids (seats_held c.args.registry.now c.in-Ok.run'.world c.in-Ok.ensures.apart ids c.in-Ok.ensures.placed start rs now (c.lines-ended.ensures.bad_held start c.in-Ok.ensures.held number is))
+
+pub returns-then-lacks_memory-clause-onward : goal.returns-then-lacks_memory-clause-onward
+returns-then-lacks_memory-clause-onward g c = none_then _ _ _ c.in-Ok.ensures.onward c.lines-ended.ensures.onward
+
+pub returns-then-lacks_memory-clause-part : goal.returns-then-lacks_memory-clause-part
+returns-then-lacks_memory-clause-part g c =
+    let part = subst (λ (ns : List Node). IsDuePart (g.W.Sink.written c.args.out.now) (g.W.Sink.written c.lines-ended.new.out) c.lines-ended.new.self.output (answers ns (lines_of c.args.text.now))) c.in-Ok.ensures.nodes c.lines-ended.ensures.part in
+    part_flushed _ _ _ _ _ part c.flush-flushed.ensures.part
+
+pub returns-in_err-flushed-clause-unarmed : goal.returns-in_err-flushed-clause-unarmed
+returns-in_err-flushed-clause-unarmed g c = λ room. c.lines-ended.ensures.unarmed c.in-Ok.ensures.unarmed (c.lacks_memory.ensures c.if-lacks_memory.false)

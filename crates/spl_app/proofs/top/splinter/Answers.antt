@@ -10,7 +10,7 @@ use Rattle.spl_world.specs.Held.{AreHeld}
 use Rattle.spl_app.specs.Run.{HasFront, IsRun, ran, answers}
 use Rattle.spl_app.specs.Schedule.{IsSchedule, IsBadAt, HasTooMany, had, run_of}
 use Rattle.spl_app.specs.Registered.{nodes_in, nodes_of}
-use Rattle.spl_world.proofs.Leaving.{all_itself}
+use Rattle.spl_app.proofs.Benches.{none_itself, unpicked_unarmed}
 use Rattle.spl_app.proofs.Given.{all_had}
 use Rattle.spl_app.proofs.Registries.{no_fault, had_no_fault, had_not_long}
 use Rattle.spl_app.proofs.top.splinter.Goals as goal
@@ -49,7 +49,7 @@ pub returns-in-Ok-clause-many : goal.returns-in-Ok-clause-many
 returns-in-Ok-clause-many g c = λ which is.
     let given = appended_bytes (g.S.Source.taken c.args.schedule.now) (g.S.Source.taken c.replay.new.schedule) in
     let found = c.replay.ensures.many which is in
-    (found.0, c.in-Ok.ensures.text, subst (λ (ns : List Node). HasTooMany ns given (g.W.Sink.written c.args.out.now) (g.W.Sink.written c.replay.new.out)) (sym (ap nodes_in c.in-Ok.ensures.entries)) found.1)
+    (c.in-Ok.ensures.text, subst (λ (ns : List Node). HasTooMany ns given (g.W.Sink.written c.args.out.now) (g.W.Sink.written c.replay.new.out) which) (sym (ap nodes_in c.in-Ok.ensures.entries)) found)
 
 pub returns-in-Ok-clause-read : goal.returns-in-Ok-clause-read
 returns-in-Ok-clause-read g c = λ is.
@@ -91,43 +91,55 @@ returns-in-Err-TooLong-clause-complete g c = λ form sound read wrote calm text 
     absurd (had_not_long _ _ _ c.read_registry.ensures.taken text (c.in-Err-TooLong.ensures.long (search rules)))
 
 pub returns-then-not-is_replay-clause-onward : goal.returns-then-not-is_replay-clause-onward
-returns-then-not-is_replay-clause-onward g c = all_itself _
+returns-then-not-is_replay-clause-onward g c = none_itself _
 
 pub returns-in-Err-Bad-clause-onward : goal.returns-in-Err-Bad-clause-onward
-returns-in-Err-Bad-clause-onward g c = all_itself _
+returns-in-Err-Bad-clause-onward g c = none_itself _
 
 pub returns-in-Err-Read-clause-onward : goal.returns-in-Err-Read-clause-onward
-returns-in-Err-Read-clause-onward g c = all_itself _
+returns-in-Err-Read-clause-onward g c = none_itself _
 
 pub returns-in-Err-TooLong-clause-onward : goal.returns-in-Err-TooLong-clause-onward
-returns-in-Err-TooLong-clause-onward g c = all_itself _
+returns-in-Err-TooLong-clause-onward g c = none_itself _
 
 pub returns-in-Err-NoMemory-clause-onward : goal.returns-in-Err-NoMemory-clause-onward
-returns-in-Err-NoMemory-clause-onward g c = all_itself _
+returns-in-Err-NoMemory-clause-onward g c = none_itself _
 
 pub returns-in-Ok-clause-disk : goal.returns-in-Ok-clause-disk
 returns-in-Ok-clause-disk g c = λ node is.
     let given = appended_bytes (g.S.Source.taken c.args.schedule.now) (g.S.Source.taken c.replay.new.schedule) in
     let found = c.replay.ensures.disk node is in
     let front = subst (λ (ns : List Node). HasFront ns (run_of given) (λ ls. Appends (g.W.Sink.written c.args.out.now) (g.W.Sink.written c.replay.new.out) (answers ns ls))) (sym (ap nodes_in c.in-Ok.ensures.entries)) found.0 in
-    (c.in-Ok.ensures.text, record { entries = c.in-Ok.found; spelled = c.in-Ok.ensures.entries; risen = found.1 }, front)
+    (c.in-Ok.ensures.text, record { entries = c.in-Ok.found; spelled = c.in-Ok.ensures.entries; failed = found.1 }, front)
 
 pub returns-in-Ok-clause-held_ok : goal.returns-in-Ok-clause-held_ok
-returns-in-Ok-clause-held_ok g c = λ is unpicked.
+returns-in-Ok-clause-held_ok g c = λ is.
     let given = appended_bytes (g.S.Source.taken c.args.schedule.now) (g.S.Source.taken c.replay.new.schedule) in
-    record { entries = c.in-Ok.found; spelled = c.in-Ok.ensures.entries; held = subst (λ (ns : List Node). AreHeld ns (ran (lines_of given)) c.in-Ok.found (bench g.D.Disk.image_at g.D.Disk.moment g.D.Disk.faults g.D.Disk.armed g.D.Disk.picks c.replay.new.pairs.items)) (sym (ap nodes_in c.in-Ok.ensures.entries)) (c.replay.ensures.held_ok is unpicked) }
+    record { entries = c.in-Ok.found; spelled = c.in-Ok.ensures.entries; held = subst (λ (ns : List Node). AreHeld (bench g.D.Disk.image_at g.D.Disk.moment g.D.Disk.faults g.D.Disk.armed g.D.Disk.picks c.args.bench.now.pairs.items) ns (ran (lines_of given)) c.in-Ok.found (bench g.D.Disk.image_at g.D.Disk.moment g.D.Disk.faults g.D.Disk.armed g.D.Disk.picks c.replay.new.pairs.items)) (sym (ap nodes_in c.in-Ok.ensures.entries)) (c.replay.ensures.held_ok is) }
 
 pub returns-in-Ok-clause-held_bad : goal.returns-in-Ok-clause-held_bad
-returns-in-Ok-clause-held_bad g c = λ line is unpicked.
+returns-in-Ok-clause-held_bad g c = λ line is.
     let given = appended_bytes (g.S.Source.taken c.args.schedule.now) (g.S.Source.taken c.replay.new.schedule) in
-    record { entries = c.in-Ok.found; spelled = c.in-Ok.ensures.entries; held = subst (λ (ns : List Node). AreHeld ns (ran (take (line - 1) (run_of given))) c.in-Ok.found (bench g.D.Disk.image_at g.D.Disk.moment g.D.Disk.faults g.D.Disk.armed g.D.Disk.picks c.replay.new.pairs.items)) (sym (ap nodes_in c.in-Ok.ensures.entries)) (c.replay.ensures.held_bad line is unpicked) }
+    record { entries = c.in-Ok.found; spelled = c.in-Ok.ensures.entries; held = subst (λ (ns : List Node). AreHeld (bench g.D.Disk.image_at g.D.Disk.moment g.D.Disk.faults g.D.Disk.armed g.D.Disk.picks c.args.bench.now.pairs.items) ns (ran (take (line - 1) (run_of given))) c.in-Ok.found (bench g.D.Disk.image_at g.D.Disk.moment g.D.Disk.faults g.D.Disk.armed g.D.Disk.picks c.replay.new.pairs.items)) (sym (ap nodes_in c.in-Ok.ensures.entries)) (c.replay.ensures.held_bad line is) }
 
 pub returns-in-Ok-clause-held_read : goal.returns-in-Ok-clause-held_read
-returns-in-Ok-clause-held_read g c = λ is unpicked.
+returns-in-Ok-clause-held_read g c = λ is.
     let given = appended_bytes (g.S.Source.taken c.args.schedule.now) (g.S.Source.taken c.replay.new.schedule) in
-    inr (record { entries = c.in-Ok.found; spelled = c.in-Ok.ensures.entries; held = subst (λ (ns : List Node). AreHeld ns (ran (lines_of given)) c.in-Ok.found (bench g.D.Disk.image_at g.D.Disk.moment g.D.Disk.faults g.D.Disk.armed g.D.Disk.picks c.replay.new.pairs.items)) (sym (ap nodes_in c.in-Ok.ensures.entries)) (c.replay.ensures.held_read is unpicked) })
+    inr (record { entries = c.in-Ok.found; spelled = c.in-Ok.ensures.entries; held = subst (λ (ns : List Node). AreHeld (bench g.D.Disk.image_at g.D.Disk.moment g.D.Disk.faults g.D.Disk.armed g.D.Disk.picks c.args.bench.now.pairs.items) ns (ran (lines_of given)) c.in-Ok.found (bench g.D.Disk.image_at g.D.Disk.moment g.D.Disk.faults g.D.Disk.armed g.D.Disk.picks c.replay.new.pairs.items)) (sym (ap nodes_in c.in-Ok.ensures.entries)) (c.replay.ensures.held_read is) })
 
 pub returns-in-Ok-clause-held_long : goal.returns-in-Ok-clause-held_long
-returns-in-Ok-clause-held_long g c = λ is unpicked.
+returns-in-Ok-clause-held_long g c = λ is.
     let given = appended_bytes (g.S.Source.taken c.args.schedule.now) (g.S.Source.taken c.replay.new.schedule) in
-    inr (record { entries = c.in-Ok.found; spelled = c.in-Ok.ensures.entries; held = subst (λ (ns : List Node). AreHeld ns (ran (run_of given)) c.in-Ok.found (bench g.D.Disk.image_at g.D.Disk.moment g.D.Disk.faults g.D.Disk.armed g.D.Disk.picks c.replay.new.pairs.items)) (sym (ap nodes_in c.in-Ok.ensures.entries)) (c.replay.ensures.held_long is unpicked) })
+    inr (record { entries = c.in-Ok.found; spelled = c.in-Ok.ensures.entries; held = subst (λ (ns : List Node). AreHeld (bench g.D.Disk.image_at g.D.Disk.moment g.D.Disk.faults g.D.Disk.armed g.D.Disk.picks c.args.bench.now.pairs.items) ns (ran (run_of given)) c.in-Ok.found (bench g.D.Disk.image_at g.D.Disk.moment g.D.Disk.faults g.D.Disk.armed g.D.Disk.picks c.replay.new.pairs.items)) (sym (ap nodes_in c.in-Ok.ensures.entries)) (c.replay.ensures.held_long is) })
+
+pub returns-then-not-is_replay-clause-unarmed : goal.returns-then-not-is_replay-clause-unarmed
+returns-then-not-is_replay-clause-unarmed g c = λ room. unpicked_unarmed _ c.requires.unpicked
+
+pub returns-in-Err-Bad-clause-unarmed : goal.returns-in-Err-Bad-clause-unarmed
+returns-in-Err-Bad-clause-unarmed g c = λ room. unpicked_unarmed _ c.requires.unpicked
+
+pub returns-in-Err-Read-clause-unarmed : goal.returns-in-Err-Read-clause-unarmed
+returns-in-Err-Read-clause-unarmed g c = λ room. unpicked_unarmed _ c.requires.unpicked
+
+pub returns-in-Err-TooLong-clause-unarmed : goal.returns-in-Err-TooLong-clause-unarmed
+returns-in-Err-TooLong-clause-unarmed g c = λ room. unpicked_unarmed _ c.requires.unpicked

@@ -1,4 +1,4 @@
-use Rattle.std.proofs.Common.{◌≡◌, ◌∙◌, Err, ap, ℕ, List, ◌++◌, rules, subst, sym}
+use Rattle.std.proofs.Common.{◌≡◌, ◌∙◌, Err, ap, ℕ, List, ◌++◌, subst, sym}
 use Rattle.spl_answer.specs.Texts.{text}
 use Rattle.spl_model.specs.Outcomes.{by_rule}
 use Rattle.spl_model.specs.Answers.{answer_to}
@@ -6,7 +6,7 @@ use Rattle.spl_app.specs.Due.{IsDuePart}
 use Rattle.spl_app.specs.Run.{printed}
 use Rattle.spl_app.proofs.Dues.{due_waits, due_part}
 use Rattle.spl_world.specs.declared.fault.WorldFault.{WorldFault}
-use Rattle.spl_world.specs.declared.fault.WorldFault.TheVariants.{Disk}
+use Rattle.spl_world.specs.declared.fault.WorldFault.TheVariants.{Disk, TooMany}
 use Rattle.spl_app.proofs.run.Run.answer.Goals as goal
 
 pub returns-in-Err-TooMany-clause-part : goal.returns-in-Err-TooMany-clause-part
@@ -24,7 +24,9 @@ returns-in-Err-NoMemory-clause-part g c = λ before stands.
     (due_part written written c.args.self.now.output c.args.self.now.output last (due_waits written c.args.self.now.output))
 
 pub returns-in-Err-TooMany-clause-many : goal.returns-in-Err-TooMany-clause-many
-returns-in-Err-TooMany-clause-many g c = λ before n stands is. c.in-Err-TooMany.ensures.many before c.in-Err-TooMany.field-0-0 stands (search rules)
+returns-in-Err-TooMany-clause-many g c = λ before n which stands is.
+    let same : c.in-Err-TooMany.which ≡ which = cc in
+    c.in-Err-TooMany.ensures.many before which stands (ap (λ (f : WorldFault). Err f) (c.in-Err-TooMany.field-0-is ∙ ap (λ (k : ℕ). TooMany k) same))
 
 pub returns-in-Err-Disk-clause-part : goal.returns-in-Err-Disk-clause-part
 returns-in-Err-Disk-clause-part g c = λ before stands.
@@ -39,4 +41,21 @@ returns-in-Err-Disk-clause-place g c = λ slot is.
     c.in-Err-Disk.ensures.place slot (ap (λ (f : WorldFault). Err f) (c.in-Err-Disk.field-0-is ∙ ap (λ (n : ℕ). Disk n) same))
 
 pub returns-clause-held : goal.returns-clause-held
-returns-clause-held g c = λ before stands held. c.in-Ok.ensures.held before stands held
+returns-clause-held g c = λ start before stands held. c.in-Ok.ensures.held start before stands held
+
+pub returns-in-Err-Disk-clause-failed : goal.returns-in-Err-Disk-clause-failed
+returns-in-Err-Disk-clause-failed g c = λ start before slot is held.
+    let same : c.in-Err-Disk.slot ≡ slot = cc in
+    c.in-Err-Disk.ensures.failed start before slot (ap (λ (f : WorldFault). Err f) (c.in-Err-Disk.field-0-is ∙ ap (λ (n : ℕ). Disk n) same)) held
+
+pub returns-in-Err-TooMany-clause-unarmed : goal.returns-in-Err-TooMany-clause-unarmed
+returns-in-Err-TooMany-clause-unarmed g c = λ off room. c.in-Err-TooMany.ensures.unarmed off (λ is. let limit = c.in-Err-TooMany.field-0-is in cc)
+
+pub returns-in-Err-Disk-clause-unarmed : goal.returns-in-Err-Disk-clause-unarmed
+returns-in-Err-Disk-clause-unarmed g c = λ off room. c.in-Err-Disk.ensures.unarmed off (λ is. let disk = c.in-Err-Disk.field-0-is in cc)
+
+pub returns-in_err-put-clause-unarmed : goal.returns-in_err-put-clause-unarmed
+returns-in_err-put-clause-unarmed g c = λ off room. c.in-Ok.ensures.unarmed off (λ is. cc)
+
+pub returns-clause-unarmed : goal.returns-clause-unarmed
+returns-clause-unarmed g c = λ off room. c.in-Ok.ensures.unarmed off (λ is. cc)

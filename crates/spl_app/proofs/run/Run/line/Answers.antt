@@ -16,7 +16,7 @@ pub returns-in-Ok-Some-clause-ok : goal.returns-in-Ok-Some-clause-ok
 returns-in-Ok-Some-clause-ok g c = λ lines start behind counted.
     let said_is = sym c.in-Ok-Some.ensures.said ∙ c.in-Ok-Some.field-0-is in
     on_ok c.answer.result c.answer.ensures.running (c.answer.ensures.stands (ran lines) behind.stands)
-    (c.answer.ensures.few (ran lines) behind.stands) (c.answer.ensures.due (ran lines) behind.stands)
+    (c.answer.ensures.few (ran lines) behind.stands behind.few) (c.answer.ensures.due (ran lines) behind.stands)
     (behind_said _ lines c.args.self.now _ start _ behind c.args.line.now c.args.number c.in-Ok-Some.said counted said_is _ c.answer.new.self _ c.answer.ensures.nodes c.answer.ensures.world)
 
 pub returns-in-Ok-Some-clause-part : goal.returns-in-Ok-Some-clause-part
@@ -25,8 +25,8 @@ returns-in-Ok-Some-clause-part g c = λ lines start behind counted.
     part_said _ lines c.args.self.now _ start _ behind c.args.line.now c.args.number c.in-Ok-Some.said counted said_is _ c.answer.new.self (c.answer.ensures.part (ran lines) behind.stands)
 
 pub returns-in-Ok-Some-clause-past : goal.returns-in-Ok-Some-clause-past
-returns-in-Ok-Some-clause-past g c = λ lines n stands is.
-    past_said _ lines c.args.line.now c.in-Ok-Some.said (sym c.in-Ok-Some.ensures.said ∙ c.in-Ok-Some.field-0-is) (c.answer.ensures.many (ran lines) n stands is)
+returns-in-Ok-Some-clause-past g c = λ lines n which stands is.
+    past_said _ lines c.args.line.now c.in-Ok-Some.said which (sym c.in-Ok-Some.ensures.said ∙ c.in-Ok-Some.field-0-is) (c.answer.ensures.many (ran lines) n which stands is)
 
 pub returns-in-Err-BadLine-clause-part : goal.returns-in-Err-BadLine-clause-part
 returns-in-Err-BadLine-clause-part g c = λ lines start behind counted. behind_part _ lines _ _ _ _ behind (c.args.line.now ∷ [])
@@ -35,10 +35,10 @@ pub returns-in-Err-NoMemory-clause-part : goal.returns-in-Err-NoMemory-clause-pa
 returns-in-Err-NoMemory-clause-part g c = λ lines start behind counted. behind_part _ lines _ _ _ _ behind (c.args.line.now ∷ [])
 
 pub returns-in-Ok-None-clause-held : goal.returns-in-Ok-None-clause-held
-returns-in-Ok-None-clause-held g c = λ lines stands held.
-    held_silent lines c.args.line.now (sym c.in-Ok-None.ensures.said ∙ c.in-Ok-None.field-0-is) c.args.self.now.world (bench g.D.Disk.image_at g.D.Disk.moment g.D.Disk.faults g.D.Disk.armed g.D.Disk.picks c.args.pairs.now.items) held
+returns-in-Ok-None-clause-held g c = λ start lines stands held.
+    held_silent start lines c.args.line.now (sym c.in-Ok-None.ensures.said ∙ c.in-Ok-None.field-0-is) c.args.self.now.world (bench g.D.Disk.image_at g.D.Disk.moment g.D.Disk.faults g.D.Disk.armed g.D.Disk.picks c.args.pairs.now.items) held
 
 pub returns-in-Ok-Some-clause-held : goal.returns-in-Ok-Some-clause-held
-returns-in-Ok-Some-clause-held g c = λ lines stands held.
-    ok_then c.answer.result (c.answer.ensures.held (ran lines) stands held)
-    (held_said lines c.args.line.now c.in-Ok-Some.said (sym c.in-Ok-Some.ensures.said ∙ c.in-Ok-Some.field-0-is) c.answer.new.self.world (bench g.D.Disk.image_at g.D.Disk.moment g.D.Disk.faults g.D.Disk.armed g.D.Disk.picks c.answer.new.pairs.items))
+returns-in-Ok-Some-clause-held g c = λ start lines stands held.
+    ok_then c.answer.result (c.answer.ensures.held start (ran lines) stands held)
+    (held_said start lines c.args.line.now c.in-Ok-Some.said (sym c.in-Ok-Some.ensures.said ∙ c.in-Ok-Some.field-0-is) c.answer.new.self.world (bench g.D.Disk.image_at g.D.Disk.moment g.D.Disk.faults g.D.Disk.armed g.D.Disk.picks c.answer.new.pairs.items))

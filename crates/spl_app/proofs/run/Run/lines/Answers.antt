@@ -6,7 +6,6 @@ use Rattle.std.specs.Global.{Vec}
 use Rattle.spl_world.specs.Disks.{bench, images}
 use Rattle.spl_world.specs.Held.{AllHeld}
 use Rattle.spl_world.specs.Views.{IsPlace}
-use Rattle.spl_world.proofs.Leaving.{all_then}
 use Rattle.spl_app.specs.declared.fault.RunFault.{RunFault}
 use Rattle.spl_app.specs.declared.fault.RunFault.TheVariants.{BadLine, TooMany, Disk}
 use Rattle.spl_app.specs.Lines.{lines_of}
@@ -15,7 +14,7 @@ use Rattle.spl_app.specs.Due.{IsDue, IsDuePart}
 use Rattle.spl_app.specs.Behind.{IsBehind}
 use Rattle.spl_app.proofs.Dues.{due_same, due_whole}
 use Rattle.spl_app.proofs.Behinds.{at_own}
-use Rattle.spl_app.proofs.Benches.{rose_later}
+use Rattle.spl_app.proofs.Benches.{none_then}
 use Rattle.spl_app.proofs.Holds.{held_as}
 use Rattle.spl_app.proofs.Runs.{all-push, next_number, within, taken, behind, part_of_all, stops_at, none_left, all_counted}
 use Rattle.spl_app.proofs.run.Run.lines.Goals as goal
@@ -33,15 +32,15 @@ returns-in-Err-clause-bad g c = λ number is.
     )
 
 pub returns-in-Err-clause-many : goal.returns-in-Err-clause-many
-returns-in-Err-clause-many g c = λ number is.
+returns-in-Err-clause-many g c = λ number which is.
     let lines = lines_of c.args.text.now in
-    let same : c.in-Err.fault ≡ TooMany number = cc in
+    let same : c.in-Err.fault ≡ TooMany number which = cc in
     let failed = ap (λ (e : RunFault). Err e) same in
-    let found = c.in-Err.ensures.many number failed in
-    let over = c.in-Err.ensures.past (take c.lines.count lines) number c.lines.invariant.behind.stands failed in
+    let found = c.in-Err.ensures.many number which failed in
+    let over = c.in-Err.ensures.past (take c.lines.count lines) number which c.lines.invariant.behind.stands failed in
     let before : number - 1 ≡ c.lines.count = omega (arith, found.0) in
-    let stops = subst (λ (ns : List Node). StopsFor ns Past (take c.lines.count lines) c.in-Some.line.now) c.lines.invariant.behind.nodes (found.1, over) in (
-      stops_at lines c.lines.count c.lines.invariant.counted c.in-Some.line.now (lines_of c.in-Some.behind.now) (sym c.lines.invariant.left ∙ c.in-Some.ensures.0) _ Past
+    let stops = subst (λ (ns : List Node). StopsFor ns (Past which) (take c.lines.count lines) c.in-Some.line.now) c.lines.invariant.behind.nodes (found.1, over) in (
+      stops_at lines c.lines.count c.lines.invariant.counted c.in-Some.line.now (lines_of c.in-Some.behind.now) (sym c.lines.invariant.left ∙ c.in-Some.ensures.0) _ (Past which)
           record { lines = c.lines.invariant.good; few = c.lines.invariant.behind.few } stops number found.0,
       rw before (due_same _ _ _ c.lines.self.output _ _ found.3 found.2 c.lines.invariant.behind.due),
     )
@@ -72,9 +71,10 @@ lines-preserved g c =
       good = subst (AllByRecursion (IsLine c.args.self.now.nodes.items)) more (all-push _ _ _ c.lines.invariant.good line_good);
       behind = subst (λ (ls : List (List ℕ)). IsBehind c.args.self.now.nodes.items ls c.line.new.self (images g.D.Disk.image_at g.D.Disk.moment c.line.new.pairs.items) (g.W.Sink.written c.args.out.now) (g.W.Sink.written c.line.new.out)) more
           (subst (λ (ns : List Node). IsBehind ns (front ++ line ∷ []) c.line.new.self (images g.D.Disk.image_at g.D.Disk.moment c.line.new.pairs.items) (g.W.Sink.written c.args.out.now) (g.W.Sink.written c.line.new.out)) c.lines.invariant.behind.nodes behind_line);
-      onward = all_then _ _ _ c.lines.invariant.onward c.line.ensures.onward;
+      onward = none_then _ _ _ c.lines.invariant.onward c.line.ensures.onward;
+      unarmed = λ off. c.line.ensures.unarmed (c.lines.invariant.unarmed off) (λ is. cc);
       places = c.line.ensures.places ∙ c.lines.invariant.places;
-      held = λ h. subst (λ (ls : List (List ℕ)). AllHeld (ran ls) c.line.new.self.world (bench g.D.Disk.image_at g.D.Disk.moment g.D.Disk.faults g.D.Disk.armed g.D.Disk.picks c.line.new.pairs.items)) more (c.in_default-line.ensures.held front c.lines.invariant.behind.stands (c.lines.invariant.held h));
+      held = λ start h. subst (λ (ls : List (List ℕ)). AllHeld start (ran ls) c.line.new.self.world (bench g.D.Disk.image_at g.D.Disk.moment g.D.Disk.faults g.D.Disk.armed g.D.Disk.picks c.line.new.pairs.items)) more (c.in_default-line.ensures.held start front c.lines.invariant.behind.stands (c.lines.invariant.held start h));
       later = search rules;
     }
 
@@ -107,12 +107,15 @@ returns-in-Err-clause-whole g c = λ slot is.
     }
 
 pub returns-in-Err-clause-onward : goal.returns-in-Err-clause-onward
-returns-in-Err-clause-onward g c = all_then _ _ _ c.lines.invariant.onward c.line.ensures.onward
+returns-in-Err-clause-onward g c = none_then _ _ _ c.lines.invariant.onward c.line.ensures.onward
 
-pub returns-in-Err-clause-disk : goal.returns-in-Err-clause-disk
-returns-in-Err-clause-disk g c = λ slot is.
+pub returns-in-Err-clause-unarmed : goal.returns-in-Err-clause-unarmed
+returns-in-Err-clause-unarmed g c = λ off room. c.line.ensures.unarmed (c.lines.invariant.unarmed off) (λ is. room cc)
+
+pub returns-in-Err-clause-failed : goal.returns-in-Err-clause-failed
+returns-in-Err-clause-failed g c = λ start h slot is.
     let same : c.in-Err.fault ≡ Disk slot = cc in
-    rose_later slot _ _ _ c.lines.invariant.onward c.line.ensures.onward (c.in-Err.ensures.disk slot (ap (λ (e : RunFault). Err e) same))
+    c.in-Err.ensures.failed start (ran (take c.lines.count (lines_of c.args.text.now))) slot (ap (λ (e : RunFault). Err e) same) (c.lines.invariant.held start h)
 
 pub returns-in-Err-clause-place : goal.returns-in-Err-clause-place
 returns-in-Err-clause-place g c = λ slot is.
@@ -120,18 +123,18 @@ returns-in-Err-clause-place g c = λ slot is.
     subst (λ (ks : List ℕ). IsPlace ks slot) c.lines.invariant.places (c.in-Err.ensures.place slot (ap (λ (e : RunFault). Err e) same))
 
 pub returns-clause-held : goal.returns-clause-held
-returns-clause-held g c = λ h.
+returns-clause-held g c = λ start h.
     let all = none_left (lines_of c.args.text.now) c.lines.count c.lines.invariant.counted (sym c.lines.invariant.left ∙ c.in_default.ensures) in
-    subst (λ (ls : List (List ℕ)). AllHeld (ran ls) c.args.self.now.world (bench g.D.Disk.image_at g.D.Disk.moment g.D.Disk.faults g.D.Disk.armed g.D.Disk.picks c.lines.pairs.items)) all
-    (held_as (ran (take c.lines.count (lines_of c.args.text.now))) c.lines.self.world c.args.self.now.world (bench g.D.Disk.image_at g.D.Disk.moment g.D.Disk.faults g.D.Disk.armed g.D.Disk.picks c.lines.pairs.items) (c.requires.fresh.world ∙ sym c.lines.invariant.behind.world) (sym c.lines.invariant.places) (c.lines.invariant.held h))
+    subst (λ (ls : List (List ℕ)). AllHeld start (ran ls) c.args.self.now.world (bench g.D.Disk.image_at g.D.Disk.moment g.D.Disk.faults g.D.Disk.armed g.D.Disk.picks c.lines.pairs.items)) all
+    (held_as start (ran (take c.lines.count (lines_of c.args.text.now))) c.lines.self.world c.args.self.now.world (bench g.D.Disk.image_at g.D.Disk.moment g.D.Disk.faults g.D.Disk.armed g.D.Disk.picks c.lines.pairs.items) (c.requires.fresh.world ∙ sym c.lines.invariant.behind.world) (sym c.lines.invariant.places) (c.lines.invariant.held start h))
 
 pub returns-in-Err-clause-bad_held : goal.returns-in-Err-clause-bad_held
-returns-in-Err-clause-bad_held g c = λ h number is.
+returns-in-Err-clause-bad_held g c = λ start h number is.
     let same : c.in-Err.fault ≡ BadLine number = cc in
     let failed = ap (λ (e : RunFault). Err e) same in
     let found = c.in-Err.ensures.bad number failed in
     let still = c.in-Err.ensures.same number failed in
     let before : number - 1 ≡ c.lines.count = omega (arith, found.0) in
-    subst (λ (k : ℕ). AllHeld (ran (take k (lines_of c.args.text.now))) c.args.self.now.world (bench g.D.Disk.image_at g.D.Disk.moment g.D.Disk.faults g.D.Disk.armed g.D.Disk.picks c.line.new.pairs.items)) (sym before)
-    (subst (λ (ps : Vec (Pair _)). AllHeld (ran (take c.lines.count (lines_of c.args.text.now))) c.args.self.now.world (bench g.D.Disk.image_at g.D.Disk.moment g.D.Disk.faults g.D.Disk.armed g.D.Disk.picks ps.items)) (sym still)
-    (held_as (ran (take c.lines.count (lines_of c.args.text.now))) c.lines.self.world c.args.self.now.world (bench g.D.Disk.image_at g.D.Disk.moment g.D.Disk.faults g.D.Disk.armed g.D.Disk.picks c.lines.pairs.items) (c.requires.fresh.world ∙ sym c.lines.invariant.behind.world) (sym c.lines.invariant.places) (c.lines.invariant.held h)))
+    subst (λ (k : ℕ). AllHeld start (ran (take k (lines_of c.args.text.now))) c.args.self.now.world (bench g.D.Disk.image_at g.D.Disk.moment g.D.Disk.faults g.D.Disk.armed g.D.Disk.picks c.line.new.pairs.items)) (sym before)
+    (subst (λ (ps : Vec (Pair _)). AllHeld start (ran (take c.lines.count (lines_of c.args.text.now))) c.args.self.now.world (bench g.D.Disk.image_at g.D.Disk.moment g.D.Disk.faults g.D.Disk.armed g.D.Disk.picks ps.items)) (sym still)
+    (held_as start (ran (take c.lines.count (lines_of c.args.text.now))) c.lines.self.world c.args.self.now.world (bench g.D.Disk.image_at g.D.Disk.moment g.D.Disk.faults g.D.Disk.armed g.D.Disk.picks c.lines.pairs.items) (c.requires.fresh.world ∙ sym c.lines.invariant.behind.world) (sym c.lines.invariant.places) (c.lines.invariant.held start h)))

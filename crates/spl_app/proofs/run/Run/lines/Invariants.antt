@@ -1,6 +1,6 @@
-use Rattle.std.proofs.Common.{◌≡◌, ◌≤◌, ◌+◌, ℕ, [], length, take, drop}
+use Rattle.std.proofs.Common.{◌≡◌, ◌≤◌, ◌+◌, List, [], length, take, drop}
 use Rattle.std.specs.List.{AllByRecursion}
-use Rattle.spl_world.specs.Disks.{AllGoOn, bench, images}
+use Rattle.spl_world.specs.Disks.{AllUnarmed, NoneForgotten, PairView, bench, images}
 use Rattle.spl_world.specs.Held.{AllHeld}
 use Rattle.spl_world.specs.Views.{places_of}
 use Rattle.spl_app.specs.Lines.{lines_of}
@@ -15,9 +15,10 @@ invariant-lines g l = record {
   counted : l.count ≤ length (lines_of l.text);
   good : AllByRecursion (IsLine l.initial.self.nodes.items) (take l.count (lines_of l.text));
   behind : IsBehind l.initial.self.nodes.items (take l.count (lines_of l.text)) l.self (images g.D.Disk.image_at g.D.Disk.moment l.pairs.items) (g.W.Sink.written l.initial.out) (g.W.Sink.written l.out);
-  onward : AllGoOn (bench g.D.Disk.image_at g.D.Disk.moment g.D.Disk.faults g.D.Disk.armed g.D.Disk.picks l.initial.pairs.items) (bench g.D.Disk.image_at g.D.Disk.moment g.D.Disk.faults g.D.Disk.armed g.D.Disk.picks l.pairs.items);
+  onward : NoneForgotten (bench g.D.Disk.image_at g.D.Disk.moment g.D.Disk.faults g.D.Disk.armed g.D.Disk.picks l.initial.pairs.items) (bench g.D.Disk.image_at g.D.Disk.moment g.D.Disk.faults g.D.Disk.armed g.D.Disk.picks l.pairs.items);
+  unarmed : AllUnarmed (bench g.D.Disk.image_at g.D.Disk.moment g.D.Disk.faults g.D.Disk.armed g.D.Disk.picks l.initial.pairs.items) → AllUnarmed (bench g.D.Disk.image_at g.D.Disk.moment g.D.Disk.faults g.D.Disk.armed g.D.Disk.picks l.pairs.items);
   places : places_of l.self.world ≡ places_of l.initial.self.world;
-  held : AllHeld [] l.initial.self.world (bench g.D.Disk.image_at g.D.Disk.moment g.D.Disk.faults g.D.Disk.armed g.D.Disk.picks l.initial.pairs.items) → AllHeld (ran (take l.count (lines_of l.text))) l.self.world (bench g.D.Disk.image_at g.D.Disk.moment g.D.Disk.faults g.D.Disk.armed g.D.Disk.picks l.pairs.items);
+  held : (start : List PairView) → AllHeld start [] l.initial.self.world (bench g.D.Disk.image_at g.D.Disk.moment g.D.Disk.faults g.D.Disk.armed g.D.Disk.picks l.initial.pairs.items) → AllHeld start (ran (take l.count (lines_of l.text))) l.self.world (bench g.D.Disk.image_at g.D.Disk.moment g.D.Disk.faults g.D.Disk.armed g.D.Disk.picks l.pairs.items);
   later : g.W.Sink.faults l.initial.out ≤ g.W.Sink.faults l.out;
 }
 

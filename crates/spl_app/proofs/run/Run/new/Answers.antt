@@ -1,6 +1,6 @@
-use Rattle.std.proofs.Common.{ℕ, List, [], rules, subst, sym}
-use Rattle.spl_world.proofs.Leaving.{leaves_ok}
+use Rattle.std.proofs.Common.{ℕ, List, [], subst, sym}
 use Rattle.spl_app.specs.Due.{IsDue}
+use Rattle.spl_app.proofs.Benches.{none_on, unarmed_on, unpicked_unarmed}
 use Rattle.spl_app.proofs.Dues.{due_waits}
 use Rattle.spl_app.proofs.Events.{none_within}
 use Rattle.spl_app.proofs.run.Run.new.Goals as goal
@@ -15,8 +15,14 @@ returns-clause-behind g c = λ start. record {
   due = subst (λ (waiting : List ℕ). IsDue start start waiting []) (sym c.in_ok-new.ensures) (due_waits start []);
 }
 
-pub returns-clause-disks : goal.returns-clause-disks
-returns-clause-disks g c = leaves_ok _ _ _ c.new-3.ensures.disks.onward
+pub returns-clause-onward : goal.returns-clause-onward
+returns-clause-onward g c = none_on _ _ c.new-3.ensures.disks.onward
+
+pub returns-clause-unarmed : goal.returns-clause-unarmed
+returns-clause-unarmed g c = unarmed_on _ _ c.new-3.ensures.disks.onward (unpicked_unarmed _ c.requires.unpicked)
 
 pub returns-clause-held : goal.returns-clause-held
-returns-clause-held g c = λ unpicked. c.in_ok-new-2.ensures.held unpicked
+returns-clause-held g c = c.in_ok-new-2.ensures.held c.requires.unpicked
+
+pub returns-in_err-new-2-clause-unarmed : goal.returns-in_err-new-2-clause-unarmed
+returns-in_err-new-2-clause-unarmed g c = unarmed_on _ _ c.new-3.ensures.disks.onward (unpicked_unarmed _ c.requires.unpicked)
