@@ -63,7 +63,9 @@ class Bound:
         return Group(d.generation, d.members, d.members.index(d.services[0].node), d.members.index(here), Batches())
 
     def restart(self):
-        self.acts.open = self.batches.open = None
+        """Forgets the open rounds."""
+        for member in (self.acts, self.batches):
+            member.open, member.missing = None, set()
 
 
 @dataclass

@@ -1,13 +1,16 @@
-"""Registries and schedules drawn from a seed: few circuits and addresses, so that lines meet each other; a few broken
-lines, and a few broken registries."""
+"""Registries and schedules drawn from a seed: few circuits and addresses, so that lines meet each other; nodes that stop
+and mostly start soon, so that runs go on; a few broken lines, broken registries, and runs that pass a limit."""
 import random
 
-from schedules import BadLine, World
+from schedules import BadLine, TooMany, World
 
 NAMES = ["alpha", "beta", "gamma", "a", "a-1", "b", "omega", "0", "alphabet"]
 CIRCUITS = ["Ab3dE-00001", "Ab3dE-00002", "Zz9zZ-00000"]
 ADDRESSES = ["00" * 34 + "01", "00" * 34 + "02", "00" * 33 + "0102", "ff" * 35]
+SERVICES = ["aaaa", "bbbb", "cccc", "dddd", "eeee"]
+FILLS = ["old", "new", "byte:01", "byte:07"]
 BROKEN = ["show alpha", "show delta Ab3dE-00001", "calm Ab3dE-00001 0", "vote alpha Ab3dE-00001 maybe", "show  alpha Ab3dE-00001"]
+BROKEN += ["stop delta", "start", "roll alpha beta", "cut 256 new", "fail 0", "cut 3 byte:1", "fail 1 calm Ab3dE-00001 1", "cut 1 old stop"]
 
 
 class Draw:
@@ -15,11 +18,13 @@ class Draw:
 
     def __init__(self, seed):
         self.random = random.Random(seed)
-        self.nodes = sorted(self.random.sample(NAMES, 3))
+        self.nodes = sorted(self.random.sample(NAMES, self.one([3, 3, 4, 5])))
         self.spare = self.random.sample([n for n in NAMES if n not in self.nodes], self.one([0, 0, 1, 3]))
         self.world = World(self.nodes + self.spare)
         self.circuits = CIRCUITS[: self.random.choice([1, 1, 2, 3])]
         self.members = {}
+        # How many messages of a circuit and pair calms and deliveries in turn have handed over.
+        self.handed = {}
 
     def one(self, things):
         return self.random.choice(things)
@@ -31,6 +36,7 @@ class Draw:
             if self.random.random() < 0.85:
                 found += [self.ran(line) for line in self.accepted(circuit)]
         found += [self.ran(self.line()) for _ in range(self.random.randint(20, 120))]
+        found += [self.ran(line) for line in self.beyond()]
         if self.random.random() < 0.1:
             found.insert(self.random.randrange(len(found) + 1), self.one([*BROKEN, "", "# a comment"]))
         return found
@@ -38,12 +44,27 @@ class Draw:
     def ran(self, line):
         try:
             self.world.run(line)
-        except BadLine:
+        except (BadLine, TooMany):
             pass
+        if line.startswith("calm "):
+            self.handed |= {key: len(messages) for key, messages in self.world.sent.items() if key[0] in line}
         return line
 
+    def beyond(self):
+        """Lines at the end that come near a limit of runs, or pass it; mostly none."""
+        kind = self.random.random()
+        if kind < 0.02:
+            return [self.stop_line() for _ in range(self.random.randint(50, 66))]
+        if kind < 0.03:
+            return [f"calm {self.one(self.circuits)} 64" for _ in range(self.random.randint(80, 300))]
+        return []
+
+    def some(self, least):
+        """Some of the nodes, in their order."""
+        return sorted(self.random.sample(self.nodes, self.random.randint(least, len(self.nodes))))
+
     def accepted(self, circuit):
-        members = self.one([self.nodes, self.nodes[:2], self.nodes[1:], self.nodes[::2]])
+        members = self.one([self.nodes, self.nodes[:2], self.nodes[1:], self.nodes[::2], self.some(2)])
         first, *others = self.random.sample(members, len(members))
         found = [self.propose(circuit, first, members, 1), f"calm {circuit} 8"]
         for node in others:
@@ -52,7 +73,7 @@ class Draw:
 
     def propose(self, circuit, node, members, generation):
         self.members[circuit] = members
-        ids = self.random.sample(["aaaa", "bbbb", "cccc"], len(members))
+        ids = self.random.sample(SERVICES[: max(3, len(members))], len(members))
         roster = sorted(zip(ids, members))
         services = ",".join(f"{id}:scabbard:{member}" for id, member in roster)
         name = self.one(["trade", "trade", "trio"])
@@ -70,15 +91,21 @@ class Draw:
             self.deliver: 30,
             self.calm: 3,
             self.leave: 2,
+            self.roll: 3,
+            self.stop: 4,
+            self.break_off: 7,
         }
+        down = sorted(self.world.down)
+        if down and self.random.random() < 0.3:
+            return f"start {self.one(down)}"
         return self.random.choices(list(kinds), list(kinds.values()))[0](circuit, node)
 
     def drawn_propose(self, circuit, node):
         if self.random.random() < 0.2:
-            a, b, c = self.nodes
+            a, b, c, *_ = self.nodes
             version, members = self.one([(2, f"{a},{b}"), (1, f"{b},{a}"), (1, a), (1, f"{a},{c}")])
             return f"propose {node} {circuit} 1 {version} grid trade {members} aaaa:scabbard:{a},bbbb:scabbard:{b}"
-        return self.propose(circuit, node, self.one([self.nodes, self.nodes[:2], self.nodes[1:]]), self.one([1, 1, 1, 2, 2, 3]))
+        return self.propose(circuit, node, self.one([self.nodes, self.nodes[:2], self.some(2)]), self.one([1, 1, 1, 2, 2, 3]))
 
     def vote(self, circuit, node):
         return self.one([f"vote {node} {circuit} accept"] * 4 + [f"vote {node} {circuit} reject", f"remove {node} {circuit}"])
@@ -105,7 +132,7 @@ class Draw:
         asked += [f"get {node} {circuit} {self.one(ADDRESSES)}", f"list {node} {circuit} {self.one(['-', '00', 'ff'])}"]
         asked += [f"{word} {node} {circuit} {self.random.randint(1, 9)}" for word in ("status", "receipt")]
         asked.append(f"detail {node} {circuit}")
-        services = self.one(["aaaa", "bbbb", "cccc", "zzzz"]), self.one(["aaaa", "bbbb", "cccc"])
+        services = self.one([*SERVICES[:3], "zzzz"]), self.one(SERVICES[:3])
         asked.append(f"route {node} {circuit} {self.one(self.nodes)} {services[0]} {services[1]}")
         return self.one(asked)
 
@@ -115,6 +142,11 @@ class Draw:
     def deliver(self, circuit, node):
         pairs = [(a, b) for a in self.nodes for b in self.nodes if a != b]
         count = lambda pair: len(self.world.sent.get((circuit, *pair), []))
+        fresh = [pair for pair in pairs if self.handed.get((circuit, *pair), 0) < count(pair)]
+        if fresh and self.random.random() < 0.7:
+            sender, to = self.one(fresh)
+            self.handed[circuit, sender, to] = self.handed.get((circuit, sender, to), 0) + 1
+            return f"deliver {sender} {to} {circuit} {self.handed[circuit, sender, to]}"
         sender, to = self.one([pair for pair in pairs if count(pair)] or pairs)
         back = self.random.choices([0, 1, 2, 5, -1], [10, 4, 2, 2, 1])[0]
         return f"deliver {sender} {to} {circuit} {max(1, count((sender, to)) - back)}"
@@ -125,6 +157,32 @@ class Draw:
     def calm(self, circuit, node):
         return f"calm {circuit} {self.one([1, 1, 2, 4, 8])}"
 
+    def roll(self, circuit, node):
+        return f"roll {node}"
+
+    def stop(self, circuit, node):
+        return self.one([f"stop {node}"] * 4 + [f"start {node}"])
+
+    def break_off(self, circuit, node):
+        """A cut or a fail, mostly of an event with changes."""
+        ways = [self.step] * 3 + [self.deliver] * 4 + [self.submit, self.vote, self.drawn_propose, self.ask, self.leave]
+        lines = [self.one(ways)(circuit, self.one(self.nodes)) for _ in range(8)]
+        line = next((line for line in lines if self.changes(line)), lines[0])
+        if self.random.random() < 0.3:
+            return f"fail {self.one([1, 2, 3, 4, 5, 6, 8, 12, 255])} {line}"
+        calls = self.one([0, 1, 2, 3, 3, 3, 4, 4, 5, 8, 12, 255])
+        return f"cut {calls} {self.one(FILLS)} {line}"
+
+    def changes(self, line):
+        """Whether the event of a line would change something."""
+        word, *rest = line.split(" ")
+        site, does = self.world.step(word, rest)
+        before, after = self.world.ends(site, does)
+        return before != after and site.here not in self.world.down
+
+    def stop_line(self):
+        circuit, node = self.one(self.circuits), self.one(self.nodes)
+        return self.one([lambda c, n: f"stop {n}", self.break_off])(circuit, node)
 
     def registry(self):
         """A registry of the nodes in any order; a few are broken."""
@@ -148,3 +206,9 @@ def drawn(seed):
     draw = Draw(seed)
     lines = draw.lines()
     return draw.registry().encode(), "".join(line + "\n" for line in lines).encode()
+
+
+def drawn_numbers(seed):
+    """How many batches a generated schedule has, and its own seed."""
+    numbers = random.Random(seed)
+    return numbers.choice([1, 2, 3, 49, 50, 51, 100, numbers.randint(1, 120)]), numbers.choice([0, 7, 2**64 - 1, numbers.getrandbits(64)])

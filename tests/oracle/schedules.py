@@ -1,4 +1,6 @@
-"""The lines of a schedule, and their run over all nodes, as docs/RULES.md has them (Schedules, Circuits as worlds)."""
+"""The lines of a schedule, and their run over all nodes, as docs/RULES.md has them (Schedules, Circuits as worlds, Stops
+in an event)."""
+import copy
 import re
 from dataclasses import dataclass, field
 
@@ -7,13 +9,18 @@ from registries import BadRegistry, nodes_of
 from values import Batch, Command, Definition, Service, Transaction
 
 LONGEST_LINE = 2048
+MOST_BYTES = 67108864
 MOST_EVENTS = 32768
+MOST_STOPS = 64
+# An event writes its record by calls 1 to 4; the third opens the gate, which the fourth makes last.
+CALLS_OF_A_RECORD = 4
 NODE = "[a-z0-9-]{1,32}"
 CIRCUIT = "[0-9A-Za-z]{5}-[0-9A-Za-z]{5}"
 SERVICE = "[0-9A-Za-z]{4}"
 LABEL = "[!-~]{1,128}"
 KIND = "[a-z0-9-]{1,32}"
 HEX = "(?:[0-9a-f]{2})*"
+FILL = "old|new|byte:[0-9a-f]{2}"
 ADDRESS = "[0-9a-f]{70}"
 TEXT = "[!-<>-~]{1,64}"
 
@@ -22,8 +29,8 @@ class BadLine(Exception):
     """The line isn't one of a schedule."""
 
 
-class TooManyEvents(Exception):
-    """An event more than a run has."""
+class TooMany(Exception):
+    """An event, or a line that stops a node, more than a run has."""
 
 
 def match(pattern, word):
@@ -138,12 +145,15 @@ EVENTS = {
 
 @dataclass
 class World:
-    """All nodes: their sites by node and circuit, and every message ever sent, by circuit and pair."""
+    """All nodes: their sites by node and circuit, which of them are down, and every message ever sent, by circuit and
+    pair."""
 
     nodes: list
     sites: dict = field(default_factory=dict)
+    down: set = field(default_factory=set)
     sent: dict = field(default_factory=dict)
     events: int = 0
+    stops: int = 0
 
     def known(self, *names):
         for name in names:
@@ -157,13 +167,22 @@ class World:
     def counted(self):
         """One event more."""
         if self.events == MOST_EVENTS:
-            raise TooManyEvents
+            raise TooMany("too many events")
         self.events += 1
 
-    def happens(self, site, does, *arguments):
+    def counted_stop(self):
+        """One line more that stops a node, which is an event too."""
+        self.counted()
+        if self.stops == MOST_STOPS:
+            raise TooMany("too many stops")
+        self.stops += 1
+
+    def happens(self, site, does):
         """An event at a site: its answer; what it sends is posted."""
+        if site.here in self.down:
+            return str(Refused(1))
         try:
-            return does(site, *arguments)
+            return does()
         except Refused as refused:
             return str(refused)
         finally:
@@ -172,28 +191,45 @@ class World:
                     self.sent.setdefault((site.circuit, site.here, to), []).append(message)
             site.sends = []
 
+    # ---- lines
+
     def run(self, text):
         """The answer to a line."""
         if any(not "!" <= c <= "~" for c in text.replace(" ", "")) or "" in text.split(" "):
             raise BadLine
         word, *rest = text.split(" ")
-        if word == "calm":
-            return self.read_calm(*self.exactly(rest, 2))
+        ways = {"calm": self.run_calm, "stop": self.run_stop, "start": self.run_start, "roll": self.run_roll}
+        ways |= {"cut": self.run_cut, "fail": self.run_fail}
+        if word in ways:
+            try:
+                return ways[word](rest)
+            except Refused as refused:
+                return str(refused)
+        site, does = self.step(word, rest)
+        self.counted()
+        return self.happens(site, does)
+
+    def exactly(self, words, count):
+        if len(words) != count:
+            raise BadLine
+        return words
+
+    def more_than(self, words, count):
+        if len(words) <= count:
+            raise BadLine
+        return words
+
+    def step(self, word, rest):
+        """The site of a line's event, and the event."""
         if word == "deliver":
-            return self.read_deliver(*self.exactly(rest, 4))
+            return self.delivery(*self.exactly(rest, 4))
         if len(rest) < 2:
             raise BadLine
         node, circuit, *words = rest
         match(NODE, node), match(CIRCUIT, circuit)
         does, arguments = self.event(word, circuit, words)
         site = self.at(self.known(node), circuit)
-        self.counted()
-        return self.happens(site, does, *arguments)
-
-    def exactly(self, words, count):
-        if len(words) != count:
-            raise BadLine
-        return words
+        return site, lambda: does(site, *arguments)
 
     def event(self, word, circuit, words):
         if word == "propose":
@@ -212,22 +248,25 @@ class World:
             self.known(arguments[0])
         return does, arguments
 
-    def read_deliver(self, sender, to, circuit, place):
+    # ---- deliveries and calms
+
+    def delivery(self, sender, to, circuit, place):
         match(NODE, sender), match(NODE, to), match(CIRCUIT, circuit)
         index = number(place, 1, 2**32 - 1)
         if sender == to:
             raise BadLine
         self.known(sender, to)
-        self.counted()
-        return self.deliver(sender, to, circuit, index)
+        site = self.at(to, circuit)
+        return site, lambda: self.handed(site, sender, index)
 
-    def deliver(self, sender, to, circuit, index):
-        messages = self.sent.get((circuit, sender, to), [])
+    def handed(self, site, sender, index):
+        messages = self.sent.get((site.circuit, sender, site.here), [])
         if index > len(messages):
-            return str(Refused(17))
-        return self.happens(self.at(to, circuit), Site.deliver, sender, messages[index - 1])
+            raise Refused(17)
+        return site.deliver(sender, messages[index - 1])
 
-    def read_calm(self, circuit, passes):
+    def run_calm(self, rest):
+        circuit, passes = self.exactly(rest, 2)
         match(CIRCUIT, circuit)
         self.calm(circuit, number(passes, 1, 64))
         return f"ok calm {passes}"
@@ -236,25 +275,93 @@ class World:
         order = sorted(self.nodes)
         count = lambda a, b: len(self.sent.get((circuit, a, b), []))
         handed = {(a, b): count(a, b) for a in order for b in order if a != b}
-        sites = [self.at(n, circuit) for n in order]
+        sites = {n: self.at(n, circuit) for n in order if n not in self.down}
         for _ in range(passes):
-            for site in [s for s in sites if isinstance(s.cell, Bound) and s.cell.is_open]:
+            for site in [s for s in sites.values() if isinstance(s.cell, Bound) and s.cell.is_open]:
                 self.counted()
-                self.happens(site, Site.tick)
+                self.happens(site, site.tick)
             for a, b in handed:
-                while handed[a, b] < count(a, b):
+                while b in sites and handed[a, b] < count(a, b):
                     handed[a, b] += 1
                     self.counted()
-                    self.deliver(a, b, circuit, handed[a, b])
+                    self.happens(sites[b], lambda: self.handed(sites[b], a, handed[a, b]))
+
+    # ---- stops, starts and rolls
+
+    def named(self, rest):
+        """The node of a line that has no other word."""
+        return self.known(match(NODE, self.exactly(rest, 1)[0])[0])
+
+    def run_stop(self, rest):
+        node = self.named(rest)
+        self.counted_stop()
+        self.stop(node)
+        return "ok down"
+
+    def stop(self, node):
+        self.down.add(node)
+        for site in self.sites.values():
+            if site.here == node and isinstance(site.cell, Bound):
+                site.cell.restart()
+
+    def run_start(self, rest):
+        node = self.named(rest)
+        self.counted()
+        self.down.discard(node)
+        return "ok up"
+
+    def run_roll(self, rest):
+        node = self.named(rest)
+        self.counted()
+        if node in self.down:
+            raise Refused(1)
+        found = sorted(s.circuit for s in self.sites.values() if s.here == node and isinstance(s.cell, Bound))
+        return " ".join(["ok roll", str(len(found)), *found])
+
+    # ---- stops in an event
+
+    def run_cut(self, rest):
+        calls, fill, word, *words = self.more_than(rest, 2)
+        calls, fill = number(calls, 0, 255), match(FILL, fill)[0]
+        opened = calls == CALLS_OF_A_RECORD - 1 and fill in ("new", "byte:01")
+        return f"cut {self.broken_off(word, words, calls >= CALLS_OF_A_RECORD or opened)}"
+
+    def run_fail(self, rest):
+        call, word, *words = self.more_than(rest, 1)
+        return f"fault {self.broken_off(word, words, number(call, 1, 255) > CALLS_OF_A_RECORD)}"
+
+    def broken_off(self, word, words, keeps):
+        """An event in which its node goes down: nothing is sent, and its changes are made where it keeps them."""
+        site, does = self.step(word, words)
+        self.counted_stop()
+        if site.here in self.down:
+            raise Refused(1)
+        before, after = self.ends(site, does)
+        self.stop(site.here)
+        if before == after:
+            return "none"
+        site.cell = after if keeps else before
+        return "kept" if keeps else "lost"
+
+    def ends(self, site, does):
+        """What a stop leaves of a cell before an event and behind it. The event doesn't happen."""
+        now = site.cell
+        before, site.cell = copy.deepcopy(now), copy.deepcopy(now)
+        try:
+            does()
+        except Refused:
+            pass
+        after, site.cell, site.sends = site.cell, now, []
+        for cell in (before, after):
+            if isinstance(cell, Bound):
+                cell.restart()
+        return before, after
 
 
-def replay(registry, schedule):
-    """What a run over a registry writes, its status, and what it says of that."""
-    try:
-        world, written = World(nodes_of(registry)), []
-    except BadRegistry as why:
-        return "", 2, f"bad registry: {why}\n"
-    *lines, rest = schedule.split(b"\n")
+def run(nodes, schedule):
+    """What is written over these nodes, the status, and what is said of that."""
+    world, written = World(nodes), []
+    *lines, rest = schedule[:MOST_BYTES].split(b"\n")
     for count, line in enumerate(lines, 1):
         try:
             if len(line) > LONGEST_LINE:
@@ -263,8 +370,23 @@ def replay(registry, schedule):
                 written.append(f"{count} {world.run(line.decode('latin-1'))}\n")
         except BadLine:
             return "".join(written), 3, f"bad schedule: line {count}\n"
-        except TooManyEvents:
-            return "".join(written), 4, "too many events\n"
+        except TooMany as which:
+            return "".join(written), 4, f"{which}\n"
+    if len(schedule) > MOST_BYTES and len(rest) <= LONGEST_LINE:
+        return "".join(written), 11, "input too long\n"
     if rest:
         return "".join(written), 3, f"bad schedule: line {len(lines) + 1}\n"
     return "".join(written), 0, ""
+
+
+def replay(registry, schedule):
+    """What a run over a registry writes, its status, and what it says of that. A file that can't be read is None."""
+    if registry is None:
+        return "", 5, "read failed\n"
+    if len(registry) > MOST_BYTES:
+        return "", 11, "input too long\n"
+    try:
+        nodes = nodes_of(registry)
+    except BadRegistry as why:
+        return "", 2, f"bad registry: {why}\n"
+    return ("", 5, "read failed\n") if schedule is None else run(nodes, schedule)

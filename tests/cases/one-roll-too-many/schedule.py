@@ -1,0 +1,1 @@
+print("roll alpha\n" * 32769, end="")

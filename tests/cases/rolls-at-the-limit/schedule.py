@@ -1,0 +1,1 @@
+print("roll alpha\n" * 32768, end="")

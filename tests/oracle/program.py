@@ -1,0 +1,39 @@
+"""A run by its words, as docs/RULES.md has it (Statuses, Generated schedules)."""
+import pathlib
+import re
+
+import generated
+from schedules import replay, run
+
+USAGE = "usage: splinter replay REGISTRY SCHEDULE or links REGISTRY SCHEDULE DIR or gen N SEED\n"
+NODES = ["n1", "n2", "n3", "n4"]
+ANSWERS_OF_GEN = 9
+
+
+def content(name):
+    """The bytes of a file; None where it can't be read."""
+    try:
+        return pathlib.Path(name).read_bytes()
+    except OSError:
+        return None
+
+
+def is_number(word, least, most):
+    return re.fullmatch("0|[1-9][0-9]*", word) is not None and least <= int(word) <= most
+
+
+def generate(batches, seed):
+    """What the run of a generated schedule writes: the last answers alone."""
+    written, status, said = run(NODES, generated.schedule(batches, seed).encode())
+    return "".join(written.splitlines(True)[-ANSWERS_OF_GEN:]), status, said
+
+
+def ended(words):
+    """What a run with these words writes, its status, and what it says of that."""
+    match words:
+        case ["replay", registry, schedule]:
+            return replay(content(registry), content(schedule))
+        case ["gen", batches, seed] if is_number(batches, 1, 400) and is_number(seed, 0, 2**64 - 1):
+            return generate(int(batches), int(seed))
+    return "", 1, USAGE
+
