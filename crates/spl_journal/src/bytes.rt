@@ -69,7 +69,7 @@ pub(crate) fn sized(alloc: Global, bytes: &[u8]) -> Result<Vec<u8>, AllocError>
     requires most { length bytes.now ≤ 16384 }
     ensures { IfOk result (λ piece. piece.items ≡ sized bytes.now) }
 {
-    let mut piece = Vec::new(alloc);
+    let mut piece = Vec::with_capacity(alloc, bytes.len() + 5)?;
     piece.extend_from_slice(&size_bytes(bytes.len() as u32))?;
     piece.extend_from_slice(bytes)?;
     piece.push(0)?;

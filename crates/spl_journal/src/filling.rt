@@ -25,12 +25,21 @@ fn put_block(piece: &mut Vec<u8>, bytes: &[u8]) -> Result<(), AllocError>
     Ok(())
 }
 
+/// How many bytes records have behind their gates, with a closed gate.
+fn room_for(items: &[Piece]) -> usize {
+    let mut room = 1usize;
+    for item in items {
+        room = room.saturating_add(5).saturating_add(item.bytes().len());
+    }
+    room
+}
+
 /// The records behind their open gates, and a closed gate.
 fn filling<R: Form>(alloc: Global, items: &[Piece]) -> Result<Vec<u8>, AllocError>
     requires good { AreGood R.is_record items.now }
     ensures { IfOk result (λ piece. piece.items ≡ filling items.now) }
 {
-    let mut piece = Vec::new(alloc);
+    let mut piece = Vec::with_capacity(alloc, room_for(items))?;
     for item in items {
         put_block(&mut piece, item.bytes())?;
     }

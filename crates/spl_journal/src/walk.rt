@@ -115,12 +115,9 @@ impl<R: Form> Walk<R> {
         if self.extent <= behind {
             return Err(JournalFault::NotAJournal { at });
         }
-        let Ok(piece) = Piece::from(alloc, &record) else {
-            return Err(JournalFault::NoMemory);
-        };
         self.at = behind;
         self.ended = false;
-        Ok(Some(piece))
+        Ok(Some(Piece::from_vec(record)))
     }
 
     /// The journal that was read, once `next` has answered None.

@@ -6,7 +6,7 @@ use Rattle.spl_edge.specs.Picks.{picked_bytes, filled}
 use Rattle.spl_memory.specs.Replay.{replayed, back, undone, range_of, filled_in, IsSound, IsHeld}
 use Rattle.spl_edge.specs.declared.fill.Fill.{Fill}
 use Rattle.spl_edge.specs.declared.fill.Fill.TheVariants.{Old, New, Byte}
-use Rattle.spl_memory.specs.declared.mem_disk.Call.{Call}
+use Rattle.spl_memory.specs.Changes.{Call}
 use Rattle.spl_memory.specs.declared.mem_disk.Undo.{Undo}
 use Rattle.spl_edge.specs.ImageLaws.{length-patched, patched_below, patched_above, patched_outside, patched_back, length-filled, filled_outside, outside_both}
 

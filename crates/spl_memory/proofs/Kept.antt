@@ -6,7 +6,7 @@ use Rattle.std.proofs.lemmas.List.{append-nil}
 use Rattle.spl_edge.specs.Image.{Image}
 use Rattle.spl_memory.specs.Replay.{step, replayed, kept_by, picks_of, until, all_until, Pushed}
 use Rattle.spl_edge.specs.Picks.{Picked}
-use Rattle.spl_memory.specs.declared.mem_disk.Call.{Call}
+use Rattle.spl_memory.specs.Changes.{Call}
 
 pub replayed-push : (i : Image) (calls : List Call) (c : Call) → replayed i (calls ++ c ∷ []) ≡ step c.change (replayed i calls)
 replayed-push i [] c = refl

@@ -1,3 +1,4 @@
+mod Logged
 mod Held
 mod Kept
 mod Told

@@ -7,7 +7,7 @@ use Rattle.spl_edge.specs.declared.fault.DeviceError.{DeviceError}
 use Rattle.spl_edge.specs.Image.{Image}
 use Rattle.spl_edge.specs.Calls.{Changes}
 use Rattle.spl_memory.specs.Replay.{replayed, until, all_until}
-use Rattle.spl_memory.specs.declared.mem_disk.Call.{Call}
+use Rattle.spl_memory.specs.Changes.{Call}
 use Rattle.spl_memory.proofs.Kept.{told_same, until_all}
 
 pub unchanged : {T : Type 0} (armed : Bool) (e : DeviceError) (f : Image → Image) (Part : Image → Image → Type 0) (old new : Option Image) → new ≡ old → Changes {T = T} armed (Err e) f Part old new

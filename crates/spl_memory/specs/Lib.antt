@@ -1,3 +1,5 @@
+pub mod Changes
+pub mod Logs
 pub mod Replay
 pub mod MemDisks
 pub mod Lanes

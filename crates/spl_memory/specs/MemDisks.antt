@@ -10,7 +10,7 @@ use Rattle.spl_memory.specs.Replay.{replayed, until, picks_of}
 
 -- what it held at a moment: the changes so far, done again
 abbrev pub image_of : MemDisk → ℕ → Option Image
-image_of d k = Some (replayed (settled_at d.first.items) (until k d.calls.items))
+image_of d k = Some (replayed (settled_at d.first.items) (until k d.calls))
 
 -- how many calls and picks it has had
 abbrev pub moment_of : MemDisk → ℕ
@@ -26,7 +26,7 @@ armed_of d = d.armed
 
 -- the images that were picked, the oldest first
 abbrev pub picked_by : MemDisk → List Picked
-picked_by d = picks_of (settled_at d.first.items) d.calls.items
+picked_by d = picks_of (settled_at d.first.items) d.calls
 
 -- a disk that has no bytes, and was neither called nor armed
 pub record IsFreshDisk (d : MemDisk) : Type 0 where

@@ -4,13 +4,11 @@ use Rattle.spl_edge.specs.Image.{Image, MayLeave, patched, after_write, after_cu
 use Rattle.spl_edge.specs.Picks.{Picked, picked_of, picked_bytes, filled}
 use Rattle.spl_edge.specs.declared.fill.Fill.{Fill}
 use Rattle.spl_edge.specs.declared.fill.Fill.TheVariants.{Old, New, Byte}
-use Rattle.spl_memory.specs.declared.mem_disk.Change.{Change}
-use Rattle.spl_memory.specs.declared.mem_disk.Change.TheVariants.{Wrote, Cut, Synced, Picked as MadePick}
-use Rattle.spl_memory.specs.declared.mem_disk.Call.{Call}
+use Rattle.spl_memory.specs.Changes.{Change, Wrote, Cut, Synced, Picked as MadePick, Call}
 use Rattle.spl_memory.specs.declared.mem_disk.Undo.{Undo}
 
 abbrev pub step : Change → Image → Image
-step (Wrote at bytes) i = after_write at bytes.items i
+step (Wrote at bytes) i = after_write at bytes i
 step (Cut n) i = after_cut n i
 step Synced i = after_sync i
 step (MadePick fill arming faults) i = settled_at (picked_bytes fill i)

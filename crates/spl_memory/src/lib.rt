@@ -3,6 +3,7 @@
 
 mod lane;
 mod lies;
+mod log;
 mod lying_disk;
 mod mem_disk;
 mod mem_fabric;

@@ -1,31 +1,16 @@
 //! A disk in memory, which keeps each change that was made to it.
-ghost use Rattle.std.specs.Prelude.{◌≡◌, ◌≤◌, ◌<◌, ◌+◌, ◌^◌, ◌++◌, ◌∷◌, [], true, Some, length, take, drop, map, OnOk, OnErr, IfOk, refl};
+ghost use Rattle.std.specs.Prelude.{◌≡◌, ◌≤◌, ◌<◌, ◌+◌, ◌^◌, ◌++◌, ◌∷◌, [], true, Some, length, vec_capacity, take, drop, map, OnOk, OnErr, IfOk, IsOk, refl};
 ghost use Rattle.spl_memory.specs.Replay.{replayed, until, all_until, picks_of, undone, back, range_of, filled_in, Pushed, IsHeld};
 ghost use Rattle.spl_edge.specs.Image.{Image, patched, after_write, after_sync, after_cut, settled_at};
 ghost use Rattle.spl_edge.specs.Picks.{filled, painted, picked_bytes, picked_of};
 ghost use Rattle.spl_edge.specs.Calls.{Passes, fails_at, armed_with};
 
+use crate::log::Log;
 use spl_edge::{Armed, Arming, DeviceError, Disk, Fill, StopDisk, count_fault};
 use std::alloc::{AllocError, Global};
 
 /// The most bytes that a disk has.
 pub(crate) const MOST: usize = i64::MAX as usize;
-
-/// A change of what a disk holds.
-#[derive(Drop)]
-pub enum Change {
-    Wrote(usize, Vec<u8>),
-    Cut(usize),
-    Synced,
-    Picked(Fill, Arming, u64),
-}
-
-/// A change, and the moment behind it.
-#[derive(Drop)]
-pub struct Call {
-    pub moment: u64,
-    pub change: Change,
-}
 
 /// What a change since the last sync took away: the bytes from an offset on, and the length.
 #[derive(Drop)]
@@ -41,15 +26,15 @@ pub struct MemDisk {
     alloc: Global,
     first: Vec<u8>,
     bytes: Vec<u8>,
-    calls: Vec<Call>,
+    calls: Log,
     undo: Vec<Undo>,
     moment: u64,
     number: u64,
     faults: u64,
     armed: Armed,
     failing: Vec<u64>,
-    ghost held: { IsHeld (settled_at first.items) calls.items bytes.items undo.items },
-    ghost timely: { all_until moment calls.items ≡ true },
+    ghost held: { IsHeld (settled_at first.items) calls bytes.items undo.items },
+    ghost timely: { all_until moment calls ≡ true },
 }
 
 fn fails(armed: Armed, moment: u64) -> bool
@@ -97,7 +82,7 @@ impl MemDisk {
             alloc,
             first: Vec::new(alloc),
             bytes: Vec::new(alloc),
-            calls: Vec::new(alloc),
+            calls: Log::new(alloc),
             undo: Vec::new(alloc),
             moment: 0,
             number: 0,
@@ -116,6 +101,7 @@ pub(crate) fn patch(bytes: &mut Vec<u8>, at: usize, piece: &[u8]) -> Result<(), 
     requires within { at ≤ length bytes.old.items }
     ensures ok { OnOk result (bytes.new.items ≡ patched bytes.old.items at piece.now) }
     ensures err { OnErr result (bytes.new.items ≡ bytes.old.items) }
+    ensures roomy { length bytes.old.items + length piece.now ≤ vec_capacity bytes.old → IsOk result }
 {
     let over = piece.len().min(bytes.len() - at);
     bytes.extend_from_slice(&piece[over..])?;
@@ -164,24 +150,24 @@ fn paint(bytes: &mut [u8], undo: &[Undo], byte: u8)
 fn wrote(
     alloc: Global,
     moment: u64,
-    calls: &mut Vec<Call>,
+    calls: &mut Log,
     undo: &mut Vec<Undo>,
     bytes: &mut Vec<u8>,
     at: usize,
     piece: &[u8],
 ) -> Result<(), AllocError>
     requires within { at ≤ length bytes.old.items }
-    ensures calls { OnOk result (Pushed moment (after_write at piece.now) (λ i. []) calls.old.items calls.new.items) }
-    ensures err { OnErr result (calls.new.items ≡ calls.old.items) }
-    ensures held { (i : Image) → IsHeld i calls.old.items bytes.old.items undo.old.items → IsHeld i calls.new.items bytes.new.items undo.new.items }
+    ensures calls { OnOk result (Pushed moment (after_write at piece.now) (λ i. []) calls.old calls.new) }
+    ensures err { OnErr result (calls.new ≡ calls.old) }
+    ensures held { (i : Image) → IsHeld i calls.old bytes.old.items undo.old.items → IsHeld i calls.new bytes.new.items undo.new.items }
 {
     let len = bytes.len();
     let over = piece.len().min(len - at);
     let old = bytes[at..at + over].to_vec(alloc)?;
-    let copy = piece.to_vec(alloc)?;
-    calls.try_reserve(1)?;
     undo.try_reserve(1)?;
-    patch(bytes, at, piece)?;
+    bytes.try_reserve(piece.len())?;
+    calls.wrote(moment, at, piece)?;
+    patch(bytes, at, piece).unwrap();
     undo.push(Undo {
         at,
         count: piece.len(),
@@ -189,28 +175,26 @@ fn wrote(
         len,
     })
     .unwrap();
-    let change = Change::Wrote(at, copy);
-    calls.push(Call { moment, change }).unwrap();
     Ok(())
 }
 
 fn cut_to(
     alloc: Global,
     moment: u64,
-    calls: &mut Vec<Call>,
+    calls: &mut Log,
     undo: &mut Vec<Undo>,
     bytes: &mut Vec<u8>,
     at: usize,
 ) -> Result<(), AllocError>
     requires within { at ≤ length bytes.old.items }
-    ensures calls { OnOk result (Pushed moment (after_cut at) (λ i. []) calls.old.items calls.new.items) }
-    ensures err { OnErr result (calls.new.items ≡ calls.old.items) }
-    ensures held { (i : Image) → IsHeld i calls.old.items bytes.old.items undo.old.items → IsHeld i calls.new.items bytes.new.items undo.new.items }
+    ensures calls { OnOk result (Pushed moment (after_cut at) (λ i. []) calls.old calls.new) }
+    ensures err { OnErr result (calls.new ≡ calls.old) }
+    ensures held { (i : Image) → IsHeld i calls.old bytes.old.items undo.old.items → IsHeld i calls.new bytes.new.items undo.new.items }
 {
     let len = bytes.len();
     let old = bytes[at..].to_vec(alloc)?;
-    calls.try_reserve(1)?;
     undo.try_reserve(1)?;
+    calls.cut(moment, at)?;
     bytes.truncate(at);
     undo.push(Undo {
         at,
@@ -219,42 +203,35 @@ fn cut_to(
         len,
     })
     .unwrap();
-    let change = Change::Cut(at);
-    calls.push(Call { moment, change }).unwrap();
     Ok(())
 }
 
 fn synced(
     moment: u64,
-    calls: &mut Vec<Call>,
+    calls: &mut Log,
     undo: &mut Vec<Undo>,
     bytes: &[u8],
 ) -> Result<(), AllocError>
-    ensures calls { OnOk result (Pushed moment after_sync (λ i. []) calls.old.items calls.new.items) }
-    ensures err { OnErr result (calls.new.items ≡ calls.old.items) }
-    ensures held { (i : Image) → IsHeld i calls.old.items bytes.now undo.old.items → IsHeld i calls.new.items bytes.now undo.new.items }
+    ensures calls { OnOk result (Pushed moment after_sync (λ i. []) calls.old calls.new) }
+    ensures err { OnErr result (calls.new ≡ calls.old) }
+    ensures held { (i : Image) → IsHeld i calls.old bytes.now undo.old.items → IsHeld i calls.new bytes.now undo.new.items }
 {
-    let change = Change::Synced;
-    calls.push(Call { moment, change })?;
+    calls.synced(moment)?;
     undo.clear();
     Ok(())
 }
 
 /// What a pick of this fill leaves.
-fn fill_in(alloc: Global, fill: Fill, undo: &[Undo], bytes: &mut Vec<u8>) -> Result<(), AllocError>
-    ensures ok { OnOk result (bytes.new.items ≡ filled_in fill undo.now bytes.old.items) }
-    ensures err { OnErr result (bytes.new.items ≡ bytes.old.items) }
+fn fill_in(alloc: Global, fill: Fill, undo: &[Undo], bytes: &[u8]) -> Result<Vec<u8>, AllocError>
+    ensures { IfOk result (λ filled. filled.items ≡ filled_in fill undo.now bytes.now) }
 {
     match fill {
-        Fill::Old => {
-            let old = old_bytes(alloc, bytes, undo)?;
-            *bytes = old;
-            Ok(())
-        }
-        Fill::New => Ok(()),
+        Fill::Old => old_bytes(alloc, bytes, undo),
+        Fill::New => bytes.to_vec(alloc),
         Fill::Byte(byte) => {
-            paint(bytes, undo, byte);
-            Ok(())
+            let mut filled = bytes.to_vec(alloc)?;
+            paint(&mut filled, undo, byte);
+            Ok(filled)
         }
     }
 }
@@ -265,19 +242,18 @@ fn picked(
     fill: Fill,
     arming: Arming,
     faults: u64,
-    calls: &mut Vec<Call>,
+    calls: &mut Log,
     undo: &mut Vec<Undo>,
     bytes: &mut Vec<u8>,
 ) -> Result<(), AllocError>
-    ensures calls { OnOk result (Pushed moment (λ i. settled_at (picked_bytes fill i)) (λ i. picked_of fill arming faults i ∷ []) calls.old.items calls.new.items) }
-    ensures err { OnErr result (calls.new.items ≡ calls.old.items) }
-    ensures held { (i : Image) → IsHeld i calls.old.items bytes.old.items undo.old.items → IsHeld i calls.new.items bytes.new.items undo.new.items }
+    ensures calls { OnOk result (Pushed moment (λ i. settled_at (picked_bytes fill i)) (λ i. picked_of fill arming faults i ∷ []) calls.old calls.new) }
+    ensures err { OnErr result (calls.new ≡ calls.old) }
+    ensures held { (i : Image) → IsHeld i calls.old bytes.old.items undo.old.items → IsHeld i calls.new bytes.new.items undo.new.items }
 {
-    calls.try_reserve(1)?;
-    fill_in(alloc, fill, undo, bytes)?;
+    let filled = fill_in(alloc, fill, undo, bytes)?;
+    calls.picked(moment, fill, arming, faults)?;
+    *bytes = filled;
     undo.clear();
-    let change = Change::Picked(fill, arming, faults);
-    calls.push(Call { moment, change }).unwrap();
     Ok(())
 }
 

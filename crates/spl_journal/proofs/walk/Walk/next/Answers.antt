@@ -1,4 +1,4 @@
-use Rattle.std.proofs.Common.{◌≡◌, ◌∙◌, ◌++◌, ◌∷◌, [], ◌+◌, ◌<◌, ℕ, List, Option, Err, Vec, Global, length, IfSome, ap, sym, subst, arith}
+use Rattle.std.proofs.Common.{◌≡◌, ◌++◌, ◌∷◌, [], ◌+◌, ◌<◌, ℕ, List, Option, Err, Vec, Global, length, IfSome, ap, sym, subst, arith}
 use Rattle.spl_journal.specs.Records.{records, records_before, IsGood}
 use Rattle.spl_journal.specs.Reads.{IsNext}
 use Rattle.spl_journal.specs.declared.form.JournalFault.TheVariants.{NotAJournal}
@@ -23,11 +23,11 @@ returns-clause-walks g c =
 pub returns-clause-good : goal.returns-clause-good
 returns-clause-good g c =
     let found = subst (λ (o : Option (Vec ℕ Global)). IfSome o (λ r. IsGood g.R.Form.is_record r.items × IfSome (g.D.Disk.image_at c.args.disk.now (g.D.Disk.moment c.args.disk.now)) (λ i. c.args.self.now.at < length i.bytes → IsNext g.R.Form.is_record c.args.self.now.at r.items i.bytes))) c.in-Some.is c.in-Ok.ensures.next in
-    subst (λ (l : List ℕ). IsGood g.R.Form.is_record l) (sym (c.in-Ok-from.ensures ∙ c.deref.ensures.value)) found.0
+    subst (λ (l : List ℕ). IsGood g.R.Form.is_record l) (sym c.from_vec.ensures) found.0
 
 pub returns-clause-next : goal.returns-clause-next
 returns-clause-next g c =
     let place : c.args.self.now.at + 5 + c.len.result ≡ c.args.self.now.at + 5 + length c.in-Some.record.items = omega (arith, c.len.ensures) in
     let found = subst (λ (o : Option (Vec ℕ Global)). IfSome o (λ r. IsGood g.R.Form.is_record r.items × IfSome (g.D.Disk.image_at c.args.disk.now (g.D.Disk.moment c.args.disk.now)) (λ i. c.args.self.now.at < length i.bytes → IsNext g.R.Form.is_record c.args.self.now.at r.items i.bytes))) c.in-Some.is c.in-Ok.ensures.next in
-    subst (λ (l : List ℕ). IfSome (g.D.Disk.image_at c.args.disk.now (g.D.Disk.moment c.args.disk.now)) (λ i. records_before g.R.Form.is_record (c.args.self.now.at + 5 + c.len.result) i.bytes ≡ records_before g.R.Form.is_record c.args.self.now.at i.bytes ++ l ∷ [])) (sym (c.in-Ok-from.ensures ∙ c.deref.ensures.value))
+    subst (λ (l : List ℕ). IfSome (g.D.Disk.image_at c.args.disk.now (g.D.Disk.moment c.args.disk.now)) (λ i. records_before g.R.Form.is_record (c.args.self.now.at + 5 + c.len.result) i.bytes ≡ records_before g.R.Form.is_record c.args.self.now.at i.bytes ++ l ∷ [])) (sym c.from_vec.ensures)
     (walk_gave g.R.Form.is_record c.args.self.now.at c.args.self.now.extent c.args.self.now.epoch c.args.self.now.ended c.in-Some.record.items (c.args.self.now.at + 5 + c.len.result) place (g.D.Disk.image_at c.args.disk.now (g.D.Disk.moment c.args.disk.now)) c.requires.walks found.1)
