@@ -14,7 +14,6 @@ use Rattle.spl_world.proofs.Results.{at_ok, when_ok}
 use Rattle.spl_world.proofs.Up.{node_up}
 use Rattle.spl_world.proofs.Ending.{any_fault, still_ended}
 use Rattle.spl_world.specs.Ended.{EventEnds}
-use Rattle.spl_world.specs.Disks.{images}
 use Rattle.std.specs.Prelude.{IfErr}
 use Rattle.spl_world.proofs.world.World.deliver.Given.{Over}
 use Rattle.spl_world.proofs.world.World.deliver.Goals as goal
@@ -51,11 +50,12 @@ returns-in-None-clause-disks g c = leaves_same _ _
 
 -- ---- an error
 
-pub returns-in_err-message-in-Some-clause-ended : goal.returns-in_err-message-in-Some-clause-ended
-returns-in_err-message-in-Some-clause-ended g c = λ m a b h at to.
+pub returns-in_err-delivery-clause-ended : goal.returns-in_err-delivery-clause-ended
+returns-in_err-delivery-clause-ended g c = λ m a b h at to.
     let xs = (seen g.D.Disk.image_at g.D.Disk.moment c.args.self.now c.args.pairs.now.items) in
     any_fault c.from_residual.result (λ e. EventEnds c.args.circuit (step_world m (step.Deliver a b c.args.circuit (c.args.index + 1))) e xs xs.disks) (λ e. still_ended c.args.circuit (step_world m (step.Deliver a b c.args.circuit (c.args.index + 1))) e xs)
 
-pub returns-clause-ended : goal.returns-clause-ended
-returns-clause-ended g c = λ m a b h at to.
-    subst (λ (w : CircuitWorld). IfErr c.handle.result (λ e. EventEnds c.args.circuit w e (seen g.D.Disk.image_at g.D.Disk.moment c.args.self.now c.args.pairs.now.items) (images g.D.Disk.image_at g.D.Disk.moment c.handle.new.pairs.items))) (ap (carried_out m b) (one g c m a b h at to)) (c.handle.ensures.ended m b h to)
+pub returns-in-Some-clause-ended : goal.returns-in-Some-clause-ended
+returns-in-Some-clause-ended g c = λ m a b h at to.
+    let same = delivered_as m c.args.circuit a b c.args.index c.in-Some.event (sym c.in-Some.is ∙ c.in_ok-delivery.ensures.event (images g.D.Disk.image_at g.D.Disk.moment c.args.pairs.now.items) m a b h at to) (node_up c.args.circuit m (seen g.D.Disk.image_at g.D.Disk.moment c.args.self.now c.args.pairs.now.items) c.args.to b h to c.requires.up) in
+    subst (λ (w : CircuitWorld). IfErr c.handle.result (λ e. EventEnds c.args.circuit w e (seen g.D.Disk.image_at g.D.Disk.moment c.args.self.now c.args.pairs.now.items) (images g.D.Disk.image_at g.D.Disk.moment c.handle.new.pairs.items))) (ap (carried_out m b) same) (c.handle.ensures.ended m b h to)
