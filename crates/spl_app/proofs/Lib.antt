@@ -4,6 +4,7 @@ mod Benches
 mod Blanks
 mod Dues
 mod Events
+mod Fed
 mod Feeds
 mod Given
 mod Holds

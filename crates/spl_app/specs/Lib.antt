@@ -7,3 +7,4 @@ pub mod Behind
 pub mod Schedule
 pub mod Registered
 pub mod Statuses
+pub mod Feed

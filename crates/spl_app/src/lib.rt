@@ -5,6 +5,7 @@
 mod agree;
 mod bench;
 mod fault;
+mod feed;
 mod lines;
 mod output;
 mod registered;
