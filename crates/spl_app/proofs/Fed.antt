@@ -96,7 +96,7 @@ a_feed (b ∷ front) rest =
     let more = a_feed front rest in
     grind (arith, nat_tests)
 
-rest_feed : (front ys : List ℕ) → rest_of (front ++ 10 ∷ ys) ≡ rest_of ys
+pub rest_feed : (front ys : List ℕ) → rest_of (front ++ 10 ∷ ys) ≡ rest_of ys
 rest_feed [] ys = refl
 rest_feed (b ∷ front) ys = ap (λ (t : Bool). if t then rest_of (front ++ 10 ∷ ys) else b ∷ front ++ 10 ∷ ys) (a_feed (b ∷ front) ys) ∙ rest_feed front ys
 

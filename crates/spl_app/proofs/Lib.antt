@@ -3,6 +3,7 @@ mod Behinds
 mod Benches
 mod Blanks
 mod Dues
+mod Ends
 mod Events
 mod Fed
 mod Feeds
@@ -11,4 +12,5 @@ mod Holds
 mod Outputs
 mod Registries
 mod Runs
+mod Texts
 mod Words

@@ -3,3 +3,4 @@ mod Bounds
 mod Counts
 mod Texts
 mod Parts
+mod Free

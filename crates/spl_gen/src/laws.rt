@@ -4,7 +4,7 @@ ghost use Rattle.std.specs.List.{list_all};
 ghost use Rattle.spl_circuit.specs.Nodes.{has_node};
 ghost use Rattle.spl_sched.specs.Grammar.{is_line, line_of, nodes_of, spelling};
 ghost use Rattle.spl_gen.specs.Circuits.{nodes};
-ghost use Rattle.spl_gen.specs.Generated.{generated};
+ghost use Rattle.spl_gen.specs.Generated.{generated, lacks_feed};
 
 use spl_sched::lines_are_read_back;
 
@@ -17,6 +17,11 @@ pub fn generated_lines_are_lines()
 {
     lines_are_read_back();
 }
+
+/// No line has a line feed, so each ends at its own.
+pub fn generated_lines_lack_feeds()
+    ensures { (n seed : ℕ) → n < 2 ^ 64 → IsTrue (list_all (λ l. lacks_feed (spelling l)) (generated n seed)) }
+{}
 
 /// There are 27 lines, two for each batch, and two for each fifty of them.
 pub fn generated_lines_are_counted()
