@@ -12,5 +12,6 @@ mod Holds
 mod Outputs
 mod Registries
 mod Runs
+mod Takes
 mod Texts
 mod Words

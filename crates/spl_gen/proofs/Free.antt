@@ -1,11 +1,11 @@
 -- No generated line has a line feed.
-use Rattle.std.proofs.Common.{◌≡◌, ◌≢◌, ℕ, suc, zero, ◌+◌, ◌*◌, ◌/◌, ◌%◌, ◌^◌, ◌<◌, ◌≤◌, Bool, true, false, not, ◌&&◌, eqb, ltb, cond, List, [], ◌∷◌, ◌++◌, map, IsTrue, refl, ap, ◌∙◌, sym, subst, arith}
-use Rattle.std.specs.Prelude.{◌==◌, nat_lt, codes, decimal}
+use Rattle.std.proofs.Common.{◌≡◌, ◌≢◌, ℕ, ◌+◌, ◌/◌, ◌%◌, ◌^◌, ◌<◌, Bool, true, false, not, ◌&&◌, ltb, cond, List, [], ◌∷◌, ◌++◌, IsTrue, refl, ap, ◌∙◌, arith}
+use Rattle.std.specs.Prelude.{◌==◌, codes, decimal}
 use Rattle.std.specs.Fmt.{digits}
 use Rattle.std.specs.List.{list_all, flat_map, join_with_byte}
 use Rattle.std.specs.Int.{w32, to_be_bytes}
 use Rattle.std.proofs.lemmas.Nat.{mod_below}
-use Rattle.std.proofs.lemmas.Bool.{and_parts, and_from, ne_eqb, ltb-true}
+use Rattle.std.proofs.lemmas.Bool.{and_parts, and_from, ne_eqb}
 use Rattle.std.proofs.lemmas.Fmt.{decimal_by_steps}
 use Rattle.std.proofs.lemmas.List.Folds.{list_all-append}
 use Rattle.spl_wire.specs.declared.event.Event.TheVariants.{Submit}
@@ -18,7 +18,7 @@ use Rattle.spl_gen.specs.declared.circuit.Circuit.TheVariants.{First, Second, Th
 use Rattle.spl_gen.specs.Draws.{next, draw}
 use Rattle.spl_gen.specs.Circuits.{node, circuits, id, member, circuit_of}
 use Rattle.spl_gen.specs.Batches.{address, batch}
-use Rattle.spl_gen.specs.Generated.{at, settled, opened, submitted, restart, restarted, roots, generated, lacks_feed}
+use Rattle.spl_gen.specs.Generated.{at, opened, submitted, restart, restarted, generated, lacks_feed}
 use Rattle.spl_gen.proofs.Items.{node_passes, member_passes}
 use Rattle.spl_gen.proofs.Bounds.{Passes, both, generated_pass, restarted_pass}
 

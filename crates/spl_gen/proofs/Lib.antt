@@ -4,3 +4,4 @@ mod Counts
 mod Texts
 mod Parts
 mod Free
+mod Lengths

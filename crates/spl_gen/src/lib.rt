@@ -10,5 +10,5 @@ mod lines;
 
 pub use generate::{MOST_BATCHES, schedule};
 pub use laws::{
-    generated_lines_are_counted, generated_lines_are_lines, generated_lines_lack_feeds,
+    generated_lines_are_counted, generated_lines_are_lines, generated_lines_are_spelled,
 };
