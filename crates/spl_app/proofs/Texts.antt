@@ -1,10 +1,10 @@
 -- A text that is made of lines, each with its line feed.
-use Rattle.std.proofs.Common.{◌≡◌, ◌≢◌, ℕ, Bool, true, false, not, ◌&&◌, ◌==◌, List, [], ◌∷◌, ◌++◌, map, IsTrue, refl, sym, ◌∙◌, ap, subst, arith, append_assoc}
+use Rattle.std.proofs.Common.{◌≡◌, ◌≢◌, ℕ, not, ◌==◌, List, [], ◌∷◌, ◌++◌, map, IsTrue, refl, ◌∙◌, ap, arith, append_assoc}
 use Rattle.std.specs.List.{list_all, flat_map}
 use Rattle.std.proofs.lemmas.Bool.{and_parts}
 use Rattle.std.proofs.lemmas.Bool.Decides.{nat_tests}
 use Rattle.spl_app.specs.Lines.{lines_of, rest_of}
-use Rattle.spl_app.proofs.Feeds.{NoFeed, lines_first, rest_none}
+use Rattle.spl_app.proofs.Feeds.{NoFeed, lines_first}
 use Rattle.spl_app.proofs.Fed.{rest_feed}
 
 other_byte : (b : ℕ) → IsTrue (not (b == 10)) → b ≢ 10

@@ -1,4 +1,4 @@
-use Rattle.std.proofs.Common.{◌≡◌, arith, rules, decimal, string_bytes, codes, ap, sym, ◌∙◌}
+use Rattle.std.proofs.Common.{arith, rules}
 use Rattle.spl_app.proofs.Words.{gens}
 use Rattle.spl_app.proofs.command.read_gen.Goals as goal
 

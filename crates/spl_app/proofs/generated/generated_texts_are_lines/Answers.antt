@@ -1,4 +1,4 @@
-use Rattle.std.proofs.Common.{List, sym, subst}
+use Rattle.std.proofs.Common.{sym, subst}
 use Rattle.std.specs.List.{AllByRecursion}
 use Rattle.spl_sched.specs.Grammar.{spelling}
 use Rattle.spl_gen.specs.Circuits.{nodes}
