@@ -15,7 +15,7 @@ pub NoFeed-push : (bytes : List ℕ) (b : ℕ) → NoFeed bytes → b ≢ 10 →
 NoFeed-push [] b none other = (other, tt)
 NoFeed-push (a ∷ bytes) b none other = (none.0, NoFeed-push bytes b none.1 other)
 
-lines-other : (b : ℕ) (bytes : List ℕ) → b ≢ 10 → lines_of (b ∷ bytes) ≡ onto_line b (lines_of bytes)
+pub lines-other : (b : ℕ) (bytes : List ℕ) → b ≢ 10 → lines_of (b ∷ bytes) ≡ onto_line b (lines_of bytes)
 lines-other b bytes other = grind (arith, nat_tests)
 
 pub lines_none : (bytes : List ℕ) → NoFeed bytes → lines_of bytes ≡ []
@@ -26,7 +26,7 @@ pub lines_first : (line rest : List ℕ) → NoFeed line → lines_of (line ++ 1
 lines_first [] rest none = refl
 lines_first (b ∷ line) rest none = lines-other b (line ++ 10 ∷ rest) none.0 ∙ ap (onto_line b) (lines_first line rest none.1)
 
-no_feed : (bytes : List ℕ) → NoFeed bytes → has_feed bytes ≡ false
+pub no_feed : (bytes : List ℕ) → NoFeed bytes → has_feed bytes ≡ false
 no_feed [] none = refl
 no_feed (b ∷ bytes) none =
     let other = none.0 in
