@@ -12,8 +12,8 @@ use Rattle.std.specs.Io.{appended_bytes}
 use Rattle.std.specs.Io.KnownBytes.{Consumes}
 use Rattle.spl_app.specs.declared.feed.Feed.{Feed}
 use Rattle.spl_app.specs.Lines.{lines_of, onto_line, has_feed, rest_of, limit, longest_line}
-use Rattle.spl_app.specs.Schedule.{had}
-use Rattle.spl_app.specs.Feed.{IsFed, IsOverlong, Feeds, waiting, count_of}
+use Rattle.spl_app.specs.Schedule.{IsOverlong, had}
+use Rattle.spl_app.specs.Feed.{IsFed, Feeds, waiting, count_of}
 use Rattle.spl_app.proofs.Given.{limit_is}
 use Rattle.spl_app.proofs.Feeds.{NoFeed, NoFeed_more, no_feed, lines-other, lines_none, lines_first, rest_none, split_at}
 

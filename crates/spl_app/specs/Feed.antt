@@ -1,8 +1,8 @@
 -- What a feed has read of a source and not given yet, and the lines that it gave (docs/RULES.md, Schedules).
-use Rattle.std.specs.Prelude.{◌≡◌, ◌-◌, ◌<◌, ℕ, List, ◌++◌, Option, Bool, false, Result, Ok, Err, length, take, drop}
+use Rattle.std.specs.Prelude.{◌≡◌, ◌-◌, ℕ, List, ◌++◌, Option, Bool, false, Result, Ok, Err, length, take, drop}
 use Rattle.std.specs.Io.{appended_bytes}
 use Rattle.std.specs.Io.KnownBytes.{Consumes}
-use Rattle.spl_app.specs.Lines.{lines_of, rest_of, longest_line, limit}
+use Rattle.spl_app.specs.Lines.{lines_of, rest_of, limit}
 use Rattle.spl_app.specs.declared.feed.Feed.{Feed}
 
 -- the bytes within the limit that were read and not given yet
@@ -33,7 +33,3 @@ pub record Feeds (before : List ℕ) (had : Option (List ℕ)) (lines : List (Li
   pub told : taken ≡ before ++ appended_bytes before taken
   pub consumed : Consumes had left (appended_bytes before taken)
   pub fed : IsFed (appended_bytes before taken) lines (waiting feed) (count_of feed)
-
--- a line is too long already: its line feed didn't come within the limit
-pub record IsOverlong (given : List ℕ) : Type 0 where
-  pub over : longest_line < length (rest_of (take limit given))

@@ -14,9 +14,9 @@ returns-clause-lines c = λ n seed lt. lines_text spelling (generated n seed) (c
 
 pub returns-clause-good : goal.returns-clause-good
 unfolding text_of
-returns-clause-good c = λ n seed lt takes.
+returns-clause-good c = λ n seed lt.
     subst (AllByRecursion (IsLine nodes)) (sym (lines_text spelling (generated n seed) (c.generated_lines_are_spelled.ensures.lacking n seed lt)))
-    (all_taken nodes (generated n seed) (c.generated_lines_are_spelled.ensures.short n seed lt) (c.generated_lines_are_lines.ensures.read_back n seed lt) (c.generated_lines_are_lines.ensures.nodes n seed) takes)
+    (all_taken nodes (generated n seed) (c.generated_lines_are_spelled.ensures.short n seed lt) (c.generated_lines_are_lines.ensures.read_back n seed lt) (c.generated_lines_are_lines.ensures.nodes n seed))
 
 pub returns-clause-rest : goal.returns-clause-rest
 unfolding text_of

@@ -84,3 +84,6 @@ pieces-preserved g c =
           c.fill.ensures.taken c.fill.ensures.left c.fill.ensures.waits c.fill.ensures.count;
       later = search rules;
     }
+
+pub returns-in-Err-Failed-clause-read : goal.returns-in-Err-Failed-clause-read
+returns-in-Err-Failed-clause-read g c = λ is. (search rules, omega (arith, limit_is, c.fill.ensures.count, ap length c.in-Err-Failed.ensures.none))
