@@ -1,6 +1,6 @@
--- How a text splits at its first line feed, and at its last.
-use Rattle.std.proofs.Common.{◌≡◌, ◌≢◌, ⊎_elim, ℕ, Bool, true, false, if◌then◌else◌, ◌+◌, ◌-◌, ◌<◌, ◌≤◌, List, [], ◌∷◌, ◌++◌, length, get_or, take, drop, refl, sym, ◌∙◌, ap, subst, arith, take-append-drop, length-drop}
-use Rattle.std.proofs.lemmas.List.{take_more, drop_more, take_rest}
+-- How a text splits at its line feeds.
+use Rattle.std.proofs.Common.{◌≡◌, ◌≢◌, ⊎_elim, ℕ, Bool, false, if◌then◌else◌, ◌+◌, ◌<◌, List, [], ◌∷◌, ◌++◌, length, get_or, take, drop, refl, sym, ◌∙◌, ap, subst, arith, take-append-drop}
+use Rattle.std.proofs.lemmas.List.{take_more, drop_more}
 use Rattle.std.proofs.lemmas.Bool.{cases_eq}
 use Rattle.std.proofs.lemmas.Bool.Decides.{nat_tests}
 use Rattle.std.specs.List.{AllByRecursion}
@@ -15,7 +15,7 @@ pub NoFeed-push : (bytes : List ℕ) (b : ℕ) → NoFeed bytes → b ≢ 10 →
 NoFeed-push [] b none other = (other, tt)
 NoFeed-push (a ∷ bytes) b none other = (none.0, NoFeed-push bytes b none.1 other)
 
-lines-other : (b : ℕ) (bytes : List ℕ) → b ≢ 10 → lines_of (b ∷ bytes) ≡ onto_line b (lines_of bytes)
+pub lines-other : (b : ℕ) (bytes : List ℕ) → b ≢ 10 → lines_of (b ∷ bytes) ≡ onto_line b (lines_of bytes)
 lines-other b bytes other = grind (arith, nat_tests)
 
 pub lines_none : (bytes : List ℕ) → NoFeed bytes → lines_of bytes ≡ []
@@ -26,27 +26,16 @@ pub lines_first : (line rest : List ℕ) → NoFeed line → lines_of (line ++ 1
 lines_first [] rest none = refl
 lines_first (b ∷ line) rest none = lines-other b (line ++ 10 ∷ rest) none.0 ∙ ap (onto_line b) (lines_first line rest none.1)
 
-no_feed : (bytes : List ℕ) → NoFeed bytes → has_feed bytes ≡ false
+pub no_feed : (bytes : List ℕ) → NoFeed bytes → has_feed bytes ≡ false
 no_feed [] none = refl
 no_feed (b ∷ bytes) none =
     let other = none.0 in
     let rest = no_feed bytes none.1 in
     grind (arith, nat_tests)
 
-a_feed : (front rest : List ℕ) → has_feed (front ++ 10 ∷ rest) ≡ true
-a_feed [] rest = refl
-a_feed (b ∷ front) rest =
-    let more = a_feed front rest in
-    grind (arith, nat_tests)
-
 pub rest_none : (bytes : List ℕ) → NoFeed bytes → rest_of bytes ≡ bytes
 rest_none [] none = refl
 rest_none (b ∷ bytes) none = ap (λ (t : Bool). if t then rest_of bytes else b ∷ bytes) (no_feed (b ∷ bytes) none)
-
-pub rest_behind : (front rest : List ℕ) → NoFeed rest → rest_of (front ++ 10 ∷ rest) ≡ rest
-rest_behind [] rest none = rest_none rest none
-rest_behind (b ∷ front) rest none =
-    ap (λ (t : Bool). if t then rest_of (front ++ 10 ∷ rest) else b ∷ front ++ 10 ∷ rest) (a_feed (b ∷ front) rest) ∙ rest_behind front rest none
 
 onto_more : (b : ℕ) (xs more : List (List ℕ)) → (rest : List (List ℕ)) × (onto_line b (xs ++ more) ≡ onto_line b xs ++ rest)
 onto_more b [] more = (onto_line b more, refl)
@@ -74,20 +63,3 @@ split_at bytes i within feed =
 
 pub NoFeed_more : (bytes : List ℕ) (i : ℕ) → i < length bytes → NoFeed (take i bytes) → get_or bytes i 0 ≢ 10 → NoFeed (take (i + 1) bytes)
 NoFeed_more bytes i within none other = subst NoFeed (sym (take_more bytes i 0 within)) (NoFeed-push (take i bytes) (get_or bytes i 0) none other)
-
--- the parts of a text round its first line feed
-pub first_parts : (bytes : List ℕ) (i : ℕ) → i < length bytes → NoFeed (take i bytes) → get_or bytes i 0 ≡ 10
-    → let rest = take (length bytes - (i + 1)) (drop (i + 1) bytes) in (lines_of bytes ≡ take i bytes ∷ lines_of rest) × (length rest < length bytes)
-first_parts bytes i within none feed =
-    let same : bytes ≡ take i bytes ++ 10 ∷ drop (i + 1) bytes = split_at bytes i within feed in
-    rw take_rest (
-      ap lines_of same ∙ lines_first (take i bytes) (drop (i + 1) bytes) none,
-      omega (arith, length-drop (i + 1) bytes),
-    )
-
--- the bytes behind the last line feed, from the back
-pub last_part : (bytes : List ℕ) (from : ℕ) → 0 < from → from ≤ length bytes → NoFeed (drop from bytes) → get_or bytes (from - 1) 0 ≡ 10 → take (length bytes - from) (drop from bytes) ≡ rest_of bytes
-last_part bytes from some within none feed =
-    let here : from - 1 + 1 ≡ from = omega arith in
-    let same = split_at bytes (from - 1) (omega arith) feed ∙ ap (λ (n : ℕ). take (from - 1) bytes ++ 10 ∷ drop n bytes) here in
-    rw take_rest (sym (ap rest_of same ∙ rest_behind (take (from - 1) bytes) (drop from bytes) none))

@@ -3,7 +3,9 @@ mod Behinds
 mod Benches
 mod Blanks
 mod Dues
+mod Ends
 mod Events
+mod Fed
 mod Feeds
 mod Given
 mod Halts
@@ -11,4 +13,6 @@ mod Holds
 mod Outputs
 mod Registries
 mod Runs
+mod Takes
+mod Texts
 mod Words

@@ -1,10 +1,11 @@
--- The lines so far, and those that are left.
-use Rattle.std.proofs.Common.{◌≡◌, ℕ, ◌+◌, ◌-◌, ◌<◌, ◌≤◌, List, [], ◌∷◌, ◌++◌, Option, length, take, drop, sym, ◌∙◌, ap, subst, arith, append_assoc, append-nil, length-drop, take-append-drop, take-add}
-use Rattle.std.proofs.lemmas.List.{length-take-le, drop-drop}
+-- The lines so far, and the next.
+use Rattle.std.proofs.Common.{◌≡◌, ℕ, ◌+◌, ◌-◌, List, [], ◌∷◌, ◌++◌, Option, length, take, drop, refl, sym, ◌∙◌, ap, subst, arith, append_assoc}
+use Rattle.std.proofs.Math.Seq.{take-append_seam}
+use Rattle.std.proofs.lemmas.List.{drop_at}
 use Rattle.std.specs.List.{AllByRecursion}
 use Rattle.spl_circuit.specs.Nodes.{Node}
 use Rattle.spl_app.specs.Due.{IsDuePart}
-use Rattle.spl_app.specs.Run.{IsLine, IsRun, Reason, StopsFor, StopsAt, numbered, ran, outputs, answers}
+use Rattle.spl_app.specs.Run.{HasFront, IsLine, IsRun, Reason, StopsFor, StopsAt, numbered, ran, outputs, answers}
 use Rattle.spl_app.proofs.Dues.{part_more}
 use Rattle.spl_app.proofs.Outputs.{answers-append}
 
@@ -12,47 +13,36 @@ pub all-push : (ns : List Node) (xs : List (List ℕ)) (x : List ℕ) → AllByR
 all-push ns [] x all good = (good, tt)
 all-push ns (y ∷ xs) x all good = (all.0, all-push ns xs x all.1 good)
 
-module _ (lines : List (List ℕ)) (count : ℕ) (counted : count ≤ length lines) where
-  whole : (rest : List (List ℕ)) → drop count lines ≡ rest → lines ≡ take count lines ++ rest
-  whole rest left = sym (take-append-drop count lines) ∙ ap (λ (l : List (List ℕ)). take count lines ++ l) left
+-- a line more, and what stands behind it
+module _ (front : List (List ℕ)) (line : List ℕ) (rest all : List (List ℕ)) (is : all ≡ (front ++ line ∷ []) ++ rest) where
+  whole : all ≡ front ++ line ∷ rest
+  whole = is ∙ append_assoc front (line ∷ []) rest
 
-  pub next_number : count + 1 ≡ length (take count lines) + 1
-  next_number = omega (arith, length-take-le count lines counted)
+  first : take (length front) all ≡ front
+  first = ap (λ (ls : List (List ℕ)). take (length front) ls) whole ∙ take-append_seam front (line ∷ rest)
 
-  -- none is left
-  pub none_left : drop count lines ≡ [] → take count lines ≡ lines
-  none_left left = sym (whole [] left ∙ append-nil (take count lines))
+  -- the lines before the one with this number
+  pub before_it : (number : ℕ) → number ≡ length front + 1 → take (number - 1) all ≡ front
+  before_it number counted =
+      let same : number - 1 ≡ length front = omega arith in
+      rw same first
 
-  pub all_counted : drop count lines ≡ [] → count ≡ length lines
-  all_counted left = omega (arith, ap length left, length-drop count lines)
+  pub part_of_all : (ns : List Node) (a b : Option (List ℕ)) (waiting : List ℕ) → IsDuePart a b waiting (answers ns (front ++ line ∷ [])) → IsDuePart a b waiting (answers ns all)
+  part_of_all ns a b waiting part =
+      let more = outputs ns (ran (front ++ line ∷ [])) (numbered (1 + length (front ++ line ∷ [])) rest) in
+      subst (IsDuePart a b waiting) (sym (ap (answers ns) is ∙ answers-append ns (front ++ line ∷ []) rest)) (part_more a b waiting (answers ns (front ++ line ∷ [])) more part)
 
-  -- a line more
-  module _ (line : List ℕ) (rest : List (List ℕ)) (left : drop count lines ≡ line ∷ rest) where
-    pub within : count < length lines
-    within = omega (arith, ap length left, length-drop count lines)
+  pub stops_at : (ns : List Node) (why : Reason) → IsRun ns front → StopsFor ns why front line → (number : ℕ) → number ≡ length front + 1 → StopsAt ns why all number
+  stops_at ns why run stops number counted =
+      let same : number - 1 ≡ length front = omega arith in
+      record {
+        line = line;
+        behind = rest;
+        counted = omega arith;
+        before = subst (IsRun ns) (sym (before_it number counted)) run;
+        place = rw same (ap (λ (ls : List (List ℕ)). drop (length front) ls) whole ∙ drop_at front (line ∷ rest) (length front) refl);
+        stops = subst (λ (ls : List (List ℕ)). StopsFor ns why ls line) (sym (before_it number counted)) stops;
+      }
 
-    pub taken : take (count + 1) lines ≡ take count lines ++ line ∷ []
-    taken = take-add count 1 lines ∙ ap (λ (l : List (List ℕ)). take count lines ++ take 1 l) left
-
-    pub behind : drop (count + 1) lines ≡ rest
-    behind = sym (drop-drop 1 count lines) ∙ ap (λ (l : List (List ℕ)). drop 1 l) left
-
-    pub part_of_all : (ns : List Node) (a b : Option (List ℕ)) (waiting : List ℕ) → IsDuePart a b waiting (answers ns (take count lines ++ line ∷ [])) → IsDuePart a b waiting (answers ns lines)
-    part_of_all ns a b waiting part =
-        let front = take count lines ++ line ∷ [] in
-        let more = outputs ns (ran front) (numbered (1 + length front) rest) in
-        let all : answers ns lines ≡ answers ns front ++ more =
-        ap (answers ns) (whole (line ∷ rest) left ∙ sym (append_assoc (take count lines) (line ∷ []) rest)) ∙ answers-append ns front rest in
-        subst (IsDuePart a b waiting) (sym all) (part_more a b waiting (answers ns front) more part)
-
-    pub stops_at : (ns : List Node) (why : Reason) → IsRun ns (take count lines) → StopsFor ns why (take count lines) line → (number : ℕ) → number ≡ count + 1 → StopsAt ns why lines number
-    stops_at ns why run stops number is =
-        let same : number - 1 ≡ count = omega arith in
-        record {
-          line = line;
-          behind = rest;
-          counted = omega arith;
-          before = rw same run;
-          place = rw same left;
-          stops = rw same stops;
-        }
+  pub front_of_all : (ns : List Node) (P : List (List ℕ) → Type 0) → IsRun ns front → P front → HasFront ns all P
+  front_of_all ns P run holds = record { count = length front; run = subst (IsRun ns) (sym first) run; holds = subst P (sym first) holds }

@@ -1,5 +1,5 @@
 -- The words of a command line.
-use Rattle.std.proofs.Common.{◌≡◌, List, [], ◌∷◌, length, get_or, map, arith, Global, String, string_bytes, codes}
+use Rattle.std.proofs.Common.{◌≡◌, ℕ, List, [], ◌∷◌, length, get_or, map, arith, Global, String, string_bytes, codes}
 use Rattle.spl_app.specs.Schedule.{IsReplay}
 
 pub replays : (words : List (String Global)) (first : String Global) → length words ≡ 3 → first ≡ get_or words 0 first → ((string_bytes first ≡ codes "replay") → IsReplay (map string_bytes words)) × (IsReplay (map string_bytes words) → string_bytes first ≡ codes "replay")
@@ -8,3 +8,11 @@ replays (a ∷ []) first long is = absurd (omega arith)
 replays (a ∷ b ∷ []) first long is = absurd (omega arith)
 replays (a ∷ b ∷ c ∷ []) first long is = (λ same. (string_bytes b, string_bytes c, cc), λ (x, y, same). cc)
 replays (a ∷ b ∷ c ∷ d ∷ words) first long is = absurd (omega arith)
+
+pub gens : (words : List (String Global)) (first batches seed : String Global) (n k : List ℕ) → length words ≡ 3 → first ≡ get_or words 0 first → batches ≡ get_or words 1 batches → seed ≡ get_or words 2 seed
+    → string_bytes first ≡ codes "gen" → string_bytes batches ≡ n → string_bytes seed ≡ k → map string_bytes words ≡ codes "gen" ∷ n ∷ k ∷ []
+gens [] first batches seed n k long f b s named is same = absurd (omega arith)
+gens (x ∷ []) first batches seed n k long f b s named is same = absurd (omega arith)
+gens (x ∷ y ∷ []) first batches seed n k long f b s named is same = absurd (omega arith)
+gens (x ∷ y ∷ z ∷ []) first batches seed n k long f b s named is same = cc
+gens (x ∷ y ∷ z ∷ w ∷ words) first batches seed n k long f b s named is same = absurd (omega arith)

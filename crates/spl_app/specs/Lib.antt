@@ -6,3 +6,5 @@ pub mod Behind
 pub mod Schedule
 pub mod Registered
 pub mod Statuses
+pub mod Feed
+pub mod Command

@@ -30,16 +30,15 @@ pub record IsUnfinished (given : List ℕ) (left : Option (List ℕ)) : Type 0 w
   pub short : length given ≤ limit
   pub more : rest_of given ≢ []
 
--- the limit cuts a line that is too long already
-pub record IsCut (given : List ℕ) : Type 0 where
-  pub long : limit < length given
+-- a line is too long already: its line feed didn't come within the limit
+pub record IsOverlong (given : List ℕ) : Type 0 where
   pub over : longest_line < length (rest_of (take limit given))
 
 -- a run answers the lines given, and the one behind them, with this number, is none of a schedule: it lacks its line feed or is too long
 pub record IsBadRest (ns : List Node) (given : List ℕ) (left : Option (List ℕ)) (number : ℕ) : Type 0 where
   pub lines : IsRun ns (run_of given)
   pub behind : number ≡ length (run_of given) + 1
-  pub bad : IsUnfinished given left ⊎ IsCut given
+  pub bad : IsUnfinished given left ⊎ IsOverlong given
 
 -- the first line that a schedule may not have has this number
 abbrev pub IsBadAt : List Node → List ℕ → Option (List ℕ) → ℕ → Type 0

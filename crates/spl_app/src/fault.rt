@@ -1,4 +1,4 @@
-//! Why a run ended before its last line, and why it has no nodes.
+//! How a run ended, and why it has no nodes.
 ghost use Rattle.std.specs.Prelude.{◌≡◌};
 ghost use Rattle.spl_app.specs.Faults.{fault_of};
 ghost use Rattle.spl_app.specs.declared.fault.RunFault.TheVariants.{NoMemory};
@@ -7,10 +7,21 @@ use spl_edge::DeviceError;
 use spl_registry::RegistryFault;
 use std::alloc::AllocError;
 
+/// How a run ended that answered all lines given.
+#[derive(Clone, Copy, Debug, PartialEq, Eq)]
+pub enum RunEnd {
+    /// The source is at its end, and nothing stands behind its last line.
+    Whole,
+    /// The source gave too many bytes.
+    TooLong,
+    /// The source failed.
+    Read,
+}
+
 /// Why a run ended before its last line.
 #[derive(Clone, Copy, Debug, PartialEq, Eq)]
 pub enum RunFault {
-    /// A schedule may not have the line of this number.
+    /// A schedule may not have the line of this number, also for want of its line feed.
     BadLine(u32),
     /// The lines pass the limit of the number `which` with the line of this number: 1 is events, 2 is
     /// stops.

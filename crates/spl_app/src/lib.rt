@@ -4,7 +4,10 @@
 
 mod agree;
 mod bench;
+mod command;
 mod fault;
+mod feed;
+mod generated;
 mod lines;
 mod output;
 mod registered;

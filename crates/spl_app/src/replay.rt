@@ -14,23 +14,11 @@ ghost use Rattle.spl_app.specs.Run.{HasFront, IsRun, ran, answers};
 ghost use Rattle.spl_app.specs.Schedule.{IsSchedule, IsBadAt, HasTooMany, had, run_of};
 
 use crate::Status;
-use crate::fault::RunFault;
-use crate::lines::{LONGEST_LINE, MOST_BYTES, rest_of};
+use crate::fault::{RunEnd, RunFault};
 use crate::run::run_lines;
-use spl_edge::{Pair, ReadEnd, Sink, Source, StopDisk, read_all};
+use spl_edge::{Pair, Sink, Source, StopDisk};
 use spl_registry::Registry;
 use std::alloc::Global;
-
-// The bytes up to the limit.
-fn head(bytes: &[u8]) -> &[u8]
-    ensures { result.now ≡ take limit bytes.now }
-{
-    if bytes.len() < MOST_BYTES {
-        bytes
-    } else {
-        &bytes[..MOST_BYTES]
-    }
-}
 
 /// Runs the schedule that a source gives over the nodes of a registry, whose disks are blank, and
 /// writes the answers.
@@ -82,9 +70,10 @@ pub fn replay<S: Source, W: Sink, D: StopDisk>(
         → IsSchedule (sorted (ids_of registry.now)) (had (S.left schedule.old) (appended_bytes (S.taken schedule.old) (S.taken schedule.new)))
         → (result ≡ Status.Ok) ⊎ (result ≡ Status.NoMemory) }
 {
-    let reading = read_all(alloc, MOST_BYTES, schedule);
-    let text = head(&reading.bytes);
-    match run_lines(alloc, registry, pairs, text, out) {
+    match run_lines(alloc, registry, pairs, schedule, out) {
+        Ok(RunEnd::Whole) => Status::Ok,
+        Ok(RunEnd::TooLong) => Status::TooLong,
+        Ok(RunEnd::Read) => Status::ReadFault,
         Err(RunFault::BadLine(line)) => Status::BadSchedule { line },
         Err(RunFault::TooMany { line, which }) => Status::TooMany { which },
         Err(RunFault::Disk(slot)) => Status::DiskFault {
@@ -92,13 +81,5 @@ pub fn replay<S: Source, W: Sink, D: StopDisk>(
         },
         Err(RunFault::Write) => Status::WriteFault,
         Err(RunFault::NoMemory) => Status::NoMemory,
-        Ok(count) => match reading.end {
-            ReadEnd::Fault => Status::ReadFault,
-            ReadEnd::NoMemory => Status::NoMemory,
-            ReadEnd::Whole if rest_of(text).is_empty() => Status::Ok,
-            ReadEnd::Whole => Status::BadSchedule { line: count + 1 },
-            ReadEnd::TooLong if rest_of(text).len() <= LONGEST_LINE => Status::TooLong,
-            ReadEnd::TooLong => Status::BadSchedule { line: count + 1 },
-        },
     }
 }

@@ -1,13 +1,15 @@
 //! Runs the lines of a schedule.
-ghost use Rattle.std.specs.Prelude.{◌≡◌, ◌≢◌, false, ◌≤◌, ◌<◌, ◌+◌, ◌-◌, ◌^◌, ◌++◌, ◌∷◌, [], ℕ, List, Option, IfOk, IfSome, OnOk, IsErrOf, IsTrue, take, length};
-ghost use Rattle.std.specs.Io.KnownBytes.{Appends};
+ghost use Rattle.std.specs.Prelude.{◌≡◌, ◌≢◌, false, ◌≤◌, ◌<◌, ◌+◌, ◌-◌, ◌++◌, ◌∷◌, [], ℕ, List, Option, IfOk, IfSome, OnOk, IsErrOf, IsTrue, take, length};
+ghost use Rattle.std.specs.Io.{appended_bytes};
+ghost use Rattle.std.specs.Io.KnownBytes.{Appends, Consumes, IsAtEnd};
 ghost use Rattle.std.specs.List.{AllPairs};
 ghost use Rattle.spl_edge.specs.Causes.{Rose, AppendsPart};
 ghost use Rattle.spl_circuit.specs.Nodes.{sorted};
 ghost use Rattle.spl_registry.specs.Nodes.{ids_of as registered};
-ghost use Rattle.spl_app.specs.Lines.{lines_of};
+ghost use Rattle.spl_app.specs.Lines.{rest_of, longest_line, limit};
 ghost use Rattle.spl_app.specs.Due.{IsDue, IsDuePart};
-ghost use Rattle.spl_app.specs.Run.{IsLine, IsRunnable, IsRun, IsWithin, Bad, Past, StopsAt, HasFront, said, ran, printed, answers};
+ghost use Rattle.spl_app.specs.Run.{IsLine, IsRunnable, IsRun, IsWithin, Past, StopsAt, HasFront, said, ran, printed, answers};
+ghost use Rattle.spl_app.specs.Schedule.{IsSchedule, IsBadAt, run_of};
 ghost use Rattle.spl_answer.specs.Texts.{text as text_of};
 ghost use Rattle.spl_model.specs.Projection.{Ran};
 ghost use Rattle.spl_model.specs.Outcomes.{by_rule};
@@ -17,14 +19,15 @@ ghost use Rattle.spl_world.specs.Disks.{AllUnarmed, AreBlank, NoneForgotten, Pai
 ghost use Rattle.spl_world.specs.Held.{AllHeld, AllUnpicked, AreHeld, FailedSince};
 ghost use Rattle.spl_world.specs.Views.{ArePlaced, IsPlace, Sits, Stands, ids_of, is_halted, places_of, seen};
 
-use crate::fault::RunFault;
-use crate::lines::{LONGEST_LINE, first_line, is_silent};
+use crate::fault::{RunEnd, RunFault};
+use crate::feed::{Feed, FeedFault};
+use crate::lines::{LONGEST_LINE, is_silent};
 use crate::output::Output;
 use crate::registered::sorted_ids;
 use crate::take::take_line;
 use spl_answer::append_text;
 use spl_base::NodeId;
-use spl_edge::{Pair, Sink, StopDisk};
+use spl_edge::{Pair, Sink, Source, StopDisk};
 use spl_registry::Registry;
 use spl_sched::{Line, LineFault, read_line};
 use spl_world::{World, WorldFault};
@@ -215,97 +218,109 @@ impl Run {
         }
     }
 
-    // Runs each line, up to the first that a schedule may not have or with which the lines pass a
-    // limit, and tells how many there were.
-    fn lines<W: Sink, D: StopDisk>(
+    // Runs each line that a source gives, up to the first that a schedule may not have or with which
+    // the lines pass a limit. It reads no further than that line.
+    fn lines<S: Source, W: Sink, D: StopDisk>(
         &mut self,
         alloc: Global,
         pairs: &mut Vec<Pair<D>>,
-        text: &[u8],
+        source: &mut S,
         out: &mut W,
-    ) -> Result<u32, RunFault>
-        requires room { length text.now < 2 ^ 32 - 1 }
+    ) -> Result<RunEnd, RunFault>
         requires fresh { IsBehind self.old.nodes.items [] self.old (images D.image_at D.moment pairs.old.items) (W.written out.old) (W.written out.old) }
-        ensures count { IfOk result (λ count. count ≡ length (lines_of text.now)) }
-        ensures room { IfOk result (λ count. count ≤ length text.now) }
-        ensures good { OnOk result (IsRun self.old.nodes.items (lines_of text.now)) }
-        ensures due { OnOk result (IsDue (W.written out.old) (W.written out.new) self.new.output (answers self.old.nodes.items (lines_of text.now))) }
-        ensures bad { (number : ℕ) → IsErrOf result (RunFault.BadLine number) → StopsAt self.old.nodes.items Bad (lines_of text.now) number
-            × IsDue (W.written out.old) (W.written out.new) self.new.output (answers self.old.nodes.items (take (number - 1) (lines_of text.now))) }
-        ensures many { (number which : ℕ) → IsErrOf result (RunFault.TooMany number which) → StopsAt self.old.nodes.items (Past which) (lines_of text.now) number
-            × IsDue (W.written out.old) (W.written out.new) self.new.output (answers self.old.nodes.items (take (number - 1) (lines_of text.now))) }
-        ensures whole { (slot : ℕ) → IsErrOf result (RunFault.Disk slot) → HasFront self.old.nodes.items (lines_of text.now) (λ ls. IsDue (W.written out.old) (W.written out.new) self.new.output (answers self.old.nodes.items ls)) }
+        ensures good { OnOk result (IsRun self.old.nodes.items (run_of (appended_bytes (S.taken source.old) (S.taken source.new)))) }
+        ensures due { OnOk result (IsDue (W.written out.old) (W.written out.new) self.new.output (answers self.old.nodes.items (run_of (appended_bytes (S.taken source.old) (S.taken source.new))))) }
+        ensures ok { IfOk result (λ end. end ≡ RunEnd.Whole → IsSchedule self.old.nodes.items (appended_bytes (S.taken source.old) (S.taken source.new)) × IsAtEnd (S.left source.new)) }
+        ensures read { IfOk result (λ end. end ≡ RunEnd.Read → Rose (S.faults source.old) (S.faults source.new) × (length (appended_bytes (S.taken source.old) (S.taken source.new)) ≤ limit)) }
+        ensures long { IfOk result (λ end. end ≡ RunEnd.TooLong → (limit < length (appended_bytes (S.taken source.old) (S.taken source.new))) × (length (rest_of (take limit (appended_bytes (S.taken source.old) (S.taken source.new)))) ≤ longest_line)) }
+        ensures bad { (number : ℕ) → IsErrOf result (RunFault.BadLine number) → IsBadAt self.old.nodes.items (appended_bytes (S.taken source.old) (S.taken source.new)) (S.left source.new) number
+            × IsDue (W.written out.old) (W.written out.new) self.new.output (answers self.old.nodes.items (take (number - 1) (run_of (appended_bytes (S.taken source.old) (S.taken source.new))))) }
+        ensures many { (number which : ℕ) → IsErrOf result (RunFault.TooMany number which) → StopsAt self.old.nodes.items (Past which) (run_of (appended_bytes (S.taken source.old) (S.taken source.new))) number
+            × IsDue (W.written out.old) (W.written out.new) self.new.output (answers self.old.nodes.items (take (number - 1) (run_of (appended_bytes (S.taken source.old) (S.taken source.new))))) }
+        ensures whole { (slot : ℕ) → IsErrOf result (RunFault.Disk slot) → HasFront self.old.nodes.items (run_of (appended_bytes (S.taken source.old) (S.taken source.new))) (λ ls. IsDue (W.written out.old) (W.written out.new) self.new.output (answers self.old.nodes.items ls)) }
         ensures onward { NoneForgotten (bench D.image_at D.moment D.faults D.armed D.picks pairs.old.items) (bench D.image_at D.moment D.faults D.armed D.picks pairs.new.items) }
         ensures unarmed { AllUnarmed (bench D.image_at D.moment D.faults D.armed D.picks pairs.old.items) → (IsErrOf result RunFault.NoMemory → ⊥) → AllUnarmed (bench D.image_at D.moment D.faults D.armed D.picks pairs.new.items) }
         ensures failed { (start : List PairView) → AllHeld start [] self.old.world (bench D.image_at D.moment D.faults D.armed D.picks pairs.old.items) → (slot : ℕ) → IsErrOf result (RunFault.Disk slot) → FailedSince slot start (bench D.image_at D.moment D.faults D.armed D.picks pairs.new.items) }
         ensures place { (slot : ℕ) → IsErrOf result (RunFault.Disk slot) → IsPlace (places_of self.old.world) slot }
-        ensures held { (start : List PairView) → AllHeld start [] self.old.world (bench D.image_at D.moment D.faults D.armed D.picks pairs.old.items) → OnOk result (AllHeld start (ran (lines_of text.now)) self.old.world (bench D.image_at D.moment D.faults D.armed D.picks pairs.new.items)) }
-        ensures bad_held { (start : List PairView) → AllHeld start [] self.old.world (bench D.image_at D.moment D.faults D.armed D.picks pairs.old.items) → (number : ℕ) → IsErrOf result (RunFault.BadLine number) → AllHeld start (ran (take (number - 1) (lines_of text.now))) self.old.world (bench D.image_at D.moment D.faults D.armed D.picks pairs.new.items) }
-        ensures part { IsDuePart (W.written out.old) (W.written out.new) self.new.output (answers self.old.nodes.items (lines_of text.now)) }
+        ensures held { (start : List PairView) → AllHeld start [] self.old.world (bench D.image_at D.moment D.faults D.armed D.picks pairs.old.items) → OnOk result (AllHeld start (ran (run_of (appended_bytes (S.taken source.old) (S.taken source.new)))) self.old.world (bench D.image_at D.moment D.faults D.armed D.picks pairs.new.items)) }
+        ensures bad_held { (start : List PairView) → AllHeld start [] self.old.world (bench D.image_at D.moment D.faults D.armed D.picks pairs.old.items) → (number : ℕ) → IsErrOf result (RunFault.BadLine number) → AllHeld start (ran (take (number - 1) (run_of (appended_bytes (S.taken source.old) (S.taken source.new))))) self.old.world (bench D.image_at D.moment D.faults D.armed D.picks pairs.new.items) }
+        ensures part { IsDuePart (W.written out.old) (W.written out.new) self.new.output (answers self.old.nodes.items (run_of (appended_bytes (S.taken source.old) (S.taken source.new)))) }
+        ensures taken { Consumes (S.left source.old) (S.left source.new) (appended_bytes (S.taken source.old) (S.taken source.new)) }
         ensures write { IsErrOf result RunFault.Write → Rose (W.faults out.old) (W.faults out.new) }
         ensures later { W.faults out.old ≤ W.faults out.new }
     {
-        let mut rest = text;
+        let Ok(mut feed) = Feed::new(alloc) else {
+            return Err(RunFault::NoMemory);
+        };
         let mut count = 0u32;
-        'lines: while let Some((line, behind)) = first_line(rest) {
-            if let Err(fault) = self.line(alloc, pairs, count + 1, line, out) {
-                return Err(fault);
+        'lines: loop {
+            match feed.advance(source) {
+                Ok(true) => {
+                    let line = feed.line();
+                    match self.line(alloc, pairs, count + 1, line, out) {
+                        Ok(()) => count += 1,
+                        Err(fault) => return Err(fault),
+                    }
+                }
+                Ok(false) => return Ok(RunEnd::Whole),
+                Err(FeedFault::Unfinished) => return Err(RunFault::BadLine(count + 1)),
+                Err(FeedFault::Overlong) => return Err(RunFault::BadLine(count + 1)),
+                Err(FeedFault::TooLong) => return Ok(RunEnd::TooLong),
+                Err(FeedFault::Read) => return Ok(RunEnd::Read),
+                Err(FeedFault::NoMemory) => return Err(RunFault::NoMemory),
             }
-            count += 1;
-            rest = behind;
         }
-        Ok(count)
     }
 }
 
 // Whether a run ended for want of memory.
-fn lacks_memory(ended: &Result<u32, RunFault>) -> bool
+fn lacks_memory(ended: &Result<RunEnd, RunFault>) -> bool
     ensures { result ≡ false → IsErrOf ended.now RunFault.NoMemory → ⊥ }
 {
     matches!(ended, Err(RunFault::NoMemory))
 }
 
-/// Runs each line of a text over the nodes of a registry, whose disks are blank, up to the first
-/// that a schedule may not have or with which the lines pass a limit, writes the answers, and tells
-/// how many lines there were. Want of memory is told before a fault of the sink, since it may leave
-/// disks armed.
-pub fn run_lines<W: Sink, D: StopDisk>(
+/// Runs each line that a source gives over the nodes of a registry, whose disks are blank, up to the
+/// first that a schedule may not have or with which the lines pass a limit, and writes the answers.
+/// Want of memory is told before a fault of the sink, since it may leave disks armed.
+pub fn run_lines<S: Source, W: Sink, D: StopDisk>(
     alloc: Global,
     registry: &Registry,
     pairs: &mut Vec<Pair<D>>,
-    text: &[u8],
+    source: &mut S,
     out: &mut W,
-) -> Result<u32, RunFault>
+) -> Result<RunEnd, RunFault>
     requires pairs { length registry.now ≤ length pairs.old.items }
     requires blank { (i : ℕ) → i < length registry.now → AreBlank (images_at (images D.image_at D.moment pairs.old.items) i) }
     requires unpicked { AllUnpicked (bench D.image_at D.moment D.faults D.armed D.picks pairs.old.items) }
-    requires room { length text.now < 2 ^ 32 - 1 }
-    ensures count { IfOk result (λ count. count ≡ length (lines_of text.now)) }
-    ensures room { IfOk result (λ count. count ≤ length text.now) }
-    ensures good { OnOk result (IsRun (sorted (registered registry.now)) (lines_of text.now)) }
-    ensures written { OnOk result (Appends (W.written out.old) (W.written out.new) (answers (sorted (registered registry.now)) (lines_of text.now))) }
+
+    // All lines given ran, and their answers are written.
+    ensures good { OnOk result (IsRun (sorted (registered registry.now)) (run_of (appended_bytes (S.taken source.old) (S.taken source.new)))) }
+    ensures written { OnOk result (Appends (W.written out.old) (W.written out.new) (answers (sorted (registered registry.now)) (run_of (appended_bytes (S.taken source.old) (S.taken source.new))))) }
+    ensures held { OnOk result (AreHeld (bench D.image_at D.moment D.faults D.armed D.picks pairs.old.items) (sorted (registered registry.now)) (ran (run_of (appended_bytes (S.taken source.old) (S.taken source.new)))) registry.now (bench D.image_at D.moment D.faults D.armed D.picks pairs.new.items)) }
+    ensures ok { IfOk result (λ end. end ≡ RunEnd.Whole → IsSchedule (sorted (registered registry.now)) (appended_bytes (S.taken source.old) (S.taken source.new)) × IsAtEnd (S.left source.new)) }
+    ensures read { IfOk result (λ end. end ≡ RunEnd.Read → Rose (S.faults source.old) (S.faults source.new) × (length (appended_bytes (S.taken source.old) (S.taken source.new)) ≤ limit)) }
+    ensures long { IfOk result (λ end. end ≡ RunEnd.TooLong → (limit < length (appended_bytes (S.taken source.old) (S.taken source.new))) × (length (rest_of (take limit (appended_bytes (S.taken source.old) (S.taken source.new)))) ≤ longest_line)) }
 
     // The first line that a schedule may not have.
-    ensures bad { (number : ℕ) → IsErrOf result (RunFault.BadLine number) → StopsAt (sorted (registered registry.now)) Bad (lines_of text.now) number
-        × Appends (W.written out.old) (W.written out.new) (answers (sorted (registered registry.now)) (take (number - 1) (lines_of text.now))) }
+    ensures bad { (number : ℕ) → IsErrOf result (RunFault.BadLine number) → IsBadAt (sorted (registered registry.now)) (appended_bytes (S.taken source.old) (S.taken source.new)) (S.left source.new) number
+        × Appends (W.written out.old) (W.written out.new) (answers (sorted (registered registry.now)) (take (number - 1) (run_of (appended_bytes (S.taken source.old) (S.taken source.new))))) }
+    ensures bad_held { (number : ℕ) → IsErrOf result (RunFault.BadLine number) → AreHeld (bench D.image_at D.moment D.faults D.armed D.picks pairs.old.items) (sorted (registered registry.now)) (ran (take (number - 1) (run_of (appended_bytes (S.taken source.old) (S.taken source.new))))) registry.now (bench D.image_at D.moment D.faults D.armed D.picks pairs.new.items) }
 
     // The first line with which the lines pass the limit `which`.
-    ensures many { (number which : ℕ) → IsErrOf result (RunFault.TooMany number which) → StopsAt (sorted (registered registry.now)) (Past which) (lines_of text.now) number
-        × Appends (W.written out.old) (W.written out.new) (answers (sorted (registered registry.now)) (take (number - 1) (lines_of text.now))) }
+    ensures many { (number which : ℕ) → IsErrOf result (RunFault.TooMany number which) → StopsAt (sorted (registered registry.now)) (Past which) (run_of (appended_bytes (S.taken source.old) (S.taken source.new))) number
+        × Appends (W.written out.old) (W.written out.new) (answers (sorted (registered registry.now)) (take (number - 1) (run_of (appended_bytes (S.taken source.old) (S.taken source.new))))) }
 
     // A disk failed. The answers to the lines before are written.
-    ensures whole { (slot : ℕ) → IsErrOf result (RunFault.Disk slot) → HasFront (sorted (registered registry.now)) (lines_of text.now) (λ ls. Appends (W.written out.old) (W.written out.new) (answers (sorted (registered registry.now)) ls)) }
+    ensures whole { (slot : ℕ) → IsErrOf result (RunFault.Disk slot) → HasFront (sorted (registered registry.now)) (run_of (appended_bytes (S.taken source.old) (S.taken source.new))) (λ ls. Appends (W.written out.old) (W.written out.new) (answers (sorted (registered registry.now)) ls)) }
     ensures failed { (slot : ℕ) → IsErrOf result (RunFault.Disk slot) → FailedSince slot (bench D.image_at D.moment D.faults D.armed D.picks pairs.old.items) (bench D.image_at D.moment D.faults D.armed D.picks pairs.new.items) }
     ensures place { (slot : ℕ) → IsErrOf result (RunFault.Disk slot) → slot < length registry.now }
-
-    // The disks of each node hold what the node keeps.
-    ensures held { OnOk result (AreHeld (bench D.image_at D.moment D.faults D.armed D.picks pairs.old.items) (sorted (registered registry.now)) (ran (lines_of text.now)) registry.now (bench D.image_at D.moment D.faults D.armed D.picks pairs.new.items)) }
-    ensures bad_held { (number : ℕ) → IsErrOf result (RunFault.BadLine number) → AreHeld (bench D.image_at D.moment D.faults D.armed D.picks pairs.old.items) (sorted (registered registry.now)) (ran (take (number - 1) (lines_of text.now))) registry.now (bench D.image_at D.moment D.faults D.armed D.picks pairs.new.items) }
 
     // Whatever the end.
     ensures onward { NoneForgotten (bench D.image_at D.moment D.faults D.armed D.picks pairs.old.items) (bench D.image_at D.moment D.faults D.armed D.picks pairs.new.items) }
     ensures unarmed { (IsErrOf result RunFault.NoMemory → ⊥) → AllUnarmed (bench D.image_at D.moment D.faults D.armed D.picks pairs.new.items) }
-    ensures part { AppendsPart (W.written out.old) (W.written out.new) (answers (sorted (registered registry.now)) (lines_of text.now)) }
+    ensures part { AppendsPart (W.written out.old) (W.written out.new) (answers (sorted (registered registry.now)) (run_of (appended_bytes (S.taken source.old) (S.taken source.new)))) }
+    ensures taken { Consumes (S.left source.old) (S.left source.new) (appended_bytes (S.taken source.old) (S.taken source.new)) }
     ensures write { IsErrOf result RunFault.Write → Rose (W.faults out.old) (W.faults out.new) }
     ensures later { W.faults out.old ≤ W.faults out.new }
 {
@@ -314,7 +329,7 @@ pub fn run_lines<W: Sink, D: StopDisk>(
         Err(WorldFault::Disk { slot }) => return Err(RunFault::Disk(slot)),
         Err(_) => return Err(RunFault::NoMemory),
     };
-    let ended = run.lines(alloc, pairs, text, out);
+    let ended = run.lines(alloc, pairs, source, out);
     let flushed = run.output.flush(out);
     if lacks_memory(&ended) {
         return Err(RunFault::NoMemory);

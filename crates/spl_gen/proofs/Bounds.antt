@@ -21,19 +21,19 @@ use Rattle.spl_gen.specs.Generated.{at, settled, opened, submitted, restart, res
 use Rattle.spl_gen.proofs.Items.{node_passes, member_passes, value_below}
 
 -- a test that the lines pass which don't hang on the draws, and each batch's lines
-record Passes (most : ℕ) (p : Line → Bool) : Type 0 where
+pub record Passes (most : ℕ) (p : Line → Bool) : Type 0 where
   pub opened : IsTrue (list_all p (flat_map opened circuits))
   pub batch : (k x : ℕ) → k < most → IsTrue (list_all p (batch_lines k x))
   pub roots : IsTrue (list_all p (flat_map roots circuits))
 
-both : {A : Type 0} (p : A → Bool) (xs ys : List A) → IsTrue (list_all p xs) → IsTrue (list_all p ys) → IsTrue (list_all p (xs ++ ys))
+pub both : {A : Type 0} (p : A → Bool) (xs ys : List A) → IsTrue (list_all p xs) → IsTrue (list_all p ys) → IsTrue (list_all p (xs ++ ys))
 both p xs ys h k = list_all-append p xs ys ∙ and_from (list_all p xs) (list_all p ys) h k
 
 batches_pass : (most : ℕ) (p : Line → Bool) → Passes most p → (n seed : ℕ) → n < most → IsTrue (list_all p (batches n seed))
 batches_pass most p h zero seed lt = refl
 batches_pass most p h (suc n) seed lt = both p (batches n seed) (batch_lines (suc n) (state n seed)) (batches_pass most p h n seed (omega arith)) (h.batch (suc n) (state n seed) lt)
 
-generated_pass : (most : ℕ) (p : Line → Bool) → Passes most p → (n seed : ℕ) → n < most → IsTrue (list_all p (generated n seed))
+pub generated_pass : (most : ℕ) (p : Line → Bool) → Passes most p → (n seed : ℕ) → n < most → IsTrue (list_all p (generated n seed))
 generated_pass most p h n seed lt =
     both p (flat_map opened circuits ++ batches n seed) (flat_map roots circuits) (both p (flat_map opened circuits) (batches n seed) h.opened (batches_pass most p h n seed lt)) h.roots
 
@@ -77,7 +77,7 @@ restart_fits d =
     and_from (is_node_id n) (is_node_id n && true) h (and_from (is_node_id n) true h refl)
 
 -- where a test passes a restart, it passes what stands behind each batch
-restarted_pass : (p : Line → Bool) → ((d : ℕ) → IsTrue (list_all p (restart (1 + d % 4)))) → (k x : ℕ) → IsTrue (list_all p (restarted k x))
+pub restarted_pass : (p : Line → Bool) → ((d : ℕ) → IsTrue (list_all p (restart (1 + d % 4)))) → (k x : ℕ) → IsTrue (list_all p (restarted k x))
 restarted_pass p h k x = elim (k % 50 == 0) as (λ b. IsTrue (list_all p (if b then restart (1 + draw x % 4) else []))) [ true ↦ h (draw x) | false ↦ refl ]
 
 lines_fit : Passes (2 ^ 64) is_line

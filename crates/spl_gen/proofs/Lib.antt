@@ -3,3 +3,5 @@ mod Bounds
 mod Counts
 mod Texts
 mod Parts
+mod Free
+mod Lengths

@@ -1,6 +1,6 @@
 -- Generated schedules (docs/RULES.md, Generated schedules).
-use Rattle.std.specs.Prelude.{ℕ, zero, suc, ◌+◌, ◌%◌, ◌==◌, true, List, [], ◌∷◌, ◌++◌, drop, slice_index, if◌then◌else◌}
-use Rattle.std.specs.List.{flat_map}
+use Rattle.std.specs.Prelude.{ℕ, zero, suc, ◌+◌, ◌%◌, ◌==◌, Bool, true, not, List, [], ◌∷◌, ◌++◌, drop, slice_index, if◌then◌else◌}
+use Rattle.std.specs.List.{flat_map, list_all}
 use Rattle.spl_wire.specs.declared.event.Event.{Event}
 use Rattle.spl_wire.specs.declared.event.Event.TheVariants.{Propose, Vote, Submit, Root}
 use Rattle.spl_sched.specs.declared.line.Step.TheVariants.{At}
@@ -70,6 +70,10 @@ roots c = flat_map (root c) (members c)
 
 abbrev pub generated : ℕ → ℕ → List Line
 generated n seed = flat_map opened circuits ++ batches n seed ++ flat_map roots circuits
+
+-- bytes without a line feed
+abbrev pub lacks_feed : List ℕ → Bool
+lacks_feed bytes = list_all (λ b. not (b == 10)) bytes
 
 -- each line with its line feed
 unfoldable pub text_of : List Line → List ℕ

@@ -9,4 +9,6 @@ mod laws;
 mod lines;
 
 pub use generate::{MOST_BATCHES, schedule};
-pub use laws::{generated_lines_are_counted, generated_lines_are_lines};
+pub use laws::{
+    generated_lines_are_counted, generated_lines_are_lines, generated_lines_are_spelled,
+};

@@ -1,10 +1,14 @@
-use Rattle.std.proofs.Common.{◌-◌, List, [], take, sym, subst}
+use Rattle.std.proofs.Common.{◌≡◌, ◌-◌, List, [], take, sym, subst}
+use Rattle.std.specs.Prelude.{IfOk}
+use Rattle.std.specs.Io.{appended_bytes}
+use Rattle.std.specs.Io.KnownBytes.{IsAtEnd}
 use Rattle.spl_circuit.specs.Nodes.{Node}
 use Rattle.spl_world.specs.Disks.{bench, images}
 use Rattle.spl_world.specs.Held.{AreHeld}
-use Rattle.spl_app.specs.Lines.{lines_of}
+use Rattle.spl_app.specs.declared.fault.RunEnd.TheVariants.{Whole}
+use Rattle.spl_app.specs.Schedule.{IsBadAt, IsSchedule, run_of}
 use Rattle.std.proofs.KnownBytes.{Appends-nil}
-use Rattle.spl_app.specs.Run.{ran, Bad, Past, HasFront, StopsAt, answers}
+use Rattle.spl_app.specs.Run.{ran, Past, HasFront, StopsAt, answers}
 use Rattle.spl_app.specs.Due.{IsDue, IsDuePart}
 use Rattle.spl_app.specs.Behind.{IsBehind}
 use Rattle.spl_app.proofs.Dues.{part_flushed, due_flushed}
@@ -14,37 +18,40 @@ use Rattle.spl_app.proofs.Behinds.{ok_then}
 use Rattle.spl_world.proofs.HoldingSeats.{seats_held}
 use Rattle.spl_app.proofs.run.run_lines.Goals as goal
 
-pub lines-ended-requires-clause-fresh : goal.lines-ended-requires-clause-fresh
-lines-ended-requires-clause-fresh g c =
+pub lines-ended-requires : goal.lines-ended-requires
+lines-ended-requires g c =
     let start = g.W.Sink.written c.args.out.now in
-    subst (λ (ns : List Node). IsBehind ns [] c.in-Ok.run' (images g.D.Disk.image_at g.D.Disk.moment c.new.new.pairs.items) start start) (sym c.in-Ok.ensures.nodes) (c.in-Ok.ensures.behind start)
+    record { fresh = subst (λ (ns : List Node). IsBehind ns [] c.in-Ok.run' (images g.D.Disk.image_at g.D.Disk.moment c.new.new.pairs.items) start start) (sym c.in-Ok.ensures.nodes) (c.in-Ok.ensures.behind start) }
 
 pub returns-in_err-flushed-clause-part : goal.returns-in_err-flushed-clause-part
 returns-in_err-flushed-clause-part g c =
-    let part = subst (λ (ns : List Node). IsDuePart (g.W.Sink.written c.args.out.now) (g.W.Sink.written c.lines-ended.new.out) c.lines-ended.new.self.output (answers ns (lines_of c.args.text.now))) c.in-Ok.ensures.nodes c.lines-ended.ensures.part in
+    let part = subst (λ (ns : List Node). IsDuePart (g.W.Sink.written c.args.out.now) (g.W.Sink.written c.lines-ended.new.out) c.lines-ended.new.self.output (answers ns (run_of (appended_bytes (g.S.Source.taken c.args.source.now) (g.S.Source.taken c.lines-ended.new.source))))) c.in-Ok.ensures.nodes c.lines-ended.ensures.part in
     part_flushed _ _ _ _ _ part c.flush-flushed.ensures.part
 
 pub returns-clause-part : goal.returns-clause-part
 returns-clause-part g c =
-    let part = subst (λ (ns : List Node). IsDuePart (g.W.Sink.written c.args.out.now) (g.W.Sink.written c.lines-ended.new.out) c.lines-ended.new.self.output (answers ns (lines_of c.args.text.now))) c.in-Ok.ensures.nodes c.lines-ended.ensures.part in
+    let part = subst (λ (ns : List Node). IsDuePart (g.W.Sink.written c.args.out.now) (g.W.Sink.written c.lines-ended.new.out) c.lines-ended.new.self.output (answers ns (run_of (appended_bytes (g.S.Source.taken c.args.source.now) (g.S.Source.taken c.lines-ended.new.source))))) c.in-Ok.ensures.nodes c.lines-ended.ensures.part in
     part_flushed _ _ _ _ _ part c.flush-flushed.ensures.part
 
 pub returns-clause-written : goal.returns-clause-written
 returns-clause-written g c = ok_then c.lines-ended.result c.lines-ended.ensures.due (λ due.
     due_flushed _ _ _ _ _
-    (subst (λ (ns : List Node). IsDue (g.W.Sink.written c.args.out.now) (g.W.Sink.written c.lines-ended.new.out) c.lines-ended.new.self.output (answers ns (lines_of c.args.text.now))) c.in-Ok.ensures.nodes due)
+    (subst (λ (ns : List Node). IsDue (g.W.Sink.written c.args.out.now) (g.W.Sink.written c.lines-ended.new.out) c.lines-ended.new.self.output (answers ns (run_of (appended_bytes (g.S.Source.taken c.args.source.now) (g.S.Source.taken c.lines-ended.new.source))))) c.in-Ok.ensures.nodes due)
     c.in_ok-flushed.ensures.ok)
+
+pub returns-clause-ok : goal.returns-clause-ok
+returns-clause-ok g c = subst (λ (ns : List Node). IfOk c.lines-ended.result (λ end. end ≡ Whole → IsSchedule ns (appended_bytes (g.S.Source.taken c.args.source.now) (g.S.Source.taken c.lines-ended.new.source)) × IsAtEnd (g.S.Source.left c.lines-ended.new.source))) c.in-Ok.ensures.nodes c.lines-ended.ensures.ok
 
 pub returns-clause-bad : goal.returns-clause-bad
 returns-clause-bad g c = λ number is.
-    let found = subst (λ (ns : List Node). StopsAt ns Bad (lines_of c.args.text.now) number
-    × IsDue (g.W.Sink.written c.args.out.now) (g.W.Sink.written c.lines-ended.new.out) c.lines-ended.new.self.output (answers ns (take (number - 1) (lines_of c.args.text.now)))) c.in-Ok.ensures.nodes (c.lines-ended.ensures.bad number is) in
+    let found = subst (λ (ns : List Node). IsBadAt ns (appended_bytes (g.S.Source.taken c.args.source.now) (g.S.Source.taken c.lines-ended.new.source)) (g.S.Source.left c.lines-ended.new.source) number
+    × IsDue (g.W.Sink.written c.args.out.now) (g.W.Sink.written c.lines-ended.new.out) c.lines-ended.new.self.output (answers ns (take (number - 1) (run_of (appended_bytes (g.S.Source.taken c.args.source.now) (g.S.Source.taken c.lines-ended.new.source)))))) c.in-Ok.ensures.nodes (c.lines-ended.ensures.bad number is) in
     (found.0, due_flushed _ _ _ _ _ found.1 c.in_ok-flushed.ensures.ok)
 
 pub returns-clause-many : goal.returns-clause-many
 returns-clause-many g c = λ number which is.
-    let found = subst (λ (ns : List Node). StopsAt ns (Past which) (lines_of c.args.text.now) number
-    × IsDue (g.W.Sink.written c.args.out.now) (g.W.Sink.written c.lines-ended.new.out) c.lines-ended.new.self.output (answers ns (take (number - 1) (lines_of c.args.text.now)))) c.in-Ok.ensures.nodes (c.lines-ended.ensures.many number which is) in
+    let found = subst (λ (ns : List Node). StopsAt ns (Past which) (run_of (appended_bytes (g.S.Source.taken c.args.source.now) (g.S.Source.taken c.lines-ended.new.source))) number
+    × IsDue (g.W.Sink.written c.args.out.now) (g.W.Sink.written c.lines-ended.new.out) c.lines-ended.new.self.output (answers ns (take (number - 1) (run_of (appended_bytes (g.S.Source.taken c.args.source.now) (g.S.Source.taken c.lines-ended.new.source)))))) c.in-Ok.ensures.nodes (c.lines-ended.ensures.many number which is) in
     (found.0, due_flushed _ _ _ _ _ found.1 c.in_ok-flushed.ensures.ok)
 
 pub returns-in-Err-Disk-clause-whole : goal.returns-in-Err-Disk-clause-whole
@@ -67,13 +74,13 @@ returns-clause-place g c = λ slot is. place_below c.args.registry.now c.in-Ok.r
 
 pub returns-clause-whole : goal.returns-clause-whole
 returns-clause-whole g c = λ slot is.
-    let found = subst (λ (ns : List Node). HasFront ns (lines_of c.args.text.now) (λ ls. IsDue (g.W.Sink.written c.args.out.now) (g.W.Sink.written c.lines-ended.new.out) c.lines-ended.new.self.output (answers ns ls))) c.in-Ok.ensures.nodes (c.lines-ended.ensures.whole slot is) in
+    let found = subst (λ (ns : List Node). HasFront ns (run_of (appended_bytes (g.S.Source.taken c.args.source.now) (g.S.Source.taken c.lines-ended.new.source))) (λ ls. IsDue (g.W.Sink.written c.args.out.now) (g.W.Sink.written c.lines-ended.new.out) c.lines-ended.new.self.output (answers ns ls))) c.in-Ok.ensures.nodes (c.lines-ended.ensures.whole slot is) in
     record { count = found.count; run = found.run; holds = due_flushed _ _ _ _ _ found.holds c.in_ok-flushed.ensures.ok }
 
 pub returns-clause-held : goal.returns-clause-held
 returns-clause-held g c =
     let ids = (c.in-Ok.ensures.behind (g.W.Sink.written c.args.out.now)).world in
-    let rs = ran (lines_of c.args.text.now) in
+    let rs = ran (run_of (appended_bytes (g.S.Source.taken c.args.source.now) (g.S.Source.taken c.lines-ended.new.source))) in
     let start = bench g.D.Disk.image_at g.D.Disk.moment g.D.Disk.faults g.D.Disk.armed g.D.Disk.picks c.args.pairs.now.items in
     let now = bench g.D.Disk.image_at g.D.Disk.moment g.D.Disk.faults g.D.Disk.armed g.D.Disk.picks c.lines-ended.new.pairs.items in
     ok_then c.lines-ended.result (c.lines-ended.ensures.held start c.in-Ok.ensures.held) (λ h.
@@ -82,7 +89,7 @@ returns-clause-held g c =
 pub returns-clause-bad_held : goal.returns-clause-bad_held
 returns-clause-bad_held g c = λ number is.
     let ids = (c.in-Ok.ensures.behind (g.W.Sink.written c.args.out.now)).world in
-    let rs = ran (take (number - 1) (lines_of c.args.text.now)) in
+    let rs = ran (take (number - 1) (run_of (appended_bytes (g.S.Source.taken c.args.source.now) (g.S.Source.taken c.lines-ended.new.source)))) in
     let start = bench g.D.Disk.image_at g.D.Disk.moment g.D.Disk.faults g.D.Disk.armed g.D.Disk.picks c.args.pairs.now.items in
     let now = bench g.D.Disk.image_at g.D.Disk.moment g.D.Disk.faults g.D.Disk.armed g.D.Disk.picks c.lines-ended.new.pairs.items in
     subst (λ (ns : List Node). AreHeld start ns rs c.args.registry.now now) ids (seats_held c.args.registry.now c.in-Ok.run'.world c.in-Ok.ensures.apart ids c.in-Ok.ensures.placed start rs now (c.lines-ended.ensures.bad_held start c.in-Ok.ensures.held number is))
@@ -92,7 +99,7 @@ returns-then-lacks_memory-clause-onward g c = none_then _ _ _ c.in-Ok.ensures.on
 
 pub returns-then-lacks_memory-clause-part : goal.returns-then-lacks_memory-clause-part
 returns-then-lacks_memory-clause-part g c =
-    let part = subst (λ (ns : List Node). IsDuePart (g.W.Sink.written c.args.out.now) (g.W.Sink.written c.lines-ended.new.out) c.lines-ended.new.self.output (answers ns (lines_of c.args.text.now))) c.in-Ok.ensures.nodes c.lines-ended.ensures.part in
+    let part = subst (λ (ns : List Node). IsDuePart (g.W.Sink.written c.args.out.now) (g.W.Sink.written c.lines-ended.new.out) c.lines-ended.new.self.output (answers ns (run_of (appended_bytes (g.S.Source.taken c.args.source.now) (g.S.Source.taken c.lines-ended.new.source))))) c.in-Ok.ensures.nodes c.lines-ended.ensures.part in
     part_flushed _ _ _ _ _ part c.flush-flushed.ensures.part
 
 pub returns-in_err-flushed-clause-unarmed : goal.returns-in_err-flushed-clause-unarmed

@@ -1,110 +1,117 @@
-use Rattle.std.proofs.Common.{Err, ◌≡◌, ◌-◌, ℕ, List, [], ◌∷◌, ◌++◌, take, sym, ◌∙◌, ap, subst, rules, arith}
-use Rattle.std.specs.List.{AllByRecursion}
+use Rattle.std.proofs.Common.{Err, inl, inr, ◌≡◌, ◌+◌, ℕ, List, [], ◌∷◌, ◌++◌, length, length-append, refl, sym, ◌∙◌, ap, subst, rules, arith}
+use Rattle.std.specs.Io.{appended_bytes}
 use Rattle.spl_circuit.specs.Nodes.{Node}
 use Rattle.spl_edge.specs.declared.bench.Pair.{Pair}
 use Rattle.std.specs.Global.{Vec}
 use Rattle.spl_world.specs.Disks.{bench, images}
 use Rattle.spl_world.specs.Held.{AllHeld}
-use Rattle.spl_world.specs.Views.{IsPlace}
 use Rattle.spl_app.specs.declared.fault.RunFault.{RunFault}
 use Rattle.spl_app.specs.declared.fault.RunFault.TheVariants.{BadLine, TooMany, Disk}
 use Rattle.spl_app.specs.Lines.{lines_of}
 use Rattle.spl_app.specs.Run.{ran, IsLine, IsRun, Bad, Past, StopsFor, answers}
+use Rattle.spl_app.specs.Schedule.{run_of}
 use Rattle.spl_app.specs.Due.{IsDue, IsDuePart}
 use Rattle.spl_app.specs.Behind.{IsBehind}
+use Rattle.spl_app.specs.Feed.{Feeds, waiting}
 use Rattle.spl_app.proofs.Dues.{due_same, due_whole}
 use Rattle.spl_app.proofs.Behinds.{at_own}
-use Rattle.spl_app.proofs.Benches.{none_then}
+use Rattle.spl_app.proofs.Benches.{none_itself, none_then}
+use Rattle.spl_app.proofs.Ends.{all_before, bad_rest, schedule, unfinished}
+use Rattle.spl_app.proofs.Fed.{all_lines, few_lines, is_long, is_overlong, is_short}
+use Rattle.spl_app.proofs.Given.{limit_is}
 use Rattle.spl_app.proofs.Holds.{held_as}
-use Rattle.spl_app.proofs.Runs.{all-push, next_number, within, taken, behind, part_of_all, stops_at, none_left, all_counted}
+use Rattle.spl_app.proofs.Runs.{all-push, before_it, front_of_all, part_of_all, stops_at}
 use Rattle.spl_app.proofs.run.Run.lines.Goals as goal
+
+pub lines-init : goal.lines-init
+lines-init g c = record {
+  lines = [];
+  counted = refl;
+  feeds = c.in-Ok.ensures (g.S.Source.taken c.args.source.now) (g.S.Source.left c.args.source.now);
+  good = tt;
+  behind = c.requires.fresh;
+  onward = none_itself _;
+  unarmed = λ off. off;
+  places = refl;
+  held = λ start h. h;
+  later = omega arith;
+  source_later = omega arith;
+}
+
+pub overflow_add-count : goal.overflow_add-count
+overflow_add-count g c = omega (arith, limit_is, c.lines.invariant.counted, few_lines (g.S.Source.taken c.args.source.now) (g.S.Source.left c.args.source.now) c.lines.invariant.lines (g.S.Source.taken c.lines.source) (g.S.Source.left c.lines.source) c.lines.feed c.lines.invariant.feeds)
+
+pub overflow_add-count-in-Ok-line : goal.overflow_add-count-in-Ok-line
+overflow_add-count-in-Ok-line g c = omega (arith, limit_is, c.lines.invariant.counted, few_lines (g.S.Source.taken c.args.source.now) (g.S.Source.left c.args.source.now) c.lines.invariant.lines (g.S.Source.taken c.lines.source) (g.S.Source.left c.lines.source) c.lines.feed c.lines.invariant.feeds)
+
+pub overflow_add-result : goal.overflow_add-result
+overflow_add-result g c = omega (arith, limit_is, c.lines.invariant.counted, few_lines (g.S.Source.taken c.args.source.now) (g.S.Source.left c.args.source.now) c.lines.invariant.lines (g.S.Source.taken c.lines.source) (g.S.Source.left c.lines.source) c.lines.feed c.lines.invariant.feeds)
+
+pub overflow_add-result-in-Err-Overlong : goal.overflow_add-result-in-Err-Overlong
+overflow_add-result-in-Err-Overlong g c = omega (arith, limit_is, c.lines.invariant.counted, few_lines (g.S.Source.taken c.args.source.now) (g.S.Source.left c.args.source.now) c.lines.invariant.lines (g.S.Source.taken c.lines.source) (g.S.Source.left c.lines.source) c.lines.feed c.lines.invariant.feeds)
+
+pub lines-smaller : goal.lines-smaller
+lines-smaller g c = omega (arith, limit_is, c.lines.invariant.counted, few_lines (g.S.Source.taken c.args.source.now) (g.S.Source.left c.args.source.now) c.lines.invariant.lines (g.S.Source.taken c.lines.source) (g.S.Source.left c.lines.source) c.lines.feed c.lines.invariant.feeds)
+
+pub lines-preserved : goal.lines-preserved
+lines-preserved g c =
+    let lines = c.lines.invariant.lines in
+    let line = c.line-line.result.now in
+    let next = subst (λ (l : List ℕ). Feeds (g.S.Source.taken c.args.source.now) (g.S.Source.left c.args.source.now) (lines ++ l ∷ []) (g.S.Source.taken c.advance.new.source) (g.S.Source.left c.advance.new.source) c.advance.new.self) (sym c.line-line.ensures) (c.in-Ok-true.ensures.line c.in-Ok-true.field-0-test (g.S.Source.taken c.args.source.now) (g.S.Source.left c.args.source.now) lines c.lines.invariant.feeds) in
+    let line_good = subst (λ (ns : List Node). IsLine ns line) c.lines.invariant.behind.nodes c.in-Ok-line.ensures.good in
+    let behind_line = c.in-Ok-line.ensures.ok lines _ (at_own _ _ _ _ _ _ c.lines.invariant.behind) (omega (arith, c.lines.invariant.counted)) in
+    record {
+      lines = lines ++ line ∷ [];
+      counted = omega (arith, c.lines.invariant.counted, length-append lines (line ∷ []));
+      feeds = next;
+      good = all-push _ _ _ c.lines.invariant.good line_good;
+      behind = subst (λ (ns : List Node). IsBehind ns (lines ++ line ∷ []) c.line.new.self (images g.D.Disk.image_at g.D.Disk.moment c.line.new.pairs.items) (g.W.Sink.written c.args.out.now) (g.W.Sink.written c.line.new.out)) c.lines.invariant.behind.nodes behind_line;
+      onward = none_then _ _ _ c.lines.invariant.onward c.line.ensures.onward;
+      unarmed = λ off. c.line.ensures.unarmed (c.lines.invariant.unarmed off) (λ is. cc);
+      places = c.line.ensures.places ∙ c.lines.invariant.places;
+      held = λ start h. c.in-Ok-line.ensures.held start lines c.lines.invariant.behind.stands (c.lines.invariant.held start h);
+      later = omega (arith, c.lines.invariant.later, c.line.ensures.later);
+      source_later = omega (arith, c.lines.invariant.source_later, c.advance.ensures.later);
+    }
 
 pub returns-in-Err-clause-bad : goal.returns-in-Err-clause-bad
 returns-in-Err-clause-bad g c = λ number is.
-    let lines = lines_of c.args.text.now in
+    let lines = c.lines.invariant.lines in
+    let line = c.line-line.result.now in
+    let next = subst (λ (l : List ℕ). Feeds (g.S.Source.taken c.args.source.now) (g.S.Source.left c.args.source.now) (lines ++ l ∷ []) (g.S.Source.taken c.advance.new.source) (g.S.Source.left c.advance.new.source) c.advance.new.self) (sym c.line-line.ensures) (c.in-Ok-true.ensures.line c.in-Ok-true.field-0-test (g.S.Source.taken c.args.source.now) (g.S.Source.left c.args.source.now) lines c.lines.invariant.feeds) in
     let same : c.in-Err.fault ≡ BadLine number = cc in
-    let found = c.in-Err.ensures.bad number (ap (λ (e : RunFault). Err e) same) in
-    let before : number - 1 ≡ c.lines.count = omega (arith, found.0) in
-    let stops = subst (λ (ns : List Node). StopsFor ns Bad (take c.lines.count lines) c.in-Some.line.now) c.lines.invariant.behind.nodes found.1 in (
-      stops_at lines c.lines.count c.lines.invariant.counted c.in-Some.line.now (lines_of c.in-Some.behind.now) (sym c.lines.invariant.left ∙ c.in-Some.ensures.0) _ Bad
-          record { lines = c.lines.invariant.good; few = c.lines.invariant.behind.few } stops number found.0,
-      rw before (due_same _ _ _ c.lines.self.output _ _ found.3 (search rules) c.lines.invariant.behind.due),
+    let failed = ap (λ (e : RunFault). Err e) same in
+    let found = c.in-Err.ensures.bad number failed in
+    let counted : number ≡ length lines + 1 = omega (arith, found.0, c.lines.invariant.counted) in
+    let stops = subst (λ (ns : List Node). StopsFor ns Bad lines line) c.lines.invariant.behind.nodes found.1 in (
+      inl (stops_at lines line (lines_of (waiting c.advance.new.self)) (run_of (appended_bytes (g.S.Source.taken c.args.source.now) (g.S.Source.taken c.advance.new.source))) next.fed.run c.args.self.now.nodes.items Bad record { lines = c.lines.invariant.good; few = c.lines.invariant.behind.few } stops number counted),
+      subst (λ (ls : List (List ℕ)). IsDue (g.W.Sink.written c.args.out.now) (g.W.Sink.written c.line.new.out) c.line.new.self.output (answers c.args.self.now.nodes.items ls)) (sym (before_it lines line (lines_of (waiting c.advance.new.self)) (run_of (appended_bytes (g.S.Source.taken c.args.source.now) (g.S.Source.taken c.advance.new.source))) next.fed.run number counted)) (due_same _ _ _ c.lines.self.output _ _ found.3 (search rules) c.lines.invariant.behind.due),
     )
 
 pub returns-in-Err-clause-many : goal.returns-in-Err-clause-many
 returns-in-Err-clause-many g c = λ number which is.
-    let lines = lines_of c.args.text.now in
+    let lines = c.lines.invariant.lines in
+    let line = c.line-line.result.now in
+    let next = subst (λ (l : List ℕ). Feeds (g.S.Source.taken c.args.source.now) (g.S.Source.left c.args.source.now) (lines ++ l ∷ []) (g.S.Source.taken c.advance.new.source) (g.S.Source.left c.advance.new.source) c.advance.new.self) (sym c.line-line.ensures) (c.in-Ok-true.ensures.line c.in-Ok-true.field-0-test (g.S.Source.taken c.args.source.now) (g.S.Source.left c.args.source.now) lines c.lines.invariant.feeds) in
     let same : c.in-Err.fault ≡ TooMany number which = cc in
     let failed = ap (λ (e : RunFault). Err e) same in
     let found = c.in-Err.ensures.many number which failed in
-    let over = c.in-Err.ensures.past (take c.lines.count lines) number which c.lines.invariant.behind.stands failed in
-    let before : number - 1 ≡ c.lines.count = omega (arith, found.0) in
-    let stops = subst (λ (ns : List Node). StopsFor ns (Past which) (take c.lines.count lines) c.in-Some.line.now) c.lines.invariant.behind.nodes (found.1, over) in (
-      stops_at lines c.lines.count c.lines.invariant.counted c.in-Some.line.now (lines_of c.in-Some.behind.now) (sym c.lines.invariant.left ∙ c.in-Some.ensures.0) _ (Past which)
-          record { lines = c.lines.invariant.good; few = c.lines.invariant.behind.few } stops number found.0,
-      rw before (due_same _ _ _ c.lines.self.output _ _ found.3 found.2 c.lines.invariant.behind.due),
+    let over = c.in-Err.ensures.past lines number which c.lines.invariant.behind.stands failed in
+    let counted : number ≡ length lines + 1 = omega (arith, found.0, c.lines.invariant.counted) in
+    let stops = subst (λ (ns : List Node). StopsFor ns (Past which) lines line) c.lines.invariant.behind.nodes (found.1, over) in (
+      stops_at lines line (lines_of (waiting c.advance.new.self)) (run_of (appended_bytes (g.S.Source.taken c.args.source.now) (g.S.Source.taken c.advance.new.source))) next.fed.run c.args.self.now.nodes.items (Past which) record { lines = c.lines.invariant.good; few = c.lines.invariant.behind.few } stops number counted,
+      subst (λ (ls : List (List ℕ)). IsDue (g.W.Sink.written c.args.out.now) (g.W.Sink.written c.line.new.out) c.line.new.self.output (answers c.args.self.now.nodes.items ls)) (sym (before_it lines line (lines_of (waiting c.advance.new.self)) (run_of (appended_bytes (g.S.Source.taken c.args.source.now) (g.S.Source.taken c.advance.new.source))) next.fed.run number counted)) (due_same _ _ _ c.lines.self.output _ _ found.3 found.2 c.lines.invariant.behind.due),
     )
-
-pub returns-in-Err-clause-part : goal.returns-in-Err-clause-part
-returns-in-Err-clause-part g c =
-    let lines = lines_of c.args.text.now in
-    let here = sym c.lines.invariant.left ∙ c.in-Some.ensures.0 in
-    let front = take c.lines.count lines in
-    let part = c.line.ensures.part front _ (at_own _ _ _ _ _ _ c.lines.invariant.behind) (next_number lines c.lines.count c.lines.invariant.counted) in
-    part_of_all lines c.lines.count c.lines.invariant.counted c.in-Some.line.now (lines_of c.in-Some.behind.now) here _ _ _ _
-    (subst (λ (ns : List Node). IsDuePart (g.W.Sink.written c.args.out.now) (g.W.Sink.written c.line.new.out) c.line.new.self.output (answers ns (front ++ c.in-Some.line.now ∷ []))) c.lines.invariant.behind.nodes part)
-
-pub lines-preserved : goal.lines-preserved
-lines-preserved g c =
-    let lines = lines_of c.args.text.now in
-    let here = sym c.lines.invariant.left ∙ c.in-Some.ensures.0 in
-    let line = c.in-Some.line.now in
-    let rest = lines_of c.in-Some.behind.now in
-    let front = take c.lines.count lines in
-    let more = sym (taken lines c.lines.count c.lines.invariant.counted line rest here) in
-    let line_good = subst (λ (ns : List Node). IsLine ns line) c.lines.invariant.behind.nodes c.in_default-line.ensures.good in
-    let behind_line = c.in_default-line.ensures.ok front _ (at_own _ _ _ _ _ _ c.lines.invariant.behind) (next_number lines c.lines.count c.lines.invariant.counted) in
-    record {
-      room = omega (arith, c.in-Some.ensures);
-      left = sym (behind lines c.lines.count c.lines.invariant.counted line rest here);
-      counted = omega (arith, within lines c.lines.count c.lines.invariant.counted line rest here);
-      good = subst (AllByRecursion (IsLine c.args.self.now.nodes.items)) more (all-push _ _ _ c.lines.invariant.good line_good);
-      behind = subst (λ (ls : List (List ℕ)). IsBehind c.args.self.now.nodes.items ls c.line.new.self (images g.D.Disk.image_at g.D.Disk.moment c.line.new.pairs.items) (g.W.Sink.written c.args.out.now) (g.W.Sink.written c.line.new.out)) more
-          (subst (λ (ns : List Node). IsBehind ns (front ++ line ∷ []) c.line.new.self (images g.D.Disk.image_at g.D.Disk.moment c.line.new.pairs.items) (g.W.Sink.written c.args.out.now) (g.W.Sink.written c.line.new.out)) c.lines.invariant.behind.nodes behind_line);
-      onward = none_then _ _ _ c.lines.invariant.onward c.line.ensures.onward;
-      unarmed = λ off. c.line.ensures.unarmed (c.lines.invariant.unarmed off) (λ is. cc);
-      places = c.line.ensures.places ∙ c.lines.invariant.places;
-      held = λ start h. subst (λ (ls : List (List ℕ)). AllHeld start (ran ls) c.line.new.self.world (bench g.D.Disk.image_at g.D.Disk.moment g.D.Disk.faults g.D.Disk.armed g.D.Disk.picks c.line.new.pairs.items)) more (c.in_default-line.ensures.held start front c.lines.invariant.behind.stands (c.lines.invariant.held start h));
-      later = search rules;
-    }
-
-pub returns-clause-count : goal.returns-clause-count
-returns-clause-count g c = all_counted (lines_of c.args.text.now) c.lines.count c.lines.invariant.counted (sym c.lines.invariant.left ∙ c.in_default.ensures)
-
-pub returns-clause-good : goal.returns-clause-good
-returns-clause-good g c =
-    let all = none_left (lines_of c.args.text.now) c.lines.count c.lines.invariant.counted (sym c.lines.invariant.left ∙ c.in_default.ensures) in
-    subst (IsRun c.args.self.now.nodes.items) all record { lines = c.lines.invariant.good; few = c.lines.invariant.behind.few }
-
-pub returns-clause-due : goal.returns-clause-due
-returns-clause-due g c =
-    let all = none_left (lines_of c.args.text.now) c.lines.count c.lines.invariant.counted (sym c.lines.invariant.left ∙ c.in_default.ensures) in
-    subst (λ (ls : List (List ℕ)). IsDue (g.W.Sink.written c.args.out.now) (g.W.Sink.written c.lines.out) c.lines.self.output (answers c.args.self.now.nodes.items ls)) all c.lines.invariant.behind.due
-
-pub returns-clause-part : goal.returns-clause-part
-returns-clause-part g c =
-    let all = none_left (lines_of c.args.text.now) c.lines.count c.lines.invariant.counted (sym c.lines.invariant.left ∙ c.in_default.ensures) in
-    due_whole _ _ _ _ (subst (λ (ls : List (List ℕ)). IsDue (g.W.Sink.written c.args.out.now) (g.W.Sink.written c.lines.out) c.lines.self.output (answers c.args.self.now.nodes.items ls)) all c.lines.invariant.behind.due)
 
 pub returns-in-Err-clause-whole : goal.returns-in-Err-clause-whole
 returns-in-Err-clause-whole g c = λ slot is.
+    let lines = c.lines.invariant.lines in
+    let line = c.line-line.result.now in
+    let next = subst (λ (l : List ℕ). Feeds (g.S.Source.taken c.args.source.now) (g.S.Source.left c.args.source.now) (lines ++ l ∷ []) (g.S.Source.taken c.advance.new.source) (g.S.Source.left c.advance.new.source) c.advance.new.self) (sym c.line-line.ensures) (c.in-Ok-true.ensures.line c.in-Ok-true.field-0-test (g.S.Source.taken c.args.source.now) (g.S.Source.left c.args.source.now) lines c.lines.invariant.feeds) in
     let same : c.in-Err.fault ≡ Disk slot = cc in
-    let found = c.in-Err.ensures.whole slot (ap (λ (e : RunFault). Err e) same) in
-    record {
-      count = c.lines.count;
-      run = record { lines = c.lines.invariant.good; few = c.lines.invariant.behind.few };
-      holds = due_same _ _ _ c.lines.self.output _ _ found.1 found.0 c.lines.invariant.behind.due;
-    }
+    let failed = ap (λ (e : RunFault). Err e) same in
+    let found = c.in-Err.ensures.whole slot failed in
+    front_of_all lines line (lines_of (waiting c.advance.new.self)) (run_of (appended_bytes (g.S.Source.taken c.args.source.now) (g.S.Source.taken c.advance.new.source))) next.fed.run c.args.self.now.nodes.items (λ (ls : List (List ℕ)). IsDue (g.W.Sink.written c.args.out.now) (g.W.Sink.written c.line.new.out) c.line.new.self.output (answers c.args.self.now.nodes.items ls)) record { lines = c.lines.invariant.good; few = c.lines.invariant.behind.few } (due_same _ _ _ c.lines.self.output _ _ found.1 found.0 c.lines.invariant.behind.due)
 
 pub returns-in-Err-clause-onward : goal.returns-in-Err-clause-onward
 returns-in-Err-clause-onward g c = none_then _ _ _ c.lines.invariant.onward c.line.ensures.onward
@@ -115,26 +122,243 @@ returns-in-Err-clause-unarmed g c = λ off room. c.line.ensures.unarmed (c.lines
 pub returns-in-Err-clause-failed : goal.returns-in-Err-clause-failed
 returns-in-Err-clause-failed g c = λ start h slot is.
     let same : c.in-Err.fault ≡ Disk slot = cc in
-    c.in-Err.ensures.failed start (ran (take c.lines.count (lines_of c.args.text.now))) slot (ap (λ (e : RunFault). Err e) same) (c.lines.invariant.held start h)
-
-pub returns-in-Err-clause-place : goal.returns-in-Err-clause-place
-returns-in-Err-clause-place g c = λ slot is.
-    let same : c.in-Err.fault ≡ Disk slot = cc in
-    subst (λ (ks : List ℕ). IsPlace ks slot) c.lines.invariant.places (c.in-Err.ensures.place slot (ap (λ (e : RunFault). Err e) same))
-
-pub returns-clause-held : goal.returns-clause-held
-returns-clause-held g c = λ start h.
-    let all = none_left (lines_of c.args.text.now) c.lines.count c.lines.invariant.counted (sym c.lines.invariant.left ∙ c.in_default.ensures) in
-    subst (λ (ls : List (List ℕ)). AllHeld start (ran ls) c.args.self.now.world (bench g.D.Disk.image_at g.D.Disk.moment g.D.Disk.faults g.D.Disk.armed g.D.Disk.picks c.lines.pairs.items)) all
-    (held_as start (ran (take c.lines.count (lines_of c.args.text.now))) c.lines.self.world c.args.self.now.world (bench g.D.Disk.image_at g.D.Disk.moment g.D.Disk.faults g.D.Disk.armed g.D.Disk.picks c.lines.pairs.items) (c.requires.fresh.world ∙ sym c.lines.invariant.behind.world) (sym c.lines.invariant.places) (c.lines.invariant.held start h))
+    let failed = ap (λ (e : RunFault). Err e) same in
+    c.in-Err.ensures.failed start (ran c.lines.invariant.lines) slot failed (c.lines.invariant.held start h)
 
 pub returns-in-Err-clause-bad_held : goal.returns-in-Err-clause-bad_held
 returns-in-Err-clause-bad_held g c = λ start h number is.
+    let lines = c.lines.invariant.lines in
+    let line = c.line-line.result.now in
+    let next = subst (λ (l : List ℕ). Feeds (g.S.Source.taken c.args.source.now) (g.S.Source.left c.args.source.now) (lines ++ l ∷ []) (g.S.Source.taken c.advance.new.source) (g.S.Source.left c.advance.new.source) c.advance.new.self) (sym c.line-line.ensures) (c.in-Ok-true.ensures.line c.in-Ok-true.field-0-test (g.S.Source.taken c.args.source.now) (g.S.Source.left c.args.source.now) lines c.lines.invariant.feeds) in
     let same : c.in-Err.fault ≡ BadLine number = cc in
     let failed = ap (λ (e : RunFault). Err e) same in
     let found = c.in-Err.ensures.bad number failed in
-    let still = c.in-Err.ensures.same number failed in
-    let before : number - 1 ≡ c.lines.count = omega (arith, found.0) in
-    subst (λ (k : ℕ). AllHeld start (ran (take k (lines_of c.args.text.now))) c.args.self.now.world (bench g.D.Disk.image_at g.D.Disk.moment g.D.Disk.faults g.D.Disk.armed g.D.Disk.picks c.line.new.pairs.items)) (sym before)
-    (subst (λ (ps : Vec (Pair _)). AllHeld start (ran (take c.lines.count (lines_of c.args.text.now))) c.args.self.now.world (bench g.D.Disk.image_at g.D.Disk.moment g.D.Disk.faults g.D.Disk.armed g.D.Disk.picks ps.items)) (sym still)
-    (held_as start (ran (take c.lines.count (lines_of c.args.text.now))) c.lines.self.world c.args.self.now.world (bench g.D.Disk.image_at g.D.Disk.moment g.D.Disk.faults g.D.Disk.armed g.D.Disk.picks c.lines.pairs.items) (c.requires.fresh.world ∙ sym c.lines.invariant.behind.world) (sym c.lines.invariant.places) (c.lines.invariant.held start h)))
+    let counted : number ≡ length lines + 1 = omega (arith, found.0, c.lines.invariant.counted) in
+    subst (λ (ls : List (List ℕ)). AllHeld start (ran ls) c.args.self.now.world (bench g.D.Disk.image_at g.D.Disk.moment g.D.Disk.faults g.D.Disk.armed g.D.Disk.picks c.line.new.pairs.items)) (sym (before_it lines line (lines_of (waiting c.advance.new.self)) (run_of (appended_bytes (g.S.Source.taken c.args.source.now) (g.S.Source.taken c.advance.new.source))) next.fed.run number counted))
+    (subst (λ (ps : Vec (Pair _)). AllHeld start (ran lines) c.args.self.now.world (bench g.D.Disk.image_at g.D.Disk.moment g.D.Disk.faults g.D.Disk.armed g.D.Disk.picks ps.items)) (sym (c.in-Err.ensures.same number failed)) (held_as start (ran c.lines.invariant.lines) c.lines.self.world c.args.self.now.world (bench g.D.Disk.image_at g.D.Disk.moment g.D.Disk.faults g.D.Disk.armed g.D.Disk.picks c.lines.pairs.items) (c.requires.fresh.world ∙ sym c.lines.invariant.behind.world) (sym c.lines.invariant.places) (c.lines.invariant.held start h)))
+
+pub returns-in-Err-clause-part : goal.returns-in-Err-clause-part
+returns-in-Err-clause-part g c =
+    let lines = c.lines.invariant.lines in
+    let line = c.line-line.result.now in
+    let next = subst (λ (l : List ℕ). Feeds (g.S.Source.taken c.args.source.now) (g.S.Source.left c.args.source.now) (lines ++ l ∷ []) (g.S.Source.taken c.advance.new.source) (g.S.Source.left c.advance.new.source) c.advance.new.self) (sym c.line-line.ensures) (c.in-Ok-true.ensures.line c.in-Ok-true.field-0-test (g.S.Source.taken c.args.source.now) (g.S.Source.left c.args.source.now) lines c.lines.invariant.feeds) in
+    let part = c.line.ensures.part lines _ (at_own _ _ _ _ _ _ c.lines.invariant.behind) (omega (arith, c.lines.invariant.counted)) in
+    part_of_all lines line (lines_of (waiting c.advance.new.self)) (run_of (appended_bytes (g.S.Source.taken c.args.source.now) (g.S.Source.taken c.advance.new.source))) next.fed.run _ _ _ _ (subst (λ (ns : List Node). IsDuePart (g.W.Sink.written c.args.out.now) (g.W.Sink.written c.line.new.out) c.line.new.self.output (answers ns (lines ++ line ∷ []))) c.lines.invariant.behind.nodes part)
+
+pub returns-in-Err-clause-taken : goal.returns-in-Err-clause-taken
+returns-in-Err-clause-taken g c =
+    let lines = c.lines.invariant.lines in
+    let line = c.line-line.result.now in
+    let next = subst (λ (l : List ℕ). Feeds (g.S.Source.taken c.args.source.now) (g.S.Source.left c.args.source.now) (lines ++ l ∷ []) (g.S.Source.taken c.advance.new.source) (g.S.Source.left c.advance.new.source) c.advance.new.self) (sym c.line-line.ensures) (c.in-Ok-true.ensures.line c.in-Ok-true.field-0-test (g.S.Source.taken c.args.source.now) (g.S.Source.left c.args.source.now) lines c.lines.invariant.feeds) in
+    next.consumed
+
+pub returns-in-Ok-false-clause-good : goal.returns-in-Ok-false-clause-good
+returns-in-Ok-false-clause-good g c =
+    let lines = c.lines.invariant.lines in
+    let last = c.in-Ok-false.ensures.still c.in-Ok-false.field-0-test (g.S.Source.taken c.args.source.now) (g.S.Source.left c.args.source.now) lines c.lines.invariant.feeds in
+    let none = c.in-Ok-false.ensures.none c.in-Ok-false.field-0-test in
+    let all = all_lines (g.S.Source.taken c.args.source.now) (g.S.Source.left c.args.source.now) lines (g.S.Source.taken c.advance.new.source) (g.S.Source.left c.advance.new.source) c.advance.new.self last none in
+    subst (IsRun c.args.self.now.nodes.items) (sym all) record { lines = c.lines.invariant.good; few = c.lines.invariant.behind.few }
+
+pub returns-in-Ok-false-clause-due : goal.returns-in-Ok-false-clause-due
+returns-in-Ok-false-clause-due g c =
+    let lines = c.lines.invariant.lines in
+    let last = c.in-Ok-false.ensures.still c.in-Ok-false.field-0-test (g.S.Source.taken c.args.source.now) (g.S.Source.left c.args.source.now) lines c.lines.invariant.feeds in
+    let none = c.in-Ok-false.ensures.none c.in-Ok-false.field-0-test in
+    let all = all_lines (g.S.Source.taken c.args.source.now) (g.S.Source.left c.args.source.now) lines (g.S.Source.taken c.advance.new.source) (g.S.Source.left c.advance.new.source) c.advance.new.self last none in
+    subst (λ (ls : List (List ℕ)). IsDue (g.W.Sink.written c.args.out.now) (g.W.Sink.written c.lines.out) c.lines.self.output (answers c.args.self.now.nodes.items ls)) (sym all) c.lines.invariant.behind.due
+
+pub returns-in-Ok-false-clause-held : goal.returns-in-Ok-false-clause-held
+returns-in-Ok-false-clause-held g c = λ start h.
+    let lines = c.lines.invariant.lines in
+    let last = c.in-Ok-false.ensures.still c.in-Ok-false.field-0-test (g.S.Source.taken c.args.source.now) (g.S.Source.left c.args.source.now) lines c.lines.invariant.feeds in
+    let none = c.in-Ok-false.ensures.none c.in-Ok-false.field-0-test in
+    let all = all_lines (g.S.Source.taken c.args.source.now) (g.S.Source.left c.args.source.now) lines (g.S.Source.taken c.advance.new.source) (g.S.Source.left c.advance.new.source) c.advance.new.self last none in
+    subst (λ (ls : List (List ℕ)). AllHeld start (ran ls) c.args.self.now.world (bench g.D.Disk.image_at g.D.Disk.moment g.D.Disk.faults g.D.Disk.armed g.D.Disk.picks c.lines.pairs.items)) (sym all) (held_as start (ran c.lines.invariant.lines) c.lines.self.world c.args.self.now.world (bench g.D.Disk.image_at g.D.Disk.moment g.D.Disk.faults g.D.Disk.armed g.D.Disk.picks c.lines.pairs.items) (c.requires.fresh.world ∙ sym c.lines.invariant.behind.world) (sym c.lines.invariant.places) (c.lines.invariant.held start h))
+
+pub returns-in-Err-TooLong-clause-good : goal.returns-in-Err-TooLong-clause-good
+returns-in-Err-TooLong-clause-good g c =
+    let lines = c.lines.invariant.lines in
+    let last = c.in-Err-TooLong.ensures.still refl (g.S.Source.taken c.args.source.now) (g.S.Source.left c.args.source.now) lines c.lines.invariant.feeds in
+    let none = c.in-Err-TooLong.ensures.none refl in
+    let all = all_lines (g.S.Source.taken c.args.source.now) (g.S.Source.left c.args.source.now) lines (g.S.Source.taken c.advance.new.source) (g.S.Source.left c.advance.new.source) c.advance.new.self last none in
+    subst (IsRun c.args.self.now.nodes.items) (sym all) record { lines = c.lines.invariant.good; few = c.lines.invariant.behind.few }
+
+pub returns-in-Err-TooLong-clause-due : goal.returns-in-Err-TooLong-clause-due
+returns-in-Err-TooLong-clause-due g c =
+    let lines = c.lines.invariant.lines in
+    let last = c.in-Err-TooLong.ensures.still refl (g.S.Source.taken c.args.source.now) (g.S.Source.left c.args.source.now) lines c.lines.invariant.feeds in
+    let none = c.in-Err-TooLong.ensures.none refl in
+    let all = all_lines (g.S.Source.taken c.args.source.now) (g.S.Source.left c.args.source.now) lines (g.S.Source.taken c.advance.new.source) (g.S.Source.left c.advance.new.source) c.advance.new.self last none in
+    subst (λ (ls : List (List ℕ)). IsDue (g.W.Sink.written c.args.out.now) (g.W.Sink.written c.lines.out) c.lines.self.output (answers c.args.self.now.nodes.items ls)) (sym all) c.lines.invariant.behind.due
+
+pub returns-in-Err-TooLong-clause-held : goal.returns-in-Err-TooLong-clause-held
+returns-in-Err-TooLong-clause-held g c = λ start h.
+    let lines = c.lines.invariant.lines in
+    let last = c.in-Err-TooLong.ensures.still refl (g.S.Source.taken c.args.source.now) (g.S.Source.left c.args.source.now) lines c.lines.invariant.feeds in
+    let none = c.in-Err-TooLong.ensures.none refl in
+    let all = all_lines (g.S.Source.taken c.args.source.now) (g.S.Source.left c.args.source.now) lines (g.S.Source.taken c.advance.new.source) (g.S.Source.left c.advance.new.source) c.advance.new.self last none in
+    subst (λ (ls : List (List ℕ)). AllHeld start (ran ls) c.args.self.now.world (bench g.D.Disk.image_at g.D.Disk.moment g.D.Disk.faults g.D.Disk.armed g.D.Disk.picks c.lines.pairs.items)) (sym all) (held_as start (ran c.lines.invariant.lines) c.lines.self.world c.args.self.now.world (bench g.D.Disk.image_at g.D.Disk.moment g.D.Disk.faults g.D.Disk.armed g.D.Disk.picks c.lines.pairs.items) (c.requires.fresh.world ∙ sym c.lines.invariant.behind.world) (sym c.lines.invariant.places) (c.lines.invariant.held start h))
+
+pub returns-in-Err-Read-clause-good : goal.returns-in-Err-Read-clause-good
+returns-in-Err-Read-clause-good g c =
+    let lines = c.lines.invariant.lines in
+    let last = c.in-Err-Read.ensures.still refl (g.S.Source.taken c.args.source.now) (g.S.Source.left c.args.source.now) lines c.lines.invariant.feeds in
+    let none = c.in-Err-Read.ensures.none refl in
+    let all = all_lines (g.S.Source.taken c.args.source.now) (g.S.Source.left c.args.source.now) lines (g.S.Source.taken c.advance.new.source) (g.S.Source.left c.advance.new.source) c.advance.new.self last none in
+    subst (IsRun c.args.self.now.nodes.items) (sym all) record { lines = c.lines.invariant.good; few = c.lines.invariant.behind.few }
+
+pub returns-in-Err-Read-clause-due : goal.returns-in-Err-Read-clause-due
+returns-in-Err-Read-clause-due g c =
+    let lines = c.lines.invariant.lines in
+    let last = c.in-Err-Read.ensures.still refl (g.S.Source.taken c.args.source.now) (g.S.Source.left c.args.source.now) lines c.lines.invariant.feeds in
+    let none = c.in-Err-Read.ensures.none refl in
+    let all = all_lines (g.S.Source.taken c.args.source.now) (g.S.Source.left c.args.source.now) lines (g.S.Source.taken c.advance.new.source) (g.S.Source.left c.advance.new.source) c.advance.new.self last none in
+    subst (λ (ls : List (List ℕ)). IsDue (g.W.Sink.written c.args.out.now) (g.W.Sink.written c.lines.out) c.lines.self.output (answers c.args.self.now.nodes.items ls)) (sym all) c.lines.invariant.behind.due
+
+pub returns-in-Err-Read-clause-held : goal.returns-in-Err-Read-clause-held
+returns-in-Err-Read-clause-held g c = λ start h.
+    let lines = c.lines.invariant.lines in
+    let last = c.in-Err-Read.ensures.still refl (g.S.Source.taken c.args.source.now) (g.S.Source.left c.args.source.now) lines c.lines.invariant.feeds in
+    let none = c.in-Err-Read.ensures.none refl in
+    let all = all_lines (g.S.Source.taken c.args.source.now) (g.S.Source.left c.args.source.now) lines (g.S.Source.taken c.advance.new.source) (g.S.Source.left c.advance.new.source) c.advance.new.self last none in
+    subst (λ (ls : List (List ℕ)). AllHeld start (ran ls) c.args.self.now.world (bench g.D.Disk.image_at g.D.Disk.moment g.D.Disk.faults g.D.Disk.armed g.D.Disk.picks c.lines.pairs.items)) (sym all) (held_as start (ran c.lines.invariant.lines) c.lines.self.world c.args.self.now.world (bench g.D.Disk.image_at g.D.Disk.moment g.D.Disk.faults g.D.Disk.armed g.D.Disk.picks c.lines.pairs.items) (c.requires.fresh.world ∙ sym c.lines.invariant.behind.world) (sym c.lines.invariant.places) (c.lines.invariant.held start h))
+
+pub returns-in-Ok-false-clause-part : goal.returns-in-Ok-false-clause-part
+returns-in-Ok-false-clause-part g c =
+    let lines = c.lines.invariant.lines in
+    let last = c.in-Ok-false.ensures.still c.in-Ok-false.field-0-test (g.S.Source.taken c.args.source.now) (g.S.Source.left c.args.source.now) lines c.lines.invariant.feeds in
+    let none = c.in-Ok-false.ensures.none c.in-Ok-false.field-0-test in
+    let all = all_lines (g.S.Source.taken c.args.source.now) (g.S.Source.left c.args.source.now) lines (g.S.Source.taken c.advance.new.source) (g.S.Source.left c.advance.new.source) c.advance.new.self last none in
+    due_whole _ _ _ _ (subst (λ (ls : List (List ℕ)). IsDue (g.W.Sink.written c.args.out.now) (g.W.Sink.written c.lines.out) c.lines.self.output (answers c.args.self.now.nodes.items ls)) (sym all) c.lines.invariant.behind.due)
+
+pub returns-in-Ok-false-clause-taken : goal.returns-in-Ok-false-clause-taken
+returns-in-Ok-false-clause-taken g c = (c.in-Ok-false.ensures.still c.in-Ok-false.field-0-test (g.S.Source.taken c.args.source.now) (g.S.Source.left c.args.source.now) c.lines.invariant.lines c.lines.invariant.feeds).consumed
+
+pub returns-in-Err-TooLong-clause-part : goal.returns-in-Err-TooLong-clause-part
+returns-in-Err-TooLong-clause-part g c =
+    let lines = c.lines.invariant.lines in
+    let last = c.in-Err-TooLong.ensures.still refl (g.S.Source.taken c.args.source.now) (g.S.Source.left c.args.source.now) lines c.lines.invariant.feeds in
+    let none = c.in-Err-TooLong.ensures.none refl in
+    let all = all_lines (g.S.Source.taken c.args.source.now) (g.S.Source.left c.args.source.now) lines (g.S.Source.taken c.advance.new.source) (g.S.Source.left c.advance.new.source) c.advance.new.self last none in
+    due_whole _ _ _ _ (subst (λ (ls : List (List ℕ)). IsDue (g.W.Sink.written c.args.out.now) (g.W.Sink.written c.lines.out) c.lines.self.output (answers c.args.self.now.nodes.items ls)) (sym all) c.lines.invariant.behind.due)
+
+pub returns-in-Err-TooLong-clause-taken : goal.returns-in-Err-TooLong-clause-taken
+returns-in-Err-TooLong-clause-taken g c = (c.in-Err-TooLong.ensures.still refl (g.S.Source.taken c.args.source.now) (g.S.Source.left c.args.source.now) c.lines.invariant.lines c.lines.invariant.feeds).consumed
+
+pub returns-in-Err-Read-clause-part : goal.returns-in-Err-Read-clause-part
+returns-in-Err-Read-clause-part g c =
+    let lines = c.lines.invariant.lines in
+    let last = c.in-Err-Read.ensures.still refl (g.S.Source.taken c.args.source.now) (g.S.Source.left c.args.source.now) lines c.lines.invariant.feeds in
+    let none = c.in-Err-Read.ensures.none refl in
+    let all = all_lines (g.S.Source.taken c.args.source.now) (g.S.Source.left c.args.source.now) lines (g.S.Source.taken c.advance.new.source) (g.S.Source.left c.advance.new.source) c.advance.new.self last none in
+    due_whole _ _ _ _ (subst (λ (ls : List (List ℕ)). IsDue (g.W.Sink.written c.args.out.now) (g.W.Sink.written c.lines.out) c.lines.self.output (answers c.args.self.now.nodes.items ls)) (sym all) c.lines.invariant.behind.due)
+
+pub returns-in-Err-Read-clause-taken : goal.returns-in-Err-Read-clause-taken
+returns-in-Err-Read-clause-taken g c = (c.in-Err-Read.ensures.still refl (g.S.Source.taken c.args.source.now) (g.S.Source.left c.args.source.now) c.lines.invariant.lines c.lines.invariant.feeds).consumed
+
+pub returns-in-Err-Unfinished-clause-part : goal.returns-in-Err-Unfinished-clause-part
+returns-in-Err-Unfinished-clause-part g c =
+    let lines = c.lines.invariant.lines in
+    let last = c.in-Err-Unfinished.ensures.still refl (g.S.Source.taken c.args.source.now) (g.S.Source.left c.args.source.now) lines c.lines.invariant.feeds in
+    let none = c.in-Err-Unfinished.ensures.none refl in
+    let all = all_lines (g.S.Source.taken c.args.source.now) (g.S.Source.left c.args.source.now) lines (g.S.Source.taken c.advance.new.source) (g.S.Source.left c.advance.new.source) c.advance.new.self last none in
+    due_whole _ _ _ _ (subst (λ (ls : List (List ℕ)). IsDue (g.W.Sink.written c.args.out.now) (g.W.Sink.written c.lines.out) c.lines.self.output (answers c.args.self.now.nodes.items ls)) (sym all) c.lines.invariant.behind.due)
+
+pub returns-in-Err-Unfinished-clause-taken : goal.returns-in-Err-Unfinished-clause-taken
+returns-in-Err-Unfinished-clause-taken g c = (c.in-Err-Unfinished.ensures.still refl (g.S.Source.taken c.args.source.now) (g.S.Source.left c.args.source.now) c.lines.invariant.lines c.lines.invariant.feeds).consumed
+
+pub returns-in-Err-Overlong-clause-part : goal.returns-in-Err-Overlong-clause-part
+returns-in-Err-Overlong-clause-part g c =
+    let lines = c.lines.invariant.lines in
+    let last = c.in-Err-Overlong.ensures.still refl (g.S.Source.taken c.args.source.now) (g.S.Source.left c.args.source.now) lines c.lines.invariant.feeds in
+    let none = c.in-Err-Overlong.ensures.none refl in
+    let all = all_lines (g.S.Source.taken c.args.source.now) (g.S.Source.left c.args.source.now) lines (g.S.Source.taken c.advance.new.source) (g.S.Source.left c.advance.new.source) c.advance.new.self last none in
+    due_whole _ _ _ _ (subst (λ (ls : List (List ℕ)). IsDue (g.W.Sink.written c.args.out.now) (g.W.Sink.written c.lines.out) c.lines.self.output (answers c.args.self.now.nodes.items ls)) (sym all) c.lines.invariant.behind.due)
+
+pub returns-in-Err-Overlong-clause-taken : goal.returns-in-Err-Overlong-clause-taken
+returns-in-Err-Overlong-clause-taken g c = (c.in-Err-Overlong.ensures.still refl (g.S.Source.taken c.args.source.now) (g.S.Source.left c.args.source.now) c.lines.invariant.lines c.lines.invariant.feeds).consumed
+
+pub returns-in-Err-NoMemory-clause-part : goal.returns-in-Err-NoMemory-clause-part
+returns-in-Err-NoMemory-clause-part g c =
+    let lines = c.lines.invariant.lines in
+    let last = c.in-Err-NoMemory.ensures.still refl (g.S.Source.taken c.args.source.now) (g.S.Source.left c.args.source.now) lines c.lines.invariant.feeds in
+    let none = c.in-Err-NoMemory.ensures.none refl in
+    let all = all_lines (g.S.Source.taken c.args.source.now) (g.S.Source.left c.args.source.now) lines (g.S.Source.taken c.advance.new.source) (g.S.Source.left c.advance.new.source) c.advance.new.self last none in
+    due_whole _ _ _ _ (subst (λ (ls : List (List ℕ)). IsDue (g.W.Sink.written c.args.out.now) (g.W.Sink.written c.lines.out) c.lines.self.output (answers c.args.self.now.nodes.items ls)) (sym all) c.lines.invariant.behind.due)
+
+pub returns-in-Err-NoMemory-clause-taken : goal.returns-in-Err-NoMemory-clause-taken
+returns-in-Err-NoMemory-clause-taken g c = (c.in-Err-NoMemory.ensures.still refl (g.S.Source.taken c.args.source.now) (g.S.Source.left c.args.source.now) c.lines.invariant.lines c.lines.invariant.feeds).consumed
+
+pub returns-in-Ok-false-clause-ok : goal.returns-in-Ok-false-clause-ok
+returns-in-Ok-false-clause-ok g c = λ _.
+    let lines = c.lines.invariant.lines in
+    let last = c.in-Ok-false.ensures.still c.in-Ok-false.field-0-test (g.S.Source.taken c.args.source.now) (g.S.Source.left c.args.source.now) lines c.lines.invariant.feeds in
+    let none = c.in-Ok-false.ensures.none c.in-Ok-false.field-0-test in
+    let all = all_lines (g.S.Source.taken c.args.source.now) (g.S.Source.left c.args.source.now) lines (g.S.Source.taken c.advance.new.source) (g.S.Source.left c.advance.new.source) c.advance.new.self last none in
+    let end = c.in-Ok-false.ensures.end c.in-Ok-false.field-0-test in
+    (schedule (g.S.Source.taken c.args.source.now) (g.S.Source.left c.args.source.now) lines (g.S.Source.taken c.advance.new.source) (g.S.Source.left c.advance.new.source) c.advance.new.self last none end.1 c.args.self.now.nodes.items record { lines = c.lines.invariant.good; few = c.lines.invariant.behind.few } end.2, end.0)
+
+pub returns-in-Err-TooLong-clause-long : goal.returns-in-Err-TooLong-clause-long
+returns-in-Err-TooLong-clause-long g c = λ _.
+    let lines = c.lines.invariant.lines in
+    let last = c.in-Err-TooLong.ensures.still refl (g.S.Source.taken c.args.source.now) (g.S.Source.left c.args.source.now) lines c.lines.invariant.feeds in
+    let none = c.in-Err-TooLong.ensures.none refl in
+    let all = all_lines (g.S.Source.taken c.args.source.now) (g.S.Source.left c.args.source.now) lines (g.S.Source.taken c.advance.new.source) (g.S.Source.left c.advance.new.source) c.advance.new.self last none in
+    is_long (g.S.Source.taken c.args.source.now) (g.S.Source.left c.args.source.now) lines (g.S.Source.taken c.advance.new.source) (g.S.Source.left c.advance.new.source) c.advance.new.self last none (c.in-Err-TooLong.ensures.long (search rules))
+
+pub returns-in-Err-Read-clause-read : goal.returns-in-Err-Read-clause-read
+returns-in-Err-Read-clause-read g c = λ _.
+    let lines = c.lines.invariant.lines in
+    let last = c.in-Err-Read.ensures.still refl (g.S.Source.taken c.args.source.now) (g.S.Source.left c.args.source.now) lines c.lines.invariant.feeds in
+    let none = c.in-Err-Read.ensures.none refl in
+    let all = all_lines (g.S.Source.taken c.args.source.now) (g.S.Source.left c.args.source.now) lines (g.S.Source.taken c.advance.new.source) (g.S.Source.left c.advance.new.source) c.advance.new.self last none in
+    let end = c.in-Err-Read.ensures.read (search rules) in
+    (omega (arith, c.lines.invariant.source_later, end.0), is_short (g.S.Source.taken c.args.source.now) (g.S.Source.left c.args.source.now) lines (g.S.Source.taken c.advance.new.source) (g.S.Source.left c.advance.new.source) c.advance.new.self last none end.1)
+
+pub returns-in-Err-Unfinished-clause-bad : goal.returns-in-Err-Unfinished-clause-bad
+returns-in-Err-Unfinished-clause-bad g c = λ number is.
+    let lines = c.lines.invariant.lines in
+    let last = c.in-Err-Unfinished.ensures.still refl (g.S.Source.taken c.args.source.now) (g.S.Source.left c.args.source.now) lines c.lines.invariant.feeds in
+    let none = c.in-Err-Unfinished.ensures.none refl in
+    let all = all_lines (g.S.Source.taken c.args.source.now) (g.S.Source.left c.args.source.now) lines (g.S.Source.taken c.advance.new.source) (g.S.Source.left c.advance.new.source) c.advance.new.self last none in
+    let same : c.lines.count + 1 ≡ number = cc in
+    let counted : number ≡ length lines + 1 = omega (arith, same, c.lines.invariant.counted) in
+    let end = c.in-Err-Unfinished.ensures.unfinished (search rules) in
+    let bad = inl (unfinished (g.S.Source.taken c.args.source.now) (g.S.Source.left c.args.source.now) lines (g.S.Source.taken c.advance.new.source) (g.S.Source.left c.advance.new.source) c.advance.new.self last none end.1 end.0 end.2) in (
+      bad_rest c.args.self.now.nodes.items lines (appended_bytes (g.S.Source.taken c.args.source.now) (g.S.Source.taken c.advance.new.source)) (g.S.Source.left c.advance.new.source) number all record { lines = c.lines.invariant.good; few = c.lines.invariant.behind.few } counted bad,
+      subst (λ (ls : List (List ℕ)). IsDue (g.W.Sink.written c.args.out.now) (g.W.Sink.written c.lines.out) c.lines.self.output (answers c.args.self.now.nodes.items ls)) (sym (all_before lines (run_of (appended_bytes (g.S.Source.taken c.args.source.now) (g.S.Source.taken c.advance.new.source))) number all counted)) c.lines.invariant.behind.due,
+    )
+
+pub returns-in-Err-Unfinished-clause-bad_held : goal.returns-in-Err-Unfinished-clause-bad_held
+returns-in-Err-Unfinished-clause-bad_held g c = λ start h number is.
+    let lines = c.lines.invariant.lines in
+    let last = c.in-Err-Unfinished.ensures.still refl (g.S.Source.taken c.args.source.now) (g.S.Source.left c.args.source.now) lines c.lines.invariant.feeds in
+    let none = c.in-Err-Unfinished.ensures.none refl in
+    let all = all_lines (g.S.Source.taken c.args.source.now) (g.S.Source.left c.args.source.now) lines (g.S.Source.taken c.advance.new.source) (g.S.Source.left c.advance.new.source) c.advance.new.self last none in
+    let same : c.lines.count + 1 ≡ number = cc in
+    let counted : number ≡ length lines + 1 = omega (arith, same, c.lines.invariant.counted) in
+    subst (λ (ls : List (List ℕ)). AllHeld start (ran ls) c.args.self.now.world (bench g.D.Disk.image_at g.D.Disk.moment g.D.Disk.faults g.D.Disk.armed g.D.Disk.picks c.lines.pairs.items)) (sym (all_before lines (run_of (appended_bytes (g.S.Source.taken c.args.source.now) (g.S.Source.taken c.advance.new.source))) number all counted)) (held_as start (ran c.lines.invariant.lines) c.lines.self.world c.args.self.now.world (bench g.D.Disk.image_at g.D.Disk.moment g.D.Disk.faults g.D.Disk.armed g.D.Disk.picks c.lines.pairs.items) (c.requires.fresh.world ∙ sym c.lines.invariant.behind.world) (sym c.lines.invariant.places) (c.lines.invariant.held start h))
+
+pub returns-in-Err-Overlong-clause-bad : goal.returns-in-Err-Overlong-clause-bad
+returns-in-Err-Overlong-clause-bad g c = λ number is.
+    let lines = c.lines.invariant.lines in
+    let last = c.in-Err-Overlong.ensures.still refl (g.S.Source.taken c.args.source.now) (g.S.Source.left c.args.source.now) lines c.lines.invariant.feeds in
+    let none = c.in-Err-Overlong.ensures.none refl in
+    let all = all_lines (g.S.Source.taken c.args.source.now) (g.S.Source.left c.args.source.now) lines (g.S.Source.taken c.advance.new.source) (g.S.Source.left c.advance.new.source) c.advance.new.self last none in
+    let same : c.lines.count + 1 ≡ number = cc in
+    let counted : number ≡ length lines + 1 = omega (arith, same, c.lines.invariant.counted) in
+    let bad = inr (is_overlong (g.S.Source.taken c.args.source.now) (g.S.Source.left c.args.source.now) lines (g.S.Source.taken c.advance.new.source) (g.S.Source.left c.advance.new.source) c.advance.new.self last none (c.in-Err-Overlong.ensures.over (search rules))) in (
+      bad_rest c.args.self.now.nodes.items lines (appended_bytes (g.S.Source.taken c.args.source.now) (g.S.Source.taken c.advance.new.source)) (g.S.Source.left c.advance.new.source) number all record { lines = c.lines.invariant.good; few = c.lines.invariant.behind.few } counted bad,
+      subst (λ (ls : List (List ℕ)). IsDue (g.W.Sink.written c.args.out.now) (g.W.Sink.written c.lines.out) c.lines.self.output (answers c.args.self.now.nodes.items ls)) (sym (all_before lines (run_of (appended_bytes (g.S.Source.taken c.args.source.now) (g.S.Source.taken c.advance.new.source))) number all counted)) c.lines.invariant.behind.due,
+    )
+
+pub returns-in-Err-Overlong-clause-bad_held : goal.returns-in-Err-Overlong-clause-bad_held
+returns-in-Err-Overlong-clause-bad_held g c = λ start h number is.
+    let lines = c.lines.invariant.lines in
+    let last = c.in-Err-Overlong.ensures.still refl (g.S.Source.taken c.args.source.now) (g.S.Source.left c.args.source.now) lines c.lines.invariant.feeds in
+    let none = c.in-Err-Overlong.ensures.none refl in
+    let all = all_lines (g.S.Source.taken c.args.source.now) (g.S.Source.left c.args.source.now) lines (g.S.Source.taken c.advance.new.source) (g.S.Source.left c.advance.new.source) c.advance.new.self last none in
+    let same : c.lines.count + 1 ≡ number = cc in
+    let counted : number ≡ length lines + 1 = omega (arith, same, c.lines.invariant.counted) in
+    subst (λ (ls : List (List ℕ)). AllHeld start (ran ls) c.args.self.now.world (bench g.D.Disk.image_at g.D.Disk.moment g.D.Disk.faults g.D.Disk.armed g.D.Disk.picks c.lines.pairs.items)) (sym (all_before lines (run_of (appended_bytes (g.S.Source.taken c.args.source.now) (g.S.Source.taken c.advance.new.source))) number all counted)) (held_as start (ran c.lines.invariant.lines) c.lines.self.world c.args.self.now.world (bench g.D.Disk.image_at g.D.Disk.moment g.D.Disk.faults g.D.Disk.armed g.D.Disk.picks c.lines.pairs.items) (c.requires.fresh.world ∙ sym c.lines.invariant.behind.world) (sym c.lines.invariant.places) (c.lines.invariant.held start h))

@@ -1,0 +1,23 @@
+use Rattle.std.proofs.Common.{sym, subst}
+use Rattle.std.specs.List.{AllByRecursion}
+use Rattle.spl_sched.specs.Grammar.{spelling}
+use Rattle.spl_gen.specs.Circuits.{nodes}
+use Rattle.spl_gen.specs.Generated.{generated, text_of}
+use Rattle.spl_app.specs.Run.{IsLine}
+use Rattle.spl_app.proofs.Takes.{all_taken}
+use Rattle.spl_app.proofs.Texts.{lines_text, rest_text}
+use Rattle.spl_app.proofs.generated.generated_texts_are_lines.Goals as goal
+
+pub returns-clause-lines : goal.returns-clause-lines
+unfolding text_of
+returns-clause-lines c = λ n seed lt. lines_text spelling (generated n seed) (c.generated_lines_are_spelled.ensures.lacking n seed lt)
+
+pub returns-clause-good : goal.returns-clause-good
+unfolding text_of
+returns-clause-good c = λ n seed lt.
+    subst (AllByRecursion (IsLine nodes)) (sym (lines_text spelling (generated n seed) (c.generated_lines_are_spelled.ensures.lacking n seed lt)))
+    (all_taken nodes (generated n seed) (c.generated_lines_are_spelled.ensures.short n seed lt) (c.generated_lines_are_lines.ensures.read_back n seed lt) (c.generated_lines_are_lines.ensures.nodes n seed))
+
+pub returns-clause-rest : goal.returns-clause-rest
+unfolding text_of
+returns-clause-rest c = λ n seed. rest_text spelling (generated n seed)

@@ -1,0 +1,14 @@
+-- What the words of a command line ask for (docs/RULES.md, Generated schedules, Statuses).
+use Rattle.std.specs.Prelude.{◌≡◌, ◌≤◌, ◌<◌, ◌^◌, ◌⊎◌, ℕ, List, [], ◌∷◌, codes, decimal}
+use Rattle.spl_app.specs.Schedule.{IsReplay}
+use Rattle.spl_gen.specs.declared.generate.TheConstants.{MOST_BATCHES}
+
+-- gen N SEED, both in decimal digits: a schedule of n batches that is made from the seed
+pub record IsGen (words : List (List ℕ)) (n seed : ℕ) : Type 0 where
+  pub spelled : words ≡ codes "gen" ∷ decimal n ∷ decimal seed ∷ []
+  pub some : 1 ≤ n
+  pub few : n ≤ MOST_BATCHES
+  pub fits : seed < 2 ^ 64
+
+abbrev pub IsCommand : List (List ℕ) → Type 0
+IsCommand words = IsReplay words ⊎ ((n : ℕ) × (seed : ℕ) × IsGen words n seed)
