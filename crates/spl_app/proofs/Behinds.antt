@@ -1,5 +1,5 @@
 -- A run, one line further.
-use Rattle.std.proofs.Common.{◌≡◌, ℕ, ◌+◌, false, List, [], ◌∷◌, ◌++◌, Option, Some, None, Result, Ok, Err, OnOk, length, sym, subst}
+use Rattle.std.proofs.Common.{◌≡◌, ℕ, ◌+◌, false, List, [], ◌∷◌, ◌++◌, Option, Some, None, Result, Ok, Err, OnOk, length, sym, subst, arith}
 use Rattle.spl_circuit.specs.Nodes.{Node}
 use Rattle.spl_sched.specs.declared.line.Line.{Line}
 use Rattle.spl_model.specs.Projection.{Ran}
@@ -11,10 +11,10 @@ use Rattle.spl_world.specs.Disks.{Images}
 use Rattle.spl_world.specs.Views.{ids_of, is_halted, Stands}
 use Rattle.spl_app.specs.declared.run.Run.{Run}
 use Rattle.spl_app.specs.Due.{IsDue, IsDuePart}
-use Rattle.spl_app.specs.Run.{IsWithin, said, numbered, ran, printed, outputs, answers}
+use Rattle.spl_app.specs.Run.{IsWithin, said, ran, shown, answers_behind}
 use Rattle.spl_app.specs.Behind.{IsBehind}
-use Rattle.spl_app.proofs.Dues.{due_part, due_due, due_then}
-use Rattle.spl_app.proofs.Outputs.{answers-append, answers_silent, ran_silent, answers_said, ran_said}
+use Rattle.spl_app.proofs.Dues.{due_waits, due_part, due_due, due_then}
+use Rattle.spl_app.proofs.Outputs.{none_yet, answers_more, answers_silent, ran_silent, answers_said, ran_said}
 
 -- four facts of what succeeded give a fifth
 pub on_ok : {T E : Type 0} (r : Result T E) {O P Q R S : Type 0} → OnOk r O → OnOk r P → OnOk r Q → OnOk r R → (O → P → Q → R → S) → OnOk r S
@@ -26,42 +26,56 @@ pub ok_then : {T E : Type 0} (r : Result T E) {P Q : Type 0} → OnOk r P → (P
 ok_then (Ok x) p f = f p
 ok_then (Err e) p f = tt
 
+-- over the same nodes, behind the same lines
+pub both : (P : List Node → ℕ → Type 0) {ms ns : List Node} {k n : ℕ} → ms ≡ ns → k ≡ n → P ms k → P ns n
+both P {ms} {ns} {k} {n} nodes skips h = subst (P ns) skips (subst (λ (l : List Node). P l k) nodes h)
+
+-- where no line ran nothing is due
+pub due_none : (ns : List Node) (skip : ℕ) (start : Option (List ℕ)) (waiting : List ℕ) → waiting ≡ [] → IsDue start start waiting (answers_behind skip ns [])
+due_none ns skip start waiting none = subst (IsDue start start waiting) (sym (none_yet ns skip [] (omega arith))) (subst (λ (l : List ℕ). IsDue start start l []) (sym none) (due_waits start []))
+
 -- a run is over its own nodes
-pub at_own : (ns : List Node) (lines : List (List ℕ)) (run : Run) (is : List Images) (a b : Option (List ℕ)) → IsBehind ns lines run is a b → IsBehind run.nodes.items lines run is a b
-at_own ns lines run is a b behind = subst (λ (ms : List Node). IsBehind ms lines run is a b) (sym behind.nodes) behind
+pub at_own : (ns : List Node) (skip : ℕ) (lines : List (List ℕ)) (run : Run) (is : List Images) (a b : Option (List ℕ)) → IsBehind ns skip lines run is a b → IsBehind run.nodes.items run.skip lines run is a b
+at_own ns skip lines run is a b behind = both (λ (ms : List Node) (n : ℕ). IsBehind ms n lines run is a b) (sym behind.nodes) (sym behind.skips) behind
+
+-- and back
+pub at_first : (ns : List Node) (skip : ℕ) (lines : List (List ℕ)) (run later : Run) (is : List Images) (a b : Option (List ℕ)) → run.nodes.items ≡ ns → run.skip ≡ skip → IsBehind run.nodes.items run.skip lines later is a b → IsBehind ns skip lines later is a b
+at_first ns skip lines run later is a b nodes skips behind = both (λ (ms : List Node) (n : ℕ). IsBehind ms n lines later is a b) nodes skips behind
 
 -- with a line that is run the lines pass a limit
 pub past_said : (ns : List Node) (lines : List (List ℕ)) (line : List ℕ) (l : Line) (which : ℕ) → said line ≡ Some l → IsOver ns (ran lines ++ by_rule l ∷ []) which → IsOver ns (ran (lines ++ line ∷ [])) which
 past_said ns lines line l which is over = subst (λ (ls : List Ran). IsOver ns ls which) (sym (ran_said lines line l is)) over
 
-module _ (ns : List Node) (lines : List (List ℕ)) (run : Run) (held : List Images) (a b : Option (List ℕ)) (behind : IsBehind ns lines run held a b) where
+module _ (ns : List Node) (skip : ℕ) (lines : List (List ℕ)) (run : Run) (held : List Images) (a b : Option (List ℕ)) (behind : IsBehind ns skip lines run held a b) where
   -- all that is due so far comes first
-  pub behind_part : (rest : List (List ℕ)) → IsDuePart a b run.output (answers ns (lines ++ rest))
-  behind_part rest = subst (IsDuePart a b run.output) (sym (answers-append ns lines rest)) (due_part a b run.output (answers ns lines) (outputs ns (ran lines) (numbered (1 + length lines) rest)) behind.due)
+  pub behind_part : (rest : List (List ℕ)) → IsDuePart a b run.output (answers_behind skip ns (lines ++ rest))
+  behind_part rest = let (more, same) = answers_more ns skip lines rest in subst (IsDuePart a b run.output) (sym same) (due_part a b run.output (answers_behind skip ns lines) more behind.due)
 
   module _ (line : List ℕ) where
-    pub behind_silent : said line ≡ None → IsBehind ns (lines ++ line ∷ []) run held a b
+    pub behind_silent : said line ≡ None → IsBehind ns skip (lines ++ line ∷ []) run held a b
     behind_silent is = record {
       nodes = behind.nodes;
+      skips = behind.skips;
       world = behind.world;
       running = behind.running;
       stands = subst (λ (ls : List Ran). Stands ls run.world held) (sym (ran_silent lines line is)) behind.stands;
       few = subst (IsWithin ns) (sym (ran_silent lines line is)) behind.few;
-      due = subst (IsDue a b run.output) (sym (answers_silent lines line ns is)) behind.due;
+      due = subst (IsDue a b run.output) (sym (answers_silent ns skip lines line is)) behind.due;
     }
 
     module _ (number : ℕ) (l : Line) (counted : number ≡ length lines + 1) (is : said line ≡ Some l) (c : Option (List ℕ)) (later : Run) where
-      pub behind_said : (now : List Images) → later.nodes.items ≡ ns → ids_of later.world ≡ ns → is_halted later.world ≡ false → Stands (ran lines ++ by_rule l ∷ []) later.world now
+      pub behind_said : (now : List Images) → later.nodes.items ≡ ns → later.skip ≡ skip → ids_of later.world ≡ ns → is_halted later.world ≡ false → Stands (ran lines ++ by_rule l ∷ []) later.world now
           → IsWithin ns (ran lines ++ by_rule l ∷ [])
-          → IsDue b c later.output (run.output ++ printed number (text (answer_to ns (ran lines) (by_rule l)))) → IsBehind ns (lines ++ line ∷ []) later now a c
-      behind_said now nodes world running stands few due = record {
+          → IsDue b c later.output (run.output ++ shown skip number (text (answer_to ns (ran lines) (by_rule l)))) → IsBehind ns skip (lines ++ line ∷ []) later now a c
+      behind_said now nodes skips world running stands few due = record {
         nodes = nodes;
+        skips = skips;
         world = world;
         running = running;
         stands = subst (λ (ls : List Ran). Stands ls later.world now) (sym (ran_said lines line l is)) stands;
         few = subst (IsWithin ns) (sym (ran_said lines line l is)) few;
-        due = subst (IsDue a c later.output) (sym (answers_said lines line ns number l counted is)) (due_due a b c _ _ _ _ behind.due due);
+        due = subst (IsDue a c later.output) (sym (answers_said ns skip lines line number l counted is)) (due_due a b c _ _ _ _ behind.due due);
       }
 
-      pub part_said : IsDuePart b c later.output (run.output ++ printed number (text (answer_to ns (ran lines) (by_rule l)))) → IsDuePart a c later.output (answers ns (lines ++ line ∷ []))
-      part_said part = subst (IsDuePart a c later.output) (sym (answers_said lines line ns number l counted is)) (due_then a b c _ _ _ _ behind.due part)
+      pub part_said : IsDuePart b c later.output (run.output ++ shown skip number (text (answer_to ns (ran lines) (by_rule l)))) → IsDuePart a c later.output (answers_behind skip ns (lines ++ line ∷ []))
+      part_said part = subst (IsDuePart a c later.output) (sym (answers_said ns skip lines line number l counted is)) (due_then a b c _ _ _ _ behind.due part)

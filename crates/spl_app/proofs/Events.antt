@@ -51,6 +51,10 @@ all_at ns [] (suc n) line behind place good = absurd (cc)
 all_at ns (l ∷ lines) zero line behind place good = let same : l ≡ line = cc in subst (IsLine ns) same good.0
 all_at ns (l ∷ lines) (suc n) line behind place good = all_at ns lines n line behind place good.1
 
+-- none of these is bad
+pub no_bad : (ns : List NodeId) (lines : List (List ℕ)) (number : ℕ) → AllByRecursion (IsLine ns) lines → StopsAt ns Bad lines number → ⊥
+no_bad ns lines number all found = found.stops (all_at ns lines (number - 1) found.line found.behind found.place all)
+
 -- lines within their limits pass none
 not_over : (ns : List NodeId) (rs : List Ran) (which : ℕ) → IsWithin ns rs → IsOver ns rs which → ⊥
 not_over ns rs which few (inl over) = omega (arith, few.0, over.1)
@@ -58,7 +62,7 @@ not_over ns rs which few (inr over) = omega (arith, few.1, over.2)
 
 -- it stops at none of them
 pub no_stop : (ns : List NodeId) (why : Reason) (lines : List (List ℕ)) (number : ℕ) → IsRun ns lines → StopsAt ns why lines number → ⊥
-no_stop ns Bad lines number run found = found.stops (all_at ns lines (number - 1) found.line found.behind found.place run.lines)
+no_stop ns Bad lines number run found = no_bad ns lines number run.lines found
 no_stop ns (Past which) lines number run found =
     let front = take (number - 1) lines in
     let whole : lines ≡ (front ++ found.line ∷ []) ++ found.behind =

@@ -11,8 +11,10 @@ mod Given
 mod Halts
 mod Holds
 mod Outputs
+mod Pieces
 mod Registries
 mod Runs
 mod Takes
 mod Texts
+mod Wholes
 mod Words

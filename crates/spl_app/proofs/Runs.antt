@@ -5,9 +5,9 @@ use Rattle.std.proofs.lemmas.List.{drop_at}
 use Rattle.std.specs.List.{AllByRecursion}
 use Rattle.spl_circuit.specs.Nodes.{Node}
 use Rattle.spl_app.specs.Due.{IsDuePart}
-use Rattle.spl_app.specs.Run.{HasFront, IsLine, IsRun, Reason, StopsFor, StopsAt, numbered, ran, outputs, answers}
+use Rattle.spl_app.specs.Run.{HasFront, IsLine, IsRun, Reason, StopsFor, StopsAt, answers_behind}
 use Rattle.spl_app.proofs.Dues.{part_more}
-use Rattle.spl_app.proofs.Outputs.{answers-append}
+use Rattle.spl_app.proofs.Outputs.{answers_more}
 
 pub all-push : (ns : List Node) (xs : List (List ℕ)) (x : List ℕ) → AllByRecursion (IsLine ns) xs → IsLine ns x → AllByRecursion (IsLine ns) (xs ++ x ∷ [])
 all-push ns [] x all good = (good, tt)
@@ -27,10 +27,10 @@ module _ (front : List (List ℕ)) (line : List ℕ) (rest all : List (List ℕ)
       let same : number - 1 ≡ length front = omega arith in
       rw same first
 
-  pub part_of_all : (ns : List Node) (a b : Option (List ℕ)) (waiting : List ℕ) → IsDuePart a b waiting (answers ns (front ++ line ∷ [])) → IsDuePart a b waiting (answers ns all)
-  part_of_all ns a b waiting part =
-      let more = outputs ns (ran (front ++ line ∷ [])) (numbered (1 + length (front ++ line ∷ [])) rest) in
-      subst (IsDuePart a b waiting) (sym (ap (answers ns) is ∙ answers-append ns (front ++ line ∷ []) rest)) (part_more a b waiting (answers ns (front ++ line ∷ [])) more part)
+  pub part_of_all : (ns : List Node) (skip : ℕ) (a b : Option (List ℕ)) (waiting : List ℕ) → IsDuePart a b waiting (answers_behind skip ns (front ++ line ∷ [])) → IsDuePart a b waiting (answers_behind skip ns all)
+  part_of_all ns skip a b waiting part =
+      let (more, same) = answers_more ns skip (front ++ line ∷ []) rest in
+      subst (IsDuePart a b waiting) (sym (ap (answers_behind skip ns) is ∙ same)) (part_more a b waiting (answers_behind skip ns (front ++ line ∷ [])) more part)
 
   pub stops_at : (ns : List Node) (why : Reason) → IsRun ns front → StopsFor ns why front line → (number : ℕ) → number ≡ length front + 1 → StopsAt ns why all number
   stops_at ns why run stops number counted =

@@ -5,13 +5,14 @@ use Rattle.spl_world.specs.Disks.{Images}
 use Rattle.spl_world.specs.Views.{ids_of, is_halted, Stands}
 use Rattle.spl_app.specs.declared.run.Run.{Run}
 use Rattle.spl_app.specs.Due.{IsDue}
-use Rattle.spl_app.specs.Run.{ran, IsWithin, answers}
+use Rattle.spl_app.specs.Run.{ran, IsWithin, answers_behind}
 
--- in a run over these nodes, whose disks hold these images, these lines ran, within the limits, and their answers were written or wait
-pub record IsBehind (ns : List Node) (lines : List (List ℕ)) (run : Run) (is : List Images) (old new : Option (List ℕ)) : Type 0 where
+-- in a run over these nodes, whose disks hold these images, these lines ran, within the limits, and the answers to those behind the first `skip` were written or wait
+pub record IsBehind (ns : List Node) (skip : ℕ) (lines : List (List ℕ)) (run : Run) (is : List Images) (old new : Option (List ℕ)) : Type 0 where
   pub nodes : run.nodes.items ≡ ns
+  pub skips : run.skip ≡ skip
   pub world : ids_of run.world ≡ ns
   pub running : is_halted run.world ≡ false
   pub stands : Stands (ran lines) run.world is
   pub few : IsWithin ns (ran lines)
-  pub due : IsDue old new run.output (answers ns lines)
+  pub due : IsDue old new run.output (answers_behind skip ns lines)

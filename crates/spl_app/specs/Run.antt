@@ -1,5 +1,5 @@
 -- The lines of a schedule, and what a run writes (docs/RULES.md, Schedules, Answers).
-use Rattle.std.specs.Prelude.{◌≡◌, ◌⊎◌, ◌<◌, ◌≤◌, ◌+◌, ◌-◌, ℕ, List, [], ◌∷◌, ◌++◌, Option, Some, None, IsSomeAnd, IsTrue, if◌then◌else◌, take, drop, length, map, decimal}
+use Rattle.std.specs.Prelude.{◌≡◌, ◌⊎◌, ◌<◌, ◌≤◌, ◌+◌, ◌-◌, ℕ, List, [], ◌∷◌, ◌++◌, Option, Some, None, IsSomeAnd, IsTrue, if◌then◌else◌, take, drop, length, map, decimal, nat_le}
 use Rattle.std.specs.List.{AllByRecursion, list_all}
 use Rattle.spl_circuit.specs.Nodes.{Node, has_node}
 use Rattle.spl_sched.specs.declared.line.Line.{Line}
@@ -55,6 +55,14 @@ outputs ns before (x ∷ xs) = printed x.0 (text (answer_to ns before (by_rule x
 -- what a run of these lines over these nodes writes
 abbrev pub answers : List Node → List (List ℕ) → List ℕ
 answers ns lines = outputs ns [] (numbered 1 lines)
+
+-- what it writes that answers only the lines behind the first n
+abbrev pub answers_behind : ℕ → List Node → List (List ℕ) → List ℕ
+answers_behind n ns lines = outputs ns (ran (take n lines)) (numbered (1 + n) (drop n lines))
+
+-- the answer to the line of this number, where that is behind the first n
+abbrev pub shown : ℕ → ℕ → List ℕ → List ℕ
+shown n number answer = if nat_le number n then [] else printed number answer
 
 -- the events of these lines are within their limit, and so are their stops
 abbrev pub IsWithin : List Node → List Ran → Type 0

@@ -1,21 +1,27 @@
 //! The texts of generated schedules. The function's contract is a law, and its body does nothing.
-ghost use Rattle.std.specs.Prelude.{◌≡◌, ◌<◌, ◌^◌, ℕ, [], map};
+ghost use Rattle.std.specs.Prelude.{◌≡◌, ◌+◌, ◌*◌, ◌/◌, ◌≤◌, ◌<◌, ◌^◌, ℕ, [], length, map};
 ghost use Rattle.std.specs.List.{AllByRecursion};
 ghost use Rattle.spl_sched.specs.Grammar.{spelling};
 ghost use Rattle.spl_gen.specs.Circuits.{nodes};
 ghost use Rattle.spl_gen.specs.Generated.{generated, text};
-ghost use Rattle.spl_app.specs.Lines.{lines_of, rest_of};
+ghost use Rattle.spl_gen.specs.declared.generate.TheConstants.{MOST_BATCHES};
+ghost use Rattle.spl_app.specs.Lines.{lines_of, rest_of, limit};
 ghost use Rattle.spl_app.specs.Run.{IsLine};
 
-use spl_gen::{generated_lines_are_lines, generated_lines_are_spelled};
+use spl_gen::{
+    generated_lines_are_counted, generated_lines_are_lines, generated_lines_are_spelled,
+};
 
 /// The lines of a generated text are the lines that it was made of, and nothing stands behind the
-/// last. A schedule over its nodes may have each of its lines.
+/// last. A schedule over its nodes may have each of its lines, and has room for them.
 pub fn generated_texts_are_lines()
     ensures lines { (n seed : ℕ) → n < 2 ^ 64 → lines_of (text n seed) ≡ map spelling (generated n seed) }
     ensures good { (n seed : ℕ) → n < 2 ^ 64 → AllByRecursion (IsLine nodes) (lines_of (text n seed)) }
+    ensures count { (n seed : ℕ) → n < 2 ^ 64 → length (lines_of (text n seed)) ≡ 27 + 2 * n + 2 * (n / 50) }
+    ensures short { (n seed : ℕ) → n ≤ MOST_BATCHES → length (text n seed) ≤ limit }
     ensures rest { (n seed : ℕ) → rest_of (text n seed) ≡ [] }
 {
     generated_lines_are_lines();
     generated_lines_are_spelled();
+    generated_lines_are_counted();
 }

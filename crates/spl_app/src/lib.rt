@@ -8,6 +8,7 @@ mod command;
 mod fault;
 mod feed;
 mod generated;
+mod generating;
 mod lines;
 mod output;
 mod registered;
@@ -15,6 +16,7 @@ mod replay;
 mod run;
 mod status;
 mod take;
+mod text;
 mod top;
 
 pub use bench::blank_bench;

@@ -3,7 +3,7 @@ ghost use Rattle.std.specs.Prelude.{◌≡◌, ◌≤◌, ◌++◌, ◌∷◌, [
 ghost use Rattle.std.specs.Io.KnownBytes.{Appends};
 ghost use Rattle.spl_edge.specs.Causes.{HasCause, AppendsPart};
 ghost use Rattle.spl_app.specs.Due.{IsDue, IsDuePart};
-ghost use Rattle.spl_app.specs.Run.{printed};
+ghost use Rattle.spl_app.specs.Run.{printed, shown};
 
 use itoa::Buffer;
 use spl_edge::{DeviceError, Sink, write_all};
@@ -93,5 +93,23 @@ impl Output {
         self.make_room(sink, size)?;
         self.append(digits, text)?;
         Ok(())
+    }
+
+    /// Lets the answer to a line wait, where that is behind the first `skip` lines.
+    pub fn put_behind<W: Sink>(
+        &mut self,
+        sink: &mut W,
+        skip: u32,
+        number: u32,
+        text: &[u8],
+    ) -> Result<(), DeviceError>
+        ensures ok { OnOk result (IsDue (W.written sink.old) (W.written sink.new) self.new (self.old ++ shown skip number text.now)) }
+        ensures part { IsDuePart (W.written sink.old) (W.written sink.new) self.new (self.old ++ shown skip number text.now) }
+        ensures cause { HasCause (W.faults sink.old) (W.faults sink.new) result }
+    {
+        if number <= skip {
+            return Ok(());
+        }
+        self.put(sink, number, text)
     }
 }

@@ -70,7 +70,7 @@ pub fn replay<S: Source, W: Sink, D: StopDisk>(
         → IsSchedule (sorted (ids_of registry.now)) (had (S.left schedule.old) (appended_bytes (S.taken schedule.old) (S.taken schedule.new)))
         → (result ≡ Status.Ok) ⊎ (result ≡ Status.NoMemory) }
 {
-    match run_lines(alloc, registry, pairs, schedule, out) {
+    match run_lines(alloc, registry, pairs, schedule, out, 0) {
         Ok(RunEnd::Whole) => Status::Ok,
         Ok(RunEnd::TooLong) => Status::TooLong,
         Ok(RunEnd::Read) => Status::ReadFault,

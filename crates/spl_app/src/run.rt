@@ -8,7 +8,7 @@ ghost use Rattle.spl_circuit.specs.Nodes.{sorted};
 ghost use Rattle.spl_registry.specs.Nodes.{ids_of as registered};
 ghost use Rattle.spl_app.specs.Lines.{rest_of, longest_line, limit};
 ghost use Rattle.spl_app.specs.Due.{IsDue, IsDuePart};
-ghost use Rattle.spl_app.specs.Run.{IsLine, IsRunnable, IsRun, IsWithin, Past, StopsAt, HasFront, said, ran, printed, answers};
+ghost use Rattle.spl_app.specs.Run.{IsLine, IsRunnable, IsRun, IsWithin, Past, StopsAt, HasFront, said, ran, shown, answers_behind};
 ghost use Rattle.spl_app.specs.Schedule.{IsSchedule, IsBadAt, run_of};
 ghost use Rattle.spl_answer.specs.Texts.{text as text_of};
 ghost use Rattle.spl_model.specs.Projection.{Ran};
@@ -33,13 +33,15 @@ use spl_sched::{Line, LineFault, read_line};
 use spl_world::{World, WorldFault};
 use std::alloc::{AllocError, Global};
 
-/// A run: its nodes, the text of the last answer, and the answers that wait.
+/// A run: its nodes, the text of the last answer, and the answers that wait. Those to the first
+/// `skip` lines are left out.
 #[derive(Drop)]
 pub struct Run {
     nodes: Vec<NodeId>,
     world: World,
     text: Vec<u8>,
     output: Output,
+    skip: u32,
 }
 
 impl Run {
@@ -49,12 +51,14 @@ impl Run {
         alloc: Global,
         registry: &Registry,
         pairs: &mut Vec<Pair<D>>,
+        skip: u32,
     ) -> Result<Run, WorldFault>
         requires room { length registry.now ≤ length pairs.old.items }
         requires blank { (i : ℕ) → i < length registry.now → AreBlank (images_at (images D.image_at D.moment pairs.old.items) i) }
         requires unpicked { AllUnpicked (bench D.image_at D.moment D.faults D.armed D.picks pairs.old.items) }
         ensures nodes { IfOk result (λ run. run.nodes.items ≡ sorted (registered registry.now)) }
-        ensures behind { IfOk result (λ run. (start : Option (List ℕ)) → IsBehind (sorted (registered registry.now)) [] run (images D.image_at D.moment pairs.new.items) start start) }
+        ensures skip { IfOk result (λ run. run.skip ≡ skip) }
+        ensures behind { IfOk result (λ run. (start : Option (List ℕ)) → IsBehind (sorted (registered registry.now)) skip [] run (images D.image_at D.moment pairs.new.items) start start) }
         ensures onward { NoneForgotten (bench D.image_at D.moment D.faults D.armed D.picks pairs.old.items) (bench D.image_at D.moment D.faults D.armed D.picks pairs.new.items) }
         ensures unarmed { AllUnarmed (bench D.image_at D.moment D.faults D.armed D.picks pairs.new.items) }
         ensures failed { (slot : ℕ) → IsErrOf result (WorldFault.Disk slot) → FailedSince slot (bench D.image_at D.moment D.faults D.armed D.picks pairs.old.items) (bench D.image_at D.moment D.faults D.armed D.picks pairs.new.items) }
@@ -69,6 +73,7 @@ impl Run {
             text: Vec::new(alloc),
             output: Output::new(alloc)?,
             world: World::new(alloc, registry, pairs)?,
+            skip,
         })
     }
 
@@ -104,6 +109,7 @@ impl Run {
         requires sits { Sits (seen D.image_at D.moment self.old.world pairs.old.items) }
         requires known { IsRunnable self.old.nodes.items said.now }
         ensures nodes { self.new.nodes.items ≡ self.old.nodes.items }
+        ensures skip { self.new.skip ≡ self.old.skip }
         ensures world { ids_of self.new.world ≡ self.old.nodes.items }
         ensures running { OnOk result (is_halted self.new.world ≡ false) }
         ensures stands { (before : List Ran) → Stands before self.old.world (images D.image_at D.moment pairs.old.items) → OnOk result (Stands (before ++ by_rule said.now ∷ []) self.new.world (images D.image_at D.moment pairs.new.items)) }
@@ -124,7 +130,7 @@ impl Run {
         Ok(())
     }
 
-    // Runs a line that says this, and lets the answer wait. Where the lines pass a limit with it
+    // Runs a line that says this, and lets the answer wait, if it is to be written. Where the lines pass a limit with it
     // there is none.
     fn answer<W: Sink, D: StopDisk>(
         &mut self,
@@ -139,13 +145,14 @@ impl Run {
         requires sits { Sits (seen D.image_at D.moment self.old.world pairs.old.items) }
         requires known { IsRunnable self.old.nodes.items said.now }
         ensures nodes { self.new.nodes.items ≡ self.old.nodes.items }
+        ensures skip { self.new.skip ≡ self.old.skip }
         ensures world { ids_of self.new.world ≡ self.old.nodes.items }
         ensures running { OnOk result (is_halted self.new.world ≡ false) }
         ensures stands { (before : List Ran) → Stands before self.old.world (images D.image_at D.moment pairs.old.items) → OnOk result (Stands (before ++ by_rule said.now ∷ []) self.new.world (images D.image_at D.moment pairs.new.items)) }
         ensures due { (before : List Ran) → Stands before self.old.world (images D.image_at D.moment pairs.old.items) → OnOk result (IsDue (W.written out.old) (W.written out.new) self.new.output
-            (self.old.output ++ printed number (text_of (answer_to self.old.nodes.items before (by_rule said.now))))) }
+            (self.old.output ++ shown self.old.skip number (text_of (answer_to self.old.nodes.items before (by_rule said.now))))) }
         ensures part { (before : List Ran) → Stands before self.old.world (images D.image_at D.moment pairs.old.items) → IsDuePart (W.written out.old) (W.written out.new) self.new.output
-            (self.old.output ++ printed number (text_of (answer_to self.old.nodes.items before (by_rule said.now)))) }
+            (self.old.output ++ shown self.old.skip number (text_of (answer_to self.old.nodes.items before (by_rule said.now)))) }
         ensures good { (n : ℕ) → IsErrOf result (RunFault.BadLine n) → ⊥ }
         ensures few { (before : List Ran) → Stands before self.old.world (images D.image_at D.moment pairs.old.items) → IsWithin self.old.nodes.items before → OnOk result (IsWithin self.old.nodes.items (before ++ by_rule said.now ∷ [])) }
         ensures many { (before : List Ran) (n which : ℕ) → Stands before self.old.world (images D.image_at D.moment pairs.old.items) → IsErrOf result (RunFault.TooMany n which) → IsOver self.old.nodes.items (before ++ by_rule said.now ∷ []) which }
@@ -171,7 +178,7 @@ impl Run {
             Err(WorldFault::Disk { slot }) => return Err(RunFault::Disk(slot)),
             Err(WorldFault::NoMemory) => return Err(RunFault::NoMemory),
         }
-        self.output.put(out, number, &self.text)?;
+        self.output.put_behind(out, self.skip, number, &self.text)?;
         Ok(())
     }
 
@@ -188,8 +195,8 @@ impl Run {
         requires nodes { ids_of self.old.world ≡ self.old.nodes.items }
         requires running { is_halted self.old.world ≡ false }
         requires sits { Sits (seen D.image_at D.moment self.old.world pairs.old.items) }
-        ensures ok { (lines : List (List ℕ)) → (start : Option (List ℕ)) → IsBehind self.old.nodes.items lines self.old (images D.image_at D.moment pairs.old.items) start (W.written out.old) → number ≡ length lines + 1
-            → OnOk result (IsBehind self.old.nodes.items (lines ++ line.now ∷ []) self.new (images D.image_at D.moment pairs.new.items) start (W.written out.new)) }
+        ensures ok { (lines : List (List ℕ)) → (start : Option (List ℕ)) → IsBehind self.old.nodes.items self.old.skip lines self.old (images D.image_at D.moment pairs.old.items) start (W.written out.old) → number ≡ length lines + 1
+            → OnOk result (IsBehind self.old.nodes.items self.old.skip (lines ++ line.now ∷ []) self.new (images D.image_at D.moment pairs.new.items) start (W.written out.new)) }
         ensures good { OnOk result (IsLine self.old.nodes.items line.now) }
         ensures bad { (n : ℕ) → IsErrOf result (RunFault.BadLine n)
             → (n ≡ number) × (IsLine self.old.nodes.items line.now → ⊥) × (self.new ≡ self.old) × (W.written out.new ≡ W.written out.old) }
@@ -197,8 +204,8 @@ impl Run {
             → (n ≡ number) × IsLine self.old.nodes.items line.now × (self.new.output ≡ self.old.output) × (W.written out.new ≡ W.written out.old) }
         ensures past { (lines : List (List ℕ)) (n which : ℕ) → Stands (ran lines) self.old.world (images D.image_at D.moment pairs.old.items) → IsErrOf result (RunFault.TooMany n which)
             → IsOver self.old.nodes.items (ran (lines ++ line.now ∷ [])) which }
-        ensures part { (lines : List (List ℕ)) → (start : Option (List ℕ)) → IsBehind self.old.nodes.items lines self.old (images D.image_at D.moment pairs.old.items) start (W.written out.old) → number ≡ length lines + 1
-            → IsDuePart start (W.written out.new) self.new.output (answers self.old.nodes.items (lines ++ line.now ∷ [])) }
+        ensures part { (lines : List (List ℕ)) → (start : Option (List ℕ)) → IsBehind self.old.nodes.items self.old.skip lines self.old (images D.image_at D.moment pairs.old.items) start (W.written out.old) → number ≡ length lines + 1
+            → IsDuePart start (W.written out.new) self.new.output (answers_behind self.old.skip self.old.nodes.items (lines ++ line.now ∷ [])) }
         ensures whole { (slot : ℕ) → IsErrOf result (RunFault.Disk slot) → (self.new.output ≡ self.old.output) × (W.written out.new ≡ W.written out.old) }
         ensures onward { NoneForgotten (bench D.image_at D.moment D.faults D.armed D.picks pairs.old.items) (bench D.image_at D.moment D.faults D.armed D.picks pairs.new.items) }
         ensures unarmed { AllUnarmed (bench D.image_at D.moment D.faults D.armed D.picks pairs.old.items) → (IsErrOf result RunFault.NoMemory → ⊥) → AllUnarmed (bench D.image_at D.moment D.faults D.armed D.picks pairs.new.items) }
@@ -227,24 +234,24 @@ impl Run {
         source: &mut S,
         out: &mut W,
     ) -> Result<RunEnd, RunFault>
-        requires fresh { IsBehind self.old.nodes.items [] self.old (images D.image_at D.moment pairs.old.items) (W.written out.old) (W.written out.old) }
+        requires fresh { IsBehind self.old.nodes.items self.old.skip [] self.old (images D.image_at D.moment pairs.old.items) (W.written out.old) (W.written out.old) }
         ensures good { OnOk result (IsRun self.old.nodes.items (run_of (appended_bytes (S.taken source.old) (S.taken source.new)))) }
-        ensures due { OnOk result (IsDue (W.written out.old) (W.written out.new) self.new.output (answers self.old.nodes.items (run_of (appended_bytes (S.taken source.old) (S.taken source.new))))) }
+        ensures due { OnOk result (IsDue (W.written out.old) (W.written out.new) self.new.output (answers_behind self.old.skip self.old.nodes.items (run_of (appended_bytes (S.taken source.old) (S.taken source.new))))) }
         ensures ok { IfOk result (λ end. end ≡ RunEnd.Whole → IsSchedule self.old.nodes.items (appended_bytes (S.taken source.old) (S.taken source.new)) × IsAtEnd (S.left source.new)) }
         ensures read { IfOk result (λ end. end ≡ RunEnd.Read → Rose (S.faults source.old) (S.faults source.new) × (length (appended_bytes (S.taken source.old) (S.taken source.new)) ≤ limit)) }
         ensures long { IfOk result (λ end. end ≡ RunEnd.TooLong → (limit < length (appended_bytes (S.taken source.old) (S.taken source.new))) × (length (rest_of (take limit (appended_bytes (S.taken source.old) (S.taken source.new)))) ≤ longest_line)) }
         ensures bad { (number : ℕ) → IsErrOf result (RunFault.BadLine number) → IsBadAt self.old.nodes.items (appended_bytes (S.taken source.old) (S.taken source.new)) (S.left source.new) number
-            × IsDue (W.written out.old) (W.written out.new) self.new.output (answers self.old.nodes.items (take (number - 1) (run_of (appended_bytes (S.taken source.old) (S.taken source.new))))) }
+            × IsDue (W.written out.old) (W.written out.new) self.new.output (answers_behind self.old.skip self.old.nodes.items (take (number - 1) (run_of (appended_bytes (S.taken source.old) (S.taken source.new))))) }
         ensures many { (number which : ℕ) → IsErrOf result (RunFault.TooMany number which) → StopsAt self.old.nodes.items (Past which) (run_of (appended_bytes (S.taken source.old) (S.taken source.new))) number
-            × IsDue (W.written out.old) (W.written out.new) self.new.output (answers self.old.nodes.items (take (number - 1) (run_of (appended_bytes (S.taken source.old) (S.taken source.new))))) }
-        ensures whole { (slot : ℕ) → IsErrOf result (RunFault.Disk slot) → HasFront self.old.nodes.items (run_of (appended_bytes (S.taken source.old) (S.taken source.new))) (λ ls. IsDue (W.written out.old) (W.written out.new) self.new.output (answers self.old.nodes.items ls)) }
+            × IsDue (W.written out.old) (W.written out.new) self.new.output (answers_behind self.old.skip self.old.nodes.items (take (number - 1) (run_of (appended_bytes (S.taken source.old) (S.taken source.new))))) }
+        ensures whole { (slot : ℕ) → IsErrOf result (RunFault.Disk slot) → HasFront self.old.nodes.items (run_of (appended_bytes (S.taken source.old) (S.taken source.new))) (λ ls. IsDue (W.written out.old) (W.written out.new) self.new.output (answers_behind self.old.skip self.old.nodes.items ls)) }
         ensures onward { NoneForgotten (bench D.image_at D.moment D.faults D.armed D.picks pairs.old.items) (bench D.image_at D.moment D.faults D.armed D.picks pairs.new.items) }
         ensures unarmed { AllUnarmed (bench D.image_at D.moment D.faults D.armed D.picks pairs.old.items) → (IsErrOf result RunFault.NoMemory → ⊥) → AllUnarmed (bench D.image_at D.moment D.faults D.armed D.picks pairs.new.items) }
         ensures failed { (start : List PairView) → AllHeld start [] self.old.world (bench D.image_at D.moment D.faults D.armed D.picks pairs.old.items) → (slot : ℕ) → IsErrOf result (RunFault.Disk slot) → FailedSince slot start (bench D.image_at D.moment D.faults D.armed D.picks pairs.new.items) }
         ensures place { (slot : ℕ) → IsErrOf result (RunFault.Disk slot) → IsPlace (places_of self.old.world) slot }
         ensures held { (start : List PairView) → AllHeld start [] self.old.world (bench D.image_at D.moment D.faults D.armed D.picks pairs.old.items) → OnOk result (AllHeld start (ran (run_of (appended_bytes (S.taken source.old) (S.taken source.new)))) self.old.world (bench D.image_at D.moment D.faults D.armed D.picks pairs.new.items)) }
         ensures bad_held { (start : List PairView) → AllHeld start [] self.old.world (bench D.image_at D.moment D.faults D.armed D.picks pairs.old.items) → (number : ℕ) → IsErrOf result (RunFault.BadLine number) → AllHeld start (ran (take (number - 1) (run_of (appended_bytes (S.taken source.old) (S.taken source.new))))) self.old.world (bench D.image_at D.moment D.faults D.armed D.picks pairs.new.items) }
-        ensures part { IsDuePart (W.written out.old) (W.written out.new) self.new.output (answers self.old.nodes.items (run_of (appended_bytes (S.taken source.old) (S.taken source.new)))) }
+        ensures part { IsDuePart (W.written out.old) (W.written out.new) self.new.output (answers_behind self.old.skip self.old.nodes.items (run_of (appended_bytes (S.taken source.old) (S.taken source.new)))) }
         ensures taken { Consumes (S.left source.old) (S.left source.new) (appended_bytes (S.taken source.old) (S.taken source.new)) }
         ensures write { IsErrOf result RunFault.Write → Rose (W.faults out.old) (W.faults out.new) }
         ensures later { W.faults out.old ≤ W.faults out.new }
@@ -281,7 +288,8 @@ fn lacks_memory(ended: &Result<RunEnd, RunFault>) -> bool
 }
 
 /// Runs each line that a source gives over the nodes of a registry, whose disks are blank, up to the
-/// first that a schedule may not have or with which the lines pass a limit, and writes the answers.
+/// first that a schedule may not have or with which the lines pass a limit, and writes the answers
+/// to those behind the first `skip`.
 /// Want of memory is told before a fault of the sink, since it may leave disks armed.
 pub fn run_lines<S: Source, W: Sink, D: StopDisk>(
     alloc: Global,
@@ -289,6 +297,7 @@ pub fn run_lines<S: Source, W: Sink, D: StopDisk>(
     pairs: &mut Vec<Pair<D>>,
     source: &mut S,
     out: &mut W,
+    skip: u32,
 ) -> Result<RunEnd, RunFault>
     requires pairs { length registry.now ≤ length pairs.old.items }
     requires blank { (i : ℕ) → i < length registry.now → AreBlank (images_at (images D.image_at D.moment pairs.old.items) i) }
@@ -296,7 +305,7 @@ pub fn run_lines<S: Source, W: Sink, D: StopDisk>(
 
     // All lines given ran, and their answers are written.
     ensures good { OnOk result (IsRun (sorted (registered registry.now)) (run_of (appended_bytes (S.taken source.old) (S.taken source.new)))) }
-    ensures written { OnOk result (Appends (W.written out.old) (W.written out.new) (answers (sorted (registered registry.now)) (run_of (appended_bytes (S.taken source.old) (S.taken source.new))))) }
+    ensures written { OnOk result (Appends (W.written out.old) (W.written out.new) (answers_behind skip (sorted (registered registry.now)) (run_of (appended_bytes (S.taken source.old) (S.taken source.new))))) }
     ensures held { OnOk result (AreHeld (bench D.image_at D.moment D.faults D.armed D.picks pairs.old.items) (sorted (registered registry.now)) (ran (run_of (appended_bytes (S.taken source.old) (S.taken source.new)))) registry.now (bench D.image_at D.moment D.faults D.armed D.picks pairs.new.items)) }
     ensures ok { IfOk result (λ end. end ≡ RunEnd.Whole → IsSchedule (sorted (registered registry.now)) (appended_bytes (S.taken source.old) (S.taken source.new)) × IsAtEnd (S.left source.new)) }
     ensures read { IfOk result (λ end. end ≡ RunEnd.Read → Rose (S.faults source.old) (S.faults source.new) × (length (appended_bytes (S.taken source.old) (S.taken source.new)) ≤ limit)) }
@@ -304,27 +313,27 @@ pub fn run_lines<S: Source, W: Sink, D: StopDisk>(
 
     // The first line that a schedule may not have.
     ensures bad { (number : ℕ) → IsErrOf result (RunFault.BadLine number) → IsBadAt (sorted (registered registry.now)) (appended_bytes (S.taken source.old) (S.taken source.new)) (S.left source.new) number
-        × Appends (W.written out.old) (W.written out.new) (answers (sorted (registered registry.now)) (take (number - 1) (run_of (appended_bytes (S.taken source.old) (S.taken source.new))))) }
+        × Appends (W.written out.old) (W.written out.new) (answers_behind skip (sorted (registered registry.now)) (take (number - 1) (run_of (appended_bytes (S.taken source.old) (S.taken source.new))))) }
     ensures bad_held { (number : ℕ) → IsErrOf result (RunFault.BadLine number) → AreHeld (bench D.image_at D.moment D.faults D.armed D.picks pairs.old.items) (sorted (registered registry.now)) (ran (take (number - 1) (run_of (appended_bytes (S.taken source.old) (S.taken source.new))))) registry.now (bench D.image_at D.moment D.faults D.armed D.picks pairs.new.items) }
 
     // The first line with which the lines pass the limit `which`.
     ensures many { (number which : ℕ) → IsErrOf result (RunFault.TooMany number which) → StopsAt (sorted (registered registry.now)) (Past which) (run_of (appended_bytes (S.taken source.old) (S.taken source.new))) number
-        × Appends (W.written out.old) (W.written out.new) (answers (sorted (registered registry.now)) (take (number - 1) (run_of (appended_bytes (S.taken source.old) (S.taken source.new))))) }
+        × Appends (W.written out.old) (W.written out.new) (answers_behind skip (sorted (registered registry.now)) (take (number - 1) (run_of (appended_bytes (S.taken source.old) (S.taken source.new))))) }
 
     // A disk failed. The answers to the lines before are written.
-    ensures whole { (slot : ℕ) → IsErrOf result (RunFault.Disk slot) → HasFront (sorted (registered registry.now)) (run_of (appended_bytes (S.taken source.old) (S.taken source.new))) (λ ls. Appends (W.written out.old) (W.written out.new) (answers (sorted (registered registry.now)) ls)) }
+    ensures whole { (slot : ℕ) → IsErrOf result (RunFault.Disk slot) → HasFront (sorted (registered registry.now)) (run_of (appended_bytes (S.taken source.old) (S.taken source.new))) (λ ls. Appends (W.written out.old) (W.written out.new) (answers_behind skip (sorted (registered registry.now)) ls)) }
     ensures failed { (slot : ℕ) → IsErrOf result (RunFault.Disk slot) → FailedSince slot (bench D.image_at D.moment D.faults D.armed D.picks pairs.old.items) (bench D.image_at D.moment D.faults D.armed D.picks pairs.new.items) }
     ensures place { (slot : ℕ) → IsErrOf result (RunFault.Disk slot) → slot < length registry.now }
 
     // Whatever the end.
     ensures onward { NoneForgotten (bench D.image_at D.moment D.faults D.armed D.picks pairs.old.items) (bench D.image_at D.moment D.faults D.armed D.picks pairs.new.items) }
     ensures unarmed { (IsErrOf result RunFault.NoMemory → ⊥) → AllUnarmed (bench D.image_at D.moment D.faults D.armed D.picks pairs.new.items) }
-    ensures part { AppendsPart (W.written out.old) (W.written out.new) (answers (sorted (registered registry.now)) (run_of (appended_bytes (S.taken source.old) (S.taken source.new)))) }
+    ensures part { AppendsPart (W.written out.old) (W.written out.new) (answers_behind skip (sorted (registered registry.now)) (run_of (appended_bytes (S.taken source.old) (S.taken source.new)))) }
     ensures taken { Consumes (S.left source.old) (S.left source.new) (appended_bytes (S.taken source.old) (S.taken source.new)) }
     ensures write { IsErrOf result RunFault.Write → Rose (W.faults out.old) (W.faults out.new) }
     ensures later { W.faults out.old ≤ W.faults out.new }
 {
-    let mut run = match Run::new(alloc, registry, pairs) {
+    let mut run = match Run::new(alloc, registry, pairs, skip) {
         Ok(run) => run,
         Err(WorldFault::Disk { slot }) => return Err(RunFault::Disk(slot)),
         Err(_) => return Err(RunFault::NoMemory),

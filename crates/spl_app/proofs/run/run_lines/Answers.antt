@@ -1,42 +1,42 @@
-use Rattle.std.proofs.Common.{◌≡◌, ◌-◌, List, [], take, sym, subst}
+use Rattle.std.proofs.Common.{◌≡◌, ◌-◌, ℕ, List, [], take, sym, subst, arith}
 use Rattle.std.specs.Prelude.{IfOk}
 use Rattle.std.specs.Io.{appended_bytes}
-use Rattle.std.specs.Io.KnownBytes.{IsAtEnd}
+use Rattle.std.specs.Io.KnownBytes.{Appends, IsAtEnd}
 use Rattle.spl_circuit.specs.Nodes.{Node}
-use Rattle.spl_world.specs.Disks.{bench, images}
+use Rattle.spl_world.specs.Disks.{bench}
 use Rattle.spl_world.specs.Held.{AreHeld}
 use Rattle.spl_app.specs.declared.fault.RunEnd.TheVariants.{Whole}
 use Rattle.spl_app.specs.Schedule.{IsBadAt, IsSchedule, run_of}
 use Rattle.std.proofs.KnownBytes.{Appends-nil}
-use Rattle.spl_app.specs.Run.{ran, Past, HasFront, StopsAt, answers}
+use Rattle.spl_app.specs.Run.{ran, Past, HasFront, StopsAt, answers_behind}
 use Rattle.spl_app.specs.Due.{IsDue, IsDuePart}
-use Rattle.spl_app.specs.Behind.{IsBehind}
 use Rattle.spl_app.proofs.Dues.{part_flushed, due_flushed}
 use Rattle.spl_app.proofs.Benches.{none_then, place_below}
 use Rattle.spl_app.proofs.Events.{none_within}
-use Rattle.spl_app.proofs.Behinds.{ok_then}
+use Rattle.spl_app.proofs.Behinds.{at_own, both, ok_then}
+use Rattle.spl_app.proofs.Outputs.{none_yet}
 use Rattle.spl_world.proofs.HoldingSeats.{seats_held}
 use Rattle.spl_app.proofs.run.run_lines.Goals as goal
 
 pub lines-ended-requires : goal.lines-ended-requires
 lines-ended-requires g c =
     let start = g.W.Sink.written c.args.out.now in
-    record { fresh = subst (λ (ns : List Node). IsBehind ns [] c.in-Ok.run' (images g.D.Disk.image_at g.D.Disk.moment c.new.new.pairs.items) start start) (sym c.in-Ok.ensures.nodes) (c.in-Ok.ensures.behind start) }
+    record { fresh = at_own _ _ _ _ _ _ _ (c.in-Ok.ensures.behind start) }
 
 pub returns-in_err-flushed-clause-part : goal.returns-in_err-flushed-clause-part
 returns-in_err-flushed-clause-part g c =
-    let part = subst (λ (ns : List Node). IsDuePart (g.W.Sink.written c.args.out.now) (g.W.Sink.written c.lines-ended.new.out) c.lines-ended.new.self.output (answers ns (run_of (appended_bytes (g.S.Source.taken c.args.source.now) (g.S.Source.taken c.lines-ended.new.source))))) c.in-Ok.ensures.nodes c.lines-ended.ensures.part in
+    let part = both (λ (ns : List Node) (skip : ℕ). IsDuePart (g.W.Sink.written c.args.out.now) (g.W.Sink.written c.lines-ended.new.out) c.lines-ended.new.self.output (answers_behind skip ns (run_of (appended_bytes (g.S.Source.taken c.args.source.now) (g.S.Source.taken c.lines-ended.new.source))))) c.in-Ok.ensures.nodes c.in-Ok.ensures.skip c.lines-ended.ensures.part in
     part_flushed _ _ _ _ _ part c.flush-flushed.ensures.part
 
 pub returns-clause-part : goal.returns-clause-part
 returns-clause-part g c =
-    let part = subst (λ (ns : List Node). IsDuePart (g.W.Sink.written c.args.out.now) (g.W.Sink.written c.lines-ended.new.out) c.lines-ended.new.self.output (answers ns (run_of (appended_bytes (g.S.Source.taken c.args.source.now) (g.S.Source.taken c.lines-ended.new.source))))) c.in-Ok.ensures.nodes c.lines-ended.ensures.part in
+    let part = both (λ (ns : List Node) (skip : ℕ). IsDuePart (g.W.Sink.written c.args.out.now) (g.W.Sink.written c.lines-ended.new.out) c.lines-ended.new.self.output (answers_behind skip ns (run_of (appended_bytes (g.S.Source.taken c.args.source.now) (g.S.Source.taken c.lines-ended.new.source))))) c.in-Ok.ensures.nodes c.in-Ok.ensures.skip c.lines-ended.ensures.part in
     part_flushed _ _ _ _ _ part c.flush-flushed.ensures.part
 
 pub returns-clause-written : goal.returns-clause-written
 returns-clause-written g c = ok_then c.lines-ended.result c.lines-ended.ensures.due (λ due.
     due_flushed _ _ _ _ _
-    (subst (λ (ns : List Node). IsDue (g.W.Sink.written c.args.out.now) (g.W.Sink.written c.lines-ended.new.out) c.lines-ended.new.self.output (answers ns (run_of (appended_bytes (g.S.Source.taken c.args.source.now) (g.S.Source.taken c.lines-ended.new.source))))) c.in-Ok.ensures.nodes due)
+    (both (λ (ns : List Node) (skip : ℕ). IsDue (g.W.Sink.written c.args.out.now) (g.W.Sink.written c.lines-ended.new.out) c.lines-ended.new.self.output (answers_behind skip ns (run_of (appended_bytes (g.S.Source.taken c.args.source.now) (g.S.Source.taken c.lines-ended.new.source))))) c.in-Ok.ensures.nodes c.in-Ok.ensures.skip due)
     c.in_ok-flushed.ensures.ok)
 
 pub returns-clause-ok : goal.returns-clause-ok
@@ -44,18 +44,18 @@ returns-clause-ok g c = subst (λ (ns : List Node). IfOk c.lines-ended.result (�
 
 pub returns-clause-bad : goal.returns-clause-bad
 returns-clause-bad g c = λ number is.
-    let found = subst (λ (ns : List Node). IsBadAt ns (appended_bytes (g.S.Source.taken c.args.source.now) (g.S.Source.taken c.lines-ended.new.source)) (g.S.Source.left c.lines-ended.new.source) number
-    × IsDue (g.W.Sink.written c.args.out.now) (g.W.Sink.written c.lines-ended.new.out) c.lines-ended.new.self.output (answers ns (take (number - 1) (run_of (appended_bytes (g.S.Source.taken c.args.source.now) (g.S.Source.taken c.lines-ended.new.source)))))) c.in-Ok.ensures.nodes (c.lines-ended.ensures.bad number is) in
+    let found = both (λ (ns : List Node) (skip : ℕ). IsBadAt ns (appended_bytes (g.S.Source.taken c.args.source.now) (g.S.Source.taken c.lines-ended.new.source)) (g.S.Source.left c.lines-ended.new.source) number
+    × IsDue (g.W.Sink.written c.args.out.now) (g.W.Sink.written c.lines-ended.new.out) c.lines-ended.new.self.output (answers_behind skip ns (take (number - 1) (run_of (appended_bytes (g.S.Source.taken c.args.source.now) (g.S.Source.taken c.lines-ended.new.source)))))) c.in-Ok.ensures.nodes c.in-Ok.ensures.skip (c.lines-ended.ensures.bad number is) in
     (found.0, due_flushed _ _ _ _ _ found.1 c.in_ok-flushed.ensures.ok)
 
 pub returns-clause-many : goal.returns-clause-many
 returns-clause-many g c = λ number which is.
-    let found = subst (λ (ns : List Node). StopsAt ns (Past which) (run_of (appended_bytes (g.S.Source.taken c.args.source.now) (g.S.Source.taken c.lines-ended.new.source))) number
-    × IsDue (g.W.Sink.written c.args.out.now) (g.W.Sink.written c.lines-ended.new.out) c.lines-ended.new.self.output (answers ns (take (number - 1) (run_of (appended_bytes (g.S.Source.taken c.args.source.now) (g.S.Source.taken c.lines-ended.new.source)))))) c.in-Ok.ensures.nodes (c.lines-ended.ensures.many number which is) in
+    let found = both (λ (ns : List Node) (skip : ℕ). StopsAt ns (Past which) (run_of (appended_bytes (g.S.Source.taken c.args.source.now) (g.S.Source.taken c.lines-ended.new.source))) number
+    × IsDue (g.W.Sink.written c.args.out.now) (g.W.Sink.written c.lines-ended.new.out) c.lines-ended.new.self.output (answers_behind skip ns (take (number - 1) (run_of (appended_bytes (g.S.Source.taken c.args.source.now) (g.S.Source.taken c.lines-ended.new.source)))))) c.in-Ok.ensures.nodes c.in-Ok.ensures.skip (c.lines-ended.ensures.many number which is) in
     (found.0, due_flushed _ _ _ _ _ found.1 c.in_ok-flushed.ensures.ok)
 
 pub returns-in-Err-Disk-clause-whole : goal.returns-in-Err-Disk-clause-whole
-returns-in-Err-Disk-clause-whole g c = λ slot is. record { count = 0; run = record { lines = tt; few = none_within _ }; holds = Appends-nil _ }
+returns-in-Err-Disk-clause-whole g c = λ slot is. record { count = 0; run = record { lines = tt; few = none_within _ }; holds = subst (Appends _ _) (sym (none_yet _ c.args.skip [] (omega arith))) (Appends-nil _) }
 
 pub returns-in_err-flushed-clause-onward : goal.returns-in_err-flushed-clause-onward
 returns-in_err-flushed-clause-onward g c = none_then _ _ _ c.in-Ok.ensures.onward c.lines-ended.ensures.onward
@@ -74,7 +74,7 @@ returns-clause-place g c = λ slot is. place_below c.args.registry.now c.in-Ok.r
 
 pub returns-clause-whole : goal.returns-clause-whole
 returns-clause-whole g c = λ slot is.
-    let found = subst (λ (ns : List Node). HasFront ns (run_of (appended_bytes (g.S.Source.taken c.args.source.now) (g.S.Source.taken c.lines-ended.new.source))) (λ ls. IsDue (g.W.Sink.written c.args.out.now) (g.W.Sink.written c.lines-ended.new.out) c.lines-ended.new.self.output (answers ns ls))) c.in-Ok.ensures.nodes (c.lines-ended.ensures.whole slot is) in
+    let found = both (λ (ns : List Node) (skip : ℕ). HasFront ns (run_of (appended_bytes (g.S.Source.taken c.args.source.now) (g.S.Source.taken c.lines-ended.new.source))) (λ ls. IsDue (g.W.Sink.written c.args.out.now) (g.W.Sink.written c.lines-ended.new.out) c.lines-ended.new.self.output (answers_behind skip ns ls))) c.in-Ok.ensures.nodes c.in-Ok.ensures.skip (c.lines-ended.ensures.whole slot is) in
     record { count = found.count; run = found.run; holds = due_flushed _ _ _ _ _ found.holds c.in_ok-flushed.ensures.ok }
 
 pub returns-clause-held : goal.returns-clause-held
@@ -99,7 +99,7 @@ returns-then-lacks_memory-clause-onward g c = none_then _ _ _ c.in-Ok.ensures.on
 
 pub returns-then-lacks_memory-clause-part : goal.returns-then-lacks_memory-clause-part
 returns-then-lacks_memory-clause-part g c =
-    let part = subst (λ (ns : List Node). IsDuePart (g.W.Sink.written c.args.out.now) (g.W.Sink.written c.lines-ended.new.out) c.lines-ended.new.self.output (answers ns (run_of (appended_bytes (g.S.Source.taken c.args.source.now) (g.S.Source.taken c.lines-ended.new.source))))) c.in-Ok.ensures.nodes c.lines-ended.ensures.part in
+    let part = both (λ (ns : List Node) (skip : ℕ). IsDuePart (g.W.Sink.written c.args.out.now) (g.W.Sink.written c.lines-ended.new.out) c.lines-ended.new.self.output (answers_behind skip ns (run_of (appended_bytes (g.S.Source.taken c.args.source.now) (g.S.Source.taken c.lines-ended.new.source))))) c.in-Ok.ensures.nodes c.in-Ok.ensures.skip c.lines-ended.ensures.part in
     part_flushed _ _ _ _ _ part c.flush-flushed.ensures.part
 
 pub returns-in_err-flushed-clause-unarmed : goal.returns-in_err-flushed-clause-unarmed

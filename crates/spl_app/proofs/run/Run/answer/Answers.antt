@@ -3,7 +3,7 @@ use Rattle.spl_answer.specs.Texts.{text}
 use Rattle.spl_model.specs.Outcomes.{by_rule}
 use Rattle.spl_model.specs.Answers.{answer_to}
 use Rattle.spl_app.specs.Due.{IsDuePart}
-use Rattle.spl_app.specs.Run.{printed}
+use Rattle.spl_app.specs.Run.{shown}
 use Rattle.spl_app.proofs.Dues.{due_waits, due_part}
 use Rattle.spl_world.specs.declared.fault.WorldFault.{WorldFault}
 use Rattle.spl_world.specs.declared.fault.WorldFault.TheVariants.{Disk, TooMany}
@@ -12,14 +12,14 @@ use Rattle.spl_app.proofs.run.Run.answer.Goals as goal
 pub returns-in-Err-TooMany-clause-part : goal.returns-in-Err-TooMany-clause-part
 returns-in-Err-TooMany-clause-part g c = λ before stands.
     let written = g.W.Sink.written c.args.out.now in
-    let last = printed c.args.number (text (answer_to c.args.self.now.nodes.items before (by_rule c.args.said.now))) in
+    let last = shown c.args.self.now.skip c.args.number (text (answer_to c.args.self.now.nodes.items before (by_rule c.args.said.now))) in
     subst (λ (waiting : List ℕ). IsDuePart written written waiting (c.args.self.now.output ++ last)) (sym c.ask.ensures.output)
     (due_part written written c.args.self.now.output c.args.self.now.output last (due_waits written c.args.self.now.output))
 
 pub returns-in-Err-NoMemory-clause-part : goal.returns-in-Err-NoMemory-clause-part
 returns-in-Err-NoMemory-clause-part g c = λ before stands.
     let written = g.W.Sink.written c.args.out.now in
-    let last = printed c.args.number (text (answer_to c.args.self.now.nodes.items before (by_rule c.args.said.now))) in
+    let last = shown c.args.self.now.skip c.args.number (text (answer_to c.args.self.now.nodes.items before (by_rule c.args.said.now))) in
     subst (λ (waiting : List ℕ). IsDuePart written written waiting (c.args.self.now.output ++ last)) (sym c.ask.ensures.output)
     (due_part written written c.args.self.now.output c.args.self.now.output last (due_waits written c.args.self.now.output))
 
@@ -31,7 +31,7 @@ returns-in-Err-TooMany-clause-many g c = λ before n which stands is.
 pub returns-in-Err-Disk-clause-part : goal.returns-in-Err-Disk-clause-part
 returns-in-Err-Disk-clause-part g c = λ before stands.
     let written = g.W.Sink.written c.args.out.now in
-    let last = printed c.args.number (text (answer_to c.args.self.now.nodes.items before (by_rule c.args.said.now))) in
+    let last = shown c.args.self.now.skip c.args.number (text (answer_to c.args.self.now.nodes.items before (by_rule c.args.said.now))) in
     subst (λ (waiting : List ℕ). IsDuePart written written waiting (c.args.self.now.output ++ last)) (sym c.ask.ensures.output)
     (due_part written written c.args.self.now.output c.args.self.now.output last (due_waits written c.args.self.now.output))
 
@@ -54,8 +54,8 @@ returns-in-Err-TooMany-clause-unarmed g c = λ off room. c.in-Err-TooMany.ensure
 pub returns-in-Err-Disk-clause-unarmed : goal.returns-in-Err-Disk-clause-unarmed
 returns-in-Err-Disk-clause-unarmed g c = λ off room. c.in-Err-Disk.ensures.unarmed off (λ is. let disk = c.in-Err-Disk.field-0-is in cc)
 
-pub returns-in_err-put-clause-unarmed : goal.returns-in_err-put-clause-unarmed
-returns-in_err-put-clause-unarmed g c = λ off room. c.in-Ok.ensures.unarmed off (λ is. cc)
+pub returns-in_err-put_behind-clause-unarmed : goal.returns-in_err-put_behind-clause-unarmed
+returns-in_err-put_behind-clause-unarmed g c = λ off room. c.in-Ok.ensures.unarmed off (λ is. cc)
 
 pub returns-clause-unarmed : goal.returns-clause-unarmed
 returns-clause-unarmed g c = λ off room. c.in-Ok.ensures.unarmed off (λ is. cc)

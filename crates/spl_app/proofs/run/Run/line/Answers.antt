@@ -7,32 +7,32 @@ use Rattle.spl_app.proofs.run.Run.line.Goals as goal
 
 pub returns-in-Ok-None-clause-ok : goal.returns-in-Ok-None-clause-ok
 returns-in-Ok-None-clause-ok g c = λ lines start behind counted.
-    behind_silent _ lines _ _ _ _ behind c.args.line.now (sym c.in-Ok-None.ensures.said ∙ c.in-Ok-None.field-0-is)
+    behind_silent _ _ lines _ _ _ _ behind c.args.line.now (sym c.in-Ok-None.ensures.said ∙ c.in-Ok-None.field-0-is)
 
 pub returns-in-Ok-None-clause-part : goal.returns-in-Ok-None-clause-part
-returns-in-Ok-None-clause-part g c = λ lines start behind counted. behind_part _ lines _ _ _ _ behind (c.args.line.now ∷ [])
+returns-in-Ok-None-clause-part g c = λ lines start behind counted. behind_part _ _ lines _ _ _ _ behind (c.args.line.now ∷ [])
 
 pub returns-in-Ok-Some-clause-ok : goal.returns-in-Ok-Some-clause-ok
 returns-in-Ok-Some-clause-ok g c = λ lines start behind counted.
     let said_is = sym c.in-Ok-Some.ensures.said ∙ c.in-Ok-Some.field-0-is in
     on_ok c.answer.result c.answer.ensures.running (c.answer.ensures.stands (ran lines) behind.stands)
     (c.answer.ensures.few (ran lines) behind.stands behind.few) (c.answer.ensures.due (ran lines) behind.stands)
-    (behind_said _ lines c.args.self.now _ start _ behind c.args.line.now c.args.number c.in-Ok-Some.said counted said_is _ c.answer.new.self _ c.answer.ensures.nodes c.answer.ensures.world)
+    (behind_said _ _ lines c.args.self.now _ start _ behind c.args.line.now c.args.number c.in-Ok-Some.said counted said_is _ c.answer.new.self _ c.answer.ensures.nodes c.answer.ensures.skip c.answer.ensures.world)
 
 pub returns-in-Ok-Some-clause-part : goal.returns-in-Ok-Some-clause-part
 returns-in-Ok-Some-clause-part g c = λ lines start behind counted.
     let said_is = sym c.in-Ok-Some.ensures.said ∙ c.in-Ok-Some.field-0-is in
-    part_said _ lines c.args.self.now _ start _ behind c.args.line.now c.args.number c.in-Ok-Some.said counted said_is _ c.answer.new.self (c.answer.ensures.part (ran lines) behind.stands)
+    part_said _ _ lines c.args.self.now _ start _ behind c.args.line.now c.args.number c.in-Ok-Some.said counted said_is _ c.answer.new.self (c.answer.ensures.part (ran lines) behind.stands)
 
 pub returns-in-Ok-Some-clause-past : goal.returns-in-Ok-Some-clause-past
 returns-in-Ok-Some-clause-past g c = λ lines n which stands is.
     past_said _ lines c.args.line.now c.in-Ok-Some.said which (sym c.in-Ok-Some.ensures.said ∙ c.in-Ok-Some.field-0-is) (c.answer.ensures.many (ran lines) n which stands is)
 
 pub returns-in-Err-BadLine-clause-part : goal.returns-in-Err-BadLine-clause-part
-returns-in-Err-BadLine-clause-part g c = λ lines start behind counted. behind_part _ lines _ _ _ _ behind (c.args.line.now ∷ [])
+returns-in-Err-BadLine-clause-part g c = λ lines start behind counted. behind_part _ _ lines _ _ _ _ behind (c.args.line.now ∷ [])
 
 pub returns-in-Err-NoMemory-clause-part : goal.returns-in-Err-NoMemory-clause-part
-returns-in-Err-NoMemory-clause-part g c = λ lines start behind counted. behind_part _ lines _ _ _ _ behind (c.args.line.now ∷ [])
+returns-in-Err-NoMemory-clause-part g c = λ lines start behind counted. behind_part _ _ lines _ _ _ _ behind (c.args.line.now ∷ [])
 
 pub returns-in-Ok-None-clause-held : goal.returns-in-Ok-None-clause-held
 returns-in-Ok-None-clause-held g c = λ start lines stands held.

@@ -3,18 +3,17 @@ use Rattle.std.specs.Io.{appended_bytes}
 use Rattle.spl_circuit.specs.Nodes.{Node}
 use Rattle.spl_edge.specs.declared.bench.Pair.{Pair}
 use Rattle.std.specs.Global.{Vec}
-use Rattle.spl_world.specs.Disks.{bench, images}
+use Rattle.spl_world.specs.Disks.{bench}
 use Rattle.spl_world.specs.Held.{AllHeld}
 use Rattle.spl_app.specs.declared.fault.RunFault.{RunFault}
 use Rattle.spl_app.specs.declared.fault.RunFault.TheVariants.{BadLine, TooMany, Disk}
 use Rattle.spl_app.specs.Lines.{lines_of}
-use Rattle.spl_app.specs.Run.{ran, IsLine, IsRun, Bad, Past, StopsFor, answers}
+use Rattle.spl_app.specs.Run.{ran, IsLine, IsRun, Bad, Past, StopsFor, answers_behind}
 use Rattle.spl_app.specs.Schedule.{run_of}
 use Rattle.spl_app.specs.Due.{IsDue, IsDuePart}
-use Rattle.spl_app.specs.Behind.{IsBehind}
 use Rattle.spl_app.specs.Feed.{Feeds, waiting}
 use Rattle.spl_app.proofs.Dues.{due_same, due_whole}
-use Rattle.spl_app.proofs.Behinds.{at_own}
+use Rattle.spl_app.proofs.Behinds.{at_first, at_own, both}
 use Rattle.spl_app.proofs.Benches.{none_itself, none_then}
 use Rattle.spl_app.proofs.Ends.{all_before, bad_rest, schedule, unfinished}
 use Rattle.spl_app.proofs.Fed.{all_lines, few_lines, is_long, is_overlong, is_short}
@@ -59,13 +58,13 @@ lines-preserved g c =
     let line = c.line-line.result.now in
     let next = subst (λ (l : List ℕ). Feeds (g.S.Source.taken c.args.source.now) (g.S.Source.left c.args.source.now) (lines ++ l ∷ []) (g.S.Source.taken c.advance.new.source) (g.S.Source.left c.advance.new.source) c.advance.new.self) (sym c.line-line.ensures) (c.in-Ok-true.ensures.line c.in-Ok-true.field-0-test (g.S.Source.taken c.args.source.now) (g.S.Source.left c.args.source.now) lines c.lines.invariant.feeds) in
     let line_good = subst (λ (ns : List Node). IsLine ns line) c.lines.invariant.behind.nodes c.in-Ok-line.ensures.good in
-    let behind_line = c.in-Ok-line.ensures.ok lines _ (at_own _ _ _ _ _ _ c.lines.invariant.behind) (omega (arith, c.lines.invariant.counted)) in
+    let behind_line = c.in-Ok-line.ensures.ok lines _ (at_own _ _ _ _ _ _ _ c.lines.invariant.behind) (omega (arith, c.lines.invariant.counted)) in
     record {
       lines = lines ++ line ∷ [];
       counted = omega (arith, c.lines.invariant.counted, length-append lines (line ∷ []));
       feeds = next;
       good = all-push _ _ _ c.lines.invariant.good line_good;
-      behind = subst (λ (ns : List Node). IsBehind ns (lines ++ line ∷ []) c.line.new.self (images g.D.Disk.image_at g.D.Disk.moment c.line.new.pairs.items) (g.W.Sink.written c.args.out.now) (g.W.Sink.written c.line.new.out)) c.lines.invariant.behind.nodes behind_line;
+      behind = at_first _ _ (lines ++ line ∷ []) c.lines.self c.line.new.self _ _ _ c.lines.invariant.behind.nodes c.lines.invariant.behind.skips behind_line;
       onward = none_then _ _ _ c.lines.invariant.onward c.line.ensures.onward;
       unarmed = λ off. c.line.ensures.unarmed (c.lines.invariant.unarmed off) (λ is. cc);
       places = c.line.ensures.places ∙ c.lines.invariant.places;
@@ -85,7 +84,7 @@ returns-in-Err-clause-bad g c = λ number is.
     let counted : number ≡ length lines + 1 = omega (arith, found.0, c.lines.invariant.counted) in
     let stops = subst (λ (ns : List Node). StopsFor ns Bad lines line) c.lines.invariant.behind.nodes found.1 in (
       inl (stops_at lines line (lines_of (waiting c.advance.new.self)) (run_of (appended_bytes (g.S.Source.taken c.args.source.now) (g.S.Source.taken c.advance.new.source))) next.fed.run c.args.self.now.nodes.items Bad record { lines = c.lines.invariant.good; few = c.lines.invariant.behind.few } stops number counted),
-      subst (λ (ls : List (List ℕ)). IsDue (g.W.Sink.written c.args.out.now) (g.W.Sink.written c.line.new.out) c.line.new.self.output (answers c.args.self.now.nodes.items ls)) (sym (before_it lines line (lines_of (waiting c.advance.new.self)) (run_of (appended_bytes (g.S.Source.taken c.args.source.now) (g.S.Source.taken c.advance.new.source))) next.fed.run number counted)) (due_same _ _ _ c.lines.self.output _ _ found.3 (search rules) c.lines.invariant.behind.due),
+      subst (λ (ls : List (List ℕ)). IsDue (g.W.Sink.written c.args.out.now) (g.W.Sink.written c.line.new.out) c.line.new.self.output (answers_behind c.args.self.now.skip c.args.self.now.nodes.items ls)) (sym (before_it lines line (lines_of (waiting c.advance.new.self)) (run_of (appended_bytes (g.S.Source.taken c.args.source.now) (g.S.Source.taken c.advance.new.source))) next.fed.run number counted)) (due_same _ _ _ c.lines.self.output _ _ found.3 (search rules) c.lines.invariant.behind.due),
     )
 
 pub returns-in-Err-clause-many : goal.returns-in-Err-clause-many
@@ -100,7 +99,7 @@ returns-in-Err-clause-many g c = λ number which is.
     let counted : number ≡ length lines + 1 = omega (arith, found.0, c.lines.invariant.counted) in
     let stops = subst (λ (ns : List Node). StopsFor ns (Past which) lines line) c.lines.invariant.behind.nodes (found.1, over) in (
       stops_at lines line (lines_of (waiting c.advance.new.self)) (run_of (appended_bytes (g.S.Source.taken c.args.source.now) (g.S.Source.taken c.advance.new.source))) next.fed.run c.args.self.now.nodes.items (Past which) record { lines = c.lines.invariant.good; few = c.lines.invariant.behind.few } stops number counted,
-      subst (λ (ls : List (List ℕ)). IsDue (g.W.Sink.written c.args.out.now) (g.W.Sink.written c.line.new.out) c.line.new.self.output (answers c.args.self.now.nodes.items ls)) (sym (before_it lines line (lines_of (waiting c.advance.new.self)) (run_of (appended_bytes (g.S.Source.taken c.args.source.now) (g.S.Source.taken c.advance.new.source))) next.fed.run number counted)) (due_same _ _ _ c.lines.self.output _ _ found.3 found.2 c.lines.invariant.behind.due),
+      subst (λ (ls : List (List ℕ)). IsDue (g.W.Sink.written c.args.out.now) (g.W.Sink.written c.line.new.out) c.line.new.self.output (answers_behind c.args.self.now.skip c.args.self.now.nodes.items ls)) (sym (before_it lines line (lines_of (waiting c.advance.new.self)) (run_of (appended_bytes (g.S.Source.taken c.args.source.now) (g.S.Source.taken c.advance.new.source))) next.fed.run number counted)) (due_same _ _ _ c.lines.self.output _ _ found.3 found.2 c.lines.invariant.behind.due),
     )
 
 pub returns-in-Err-clause-whole : goal.returns-in-Err-clause-whole
@@ -111,7 +110,7 @@ returns-in-Err-clause-whole g c = λ slot is.
     let same : c.in-Err.fault ≡ Disk slot = cc in
     let failed = ap (λ (e : RunFault). Err e) same in
     let found = c.in-Err.ensures.whole slot failed in
-    front_of_all lines line (lines_of (waiting c.advance.new.self)) (run_of (appended_bytes (g.S.Source.taken c.args.source.now) (g.S.Source.taken c.advance.new.source))) next.fed.run c.args.self.now.nodes.items (λ (ls : List (List ℕ)). IsDue (g.W.Sink.written c.args.out.now) (g.W.Sink.written c.line.new.out) c.line.new.self.output (answers c.args.self.now.nodes.items ls)) record { lines = c.lines.invariant.good; few = c.lines.invariant.behind.few } (due_same _ _ _ c.lines.self.output _ _ found.1 found.0 c.lines.invariant.behind.due)
+    front_of_all lines line (lines_of (waiting c.advance.new.self)) (run_of (appended_bytes (g.S.Source.taken c.args.source.now) (g.S.Source.taken c.advance.new.source))) next.fed.run c.args.self.now.nodes.items (λ (ls : List (List ℕ)). IsDue (g.W.Sink.written c.args.out.now) (g.W.Sink.written c.line.new.out) c.line.new.self.output (answers_behind c.args.self.now.skip c.args.self.now.nodes.items ls)) record { lines = c.lines.invariant.good; few = c.lines.invariant.behind.few } (due_same _ _ _ c.lines.self.output _ _ found.1 found.0 c.lines.invariant.behind.due)
 
 pub returns-in-Err-clause-onward : goal.returns-in-Err-clause-onward
 returns-in-Err-clause-onward g c = none_then _ _ _ c.lines.invariant.onward c.line.ensures.onward
@@ -142,8 +141,8 @@ returns-in-Err-clause-part g c =
     let lines = c.lines.invariant.lines in
     let line = c.line-line.result.now in
     let next = subst (λ (l : List ℕ). Feeds (g.S.Source.taken c.args.source.now) (g.S.Source.left c.args.source.now) (lines ++ l ∷ []) (g.S.Source.taken c.advance.new.source) (g.S.Source.left c.advance.new.source) c.advance.new.self) (sym c.line-line.ensures) (c.in-Ok-true.ensures.line c.in-Ok-true.field-0-test (g.S.Source.taken c.args.source.now) (g.S.Source.left c.args.source.now) lines c.lines.invariant.feeds) in
-    let part = c.line.ensures.part lines _ (at_own _ _ _ _ _ _ c.lines.invariant.behind) (omega (arith, c.lines.invariant.counted)) in
-    part_of_all lines line (lines_of (waiting c.advance.new.self)) (run_of (appended_bytes (g.S.Source.taken c.args.source.now) (g.S.Source.taken c.advance.new.source))) next.fed.run _ _ _ _ (subst (λ (ns : List Node). IsDuePart (g.W.Sink.written c.args.out.now) (g.W.Sink.written c.line.new.out) c.line.new.self.output (answers ns (lines ++ line ∷ []))) c.lines.invariant.behind.nodes part)
+    let part = c.line.ensures.part lines _ (at_own _ _ _ _ _ _ _ c.lines.invariant.behind) (omega (arith, c.lines.invariant.counted)) in
+    part_of_all lines line (lines_of (waiting c.advance.new.self)) (run_of (appended_bytes (g.S.Source.taken c.args.source.now) (g.S.Source.taken c.advance.new.source))) next.fed.run _ _ _ _ _ (both (λ (ns : List Node) (skip : ℕ). IsDuePart (g.W.Sink.written c.args.out.now) (g.W.Sink.written c.line.new.out) c.line.new.self.output (answers_behind skip ns (lines ++ line ∷ []))) c.lines.invariant.behind.nodes c.lines.invariant.behind.skips part)
 
 pub returns-in-Err-clause-taken : goal.returns-in-Err-clause-taken
 returns-in-Err-clause-taken g c =
@@ -166,7 +165,7 @@ returns-in-Ok-false-clause-due g c =
     let last = c.in-Ok-false.ensures.still c.in-Ok-false.field-0-test (g.S.Source.taken c.args.source.now) (g.S.Source.left c.args.source.now) lines c.lines.invariant.feeds in
     let none = c.in-Ok-false.ensures.none c.in-Ok-false.field-0-test in
     let all = all_lines (g.S.Source.taken c.args.source.now) (g.S.Source.left c.args.source.now) lines (g.S.Source.taken c.advance.new.source) (g.S.Source.left c.advance.new.source) c.advance.new.self last none in
-    subst (λ (ls : List (List ℕ)). IsDue (g.W.Sink.written c.args.out.now) (g.W.Sink.written c.lines.out) c.lines.self.output (answers c.args.self.now.nodes.items ls)) (sym all) c.lines.invariant.behind.due
+    subst (λ (ls : List (List ℕ)). IsDue (g.W.Sink.written c.args.out.now) (g.W.Sink.written c.lines.out) c.lines.self.output (answers_behind c.args.self.now.skip c.args.self.now.nodes.items ls)) (sym all) c.lines.invariant.behind.due
 
 pub returns-in-Ok-false-clause-held : goal.returns-in-Ok-false-clause-held
 returns-in-Ok-false-clause-held g c = λ start h.
@@ -190,7 +189,7 @@ returns-in-Err-TooLong-clause-due g c =
     let last = c.in-Err-TooLong.ensures.still refl (g.S.Source.taken c.args.source.now) (g.S.Source.left c.args.source.now) lines c.lines.invariant.feeds in
     let none = c.in-Err-TooLong.ensures.none refl in
     let all = all_lines (g.S.Source.taken c.args.source.now) (g.S.Source.left c.args.source.now) lines (g.S.Source.taken c.advance.new.source) (g.S.Source.left c.advance.new.source) c.advance.new.self last none in
-    subst (λ (ls : List (List ℕ)). IsDue (g.W.Sink.written c.args.out.now) (g.W.Sink.written c.lines.out) c.lines.self.output (answers c.args.self.now.nodes.items ls)) (sym all) c.lines.invariant.behind.due
+    subst (λ (ls : List (List ℕ)). IsDue (g.W.Sink.written c.args.out.now) (g.W.Sink.written c.lines.out) c.lines.self.output (answers_behind c.args.self.now.skip c.args.self.now.nodes.items ls)) (sym all) c.lines.invariant.behind.due
 
 pub returns-in-Err-TooLong-clause-held : goal.returns-in-Err-TooLong-clause-held
 returns-in-Err-TooLong-clause-held g c = λ start h.
@@ -214,7 +213,7 @@ returns-in-Err-Read-clause-due g c =
     let last = c.in-Err-Read.ensures.still refl (g.S.Source.taken c.args.source.now) (g.S.Source.left c.args.source.now) lines c.lines.invariant.feeds in
     let none = c.in-Err-Read.ensures.none refl in
     let all = all_lines (g.S.Source.taken c.args.source.now) (g.S.Source.left c.args.source.now) lines (g.S.Source.taken c.advance.new.source) (g.S.Source.left c.advance.new.source) c.advance.new.self last none in
-    subst (λ (ls : List (List ℕ)). IsDue (g.W.Sink.written c.args.out.now) (g.W.Sink.written c.lines.out) c.lines.self.output (answers c.args.self.now.nodes.items ls)) (sym all) c.lines.invariant.behind.due
+    subst (λ (ls : List (List ℕ)). IsDue (g.W.Sink.written c.args.out.now) (g.W.Sink.written c.lines.out) c.lines.self.output (answers_behind c.args.self.now.skip c.args.self.now.nodes.items ls)) (sym all) c.lines.invariant.behind.due
 
 pub returns-in-Err-Read-clause-held : goal.returns-in-Err-Read-clause-held
 returns-in-Err-Read-clause-held g c = λ start h.
@@ -230,7 +229,7 @@ returns-in-Ok-false-clause-part g c =
     let last = c.in-Ok-false.ensures.still c.in-Ok-false.field-0-test (g.S.Source.taken c.args.source.now) (g.S.Source.left c.args.source.now) lines c.lines.invariant.feeds in
     let none = c.in-Ok-false.ensures.none c.in-Ok-false.field-0-test in
     let all = all_lines (g.S.Source.taken c.args.source.now) (g.S.Source.left c.args.source.now) lines (g.S.Source.taken c.advance.new.source) (g.S.Source.left c.advance.new.source) c.advance.new.self last none in
-    due_whole _ _ _ _ (subst (λ (ls : List (List ℕ)). IsDue (g.W.Sink.written c.args.out.now) (g.W.Sink.written c.lines.out) c.lines.self.output (answers c.args.self.now.nodes.items ls)) (sym all) c.lines.invariant.behind.due)
+    due_whole _ _ _ _ (subst (λ (ls : List (List ℕ)). IsDue (g.W.Sink.written c.args.out.now) (g.W.Sink.written c.lines.out) c.lines.self.output (answers_behind c.args.self.now.skip c.args.self.now.nodes.items ls)) (sym all) c.lines.invariant.behind.due)
 
 pub returns-in-Ok-false-clause-taken : goal.returns-in-Ok-false-clause-taken
 returns-in-Ok-false-clause-taken g c = (c.in-Ok-false.ensures.still c.in-Ok-false.field-0-test (g.S.Source.taken c.args.source.now) (g.S.Source.left c.args.source.now) c.lines.invariant.lines c.lines.invariant.feeds).consumed
@@ -241,7 +240,7 @@ returns-in-Err-TooLong-clause-part g c =
     let last = c.in-Err-TooLong.ensures.still refl (g.S.Source.taken c.args.source.now) (g.S.Source.left c.args.source.now) lines c.lines.invariant.feeds in
     let none = c.in-Err-TooLong.ensures.none refl in
     let all = all_lines (g.S.Source.taken c.args.source.now) (g.S.Source.left c.args.source.now) lines (g.S.Source.taken c.advance.new.source) (g.S.Source.left c.advance.new.source) c.advance.new.self last none in
-    due_whole _ _ _ _ (subst (λ (ls : List (List ℕ)). IsDue (g.W.Sink.written c.args.out.now) (g.W.Sink.written c.lines.out) c.lines.self.output (answers c.args.self.now.nodes.items ls)) (sym all) c.lines.invariant.behind.due)
+    due_whole _ _ _ _ (subst (λ (ls : List (List ℕ)). IsDue (g.W.Sink.written c.args.out.now) (g.W.Sink.written c.lines.out) c.lines.self.output (answers_behind c.args.self.now.skip c.args.self.now.nodes.items ls)) (sym all) c.lines.invariant.behind.due)
 
 pub returns-in-Err-TooLong-clause-taken : goal.returns-in-Err-TooLong-clause-taken
 returns-in-Err-TooLong-clause-taken g c = (c.in-Err-TooLong.ensures.still refl (g.S.Source.taken c.args.source.now) (g.S.Source.left c.args.source.now) c.lines.invariant.lines c.lines.invariant.feeds).consumed
@@ -252,7 +251,7 @@ returns-in-Err-Read-clause-part g c =
     let last = c.in-Err-Read.ensures.still refl (g.S.Source.taken c.args.source.now) (g.S.Source.left c.args.source.now) lines c.lines.invariant.feeds in
     let none = c.in-Err-Read.ensures.none refl in
     let all = all_lines (g.S.Source.taken c.args.source.now) (g.S.Source.left c.args.source.now) lines (g.S.Source.taken c.advance.new.source) (g.S.Source.left c.advance.new.source) c.advance.new.self last none in
-    due_whole _ _ _ _ (subst (λ (ls : List (List ℕ)). IsDue (g.W.Sink.written c.args.out.now) (g.W.Sink.written c.lines.out) c.lines.self.output (answers c.args.self.now.nodes.items ls)) (sym all) c.lines.invariant.behind.due)
+    due_whole _ _ _ _ (subst (λ (ls : List (List ℕ)). IsDue (g.W.Sink.written c.args.out.now) (g.W.Sink.written c.lines.out) c.lines.self.output (answers_behind c.args.self.now.skip c.args.self.now.nodes.items ls)) (sym all) c.lines.invariant.behind.due)
 
 pub returns-in-Err-Read-clause-taken : goal.returns-in-Err-Read-clause-taken
 returns-in-Err-Read-clause-taken g c = (c.in-Err-Read.ensures.still refl (g.S.Source.taken c.args.source.now) (g.S.Source.left c.args.source.now) c.lines.invariant.lines c.lines.invariant.feeds).consumed
@@ -263,7 +262,7 @@ returns-in-Err-Unfinished-clause-part g c =
     let last = c.in-Err-Unfinished.ensures.still refl (g.S.Source.taken c.args.source.now) (g.S.Source.left c.args.source.now) lines c.lines.invariant.feeds in
     let none = c.in-Err-Unfinished.ensures.none refl in
     let all = all_lines (g.S.Source.taken c.args.source.now) (g.S.Source.left c.args.source.now) lines (g.S.Source.taken c.advance.new.source) (g.S.Source.left c.advance.new.source) c.advance.new.self last none in
-    due_whole _ _ _ _ (subst (λ (ls : List (List ℕ)). IsDue (g.W.Sink.written c.args.out.now) (g.W.Sink.written c.lines.out) c.lines.self.output (answers c.args.self.now.nodes.items ls)) (sym all) c.lines.invariant.behind.due)
+    due_whole _ _ _ _ (subst (λ (ls : List (List ℕ)). IsDue (g.W.Sink.written c.args.out.now) (g.W.Sink.written c.lines.out) c.lines.self.output (answers_behind c.args.self.now.skip c.args.self.now.nodes.items ls)) (sym all) c.lines.invariant.behind.due)
 
 pub returns-in-Err-Unfinished-clause-taken : goal.returns-in-Err-Unfinished-clause-taken
 returns-in-Err-Unfinished-clause-taken g c = (c.in-Err-Unfinished.ensures.still refl (g.S.Source.taken c.args.source.now) (g.S.Source.left c.args.source.now) c.lines.invariant.lines c.lines.invariant.feeds).consumed
@@ -274,7 +273,7 @@ returns-in-Err-Overlong-clause-part g c =
     let last = c.in-Err-Overlong.ensures.still refl (g.S.Source.taken c.args.source.now) (g.S.Source.left c.args.source.now) lines c.lines.invariant.feeds in
     let none = c.in-Err-Overlong.ensures.none refl in
     let all = all_lines (g.S.Source.taken c.args.source.now) (g.S.Source.left c.args.source.now) lines (g.S.Source.taken c.advance.new.source) (g.S.Source.left c.advance.new.source) c.advance.new.self last none in
-    due_whole _ _ _ _ (subst (λ (ls : List (List ℕ)). IsDue (g.W.Sink.written c.args.out.now) (g.W.Sink.written c.lines.out) c.lines.self.output (answers c.args.self.now.nodes.items ls)) (sym all) c.lines.invariant.behind.due)
+    due_whole _ _ _ _ (subst (λ (ls : List (List ℕ)). IsDue (g.W.Sink.written c.args.out.now) (g.W.Sink.written c.lines.out) c.lines.self.output (answers_behind c.args.self.now.skip c.args.self.now.nodes.items ls)) (sym all) c.lines.invariant.behind.due)
 
 pub returns-in-Err-Overlong-clause-taken : goal.returns-in-Err-Overlong-clause-taken
 returns-in-Err-Overlong-clause-taken g c = (c.in-Err-Overlong.ensures.still refl (g.S.Source.taken c.args.source.now) (g.S.Source.left c.args.source.now) c.lines.invariant.lines c.lines.invariant.feeds).consumed
@@ -285,7 +284,7 @@ returns-in-Err-NoMemory-clause-part g c =
     let last = c.in-Err-NoMemory.ensures.still refl (g.S.Source.taken c.args.source.now) (g.S.Source.left c.args.source.now) lines c.lines.invariant.feeds in
     let none = c.in-Err-NoMemory.ensures.none refl in
     let all = all_lines (g.S.Source.taken c.args.source.now) (g.S.Source.left c.args.source.now) lines (g.S.Source.taken c.advance.new.source) (g.S.Source.left c.advance.new.source) c.advance.new.self last none in
-    due_whole _ _ _ _ (subst (λ (ls : List (List ℕ)). IsDue (g.W.Sink.written c.args.out.now) (g.W.Sink.written c.lines.out) c.lines.self.output (answers c.args.self.now.nodes.items ls)) (sym all) c.lines.invariant.behind.due)
+    due_whole _ _ _ _ (subst (λ (ls : List (List ℕ)). IsDue (g.W.Sink.written c.args.out.now) (g.W.Sink.written c.lines.out) c.lines.self.output (answers_behind c.args.self.now.skip c.args.self.now.nodes.items ls)) (sym all) c.lines.invariant.behind.due)
 
 pub returns-in-Err-NoMemory-clause-taken : goal.returns-in-Err-NoMemory-clause-taken
 returns-in-Err-NoMemory-clause-taken g c = (c.in-Err-NoMemory.ensures.still refl (g.S.Source.taken c.args.source.now) (g.S.Source.left c.args.source.now) c.lines.invariant.lines c.lines.invariant.feeds).consumed
@@ -327,7 +326,7 @@ returns-in-Err-Unfinished-clause-bad g c = λ number is.
     let end = c.in-Err-Unfinished.ensures.unfinished (search rules) in
     let bad = inl (unfinished (g.S.Source.taken c.args.source.now) (g.S.Source.left c.args.source.now) lines (g.S.Source.taken c.advance.new.source) (g.S.Source.left c.advance.new.source) c.advance.new.self last none end.1 end.0 end.2) in (
       bad_rest c.args.self.now.nodes.items lines (appended_bytes (g.S.Source.taken c.args.source.now) (g.S.Source.taken c.advance.new.source)) (g.S.Source.left c.advance.new.source) number all record { lines = c.lines.invariant.good; few = c.lines.invariant.behind.few } counted bad,
-      subst (λ (ls : List (List ℕ)). IsDue (g.W.Sink.written c.args.out.now) (g.W.Sink.written c.lines.out) c.lines.self.output (answers c.args.self.now.nodes.items ls)) (sym (all_before lines (run_of (appended_bytes (g.S.Source.taken c.args.source.now) (g.S.Source.taken c.advance.new.source))) number all counted)) c.lines.invariant.behind.due,
+      subst (λ (ls : List (List ℕ)). IsDue (g.W.Sink.written c.args.out.now) (g.W.Sink.written c.lines.out) c.lines.self.output (answers_behind c.args.self.now.skip c.args.self.now.nodes.items ls)) (sym (all_before lines (run_of (appended_bytes (g.S.Source.taken c.args.source.now) (g.S.Source.taken c.advance.new.source))) number all counted)) c.lines.invariant.behind.due,
     )
 
 pub returns-in-Err-Unfinished-clause-bad_held : goal.returns-in-Err-Unfinished-clause-bad_held
@@ -350,7 +349,7 @@ returns-in-Err-Overlong-clause-bad g c = λ number is.
     let counted : number ≡ length lines + 1 = omega (arith, same, c.lines.invariant.counted) in
     let bad = inr (is_overlong (g.S.Source.taken c.args.source.now) (g.S.Source.left c.args.source.now) lines (g.S.Source.taken c.advance.new.source) (g.S.Source.left c.advance.new.source) c.advance.new.self last none (c.in-Err-Overlong.ensures.over (search rules))) in (
       bad_rest c.args.self.now.nodes.items lines (appended_bytes (g.S.Source.taken c.args.source.now) (g.S.Source.taken c.advance.new.source)) (g.S.Source.left c.advance.new.source) number all record { lines = c.lines.invariant.good; few = c.lines.invariant.behind.few } counted bad,
-      subst (λ (ls : List (List ℕ)). IsDue (g.W.Sink.written c.args.out.now) (g.W.Sink.written c.lines.out) c.lines.self.output (answers c.args.self.now.nodes.items ls)) (sym (all_before lines (run_of (appended_bytes (g.S.Source.taken c.args.source.now) (g.S.Source.taken c.advance.new.source))) number all counted)) c.lines.invariant.behind.due,
+      subst (λ (ls : List (List ℕ)). IsDue (g.W.Sink.written c.args.out.now) (g.W.Sink.written c.lines.out) c.lines.self.output (answers_behind c.args.self.now.skip c.args.self.now.nodes.items ls)) (sym (all_before lines (run_of (appended_bytes (g.S.Source.taken c.args.source.now) (g.S.Source.taken c.advance.new.source))) number all counted)) c.lines.invariant.behind.due,
     )
 
 pub returns-in-Err-Overlong-clause-bad_held : goal.returns-in-Err-Overlong-clause-bad_held

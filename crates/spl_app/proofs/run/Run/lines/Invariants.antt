@@ -14,7 +14,7 @@ invariant-lines g l = record {
   counted : l.count ≡ length lines;
   feeds : Feeds (g.S.Source.taken l.initial.source) (g.S.Source.left l.initial.source) lines (g.S.Source.taken l.source) (g.S.Source.left l.source) l.feed;
   good : AllByRecursion (IsLine l.initial.self.nodes.items) lines;
-  behind : IsBehind l.initial.self.nodes.items lines l.self (images g.D.Disk.image_at g.D.Disk.moment l.pairs.items) (g.W.Sink.written l.initial.out) (g.W.Sink.written l.out);
+  behind : IsBehind l.initial.self.nodes.items l.initial.self.skip lines l.self (images g.D.Disk.image_at g.D.Disk.moment l.pairs.items) (g.W.Sink.written l.initial.out) (g.W.Sink.written l.out);
   onward : NoneForgotten (bench g.D.Disk.image_at g.D.Disk.moment g.D.Disk.faults g.D.Disk.armed g.D.Disk.picks l.initial.pairs.items) (bench g.D.Disk.image_at g.D.Disk.moment g.D.Disk.faults g.D.Disk.armed g.D.Disk.picks l.pairs.items);
   unarmed : AllUnarmed (bench g.D.Disk.image_at g.D.Disk.moment g.D.Disk.faults g.D.Disk.armed g.D.Disk.picks l.initial.pairs.items) → AllUnarmed (bench g.D.Disk.image_at g.D.Disk.moment g.D.Disk.faults g.D.Disk.armed g.D.Disk.picks l.pairs.items);
   places : places_of l.self.world ≡ places_of l.initial.self.world;

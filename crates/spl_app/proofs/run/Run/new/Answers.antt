@@ -1,18 +1,18 @@
-use Rattle.std.proofs.Common.{ℕ, List, [], subst, sym}
-use Rattle.spl_app.specs.Due.{IsDue}
+use Rattle.std.proofs.Common.{refl}
 use Rattle.spl_app.proofs.Benches.{none_on, unarmed_on, unpicked_unarmed}
-use Rattle.spl_app.proofs.Dues.{due_waits}
+use Rattle.spl_app.proofs.Behinds.{due_none}
 use Rattle.spl_app.proofs.Events.{none_within}
 use Rattle.spl_app.proofs.run.Run.new.Goals as goal
 
 pub returns-clause-behind : goal.returns-clause-behind
 returns-clause-behind g c = λ start. record {
   nodes = c.in_ok-sorted_ids.ensures.ids;
+  skips = refl;
   world = c.in_ok-new-2.ensures.ids;
   running = c.in_ok-new-2.ensures.running;
   stands = c.in_ok-new-2.ensures.stands;
   few = none_within _;
-  due = subst (λ (waiting : List ℕ). IsDue start start waiting []) (sym c.in_ok-new.ensures) (due_waits start []);
+  due = due_none _ c.args.skip start _ c.in_ok-new.ensures;
 }
 
 pub returns-clause-onward : goal.returns-clause-onward

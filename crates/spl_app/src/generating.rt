@@ -1,0 +1,115 @@
+//! Runs generated schedules.
+ghost use Rattle.std.specs.Prelude.{◌≡◌, ◌<◌, ◌≤◌, ◌+◌, ◌-◌, ◌*◌, ◌/◌, ℕ, IfOk, IsTrue, length, take};
+ghost use Rattle.std.specs.Io.KnownBytes.{Appends};
+ghost use Rattle.spl_base.specs.Ids.{is_node_id};
+ghost use Rattle.spl_circuit.specs.Nodes.{Node};
+ghost use Rattle.spl_edge.specs.Causes.{Rose, AppendsPart};
+ghost use Rattle.spl_gen.specs.Circuits.{nodes};
+ghost use Rattle.spl_gen.specs.Generated.{text as text_of};
+ghost use Rattle.spl_gen.specs.declared.generate.TheConstants.{MOST_BATCHES};
+ghost use Rattle.spl_registry.specs.declared.fault.RegistryFault.{RegistryFault};
+ghost use Rattle.spl_registry.specs.Nodes.{made};
+ghost use Rattle.spl_world.specs.Disks.{AllUnarmed, AreBlank, NoneForgotten, bench, images, images_at};
+ghost use Rattle.spl_world.specs.Held.{AllUnpicked, AreHeld};
+ghost use Rattle.spl_app.specs.Lines.{lines_of};
+ghost use Rattle.spl_app.specs.Registered.{HasFailedAt};
+ghost use Rattle.spl_app.specs.Run.{HasFront, IsRun, Past, StopsAt, answers_behind, ran};
+
+use crate::Status;
+use crate::fault::{RunEnd, RunFault};
+use crate::generated::generated_texts_are_lines;
+use crate::run::run_lines;
+use crate::text::TextSource;
+use spl_base::NodeId;
+use spl_edge::{Pair, Sink, StopDisk};
+use spl_gen::schedule;
+use spl_registry::Registry;
+use std::alloc::{AllocError, Global};
+
+fn node(name: &[u8]) -> NodeId
+    requires { IsTrue (is_node_id name.now) }
+    ensures { result ≡ name.now }
+{
+    NodeId::read(name).unwrap()
+}
+
+// The nodes of a generated schedule.
+fn nodes(alloc: Global) -> Result<Vec<NodeId>, AllocError>
+    ensures { IfOk result (λ v. v.items ≡ nodes) }
+{
+    let mut ids = Vec::new(alloc);
+    ids.push(node(b"n1"))?;
+    ids.push(node(b"n2"))?;
+    ids.push(node(b"n3"))?;
+    ids.push(node(b"n4"))?;
+    Ok(ids)
+}
+
+// Their registry.
+fn registry(alloc: Global) -> Result<Registry, AllocError>
+    ensures { IfOk result (λ r. r ≡ made nodes) }
+{
+    let ids = nodes(alloc)?;
+    Ok(Registry::of(alloc, &ids)?)
+}
+
+// How many lines a schedule of n batches has before its last nine.
+fn first_lines(n: u16) -> u32
+    ensures { result ≡ 18 + 2 * n + 2 * (n / 50) }
+{
+    let n = u32::from(n);
+    18 + 2 * n + 2 * (n / 50)
+}
+
+/// Runs the schedule that these numbers make over its nodes, whose disks are blank, and writes the
+/// answers to its last nine lines alone.
+pub fn run_generated<W: Sink, D: StopDisk>(
+    alloc: Global,
+    n: u16,
+    seed: u64,
+    out: &mut W,
+    pairs: &mut Vec<Pair<D>>,
+) -> Status
+    requires some { 1 ≤ n }
+    requires few { n ≤ MOST_BATCHES }
+    requires pairs { 4 ≤ length pairs.old.items }
+    requires blank { (i : ℕ) → i < 4 → AreBlank (images_at (images D.image_at D.moment pairs.old.items) i) }
+    requires unpicked { AllUnpicked (bench D.image_at D.moment D.faults D.armed D.picks pairs.old.items) }
+    ensures words { result ≡ Status.Usage → ⊥ }
+    ensures registry { (fault : RegistryFault) → result ≡ Status.BadRegistry fault → ⊥ }
+    ensures bad { (line : ℕ) → result ≡ Status.BadSchedule line → ⊥ }
+    ensures read { result ≡ Status.ReadFault → ⊥ }
+    ensures long { result ≡ Status.TooLong → ⊥ }
+    ensures ok { result ≡ Status.Ok → IsRun nodes (lines_of (text_of n seed)) × Appends (W.written out.old) (W.written out.new) (answers_behind (length (lines_of (text_of n seed)) - 9) nodes (lines_of (text_of n seed))) }
+    ensures many { (which : ℕ) → result ≡ Status.TooMany which → (number : ℕ) × StopsAt nodes (Past which) (lines_of (text_of n seed)) number
+        × Appends (W.written out.old) (W.written out.new) (answers_behind (length (lines_of (text_of n seed)) - 9) nodes (take (number - 1) (lines_of (text_of n seed)))) }
+    ensures disk { (node : Node) → result ≡ Status.DiskFault node → HasFront nodes (lines_of (text_of n seed)) (λ ls. Appends (W.written out.old) (W.written out.new) (answers_behind (length (lines_of (text_of n seed)) - 9) nodes ls))
+        × HasFailedAt (made nodes) node (bench D.image_at D.moment D.faults D.armed D.picks pairs.old.items) (bench D.image_at D.moment D.faults D.armed D.picks pairs.new.items) }
+    ensures write { result ≡ Status.WriteFault → Rose (W.faults out.old) (W.faults out.new) }
+    ensures held_ok { result ≡ Status.Ok → AreHeld (bench D.image_at D.moment D.faults D.armed D.picks pairs.old.items) nodes (ran (lines_of (text_of n seed))) (made nodes) (bench D.image_at D.moment D.faults D.armed D.picks pairs.new.items) }
+    ensures onward { NoneForgotten (bench D.image_at D.moment D.faults D.armed D.picks pairs.old.items) (bench D.image_at D.moment D.faults D.armed D.picks pairs.new.items) }
+    ensures unarmed { (result ≡ Status.NoMemory → ⊥) → AllUnarmed (bench D.image_at D.moment D.faults D.armed D.picks pairs.new.items) }
+    ensures part { AppendsPart (W.written out.old) (W.written out.new) (answers_behind (length (lines_of (text_of n seed)) - 9) nodes (lines_of (text_of n seed))) }
+{
+    generated_texts_are_lines();
+    let Ok(registry) = registry(alloc) else {
+        return Status::NoMemory;
+    };
+    let Ok(text) = schedule(alloc, n, seed) else {
+        return Status::NoMemory;
+    };
+    let mut source = TextSource::new(text);
+    let skip = first_lines(n);
+    match run_lines(alloc, &registry, pairs, &mut source, out, skip) {
+        Ok(RunEnd::Whole) => Status::Ok,
+        Ok(RunEnd::TooLong) => unreachable!(),
+        Ok(RunEnd::Read) => unreachable!(),
+        Err(RunFault::BadLine(line)) => unreachable!(),
+        Err(RunFault::TooMany { line, which }) => Status::TooMany { which },
+        Err(RunFault::Disk(slot)) => Status::DiskFault {
+            node: registry.node(slot),
+        },
+        Err(RunFault::Write) => Status::WriteFault,
+        Err(RunFault::NoMemory) => Status::NoMemory,
+    }
+}
