@@ -219,13 +219,16 @@ pub fn read_front<T: Field>(alloc: Global, bytes: &[u8]) -> Result<(T, usize), M
     Ok((x, r.place()))
 }
 
+/// The bytes that memory is taken for before a value is spelled: most messages and records are shorter.
+const USUAL: usize = 512;
+
 /// The spelling of a value. An error comes for want of memory alone.
 pub fn spelled<T: Field>(alloc: Global, x: &T) -> Result<Piece, AllocError>
     requires { IsTrue (T.form.bounded x.now) }
     ensures spelled { IfOk result (λ p. p ≡ T.form.spell x.now) }
     ensures fits { OnOk result (IsTrue (T.form.fits x.now)) }
 {
-    let mut w = Writer::new(alloc);
+    let mut w = Writer::with_room(alloc, USUAL)?;
     x.put_parts(&mut w)?;
     Ok(w.into_piece())
 }
