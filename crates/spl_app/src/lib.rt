@@ -22,6 +22,3 @@ mod top;
 pub use bench::blank_bench;
 pub use status::Status;
 pub use top::splinter;
-
-#[cfg(test)]
-mod tests;

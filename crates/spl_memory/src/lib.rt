@@ -12,6 +12,3 @@ pub use lies::Lie;
 pub use lying_disk::LyingDisk;
 pub use mem_disk::MemDisk;
 pub use mem_fabric::{LyingFabric, MemFabric, memory_is_honest};
-
-#[cfg(test)]
-mod tests;

@@ -12,6 +12,3 @@ pub use keeping::Packed;
 pub use laws::appends_to_pairs_are_kept_or_lost;
 pub use pairing::{Pairing, format_pair};
 pub use walking::{PairWalk, walk_pair};
-
-#[cfg(test)]
-mod tests;

@@ -1,4 +1,4 @@
-use crate::{Status, blank_bench, splinter};
+use spl_app::{Status, blank_bench, splinter};
 use spl_edge::{DeviceError, MemSink, MemSource, Sink};
 use spl_registry::RegistryFault;
 use std::alloc::{AllocError, Global};

@@ -1,10 +1,10 @@
 ghost use Rattle.std.specs.Prelude.{true, IfSome};
 ghost use Rattle.spl_edge.specs.Image.{IsSettled};
 
-use super::*;
 use spl_edge::{DeviceError, Disk, Fill, Pair, StopDisk};
 use spl_journal::{Form, JournalFault, Records};
 use spl_memory::{LyingDisk, MemDisk};
+use spl_snapshot::{Packed, format_pair, walk_pair};
 use std::alloc::{AllocError, Global};
 use std::test::Fail;
 

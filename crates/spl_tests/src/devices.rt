@@ -1,5 +1,5 @@
-use super::*;
 use spl_edge::{DeviceError, Disk, Fabric, Fill, StopDisk};
+use spl_memory::{Lie, LyingDisk, LyingFabric, MemDisk, MemFabric};
 use std::test::Fail;
 
 /// What a disk holds.
