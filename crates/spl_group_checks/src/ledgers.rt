@@ -53,6 +53,13 @@ fn reason_text(alloc: Global, reason: Option<Reason>) -> Result<String, AllocErr
     }
 }
 
+/// What an act of these words is answered.
+fn answered(alloc: Global, ledger: &mut Ledger, word: &str) -> Answered {
+    let act = act(alloc, word, 1)?;
+    let reason = offer(alloc, ledger, act)?;
+    Ok(reason_text(alloc, reason)?)
+}
+
 /// A ledger to which the acts were offered, and what each was answered.
 fn offered(alloc: Global, acts: &[&str]) -> Result<(Ledger, String), RowFault> {
     let definition = definition_of(alloc, "trade")?;
@@ -62,9 +69,8 @@ fn offered(alloc: Global, acts: &[&str]) -> Result<(Ledger, String), RowFault> {
     let mut ledger = Ledger::new(alloc, Boxed::new(alloc, definition)?);
     let mut told = String::new(alloc);
     for word in acts {
-        let act = act(alloc, word, 1)?;
-        let reason = offer(alloc, &mut ledger, act)?;
-        add(&mut told, ", ", reason_text(alloc, reason)?.as_str())?;
+        let answer = answered(alloc, &mut ledger, word)?;
+        add(&mut told, ", ", answer.as_str())?;
     }
     Ok((ledger, told))
 }
@@ -87,21 +93,33 @@ fn accepted_text(alloc: Global, ledger: &Ledger) -> Answered {
     Ok(text)
 }
 
-/// What each act is answered, and where they bring the circuit: ACT ..
-pub fn brought(alloc: Global, text: &str) -> Answered {
-    let acts = words(alloc, text)?;
-    let (ledger, mut told) = offered(alloc, &acts)?;
-    let requester = requester_text(alloc, &ledger)?;
-    let accepted = accepted_text(alloc, &ledger)?;
-    let standing = format!(in alloc;
+fn standing_text(alloc: Global, ledger: &Ledger) -> Answered {
+    let requester = requester_text(alloc, ledger)?;
+    let accepted = accepted_text(alloc, ledger)?;
+    Ok(format!(in alloc;
         "{:?} by {}, accepted by {}, acts {}",
         ledger.lifecycle(),
         requester.as_str(),
         accepted.as_str(),
         ledger.acts()
-    )?;
+    )?)
+}
+
+/// What each act is answered, and where they bring the circuit: ACT ..
+pub fn brought(alloc: Global, text: &str) -> Answered {
+    let acts = words(alloc, text)?;
+    let (ledger, mut told) = offered(alloc, &acts)?;
+    let standing = standing_text(alloc, &ledger)?;
     add(&mut told, ": ", standing.as_str())?;
     Ok(told)
+}
+
+fn admit_text(alloc: Global, admit: Admit) -> Answered {
+    match admit {
+        Admit::Take => Ok(format!(in alloc; "take")?),
+        Admit::Ignore => Ok(format!(in alloc; "ignore")?),
+        Admit::Return(reason) => Ok(format!(in alloc; "return {} {}", reason.code, reason.at)?),
+    }
 }
 
 /// What becomes of an act that the member at a position forwards: POSITION ACT, and the acts before.
@@ -110,13 +128,10 @@ pub fn forwarded(alloc: Global, text: &str) -> Answered {
     let [sender, word, before @ ..] = all.as_slice() else {
         return Err(RowFault::BadRow);
     };
-    let (ledger, _) = offered(alloc, before)?;
+    let sender = byte(sender)?;
     let act = act(alloc, word, 1)?;
-    match ledger.admits(byte(sender)?, &act) {
-        Admit::Take => Ok(format!(in alloc; "take")?),
-        Admit::Ignore => Ok(format!(in alloc; "ignore")?),
-        Admit::Return(reason) => Ok(format!(in alloc; "return {} {}", reason.code, reason.at)?),
-    }
+    let (ledger, _) = offered(alloc, before)?;
+    admit_text(alloc, ledger.admits(sender, &act))
 }
 
 /// Whether an act that is forwarded to a member that doesn't lead goes back: ACT.

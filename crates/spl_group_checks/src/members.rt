@@ -146,18 +146,14 @@ fn plan(
 /// What a member plans: MEMBER / EVENT.
 pub fn planned(alloc: Global, text: &str) -> Answered {
     let (before, event) = halves(text, '/')?;
+    let event = words(alloc, event)?;
     let (here, given) = placed(alloc, before)?;
     let member = member(alloc, here, &given)?;
-    let event = words(alloc, event)?;
     let plan = plan(alloc, &member, here, &event)?;
     plan_text(alloc, &plan)
 }
 
-/// What a member tells of itself behind a stop: MEMBER.
-pub fn told(alloc: Global, text: &str) -> Answered {
-    let (here, given) = placed(alloc, text)?;
-    let mut member = member(alloc, here, &given)?;
-    member.restart();
+fn member_text(alloc: Global, member: &Member<Numbers>) -> Answered {
     let promised = match member.promise() {
         Some((round, value)) => format!(in alloc; "promised {} {value}", round.0)?,
         None => format!(in alloc; "free")?,
@@ -172,22 +168,47 @@ pub fn told(alloc: Global, text: &str) -> Answered {
     )?)
 }
 
-/// What a member knows of a key: KEY MEMBER.
-pub fn known(alloc: Global, text: &str) -> Answered {
-    let (key, rest) = halves(text, ' ')?;
-    let (here, given) = placed(alloc, rest)?;
-    let member = member(alloc, here, &given)?;
-    match member.known(&number(key)?) {
+/// What a member tells of itself behind a stop: MEMBER.
+pub fn told(alloc: Global, text: &str) -> Answered {
+    let (here, given) = placed(alloc, text)?;
+    let mut member = member(alloc, here, &given)?;
+    member.restart();
+    member_text(alloc, &member)
+}
+
+fn known_text(alloc: Global, member: &Member<Numbers>, key: u64) -> Answered {
+    match member.known(&key) {
         Some(value) => Ok(format!(in alloc; "{value}")?),
         None => Ok(String::from_str(alloc, "nothing")?),
     }
 }
 
+/// What a member knows of a key: KEY MEMBER.
+pub fn known(alloc: Global, text: &str) -> Answered {
+    let (key, rest) = halves(text, ' ')?;
+    let key = number(key)?;
+    let (here, given) = placed(alloc, rest)?;
+    let member = member(alloc, here, &given)?;
+    known_text(alloc, &member, key)
+}
+
+fn fitting_text(
+    alloc: Global,
+    member: &Member<Numbers>,
+    here: u8,
+    change: &GroupChange<u64>,
+) -> Answered
+    requires { IsReady here member.now }
+{
+    let fits = member.fits(alloc, change)?;
+    Ok(format!(in alloc; "{fits}")?)
+}
+
 /// Whether a change fits a member: MEMBER / CHANGE.
 pub fn fitting(alloc: Global, text: &str) -> Answered {
     let (before, word) = halves(text, '/')?;
+    let change = change(word.trim())?;
     let (here, given) = placed(alloc, before)?;
     let member = member(alloc, here, &given)?;
-    let fits = member.fits(alloc, &change(word.trim())?)?;
-    Ok(format!(in alloc; "{fits}")?)
+    fitting_text(alloc, &member, here, &change)
 }
