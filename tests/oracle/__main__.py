@@ -2,11 +2,17 @@
 
 usage: python3 tests/oracle replay REGISTRY SCHEDULE, or gen N SEED
 """
+import os
 import sys
 
 from program import ended
 
 written, status, said = ended(sys.argv[1:])
-sys.stdout.write(written)
+left = written.encode()
+try:
+    while left:
+        left = left[os.write(1, left) :]
+except OSError:
+    status, said = 6, "write failed\n"
 sys.stderr.write(said)
 sys.exit(status)

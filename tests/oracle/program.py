@@ -1,9 +1,8 @@
 """A run by its words, as docs/RULES.md has it (Statuses, Generated schedules)."""
-import pathlib
 import re
 
 import generated
-from schedules import replay, run
+from schedules import MOST_BYTES, replay, run
 
 USAGE = "usage: splinter replay REGISTRY SCHEDULE or links REGISTRY SCHEDULE DIR or gen N SEED\n"
 NODES = ["n1", "n2", "n3", "n4"]
@@ -11,9 +10,10 @@ ANSWERS_OF_GEN = 9
 
 
 def content(name):
-    """The bytes of a file; None where it can't be read."""
+    """The bytes of a file, no more of them than tell that there are too many; None where it can't be read."""
     try:
-        return pathlib.Path(name).read_bytes()
+        with open(name, "rb") as file:
+            return file.read(MOST_BYTES + 1)
     except OSError:
         return None
 

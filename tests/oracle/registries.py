@@ -21,11 +21,21 @@ def is_entry(entry):
     return bool(good) and isinstance(endpoints, list) and 1 <= len(endpoints) <= 4 and all(map(is_text, endpoints))
 
 
+def has_large_number(value):
+    """Whether a value of a document has a whole number of more than 64 bits, which TOML hasn't."""
+    if isinstance(value, (dict, list)):
+        return any(map(has_large_number, value.values() if isinstance(value, dict) else value))
+    return isinstance(value, int) and not -(2**63) <= value < 2**63
+
+
 def document(text):
     try:
-        return tomllib.loads(text.decode())
-    except (UnicodeDecodeError, tomllib.TOMLDecodeError):
+        found = tomllib.loads(text.decode())
+    except (UnicodeDecodeError, tomllib.TOMLDecodeError, RecursionError):
         raise BadRegistry("not TOML")
+    if has_large_number(found):
+        raise BadRegistry("not TOML")
+    return found
 
 
 def nodes_of(text):

@@ -1,0 +1,106 @@
+"""Registries and schedules that are broken, drawn from a seed: those of examples and cases, with a few of their bytes,
+words and lines changed, cut off, repeated or exchanged."""
+import random
+
+LONGEST = 20000
+BYTES = [b"\0", b"\t", b"\n", b"\r", b" ", b"  ", b"\x7f", b"\x80", b"\xff", b"\xc3\xa9", b"\xe2\x82"]
+BYTES += [b"#", b'"', b"\\", b"-", b",", b":", b"=", b"0", b"[", b"]"]
+NUMBERS = [b"0", b"00", b"1", b"01", b"-1", b"64", b"65", b"255", b"256", b"4294967295", b"4294967296"]
+NUMBERS += [b"18446744073709551615", b"18446744073709551616"]
+
+
+def sources(top):
+    """The pairs of registry and schedule of the examples, and of the cases, that are short and not broken already."""
+    usual, found = top / "examples" / "registry.toml", []
+    for schedule in sorted([*top.glob("examples/*.schedule"), *top.glob("tests/cases/*/schedule")]):
+        beside = lambda suffix, name: schedule.with_suffix(suffix) if schedule.suffix else schedule.parent / name
+        own = beside(".toml", "registry")
+        if not beside(".status", "status").exists() and schedule.stat().st_size <= LONGEST:
+            found.append(((own if own.exists() else usual).read_bytes(), schedule.read_bytes()))
+    return found
+
+
+class Breaker:
+    """Draws what is broken, and how."""
+
+    def __init__(self, seed, pairs):
+        self.random, self.pairs = random.Random(seed), pairs
+
+    def span(self, length, most):
+        """The ends of a piece of so many things, of at most so many of them."""
+        start = self.random.randint(0, length)
+        return start, min(length, start + self.random.randint(1, most))
+
+    def exchanged(self, parts):
+        """Two of them change places."""
+        if len(parts) > 1:
+            a, b = self.random.sample(range(len(parts)), 2)
+            parts[a], parts[b] = parts[b], parts[a]
+        return parts
+
+    # ---- Bytes
+
+    def flip(self, text):
+        at = self.random.randrange(len(text))
+        return text[:at] + bytes([text[at] ^ 1 << self.random.randrange(8)]) + text[at + 1 :]
+
+    def put(self, text):
+        """A few bytes more, or in place of one."""
+        at = self.random.randrange(len(text))
+        return text[:at] + self.random.choice(BYTES) + text[at + self.random.randrange(2) :]
+
+    def take_out(self, text):
+        start, end = self.span(len(text), 8)
+        return text[:start] + text[end:]
+
+    def repeat(self, text):
+        """A piece again and again, at times beyond what a line may have."""
+        start, end = self.span(len(text), 40)
+        return text[:end] + text[start:end] * self.random.choice([1, 1, 2, 16, 200]) + text[end:]
+
+    def cut(self, text):
+        return text[: self.random.randrange(len(text))]
+
+    # ---- Words and lines
+
+    def in_words(self, text):
+        """In one line a word leaves, comes twice, is another one or a number at an edge, or two change places."""
+        lines = text.split(b"\n")
+        at = self.random.randrange(len(lines))
+        words = lines[at].split(b" ")
+        place = self.random.randrange(len(words))
+        other = self.random.choice(self.random.choice(lines).split(b" "))
+        ways = [[], [words[place]] * 2, [other], [self.random.choice(NUMBERS)]]
+        words[place : place + 1] = self.random.choice(ways)
+        lines[at] = b" ".join(self.exchanged(words) if self.random.random() < 0.2 else words)
+        return b"\n".join(lines)
+
+    def in_lines(self, text):
+        """A few lines leave, come again or come from another file, or two change places."""
+        lines = text.split(b"\n")
+        if self.random.random() < 0.3:
+            return b"\n".join(self.exchanged(lines))
+        start, end = self.span(len(lines), 4)
+        others = self.random.choice(self.pairs)[self.random.randrange(2)].split(b"\n")
+        place, behind = self.span(len(others), 4)
+        lines[start:end] = self.random.choice([[], lines[start:end] * 2, lines[start:end] + others[place:behind]])
+        return b"\n".join(lines)
+
+    def broken(self, text):
+        """The bytes of a file with one to four changes."""
+        ways = [self.flip, self.put, self.take_out, self.repeat, self.cut, self.in_words, self.in_words, self.in_lines]
+        for _ in range(self.random.choice([1, 1, 1, 2, 4])):
+            text = self.random.choice(ways)(text) if text else self.random.choice(BYTES)
+        return text
+
+
+def broken(seed, pairs):
+    """The bytes of a registry and of a schedule."""
+    breaker = Breaker(seed, pairs)
+    registry, schedule = breaker.random.choice(pairs)
+    which = breaker.random.random()
+    if which < 0.25:
+        registry = breaker.broken(registry)
+    if which > 0.2:
+        schedule = breaker.broken(schedule)
+    return registry, schedule
