@@ -7,14 +7,15 @@ ghost use Rattle.spl_world.specs.Held.{AllUnpicked};
 use spl_edge::{Bench, Pair};
 use spl_memory::MemDisk;
 use std::alloc::{AllocError, Global};
+use std::mem;
 
-// Two blank disks.
-fn blank_pair(alloc: Global) -> Pair<MemDisk>
+// Two blank disks, of which the first fails at the calls of these numbers.
+fn blank_pair(alloc: Global, failing: Vec<u64>) -> Pair<MemDisk>
     ensures first { IsFreshDisk result.first }
     ensures second { IsFreshDisk result.second }
 {
     Pair {
-        first: MemDisk::new(alloc, Vec::new(alloc)),
+        first: MemDisk::new(alloc, failing),
         second: MemDisk::new(alloc, Vec::new(alloc)),
     }
 }
@@ -33,9 +34,22 @@ pub fn blank_bench(alloc: Global) -> Result<Bench<MemDisk>, AllocError>
     ensures blank { IfOk result (λ b. (i : ℕ) → i < 16 → AreBlank (images_at (images image_of moment_of b.pairs.items) i)) }
     ensures unpicked { IfOk result (λ b. AllUnpicked (bench image_of moment_of faults_of armed_of picked_by b.pairs.items)) }
 {
+    failing_bench(alloc, Vec::new(alloc))
+}
+
+/// Sixteen pairs of blank disks in memory, of which the first disk of all fails at the calls of these numbers, counted
+/// from 1.
+pub fn failing_bench(alloc: Global, failing: Vec<u64>) -> Result<Bench<MemDisk>, AllocError>
+    ensures pairs { IfOk result (λ b. length b.pairs.items ≡ 16) }
+    ensures blank { IfOk result (λ b. (i : ℕ) → i < 16 → AreBlank (images_at (images image_of moment_of b.pairs.items) i)) }
+    ensures unpicked { IfOk result (λ b. AllUnpicked (bench image_of moment_of faults_of armed_of picked_by b.pairs.items)) }
+{
     let mut pairs = Vec::new(alloc);
+    let mut failing = failing;
     'pairs: while pairs.len() < 16 {
-        join(&mut pairs, blank_pair(alloc))?;
+        // The first pair takes them all.
+        let calls = mem::replace(&mut failing, Vec::new(alloc));
+        join(&mut pairs, blank_pair(alloc, calls))?;
     }
     Ok(Bench { pairs })
 }

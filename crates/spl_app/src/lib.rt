@@ -19,6 +19,6 @@ mod take;
 mod text;
 mod top;
 
-pub use bench::blank_bench;
+pub use bench::{blank_bench, failing_bench};
 pub use status::Status;
 pub use top::splinter;

@@ -66,8 +66,12 @@ fn run(rt: &HostRuntime) -> Status {
 
 // One line on standard error.
 fn report(rt: &HostRuntime, status: Status) -> io::Result<()> {
-    let text = status.text(rt.alloc())?;
     let mut error = rt.stderr();
+    if status == Status::NoMemory {
+        // It may lack the memory for its text, too.
+        return error.write_all(b"out of memory\n");
+    }
+    let text = status.text(rt.alloc())?;
     error.write_all(text.bytes())?;
     error.write_all(b"\n")
 }

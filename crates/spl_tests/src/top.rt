@@ -1,4 +1,4 @@
-use spl_app::{Status, blank_bench, splinter};
+use spl_app::{Status, blank_bench, failing_bench, splinter};
 use spl_edge::{DeviceError, MemSink, MemSource, Sink};
 use spl_registry::RegistryFault;
 use std::alloc::{AllocError, Global};
@@ -288,5 +288,76 @@ fn statuses(rt: HostRuntime) -> Result<(), Fail> {
         assert_eq!(rt; status.code(), code);
         assert_eq!(rt; status.text(alloc)?.bytes(), text.as_bytes());
     }
+    Ok(())
+}
+
+const BETA: &str =
+    "[[node]]\nidentity = \"beta\"\ndisplay_name = \"Beta\"\nendpoints = [\"127.0.0.1:0\"]\n";
+
+// How a run over alpha and beta ends, and what it writes, where this call fails on alpha's first disk.
+fn over_a_failing_disk(
+    alloc: Global,
+    call: u64,
+    lines: &[&str],
+) -> Result<(Status, Vec<u8>), Fail> {
+    let mut nodes = REGISTRY.as_bytes().to_vec(alloc)?;
+    nodes.extend_from_slice(BETA.as_bytes())?;
+    let mut schedule = Vec::new(alloc);
+    for line in lines {
+        schedule.extend_from_slice(line.as_bytes())?;
+        schedule.push(b'\n')?;
+    }
+    let mut registry = MemSource::new(nodes, Vec::new(alloc));
+    let mut schedule = MemSource::new(schedule, Vec::new(alloc));
+    let mut out = MemSink::new(alloc, Vec::new(alloc));
+    let mut bench = failing_bench(alloc, vec![in alloc; call]?)?;
+    let words = words(alloc, &["replay", "registry", "schedule"])?;
+    let status = splinter(
+        alloc,
+        &words,
+        &mut registry,
+        &mut schedule,
+        &mut out,
+        &mut bench,
+    );
+    Ok((status, out.bytes().to_vec(alloc)?))
+}
+
+const FIRST: &str =
+    "propose alpha Ab3dE-00001 1 1 grid trade alpha,beta aaaa:scabbard:alpha,bbbb:scabbard:beta";
+
+const SECOND: &str =
+    "propose alpha Ab3dE-00002 1 1 grid trade alpha,beta aaaa:scabbard:alpha,bbbb:scabbard:beta";
+
+const SHOW: &str = "show beta Ab3dE-00001";
+
+// The journal is made by four calls, and each record is written by four.
+#[test]
+fn a_disk_fails(rt: HostRuntime) -> Result<(), Fail> {
+    let alloc = rt.alloc();
+    let lines = [FIRST, SHOW, SECOND, SHOW];
+    let rows = [
+        (1, ""),
+        (4, ""),
+        (5, ""),
+        (8, ""),
+        (9, "1 ok queued\n2 refused 2\n"),
+        (12, "1 ok queued\n2 refused 2\n"),
+    ];
+    for (call, answers) in rows {
+        let (status, written) = over_a_failing_disk(alloc, call, &lines)?;
+        assert_eq!(rt;
+            (status.code(), status.text(alloc)?.bytes()),
+            (7, b"disk of alpha failed".as_slice()),
+            "at {call}"
+        );
+        assert_eq!(rt; written.as_slice(), answers.as_bytes(), "at {call}");
+    }
+    let (status, written) = over_a_failing_disk(alloc, 13, &lines)?;
+    assert_eq!(rt; status, Status::Ok);
+    assert_eq!(rt;
+        written.as_slice(),
+        b"1 ok queued\n2 refused 2\n3 ok queued\n4 refused 2\n".as_slice()
+    );
     Ok(())
 }

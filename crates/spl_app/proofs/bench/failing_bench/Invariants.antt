@@ -1,7 +1,7 @@
 use Rattle.std.proofs.Common.{◌≤◌, ◌-◌, length}
 use Rattle.spl_world.specs.Held.{AllUnpicked}
 use Rattle.spl_app.proofs.Blanks.{AllBlank, told}
-use Rattle.spl_app.proofs.bench.blank_bench.Given as goal
+use Rattle.spl_app.proofs.bench.failing_bench.Given as goal
 
 abbrev pub invariant-pairs : goal.invariant-pairs
 invariant-pairs l = record {

@@ -1,6 +1,6 @@
 use Rattle.std.proofs.Common.{◌≡◌, true, false, None, length}
 use Rattle.spl_snapshot.specs.Pairs.{PairStands, is_halted}
-use Rattle.spl_snapshot.proofs.tests.kept.Given as goal
+use Rattle.spl_tests.proofs.pairings.kept.Given as goal
 
 abbrev pub invariant-times : goal.invariant-times
 invariant-times l = record {

@@ -1,4 +1,4 @@
-use Rattle.spl_snapshot.proofs.tests.kept.Goals as goal
+use Rattle.spl_tests.proofs.pairings.kept.Goals as goal
 
 pub keep-requires-clause-running : goal.keep-requires-clause-running
 keep-requires-clause-running c = c.times.invariant.running

@@ -3,7 +3,7 @@ use Rattle.spl_edge.specs.declared.bench.Pair.{Pair}
 use Rattle.spl_memory.specs.declared.mem_disk.MemDisk.{MemDisk}
 use Rattle.spl_world.specs.Held.{AllUnpicked}
 use Rattle.spl_app.proofs.Blanks.{AllBlank, pair_blank, blank_more, pair_unpicked, told, unpicked_more}
-use Rattle.spl_app.proofs.bench.blank_bench.Goals as goal
+use Rattle.spl_app.proofs.bench.failing_bench.Goals as goal
 
 pub pairs-preserved : goal.pairs-preserved
 pairs-preserved c = record {
