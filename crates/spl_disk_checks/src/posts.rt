@@ -91,7 +91,7 @@ impl Post {
 
     /// An event: a line of a schedule, or hear and what another node says.
     fn line(&mut self, alloc: Global, line: &str) -> Answered {
-        let Some(seat) = self.seat.take() else {
+        let Some(mut seat) = self.seat.take() else {
             return Err(RowFault::BadRow);
         };
         let here = seat.here();
@@ -100,10 +100,10 @@ impl Post {
             None => event_of(alloc, &here, line)?,
         };
         match seat.step(alloc, &mut self.disks, &asked.circuit, &asked.event) {
-            Ok(stepped) => {
-                self.watch(stepped.seat.counting());
-                self.seat = Some(stepped.seat);
-                answer_text(alloc, &stepped.answer)
+            Ok(answer) => {
+                self.watch(seat.counting());
+                self.seat = Some(seat);
+                answer_text(alloc, &answer)
             }
             Err(fault) => fault_text(alloc, fault),
         }

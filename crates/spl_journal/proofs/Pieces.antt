@@ -1,5 +1,5 @@
 -- What is read of a journal.
-use Rattle.std.proofs.Common.{◌≡◌, ⊎_elim, ℕ, ◌+◌, ◌-◌, ◌<◌, ◌≤◌, ◌^◌, min, List, [], ◌∷◌, ◌++◌, length, get_or, take, drop, Bool, true, false, nat_le, nat_eq, ◌&&◌, ◌==◌, if◌then◌else◌, Option, None, Some, IfSome, Err, refl, sym, ◌∙◌, ap, arith, length-take}
+use Rattle.std.proofs.Common.{◌≡◌, ⊎_elim, ℕ, ◌+◌, ◌-◌, ◌<◌, ◌≤◌, ◌^◌, min, List, [], ◌∷◌, ◌++◌, length, get_or, take, drop, Bool, true, false, nat_le, nat_eq, ◌&&◌, ◌==◌, if◌then◌else◌, Option, None, Some, IfSome, Err, refl, sym, ◌∙◌, ap, subst, arith, length-take}
 use Rattle.std.specs.List.{starts_with}
 use Rattle.std.specs.Cmp.Lexicographic.{pointwise}
 use Rattle.std.proofs.lemmas.List.{append-nil, take_all, take_min, take-take, drop-take, drop-drop, get_or-take, get_or-drop, drop_more}
@@ -10,6 +10,11 @@ use Rattle.spl_edge.specs.Calls.{SamePast}
 use Rattle.spl_journal.specs.Records.{magic, size_bytes, size_from, size_at, record_at, is_block, is_headed, head_fault, walk, walk_behind, records, epoch_from, epoch_in, IsFront}
 use Rattle.spl_journal.specs.Reads.{Stays, IsNext}
 use Rattle.spl_journal.proofs.Walks.{take_add}
+
+-- what is so of an item is so of the one that is there
+pub given_of : {A : Type 0} (P : A → Type 0) (o : Option A) (x : A) → o ≡ Some x → IfSome o P → P x
+given_of P None x is h = cc
+given_of P (Some y) x is h = let same : y ≡ x = cc in subst P same h
 
 le_same : (a b c : ℕ) → (a ≤ b → a ≤ c) → (a ≤ c → a ≤ b) → nat_le a b ≡ nat_le a c
 le_same a b c to from = ⊎_elim

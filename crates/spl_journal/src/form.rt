@@ -1,5 +1,5 @@
 //! What a journal's records are, and why a call of it failed.
-ghost use Rattle.std.specs.Prelude.{◌≡◌, IfOk, ℕ, List, Bool};
+ghost use Rattle.std.specs.Prelude.{◌≡◌, IfOk, IfSome, is_some, ℕ, List, Bool};
 ghost use Rattle.spl_journal.specs.Faults.{fault_of};
 ghost use Rattle.spl_journal.specs.declared.form.JournalFault.TheVariants.{NoMemory};
 
@@ -12,9 +12,16 @@ pub trait Form {
     /// Whether bytes are exactly one record.
     ghost is_record: { List ℕ → Bool };
 
-    /// Whether bytes are exactly one record. An error comes for want of memory alone.
-    fn fits(alloc: Global, bytes: &[u8]) -> Result<bool, AllocError>
-        ensures { IfOk result (λ fits. fits ≡ is_record bytes.now) };
+    /// What a record is read as.
+    type Read: Drop;
+
+    /// The bytes of a record that was read.
+    ghost bytes_of: { Self.Read → List ℕ };
+
+    /// The record that bytes are, or None where they aren't one. An error comes for want of memory alone.
+    fn read(alloc: Global, bytes: Vec<u8>) -> Result<Option<Self::Read>, AllocError>
+        ensures record { IfOk result (λ found. is_some found ≡ is_record bytes.items) }
+        ensures bytes { IfOk result (λ found. IfSome found (λ r. bytes_of r ≡ bytes.items)) };
 }
 
 /// Why a call of a journal failed. `Disk` comes only where the disk's count of faults rose in that call.

@@ -42,15 +42,16 @@ pub(crate) fn read_head<D: Disk>(disk: &mut D) -> Result<u64, JournalFault>
     Ok(epoch_from(epoch))
 }
 
-/// The record behind the gate at this place, or None where the gate is closed.
+/// The record behind the gate at this place and how many bytes it has, or None where the gate is closed.
 pub(crate) fn read_next<R: Form, D: Disk>(
     alloc: Global,
     disk: &mut D,
     at: u64,
-) -> Result<Option<Vec<u8>>, JournalFault>
+) -> Result<Option<(R::Read, u64)>, JournalFault>
     requires small { at + 5 < 2 ^ 64 }
-    ensures next { IfOk result (λ found. IfSome found (λ r. IsGood R.is_record r.items
-        × IfSome (D.image_at disk.old (D.moment disk.old)) (λ i. at < length i.bytes → IsNext R.is_record at r.items i.bytes))) }
+    ensures next { IfOk result (λ found. IfSome found (λ r. IsGood R.is_record (R.bytes_of r.0)
+        × IfSome (D.image_at disk.old (D.moment disk.old)) (λ i. at < length i.bytes → IsNext R.is_record at (R.bytes_of r.0) i.bytes))) }
+    ensures size { IfOk result (λ found. IfSome found (λ r. r.1 ≡ length (R.bytes_of r.0))) }
     ensures end { IfOk result (λ found. found ≡ None → IfSome (D.image_at disk.old (D.moment disk.old)) (EndsAt at)) }
     ensures not { (k : ℕ) → IsErrOf result (JournalFault.NotAJournal k) → (k ≡ at)
         × IfSome (D.image_at disk.old (D.moment disk.old)) (λ i. at < length i.bytes → (get_or i.bytes at 0 ≡ 1) × (is_block R.is_record (drop at i.bytes) ≡ false)) }
@@ -89,9 +90,9 @@ pub(crate) fn read_next<R: Form, D: Disk>(
         return Err(JournalFault::NotAJournal { at });
     }
     record.truncate(size);
-    match R::fits(alloc, &record) {
-        Ok(true) => Ok(Some(record)),
-        Ok(false) => Err(JournalFault::NotAJournal { at }),
+    match R::read(alloc, record) {
+        Ok(Some(found)) => Ok(Some((found, size as u64))),
+        Ok(None) => Err(JournalFault::NotAJournal { at }),
         Err(_) => Err(JournalFault::NoMemory),
     }
 }

@@ -7,7 +7,6 @@ ghost use Rattle.spl_journal.specs.Records.{records, head_fault, IsGood};
 
 use crate::read::{read_head, read_next};
 use crate::{Form, Journal, JournalFault, fault_of};
-use spl_base::Piece;
 use spl_edge::Disk;
 use std::alloc::Global;
 use std::marker::PhantomData;
@@ -84,12 +83,12 @@ impl<R: Form> Walk<R> {
         &mut self,
         alloc: Global,
         disk: &mut D,
-    ) -> Result<Option<Piece>, JournalFault>
+    ) -> Result<Option<R::Read>, JournalFault>
         requires walks { IfSome (D.image_at disk.old (D.moment disk.old)) (Walks R.is_record self.old) }
         ensures walks { IfSome (D.image_at disk.old (D.moment disk.old)) (Walks R.is_record self.new) }
-        ensures good { IfOk result (λ found. IfSome found (λ r. IsGood R.is_record r)) }
+        ensures good { IfOk result (λ found. IfSome found (λ r. IsGood R.is_record (R.bytes_of r))) }
         ensures next { IfOk result (λ found. IfSome found (λ r. IfSome (D.image_at disk.old (D.moment disk.old)) (λ i.
-            given_by R.is_record self.new i.bytes ≡ given_by R.is_record self.old i.bytes ++ r ∷ []))) }
+            given_by R.is_record self.new i.bytes ≡ given_by R.is_record self.old i.bytes ++ R.bytes_of r ∷ []))) }
         ensures shorter { IfOk result (λ found. IfSome found (λ r. left_of self.new < left_of self.old)) }
         ensures none { IfOk result (λ found. IfNone found (IfSome (D.image_at disk.old (D.moment disk.old)) (λ i.
             records R.is_record i.bytes ≡ Ok (given_by R.is_record self.old i.bytes)))) }
@@ -107,17 +106,17 @@ impl<R: Form> Walk<R> {
             Ok(found) => found,
             Err(fault) => return Err(fault),
         };
-        let Some(record) = found else {
+        let Some((record, size)) = found else {
             self.ended = true;
             return Ok(None);
         };
-        let behind = at + 5 + record.len() as u64;
+        let behind = at + 5 + size;
         if self.extent <= behind {
             return Err(JournalFault::NotAJournal { at });
         }
         self.at = behind;
         self.ended = false;
-        Ok(Some(Piece::from_vec(record)))
+        Ok(Some(record))
     }
 
     /// The journal that was read, once `next` has answered None.

@@ -23,26 +23,27 @@ trait Target: Drop {
     ghost site: { Self → Site };
 
     /// An event, of which nothing is told.
-    fn take(self, alloc: Global, event: &Event) -> Result<Self, Fault>
-        requires { IsFor (site self) event.now }
-        ensures { IfOk result (λ t. site t ≡ site self) };
+    fn take(&mut self, alloc: Global, event: &Event) -> Result<(), Fault>
+        requires { IsFor (site self.old) event.now }
+        ensures { site self.new ≡ site self.old };
 }
 
 /// A cell without a disk.
 #[derive(Drop)]
 struct Bare {
     cell: Cell,
-    ghost running: { cell.halted ≡ false },
 }
 
 impl Target for Bare {
     ghost site = { λ b. b.cell.site };
 
-    fn take(self, alloc: Global, event: &Event) -> Result<Bare, Fault> {
-        let Bare { mut cell } = self;
-        let plan = cell.plan(alloc, event)?;
-        cell.apply(alloc, &plan)?;
-        Ok(Bare { cell })
+    fn take(&mut self, alloc: Global, event: &Event) -> Result<(), Fault> {
+        if self.cell.is_halted() {
+            return Err(Fault::NoMemory);
+        }
+        let plan = self.cell.plan(alloc, event)?;
+        self.cell.apply(alloc, &plan)?;
+        Ok(())
     }
 }
 
@@ -57,18 +58,12 @@ struct Seated {
 impl Target for Seated {
     ghost site = { λ s. site_at s.seat.here s.circuit };
 
-    fn take(self, alloc: Global, event: &Event) -> Result<Seated, Fault> {
-        let Seated {
-            seat,
-            mut disks,
-            circuit,
-        } = self;
-        let stepped = seat.step(alloc, &mut disks, &circuit, event)?;
-        Ok(Seated {
-            seat: stepped.seat,
-            disks,
-            circuit,
-        })
+    fn take(&mut self, alloc: Global, event: &Event) -> Result<(), Fault> {
+        let circuit = self.circuit;
+        let _ = self
+            .seat
+            .step(alloc, &mut self.disks, &circuit, event)?;
+        Ok(())
     }
 }
 
@@ -107,14 +102,14 @@ fn read(alloc: Global, bytes: &[u8]) -> Result<Life, Fault> {
 
 /// An event that comes from no other node.
 fn own<T: Target>(
-    target: T,
+    target: &mut T,
     alloc: Global,
     here: &NodeId,
     circuit: &CircuitId,
     event: Event,
-) -> Result<T, Fault>
-    requires { T.site target ≡ site_at here.now circuit.now }
-    ensures { IfOk result (λ t. T.site t ≡ site_at here.now circuit.now) }
+) -> Result<(), Fault>
+    requires { T.site target.old ≡ site_at here.now circuit.now }
+    ensures { T.site target.new ≡ T.site target.old }
 {
     if !is_own(alloc, circuit, &event)? {
         return Err(Fault::Malformed);
@@ -124,16 +119,16 @@ fn own<T: Target>(
 
 /// A message from another node.
 fn hear<T: Target>(
-    target: T,
+    target: &mut T,
     alloc: Global,
     here: &NodeId,
     circuit: &CircuitId,
     from: NodeId,
     message: Message,
-) -> Result<T, Fault>
-    requires own { T.site target ≡ site_at here.now circuit.now }
+) -> Result<(), Fault>
+    requires own { T.site target.old ≡ site_at here.now circuit.now }
     requires about { IsAbout circuit.now message }
-    ensures { IfOk result (λ t. T.site t ≡ site_at here.now circuit.now) }
+    ensures { T.site target.new ≡ T.site target.old }
 {
     if from == *here {
         return Err(Fault::Malformed);
@@ -144,64 +139,74 @@ fn hear<T: Target>(
 
 /// A round of acts: a tick, and the vote of the other member.
 fn act_round<T: Target>(
-    target: T,
+    target: &mut T,
     alloc: Global,
     life: &Life,
     circuit: &CircuitId,
     round: u64,
-) -> Result<T, Fault>
-    requires { T.site target ≡ site_at life.now.here circuit.now }
-    ensures { IfOk result (λ t. T.site t ≡ site_at life.now.here circuit.now) }
+) -> Result<(), Fault>
+    requires { T.site target.old ≡ site_at life.now.here circuit.now }
+    ensures { T.site target.new ≡ T.site target.old }
 {
-    let target = own(target, alloc, &life.here, circuit, Event::Tick)?;
+    own(target, alloc, &life.here, circuit, Event::Tick)?;
     let vote = act_vote(*circuit, Generation(1), Round(round));
     hear(target, alloc, &life.here, circuit, life.other, vote)
 }
 
 /// The circuit is proposed and accepted.
-fn begun<T: Target>(target: T, alloc: Global, life: &Life, circuit: &CircuitId) -> Result<T, Fault>
-    requires { T.site target ≡ site_at life.now.here circuit.now }
-    ensures { IfOk result (λ t. T.site t ≡ site_at life.now.here circuit.now) }
+fn begun<T: Target>(
+    target: &mut T,
+    alloc: Global,
+    life: &Life,
+    circuit: &CircuitId,
+) -> Result<(), Fault>
+    requires { T.site target.old ≡ site_at life.now.here circuit.now }
+    ensures { T.site target.new ≡ T.site target.old }
 {
     let proposal = Boxed::new(alloc, life.definition.copy(alloc)?)?;
-    let target = own(target, alloc, &life.here, circuit, Event::Propose(proposal))?;
+    own(target, alloc, &life.here, circuit, Event::Propose(proposal))?;
     let message = acceptance(*circuit, Generation(1), life.other, 1);
-    let target = hear(target, alloc, &life.here, circuit, life.other, message)?;
-    let target = act_round(target, alloc, life, circuit, 1)?;
+    hear(target, alloc, &life.here, circuit, life.other, message)?;
+    act_round(target, alloc, life, circuit, 1)?;
     act_round(target, alloc, life, circuit, 2)
 }
 
 /// A batch is submitted and committed, by three events.
 fn batch<T: Target>(
-    target: T,
+    target: &mut T,
     alloc: Global,
     life: &Life,
     circuit: &CircuitId,
     number: u64,
-) -> Result<T, Fault>
-    requires { T.site target ≡ site_at life.now.here circuit.now }
-    ensures { IfOk result (λ t. T.site t ≡ site_at life.now.here circuit.now) }
+) -> Result<(), Fault>
+    requires { T.site target.old ≡ site_at life.now.here circuit.now }
+    ensures { T.site target.new ≡ T.site target.old }
 {
     let mut batch = life.batch.copy(alloc)?;
     batch.id = BatchId(number);
     let submission = Event::Submit(Boxed::new(alloc, batch)?);
-    let target = own(target, alloc, &life.here, circuit, submission)?;
-    let target = own(target, alloc, &life.here, circuit, Event::Tick)?;
+    own(target, alloc, &life.here, circuit, submission)?;
+    own(target, alloc, &life.here, circuit, Event::Tick)?;
     let (from, to) = (life.sender, life.recipient);
     let vote = batch_vote(*circuit, Generation(1), Round(number), from, to);
     hear(target, alloc, &life.here, circuit, life.other, vote)
 }
 
 /// A life of so many batches.
-fn lived<T: Target>(target: T, alloc: Global, life: &Life, times: u32) -> Result<T, Fault>
-    requires { T.site target ≡ site_at life.now.here life.now.definition.id }
+fn lived<T: Target>(
+    target: &mut T,
+    alloc: Global,
+    life: &Life,
+    times: u32,
+) -> Result<(), Fault>
+    requires { T.site target.old ≡ site_at life.now.here life.now.definition.id }
 {
     let circuit = life.definition.id;
-    let mut target = begun(target, alloc, life, &circuit)?;
+    begun(target, alloc, life, &circuit)?;
     for number in 0..times {
-        target = batch(target, alloc, life, &circuit, u64::from(number) + 1)?;
+        batch(target, alloc, life, &circuit, u64::from(number) + 1)?;
     }
-    Ok(target)
+    Ok(())
 }
 
 fn bare_cell(life: &Life) -> Bare
@@ -215,7 +220,8 @@ fn bare_cell(life: &Life) -> Bare
 /// So many batches at a cell; tells how many.
 pub(crate) fn without_disks(alloc: Global, bytes: &[u8], times: u32) -> Result<u64, Fault> {
     let life = read(alloc, bytes)?;
-    let _ = lived(bare_cell(&life), alloc, &life, times)?;
+    let mut target = bare_cell(&life);
+    lived(&mut target, alloc, &life, times)?;
     Ok(u64::from(times))
 }
 
@@ -237,8 +243,9 @@ fn seat_at(alloc: Global, life: &Life) -> Result<Seated, Fault>
 
 fn over_disks(alloc: Global, bytes: &[u8], times: u32) -> Result<Seated, Fault> {
     let life = read(alloc, bytes)?;
-    let target = seat_at(alloc, &life)?;
-    lived(target, alloc, &life, times)
+    let mut target = seat_at(alloc, &life)?;
+    lived(&mut target, alloc, &life, times)?;
+    Ok(target)
 }
 
 /// So many batches at a node over its disks; tells how many.

@@ -1,6 +1,8 @@
 -- The changes of records, behind one another.
-use Rattle.std.proofs.Common.{◌≡◌, ℕ, ◌+◌, List, [], ◌∷◌, ◌++◌, length, true, false, ◌==◌, if◌then◌else◌, Option, Some, Result, Ok, Err, refl, sym, ◌∙◌, ap, subst, inl, inr, ◌⊎◌, append_assoc, append-nil, zero-add, arith}
-use Rattle.std.specs.Prelude.{IsTrue, is_some}
+use Rattle.std.proofs.Common.{◌≡◌, ◌≢◌, ℕ, ◌+◌, List, [], ◌∷◌, ◌++◌, length, true, false, ◌==◌, if◌then◌else◌, Option, Some, Result, Ok, Err, refl, sym, ◌∙◌, ap, subst, inl, inr, ◌⊎◌, append_assoc, append-nil, zero-add, arith}
+use Rattle.std.specs.Prelude.{IsTrue, is_some, drop}
+use Rattle.std.proofs.lemmas.List.{drop_all}
+use Rattle.std.proofs.lemmas.Bool.Decides.{nat_tests}
 use Rattle.std.specs.Str.{bytes_eq}
 use Rattle.spl_base.specs.Input.{Input, ◌>>=◌}
 use Rattle.spl_base.specs.Front.{front_of}
@@ -56,27 +58,10 @@ recorded_more here c rs bytes r is = recorded-append here c rs (bytes ∷ []) �
     by (inl e) = rw e refl
     by (inr e) = rw e refl
 
--- what was read of bytes that are a record is that record
-whole_is : (size : ℕ) (found : Result (Record × ℕ) ℕ) (r : Record) (n : ℕ) → found ≡ Ok (r, n) → is_some (whole size found) ≡ true → whole size found ≡ Some r
-whole_is size found r n is so = ap (λ (x : Result (Record × ℕ) ℕ). whole size x) is ∙ by (bool_cases (n == size))
-  where
-    by : ((n == size) ≡ true) ⊎ ((n == size) ≡ false) → whole size (Ok (r, n)) ≡ Some r
-    by (inl h) = rw h refl
-    by (inr h) =
-        let none : is_some (whole size (Ok (r, n))) ≡ false = rw h refl in
-        let never : true ≡ false = sym so ∙ (ap (λ (x : Result (Record × ℕ) ℕ). is_some (whole size x)) is ∙ none) in
-        absurd (cc)
-
-pub record_read : (bytes : List ℕ) (r : Record) (n : ℕ) → is_record bytes ≡ true → front_of record_form bytes ≡ Ok (r, n) → record_in bytes ≡ Some r
-unfolding record_in
-record_read bytes r n so is = whole_is (length bytes) (front_of record_form bytes) r n is so
-
-pub never_malformed : (bytes : List ℕ) (at : ℕ) → is_record bytes ≡ true → front_of record_form bytes ≡ Err at → ⊥
-unfolding record_in
-never_malformed bytes at so is =
-    let none : is_some (whole (length bytes) (front_of record_form bytes)) ≡ false = ap (λ (x : Result (Record × ℕ) ℕ). is_some (whole (length bytes) x)) is in
-    let never : true ≡ false = sym so ∙ none in
-    absurd (cc)
+-- bytes of which all were read are those of the record
+pub whole_spelled : (bytes : List ℕ) (r : Record) (n : ℕ) → n ≡ length bytes → bytes ≡ record_form.spell r ++ drop n bytes → record_bytes r ≡ bytes
+unfolding record_bytes
+whole_spelled bytes r n whole is = sym (is ∙ ap (λ (l : List ℕ). record_form.spell r ++ l) (drop_all n bytes (omega (arith, whole))) ∙ append-nil (record_form.spell r))
 
 pub is_record_by : (bytes : List ℕ) (r : Record) (n : ℕ) → front_of record_form bytes ≡ Ok (r, n) → is_record bytes ≡ (n == length bytes)
 unfolding record_in
@@ -85,6 +70,18 @@ is_record_by bytes r n is = ap (λ (x : Result (Record × ℕ) ℕ). is_some (wh
     by : ((n == length bytes) ≡ true) ⊎ ((n == length bytes) ≡ false) → is_some (whole (length bytes) (Ok (r, n))) ≡ (n == length bytes)
     by (inl h) = rw h refl
     by (inr h) = rw h refl
+
+yes_same : (m n : ℕ) → m ≡ n → (m == n) ≡ true
+yes_same m n same = grind (arith, nat_tests)
+
+no_same : (m n : ℕ) → m ≢ n → (m == n) ≡ false
+no_same m n other = grind (arith, nat_tests)
+
+pub whole_record : (bytes : List ℕ) (r : Record) (n : ℕ) → n ≡ length bytes → front_of record_form bytes ≡ Ok (r, n) → is_record bytes ≡ true
+whole_record bytes r n whole is = is_record_by bytes r n is ∙ yes_same n (length bytes) whole
+
+pub part_record : (bytes : List ℕ) (r : Record) (n : ℕ) → n ≢ length bytes → front_of record_form bytes ≡ Ok (r, n) → is_record bytes ≡ false
+part_record bytes r n part is = is_record_by bytes r n is ∙ no_same n (length bytes) part
 
 pub no_record_by : (bytes : List ℕ) (at : ℕ) → front_of record_form bytes ≡ Err at → is_record bytes ≡ false
 unfolding record_in

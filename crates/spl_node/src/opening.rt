@@ -1,5 +1,5 @@
 //! The cells that a journal makes, read record by record.
-ghost use Rattle.std.specs.Prelude.{◌≡◌, ◌⊎◌, ℕ, true, false, Some, Err, IsTrue, IfOk, OnOk, IfSome, IsErrOf};
+ghost use Rattle.std.specs.Prelude.{◌≡◌, ◌⊎◌, ℕ, true, false, Err, IfOk, OnOk, IfSome, IsErrOf};
 ghost use Rattle.spl_circuit.specs.Nodes.{NodeId, CircuitId};
 ghost use Rattle.spl_edge.specs.Causes.{Rose};
 ghost use Rattle.spl_edge.specs.Image.{IsSettled};
@@ -8,33 +8,19 @@ ghost use Rattle.spl_journal.specs.Reads.{Stays};
 ghost use Rattle.spl_cell.specs.States.{IsStill};
 ghost use Rattle.spl_snapshot.specs.Counting.{IfBoth, pair_records, Onward};
 ghost use Rattle.spl_snapshot.specs.Pairs.{PairWalks, pair_given, walk_in, journal_in};
-ghost use Rattle.spl_wire.specs.Forms.{record_form};
 ghost use Rattle.spl_node.specs.Kept.{cell_at};
-ghost use Rattle.spl_node.specs.Records.{is_record, record_in, recorded_cell};
+ghost use Rattle.spl_node.specs.Records.{is_record};
 ghost use Rattle.spl_node.specs.Stands.{NodeStands, here_of, is_halted};
 ghost use Rattle.spl_node.specs.Opening.{IsMade, IsRead};
 
 use crate::cells::Cells;
+use crate::form::Found;
 use crate::{CellForm, Node};
-use spl_base::{Malformed, NodeId};
+use spl_base::NodeId;
 use spl_edge::{Disk, Pair};
 use spl_journal::JournalFault;
 use spl_snapshot::{PairWalk, walk_pair};
-use spl_wire::Record;
-use std::alloc::{AllocError, Global};
-
-/// The record that bytes are. An error comes for want of memory alone.
-fn record_of(alloc: Global, bytes: &[u8]) -> Result<Record, AllocError>
-    requires { is_record bytes.now ≡ true }
-    ensures read { IfOk result (λ r. record_in bytes.now ≡ Some r) }
-    ensures written { IfOk result (λ r. IsTrue (record_form.fits r)) }
-{
-    match Record::read(alloc, bytes) {
-        Ok((record, _)) => Ok(record),
-        Err(Malformed::At { .. }) => unreachable!(),
-        Err(Malformed::NoMemory) => Err(AllocError),
-    }
-}
+use std::alloc::Global;
 
 /// Reads the rest of the journal that counts, and makes its changes at the cells, each as it comes.
 fn read_records<D: Disk>(
@@ -59,8 +45,8 @@ fn read_records<D: Disk>(
     ensures on_second { Onward (D.image_at disks.old.second) (D.image_at disks.new.second) (D.moment disks.old.second) (D.moment disks.new.second) (D.faults disks.old.second) (D.faults disks.new.second)
         (D.armed disks.old.second) (D.armed disks.new.second) (D.picks disks.old.second) (D.picks disks.new.second) }
 {
-    'records: while let Some(piece) = walk.next(alloc, disks)? {
-        let record = record_of(alloc, piece.bytes())?;
+    'records: while let Some(found) = walk.next(alloc, disks)? {
+        let Found { item: record } = found;
         cells.replay(alloc, record)?;
     }
     Ok(())

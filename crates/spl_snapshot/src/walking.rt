@@ -10,7 +10,6 @@ ghost use Rattle.spl_snapshot.specs.Pairs.{PairWalks, PairStands, pair_given, wa
 
 use crate::Pairing;
 use crate::choice::{choose, look};
-use spl_base::Piece;
 use spl_edge::{Disk, Pair};
 use spl_journal::{Form, JournalFault, Walk};
 use std::alloc::Global;
@@ -60,12 +59,12 @@ impl<R: Form> PairWalk<R> {
         &mut self,
         alloc: Global,
         disks: &mut Pair<D>,
-    ) -> Result<Option<Piece>, JournalFault>
+    ) -> Result<Option<R::Read>, JournalFault>
         requires walks { PairWalks R.is_record self.old (D.image_at disks.old.first (D.moment disks.old.first)) (D.image_at disks.old.second (D.moment disks.old.second)) }
         ensures walks { PairWalks R.is_record self.new (D.image_at disks.old.first (D.moment disks.old.first)) (D.image_at disks.old.second (D.moment disks.old.second)) }
-        ensures good { IfOk result (λ found. IfSome found (λ r. IsGood R.is_record r)) }
+        ensures good { IfOk result (λ found. IfSome found (λ r. IsGood R.is_record (R.bytes_of r))) }
         ensures next { IfOk result (λ found. IfSome found (λ r. IfBoth (D.image_at disks.old.first (D.moment disks.old.first)) (D.image_at disks.old.second (D.moment disks.old.second)) (λ i j.
-            pair_given R.is_record self.new i.bytes j.bytes ≡ pair_given R.is_record self.old i.bytes j.bytes ++ r ∷ []))) }
+            pair_given R.is_record self.new i.bytes j.bytes ≡ pair_given R.is_record self.old i.bytes j.bytes ++ R.bytes_of r ∷ []))) }
         ensures shorter { IfOk result (λ found. IfSome found (λ r. left_of (walk_in self.new) < left_of (walk_in self.old))) }
         ensures none { IfOk result (λ found. IfNone found (IfBoth (D.image_at disks.old.first (D.moment disks.old.first)) (D.image_at disks.old.second (D.moment disks.old.second)) (λ i j.
             HaveRecords R.is_record (pair_given R.is_record self.old i.bytes j.bytes) i.bytes j.bytes))) }

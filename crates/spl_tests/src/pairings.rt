@@ -1,6 +1,7 @@
 ghost use Rattle.std.specs.Prelude.{true, IfSome};
 ghost use Rattle.spl_edge.specs.Image.{IsSettled};
 
+use spl_base::Piece;
 use spl_edge::{DeviceError, Disk, Fill, Pair, StopDisk};
 use spl_journal::{Form, JournalFault, Records};
 use spl_memory::{LyingDisk, MemDisk};
@@ -14,8 +15,12 @@ struct AnyBytes;
 impl Form for AnyBytes {
     ghost is_record = { λ _. true };
 
-    fn fits(_alloc: Global, _bytes: &[u8]) -> Result<bool, AllocError> {
-        Ok(true)
+    type Read = Piece;
+
+    ghost bytes_of = { λ p. p };
+
+    fn read(_alloc: Global, bytes: Vec<u8>) -> Result<Option<Piece>, AllocError> {
+        Ok(Some(Piece::from_vec(bytes)))
     }
 }
 

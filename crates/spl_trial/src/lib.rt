@@ -12,4 +12,4 @@ pub use disk::{PlainDisk, PlainDisks};
 pub use heard::{acceptance, act_vote, batch_vote, delivery, is_own};
 pub use kept::{Kept, Opened};
 pub use row::{Contents, Row, RowForm};
-pub use seat::{Seat, Stepped};
+pub use seat::Seat;

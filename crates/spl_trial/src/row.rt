@@ -1,10 +1,19 @@
 //! The records of rows.
+ghost use Rattle.std.specs.Prelude.{◌≡◌};
 ghost use Rattle.spl_journal.specs.Records.{IsGood, AreGood};
 ghost use Rattle.spl_trial.specs.Rows.{is_row};
 
+use spl_base::Piece;
 use spl_journal::{Form, Records};
 use std::alloc::{AllocError, Global};
 use std::marker::Model;
+
+/// Whether bytes are a record: all that don't begin with ff.
+fn is_row(bytes: &[u8]) -> bool
+    ensures { result ≡ is_row bytes.now }
+{
+    !matches!(bytes, [255, ..])
+}
 
 /// Bytes are a record unless they begin with ff.
 pub struct RowForm;
@@ -12,10 +21,15 @@ pub struct RowForm;
 impl Form for RowForm {
     ghost is_record = { is_row };
 
-    fn fits(_alloc: Global, bytes: &[u8]) -> Result<bool, AllocError> {
-        match bytes {
-            [255, ..] => Ok(false),
-            _ => Ok(true),
+    type Read = Piece;
+
+    ghost bytes_of = { λ p. p };
+
+    fn read(_alloc: Global, bytes: Vec<u8>) -> Result<Option<Piece>, AllocError> {
+        if is_row(&bytes) {
+            Ok(Some(Piece::from_vec(bytes)))
+        } else {
+            Ok(None)
         }
     }
 }

@@ -13,21 +13,13 @@ use spl_node::Node;
 use spl_wire::{Answer, Event};
 use std::alloc::Global;
 
-/// A node that isn't halted.
+/// A node, and its id.
 #[derive(Drop)]
 pub struct Seat {
     node: Node,
     here: NodeId,
     ghost own: { here_of node ≡ here },
-    ghost running: { is_halted node ≡ false },
-    ghost journal: { journal_halted (journal_in node.pairing) ≡ false },
-}
-
-/// The node behind an event, and the answer.
-#[derive(Drop)]
-pub struct Stepped {
-    pub seat: Seat,
-    pub answer: Answer,
+    ghost running: { is_halted node ≡ false → journal_halted (journal_in node.pairing) ≡ false },
 }
 
 impl Seat {
@@ -61,23 +53,22 @@ impl Seat {
         self.node.counting()
     }
 
-    /// An event at one of its circuits.
+    /// An event at one of its circuits. After an error it takes no more, and tells want of memory.
     #[tactic(auto, using(crate::proofs::Untold::stands_untold))]
     pub fn step(
-        self,
+        &mut self,
         alloc: Global,
         disks: &mut PlainDisks,
         circuit: &CircuitId,
         event: &Event,
-    ) -> Result<Stepped, JournalFault>
-        requires { IsFor (site_at self.here circuit.now) event.now }
-        ensures { IfOk result (λ s. s.seat.here ≡ self.here) }
+    ) -> Result<Answer, JournalFault>
+        requires { IsFor (site_at self.old.here circuit.now) event.now }
+        ensures { self.new.here ≡ self.old.here }
     {
-        let Seat { mut node, here } = self;
-        let outcome = node.step(alloc, disks, circuit, event)?;
-        Ok(Stepped {
-            seat: Seat { node, here },
-            answer: outcome.answer,
-        })
+        if self.node.is_halted() {
+            return Err(JournalFault::NoMemory);
+        }
+        let outcome = self.node.step(alloc, disks, circuit, event)?;
+        Ok(outcome.answer)
     }
 }

@@ -1,7 +1,8 @@
-use Rattle.std.proofs.Common.{◌≡◌, ◌++◌, ◌∷◌, [], ◌+◌, ◌<◌, ℕ, List, Option, Err, Vec, Global, length, IfSome, ap, sym, subst, arith}
-use Rattle.spl_journal.specs.Records.{records, records_before, IsGood}
+use Rattle.std.proofs.Common.{◌≡◌, ◌+◌, ◌<◌, ℕ, Err, length, IfSome, ap, sym, subst}
+use Rattle.spl_journal.specs.Records.{records, IsGood}
 use Rattle.spl_journal.specs.Reads.{IsNext}
 use Rattle.spl_journal.specs.declared.form.JournalFault.TheVariants.{NotAJournal}
+use Rattle.spl_journal.proofs.Pieces.{given_of}
 use Rattle.spl_journal.proofs.Readings.{walk_gave, walk_more, walk_all, walk_broken}
 use Rattle.spl_journal.proofs.walk.Walk.next.Goals as goal
 
@@ -16,18 +17,12 @@ returns-in_default-clause-none g c = walk_all g.R.Form.is_record c.args.self.now
 
 pub returns-clause-walks : goal.returns-clause-walks
 returns-clause-walks g c =
-    let place : c.args.self.now.at + 5 + c.len.result ≡ c.args.self.now.at + 5 + length c.in-Some.record.items = omega (arith, c.len.ensures) in
-    let found = subst (λ (o : Option (Vec ℕ Global)). IfSome o (λ r. IsGood g.R.Form.is_record r.items × IfSome (g.D.Disk.image_at c.args.disk.now (g.D.Disk.moment c.args.disk.now)) (λ i. c.args.self.now.at < length i.bytes → IsNext g.R.Form.is_record c.args.self.now.at r.items i.bytes))) c.in-Some.is c.in-Ok.ensures.next in
-    walk_more g.R.Form.is_record c.args.self.now.at c.args.self.now.extent c.args.self.now.epoch c.args.self.now.ended c.in-Some.record.items (c.args.self.now.at + 5 + c.len.result) place (g.D.Disk.image_at c.args.disk.now (g.D.Disk.moment c.args.disk.now)) c.requires.walks found.1
-
-pub returns-clause-good : goal.returns-clause-good
-returns-clause-good g c =
-    let found = subst (λ (o : Option (Vec ℕ Global)). IfSome o (λ r. IsGood g.R.Form.is_record r.items × IfSome (g.D.Disk.image_at c.args.disk.now (g.D.Disk.moment c.args.disk.now)) (λ i. c.args.self.now.at < length i.bytes → IsNext g.R.Form.is_record c.args.self.now.at r.items i.bytes))) c.in-Some.is c.in-Ok.ensures.next in
-    subst (λ (l : List ℕ). IsGood g.R.Form.is_record l) (sym c.from_vec.ensures) found.0
+    let size : c.in-Some.size ≡ length (g.R.Form.bytes_of c.in-Some.record) = given_of (λ r. r.1 ≡ length (g.R.Form.bytes_of r.0)) c.in-Ok.found (c.in-Some.record, c.in-Some.size) c.in-Some.is c.in-Ok.ensures.size in
+    let found = given_of (λ r. IsGood g.R.Form.is_record (g.R.Form.bytes_of r.0) × IfSome (g.D.Disk.image_at c.args.disk.now (g.D.Disk.moment c.args.disk.now)) (λ i. c.args.self.now.at < length i.bytes → IsNext g.R.Form.is_record c.args.self.now.at (g.R.Form.bytes_of r.0) i.bytes)) c.in-Ok.found (c.in-Some.record, c.in-Some.size) c.in-Some.is c.in-Ok.ensures.next in
+    walk_more g.R.Form.is_record c.args.self.now.at c.args.self.now.extent c.args.self.now.epoch c.args.self.now.ended (g.R.Form.bytes_of c.in-Some.record) (c.args.self.now.at + 5 + c.in-Some.size) (ap (λ (n : ℕ). c.args.self.now.at + 5 + n) size) (g.D.Disk.image_at c.args.disk.now (g.D.Disk.moment c.args.disk.now)) c.requires.walks found.1
 
 pub returns-clause-next : goal.returns-clause-next
 returns-clause-next g c =
-    let place : c.args.self.now.at + 5 + c.len.result ≡ c.args.self.now.at + 5 + length c.in-Some.record.items = omega (arith, c.len.ensures) in
-    let found = subst (λ (o : Option (Vec ℕ Global)). IfSome o (λ r. IsGood g.R.Form.is_record r.items × IfSome (g.D.Disk.image_at c.args.disk.now (g.D.Disk.moment c.args.disk.now)) (λ i. c.args.self.now.at < length i.bytes → IsNext g.R.Form.is_record c.args.self.now.at r.items i.bytes))) c.in-Some.is c.in-Ok.ensures.next in
-    subst (λ (l : List ℕ). IfSome (g.D.Disk.image_at c.args.disk.now (g.D.Disk.moment c.args.disk.now)) (λ i. records_before g.R.Form.is_record (c.args.self.now.at + 5 + c.len.result) i.bytes ≡ records_before g.R.Form.is_record c.args.self.now.at i.bytes ++ l ∷ [])) (sym c.from_vec.ensures)
-    (walk_gave g.R.Form.is_record c.args.self.now.at c.args.self.now.extent c.args.self.now.epoch c.args.self.now.ended c.in-Some.record.items (c.args.self.now.at + 5 + c.len.result) place (g.D.Disk.image_at c.args.disk.now (g.D.Disk.moment c.args.disk.now)) c.requires.walks found.1)
+    let size : c.in-Some.size ≡ length (g.R.Form.bytes_of c.in-Some.record) = given_of (λ r. r.1 ≡ length (g.R.Form.bytes_of r.0)) c.in-Ok.found (c.in-Some.record, c.in-Some.size) c.in-Some.is c.in-Ok.ensures.size in
+    let found = given_of (λ r. IsGood g.R.Form.is_record (g.R.Form.bytes_of r.0) × IfSome (g.D.Disk.image_at c.args.disk.now (g.D.Disk.moment c.args.disk.now)) (λ i. c.args.self.now.at < length i.bytes → IsNext g.R.Form.is_record c.args.self.now.at (g.R.Form.bytes_of r.0) i.bytes)) c.in-Ok.found (c.in-Some.record, c.in-Some.size) c.in-Some.is c.in-Ok.ensures.next in
+    walk_gave g.R.Form.is_record c.args.self.now.at c.args.self.now.extent c.args.self.now.epoch c.args.self.now.ended (g.R.Form.bytes_of c.in-Some.record) (c.args.self.now.at + 5 + c.in-Some.size) (ap (λ (n : ℕ). c.args.self.now.at + 5 + n) size) (g.D.Disk.image_at c.args.disk.now (g.D.Disk.moment c.args.disk.now)) c.requires.walks found.1
