@@ -98,18 +98,19 @@ then_4 gate piece (Some i) old new is was = is ∙ ap (λ (o : Option Image). op
 
 -- the failing call came behind so many
 pub by_calls : {T : Type 0} (most : ℕ) (at later : ℕ → Option Image) (first m now calls faults risen : ℕ) (f : ℕ → Image → Image) (g : Image → Image) (Part : Image → Image → Type 0) (told : Option Image) (armed was : Armed) (e : DeviceError)
-    → m ≡ first + calls → calls ≤ most → at m ≡ option_map (f calls) told → was ≡ armed → ((j : ℕ) → j < calls → IsTrue (fails_at armed (first + j)) → ⊥)
+    → m ≡ first + calls → calls < most → at m ≡ option_map (f calls) told → was ≡ armed → ((j : ℕ) → j < calls → IsTrue (fails_at armed (first + j)) → ⊥)
     → SamePast at m later → Passes {T = T} m now faults risen was (Err e) → Changes {T = T} (fails_at was m) (Err e) g Part (at m) (later now)
     → ByCalls most later first now f told armed (IsOk {T = T} {E = DeviceError} (Err e)) (IsErrOf {T = T} {E = DeviceError} (Err e) Failed)
 by_calls most at later first m now calls faults risen f g Part told armed was e here fewer stands same passed past call change = record {
   calls = calls;
-  at_most = fewer;
+  at_most = omega (arith, fewer);
   stands = ap later (sym here) ∙ past m (omega arith) ∙ stands;
   last = omega (arith, here, call.any_tick);
   passed = passed;
   still = λ due. change.stopped (subst IsTrue (sym due_is) due) ∙ sym (past m (omega arith)) ∙ ap later here;
   named = λ failed is_armed. subst IsTrue due_is (call.named failed (subst (λ (a : Armed). IsArmed a) (sym same) is_armed));
   whole = λ ok. cc;
+  fewer = λ failed. fewer;
 }
   where
     due_is : fails_at was m ≡ fails_at armed (first + calls)
@@ -138,4 +139,5 @@ no_calls at first gate piece armed ok failed not_ok not_failed =
       still = λ due. ap at (sym here);
       named = λ f. absurd (not_failed f);
       whole = λ o. absurd (not_ok o);
+      fewer = λ f. absurd (not_failed f);
     }

@@ -34,6 +34,10 @@ opened gate piece (suc (suc zero)) i = after_sync (after_write (gate + 1) piece 
 opened gate piece (suc (suc (suc zero))) i = after_write gate (1 ∷ []) (after_sync (after_write (gate + 1) piece i))
 opened gate piece (suc (suc (suc (suc n)))) i = after_sync (after_write gate (1 ∷ []) (after_sync (after_write (gate + 1) piece i)))
 
+-- one of so many calls from this moment on is one that the arming names
+abbrev pub NamesOne : Armed → ℕ → ℕ → Type 0
+NamesOne armed first most = (j : ℕ) × (j < most) × IsTrue (fails_at armed (first + j))
+
 -- of so many calls at most, some succeeded from the first moment on, each leaving what f has for it, and at most one failed behind them, which is the one that the arming names where it is armed
 pub record ByCalls (most : ℕ) (at : ℕ → Option Image) (first now : ℕ) (f : ℕ → Image → Image) (told : Option Image) (armed : Armed) (ok failed : Type 0) : Type 0 where
   pub calls : ℕ
@@ -44,3 +48,4 @@ pub record ByCalls (most : ℕ) (at : ℕ → Option Image) (first now : ℕ) (f
   pub still : IsTrue (fails_at armed (first + calls)) → at now ≡ at (first + calls)
   pub named : failed → IsArmed armed → IsTrue (fails_at armed (first + calls))
   pub whole : ok → calls ≡ most
+  pub fewer : failed → calls < most

@@ -1,5 +1,5 @@
 -- What a journal, and a walk over one, say of the disk.
-use Rattle.std.specs.Prelude.{ℕ, ◌+◌, ◌-◌, ◌*◌, nat_le, Bool, List}
+use Rattle.std.specs.Prelude.{ℕ, ◌+◌, ◌-◌, ◌*◌, ◌^◌, ◌<◌, nat_le, Bool, List}
 use Rattle.spl_edge.specs.Image.{Image}
 use Rattle.spl_journal.specs.declared.journal.Journal.{Journal}
 use Rattle.spl_journal.specs.declared.walk.Walk.{Walk}
@@ -30,6 +30,11 @@ is_halted j = j.halted
 
 abbrev pub has_room : {R : Type 0} → Journal R → Bool
 has_room j = nat_le (j.end + 1) (2 * j.base + 65536)
+
+-- a record of so many bytes leaves it no room, and there is an epoch above its own
+pub record IsFilledBy {R : Type 0} (n : ℕ) (j : Journal R) : Type 0 where
+  pub room : 2 * base_of j + 65536 < len_of j + 5 + n
+  pub epoch : epoch_of j < 2 ^ 64 - 1
 
 -- the disk is what the journal takes it for, and nothing is pending
 abbrev pub Stands : {R : Type 0} → (List ℕ → Bool) → Journal R → Image → Type 0

@@ -115,6 +115,7 @@ no_calls at m f armed ok failed none no_ok no_failed = record {
   still = λ h. ap at (sym (add-zero m));
   named = λ h. absurd (no_failed h);
   whole = λ h. absurd (no_ok h);
+  fewer = λ h. absurd (no_failed h);
 }
   where
     by : (o : Option Image) → o ≡ option_map (f 0) o
@@ -133,6 +134,7 @@ calls_as most at first now f told armed ok failed other_ok other_failed oks fail
   still = c.still;
   named = λ h. c.named (fails h);
   whole = λ h. c.whole (oks h);
+  fewer = λ h. c.fewer (fails h);
 }
 
 pub either_calls : {S T U : Type 0} (most : ℕ) (at : ℕ → Option Image) (first now : ℕ) (f : ℕ → Image → Image) (told : Option Image) (armed : Armed) (ok failed other_ok other_failed rest_ok rest_failed : Type 0) → (other_ok → ok) → (other_failed → failed) → (T → U)

@@ -11,6 +11,8 @@ use Rattle.spl_rules.specs.Cells.{Cell}
 use Rattle.spl_rules.specs.Changes.{stopped_cell}
 use Rattle.spl_rules.specs.Plans.{plan_of}
 use Rattle.spl_edge.specs.Image.{Image}
+use Rattle.spl_journal.specs.declared.form.JournalFault.{JournalFault}
+use Rattle.spl_journal.specs.declared.form.JournalFault.TheVariants.{Disk, NoMemory}
 use Rattle.spl_snapshot.specs.Counting.{IfBoth}
 use Rattle.spl_snapshot.specs.Pairs.{PairStands}
 use Rattle.spl_node.specs.declared.done.Done.{Done}
@@ -40,6 +42,9 @@ same_error {x = x} {y = y} h = let is : x ≡ y = cc in ap Err is
 
 pub no_error : {A E : Type 0} {x : A} {y : E} → IsErrOf (Ok x) y → ⊥
 no_error h = cc
+
+pub disk_only : {A : Type 0} (f : JournalFault) → f ≡ Disk → IsErrOf {T = A} (Err f) NoMemory → ⊥
+disk_only f is none = cc
 
 -- ---- what an event gave
 

@@ -18,7 +18,7 @@ use Rattle.spl_edge.specs.declared.disk.Arming.TheVariants.{Off, After, At}
 use Rattle.spl_edge.specs.declared.fill.Fill.{Fill}
 use Rattle.spl_edge.specs.declared.fill.Fill.TheVariants.{Old}
 use Rattle.spl_journal.proofs.Images.{only_settled}
-use Rattle.spl_journal.specs.Gate.{ByCalls, opened}
+use Rattle.spl_journal.specs.Gate.{ByCalls, NamesOne, opened}
 use Rattle.spl_journal.specs.Stops.{is_kept}
 use Rattle.spl_snapshot.specs.Counting.{chosen, pair_records, IfBoth, PairLeaves, Onward}
 use Rattle.spl_snapshot.specs.Stopped.{kept_on}
@@ -31,7 +31,7 @@ use Rattle.spl_node.specs.Hosts.{PicksWith, Rests, made_cell}
 use Rattle.spl_node.specs.Kept.{cells_after}
 use Rattle.spl_node.specs.Records.{is_record, recorded_cell, site_at}
 use Rattle.spl_node.specs.Stands.{Make, StandFor}
-use Rattle.spl_node.specs.Stopping.{Arms, HaveCells, IsStopping, PicksArmed, PicksMake, cells_stopped, counting_arming, fill_of, has_changes, keeps, passing}
+use Rattle.spl_node.specs.Stopping.{Arms, HaveCells, IsInCheckpoint, IsStopping, PicksArmed, PicksMake, cells_stopped, counting_arming, fill_of, has_changes, keeps, other_arming, passing}
 use Rattle.spl_node.specs.declared.stopping.Stopping.{Stopping}
 use Rattle.spl_node.specs.declared.stopping.Stopping.TheVariants.{Cut, Fail}
 use Rattle.spl_node.proofs.Booleans.{bytes_are, le_is, is_le}
@@ -108,6 +108,29 @@ never_off (Fail call) off = off_fail call (nat_le call 4) off
 
 pub is_armed : (h : Stopping) (armed : Armed) (m : ℕ) → armed ≡ armed_with (counting_arming h) m → armed.arming ≡ Off → ⊥
 is_armed h armed m is off = never_off h (sym (ap (λ (a : Armed). a.arming) is) ∙ off)
+
+-- ---- the calls of a checkpoint
+
+four_more : (call m : ℕ) (low : Bool) → nat_le call 4 ≡ low → 4 ≤ call - 1 → NamesOne (armed_with (if low then At call else After 4) m) m 4 → ⊥
+four_more call m true is more one = let le : call ≤ 4 = is_le call 4 is in absurd (omega (arith, le, more))
+four_more call m false is more one = let le : 4 ≤ one.0 = is_after 4 m one.0 one.2 in let less : one.0 < 4 = one.1 in absurd (omega (arith, le, less))
+
+-- the disk that counts isn't stopped at a record
+pub none_of_four : (h : Stopping) (armed : Armed) (m : ℕ) → armed ≡ armed_with (counting_arming h) m → IsInCheckpoint h → NamesOne armed m 4 → ⊥
+none_of_four (Cut calls fill) armed m is within one =
+    let le : calls ≤ one.0 = is_after calls m one.0 (subst (λ (a : Armed). IsTrue (fails_at a (m + one.0))) is one.2) in
+    let less : one.0 < 4 = one.1 in
+    absurd (omega (arith, le, less, within.behind))
+none_of_four (Fail call) armed m is within one = four_more call m (nat_le call 4) refl within.behind (subst (λ (a : Armed). NamesOne a m 4) is one)
+
+eight_at : (call m : ℕ) (low : Bool) → nat_le call 4 ≡ low → 4 ≤ call - 1 → call - 1 < 12 → NamesOne (armed_with (if low then After 4 else At (call - 4)) m) m 8
+eight_at call m true is more few = let le : call ≤ 4 = is_le call 4 is in absurd (omega (arith, le, more))
+eight_at call m false is more few = (call - 5, omega (arith, more, few), eq_is (m + (call - 5) - m + 1) (call - 4) (omega (arith, more)))
+
+-- the other disk is stopped at a checkpoint
+pub one_of_eight : (h : Stopping) (armed : Armed) (m : ℕ) → armed ≡ armed_with (other_arming h) m → IsInCheckpoint h → NamesOne armed m 8
+one_of_eight (Cut calls fill) armed m is within = subst (λ (a : Armed). NamesOne a m 8) (sym is) (calls - 4, omega (arith, within.behind, within.before), le_is (calls - 4) (m + (calls - 4) - m) (omega arith))
+one_of_eight (Fail call) armed m is within = subst (λ (a : Armed). NamesOne a m 8) (sym is) (eight_at call m (nat_le call 4) refl within.behind within.before)
 
 -- ---- whether there are changes
 
@@ -244,6 +267,12 @@ module _ {D : Type 0} (h : Stopping) (here : NodeId) (c : CircuitId) (before : C
       (stand_then here before (image_at a (moment a)) (image_at b (moment b)) Behind told other_told stands k.1)
 
 -- ---- armed, handled, picked
+
+-- the disk that doesn't count failed in between
+pub rose_within : {D : Type 0} (faults : D → ℕ) (second : Bool) (a b a1 b1 a2 b2 a3 b3 : D) → faults a1 ≡ faults a → faults b1 ≡ faults b → faults a3 ≡ faults a2 → faults b3 ≡ faults b2
+    → Rose (faults (chosen second b1 a1)) (faults (chosen second b2 a2)) → Rose (faults (chosen second b a)) (faults (chosen second b3 a3))
+rose_within faults false a b a1 b1 a2 b2 a3 b3 same other_same last other_last rose = omega (arith, other_same, other_last, rose)
+rose_within faults true a b a1 b1 a2 b2 a3 b3 same other_same last other_last rose = omega (arith, same, last, rose)
 
 -- a disk that was armed tells what it told
 pub arms_told : (arming : Arming) (at new_at : ℕ → Option Image) (before now faults later : ℕ) (armed : Armed) (had has : List Picked) → Arms arming at new_at before now faults later armed had has → new_at now ≡ at before

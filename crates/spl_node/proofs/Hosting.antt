@@ -154,6 +154,11 @@ runs_still here n o p x y is other_is runs = subst (λ (a : Option Image). Runs 
 
 -- ---- up or down, the disks stand for the cells
 
+-- nothing is pending on them
+pub kept_settled : (here : NodeId) (o : Option Node) (first second : Option Image) → IfSome o (Runs here first second) → IfNone o (Rests first second) → IfSome first IsSettled × IfSome second IsSettled
+kept_settled here (Some n) first second up down = settled_pair is_record n.pairing first second up.stands.pair
+kept_settled here None first second up down = (down.first_is, down.second_is)
+
 recorded_make : (here : NodeId) (r : Result (List (List ℕ)) ℕ) → IsOk r → IsOkAnd r (Make here (λ c. recorded_cell here c (result_unwrap_or r [])))
 recorded_make here (Ok rs) ok = λ c. sym (applied-still (site_at here c) (changes_in c rs))
 recorded_make here (Err at) ok = cc

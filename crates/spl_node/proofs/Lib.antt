@@ -14,3 +14,4 @@ pub mod Rolls
 pub mod Walking
 pub mod Hosting
 pub mod Halting
+pub mod Leaving

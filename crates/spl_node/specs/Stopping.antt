@@ -1,5 +1,5 @@
 -- What a stop in an event leaves of a node (docs/RULES.md, Stops in an event).
-use Rattle.std.specs.Prelude.{◌≡◌, ◌≤◌, ◌-◌, ◌++◌, ◌∷◌, [], ℕ, nat_le, List, Bool, true, false, Option, Some, None, if◌then◌else◌}
+use Rattle.std.specs.Prelude.{◌≡◌, ◌≢◌, ◌⊎◌, ◌≤◌, ◌<◌, ◌-◌, ◌++◌, ◌∷◌, [], ℕ, length, nat_le, List, Bool, true, false, Option, Some, None, if◌then◌else◌}
 use Rattle.std.specs.Result.{IsOkAnd}
 use Rattle.std.specs.Str.{bytes_eq}
 use Rattle.spl_circuit.specs.Nodes.{NodeId, CircuitId}
@@ -11,14 +11,20 @@ use Rattle.spl_edge.specs.declared.disk.Arming.{Arming}
 use Rattle.spl_edge.specs.declared.disk.Arming.TheVariants.{Off, After, At}
 use Rattle.spl_edge.specs.declared.fill.Fill.{Fill}
 use Rattle.spl_edge.specs.declared.fill.Fill.TheVariants.{Old}
+use Rattle.spl_journal.specs.Journals.{IsFilledBy}
 use Rattle.spl_journal.specs.Stops.{is_kept}
 use Rattle.spl_snapshot.specs.Counting.{pair_records}
+use Rattle.spl_snapshot.specs.Pairs.{journal_in}
 use Rattle.spl_rules.specs.Cells.{Cell}
 use Rattle.spl_rules.specs.Changes.{made, stopped_cell}
 use Rattle.spl_rules.specs.Plans.{plan_of}
 use Rattle.spl_wire.specs.declared.change.Change.{Change}
 use Rattle.spl_wire.specs.declared.event.Event.{Event}
-use Rattle.spl_node.specs.Records.{is_record, recorded_cell, site_at}
+use Rattle.spl_wire.specs.Grouping.{record_of}
+use Rattle.spl_node.specs.Records.{is_record, record_bytes, recorded_cell, site_at}
+use Rattle.spl_node.specs.Stands.{StandFor}
+use Rattle.spl_node.specs.declared.host.Host.{Host}
+use Rattle.spl_node.specs.declared.node.Node.{Node}
 use Rattle.spl_node.specs.declared.stopping.Stopping.{Stopping}
 use Rattle.spl_node.specs.declared.stopping.Stopping.TheVariants.{Cut, Fail}
 
@@ -51,6 +57,19 @@ abbrev pub IsStopping : Stopping → Type 0
 IsStopping (Cut calls fill) = Unit {0}
 IsStopping (Fail call) = 1 ≤ call
 
+-- it comes to one of the eight calls of a checkpoint, behind the four of a record
+pub record IsInCheckpoint (h : Stopping) : Type 0 where
+  pub behind : 4 ≤ passing h
+  pub before : passing h < 12
+
+-- the record of these changes leaves the journal that counts no room, so that a checkpoint follows it
+abbrev pub FillsJournal : Option Node → CircuitId → List Change → Type 0
+FillsJournal (Some n) c xs = (xs ≢ []) × IsFilledBy (length (record_bytes (record_of c xs))) (journal_in n.pairing)
+FillsJournal None c xs = ⊥
+
+abbrev pub FillsHost : Host → CircuitId → List Change → Type 0
+FillsHost h c xs = FillsJournal h.node c xs
+
 -- the changes of an event at the cell of a circuit; none where there is no event
 abbrev pub event_changes : NodeId → (CircuitId → Cell) → CircuitId → Option Event → List Change
 event_changes here cells c None = []
@@ -71,6 +90,14 @@ HaveCells here cells first second = IsOkAnd (pair_records is_record first second
 -- what is picked of two images with this fill makes these cells
 abbrev pub PicksMake : Fill → NodeId → (CircuitId → Cell) → Image → Image → Type 0
 PicksMake fill here cells i j = MayLeave i (picked_bytes fill i) → MayLeave j (picked_bytes fill j) → HaveCells here cells (picked_bytes fill i) (picked_bytes fill j)
+
+-- two disks stand for the cells before a stop in an event with these changes, or for those behind it where their record is kept
+abbrev pub StandForEither : NodeId → (CircuitId → Cell) → CircuitId → List Change → List ℕ → List ℕ → Type 0
+StandForEither here cells c xs first second = StandFor here cells first second ⊎ StandFor here (cells_stopped here cells c xs true) first second
+
+-- whatever a stop leaves of the second image it leaves of the first
+abbrev pub LeavesNoMore : Image → Image → Type 0
+LeavesNoMore i j = (c : List ℕ) → MayLeave j c → MayLeave i c
 
 -- a disk was armed so, and nothing else of it changed
 pub record Arms (arming : Arming) (at new_at : ℕ → Option Image) (before now faults later : ℕ) (is_armed : Armed) (had_picked has_picked : List Picked) : Type 0 where

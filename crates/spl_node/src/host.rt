@@ -11,7 +11,7 @@ ghost use Rattle.spl_edge.specs.Causes.{Rose};
 ghost use Rattle.spl_edge.specs.Image.{Image};
 ghost use Rattle.spl_journal.specs.Make.{IsBlank};
 ghost use Rattle.spl_journal.specs.Reads.{Stays};
-ghost use Rattle.spl_snapshot.specs.Counting.{chosen, second_counts, IfBoth, PairLeavesInTurn, Onward};
+ghost use Rattle.spl_snapshot.specs.Counting.{chosen, second_counts, IfBoth, PairLeaves, PairLeavesInTurn, Onward};
 ghost use Rattle.spl_wire.specs.Bounds.{AllSendable};
 ghost use Rattle.spl_rules.specs.Cells.{Empty, is_bound, is_open_cell};
 ghost use Rattle.spl_rules.specs.Changes.{stopped_cell};
@@ -21,7 +21,7 @@ ghost use Rattle.spl_node.specs.Hosts.{HostStands, PicksOld, host_id, host_cell,
 ghost use Rattle.spl_node.specs.Kept.{cells_after};
 ghost use Rattle.spl_node.specs.Records.{site_at};
 ghost use Rattle.spl_node.specs.Stands.{StandFor};
-ghost use Rattle.spl_node.specs.Stopping.{IsStopping, PicksArmed, cells_stopped, counting_arming, event_changes, fill_of, has_changes, keeps, other_arming, passing};
+ghost use Rattle.spl_node.specs.Stopping.{FillsHost, IsInCheckpoint, IsStopping, PicksArmed, StandForEither, cells_stopped, counting_arming, event_changes, fill_of, has_changes, keeps, other_arming, passing};
 ghost use Rattle.spl_node.specs.declared.host.Host.{Host as Kept};
 
 use crate::stopping::{arm, handle_armed, pick_both};
@@ -155,6 +155,9 @@ impl Host {
         ensures picks_second { OnOk result (is_up self.old ≡ true → PicksOld (D.image_at disks.old.second) (D.image_at disks.new.second) (D.moment disks.old.second) (D.moment disks.new.second) (D.faults disks.old.second) (D.faults disks.new.second)
             (D.armed disks.old.second) (D.armed disks.new.second) (D.picks disks.old.second) (D.picks disks.new.second)) }
         ensures picked { OnOk result (is_up self.old ≡ true → IfBoth (D.image_at disks.new.first (D.moment disks.new.first)) (D.image_at disks.new.second (D.moment disks.new.second)) (λ i j. StandFor (host_id self.old) (host_cell self.old (D.image_at disks.old.first (D.moment disks.old.first)) (D.image_at disks.old.second (D.moment disks.old.second))) i.bytes j.bytes)) }
+
+        // Whatever the result, a stop leaves what stands for the cells.
+        ensures leaves { PairLeaves (D.image_at disks.new.first) (D.moment disks.new.first) (D.moment disks.new.first) (D.image_at disks.new.second) (D.moment disks.new.second) (D.moment disks.new.second) (StandFor (host_id self.old) (host_cell self.old (D.image_at disks.old.first (D.moment disks.old.first)) (D.image_at disks.old.second (D.moment disks.old.second)))) }
         ensures first_stays { D.faults disks.old.first ≤ D.faults disks.new.first }
         ensures second_stays { D.faults disks.old.second ≤ D.faults disks.new.second }
     {
@@ -162,8 +165,7 @@ impl Host {
             return Ok(());
         }
         self.node = None;
-        disks.first.pick(alloc, Fill::Old)?;
-        disks.second.pick(alloc, Fill::Old)
+        pick_both(alloc, disks, Fill::Old)
     }
 
     /// Takes the node down in an event at the cell of a circuit, or in none: its disks are armed, the
@@ -196,8 +198,14 @@ impl Host {
         ensures picks_second { OnOk result (PicksArmed (fill_of stopping) (chosen (host_second self.old) (other_arming stopping) (counting_arming stopping)) (D.image_at disks.old.second) (D.image_at disks.new.second) (D.moment disks.old.second) (D.moment disks.new.second) (D.faults disks.old.second) (D.faults disks.new.second)
             (D.armed disks.new.second) (D.picks disks.old.second) (D.picks disks.new.second)) }
 
+        // Whatever the result, a stop leaves what stands for the cells before the event or for those behind the stop in it.
+        ensures leaves { PairLeaves (D.image_at disks.new.first) (D.moment disks.new.first) (D.moment disks.new.first) (D.image_at disks.new.second) (D.moment disks.new.second) (D.moment disks.new.second) (StandForEither (host_id self.old) (host_cell self.old (D.image_at disks.old.first (D.moment disks.old.first)) (D.image_at disks.old.second (D.moment disks.old.second))) circuit.now (event_changes (host_id self.old) (host_cell self.old (D.image_at disks.old.first (D.moment disks.old.first)) (D.image_at disks.old.second (D.moment disks.old.second))) circuit.now (option_copied event.entry))) }
+
         // Where a call that keeps the record didn't pass, a disk has failed.
         ensures risen { OnOk result ((event_changes (host_id self.old) (host_cell self.old (D.image_at disks.old.first (D.moment disks.old.first)) (D.image_at disks.old.second (D.moment disks.old.second))) circuit.now (option_copied event.entry)) ≢ [] → passing stopping < 4 → Rose (D.faults disks.old.first) (D.faults disks.new.first) ⊎ Rose (D.faults disks.old.second) (D.faults disks.new.second)) }
+
+        // Where a call of a checkpoint didn't pass, the disk that doesn't count has failed.
+        ensures risen_other { OnOk result (FillsHost self.old circuit.now (event_changes (host_id self.old) (host_cell self.old (D.image_at disks.old.first (D.moment disks.old.first)) (D.image_at disks.old.second (D.moment disks.old.second))) circuit.now (option_copied event.entry)) → IsInCheckpoint stopping → Rose (D.faults (chosen (host_second self.old) disks.old.second disks.old.first)) (D.faults (chosen (host_second self.old) disks.new.second disks.new.first))) }
         ensures first_stays { D.faults disks.old.first ≤ D.faults disks.new.first }
         ensures second_stays { D.faults disks.old.second ≤ D.faults disks.new.second }
     {

@@ -6,11 +6,11 @@ ghost use Rattle.std.specs.Ordering.{nat_cmp};
 ghost use Rattle.std.specs.Cmp.Lexicographic.{slice_cmp};
 ghost use Rattle.std.specs.Str.{bytes_eq};
 ghost use Rattle.spl_circuit.specs.Nodes.{NodeId, CircuitId};
-ghost use Rattle.spl_edge.specs.Calls.{fails_at};
+ghost use Rattle.spl_edge.specs.Calls.{fails_at, IsArmed};
 ghost use Rattle.spl_edge.specs.Causes.{Rose};
 ghost use Rattle.spl_edge.specs.declared.fill.Fill.{Fill};
-ghost use Rattle.spl_journal.specs.Gate.{ByCalls, opened};
-ghost use Rattle.spl_journal.specs.Journals.{end_of, len_of, base_of, epoch_of, has_room};
+ghost use Rattle.spl_journal.specs.Gate.{ByCalls, NamesOne, opened};
+ghost use Rattle.spl_journal.specs.Journals.{end_of, len_of, base_of, epoch_of, has_room, IsFilledBy};
 ghost use Rattle.spl_journal.specs.Make.{IsBlank};
 ghost use Rattle.spl_journal.specs.Records.{blocks, sized};
 ghost use Rattle.spl_journal.specs.Stops.{is_kept};
@@ -159,6 +159,10 @@ impl Node {
         ensures turned { OnOk result ((plan_of (site_at (here_of self.old) circuit.now) (cell_of self.old circuit.now) event.now).changes ≢ [] → 2 * base_of (journal_in self.old.pairing) + 65536 < len_of (journal_in self.old.pairing) + 5 + length (record_bytes (record_of circuit.now (plan_of (site_at (here_of self.old) circuit.now) (cell_of self.old circuit.now) event.now).changes)) → epoch_of (journal_in self.old.pairing) < 2 ^ 64 - 1
             → is_second self.new.pairing ≡ not (is_second self.old.pairing)) }
         ensures passed { OnOk result ((is_second self.new.pairing ≡ is_second self.old.pairing) ⊎ ((n : ℕ) → n < 8 → IsTrue (fails_at (D.armed (chosen (is_second self.old.pairing) disks.old.second disks.old.first)) (D.moment (chosen (is_second self.old.pairing) disks.old.second disks.old.first) + n)) → ⊥)) }
+
+        // Where it leaves no room, the disk that counts is armed for none of its four calls, and the other for one of its eight, the other has failed, unless memory was wanting.
+        ensures risen { (plan_of (site_at (here_of self.old) circuit.now) (cell_of self.old circuit.now) event.now).changes ≢ [] → IsFilledBy (length (record_bytes (record_of circuit.now (plan_of (site_at (here_of self.old) circuit.now) (cell_of self.old circuit.now) event.now).changes))) (journal_in self.old.pairing) → IsArmed (D.armed (chosen (is_second self.old.pairing) disks.old.first disks.old.second)) → (NamesOne (D.armed (chosen (is_second self.old.pairing) disks.old.first disks.old.second)) (D.moment (chosen (is_second self.old.pairing) disks.old.first disks.old.second)) 4 → ⊥) → NamesOne (D.armed (chosen (is_second self.old.pairing) disks.old.second disks.old.first)) (D.moment (chosen (is_second self.old.pairing) disks.old.second disks.old.first)) 8
+            → IsErrOf result JournalFault.NoMemory ⊎ Rose (D.faults (chosen (is_second self.old.pairing) disks.old.second disks.old.first)) (D.faults (chosen (is_second self.old.pairing) disks.new.second disks.new.first)) }
 
         // The journal that counts is within its bound: it has room, and its base is what it was or the length of the packed cells.
         ensures room { OnOk result ((plan_of (site_at (here_of self.old) circuit.now) (cell_of self.old circuit.now) event.now).changes ≢ [] → epoch_of (journal_in self.new.pairing) < 2 ^ 64 - 1 → has_room (journal_in self.new.pairing) ≡ true) }

@@ -1,16 +1,16 @@
 //! How a node is stopped in an event.
-ghost use Rattle.std.specs.Prelude.{◌≡◌, ◌≢◌, ◌<◌, ◌⊎◌, [], false, IfOk, IfSome, OnOk};
+ghost use Rattle.std.specs.Prelude.{◌≡◌, ◌≢◌, ◌<◌, ◌⊎◌, [], false, Some, IfOk, IfSome, OnOk};
 ghost use Rattle.std.specs.Option.{option_copied};
 ghost use Rattle.spl_edge.specs.Calls.{armed_with};
 ghost use Rattle.spl_edge.specs.Causes.{Rose};
-ghost use Rattle.spl_snapshot.specs.Counting.{chosen, IfBoth, Onward};
+ghost use Rattle.spl_snapshot.specs.Counting.{chosen, IfBoth, PairLeaves, Onward};
 ghost use Rattle.spl_snapshot.specs.Pairs.{is_second};
 ghost use Rattle.spl_rules.specs.Plans.{plan_of};
 ghost use Rattle.spl_rules.specs.Valid.{IsFor};
 ghost use Rattle.spl_node.specs.Hosts.{PicksWith};
 ghost use Rattle.spl_node.specs.Records.{site_at};
 ghost use Rattle.spl_node.specs.Stands.{NodeStands, here_of, cell_of, is_halted};
-ghost use Rattle.spl_node.specs.Stopping.{Arms, IsStopping, PicksMake, cells_stopped, counting_arming, event_changes, fill_of, has_changes, keeps, other_arming, passing};
+ghost use Rattle.spl_node.specs.Stopping.{Arms, FillsJournal, IsInCheckpoint, IsStopping, LeavesNoMore, PicksMake, StandForEither, cells_stopped, counting_arming, event_changes, fill_of, has_changes, keeps, other_arming, passing};
 
 use crate::Node;
 use spl_base::CircuitId;
@@ -101,6 +101,9 @@ pub(crate) fn pick_both<D: StopDisk>(
         (D.armed disks.old.first) (D.armed disks.new.first) (D.picks disks.old.first) (D.picks disks.new.first)) }
     ensures second { OnOk result (PicksWith fill (D.image_at disks.old.second) (D.image_at disks.new.second) (D.moment disks.old.second) (D.moment disks.new.second) (D.faults disks.old.second) (D.faults disks.new.second)
         (D.armed disks.old.second) (D.armed disks.new.second) (D.picks disks.old.second) (D.picks disks.new.second)) }
+    // Whatever the result, a stop leaves nothing of a disk that it couldn't leave before.
+    ensures first_left { IfBoth (D.image_at disks.old.first (D.moment disks.old.first)) (D.image_at disks.new.first (D.moment disks.new.first)) LeavesNoMore }
+    ensures second_left { IfBoth (D.image_at disks.old.second (D.moment disks.old.second)) (D.image_at disks.new.second (D.moment disks.new.second)) LeavesNoMore }
     ensures first_faults { D.faults disks.new.first ≡ D.faults disks.old.first }
     ensures second_faults { D.faults disks.new.second ≡ D.faults disks.old.second }
 {
@@ -123,9 +126,14 @@ fn step_armed<D: StopDisk>(
     requires calls { IsStopping stopping }
     requires stands { NodeStands node.old (D.image_at disks.old.first (D.moment disks.old.first)) (D.image_at disks.old.second (D.moment disks.old.second)) }
     requires armed { D.armed (chosen (is_second node.old.pairing) disks.old.first disks.old.second) ≡ armed_with (counting_arming stopping) (D.moment (chosen (is_second node.old.pairing) disks.old.first disks.old.second)) }
+    requires other { D.armed (chosen (is_second node.old.pairing) disks.old.second disks.old.first) ≡ armed_with (other_arming stopping) (D.moment (chosen (is_second node.old.pairing) disks.old.second disks.old.first)) }
     ensures tells { IfOk result (λ b. b ≡ has_changes (plan_of (site_at (here_of node.old) circuit.now) (cell_of node.old circuit.now) event.now).changes) }
     ensures left { OnOk result (IfBoth (D.image_at disks.new.first (D.moment disks.new.first)) (D.image_at disks.new.second (D.moment disks.new.second)) (PicksMake (fill_of stopping) (here_of node.old) (cells_stopped (here_of node.old) (cell_of node.old) circuit.now (plan_of (site_at (here_of node.old) circuit.now) (cell_of node.old circuit.now) event.now).changes (keeps stopping)))) }
+    // Whatever the result, a stop leaves what stands for the cells before the event or for those behind the stop in it.
+    ensures leaves { PairLeaves (D.image_at disks.new.first) (D.moment disks.new.first) (D.moment disks.new.first) (D.image_at disks.new.second) (D.moment disks.new.second) (D.moment disks.new.second) (StandForEither (here_of node.old) (cell_of node.old) circuit.now (plan_of (site_at (here_of node.old) circuit.now) (cell_of node.old circuit.now) event.now).changes) }
     ensures risen { OnOk result ((plan_of (site_at (here_of node.old) circuit.now) (cell_of node.old circuit.now) event.now).changes ≢ [] → passing stopping < 4 → Rose (D.faults disks.old.first) (D.faults disks.new.first) ⊎ Rose (D.faults disks.old.second) (D.faults disks.new.second)) }
+    // Where a call of a checkpoint didn't pass, the disk that doesn't count has failed.
+    ensures risen_other { OnOk result (FillsJournal (Some node.old) circuit.now (plan_of (site_at (here_of node.old) circuit.now) (cell_of node.old circuit.now) event.now).changes → IsInCheckpoint stopping → Rose (D.faults (chosen (is_second node.old.pairing) disks.old.second disks.old.first)) (D.faults (chosen (is_second node.old.pairing) disks.new.second disks.new.first))) }
     ensures on_first { Onward (D.image_at disks.old.first) (D.image_at disks.new.first) (D.moment disks.old.first) (D.moment disks.new.first) (D.faults disks.old.first) (D.faults disks.new.first)
         (D.armed disks.old.first) (D.armed disks.new.first) (D.picks disks.old.first) (D.picks disks.new.first) }
     ensures on_second { Onward (D.image_at disks.old.second) (D.image_at disks.new.second) (D.moment disks.old.second) (D.moment disks.new.second) (D.faults disks.old.second) (D.faults disks.new.second)
@@ -152,9 +160,12 @@ pub(crate) fn handle_armed<D: StopDisk>(
     requires calls { IsStopping stopping }
     requires stands { NodeStands node.old (D.image_at disks.old.first (D.moment disks.old.first)) (D.image_at disks.old.second (D.moment disks.old.second)) }
     requires armed { D.armed (chosen (is_second node.old.pairing) disks.old.first disks.old.second) ≡ armed_with (counting_arming stopping) (D.moment (chosen (is_second node.old.pairing) disks.old.first disks.old.second)) }
+    requires other { D.armed (chosen (is_second node.old.pairing) disks.old.second disks.old.first) ≡ armed_with (other_arming stopping) (D.moment (chosen (is_second node.old.pairing) disks.old.second disks.old.first)) }
     ensures tells { IfOk result (λ b. b ≡ has_changes (event_changes (here_of node.old) (cell_of node.old) circuit.now (option_copied event.entry))) }
     ensures left { OnOk result (IfBoth (D.image_at disks.new.first (D.moment disks.new.first)) (D.image_at disks.new.second (D.moment disks.new.second)) (PicksMake (fill_of stopping) (here_of node.old) (cells_stopped (here_of node.old) (cell_of node.old) circuit.now (event_changes (here_of node.old) (cell_of node.old) circuit.now (option_copied event.entry)) (keeps stopping)))) }
+    ensures leaves { PairLeaves (D.image_at disks.new.first) (D.moment disks.new.first) (D.moment disks.new.first) (D.image_at disks.new.second) (D.moment disks.new.second) (D.moment disks.new.second) (StandForEither (here_of node.old) (cell_of node.old) circuit.now (event_changes (here_of node.old) (cell_of node.old) circuit.now (option_copied event.entry))) }
     ensures risen { OnOk result ((event_changes (here_of node.old) (cell_of node.old) circuit.now (option_copied event.entry)) ≢ [] → passing stopping < 4 → Rose (D.faults disks.old.first) (D.faults disks.new.first) ⊎ Rose (D.faults disks.old.second) (D.faults disks.new.second)) }
+    ensures risen_other { OnOk result (FillsJournal (Some node.old) circuit.now (event_changes (here_of node.old) (cell_of node.old) circuit.now (option_copied event.entry)) → IsInCheckpoint stopping → Rose (D.faults (chosen (is_second node.old.pairing) disks.old.second disks.old.first)) (D.faults (chosen (is_second node.old.pairing) disks.new.second disks.new.first))) }
     ensures on_first { Onward (D.image_at disks.old.first) (D.image_at disks.new.first) (D.moment disks.old.first) (D.moment disks.new.first) (D.faults disks.old.first) (D.faults disks.new.first)
         (D.armed disks.old.first) (D.armed disks.new.first) (D.picks disks.old.first) (D.picks disks.new.first) }
     ensures on_second { Onward (D.image_at disks.old.second) (D.image_at disks.new.second) (D.moment disks.old.second) (D.moment disks.new.second) (D.faults disks.old.second) (D.faults disks.new.second)

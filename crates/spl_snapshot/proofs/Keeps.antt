@@ -193,4 +193,5 @@ all_calls image_at moment x y most first f told armed ok failed same is_ok h = s
   still = h.still;
   named = λ none. absurd none;
   whole = λ all. h.whole is_ok;
+  fewer = λ none. absurd none;
 })

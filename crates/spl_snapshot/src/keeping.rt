@@ -1,9 +1,9 @@
 //! A record that is kept, with a checkpoint where there is no room for more.
 ghost use Rattle.std.specs.Prelude.{◌≡◌, ◌⊎◌, ◌<◌, ◌+◌, ◌-◌, ◌*◌, ◌^◌, ◌++◌, ◌∷◌, [], List, ℕ, true, false, not, ⊤, length, IsTrue, OnOk, OnErr, IfOk, IsOk, IsErrOf};
-ghost use Rattle.spl_edge.specs.Calls.{fails_at};
+ghost use Rattle.spl_edge.specs.Calls.{fails_at, IsArmed};
 ghost use Rattle.spl_edge.specs.Causes.{Rose};
-ghost use Rattle.spl_journal.specs.Gate.{ByCalls, opened};
-ghost use Rattle.spl_journal.specs.Journals.{end_of, len_of, base_of, epoch_of, has_room};
+ghost use Rattle.spl_journal.specs.Gate.{ByCalls, NamesOne, opened};
+ghost use Rattle.spl_journal.specs.Journals.{end_of, len_of, base_of, epoch_of, has_room, IsFilledBy};
 ghost use Rattle.spl_journal.specs.Records.{blocks, sized, IsGood, AreGood};
 ghost use Rattle.spl_snapshot.specs.Counting.{chosen, pair_records_of, HaveEither, HaveOneOf, IfBoth, PairLeaves, PairLeavesInTurn, Onward};
 ghost use Rattle.spl_snapshot.specs.Pairs.{PairStands, is_second, journal_in, is_halted};
@@ -61,6 +61,10 @@ impl<R: Form> Pairing<R> {
         ensures turned { OnOk result (2 * base_of (journal_in self.old) + 65536 < len_of (journal_in self.old) + 5 + length bytes.now → epoch_of (journal_in self.old) < 2 ^ 64 - 1
             → is_second self.new ≡ not (is_second self.old)) }
         ensures passed { OnOk result ((is_second self.new ≡ is_second self.old) ⊎ ((n : ℕ) → n < 8 → IsTrue (fails_at (D.armed (chosen (is_second self.old) disks.old.second disks.old.first)) (D.moment (chosen (is_second self.old) disks.old.second disks.old.first) + n)) → ⊥)) }
+
+        // Where it leaves no room, the disk that counts is armed for none of its four calls, and the other for one of its eight, the other has failed, unless memory was wanting.
+        ensures risen { IsFilledBy (length bytes.now) (journal_in self.old) → IsArmed (D.armed (chosen (is_second self.old) disks.old.first disks.old.second)) → (NamesOne (D.armed (chosen (is_second self.old) disks.old.first disks.old.second)) (D.moment (chosen (is_second self.old) disks.old.first disks.old.second)) 4 → ⊥) → NamesOne (D.armed (chosen (is_second self.old) disks.old.second disks.old.first)) (D.moment (chosen (is_second self.old) disks.old.second disks.old.first)) 8
+            → IsErrOf result JournalFault.NoMemory ⊎ Rose (D.faults (chosen (is_second self.old) disks.old.second disks.old.first)) (D.faults (chosen (is_second self.old) disks.new.second disks.new.first)) }
         ensures halted { OnErr result (is_halted self.new ≡ true) }
         ensures running { OnOk result (is_halted self.new ≡ false) }
         ensures not { (at : ℕ) → IsErrOf result (JournalFault.NotAJournal at) → ⊥ }

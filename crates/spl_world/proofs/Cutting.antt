@@ -1,7 +1,7 @@
 -- A node that stops in an event.
 use Rattle.std.proofs.Common.{◌≡◌, ℕ, zero, suc, ◌-◌, ◌≤◌, ◌⊎◌, inl, inr, Bool, true, false, ◌&&◌, ◌||◌, nat_le, nat_lt, ◌^◌, List, [], ◌∷◌, slice_get, Option, Some, None, if◌then◌else◌, refl, ap, sym, subst, ◌∙◌, arith}
 use Rattle.std.proofs.lemmas.Bool.Decides.{nat_tests}
-use Rattle.std.specs.Prelude.{◌==◌}
+use Rattle.std.specs.Prelude.{◌==◌, is_some}
 use Rattle.std.specs.Str.{bytes_eq}
 use Rattle.spl_agree.proofs.Tests.{if_true, if_false}
 use Rattle.spl_base.specs.FormLaws.{both_true}
@@ -11,8 +11,13 @@ use Rattle.spl_edge.specs.declared.fill.Fill.TheVariants as fill
 use Rattle.spl_journal.specs.Stops.{is_kept, opens as leaves_open}
 use Rattle.spl_model.specs.Answers.{bit_of, halt_answer}
 use Rattle.spl_model.specs.Outcomes.{keeps_record, opens}
-use Rattle.spl_model.specs.Worlds.{World as CircuitWorld, Halts, Stops, happens, site_at, step_plan}
-use Rattle.spl_node.specs.Stopping.{cells_stopped, event_changes, keeps}
+use Rattle.spl_model.specs.Puts.{put_at-here}
+use Rattle.spl_model.specs.Worlds.{World as CircuitWorld, Halts, Stops, halted, happens, site_at, step_plan}
+use Rattle.spl_node.proofs.Leaving.{still_stopped}
+use Rattle.spl_node.specs.Hosts.{is_up as host_up}
+use Rattle.spl_node.specs.Stopping.{FillsHost, FillsJournal, cells_stopped, event_changes, keeps}
+use Rattle.spl_node.specs.declared.host.Host.{Host}
+use Rattle.spl_node.specs.declared.node.Node.{Node}
 use Rattle.spl_node.specs.declared.stopping.Stopping.{Stopping}
 use Rattle.spl_node.specs.declared.stopping.Stopping.TheVariants as stopping
 use Rattle.spl_wire.specs.declared.plan.Plan.{Plan}
@@ -26,6 +31,7 @@ use Rattle.spl_wire.specs.declared.answer.Answer.{Answer}
 use Rattle.spl_wire.specs.declared.answer.Bit.{Bit}
 use Rattle.spl_wire.specs.declared.change.Change.{Change}
 use Rattle.spl_wire.specs.declared.event.Event.{Event}
+use Rattle.spl_world.specs.Ended.{cells_in}
 use Rattle.spl_world.specs.Halts.{IsEventOf, bit_in, said}
 use Rattle.spl_world.specs.Held.{IsTornBy}
 use Rattle.spl_world.specs.Views.{Holds, Nodes, slot_id, slot_ids, slot_up, slot_ups, view_in}
@@ -113,6 +119,27 @@ module _ (xs : Nodes) (i : ℕ) (x : Slot) (m : CircuitWorld) (s : Step) (c : Ci
 pub stopped_else : (here : NodeId) (cells : CircuitId → Cell) (c : CircuitId) (ys : List Change) (kept : Bool) (d : CircuitId) → bytes_eq c d ≡ false → cells_stopped here cells c ys kept d ≡ stopped_cell (cells d)
 stopped_else here cells c ys kept d off = ap (λ (b : Bool). if b then stopped_cell (if kept then made here (cells c) ys else cells c) else stopped_cell (cells d)) off
 
+-- the cells behind a stop in a step are, but for open rounds, those of the world behind it
+module _ (xs : Nodes) (i : ℕ) (x : Slot) (m : CircuitWorld) (s : Step) (c : CircuitId) (e : Option Event) (h : Holds c m xs) (there : slice_get xs.slots i ≡ Some x) (id : slot_id x ≡ step_node s) (about : step_circuit s ≡ c) (is : IsEventOf e m s) (up : slot_up x ≡ true) where
+  abbrev cells : CircuitId → Cell
+  cells = (view_in xs x).cells
+
+  abbrev behind : CircuitWorld
+  behind = happens m (Halts true s)
+
+  halted_cell : behind.at (slot_id x) ≡ stopped_cell (made (slot_id x) (m.at (slot_id x)) (step_plan m s).changes)
+  halted_cell = subst (λ (n : NodeId). (if m.up n then halted m n true (step_plan m s) else m).at (slot_id x) ≡ stopped_cell (made (slot_id x) (m.at (slot_id x)) (step_plan m s).changes)) id
+      (ap (λ (b : Bool). (if b then halted m (slot_id x) true (step_plan m s) else m).at (slot_id x)) (sym (h.each i x there).up ∙ up)
+      ∙ put_at-here m.at (slot_id x) (slot_id x) (stopped_cell (made (slot_id x) (m.at (slot_id x)) (step_plan m s).changes)) (same_itself (slot_id x)))
+
+  pub behind_halt : (d : CircuitId) → stopped_cell (cells_stopped (slot_id x) cells c (event_changes (slot_id x) cells c e) true d) ≡ stopped_cell (cells_in c behind (slot_id x) cells d)
+  behind_halt d = go (bool_cases (bytes_eq c d))
+    where
+      go : (bytes_eq c d ≡ true) ⊎ (bytes_eq c d ≡ false) → stopped_cell (cells_stopped (slot_id x) cells c (event_changes (slot_id x) cells c e) true d) ≡ stopped_cell (cells_in c behind (slot_id x) cells d)
+      go (inl q) = subst (λ (k : CircuitId). stopped_cell (cells_stopped (slot_id x) cells c (event_changes (slot_id x) cells c e) true k) ≡ stopped_cell (cells_in c behind (slot_id x) cells k)) (bytes_are c d q)
+          (ap stopped_cell (halted_here xs i x m s c e h there id about is true ∙ sym halted_cell ∙ ap (λ (b : Bool). if b then behind.at (slot_id x) else cells c) (sym (same_itself c))))
+      go (inr q) = ap stopped_cell (stopped_else (slot_id x) cells c (event_changes (slot_id x) cells c e) true d q) ∙ sym (still_stopped (cells d)) ∙ ap (λ (b : Bool). stopped_cell (if b then behind.at (slot_id x) else cells d)) (sym q)
+
 -- ---- slots
 
 pub seat_at : (ss : List Slot) (i : ℕ) (n : NodeId) → slice_get (slot_ids ss) i ≡ Some n → (z : Slot) × (slice_get ss i ≡ Some z)
@@ -126,6 +153,14 @@ slot_down ss i z there down = let is : Some (slot_up z) ≡ Some false = sym (up
 -- no event is torn at a node that is down
 pub down_not_torn : (m : CircuitWorld) (h : Stopping) (s : Step) → m.up (step_node s) ≡ false → IsTornBy m h s → ⊥
 down_not_torn m h s down torn = torn.1 (ap (λ (p : Plan). p.changes) (step_down m s down))
+
+-- nor does it make a checkpoint
+pub down_not_filled : (h : Host) (c : CircuitId) (xs : List Change) → host_up h ≡ false → FillsHost h c xs → ⊥
+down_not_filled h c xs down full = by h.node down full
+  where
+    by : (o : Option Node) → is_some o ≡ false → FillsJournal o c xs → ⊥
+    by (Some n) off f = cc
+    by None off f = f
 
 -- ---- what is told
 

@@ -1,52 +1,57 @@
 -- What a stop leaves of disks where an event ended with an error.
 use Rattle.std.proofs.Common.{◌≡◌, ◌⊎◌, inl, inr, ℕ, ◌≤◌, Bool, true, false, List, slice_get, slice_set, Option, Some, None, IfSome, Result, Ok, Err, refl, ap, sym, subst, ◌∙◌, arith}
-use Rattle.std.specs.Prelude.{IsErr, IsErrOf, IsSome, IfErr, IfNone, if◌then◌else◌}
-use Rattle.std.specs.Result.{IsErrAnd, IsOkAnd}
+use Rattle.std.specs.Prelude.{IsErr, IsErrOf, IsSome, IfErr, if◌then◌else◌}
+use Rattle.std.specs.Result.{IsErrAnd}
 use Rattle.std.specs.Str.{bytes_eq}
 use Rattle.spl_circuit.specs.Nodes.{NodeId, CircuitId}
 use Rattle.spl_edge.specs.Image.{Image, IsSettled}
 use Rattle.spl_edge.specs.declared.bench.Pair.{Pair}
 use Rattle.spl_journal.proofs.Images.{only_settled}
 use Rattle.spl_model.specs.Puts.{put_at-here}
-use Rattle.spl_model.specs.Worlds.{World as CircuitWorld, site_at, carried_out}
-use Rattle.spl_node.proofs.Disks.{both_if, safe_map, settled_pair}
-use Rattle.spl_node.proofs.Hosting.{both_told, kept_stand}
+use Rattle.spl_model.specs.Worlds.{World as CircuitWorld, Halts, carried_out, happens, site_at}
+use Rattle.spl_node.proofs.Disks.{both_if, safe_map}
+use Rattle.spl_node.proofs.Hosting.{both_told, kept_settled, kept_stand}
+use Rattle.spl_node.proofs.Leaving.{leaves_last}
+use Rattle.spl_node.proofs.Standing.{stand_same}
 use Rattle.spl_journal.specs.Reads.{Stays}
-use Rattle.spl_node.specs.Hosts.{HostStands, Rests, Runs, host_cell, host_id, host_second}
+use Rattle.spl_node.specs.Hosts.{HostStands, host_cell, host_id, host_second}
 use Rattle.spl_node.specs.declared.host.Host.{Host}
 use Rattle.spl_node.specs.Kept.{cells_after}
-use Rattle.spl_node.specs.Records.{is_record}
-use Rattle.spl_node.specs.Stands.{Make, StandFor}
-use Rattle.spl_node.specs.declared.node.Node.{Node}
+use Rattle.spl_node.specs.Stands.{StandFor}
+use Rattle.spl_node.specs.Stopping.{cells_stopped, event_changes}
 use Rattle.spl_rules.specs.Cells.{Cell}
 use Rattle.spl_rules.specs.Changes.{after_plan, stopped_cell}
 use Rattle.spl_rules.specs.Plans.{plan_of}
-use Rattle.spl_snapshot.specs.Counting.{IfBoth, IsInTurn, PairLeavesInTurn, pair_records}
+use Rattle.spl_snapshot.specs.Counting.{IfBoth, PairLeaves, PairLeavesInTurn}
+use Rattle.spl_sched.specs.Grammar.{step_circuit, step_node}
+use Rattle.spl_sched.specs.declared.line.Step.{Step}
 use Rattle.spl_wire.specs.declared.event.Event.{Event}
 use Rattle.spl_world.specs.Disks.{Images, images, images_at, images_of, images_or_none}
 use Rattle.spl_world.specs.Ended.{EventEnds, LeaveEither, HoldFor, LeaveNow, cells_in}
+use Rattle.spl_world.specs.Halts.{IsEventOf}
 use Rattle.spl_world.specs.Kept.{NodeView}
-use Rattle.spl_world.specs.Views.{Holds, Nodes, Sits, node_view, slot_id, slot_ids, view_in}
+use Rattle.spl_world.specs.Views.{Holds, Nodes, Sits, node_view, slot_id, slot_ids, slot_up, view_in}
 use Rattle.spl_world.specs.declared.fault.WorldFault.{WorldFault}
-use Rattle.spl_world.specs.declared.fault.WorldFault.TheVariants.{Disk, TooMany}
+use Rattle.spl_world.specs.declared.fault.WorldFault.TheVariants.{Disk, NoMemory, TooMany}
 use Rattle.spl_world.specs.declared.slot.Slot.{Slot}
 use Rattle.spl_world.proofs.About.{same_itself}
 use Rattle.spl_world.proofs.Counting.{failed}
+use Rattle.spl_world.proofs.Cutting.{behind_halt}
 use Rattle.spl_world.proofs.Handling.{disks_are, own_view}
 use Rattle.spl_world.proofs.Pairing.{images_here, images_set, pair_here}
+use Rattle.spl_world.proofs.Sends.{bool_cases, bytes_are}
 use Rattle.spl_world.proofs.Slots.{same_at, set_else, set_here, set_same}
 
 -- ---- two disks
 
-turn_last : (second : Bool) (k m l n : ℕ) → IsInTurn second m k m n l n
-turn_last false k m l n = inr refl
-turn_last true k m l n = inr refl
+pub left_last : (at other : ℕ → Option Image) (m n : ℕ) (P : List ℕ → List ℕ → Type 0) → PairLeaves at m m other n n P → LeaveNow P (at m, other n)
+left_last at other m n P left = left m n (omega arith) (omega arith) (omega arith) (omega arith)
 
 -- what a stop at any moment leaves it leaves at the last
 pub left_in_turn : (second : Bool) (o p : Option Image) (at other : ℕ → Option Image) (k m l n : ℕ) (P : List ℕ → List ℕ → Type 0) → IsSome o → IsSome p → k ≤ m → l ≤ n → IfBoth o p (λ i j. PairLeavesInTurn second at k m other l n P) → LeaveNow P (at m, other n)
 left_in_turn second o p at other k m l n P told other_told low other_low h =
     both_told o p (λ i j. PairLeavesInTurn second at k m other l n P) (LeaveNow P (at m, other n)) told other_told h
-    (λ i j is other_is left. left m n low (omega arith) other_low (omega arith) (turn_last second k m l n))
+    (λ i j is other_is left. left_last at other m n P (leaves_last second at other k m l n P low other_low left))
 
 -- an event at a host
 pub host_left : {D : Type 0} (image_at : D → ℕ → Option Image) (moment : D → ℕ) (h : Host) (old new : Pair D) (c : CircuitId) (e : Event) → IsSome (image_at old.first (moment old.first)) → IsSome (image_at old.second (moment old.second)) → moment old.first ≤ moment new.first → moment old.second ≤ moment new.second
@@ -74,25 +79,17 @@ left_settled P None p a b h = tt
 left_settled P (Some i) None a b h = tt
 left_settled P (Some i) (Some j) a b h = λ c d x y. subst (λ (e : List ℕ). P e d) (sym (only_settled i c a x)) (subst (λ (e : List ℕ). P i.bytes e) (sym (only_settled j d b y)) h)
 
-settled : (here : NodeId) (o : Option Node) (x y : Option Image) → IfSome o (Runs here x y) → IfNone o (Rests x y) → IfSome x IsSettled × IfSome y IsSettled
-settled here (Some n) x y up down = settled_pair is_record n.pairing x y up.stands.pair
-settled here None x y up down = (down.first_is, down.second_is)
-
 -- the disks of a host that stands
 pub stands_hold : (s : Slot) (is : Images) → HostStands s.host is.0 is.1 → HoldFor (slot_id s) (node_view s is).cells is
 stands_hold s is h =
-    let rest = settled s.host.id s.host.node is.0 is.1 h.up h.down in
+    let rest = kept_settled s.host.id s.host.node is.0 is.1 h.up h.down in
     let stand = kept_stand s.host.id s.host.node is.0 is.1 h.up h.down in
     record { read = stand; left = left_settled (StandFor (slot_id s) (node_view s is).cells) is.0 is.1 rest.0 rest.1 stand }
 
 -- ---- the same cells by other words
 
-makes_as : (n : NodeId) (f g : CircuitId → Cell) → ((c : CircuitId) → f c ≡ g c) → (r : Result (List (List ℕ)) ℕ) → IsOkAnd r (Make n f) → IsOkAnd r (Make n g)
-makes_as n f g same (Ok rs) h = λ c. h c ∙ ap stopped_cell (same c)
-makes_as n f g same (Err at) h = h
-
 stand_as : (n : NodeId) (f g : CircuitId → Cell) → ((c : CircuitId) → f c ≡ g c) → (x y : List ℕ) → StandFor n f x y → StandFor n g x y
-stand_as n f g same x y h = makes_as n f g same (pair_records is_record x y) h
+stand_as n f g same x y h = stand_same n f g x y (λ c. ap stopped_cell (same c)) h
 
 pub hold_as : (n : NodeId) (f g : CircuitId → Cell) → ((c : CircuitId) → f c ≡ g c) → (is : Images) → HoldFor n f is → HoldFor n g is
 hold_as n f g same is h = record {
@@ -109,6 +106,17 @@ either_as n f g k l same other is h = safe_map (λ x y. StandFor n f x y ⊎ Sta
 
 pub hold_either : (n : NodeId) (f g : CircuitId → Cell) (is : Images) → HoldFor n f is → LeaveEither n f g is
 hold_either n f g is h = safe_map (StandFor n f) (λ x y. StandFor n f x y ⊎ StandFor n g x y) (λ x y p. inl p) is.0 is.1 h.left
+
+-- the same but for open rounds
+either_stands : (n : NodeId) (f g k : CircuitId → Cell) → ((c : CircuitId) → stopped_cell (g c) ≡ stopped_cell (k c)) → (is : Images) → LeaveEither n f g is → LeaveEither n f k is
+either_stands n f g k same is h = safe_map (λ x y. StandFor n f x y ⊎ StandFor n g x y) (λ x y. StandFor n f x y ⊎ StandFor n k x y) one is.0 is.1 h
+  where
+    one : (x y : List ℕ) → StandFor n f x y ⊎ StandFor n g x y → StandFor n f x y ⊎ StandFor n k x y
+    one x y (inl p) = inl p
+    one x y (inr p) = inr (stand_same n g k x y same p)
+
+left_either : (n : NodeId) (f : CircuitId → Cell) (is : Images) → LeaveNow (StandFor n f) is → LeaveEither n f f is
+left_either n f is h = safe_map (StandFor n f) (λ x y. StandFor n f x y ⊎ StandFor n f x y) (λ x y p. inl p) is.0 is.1 h
 
 -- ---- results
 
@@ -153,6 +161,32 @@ module _ {D : Type 0} (image_at : D → ℕ → Option Image) (moment : D → �
         let q : Images = images_of image_at moment r in
         ap (λ (is : List Images). images_at is s.position) (sym (disks_are image_at moment ss ps i s sits there k place p pair t r))
         ∙ pair_here (slice_set (images image_at moment ps) s.position q) s.position q (set_here (images image_at moment ps) s.position q (sits.below i s there))
+
+    -- a stop found no memory at a node over its own pair
+    own_memory : (c : CircuitId) (behind : CircuitWorld) (later : CircuitId → Cell) → ((d : CircuitId) → stopped_cell (later d) ≡ stopped_cell (cells_in c behind (slot_id s) (view_in nodes s).cells d))
+        → LeaveEither (slot_id s) (view_in nodes s).cells later (images_of image_at moment r) → EventEnds c behind NoMemory nodes (images image_at moment (slice_set ps k r))
+    own_memory c behind later same left =
+        one_ended c behind nodes (images image_at moment (slice_set ps k r)) i s there (failed (Unit {0}) NoMemory) (λ which q. cc) (λ j q. cc) else_disks
+        (subst (λ (is : Images). LeaveEither (slot_id s) (view_in nodes s).cells (cells_in c behind (slot_id s) (view_in nodes s).cells) is) (sym own_disks)
+        (either_stands (slot_id s) (view_in nodes s).cells later (cells_in c behind (slot_id s) (view_in nodes s).cells) same (images_of image_at moment r) left))
+
+    pub own_stopped : (c : CircuitId) (m : CircuitWorld) → Holds c m nodes → LeaveNow (StandFor (slot_id s) (node_view s (images_of image_at moment p)).cells) (images_of image_at moment r) → EventEnds c m NoMemory nodes (images image_at moment (slice_set ps k r))
+    own_stopped c m h left = own_memory c m (view_in nodes s).cells (λ d. ap stopped_cell (same d)) (left_either (slot_id s) (view_in nodes s).cells (images_of image_at moment r)
+        (subst (λ (v : NodeView). LeaveNow (StandFor (slot_id s) v.cells) (images_of image_at moment r)) (sym (own_view image_at moment ss ps i s sits there k place p pair)) left))
+      where
+        same : (d : CircuitId) → (view_in nodes s).cells d ≡ cells_in c m (slot_id s) (view_in nodes s).cells d
+        same d = go (bool_cases (bytes_eq c d))
+          where
+            go : (bytes_eq c d ≡ true) ⊎ (bytes_eq c d ≡ false) → (view_in nodes s).cells d ≡ cells_in c m (slot_id s) (view_in nodes s).cells d
+            go (inl q) = ap (view_in nodes s).cells (sym (bytes_are c d q)) ∙ (h.each i s there).state ∙ ap (λ (b : Bool). if b then m.at (slot_id s) else (view_in nodes s).cells d) (sym q)
+            go (inr q) = ap (λ (b : Bool). if b then m.at (slot_id s) else (view_in nodes s).cells d) (sym q)
+
+    pub own_halted : (c : CircuitId) (e : Option Event) (m : CircuitWorld) (t : Step) → Holds c m nodes → slot_up s ≡ true → slot_id s ≡ step_node t → step_circuit t ≡ c → IsEventOf e m t
+        → LeaveEither (slot_id s) (node_view s (images_of image_at moment p)).cells (cells_stopped (slot_id s) (node_view s (images_of image_at moment p)).cells c (event_changes (slot_id s) (node_view s (images_of image_at moment p)).cells c e) true) (images_of image_at moment r)
+        → EventEnds c (happens m (Halts true t)) NoMemory nodes (images image_at moment (slice_set ps k r))
+    own_halted c e m t h up id about is left = own_memory c (happens m (Halts true t)) (cells_stopped (slot_id s) (view_in nodes s).cells c (event_changes (slot_id s) (view_in nodes s).cells c e) true)
+        (behind_halt nodes i s m t c e h there id about is up)
+        (subst (λ (v : NodeView). LeaveEither (slot_id s) v.cells (cells_stopped (slot_id s) v.cells c (event_changes (slot_id s) v.cells c e) true) (images_of image_at moment r)) (sym (own_view image_at moment ss ps i s sits there k place p pair)) left)
 
     module _ (c : CircuitId) (n : NodeId) (e : Event) (m : CircuitWorld) (at : slice_get (slot_ids ss) i ≡ Some n) (h : Holds c m nodes) where
       abbrev behind : CircuitWorld

@@ -3,19 +3,20 @@ use Rattle.std.proofs.Common.{◌≡◌, ◌⊎◌, inl, inr, ℕ, Bool, true, f
 use Rattle.std.specs.Prelude.{IfErr, IsErrOf, if◌then◌else◌}
 use Rattle.std.specs.Str.{bytes_eq}
 use Rattle.spl_circuit.specs.Nodes.{NodeId, CircuitId}
+use Rattle.spl_edge.specs.declared.fill.Fill.{Fill}
 use Rattle.spl_model.specs.Answers.{occurrences_in}
 use Rattle.spl_model.specs.Calm.{Calming, calming, calm}
-use Rattle.spl_model.specs.Outcomes.{by_rule}
 use Rattle.spl_model.specs.Projection.{Ran, names_circuit}
-use Rattle.spl_model.specs.Worlds.{World as CircuitWorld, Occurrence, Steps, step_world}
+use Rattle.spl_model.specs.Worlds.{World as CircuitWorld, Occurrence, Halts, Steps, happens, step_world}
 use Rattle.spl_projection.specs.Moments.{AreAtMoment, IsMoment}
 use Rattle.spl_projection.specs.Whole.{whole_world}
+use Rattle.spl_rules.specs.Cells.{Cell}
 use Rattle.spl_sched.specs.Grammar.{circuit_of, step_circuit}
 use Rattle.spl_sched.specs.declared.line.Line.{Line}
 use Rattle.spl_sched.specs.declared.line.Line.TheVariants as line
 use Rattle.spl_sched.specs.declared.line.Step.{Step}
 use Rattle.spl_world.specs.Disks.{Images, images_at}
-use Rattle.spl_world.specs.Ended.{EachAt, EventEnds, IsLeftAtOne, Leads, LeaveEither, HoldFor, LineEnds, PartEnds, cells_in, is_calm}
+use Rattle.spl_world.specs.Ended.{EachAt, EventEnds, IsLeftAtOne, Leads, LeaveEither, HoldFor, LineEnds, PartEnds, cells_in, is_calm, with_record}
 use Rattle.spl_world.specs.Views.{Holds, IsPlace, Nodes, Sits, Stands, ids_in, ids_of, over, places_of, slot_id, slot_places, view_in}
 use Rattle.spl_world.specs.declared.fault.WorldFault.{WorldFault}
 use Rattle.spl_world.specs.declared.fault.WorldFault.TheVariants.{Disk, NoMemory, TooMany}
@@ -31,11 +32,14 @@ use Rattle.spl_world.proofs.Slots.{place_at}
 -- ---- moments
 
 -- the one before the line
-first_moment : (own : CircuitId → CircuitWorld) (r : Ran) → AreAtMoment own own r (λ d n. (own d).at n)
-first_moment own r = record {
-  named = λ d q. (own d, record { happened = []; later = occurrences_in (own d) r.line r.kept; all = refl; is = refl }, λ n. refl);
-  others = λ d q n. refl;
+first_as : (own : CircuitId → CircuitWorld) (r : Ran) (cells : CircuitId → NodeId → Cell) → ((d : CircuitId) (n : NodeId) → cells d n ≡ (own d).at n) → AreAtMoment own own r cells
+first_as own r cells same = record {
+  named = λ d q. (own d, record { happened = []; later = occurrences_in (own d) r.line r.kept; all = refl; is = refl }, λ n. same d n);
+  others = λ d q n. same d n;
 }
+
+first_moment : (own : CircuitId → CircuitWorld) (r : Ran) → AreAtMoment own own r (λ d n. (own d).at n)
+first_moment own r = first_as own r (λ d n. (own d).at n) (λ d n. refl)
 
 -- a world of one circuit, and the given ones of all others
 abbrev pub with_world : CircuitId → CircuitWorld → (CircuitId → CircuitWorld) → CircuitId → CircuitWorld
@@ -54,10 +58,10 @@ one_moment own others c m r about moment same = record {
 with_else : (c : CircuitId) (m : CircuitWorld) (own : CircuitId → CircuitWorld) (d : CircuitId) → bytes_eq c d ≡ false → (n : NodeId) → (with_world c m own d).at n ≡ (own d).at n
 with_else c m own d off n = ap (λ (b : Bool). (if b then m else own d).at n) off
 
-step_moment : (own : CircuitId → CircuitWorld) (s : Step) → IsMoment (own (step_circuit s)) (by_rule (line.Step s)) (step_world (own (step_circuit s)) s)
+step_moment : (own : CircuitId → CircuitWorld) (s : Step) → IsMoment (own (step_circuit s)) (with_record (line.Step s)) (step_world (own (step_circuit s)) s)
 step_moment own s = record { happened = Steps s ∷ []; later = []; all = refl; is = refl }
 
-calm_moment : (c : CircuitId) (w : CircuitWorld) (k : ℕ) (z : Calming) → Leads (calming w) z → Leads z (calm c w k) → IsMoment w (by_rule (line.Calm c k)) z.world
+calm_moment : (c : CircuitId) (w : CircuitWorld) (k : ℕ) (z : Calming) → Leads (calming w) z → Leads z (calm c w k) → IsMoment w (with_record (line.Calm c k)) z.world
 calm_moment c w k z f g = record {
   happened = f.steps;
   later = g.steps;
@@ -126,9 +130,9 @@ some_place ks (TooMany which) h = (0, λ k q. cc)
 some_place ks (Disk slot) h = let p = h slot refl in (p.0, λ k q. let same : slot ≡ k = cc in p.1 ∙ ap Some same)
 some_place ks NoMemory h = (0, λ k q. cc)
 
-module _ (own : CircuitId → CircuitWorld) (r : Ran) (e : WorldFault) (xs : Nodes) (worlds : CircuitId → CircuitWorld) (sits : Sits xs) (holds : (d : CircuitId) → Holds d (worlds d) xs) (moment : AreAtMoment own own r (λ d n. (worlds d).at n)) (first : is_calm r.line ≡ false → (d : CircuitId) (n : NodeId) → (worlds d).at n ≡ (own d).at n) (named : (k : ℕ) → e ≡ Disk k → IsPlace (slot_places xs.slots) k) where
+module _ (own : CircuitId → CircuitWorld) (l : Line) (e : WorldFault) (xs : Nodes) (worlds : CircuitId → CircuitWorld) (sits : Sits xs) (holds : (d : CircuitId) → Holds d (worlds d) xs) (moment : AreAtMoment own own (with_record l) (λ d n. (worlds d).at n)) (first : is_calm l ≡ false → (d : CircuitId) (n : NodeId) → (worlds d).at n ≡ (own d).at n) (named : (k : ℕ) → e ≡ Disk k → IsPlace (slot_places xs.slots) k) where
   -- the disks hold what the nodes keep
-  line_still : LineEnds own r e (ids_in xs) (slot_places xs.slots) xs.disks
+  line_still : LineEnds own l e (ids_in xs) (slot_places xs.slots) xs.disks
   line_still =
       let p = some_place (slot_places xs.slots) e named in
       let all = all_hold xs worlds sits holds in record {
@@ -145,11 +149,11 @@ module _ (own : CircuitId → CircuitWorld) (r : Ran) (e : WorldFault) (xs : Nod
       }
 
   -- an event ended with an error
-  line_event : (c : CircuitId) (behind : CircuitWorld) (is : List Images) → AreAtMoment own own r (λ d n. (with_world c behind worlds d).at n) → EventEnds c behind e xs is → LineEnds own r e (ids_in xs) (slot_places xs.slots) is
+  line_event : (c : CircuitId) (behind : CircuitWorld) (is : List Images) → AreAtMoment own own (with_record l) (λ d n. (with_world c behind worlds d).at n) → EventEnds c behind e xs is → LineEnds own l e (ids_in xs) (slot_places xs.slots) is
   line_event c behind is later_moment ends = go ends.others
     where
-      go : (is ≡ xs.disks) ⊎ IsLeftAtOne c behind e xs is → LineEnds own r e (ids_in xs) (slot_places xs.slots) is
-      go (inl same) = subst (λ (ps : List Images). LineEnds own r e (ids_in xs) (slot_places xs.slots) ps) (sym same) line_still
+      go : (is ≡ xs.disks) ⊎ IsLeftAtOne c behind e xs is → LineEnds own l e (ids_in xs) (slot_places xs.slots) is
+      go (inl same) = subst (λ (ps : List Images). LineEnds own l e (ids_in xs) (slot_places xs.slots) ps) (sym same) line_still
       go (inr one) = record {
         cells = λ d n. (worlds d).at n;
         moment = moment;
@@ -163,6 +167,36 @@ module _ (own : CircuitId → CircuitWorld) (r : Ran) (e : WorldFault) (xs : Nod
         own_disks = own_leaves xs worlds sits holds c behind e is one;
       }
 
+-- ---- lines that stop a node
+
+pub memory_named : (ks : List ℕ) (k : ℕ) → NoMemory ≡ Disk k → IsPlace ks k
+memory_named ks k q = absurd cc
+
+module _ (worlds : CircuitId → CircuitWorld) (xs : Nodes) (sits : Sits xs) (holds : (d : CircuitId) → Holds d (worlds d) xs) (is : List Images) where
+  module _ (l : Line) (c : CircuitId) (behind : CircuitWorld) (ends : EventEnds c behind NoMemory xs is) where
+    line_halted : AreAtMoment worlds worlds (with_record l) (λ d n. (with_world c behind worlds d).at n) → LineEnds worlds l NoMemory (ids_in xs) (slot_places xs.slots) is
+    line_halted later = line_event worlds l NoMemory xs worlds sits holds (first_moment worlds (with_record l)) (λ q d n. refl) (memory_named (slot_places xs.slots)) c behind is later ends
+
+  -- between events
+  pub ended_stop : (l : Line) (c : CircuitId) → EventEnds c (worlds c) NoMemory xs is → LineEnds worlds l NoMemory (ids_in xs) (slot_places xs.slots) is
+  ended_stop l c ends = line_halted l c (worlds c) ends (first_as worlds (with_record l) (λ d n. (with_world c (worlds c) worlds d).at n) same)
+    where
+      same : (d : CircuitId) (n : NodeId) → (with_world c (worlds c) worlds d).at n ≡ (worlds d).at n
+      same d n = go (bool_cases (bytes_eq c d))
+        where
+          go : (bytes_eq c d ≡ true) ⊎ (bytes_eq c d ≡ false) → (with_world c (worlds c) worlds d).at n ≡ (worlds d).at n
+          go (inl q) = ap (λ (b : Bool). (if b then worlds c else worlds d).at n) q ∙ ap (λ (k : CircuitId). (worlds k).at n) (bytes_are c d q)
+          go (inr q) = ap (λ (b : Bool). (if b then worlds c else worlds d).at n) q
+
+  -- in one
+  pub ended_cut : (calls : ℕ) (f : Fill) (s : Step) → EventEnds (step_circuit s) (happens (worlds (step_circuit s)) (Halts true s)) NoMemory xs is → LineEnds worlds (line.Cut calls f s) NoMemory (ids_in xs) (slot_places xs.slots) is
+  ended_cut calls f s ends = let c = step_circuit s in let m = happens (worlds c) (Halts true s) in
+      line_halted (line.Cut calls f s) c m ends (one_moment worlds worlds c m (with_record (line.Cut calls f s)) refl (record { happened = Halts true s ∷ []; later = []; all = refl; is = refl }) (λ d off n. refl))
+
+  pub ended_fail : (call : ℕ) (s : Step) → EventEnds (step_circuit s) (happens (worlds (step_circuit s)) (Halts true s)) NoMemory xs is → LineEnds worlds (line.Fail call s) NoMemory (ids_in xs) (slot_places xs.slots) is
+  ended_fail call s ends = let c = step_circuit s in let m = happens (worlds c) (Halts true s) in
+      line_halted (line.Fail call s) c m ends (one_moment worlds worlds c m (with_record (line.Fail call s)) refl (record { happened = Halts true s ∷ []; later = []; all = refl; is = refl }) (λ d off n. refl))
+
 -- ---- the lines of a world
 
 module _ (before : List Ran) (w : World) (was : List Images) (stands : Stands before w was) (e : WorldFault) (named : (k : ℕ) → e ≡ Disk k → IsPlace (places_of w) k) where
@@ -170,16 +204,16 @@ module _ (before : List Ran) (w : World) (was : List Images) (stands : Stands be
   own = λ c. whole_world (ids_of w) c before
 
   -- no disk changed
-  pub ended_still : (l : Line) (is : List Images) → is ≡ was → LineEnds own (by_rule l) e (ids_of w) (places_of w) is
-  ended_still l is same = subst (λ (ps : List Images). LineEnds own (by_rule l) e (ids_of w) (places_of w) ps) (sym same) (line_still own (by_rule l) e (over w was) own stands.sits stands.each (first_moment own (by_rule l)) (λ q d n. refl) named)
+  pub ended_still : (l : Line) (is : List Images) → is ≡ was → LineEnds own l e (ids_of w) (places_of w) is
+  ended_still l is same = subst (λ (ps : List Images). LineEnds own l e (ids_of w) (places_of w) ps) (sym same) (line_still own l e (over w was) own stands.sits stands.each (first_moment own (with_record l)) (λ q d n. refl) named)
 
-  pub ended_step : (l : Line) (s : Step) (is : List Images) → l ≡ line.Step s → EventEnds (step_circuit s) (step_world (own (step_circuit s)) s) e (over w was) is → LineEnds own (by_rule l) e (ids_of w) (places_of w) is
+  pub ended_step : (l : Line) (s : Step) (is : List Images) → l ≡ line.Step s → EventEnds (step_circuit s) (step_world (own (step_circuit s)) s) e (over w was) is → LineEnds own l e (ids_of w) (places_of w) is
   ended_step l s is l_is ends =
       let c = step_circuit s in
       let m = step_world (own c) s in
-      subst (λ (x : Line). LineEnds own (by_rule x) e (ids_of w) (places_of w) is) (sym l_is)
-      (line_event own (by_rule (line.Step s)) e (over w was) own stands.sits stands.each (first_moment own (by_rule (line.Step s))) (λ q d n. refl) named c m is
-      (one_moment own own c m (by_rule (line.Step s)) refl (step_moment own s) (λ d off n. refl)) ends)
+      subst (λ (x : Line). LineEnds own x e (ids_of w) (places_of w) is) (sym l_is)
+      (line_event own (line.Step s) e (over w was) own stands.sits stands.each (first_moment own (with_record (line.Step s))) (λ q d n. refl) named c m is
+      (one_moment own own c m (with_record (line.Step s)) refl (step_moment own s) (λ d off n. refl)) ends)
 
   -- a calm
   module _ (c : CircuitId) (k : ℕ) (is : List Images) (ends : PartEnds c (calming (own c)) (calm c (own c) k) e (over w was) is) where
@@ -193,31 +227,28 @@ module _ (before : List Ran) (w : World) (was : List Images) (stands : Stands be
         go (inl q) = subst (λ (b : Bool). Holds d (if b then ends.here.world else own d) ends.last) (sym q) (subst (λ (x : CircuitId). Holds x ends.here.world ends.last) (bytes_are c d q) ends.holds)
         go (inr q) = subst (λ (b : Bool). Holds d (if b then ends.here.world else own d) ends.last) (sym q) (ends.others d (own d) q (stands.each d))
 
-    calm_at : LineEnds own (by_rule (line.Calm c k)) e (ids_in ends.last) (slot_places ends.last.slots) is
+    calm_at : LineEnds own (line.Calm c k) e (ids_in ends.last) (slot_places ends.last.slots) is
     calm_at =
-        let r = by_rule (line.Calm c k) in
+        let r = with_record (line.Calm c k) in
         let on = leads_then ends.here ends.next (calm c (own c) k) ends.event ends.left in
-        line_event own r e ends.last worlds ends.sits calm_holds
+        line_event own (line.Calm c k) e ends.last worlds ends.sits calm_holds
         (one_moment own own c ends.here.world r refl (calm_moment c (own c) k ends.here ends.reached on) (λ d off n. refl))
         (λ q d n. absurd (true≢false q)) (λ j q. subst (λ (ks : List ℕ). IsPlace ks j) (sym ends.places) (named j q)) c ends.next.world is
         (one_moment own worlds c ends.next.world r refl (calm_moment c (own c) k ends.next (leads_then (calming (own c)) ends.here ends.next ends.reached ends.event) ends.left) (with_else c ends.here.world own))
         ends.ends
 
-    pub ended_calm : (l : Line) → l ≡ line.Calm c k → LineEnds own (by_rule l) e (ids_of w) (places_of w) is
-    ended_calm l l_is = subst (λ (x : Line). LineEnds own (by_rule x) e (ids_of w) (places_of w) is) (sym l_is)
-        (subst (λ (ns : List NodeId). LineEnds own (by_rule (line.Calm c k)) e ns (places_of w) is) ends.ids
-        (subst (λ (ks : List ℕ). LineEnds own (by_rule (line.Calm c k)) e (ids_in ends.last) ks is) ends.places calm_at))
+    pub ended_calm : (l : Line) → l ≡ line.Calm c k → LineEnds own l e (ids_of w) (places_of w) is
+    ended_calm l l_is = subst (λ (x : Line). LineEnds own x e (ids_of w) (places_of w) is) (sym l_is)
+        (subst (λ (ns : List NodeId). LineEnds own (line.Calm c k) e ns (places_of w) is) ends.ids
+        (subst (λ (ks : List ℕ). LineEnds own (line.Calm c k) e (ids_in ends.last) ks is) ends.places calm_at))
 
 -- ---- where the error comes from
 
 pub limit_named : {A : Type 0} (f : WorldFault) (n : ℕ) (ks : List ℕ) → IsErrOf (failed A f) (TooMany n) → (k : ℕ) → f ≡ Disk k → IsPlace ks k
 limit_named f n ks is k q = absurd cc
 
-pub memory_named : (ks : List ℕ) (k : ℕ) → NoMemory ≡ Disk k → IsPlace ks k
-memory_named ks k q = absurd cc
-
 -- a step as it ended
 pub ended_by : {A : Type 0} (before : List Ran) (w : World) (was : List Images) → Stands before w was → (r : Result A WorldFault) (l : Line) (s : Step) (is : List Images) → l ≡ line.Step s → ((k : ℕ) → IsErrOf r (Disk k) → IsPlace (places_of w) k)
-    → IfErr r (λ e. EventEnds (step_circuit s) (step_world (whole_world (ids_of w) (step_circuit s) before) s) e (over w was) is) → IfErr r (λ e. LineEnds (λ c. whole_world (ids_of w) c before) (by_rule l) e (ids_of w) (places_of w) is)
+    → IfErr r (λ e. EventEnds (step_circuit s) (step_world (whole_world (ids_of w) (step_circuit s) before) s) e (over w was) is) → IfErr r (λ e. LineEnds (λ c. whole_world (ids_of w) c before) l e (ids_of w) (places_of w) is)
 ended_by before w was stands (Ok a) l s is l_is place h = tt
 ended_by {A} before w was stands (Err e) l s is l_is place h = ended_step before w was stands e (λ k q. place k (ap (failed A) q)) l s is l_is h

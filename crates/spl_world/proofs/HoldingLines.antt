@@ -8,10 +8,11 @@ use Rattle.spl_edge.specs.declared.bench.Pair.{Pair}
 use Rattle.spl_edge.specs.declared.disk.Armed.{Armed}
 use Rattle.spl_model.specs.Outcomes.{by_rule}
 use Rattle.spl_model.specs.Projection.{Ran}
+use Rattle.spl_projection.specs.Whole.{whole_world}
 use Rattle.spl_sched.specs.declared.line.Line.{Line}
 use Rattle.spl_sched.specs.declared.line.Line.TheVariants as line
 use Rattle.spl_world.specs.Disks.{AllGoOn, AllUnarmed, Images, LeavesDisks, PairView, bench, images}
-use Rattle.spl_world.specs.Held.{AllHeld, AllPicked, AllUnpicked, FailedSince, StopsBy, StopsPair, cells_behind, stopping_of, stops_at}
+use Rattle.spl_world.specs.Held.{AllHeld, AllPicked, AllUnpicked, FailedSince, HigherAt, IsInCheckpointIn, StopsBy, StopsPair, cells_behind, stopping_of, stops_at}
 use Rattle.spl_world.specs.Lines.{stops}
 use Rattle.spl_world.specs.Views.{IsPlace, Nodes, Stands, ids_of, over, places_of, slot_id, slot_up}
 use Rattle.spl_world.specs.declared.fault.WorldFault.{WorldFault}
@@ -20,7 +21,7 @@ use Rattle.spl_world.specs.declared.slot.Slot.{Slot}
 use Rattle.spl_world.specs.declared.world.World.{World}
 use Rattle.spl_world.proofs.Holding.{all_picked_on, failed_behind, none_picked, stops_none}
 use Rattle.spl_world.proofs.HoldingNow.{all_held}
-use Rattle.spl_world.proofs.HoldingStop.{picked_behind_stop, stops_pair, unarmed_behind}
+use Rattle.spl_world.proofs.HoldingStop.{picked_behind_stop, stops_higher, stops_pair, unarmed_behind}
 
 -- which lines stop no node
 pub steps_none : (l : Line) → stops l ≡ false → (n : NodeId) → stops_at n l ≡ false
@@ -69,6 +70,11 @@ module _ {D : Type 0} (image_at : D → ℕ → Option Image) (moment faults : D
         all_held image_at moment faults armed picks start behind v new after
         (picked_behind_stop image_at moment faults armed picks before (by_rule l) w v old new same put stands after stop start (picked_in start before w (told old) held))
     held_halt (Err e) start held stands after stop = tt
+
+    pub higher_halt : {A : Type 0} (x : Result A WorldFault) → Stands before w (kept old) → OnOk x (Stands behind v (kept new)) → OnOk x (StopsBy l (over w (kept old)) (told old) (told new)) → (i : ℕ) (s : Slot) → slice_get w.slots.items i ≡ Some s → stops_at (slot_id s) l ≡ true → IsInCheckpointIn (λ c. whole_world (ids_of w) c before) l s
+        → OnOk x (HigherAt s.position (told old) (told new))
+    higher_halt (Ok a) stands after stop i s at e within = stops_higher image_at moment faults armed picks before (by_rule l) w v old new same put stands after stop i s at e within
+    higher_halt (Err f) stands after stop i s at e within = tt
 
     pub picks_halt : {A : Type 0} (x : Result A WorldFault) → Stands before w (kept old) → OnOk x (Stands behind v (kept new)) → OnOk x (StopsBy l (over w (kept old)) (told old) (told new)) → (i : ℕ) (s : Slot) → slice_get w.slots.items i ≡ Some s → AllUnarmed (told old) → stops_at (slot_id s) l ≡ true
         → OnOk x (StopsPair (slot_id s) (slot_up s) (stopping_of l) (cells_behind (ids_of w) behind (slot_id s)) s.position (told old) (told new))

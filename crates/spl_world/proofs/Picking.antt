@@ -1,16 +1,17 @@
 -- Disks of one node that are picked from.
-use Rattle.std.proofs.Common.{◌≡◌, ℕ, ◌≤◌, ◌⊎◌, inl, inr, Bool, true, false, true≢false, List, [], ◌∷◌, ◌++◌, slice_get, slice_set, Option, Some, None, refl, ap, sym, subst, ◌∙◌, arith}
+use Rattle.std.proofs.Common.{◌≡◌, ℕ, ◌<◌, ◌≤◌, ◌⊎◌, inl, inr, Bool, true, false, true≢false, List, [], ◌∷◌, ◌++◌, slice_get, slice_set, Option, Some, None, refl, ap, sym, subst, ◌∙◌, arith}
 use Rattle.spl_edge.specs.Image.{Image}
 use Rattle.spl_edge.specs.Picks.{Picked}
 use Rattle.spl_edge.specs.declared.bench.Pair.{Pair}
 use Rattle.spl_edge.specs.declared.disk.Armed.{Armed}
 use Rattle.spl_edge.specs.declared.disk.Arming.{Arming}
 use Rattle.spl_edge.specs.declared.disk.Arming.TheVariants.{Off}
+use Rattle.spl_edge.specs.declared.fill.Fill.{Fill}
 use Rattle.spl_edge.specs.declared.fill.Fill.TheVariants.{Old}
 use Rattle.spl_node.specs.Hosts.{PicksOld}
 use Rattle.spl_snapshot.specs.Counting.{IfBoth, chosen, second_counts}
 use Rattle.spl_world.specs.Disks.{DiskView, HasRisen, IsPairUnarmed, IsUnarmed, NoneForgotten, PairView, RoseAt, bench, pair_view}
-use Rattle.spl_world.specs.Held.{HasArmedPick, HavePicked, StopsAt, image_now}
+use Rattle.spl_world.specs.Held.{HasArmedPick, HavePicked, HigherAt, OtherPicksHigher, PicksHigher, StopsAt, image_now}
 use Rattle.spl_world.proofs.Leaving.{bench_here, bench_set, get_below, rose_at, same_there}
 use Rattle.spl_world.proofs.Slots.{set_cases, set_else, set_here, set_length, set_same}
 
@@ -46,6 +47,25 @@ pub plain_picks : (p q : PairView) → IsPairUnarmed p → PicksOld p.first.imag
 plain_picks p q off one other =
     let b = counting (image_now p.first) (image_now p.second) in
     record { second = b.0; counts = b.1; first_is = plain b.0 p.first q.first off.0 one; second_is = plain b.0 p.second q.second off.1 other }
+
+-- ---- a stop in a checkpoint
+
+-- a disk that failed before it picked
+higher : (fill : Fill) (arming : Arming) (x y : DiskView) → HasArmedPick fill arming x y → x.faults < y.faults → PicksHigher x y
+higher fill arming x y one rose = record { pick = record { image = one.image; fill = fill; arming = arming; faults = y.faults }; picks = one.kept; higher = rose }
+
+pub other_higher : (p q : PairView) (second : Bool) (fill : Fill) (k l : Arming) → IfBoth (image_now p.first) (image_now p.second) (λ i j. second_counts i.bytes j.bytes ≡ second) → HasArmedPick fill k p.first q.first → HasArmedPick fill l p.second q.second
+    → (chosen second p.second p.first).faults < (chosen second q.second q.first).faults → OtherPicksHigher p q
+other_higher p q second fill k l counts one other rose = go (image_now p.first) (image_now p.second) counts
+  where
+    at : (b : Bool) → (chosen b p.second p.first).faults < (chosen b q.second q.first).faults → PicksHigher (chosen b p.second p.first) (chosen b q.second q.first)
+    at true h = higher fill k p.first q.first one h
+    at false h = higher fill l p.second q.second other h
+
+    go : (u v : Option Image) → IfBoth u v (λ i j. second_counts i.bytes j.bytes ≡ second) → IfBoth u v (λ i j. PicksHigher (chosen (second_counts i.bytes j.bytes) p.second p.first) (chosen (second_counts i.bytes j.bytes) q.second q.first))
+    go None v c = tt
+    go (Some i) None c = tt
+    go (Some i) (Some j) c = subst (λ (b : Bool). PicksHigher (chosen b p.second p.first) (chosen b q.second q.first)) (sym c) (at second rose)
 
 -- ---- one pair of many
 
@@ -92,6 +112,12 @@ stops_none P up k xs down = record { as_many = refl; others = λ i off. refl; pi
 
 -- ---- by the pair itself
 
+-- the count of the disk that doesn't count, as it is told
+pub count_seen : {D : Type 0} (image_at : D → ℕ → Option Image) (moment faults : D → ℕ) (armed : D → Armed) (picks : D → List Picked) (second : Bool) (p r : Pair D) → faults (chosen second p.second p.first) < faults (chosen second r.second r.first)
+    → (chosen second (pair_view image_at moment faults armed picks p).second (pair_view image_at moment faults armed picks p).first).faults < (chosen second (pair_view image_at moment faults armed picks r).second (pair_view image_at moment faults armed picks r).first).faults
+count_seen image_at moment faults armed picks true p r h = h
+count_seen image_at moment faults armed picks false p r h = h
+
 module _ {D : Type 0} (image_at : D → ℕ → Option Image) (moment faults : D → ℕ) (armed : D → Armed) (picks : D → List Picked) (ps : List (Pair D)) (k : ℕ) (p r : Pair D) (pair : slice_get ps k ≡ Some p) where
   abbrev told : List (Pair D) → List PairView
   told qs = bench image_at moment faults armed picks qs
@@ -110,6 +136,9 @@ module _ {D : Type 0} (image_at : D → ℕ → Option Image) (moment faults : D
   one_stops P up position place picked none = subst (λ (n : ℕ). StopsAt P up n (told ps) (told (slice_set ps k r))) place
       (behind (StopsAt P up k (told ps)) (stops_one (told ps) k (one p) (one r) there P up picked
       (λ d. ap (λ (z : Pair D). slice_set (told ps) k (one z)) (none d) ∙ set_same (told ps) k (one p) there)))
+
+  pub one_higher : (position : ℕ) → k ≡ position → OtherPicksHigher (one p) (one r) → HigherAt position (told ps) (told (slice_set ps k r))
+  one_higher position place h = (one_stops OtherPicksHigher true position place (λ u. h) (λ down. absurd (true≢false down))).picks refl
 
   pub one_forgets : faults p.first ≤ faults r.first → faults p.second ≤ faults r.second → NoneForgotten (told ps) (told (slice_set ps k r))
   one_forgets a b = behind (NoneForgotten (told ps)) (forgets_one (told ps) k (one p) (one r) there a b)

@@ -22,6 +22,10 @@ pub all_ok : {A E : Type 0} {P Q R S T : A → Type 0} (r : Result A E) → ((a 
 all_ok (Ok a) f p q r s = f a p q r s
 all_ok (Err e) f p q r s = p
 
+pub on_err : {A E : Type 0} {P : Type 0} (r : Result A E) → P → OnErr r P
+on_err (Ok a) p = tt
+on_err (Err e) p = p
+
 pub at_err : {A E : Type 0} {P Q : Type 0} (r : Result A E) → (P → Q) → OnErr r P → OnErr r Q
 at_err (Ok a) f p = p
 at_err (Err e) f p = f p
@@ -29,6 +33,10 @@ at_err (Err e) f p = f p
 pub ok_both : {A E : Type 0} {P Q R : Type 0} (r : Result A E) → (P → Q → R) → OnOk r P → OnOk r Q → OnOk r R
 ok_both (Ok a) f p q = f p q
 ok_both (Err e) f p q = p
+
+pub ok_three : {A E : Type 0} {P Q R S : Type 0} (r : Result A E) → (P → Q → R → S) → OnOk r P → OnOk r Q → OnOk r R → OnOk r S
+ok_three (Ok a) f p q s = f p q s
+ok_three (Err e) f p q s = p
 
 -- whether a call failed, where it succeeded and where it did not
 pub ok_is : {A E : Type 0} (r : Result A E) (b : Bool) → b ≡ is_err r → OnOk r (b ≡ false)

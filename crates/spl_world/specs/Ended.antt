@@ -88,16 +88,20 @@ abbrev pub is_calm : Line → Bool
 is_calm (line.Calm c k) = true
 is_calm _ = false
 
+-- a line that ran; where it stops a node in an event the disks have the record of that event
+abbrev pub with_record : Line → Ran
+with_record l = record { line = l; kept = true }
+
 -- A line ended with an error, and before it the nodes kept what these worlds have. The disks of each node stand for its
 -- cells at one moment of the line, the same for all; that is the moment before it, but in a calm. Where the error is no limit
 -- one node is left out, and what a stop leaves of its disks stands for its cells at that moment or at another of the line. It
--- is the node whose disk the error names
-pub record LineEnds (own : CircuitId → CircuitWorld) (r : Ran) (e : WorldFault) (ids : List NodeId) (places : List ℕ) (is : List Images) : Type 0 where
+-- is the node whose disk the error names. The last moment of a line that stops a node in an event has the changes of the event
+pub record LineEnds (own : CircuitId → CircuitWorld) (l : Line) (e : WorldFault) (ids : List NodeId) (places : List ℕ) (is : List Images) : Type 0 where
   pub cells : CircuitId → NodeId → Cell
-  pub moment : AreAtMoment own own r cells
-  pub before : is_calm r.line ≡ false → (c : CircuitId) (n : NodeId) → cells c n ≡ (own c).at n
+  pub moment : AreAtMoment own own (with_record l) cells
+  pub before : is_calm l ≡ false → (c : CircuitId) (n : NodeId) → cells c n ≡ (own c).at n
   pub later : CircuitId → NodeId → Cell
-  pub later_moment : AreAtMoment own own r later
+  pub later_moment : AreAtMoment own own (with_record l) later
   pub limit : (which : ℕ) → e ≡ TooMany which → EachAt (λ i n p. HoldFor n (λ c. cells c n) p) ids places is
   pub one : ℕ
   pub one_place : (k : ℕ) → e ≡ Disk k → slice_get places one ≡ Some k

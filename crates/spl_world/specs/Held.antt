@@ -12,7 +12,7 @@ use Rattle.spl_model.specs.Answers.{is_up}
 use Rattle.spl_model.specs.Projection.{Ran}
 use Rattle.spl_model.specs.Worlds.{World as CircuitWorld, step_plan}
 use Rattle.spl_node.specs.Stands.{StandFor}
-use Rattle.spl_node.specs.Stopping.{PicksArmed, counting_arming, other_arming, fill_of, passing}
+use Rattle.spl_node.specs.Stopping.{FillsHost, IsInCheckpoint, PicksArmed, counting_arming, other_arming, fill_of, passing}
 use Rattle.spl_node.specs.declared.stopping.Stopping.{Stopping}
 use Rattle.spl_node.specs.declared.stopping.Stopping.TheVariants as stopping
 use Rattle.spl_projection.specs.Whole.{whole_world}
@@ -72,6 +72,15 @@ abbrev pub IsTornIn : (CircuitId → CircuitWorld) → Line → Type 0
 IsTornIn worlds (line.Cut calls fill s) = IsTornBy (worlds (step_circuit s)) (stopping.Cut calls fill) s
 IsTornIn worlds (line.Fail call s) = IsTornBy (worlds (step_circuit s)) (stopping.Fail call) s
 IsTornIn worlds _ = ⊥
+
+-- the node of a step stops in a checkpoint, which the step brings about in this world
+abbrev pub IsInCheckpointBy : CircuitWorld → Stopping → Step → Slot → Type 0
+IsInCheckpointBy m h s x = IsInCheckpoint h × FillsHost x.host (step_circuit s) (step_plan m s).changes
+
+abbrev pub IsInCheckpointIn : (CircuitId → CircuitWorld) → Line → Slot → Type 0
+IsInCheckpointIn worlds (line.Cut calls fill s) x = IsInCheckpointBy (worlds (step_circuit s)) (stopping.Cut calls fill) s x
+IsInCheckpointIn worlds (line.Fail call s) x = IsInCheckpointBy (worlds (step_circuit s)) (stopping.Fail call) s x
+IsInCheckpointIn worlds _ x = ⊥
 
 -- so was that of a line behind these lines
 abbrev pub IsTorn : List NodeId → List Ran → Line → Type 0
@@ -164,6 +173,20 @@ pub record HavePicked (how : Option Stopping) (p q : PairView) : Type 0 where
   pub first_is : HasArmedPick (pick_fill how) (chosen second (armed_counting how) (armed_other how)) p.first q.first
   pub second_is : HasArmedPick (pick_fill how) (chosen second (armed_other how) (armed_counting how)) p.second q.second
 
+-- a disk picked once more, and keeps with that a higher count of faults than it had
+pub record PicksHigher (x y : DiskView) : Type 0 where
+  pub pick : Picked
+  pub picks : y.picks ≡ x.picks ++ pick ∷ []
+  pub higher : x.faults < pick.faults
+
+-- so did, of the disks of a node, the one that didn't count
+abbrev pub OtherPicksHigher : PairView → PairView → Type 0
+OtherPicksHigher p q = IfBoth (image_now p.first) (image_now p.second) (λ i j. PicksHigher (chosen (second_counts i.bytes j.bytes) p.second p.first) (chosen (second_counts i.bytes j.bytes) q.second q.first))
+
+-- that of the pair at this place
+abbrev pub HigherAt : ℕ → List PairView → List PairView → Type 0
+HigherAt k old new = (p q : PairView) → slice_get old k ≡ Some p → slice_get new k ≡ Some q → OtherPicksHigher p q
+
 -- so they did where neither was armed before
 abbrev pub PickUnarmed : Option Stopping → PairView → PairView → Type 0
 PickUnarmed how p q = IsPairUnarmed p → HavePicked how p q
@@ -184,20 +207,30 @@ pub record StopsAt (P : PairView → PairView → Type 0) (up : Bool) (k : ℕ) 
 abbrev pub StopsPair : NodeId → Bool → Option Stopping → (CircuitId → Cell) → ℕ → List PairView → List PairView → Type 0
 StopsPair here up how cells k old new = StopsAt (BothPicked here how cells) up k old new
 
--- the node of a slot stopped so, and its disks failed where, in the worlds that the nodes stood for, its event was torn
-pub record StopsSlot (here : NodeId) (how : Option Stopping) (torn : (CircuitId → CircuitWorld) → Type 0) (xs : Nodes) (old new : List PairView) : Type 0 where
+-- a disk of a node that stopped so failed where its step was torn, and the one that didn't count where it stopped in a checkpoint
+pub record FailsBy (m : CircuitWorld) (h : Stopping) (s : Step) (x : Slot) (old new : List PairView) : Type 0 where
+  pub torn : IsTornBy m h s → RoseAt x.position old new
+  pub checkpoint : IsInCheckpointBy m h s x → HigherAt x.position old new
+
+abbrev pub FailsIn : (CircuitId → CircuitWorld) → Line → Slot → List PairView → List PairView → Type 0
+FailsIn worlds (line.Cut calls fill s) x old new = FailsBy (worlds (step_circuit s)) (stopping.Cut calls fill) s x old new
+FailsIn worlds (line.Fail call s) x old new = FailsBy (worlds (step_circuit s)) (stopping.Fail call) s x old new
+FailsIn worlds _ x old new = Unit {0}
+
+-- the node of a slot stopped so, and its disks failed as they had to in the worlds that the nodes stood for
+pub record StopsSlot (here : NodeId) (how : Option Stopping) (fails : (CircuitId → CircuitWorld) → Slot → List PairView → List PairView → Type 0) (xs : Nodes) (old new : List PairView) : Type 0 where
   pub index : ℕ
   pub slot : Slot
   pub there : slice_get xs.slots index ≡ Some slot
   pub id_is : slot_id slot ≡ here
   pub stop : StopsAt (PickUnarmed how) (slot_up slot) slot.position old new
-  pub risen : (worlds : CircuitId → CircuitWorld) → ((c : CircuitId) → Holds c (worlds c) xs) → torn worlds → RoseAt slot.position old new
+  pub risen : (worlds : CircuitId → CircuitWorld) → ((c : CircuitId) → Holds c (worlds c) xs) → fails worlds slot old new
 
 -- a line stopped its node
 pub record StopsBy (l : Line) (xs : Nodes) (old new : List PairView) : Type 0 where
   pub here : NodeId
   pub named : (n : NodeId) → stops_at n l ≡ bytes_eq n here
-  pub slot : StopsSlot here (stopping_of l) (λ worlds. IsTornIn worlds l) xs old new
+  pub slot : StopsSlot here (stopping_of l) (λ worlds. FailsIn worlds l) xs old new
 
 -- a disk of the pair has failed since it was last picked from
 abbrev pub HasFailedSince : PairView → PairView → Type 0

@@ -1,5 +1,5 @@
 //! Nodes that stop in an event.
-ghost use Rattle.std.specs.Prelude.{◌≡◌, ◌<◌, List, Some, true, false, length, slice_get, IfOk, IfSome, OnOk};
+ghost use Rattle.std.specs.Prelude.{◌≡◌, ◌<◌, List, Some, true, false, length, slice_get, IfOk, IfSome, OnOk, OnErr};
 ghost use Rattle.std.specs.List.{list_all};
 ghost use Rattle.std.specs.Option.{option_copied};
 ghost use Rattle.std.specs.Str.{bytes_eq};
@@ -11,12 +11,14 @@ ghost use Rattle.spl_node.specs.Stopping.{IsStopping, has_changes, keeps};
 ghost use Rattle.spl_rules.specs.Valid.{IsFor};
 ghost use Rattle.spl_sched.specs.Grammar.{is_step, step_circuit, step_node, step_nodes};
 ghost use Rattle.spl_wire.specs.declared.change.Change.{Change};
-ghost use Rattle.spl_world.specs.Disks.{NoneForgotten, RoseAt, bench};
+ghost use Rattle.spl_world.specs.Disks.{NoneForgotten, bench, images};
+ghost use Rattle.spl_world.specs.Ended.{EventEnds};
 ghost use Rattle.spl_world.specs.Halts.{IsEventOf, bit_in};
-ghost use Rattle.spl_world.specs.Held.{IsTornBy, PickUnarmed, StopsAt, StopsSlot};
+ghost use Rattle.spl_world.specs.Held.{FailsBy, PickUnarmed, StopsAt, StopsSlot};
 ghost use Rattle.spl_world.specs.Views.{Holds, IsAt, IsUp, Sits, ids_of, places_of, seen, slot_id, slot_up};
 ghost use Rattle.spl_world.specs.declared.slot.Slot.{Slot as Seat};
 
+use crate::fault::WorldFault;
 use crate::world::World;
 use spl_base::CircuitId;
 use spl_edge::{Fill, Pair, StopDisk};
@@ -83,7 +85,8 @@ impl World {
         ensures others { (d n : Id) (m : CircuitWorld) → IsAt self.old slot n → bytes_eq circuit.now d ≡ false → Holds d m (seen D.image_at D.moment self.old pairs.old.items) → OnOk result (Holds d (happens m (Stops n)) (seen D.image_at D.moment self.new pairs.new.items)) }
         ensures sits { OnOk result (Sits (seen D.image_at D.moment self.new pairs.new.items)) }
         ensures picks { (t : Seat) → slice_get self.old.slots.items slot ≡ Some t → OnOk result (StopsAt (PickUnarmed (Some stopping)) (slot_up t) t.position (bench D.image_at D.moment D.faults D.armed D.picks pairs.old.items) (bench D.image_at D.moment D.faults D.armed D.picks pairs.new.items)) }
-        ensures risen { (t : Seat) (m : CircuitWorld) (s : Step) → slice_get self.old.slots.items slot ≡ Some t → IsAt self.old slot (step_node s) → step_circuit s ≡ circuit.now → IsEventOf (option_copied event.entry) m s → Holds circuit.now m (seen D.image_at D.moment self.old pairs.old.items) → OnOk result (IsTornBy m stopping s → RoseAt t.position (bench D.image_at D.moment D.faults D.armed D.picks pairs.old.items) (bench D.image_at D.moment D.faults D.armed D.picks pairs.new.items)) }
+        ensures risen { (t : Seat) (m : CircuitWorld) (s : Step) → slice_get self.old.slots.items slot ≡ Some t → IsAt self.old slot (step_node s) → step_circuit s ≡ circuit.now → IsEventOf (option_copied event.entry) m s → Holds circuit.now m (seen D.image_at D.moment self.old pairs.old.items) → OnOk result (FailsBy m stopping s t (bench D.image_at D.moment D.faults D.armed D.picks pairs.old.items) (bench D.image_at D.moment D.faults D.armed D.picks pairs.new.items)) }
+        ensures ended { (m : CircuitWorld) (s : Step) → IsAt self.old slot (step_node s) → step_circuit s ≡ circuit.now → IsEventOf (option_copied event.entry) m s → Holds circuit.now m (seen D.image_at D.moment self.old pairs.old.items) → OnErr result (EventEnds circuit.now (happens m (Halts true s)) WorldFault.NoMemory (seen D.image_at D.moment self.old pairs.old.items) (images D.image_at D.moment pairs.new.items)) }
         ensures onward { NoneForgotten (bench D.image_at D.moment D.faults D.armed D.picks pairs.old.items) (bench D.image_at D.moment D.faults D.armed D.picks pairs.new.items) }
     {
         let here = &mut self.slots[slot];
@@ -117,7 +120,8 @@ impl World {
         ensures others { (d : Id) (m : CircuitWorld) → bytes_eq (step_circuit step.now) d ≡ false → Holds d m (seen D.image_at D.moment self.old pairs.old.items) → OnOk result (Holds d (happens m (Stops (step_node step.now))) (seen D.image_at D.moment self.new pairs.new.items)) }
         ensures sits { OnOk result (Sits (seen D.image_at D.moment self.new pairs.new.items)) }
         ensures picks { (t : Seat) → slice_get self.old.slots.items slot ≡ Some t → OnOk result (StopsAt (PickUnarmed (Some stopping)) (slot_up t) t.position (bench D.image_at D.moment D.faults D.armed D.picks pairs.old.items) (bench D.image_at D.moment D.faults D.armed D.picks pairs.new.items)) }
-        ensures risen { (t : Seat) (m : CircuitWorld) → slice_get self.old.slots.items slot ≡ Some t → Holds (step_circuit step.now) m (seen D.image_at D.moment self.old pairs.old.items) → OnOk result (IsTornBy m stopping step.now → RoseAt t.position (bench D.image_at D.moment D.faults D.armed D.picks pairs.old.items) (bench D.image_at D.moment D.faults D.armed D.picks pairs.new.items)) }
+        ensures risen { (t : Seat) (m : CircuitWorld) → slice_get self.old.slots.items slot ≡ Some t → Holds (step_circuit step.now) m (seen D.image_at D.moment self.old pairs.old.items) → OnOk result (FailsBy m stopping step.now t (bench D.image_at D.moment D.faults D.armed D.picks pairs.old.items) (bench D.image_at D.moment D.faults D.armed D.picks pairs.new.items)) }
+        ensures ended { (m : CircuitWorld) → Holds (step_circuit step.now) m (seen D.image_at D.moment self.old pairs.old.items) → OnErr result (EventEnds (step_circuit step.now) (happens m (Halts true step.now)) WorldFault.NoMemory (seen D.image_at D.moment self.old pairs.old.items) (images D.image_at D.moment pairs.new.items)) }
         ensures onward { NoneForgotten (bench D.image_at D.moment D.faults D.armed D.picks pairs.old.items) (bench D.image_at D.moment D.faults D.armed D.picks pairs.new.items) }
     {
         match step {
@@ -164,7 +168,8 @@ impl World {
         ensures own { (m : CircuitWorld) → Holds (step_circuit step.now) m (seen D.image_at D.moment self.old pairs.old.items) → OnOk result (Holds (step_circuit step.now) (happens m (Halts (keeps stopping) step.now)) (seen D.image_at D.moment self.new pairs.new.items)) }
         ensures others { (d : Id) (m : CircuitWorld) → bytes_eq (step_circuit step.now) d ≡ false → Holds d m (seen D.image_at D.moment self.old pairs.old.items) → OnOk result (Holds d (happens m (Stops (step_node step.now))) (seen D.image_at D.moment self.new pairs.new.items)) }
         ensures sits { OnOk result (Sits (seen D.image_at D.moment self.new pairs.new.items)) }
-        ensures slot { OnOk result (StopsSlot (step_node step.now) (Some stopping) (λ worlds. IsTornBy (worlds (step_circuit step.now)) stopping step.now) (seen D.image_at D.moment self.old pairs.old.items) (bench D.image_at D.moment D.faults D.armed D.picks pairs.old.items) (bench D.image_at D.moment D.faults D.armed D.picks pairs.new.items)) }
+        ensures slot { OnOk result (StopsSlot (step_node step.now) (Some stopping) (λ worlds. FailsBy (worlds (step_circuit step.now)) stopping step.now) (seen D.image_at D.moment self.old pairs.old.items) (bench D.image_at D.moment D.faults D.armed D.picks pairs.old.items) (bench D.image_at D.moment D.faults D.armed D.picks pairs.new.items)) }
+        ensures ended { (m : CircuitWorld) → Holds (step_circuit step.now) m (seen D.image_at D.moment self.old pairs.old.items) → OnErr result (EventEnds (step_circuit step.now) (happens m (Halts true step.now)) WorldFault.NoMemory (seen D.image_at D.moment self.old pairs.old.items) (images D.image_at D.moment pairs.new.items)) }
         ensures onward { NoneForgotten (bench D.image_at D.moment D.faults D.armed D.picks pairs.old.items) (bench D.image_at D.moment D.faults D.armed D.picks pairs.new.items) }
     {
         let slot = self.slot(&step.node());

@@ -1,5 +1,5 @@
 //! A line that stops a node.
-ghost use Rattle.std.specs.Prelude.{◌≡◌, ◌++◌, ◌∷◌, [], ℕ, ◌≤◌, List, Some, slice_get, true, false, IsTrue, IfOk, OnOk, OnErr, IsErrOf};
+ghost use Rattle.std.specs.Prelude.{◌≡◌, ◌++◌, ◌∷◌, [], ℕ, ◌≤◌, List, Some, slice_get, true, false, IsTrue, IfErr, IfOk, OnOk, OnErr, IsErrOf};
 ghost use Rattle.std.specs.List.{list_all};
 ghost use Rattle.spl_circuit.specs.Nodes.{NodeId as Id, has_node};
 ghost use Rattle.spl_model.specs.Answers.{answer_to, line_answer};
@@ -7,12 +7,13 @@ ghost use Rattle.spl_model.specs.Counts.{events_of, stops_of};
 ghost use Rattle.spl_model.specs.Outcomes.{by_rule, keeps_record};
 ghost use Rattle.spl_model.specs.Projection.{Ran};
 ghost use Rattle.spl_model.specs.Worlds.{World as CircuitWorld};
-ghost use Rattle.spl_projection.specs.Whole.{world_after};
+ghost use Rattle.spl_projection.specs.Whole.{whole_world, world_after};
 ghost use Rattle.spl_sched.specs.Grammar.{nodes_of, is_line};
 ghost use Rattle.spl_world.specs.Counts.{IsOver};
 ghost use Rattle.spl_world.specs.Disks.{AllUnarmed, NoneForgotten, PairView, bench, images};
+ghost use Rattle.spl_world.specs.Ended.{LineEnds};
 ghost use Rattle.spl_world.specs.Halts.{said};
-ghost use Rattle.spl_world.specs.Held.{AllHeld, StopsBy, StopsPair, cells_behind, stopping_of, stops_at};
+ghost use Rattle.spl_world.specs.Held.{AllHeld, HigherAt, IsInCheckpointIn, StopsBy, StopsPair, cells_behind, stopping_of, stops_at};
 ghost use Rattle.spl_world.specs.Lines.{stops};
 ghost use Rattle.spl_world.specs.Views.{Holds, Sits, Stands, ids_of, is_halted, places_of, seen, slot_id, slot_up};
 ghost use Rattle.spl_world.specs.declared.slot.Slot.{Slot as Seat};
@@ -73,9 +74,16 @@ impl World {
         ensures fewer { (before : List Ran) → Stands before self.old (images D.image_at D.moment pairs.old.items) → OnOk result (stops_of (before ++ by_rule line.now ∷ []) ≤ MOST_STOPS) }
         // Where the node was up each of its two disks has one pick more; no other disk changed.
         ensures picks { (i : ℕ) (s : Seat) → slice_get self.old.slots.items i ≡ Some s → (before : List Ran) → Stands before self.old (images D.image_at D.moment pairs.old.items) → AllUnarmed (bench D.image_at D.moment D.faults D.armed D.picks pairs.old.items) → stops_at (slot_id s) line.now ≡ true → OnOk result (StopsPair (slot_id s) (slot_up s) (stopping_of line.now) (cells_behind (ids_of self.old) (before ++ by_rule line.now ∷ []) (slot_id s)) s.position (bench D.image_at D.moment D.faults D.armed D.picks pairs.old.items) (bench D.image_at D.moment D.faults D.armed D.picks pairs.new.items)) }
+        // Where it stops a node in a checkpoint that its event brings about, the disk that didn't count keeps a higher count of
+        // faults with its pick than it had.
+        ensures risen_other { (i : ℕ) (s : Seat) → slice_get self.old.slots.items i ≡ Some s → (before : List Ran) → Stands before self.old (images D.image_at D.moment pairs.old.items) → stops_at (slot_id s) line.now ≡ true → IsInCheckpointIn (λ c. whole_world (ids_of self.old) c before) line.now s → OnOk result (HigherAt s.position (bench D.image_at D.moment D.faults D.armed D.picks pairs.old.items) (bench D.image_at D.moment D.faults D.armed D.picks pairs.new.items)) }
         ensures sits { OnOk result (Sits (seen D.image_at D.moment self.new pairs.new.items)) }
         // What the disks hold stands for what the nodes keep, and so does what they picked.
         ensures held { (start : List PairView) (before : List Ran) → Stands before self.old (images D.image_at D.moment pairs.old.items) → AllHeld start before self.old (bench D.image_at D.moment D.faults D.armed D.picks pairs.old.items) → OnOk result (AllHeld start (before ++ by_rule line.now ∷ []) self.new (bench D.image_at D.moment D.faults D.armed D.picks pairs.new.items)) }
+        // Where it ends with an error, the disks of all nodes hold what the nodes keep, but for one node where memory was wanting;
+        // what a stop leaves of the disks of that node stands for what it keeps or for what it has behind the line, with the
+        // changes of the line's event.
+        ensures ended { (before : List Ran) → Stands before self.old (images D.image_at D.moment pairs.old.items) → IfErr result (λ e. LineEnds (λ c. whole_world (ids_of self.old) c before) line.now e (ids_of self.old) (places_of self.old) (images D.image_at D.moment pairs.new.items)) }
         ensures onward { NoneForgotten (bench D.image_at D.moment D.faults D.armed D.picks pairs.old.items) (bench D.image_at D.moment D.faults D.armed D.picks pairs.new.items) }
         ensures unarmed { AllUnarmed (bench D.image_at D.moment D.faults D.armed D.picks pairs.old.items) → OnOk result (AllUnarmed (bench D.image_at D.moment D.faults D.armed D.picks pairs.new.items)) }
         ensures running { OnOk result (is_halted self.new ≡ false) }
@@ -109,6 +117,7 @@ impl World {
         ensures disk { (slot : ℕ) → IsErrOf result (WorldFault.Disk slot) → ⊥ }
         ensures sits { OnOk result (Sits (seen D.image_at D.moment self.new pairs.new.items)) }
         ensures slot { OnOk result (StopsBy line.now (seen D.image_at D.moment self.old pairs.old.items) (bench D.image_at D.moment D.faults D.armed D.picks pairs.old.items) (bench D.image_at D.moment D.faults D.armed D.picks pairs.new.items)) }
+        ensures ended { (before : List Ran) → Stands before self.old (images D.image_at D.moment pairs.old.items) → IfErr result (λ e. LineEnds (λ c. whole_world (ids_of self.old) c before) line.now e (ids_of self.old) (places_of self.old) (images D.image_at D.moment pairs.new.items)) }
         ensures onward { NoneForgotten (bench D.image_at D.moment D.faults D.armed D.picks pairs.old.items) (bench D.image_at D.moment D.faults D.armed D.picks pairs.new.items) }
     {
         self.events.add(1)?;
@@ -135,6 +144,7 @@ impl World {
         ensures holds { (c : Id) (m : CircuitWorld) → Holds c m (seen D.image_at D.moment self.old pairs.old.items) → OnOk result (Holds c (world_after c m (by_rule line.now)) (seen D.image_at D.moment self.new pairs.new.items)) }
         ensures sits { OnOk result (Sits (seen D.image_at D.moment self.new pairs.new.items)) }
         ensures slot { OnOk result (StopsBy line.now (seen D.image_at D.moment self.old pairs.old.items) (bench D.image_at D.moment D.faults D.armed D.picks pairs.old.items) (bench D.image_at D.moment D.faults D.armed D.picks pairs.new.items)) }
+        ensures ended { (worlds : Id → CircuitWorld) → ((c : Id) → Holds c (worlds c) (seen D.image_at D.moment self.old pairs.old.items)) → OnErr result (LineEnds worlds line.now WorldFault.NoMemory (ids_of self.old) (places_of self.old) (images D.image_at D.moment pairs.new.items)) }
         ensures onward { NoneForgotten (bench D.image_at D.moment D.faults D.armed D.picks pairs.old.items) (bench D.image_at D.moment D.faults D.armed D.picks pairs.new.items) }
     {
         match line {

@@ -1,5 +1,5 @@
 //! Nodes that go down and come up, and what is bound at one.
-ghost use Rattle.std.specs.Prelude.{◌≡◌, ◌++◌, ◌∷◌, [], ◌<◌, ℕ, List, Some, None, true, length, slice_get, IfOk, OnOk, IsErrOf};
+ghost use Rattle.std.specs.Prelude.{◌≡◌, ◌++◌, ◌∷◌, [], ◌<◌, ℕ, List, Some, None, true, length, slice_get, IfOk, OnOk, OnErr, IsErrOf};
 ghost use Rattle.spl_circuit.specs.Nodes.{NodeId as Id};
 ghost use Rattle.spl_model.specs.Answers.{roll_answer};
 ghost use Rattle.spl_model.specs.Outcomes.{by_rule};
@@ -9,6 +9,7 @@ ghost use Rattle.spl_model.specs.Worlds.{World as CircuitWorld, Starts, Stops, h
 ghost use Rattle.spl_sched.specs.Grammar.{is_line};
 ghost use Rattle.spl_sched.specs.declared.line.Line.TheVariants as line;
 ghost use Rattle.spl_world.specs.Disks.{Images, LeavesDisks, NoneForgotten, bench, images};
+ghost use Rattle.spl_world.specs.Ended.{EventEnds};
 ghost use Rattle.spl_world.specs.Held.{PickUnarmed, StopsAt};
 ghost use Rattle.spl_world.specs.Views.{IsPlace, Holds, IsAt, Sits, ids_of, over, places_of, seen, slot_up};
 ghost use Rattle.spl_world.specs.declared.slot.Slot.{Slot as Seat};
@@ -61,6 +62,7 @@ impl World {
         ensures holds { (c n : Id) (m : CircuitWorld) → IsAt self.old slot n → Holds c m (seen D.image_at D.moment self.old pairs.old.items) → OnOk result (Holds c (happens m (Stops n)) (seen D.image_at D.moment self.new pairs.new.items)) }
         ensures sits { OnOk result (Sits (seen D.image_at D.moment self.new pairs.new.items)) }
         ensures picks { (s : Seat) → slice_get self.old.slots.items slot ≡ Some s → OnOk result (StopsAt (PickUnarmed None) (slot_up s) s.position (bench D.image_at D.moment D.faults D.armed D.picks pairs.old.items) (bench D.image_at D.moment D.faults D.armed D.picks pairs.new.items)) }
+        ensures ended { (c : Id) (m : CircuitWorld) → Holds c m (seen D.image_at D.moment self.old pairs.old.items) → OnErr result (EventEnds c m WorldFault.NoMemory (seen D.image_at D.moment self.old pairs.old.items) (images D.image_at D.moment pairs.new.items)) }
         ensures onward { NoneForgotten (bench D.image_at D.moment D.faults D.armed D.picks pairs.old.items) (bench D.image_at D.moment D.faults D.armed D.picks pairs.new.items) }
     {
         let here = &mut self.slots[slot];

@@ -13,11 +13,12 @@ ghost use Rattle.spl_rules.specs.Cells.{is_bound, is_open_cell};
 ghost use Rattle.spl_rules.specs.Changes.{stopped_cell};
 ghost use Rattle.spl_rules.specs.Plans.{plan_of};
 ghost use Rattle.spl_rules.specs.Valid.{IsFor};
-ghost use Rattle.spl_node.specs.Stopping.{IsStopping, cells_stopped, event_changes, has_changes, keeps, passing};
+ghost use Rattle.spl_node.specs.Stands.{StandFor};
+ghost use Rattle.spl_node.specs.Stopping.{FillsHost, IsInCheckpoint, IsStopping, cells_stopped, event_changes, has_changes, keeps, passing};
 ghost use Rattle.spl_world.specs.Disks.{AreBlank, HasRisen, Images, PairGoesOn, images_of, pair_view};
-ghost use Rattle.spl_world.specs.Held.{HavePicked, PickUnarmed};
+ghost use Rattle.spl_world.specs.Held.{HavePicked, OtherPicksHigher, PickUnarmed};
 ghost use Rattle.spl_node.specs.Kept.{cells_after};
-ghost use Rattle.spl_world.specs.Ended.{LeaveEither};
+ghost use Rattle.spl_world.specs.Ended.{LeaveEither, LeaveNow};
 ghost use Rattle.spl_world.specs.Kept.{IsDone, AllBelong, place_of, lists_about, sent_to};
 ghost use Rattle.spl_world.specs.Views.{IsFresh, node_view, slot_id, slot_up};
 
@@ -168,6 +169,8 @@ impl Slot {
         ensures same { slot_up self.old ≡ false → (c : Id) → (node_view self.new (images_of D.image_at D.moment disks.new)).cells c ≡ (node_view self.old (images_of D.image_at D.moment disks.old)).cells c }
         ensures none { slot_up self.old ≡ false → disks.new ≡ disks.old }
         ensures stands { OnOk result (HostStands self.new.host (D.image_at disks.new.first (D.moment disks.new.first)) (D.image_at disks.new.second (D.moment disks.new.second))) }
+        // Whatever the result, a stop leaves what stands for its cells.
+        ensures leaves { LeaveNow (StandFor (slot_id self.old) (node_view self.old (images_of D.image_at D.moment disks.old)).cells) (images_of D.image_at D.moment disks.new) }
         // Where it was up both disks picked what they had.
         ensures picks { OnOk result (slot_up self.old ≡ true → PickUnarmed None (pair_view D.image_at D.moment D.faults D.armed D.picks disks.old) (pair_view D.image_at D.moment D.faults D.armed D.picks disks.new)) }
         ensures first_stays { D.faults disks.old.first ≤ D.faults disks.new.first }
@@ -198,9 +201,13 @@ impl Slot {
         ensures tells { IfOk result (λ b. b ≡ has_changes (event_changes (slot_id self.old) (node_view self.old (images_of D.image_at D.moment disks.old)).cells circuit.now (option_copied event.entry))) }
         ensures stopped { OnOk result ((c : Id) → (node_view self.new (images_of D.image_at D.moment disks.new)).cells c ≡ (cells_stopped (slot_id self.old) (node_view self.old (images_of D.image_at D.moment disks.old)).cells circuit.now (event_changes (slot_id self.old) (node_view self.old (images_of D.image_at D.moment disks.old)).cells circuit.now (option_copied event.entry)) (keeps stopping)) c) }
         ensures stands { OnOk result (HostStands self.new.host (D.image_at disks.new.first (D.moment disks.new.first)) (D.image_at disks.new.second (D.moment disks.new.second))) }
+        // Whatever the result, a stop leaves what stands for its cells before the event or for those behind the stop in it.
+        ensures leaves { LeaveEither (slot_id self.old) (node_view self.old (images_of D.image_at D.moment disks.old)).cells (cells_stopped (slot_id self.old) (node_view self.old (images_of D.image_at D.moment disks.old)).cells circuit.now (event_changes (slot_id self.old) (node_view self.old (images_of D.image_at D.moment disks.old)).cells circuit.now (option_copied event.entry)) true) (images_of D.image_at D.moment disks.new) }
         ensures picks { OnOk result (HavePicked (Some stopping) (pair_view D.image_at D.moment D.faults D.armed D.picks disks.old) (pair_view D.image_at D.moment D.faults D.armed D.picks disks.new)) }
         // Where a call that keeps the record didn't pass, a disk has failed.
         ensures risen { OnOk result ((event_changes (slot_id self.old) (node_view self.old (images_of D.image_at D.moment disks.old)).cells circuit.now (option_copied event.entry)) ≢ [] → passing stopping < 4 → HasRisen (pair_view D.image_at D.moment D.faults D.armed D.picks disks.old) (pair_view D.image_at D.moment D.faults D.armed D.picks disks.new)) }
+        // Where a call of a checkpoint didn't pass, the disk that doesn't count keeps a higher count of faults.
+        ensures risen_other { OnOk result (FillsHost self.old.host circuit.now (event_changes (slot_id self.old) (node_view self.old (images_of D.image_at D.moment disks.old)).cells circuit.now (option_copied event.entry)) → IsInCheckpoint stopping → OtherPicksHigher (pair_view D.image_at D.moment D.faults D.armed D.picks disks.old) (pair_view D.image_at D.moment D.faults D.armed D.picks disks.new)) }
         ensures first_stays { D.faults disks.old.first ≤ D.faults disks.new.first }
         ensures second_stays { D.faults disks.old.second ≤ D.faults disks.new.second }
     {

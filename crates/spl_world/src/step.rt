@@ -118,7 +118,7 @@ impl World {
         ensures settles_batches { (before : List Ran) (c : CircuitId) (k : ℕ) (d : Definition) (v : Batch) (rest : List Batch) → Stands before self.old (images D.image_at D.moment pairs.old.items) → line.now ≡ Line.Calm c k → 6 ≤ k → IsWhole (whole_world (ids_of self.old) c before) d → IsActiveAll (whole_world (ids_of self.old) c before) d → (batches_kept (whole_world (ids_of self.old) c before) (service d)).pending ≡ v ∷ rest → OnOk result (IsSettled d (service d) v (batches_kept (whole_world (ids_of self.old) c (before ++ by_rule line.now ∷ [])))) }
         // Where it ends with an error, the disks of all nodes hold what the nodes keep at one moment of the line, but for one node
         // where a disk failed or memory was wanting, and those of that node hold what it keeps at that moment or another.
-        ensures ended { (before : List Ran) → Stands before self.old (images D.image_at D.moment pairs.old.items) → IfErr result (λ e. LineEnds (λ c. whole_world (ids_of self.old) c before) (by_rule line.now) e (ids_of self.old) (places_of self.old) (images D.image_at D.moment pairs.new.items)) }
+        ensures ended { (before : List Ran) → Stands before self.old (images D.image_at D.moment pairs.old.items) → IfErr result (λ e. LineEnds (λ c. whole_world (ids_of self.old) c before) line.now e (ids_of self.old) (places_of self.old) (images D.image_at D.moment pairs.new.items)) }
     {
         self.calms_settle();
         let answered = self.run_line(alloc, pairs, line);
@@ -149,7 +149,7 @@ impl World {
         ensures refused { (why : Refusal) → IfOk result (λ a. a ≡ Answer.Refused why → Stays (seen D.image_at D.moment self.old pairs.old.items) (seen D.image_at D.moment self.new pairs.new.items)) }
         ensures disks { LeavesDisks result (bench D.image_at D.moment D.faults D.armed D.picks pairs.old.items) (bench D.image_at D.moment D.faults D.armed D.picks pairs.new.items) }
         ensures place { (slot : ℕ) → IsErrOf result (WorldFault.Disk slot) → IsPlace (places_of self.old) slot }
-        ensures ended { (before : List Ran) → Stands before self.old (images D.image_at D.moment pairs.old.items) → IfErr result (λ e. LineEnds (λ c. whole_world (ids_of self.old) c before) (by_rule line.now) e (ids_of self.old) (places_of self.old) (images D.image_at D.moment pairs.new.items)) }
+        ensures ended { (before : List Ran) → Stands before self.old (images D.image_at D.moment pairs.old.items) → IfErr result (λ e. LineEnds (λ c. whole_world (ids_of self.old) c before) line.now e (ids_of self.old) (places_of self.old) (images D.image_at D.moment pairs.new.items)) }
     {
         match line {
             Line::Step(step) => {

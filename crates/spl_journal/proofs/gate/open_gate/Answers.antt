@@ -117,4 +117,4 @@ returns-clause-by_calls g c =
     let here_4 : (g.D.Disk.moment c.sync-2.new.self) ≡ (g.D.Disk.moment c.args.disk.now) + 4 = omega (arith, c.in_default.ensures.call.tick, c.in_default-sync.ensures.call.tick, c.in_default-write_at.ensures.call.tick, c.in_default-sync-2.ensures.call.tick) in
     let p4 = passed_more (g.D.Disk.moment c.args.disk.now) (g.D.Disk.moment c.write_at-2.new.self) 3 (g.D.Disk.moment c.sync-2.new.self) (g.D.Disk.faults c.write_at-2.new.self) (g.D.Disk.faults c.sync-2.new.self) (g.D.Disk.armed c.args.disk.now) (g.D.Disk.armed c.write_at-2.new.self) c.in_default-sync-2.field-0 (here_3) (arm_3) c.in_default-sync-2.ensures.call p3 in
     let arm_4 : (g.D.Disk.armed c.sync-2.new.self) ≡ (g.D.Disk.armed c.args.disk.now) = c.sync-2.ensures.armed ∙ arm_3 in
-    record { calls = 4; at_most = omega arith; stands = ap (g.D.Disk.image_at c.sync-2.new.self) (sym here_4) ∙ is_4; last = omega (arith, here_4); passed = p4; still = λ due. ap (g.D.Disk.image_at c.sync-2.new.self) here_4; named = λ failed. cc; whole = λ ok. refl }
+    record { calls = 4; at_most = omega arith; stands = ap (g.D.Disk.image_at c.sync-2.new.self) (sym here_4) ∙ is_4; last = omega (arith, here_4); passed = p4; still = λ due. ap (g.D.Disk.image_at c.sync-2.new.self) here_4; named = λ failed. cc; whole = λ ok. refl; fewer = λ failed. cc }

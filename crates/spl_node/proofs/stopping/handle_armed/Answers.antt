@@ -1,13 +1,15 @@
-use Rattle.std.proofs.Common.{◌≢◌, ◌⊎◌, inr, ◌<◌, List, [], OnOk, sym, ap, subst}
+use Rattle.std.proofs.Common.{◌≢◌, ◌⊎◌, inl, inr, ◌<◌, List, [], OnOk, Some, sym, ap, subst}
 use Rattle.std.specs.Option.{option_copied}
 use Rattle.spl_edge.specs.Causes.{Rose}
-use Rattle.spl_snapshot.specs.Counting.{IfBoth}
+use Rattle.spl_snapshot.specs.Counting.{IfBoth, PairLeaves, chosen}
+use Rattle.spl_snapshot.specs.Pairs.{is_second}
 use Rattle.spl_wire.specs.declared.change.Change.{Change}
 use Rattle.spl_node.specs.Records.{is_record}
 use Rattle.spl_node.specs.Stands.{here_of, cell_of}
-use Rattle.spl_node.specs.Stopping.{PicksMake, cells_stopped, event_changes, fill_of, keeps, passing}
+use Rattle.spl_node.specs.Stopping.{FillsJournal, IsInCheckpoint, PicksMake, StandForEither, cells_stopped, event_changes, fill_of, keeps, passing}
 use Rattle.spl_node.proofs.Disks.{settled_pair}
 use Rattle.spl_node.proofs.Halting.{before_cells, picks_rest}
+use Rattle.spl_node.proofs.Leaving.{rest_told}
 use Rattle.spl_node.proofs.stopping.handle_armed.Goals as goal
 
 pub returns-in-None-clause-left : goal.returns-in-None-clause-left
@@ -22,3 +24,21 @@ returns-in-Some-clause-left g c = subst (λ (xs : List Change). OnOk c.step_arme
 pub returns-in-Some-clause-risen : goal.returns-in-Some-clause-risen
 returns-in-Some-clause-risen g c = subst (λ (xs : List Change). OnOk c.step_armed.result (xs ≢ [] → passing c.args.stopping < 4 → Rose (g.D.Disk.faults c.args.disks.now.first) (g.D.Disk.faults c.step_armed.new.disks.first) ⊎ Rose (g.D.Disk.faults c.args.disks.now.second) (g.D.Disk.faults c.step_armed.new.disks.second)))
     (sym (ap (λ (o : _). event_changes (here_of c.args.node.now) (cell_of c.args.node.now) c.args.circuit.now (option_copied o)) c.in-Some.is)) c.step_armed.ensures.risen
+
+-- ---- whatever the result
+
+pub returns-in-None-clause-leaves : goal.returns-in-None-clause-leaves
+returns-in-None-clause-leaves g c = rest_told (here_of c.args.node.now) (cell_of c.args.node.now) (StandForEither (here_of c.args.node.now) (cell_of c.args.node.now) c.args.circuit.now (event_changes (here_of c.args.node.now) (cell_of c.args.node.now) c.args.circuit.now (option_copied c.args.event))) (g.D.Disk.image_at c.args.disks.now.first) (g.D.Disk.image_at c.args.disks.now.second) (g.D.Disk.moment c.args.disks.now.first) (g.D.Disk.moment c.args.disks.now.second) (g.met.D.StopDisk.tells c.args.disks.now.first) (g.met.D.StopDisk.tells c.args.disks.now.second) (settled_pair is_record c.args.node.now.pairing (g.D.Disk.image_at c.args.disks.now.first (g.D.Disk.moment c.args.disks.now.first)) (g.D.Disk.image_at c.args.disks.now.second (g.D.Disk.moment c.args.disks.now.second)) c.requires.stands.pair).0 (settled_pair is_record c.args.node.now.pairing (g.D.Disk.image_at c.args.disks.now.first (g.D.Disk.moment c.args.disks.now.first)) (g.D.Disk.image_at c.args.disks.now.second (g.D.Disk.moment c.args.disks.now.second)) c.requires.stands.pair).1 (λ x y stands. inl stands) c.requires.stands.cells
+
+pub returns-in-Some-clause-leaves : goal.returns-in-Some-clause-leaves
+returns-in-Some-clause-leaves g c = subst (λ (xs : List Change). PairLeaves (g.D.Disk.image_at c.step_armed.new.disks.first) (g.D.Disk.moment c.step_armed.new.disks.first) (g.D.Disk.moment c.step_armed.new.disks.first) (g.D.Disk.image_at c.step_armed.new.disks.second) (g.D.Disk.moment c.step_armed.new.disks.second) (g.D.Disk.moment c.step_armed.new.disks.second) (StandForEither (here_of c.args.node.now) (cell_of c.args.node.now) c.args.circuit.now xs))
+    (sym (ap (λ (o : _). event_changes (here_of c.args.node.now) (cell_of c.args.node.now) c.args.circuit.now (option_copied o)) c.in-Some.is)) c.step_armed.ensures.leaves
+
+-- ---- in a checkpoint
+
+pub returns-in-None-clause-risen_other : goal.returns-in-None-clause-risen_other
+returns-in-None-clause-risen_other g c = λ full within. absurd (full.0 (ap (λ (o : _). event_changes (here_of c.args.node.now) (cell_of c.args.node.now) c.args.circuit.now (option_copied o)) c.in-None.is))
+
+pub returns-in-Some-clause-risen_other : goal.returns-in-Some-clause-risen_other
+returns-in-Some-clause-risen_other g c = subst (λ (xs : List Change). OnOk c.step_armed.result (FillsJournal (Some c.args.node.now) c.args.circuit.now xs → IsInCheckpoint c.args.stopping → Rose (g.D.Disk.faults (chosen (is_second c.args.node.now.pairing) c.args.disks.now.second c.args.disks.now.first)) (g.D.Disk.faults (chosen (is_second c.args.node.now.pairing) c.step_armed.new.disks.second c.step_armed.new.disks.first))))
+    (sym (ap (λ (o : _). event_changes (here_of c.args.node.now) (cell_of c.args.node.now) c.args.circuit.now (option_copied o)) c.in-Some.is)) c.step_armed.ensures.risen_other

@@ -10,7 +10,9 @@ use Rattle.spl_node.specs.Records.{is_record, record_bytes, site_at}
 use Rattle.spl_node.specs.Stands.{StandFor, here_of, cell_of}
 use Rattle.spl_node.specs.Stopping.{cells_stopped, fill_of, keeps, passing}
 use Rattle.spl_node.proofs.Disks.{settled_pair}
-use Rattle.spl_node.proofs.Halting.{after_cells, append_stopped, four_kept, four_pass, four_passed, has_some, none_or_some, picks_left, some_rose, stand_then}
+use Rattle.spl_node.proofs.Events.{disk_only, no_error}
+use Rattle.spl_node.proofs.Halting.{after_cells, append_stopped, four_kept, four_pass, four_passed, has_some, is_armed, none_of_four, none_or_some, one_of_eight, picks_left, some_rose, stand_then}
+use Rattle.spl_node.proofs.Leaving.{step_leaves}
 use Rattle.spl_node.proofs.stopping.step_armed.Goals as goal
 
 pub returns-in-Ok-clause-left : goal.returns-in-Ok-clause-left
@@ -32,3 +34,22 @@ returns-in-Err-Disk-clause-left g c =
     let some : (plan_of (site_at (here_of c.args.node.now) c.args.circuit.now) (cell_of c.args.node.now c.args.circuit.now) c.args.event.now).changes ≢ [] = some_rose (λ (d : _). g.D.Disk.faults d.first) (λ (d : _). g.D.Disk.faults d.second) c.args.disks.now c.step.new.disks (plan_of (site_at (here_of c.args.node.now) c.args.circuit.now) (cell_of c.args.node.now c.args.circuit.now) c.args.event.now).changes c.step.ensures.no_calls (c.in-Err-Disk.ensures.failed (ap Err c.in-Err-Disk.field-0-is)) in
     append_stopped c.args.stopping (here_of c.args.node.now) c.args.circuit.now (cell_of c.args.node.now) c.args.event.now g.D.Disk.image_at g.D.Disk.moment (is_second c.args.node.now.pairing) c.args.disks.now.first c.args.disks.now.second c.step.new.disks.first c.step.new.disks.second (end_of (journal_in c.args.node.now.pairing)) (sized (record_bytes (record_of c.args.circuit.now (plan_of (site_at (here_of c.args.node.now) c.args.circuit.now) (cell_of c.args.node.now c.args.circuit.now) c.args.event.now).changes))) (g.D.Disk.armed (chosen (is_second c.args.node.now.pairing) c.args.disks.now.first c.args.disks.now.second))
     c.requires.armed c.requires.calls (settled_pair is_record c.args.node.now.pairing (g.D.Disk.image_at c.args.disks.now.first (g.D.Disk.moment c.args.disks.now.first)) (g.D.Disk.image_at c.args.disks.now.second (g.D.Disk.moment c.args.disks.now.second)) c.requires.stands.pair).0 (settled_pair is_record c.args.node.now.pairing (g.D.Disk.image_at c.args.disks.now.first (g.D.Disk.moment c.args.disks.now.first)) (g.D.Disk.image_at c.args.disks.now.second (g.D.Disk.moment c.args.disks.now.second)) c.requires.stands.pair).1 (g.met.D.StopDisk.tells c.args.disks.now.first) (g.met.D.StopDisk.tells c.args.disks.now.second) c.requires.stands.cells (c.in-Err-Disk.ensures.stopped (ap Err c.in-Err-Disk.field-0-is)) (ap Err c.in-Err-Disk.field-0-is) (c.in-Err-Disk.ensures.by_calls some)
+
+-- ---- whatever the result
+
+pub returns-in-Ok-clause-leaves : goal.returns-in-Ok-clause-leaves
+returns-in-Ok-clause-leaves g c = step_leaves (here_of c.args.node.now) (cell_of c.args.node.now) c.args.circuit.now c.args.event.now (is_second c.args.node.now.pairing) (g.D.Disk.image_at c.args.disks.now.first (g.D.Disk.moment c.args.disks.now.first)) (g.D.Disk.image_at c.args.disks.now.second (g.D.Disk.moment c.args.disks.now.second)) (g.D.Disk.image_at c.step.new.disks.first) (g.D.Disk.image_at c.step.new.disks.second) (g.D.Disk.moment c.args.disks.now.first) (g.D.Disk.moment c.step.new.disks.first) (g.D.Disk.moment c.args.disks.now.second) (g.D.Disk.moment c.step.new.disks.second) (g.met.D.StopDisk.tells c.args.disks.now.first) (g.met.D.StopDisk.tells c.args.disks.now.second) c.step.ensures.on_first.later c.step.ensures.on_second.later c.requires.stands.cells c.step.ensures.any_moment
+
+pub returns-in-Err-Disk-clause-leaves : goal.returns-in-Err-Disk-clause-leaves
+returns-in-Err-Disk-clause-leaves g c = step_leaves (here_of c.args.node.now) (cell_of c.args.node.now) c.args.circuit.now c.args.event.now (is_second c.args.node.now.pairing) (g.D.Disk.image_at c.args.disks.now.first (g.D.Disk.moment c.args.disks.now.first)) (g.D.Disk.image_at c.args.disks.now.second (g.D.Disk.moment c.args.disks.now.second)) (g.D.Disk.image_at c.step.new.disks.first) (g.D.Disk.image_at c.step.new.disks.second) (g.D.Disk.moment c.args.disks.now.first) (g.D.Disk.moment c.step.new.disks.first) (g.D.Disk.moment c.args.disks.now.second) (g.D.Disk.moment c.step.new.disks.second) (g.met.D.StopDisk.tells c.args.disks.now.first) (g.met.D.StopDisk.tells c.args.disks.now.second) c.step.ensures.on_first.later c.step.ensures.on_second.later c.requires.stands.cells c.step.ensures.any_moment
+
+pub returns-in-Err-clause-leaves : goal.returns-in-Err-clause-leaves
+returns-in-Err-clause-leaves g c = step_leaves (here_of c.args.node.now) (cell_of c.args.node.now) c.args.circuit.now c.args.event.now (is_second c.args.node.now.pairing) (g.D.Disk.image_at c.args.disks.now.first (g.D.Disk.moment c.args.disks.now.first)) (g.D.Disk.image_at c.args.disks.now.second (g.D.Disk.moment c.args.disks.now.second)) (g.D.Disk.image_at c.step.new.disks.first) (g.D.Disk.image_at c.step.new.disks.second) (g.D.Disk.moment c.args.disks.now.first) (g.D.Disk.moment c.step.new.disks.first) (g.D.Disk.moment c.args.disks.now.second) (g.D.Disk.moment c.step.new.disks.second) (g.met.D.StopDisk.tells c.args.disks.now.first) (g.met.D.StopDisk.tells c.args.disks.now.second) c.step.ensures.on_first.later c.step.ensures.on_second.later c.requires.stands.cells c.step.ensures.any_moment
+
+-- ---- in a checkpoint
+
+pub returns-in-Ok-clause-risen_other : goal.returns-in-Ok-clause-risen_other
+returns-in-Ok-clause-risen_other g c = λ full within. ⊎_elim (λ none. absurd (no_error none)) (λ rose. rose) (c.in-Ok.ensures.risen full.0 full.1 (is_armed c.args.stopping (g.D.Disk.armed (chosen (is_second c.args.node.now.pairing) c.args.disks.now.first c.args.disks.now.second)) (g.D.Disk.moment (chosen (is_second c.args.node.now.pairing) c.args.disks.now.first c.args.disks.now.second)) c.requires.armed) (none_of_four c.args.stopping (g.D.Disk.armed (chosen (is_second c.args.node.now.pairing) c.args.disks.now.first c.args.disks.now.second)) (g.D.Disk.moment (chosen (is_second c.args.node.now.pairing) c.args.disks.now.first c.args.disks.now.second)) c.requires.armed within) (one_of_eight c.args.stopping (g.D.Disk.armed (chosen (is_second c.args.node.now.pairing) c.args.disks.now.second c.args.disks.now.first)) (g.D.Disk.moment (chosen (is_second c.args.node.now.pairing) c.args.disks.now.second c.args.disks.now.first)) c.requires.other within))
+
+pub returns-in-Err-Disk-clause-risen_other : goal.returns-in-Err-Disk-clause-risen_other
+returns-in-Err-Disk-clause-risen_other g c = λ full within. ⊎_elim (λ none. absurd (disk_only c.in-Err-Disk.field-0 c.in-Err-Disk.field-0-is none)) (λ rose. rose) (c.in-Err-Disk.ensures.risen full.0 full.1 (is_armed c.args.stopping (g.D.Disk.armed (chosen (is_second c.args.node.now.pairing) c.args.disks.now.first c.args.disks.now.second)) (g.D.Disk.moment (chosen (is_second c.args.node.now.pairing) c.args.disks.now.first c.args.disks.now.second)) c.requires.armed) (none_of_four c.args.stopping (g.D.Disk.armed (chosen (is_second c.args.node.now.pairing) c.args.disks.now.first c.args.disks.now.second)) (g.D.Disk.moment (chosen (is_second c.args.node.now.pairing) c.args.disks.now.first c.args.disks.now.second)) c.requires.armed within) (one_of_eight c.args.stopping (g.D.Disk.armed (chosen (is_second c.args.node.now.pairing) c.args.disks.now.second c.args.disks.now.first)) (g.D.Disk.moment (chosen (is_second c.args.node.now.pairing) c.args.disks.now.second c.args.disks.now.first)) c.requires.other within))

@@ -1,4 +1,4 @@
-use Rattle.std.proofs.Common.{ℕ, List, Option, Some, IfSome, not, inl, refl, sym, ◌∙◌, ap, subst, rules}
+use Rattle.std.proofs.Common.{ℕ, List, Option, Some, IfSome, not, inl, refl, sym, ◌∙◌, ap, subst, rules, inr, ⊎_elim}
 use Rattle.spl_journal.specs.Gate.{opened}
 use Rattle.spl_journal.specs.Journals.{end_of}
 use Rattle.spl_journal.specs.Records.{sized, IsGood}
@@ -77,6 +77,15 @@ returns-clause-by_calls g c = λ some. rw (← (bytes_are_of (here_of c.args.sel
 
 pub returns-clause-turned : goal.returns-clause-turned
 returns-clause-turned g c = λ some. rw (← (bytes_are_of (here_of c.args.self.now) c.args.circuit.now (cell_of c.args.self.now) c.args.event.now c.in-Ok.done c.in-Ok.ensures.given c.bytes-2.result.now (c.in-Some.is ∙ ap (λ (x : List ℕ). Some x) (sym c.bytes-2.ensures)))) c.in_default-keep.ensures.turned
+
+pub returns-in_default-clause-risen : goal.returns-in_default-clause-risen
+returns-in_default-clause-risen g c = λ some. absurd (some (none_changed (here_of c.args.self.now) c.args.circuit.now (cell_of c.args.self.now) c.args.event.now c.in-Ok.done c.in-Ok.ensures.given c.in_default.is))
+
+pub returns-in-Err-keep-clause-risen : goal.returns-in-Err-keep-clause-risen
+returns-in-Err-keep-clause-risen g c = λ some. rw (← (bytes_are_of (here_of c.args.self.now) c.args.circuit.now (cell_of c.args.self.now) c.args.event.now c.in-Ok.done c.in-Ok.ensures.given c.bytes-2.result.now (c.in-Some.is ∙ ap (λ (x : List ℕ). Some x) (sym c.bytes-2.ensures)))) (λ full armed none one. ⊎_elim (λ memory. inl (same_error memory)) (λ rose. inr rose) (c.in-Err-keep.ensures.risen full armed none one))
+
+pub returns-clause-risen : goal.returns-clause-risen
+returns-clause-risen g c = λ some. rw (← (bytes_are_of (here_of c.args.self.now) c.args.circuit.now (cell_of c.args.self.now) c.args.event.now c.in-Ok.done c.in-Ok.ensures.given c.bytes-2.result.now (c.in-Some.is ∙ ap (λ (x : List ℕ). Some x) (sym c.bytes-2.ensures)))) (λ full armed none one. ⊎_elim (λ none. absurd (no_error none)) (λ rose. inr rose) (c.in_default-keep.ensures.risen full armed none one))
 
 -- ---- what a stop leaves
 

@@ -2,7 +2,7 @@ use Rattle.std.proofs.Common.{◌++◌, ◌∷◌, []}
 use Rattle.spl_model.specs.Outcomes.{by_rule}
 use Rattle.spl_world.specs.Disks.{images}
 use Rattle.spl_world.specs.Views.{ids_of}
-use Rattle.spl_world.proofs.HoldingLines.{held_halt, picks_halt, unarmed_halt}
+use Rattle.spl_world.proofs.HoldingLines.{held_halt, higher_halt, picks_halt, unarmed_halt}
 use Rattle.spl_world.proofs.Results.{at_ok, ok_is, err_is}
 use Rattle.spl_world.proofs.Standing.{stands_still, within_line, within_stops}
 use Rattle.spl_world.proofs.world.World.halt.Goals as goal
@@ -34,3 +34,8 @@ returns-clause-held g c = λ start before stands held.
 
 pub returns-clause-unarmed : goal.returns-clause-unarmed
 returns-clause-unarmed g c = λ off. unarmed_halt c.halt_line-answered.result c.args.line.now _ _ _ c.halt_line-answered.ensures.slot off
+
+pub returns-clause-risen_other : goal.returns-clause-risen_other
+returns-clause-risen_other g c = λ i s at before stands e within.
+    higher_halt g.D.Disk.image_at g.D.Disk.moment g.D.Disk.faults g.D.Disk.armed g.D.Disk.picks before c.args.line.now c.args.self.now c.halt_line-answered.new.self c.args.pairs.now.items c.halt_line-answered.new.pairs.items c.halt_line-answered.ensures.ids c.halt_line-answered.ensures.places
+    c.halt_line-answered.result stands (c.halt_line-answered.ensures.stands before stands) c.halt_line-answered.ensures.slot i s at e within

@@ -7,9 +7,12 @@ use Rattle.spl_node.specs.declared.stopping.Stopping.TheVariants as stopping
 use Rattle.spl_sched.specs.Grammar.{step_circuit, step_node}
 use Rattle.spl_sched.specs.declared.line.Line.TheVariants as line
 use Rattle.spl_wire.specs.declared.answer.Answer.TheVariants as answer
+use Rattle.spl_world.specs.Disks.{images}
 use Rattle.spl_world.specs.Halts.{said}
 use Rattle.spl_world.specs.Views.{Holds, seen}
 use Rattle.spl_world.proofs.Cutting.{cut_step, fail_from_one, halted_each, keeps_cut, keeps_fail, said_so, seat_at}
+use Rattle.spl_world.proofs.EndingLines.{ended_cut, ended_fail, ended_stop}
+use Rattle.spl_world.proofs.Results.{on_err}
 use Rattle.spl_world.proofs.Slots.{same_at}
 use Rattle.spl_world.proofs.world.World.halt_node.Goals as goal
 
@@ -31,7 +34,7 @@ returns-in_ok-stop_at-in-Stop-clause-slot g c =
         there = z.1;
         id_is = same_at ss c.slot-slot.result z.0 c.in-Stop.node z.1 c.slot-slot.ensures.at;
         stop = c.in_ok-stop_at-in-Stop.ensures.picks z.0 z.1;
-        risen = λ worlds h torn. absurd torn;
+        risen = λ worlds h. tt;
       };
     })
 
@@ -73,3 +76,17 @@ returns-in_ok-bit-in-Fail-clause-holds g c = λ k m h.
 
 pub returns-in_ok-bit-in-Fail-clause-slot : goal.returns-in_ok-bit-in-Fail-clause-slot
 returns-in_ok-bit-in-Fail-clause-slot g c = rw (c.in-Fail.is) (record { here = step_node c.in-Fail.step; named = λ n. refl; slot = c.in_ok-bit-in-Fail.ensures.slot })
+
+-- ---- want of memory
+
+pub returns-in_err-stop_at-in-Stop-clause-ended : goal.returns-in_err-stop_at-in-Stop-clause-ended
+returns-in_err-stop_at-in-Stop-clause-ended g c = λ worlds h. on_err c.from_residual.result
+    (ended_stop worlds (seen g.D.Disk.image_at g.D.Disk.moment c.args.self.now c.args.pairs.now.items) c.requires.sits h (images g.D.Disk.image_at g.D.Disk.moment c.stop_at.new.pairs.items) c.args.line.now c.in-Stop.node (c.in_err-stop_at-in-Stop.ensures.ended c.in-Stop.node (worlds c.in-Stop.node) (h c.in-Stop.node)))
+
+pub returns-in_err-bit-in-Cut-clause-ended : goal.returns-in_err-bit-in-Cut-clause-ended
+returns-in_err-bit-in-Cut-clause-ended g c = λ worlds h. on_err c.from_residual-in_err-bit-in-Cut.result
+    (rw (c.in-Cut.is) (ended_cut worlds (seen g.D.Disk.image_at g.D.Disk.moment c.args.self.now c.args.pairs.now.items) c.requires.sits h (images g.D.Disk.image_at g.D.Disk.moment c.halt_step.new.pairs.items) c.in-Cut.calls c.in-Cut.fill c.in-Cut.step (c.in_err-bit-in-Cut.ensures.ended (worlds (step_circuit c.in-Cut.step)) (h (step_circuit c.in-Cut.step)))))
+
+pub returns-in_err-bit-in-Fail-clause-ended : goal.returns-in_err-bit-in-Fail-clause-ended
+returns-in_err-bit-in-Fail-clause-ended g c = λ worlds h. on_err c.from_residual-in_err-bit-in-Fail.result
+    (rw (c.in-Fail.is) (ended_fail worlds (seen g.D.Disk.image_at g.D.Disk.moment c.args.self.now c.args.pairs.now.items) c.requires.sits h (images g.D.Disk.image_at g.D.Disk.moment c.halt_step-in-Fail.new.pairs.items) c.in-Fail.call c.in-Fail.step (c.in_err-bit-in-Fail.ensures.ended (worlds (step_circuit c.in-Fail.step)) (h (step_circuit c.in-Fail.step)))))

@@ -7,9 +7,10 @@ use Rattle.spl_sched.specs.Grammar.{step_circuit, step_node}
 use Rattle.spl_world.specs.Disks.{images}
 use Rattle.spl_world.specs.Held.{PickUnarmed}
 use Rattle.spl_world.specs.Views.{ids_of, seen, slot_up}
-use Rattle.spl_world.proofs.Cutting.{bit_down, bit_up, down_not_torn, seat_at, slot_down}
+use Rattle.spl_world.proofs.Cutting.{bit_down, bit_up, down_not_filled, down_not_torn, seat_at, slot_down}
 use Rattle.spl_world.proofs.Picking.{stops_none}
 use Rattle.spl_world.proofs.Powering.{halt_none, stop_none}
+use Rattle.spl_world.proofs.Results.{on_err}
 use Rattle.spl_world.proofs.Slots.{same_at}
 use Rattle.spl_world.proofs.Steps.{node_known}
 use Rattle.spl_world.proofs.world.World.halt_step.Goals as goal
@@ -46,7 +47,10 @@ returns-then-not-is_up-clause-slot g c =
       there = z.1;
       id_is = same_at ss c.slot-slot.result z.0 (step_node s) z.1 at;
       stop = stops_none (PickUnarmed (Some c.args.stopping)) (slot_up z.0) z.0.position _ (slot_down ss c.slot-slot.result z.0 z.1 (c.is_up.ensures.down c.if-not-is_up.true));
-      risen = λ worlds h torn. absurd (down_not_torn (worlds (step_circuit s)) c.args.stopping s (sym (c.is_up.ensures.world (images g.D.Disk.image_at g.D.Disk.moment c.args.pairs.now.items) (step_circuit s) (worlds (step_circuit s)) (step_node s) (h (step_circuit s)) at) ∙ c.if-not-is_up.true) torn);
+      risen = λ worlds h. record {
+        torn = λ torn. absurd (down_not_torn (worlds (step_circuit s)) c.args.stopping s (sym (c.is_up.ensures.world (images g.D.Disk.image_at g.D.Disk.moment c.args.pairs.now.items) (step_circuit s) (worlds (step_circuit s)) (step_node s) (h (step_circuit s)) at) ∙ c.if-not-is_up.true) torn);
+        checkpoint = λ full. absurd (down_not_filled z.0.host (step_circuit s) (step_plan (worlds (step_circuit s)) s).changes (slot_down ss c.slot-slot.result z.0 z.1 (c.is_up.ensures.down c.if-not-is_up.true)) full.1);
+      };
     }
 
 -- ---- one that is up
@@ -71,5 +75,8 @@ returns-clause-slot g c =
       there = z.1;
       id_is = same_at ss c.slot-slot.result z.0 (step_node s) z.1 at;
       stop = c.in_ok-changes.ensures.picks z.0 z.1;
-      risen = λ worlds h torn. c.in_ok-changes.ensures.risen z.0 (worlds (step_circuit s)) z.1 (h (step_circuit s)) torn;
+      risen = λ worlds h. c.in_ok-changes.ensures.risen z.0 (worlds (step_circuit s)) z.1 (h (step_circuit s));
     }
+
+pub returns-in_err-changes-clause-ended : goal.returns-in_err-changes-clause-ended
+returns-in_err-changes-clause-ended g c = λ m h. on_err c.from_residual.result (c.in_err-changes.ensures.ended m h)

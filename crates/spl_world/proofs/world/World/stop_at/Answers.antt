@@ -8,10 +8,11 @@ use Rattle.spl_world.specs.Held.{PickUnarmed, StopsAt}
 use Rattle.spl_world.specs.Kept.{NodeView}
 use Rattle.spl_world.specs.Views.{Holds, Nodes, seen, slot_id, slot_up}
 use Rattle.spl_world.specs.declared.slot.Slot.{Slot}
+use Rattle.spl_world.proofs.Ending.{own_stopped}
 use Rattle.spl_world.proofs.Handling.{pair_below, own_stands, own_view, own_sits, own_by}
 use Rattle.spl_world.proofs.Picking.{one_forgets, one_stops}
 use Rattle.spl_world.proofs.Powering.{stops}
-use Rattle.spl_world.proofs.Results.{at_ok, ok_both}
+use Rattle.spl_world.proofs.Results.{at_ok, ok_both, on_err}
 use Rattle.spl_world.proofs.Slots.{same_at, same_ids, same_places}
 use Rattle.spl_world.proofs.world.World.stop_at.Goals as goal
 
@@ -91,3 +92,13 @@ returns-clause-onward g c =
     let below = pair_below g.D.Disk.image_at g.D.Disk.moment ss ps c.args.slot s c.requires.sits there c.position.result c.position.ensures in
     let pair = slice_get_read ps (length ps) c.position.result c.index_mut-disks.result.now refl below c.index_mut-disks.ensures.value in
     one_forgets g.D.Disk.image_at g.D.Disk.moment g.D.Disk.faults g.D.Disk.armed g.D.Disk.picks ps c.position.result c.index_mut-disks.result.now c.stop.new.disks pair c.stop.ensures.first_stays c.stop.ensures.second_stays
+
+pub returns-clause-ended : goal.returns-clause-ended
+returns-clause-ended g c = λ k m h.
+    let ss = c.args.self.now.slots.items in
+    let ps = c.args.pairs.now.items in
+    let s = c.index_mut-here.result.now in
+    let there = slice_get_read ss (length ss) c.args.slot s refl c.requires.below c.index_mut-here.ensures.value in
+    let below = pair_below g.D.Disk.image_at g.D.Disk.moment ss ps c.args.slot s c.requires.sits there c.position.result c.position.ensures in
+    let pair = slice_get_read ps (length ps) c.position.result c.index_mut-disks.result.now refl below c.index_mut-disks.ensures.value in
+    on_err c.stop.result (own_stopped g.D.Disk.image_at g.D.Disk.moment ss ps c.args.slot s c.requires.sits there c.position.result c.position.ensures c.index_mut-disks.result.now pair c.stop.new.self c.stop.new.disks k m h c.stop.ensures.leaves)

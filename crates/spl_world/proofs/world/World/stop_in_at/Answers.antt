@@ -1,20 +1,22 @@
-use Rattle.std.proofs.Common.{◌≡◌, ◌∙◌, arith, ap, refl, sym, subst, length, Some, slice_set, true≢false}
+use Rattle.std.proofs.Common.{◌≡◌, ◌∙◌, arith, ap, refl, sym, subst, length, List, Some, slice_set, true≢false}
 use Rattle.std.proofs.lemmas.Option.{slice_get_read}
 use Rattle.std.specs.Option.{option_copied}
 use Rattle.spl_circuit.specs.Nodes.{NodeId}
-use Rattle.spl_model.specs.Worlds.{Halts, Stops, happens}
-use Rattle.spl_node.specs.Stopping.{cells_stopped, event_changes, has_changes, keeps}
+use Rattle.spl_model.specs.Worlds.{Halts, Stops, happens, step_plan}
+use Rattle.spl_node.specs.Stopping.{FillsHost, cells_stopped, event_changes, has_changes, keeps}
 use Rattle.spl_rules.specs.Changes.{stopped_cell}
-use Rattle.spl_world.specs.Disks.{RoseAt, bench, images, images_of}
-use Rattle.spl_world.specs.Held.{PickUnarmed, StopsAt}
+use Rattle.spl_world.specs.Disks.{bench, images, images_of}
+use Rattle.spl_wire.specs.declared.change.Change.{Change}
+use Rattle.spl_world.specs.Held.{FailsBy, PickUnarmed, StopsAt}
 use Rattle.spl_world.specs.Kept.{NodeView}
 use Rattle.spl_world.specs.Views.{Holds, Nodes, node_view, seen, slot_id, slot_up}
 use Rattle.spl_world.specs.declared.slot.Slot.{Slot}
 use Rattle.spl_world.proofs.Cutting.{changes_here, halted_here, stopped_else}
+use Rattle.spl_world.proofs.Ending.{own_halted}
 use Rattle.spl_world.proofs.Handling.{pair_below, own_stands, own_view, own_sits, own_by}
-use Rattle.spl_world.proofs.Picking.{one_forgets, one_rose, one_stops}
+use Rattle.spl_world.proofs.Picking.{one_forgets, one_higher, one_rose, one_stops}
 use Rattle.spl_world.proofs.Powering.{halt_holds, stop_holds}
-use Rattle.spl_world.proofs.Results.{at_ok, ok_both, when_ok}
+use Rattle.spl_world.proofs.Results.{at_ok, ok_both, on_err, when_ok}
 use Rattle.spl_world.proofs.Slots.{id_at, same_at, same_ids, same_places}
 use Rattle.spl_world.proofs.Up.{is_there_up}
 use Rattle.spl_world.proofs.world.World.stop_in_at.Goals as goal
@@ -135,9 +137,12 @@ returns-clause-risen g c = λ t m step here at about is h.
     let id = same_at ss c.args.slot s _ there at in
     let same : s ≡ t = (let e : Some s ≡ Some t = sym there ∙ here in cc) in
     let changes = ap (λ (v : NodeView). event_changes (slot_id s) v.cells c.args.circuit.now (option_copied c.args.event)) (sym view) ∙ changes_here nodes c.args.slot s m step c.args.circuit.now (option_copied c.args.event) h there id about is in
-    at_ok c.stop_in.result (λ rose torn. subst (λ (u : Slot). RoseAt u.position (bench g.D.Disk.image_at g.D.Disk.moment g.D.Disk.faults g.D.Disk.armed g.D.Disk.picks ps) (bench g.D.Disk.image_at g.D.Disk.moment g.D.Disk.faults g.D.Disk.armed g.D.Disk.picks (slice_set ps c.position.result c.stop_in.new.disks))) same
-    (one_rose g.D.Disk.image_at g.D.Disk.moment g.D.Disk.faults g.D.Disk.armed g.D.Disk.picks ps c.position.result c.index_mut-disks.result.now c.stop_in.new.disks pair s.position c.position.ensures
-    (rose (λ none. torn.1 (sym changes ∙ none)) torn.0))) c.stop_in.ensures.risen
+    ok_both c.stop_in.result (λ rose higher. subst (λ (u : Slot). FailsBy m c.args.stopping step u (bench g.D.Disk.image_at g.D.Disk.moment g.D.Disk.faults g.D.Disk.armed g.D.Disk.picks ps) (bench g.D.Disk.image_at g.D.Disk.moment g.D.Disk.faults g.D.Disk.armed g.D.Disk.picks (slice_set ps c.position.result c.stop_in.new.disks))) same
+    (record {
+      torn = λ torn. one_rose g.D.Disk.image_at g.D.Disk.moment g.D.Disk.faults g.D.Disk.armed g.D.Disk.picks ps c.position.result c.index_mut-disks.result.now c.stop_in.new.disks pair s.position c.position.ensures (rose (λ none. torn.1 (sym changes ∙ none)) torn.0);
+      checkpoint = λ full. one_higher g.D.Disk.image_at g.D.Disk.moment g.D.Disk.faults g.D.Disk.armed g.D.Disk.picks ps c.position.result c.index_mut-disks.result.now c.stop_in.new.disks pair s.position c.position.ensures
+          (higher (subst (λ (xs : List Change). FillsHost s.host c.args.circuit.now xs) (sym changes) (subst (λ (d : NodeId). FillsHost s.host d (step_plan m step).changes) about full.1)) full.0);
+    })) c.stop_in.ensures.risen c.stop_in.ensures.risen_other
 
 pub returns-clause-onward : goal.returns-clause-onward
 returns-clause-onward g c =
@@ -148,3 +153,14 @@ returns-clause-onward g c =
     let below = pair_below g.D.Disk.image_at g.D.Disk.moment ss ps c.args.slot s c.requires.sits there c.position.result c.position.ensures in
     let pair = slice_get_read ps (length ps) c.position.result c.index_mut-disks.result.now refl below c.index_mut-disks.ensures.value in
     one_forgets g.D.Disk.image_at g.D.Disk.moment g.D.Disk.faults g.D.Disk.armed g.D.Disk.picks ps c.position.result c.index_mut-disks.result.now c.stop_in.new.disks pair c.stop_in.ensures.first_stays c.stop_in.ensures.second_stays
+
+pub returns-clause-ended : goal.returns-clause-ended
+returns-clause-ended g c = λ m step at about is h.
+    let ss = c.args.self.now.slots.items in
+    let ps = c.args.pairs.now.items in
+    let s = c.index_mut-here.result.now in
+    let there = slice_get_read ss (length ss) c.args.slot s refl c.requires.below c.index_mut-here.ensures.value in
+    let below = pair_below g.D.Disk.image_at g.D.Disk.moment ss ps c.args.slot s c.requires.sits there c.position.result c.position.ensures in
+    let pair = slice_get_read ps (length ps) c.position.result c.index_mut-disks.result.now refl below c.index_mut-disks.ensures.value in
+    on_err c.stop_in.result (own_halted g.D.Disk.image_at g.D.Disk.moment ss ps c.args.slot s c.requires.sits there c.position.result c.position.ensures c.index_mut-disks.result.now pair c.stop_in.new.self c.stop_in.new.disks
+    c.args.circuit.now (option_copied c.args.event) m step h (is_there_up ss c.args.slot s there c.requires.up) (same_at ss c.args.slot s _ there at) about is c.stop_in.ensures.leaves)

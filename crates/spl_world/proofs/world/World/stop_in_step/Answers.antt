@@ -6,6 +6,8 @@ use Rattle.spl_world.specs.Disks.{images}
 use Rattle.spl_world.specs.Halts.{IsEventOf}
 use Rattle.spl_world.specs.Views.{seen}
 use Rattle.spl_world.proofs.Delivery.{event_at, event_delivered}
+use Rattle.spl_world.proofs.Ending.{still_ended}
+use Rattle.spl_world.proofs.Results.{on_err}
 use Rattle.spl_world.proofs.Steps.{number_back, pair_apart, step_for}
 use Rattle.spl_world.proofs.Up.{node_up}
 use Rattle.spl_world.proofs.world.World.stop_in_step.Goals as goal
@@ -41,6 +43,15 @@ returns-in-At-clause-risen g c = λ t m there h.
     let here = rw (c.in-At.is) at c.requires.at in
     let is = event_at m n circuit c.in-At.event (node_up circuit m (seen g.D.Disk.image_at g.D.Disk.moment c.args.self.now c.args.pairs.now.items) c.args.slot n k here c.requires.up) in
     rw (c.in-At.is) (c.stop_in_at.ensures.risen t m (step.At n circuit c.in-At.event) there here refl is k)
+
+pub returns-in-At-clause-ended : goal.returns-in-At-clause-ended
+returns-in-At-clause-ended g c = λ m h.
+    let n = c.in-At.node in
+    let circuit = c.in-At.circuit in
+    let k = rw (c.in-At.is) at h in
+    let here = rw (c.in-At.is) at c.requires.at in
+    let is = event_at m n circuit c.in-At.event (node_up circuit m (seen g.D.Disk.image_at g.D.Disk.moment c.args.self.now c.args.pairs.now.items) c.args.slot n k here c.requires.up) in
+    rw (c.in-At.is) (c.stop_in_at.ensures.ended m (step.At n circuit c.in-At.event) here refl is k)
 
 -- ---- a delivery
 
@@ -123,3 +134,30 @@ returns-in-None-clause-risen g c = λ t m there h.
     let found = sym c.in-None.is ∙ c.in_ok-delivery-in-Deliver.ensures.event (images g.D.Disk.image_at g.D.Disk.moment c.args.pairs.now.items) m from to k c.slot-sender.ensures.at here in
     let is = subst (λ (j : ℕ). IsEventOf None m (step.Deliver from to circuit j)) back (event_delivered m from to circuit (c.in-Deliver.number - 1) None found (node_up circuit m (seen g.D.Disk.image_at g.D.Disk.moment c.args.self.now c.args.pairs.now.items) c.args.slot to k here c.requires.up)) in
     rw (c.in-Deliver.is) (c.stop_in_at-in-None.ensures.risen t m (step.Deliver from to circuit c.in-Deliver.number) there here refl is k)
+
+pub returns-in-Some-clause-ended : goal.returns-in-Some-clause-ended
+returns-in-Some-clause-ended g c = λ m h.
+    let from = c.in-Deliver.from in
+    let to = c.in-Deliver.to in
+    let circuit = c.in-Deliver.circuit in
+    let k = rw (c.in-Deliver.is) at h in
+    let here = rw (c.in-Deliver.is) at c.requires.at in
+    let back = number_back from to circuit c.in-Deliver.number (rw (c.in-Deliver.is) at c.requires.fits) in
+    let found = sym c.in-Some.is ∙ c.in_ok-delivery-in-Deliver.ensures.event (images g.D.Disk.image_at g.D.Disk.moment c.args.pairs.now.items) m from to k c.slot-sender.ensures.at here in
+    let is = subst (λ (j : ℕ). IsEventOf (Some c.in-Some.event) m (step.Deliver from to circuit j)) back (event_delivered m from to circuit (c.in-Deliver.number - 1) (Some c.in-Some.event) found (node_up circuit m (seen g.D.Disk.image_at g.D.Disk.moment c.args.self.now c.args.pairs.now.items) c.args.slot to k here c.requires.up)) in
+    rw (c.in-Deliver.is) (c.stop_in_at-in-Some.ensures.ended m (step.Deliver from to circuit c.in-Deliver.number) here refl is k)
+
+pub returns-in-None-clause-ended : goal.returns-in-None-clause-ended
+returns-in-None-clause-ended g c = λ m h.
+    let from = c.in-Deliver.from in
+    let to = c.in-Deliver.to in
+    let circuit = c.in-Deliver.circuit in
+    let k = rw (c.in-Deliver.is) at h in
+    let here = rw (c.in-Deliver.is) at c.requires.at in
+    let back = number_back from to circuit c.in-Deliver.number (rw (c.in-Deliver.is) at c.requires.fits) in
+    let found = sym c.in-None.is ∙ c.in_ok-delivery-in-Deliver.ensures.event (images g.D.Disk.image_at g.D.Disk.moment c.args.pairs.now.items) m from to k c.slot-sender.ensures.at here in
+    let is = subst (λ (j : ℕ). IsEventOf None m (step.Deliver from to circuit j)) back (event_delivered m from to circuit (c.in-Deliver.number - 1) None found (node_up circuit m (seen g.D.Disk.image_at g.D.Disk.moment c.args.self.now c.args.pairs.now.items) c.args.slot to k here c.requires.up)) in
+    rw (c.in-Deliver.is) (c.stop_in_at-in-None.ensures.ended m (step.Deliver from to circuit c.in-Deliver.number) here refl is k)
+
+pub returns-in_err-delivery-in-Deliver-clause-ended : goal.returns-in_err-delivery-in-Deliver-clause-ended
+returns-in_err-delivery-in-Deliver-clause-ended g c = λ m h. on_err c.from_residual.result (still_ended _ _ _ _)

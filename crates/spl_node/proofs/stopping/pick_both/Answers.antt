@@ -1,0 +1,16 @@
+use Rattle.std.proofs.Common.{refl, ap, ◌∙◌, arith}
+use Rattle.spl_node.proofs.Changing.{at_err}
+use Rattle.spl_node.proofs.Leaving.{no_more_asked, no_more_picked, no_more_still}
+use Rattle.spl_node.proofs.stopping.pick_both.Goals as goal
+
+pub returns-in_err-pick-clause-first_left : goal.returns-in_err-pick-clause-first_left
+returns-in_err-pick-clause-first_left g c = no_more_still _ _ (ap (g.D.Disk.image_at c.pick.new.self) c.in_err-pick.ensures.err.0 ∙ c.pick.ensures.past (g.D.Disk.moment c.args.disks.now.first) (omega arith))
+
+pub returns-in_err-pick-clause-second_left : goal.returns-in_err-pick-clause-second_left
+returns-in_err-pick-clause-second_left g c = no_more_still _ _ refl
+
+pub returns-clause-first_left : goal.returns-clause-first_left
+returns-clause-first_left g c = no_more_picked _ _ _ _ _ _ _ c.in_ok-pick.ensures.ok
+
+pub returns-clause-second_left : goal.returns-clause-second_left
+returns-clause-second_left g c = no_more_asked c.pick-2.result _ _ _ _ _ _ _ _ _ c.pick-2.ensures.ok c.pick-2.ensures.past (at_err c.pick-2.result (λ same. same.0) c.pick-2.ensures.err)
