@@ -1,5 +1,5 @@
 -- The words of a command line.
-use Rattle.std.proofs.Common.{◌≡◌, ℕ, List, [], ◌∷◌, length, get_or, map, arith, Global, String, string_bytes, codes}
+use Rattle.std.proofs.Common.{◌≡◌, ℕ, List, [], ◌∷◌, Option, Some, length, get_or, map, sym, ◌∙◌, subst, arith, Global, String, string_bytes, codes}
 use Rattle.spl_app.specs.Schedule.{IsReplay}
 
 pub replays : (words : List (String Global)) (first : String Global) → length words ≡ 3 → first ≡ get_or words 0 first → ((string_bytes first ≡ codes "replay") → IsReplay (map string_bytes words)) × (IsReplay (map string_bytes words) → string_bytes first ≡ codes "replay")
@@ -16,3 +16,10 @@ gens (x ∷ []) first batches seed n k long f b s named is same = absurd (omega 
 gens (x ∷ y ∷ []) first batches seed n k long f b s named is same = absurd (omega arith)
 gens (x ∷ y ∷ z ∷ []) first batches seed n k long f b s named is same = cc
 gens (x ∷ y ∷ z ∷ w ∷ words) first batches seed n k long f b s named is same = absurd (omega arith)
+
+same_pair : (x y : ℕ × ℕ) → Some x ≡ Some y → x ≡ y
+same_pair x y same = cc
+
+-- words of which these numbers were read name no others
+pub only_gen : (P : ℕ → ℕ → Type 0) (found : Option (ℕ × ℕ)) (n seed m k : ℕ) → found ≡ Some (m, k) → found ≡ Some (n, seed) → P m k → P n seed
+only_gen P found n seed m k one two h = subst (λ (x : ℕ × ℕ). P x.0 x.1) (same_pair (m, k) (n, seed) (sym one ∙ two)) h

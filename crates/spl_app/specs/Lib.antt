@@ -8,3 +8,4 @@ pub mod Registered
 pub mod Statuses
 pub mod Feed
 pub mod Command
+pub mod Generated

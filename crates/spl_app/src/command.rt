@@ -1,6 +1,7 @@
 //! The words of a command line.
 ghost use Rattle.std.specs.Prelude.{◌≡◌, ◌<◌, ◌^◌, ◌↔◌, ℕ, Some, IfSome, IsTrue, decimal, map, string_bytes};
-ghost use Rattle.spl_app.specs.Command.{IsCommand, IsGen};
+ghost use Rattle.spl_app.specs.Command.{IsGen};
+ghost use Rattle.spl_app.specs.Schedule.{IsReplay};
 
 use itoa::Buffer;
 use spl_gen::MOST_BATCHES;
@@ -36,12 +37,12 @@ pub fn read_gen(words: &[String]) -> Option<(u16, u64)>
     }
 }
 
-/// Whether there is such a command.
-pub fn is_command(words: &[String]) -> bool
-    ensures { IsTrue result ↔ IsCommand (map string_bytes words.now) }
+/// Whether the words are `replay` and two more.
+pub fn is_replay(words: &[String]) -> bool
+    ensures { IsTrue result ↔ IsReplay (map string_bytes words.now) }
 {
     match words {
-        [first, _, _] => first.as_str() == "replay" || read_gen(words).is_some(),
+        [first, _, _] => first.as_str() == "replay",
         _ => false,
     }
 }

@@ -1,19 +1,17 @@
 //! Runs generated schedules.
-ghost use Rattle.std.specs.Prelude.{◌≡◌, ◌<◌, ◌≤◌, ◌+◌, ◌-◌, ◌*◌, ◌/◌, ℕ, IfOk, IsTrue, length, take};
+ghost use Rattle.std.specs.Prelude.{◌≡◌, ◌<◌, ◌≤◌, ◌⊎◌, ◌+◌, ◌-◌, ◌*◌, ◌/◌, ℕ, false, IfOk, IsTrue, length, take};
 ghost use Rattle.std.specs.Io.KnownBytes.{Appends};
 ghost use Rattle.spl_base.specs.Ids.{is_node_id};
 ghost use Rattle.spl_circuit.specs.Nodes.{Node};
 ghost use Rattle.spl_edge.specs.Causes.{Rose, AppendsPart};
 ghost use Rattle.spl_gen.specs.Circuits.{nodes};
-ghost use Rattle.spl_gen.specs.Generated.{text as text_of};
 ghost use Rattle.spl_gen.specs.declared.generate.TheConstants.{MOST_BATCHES};
-ghost use Rattle.spl_registry.specs.declared.fault.RegistryFault.{RegistryFault};
 ghost use Rattle.spl_registry.specs.Nodes.{made};
 ghost use Rattle.spl_world.specs.Disks.{AllUnarmed, AreBlank, NoneForgotten, bench, images, images_at};
 ghost use Rattle.spl_world.specs.Held.{AllUnpicked, AreHeld};
-ghost use Rattle.spl_app.specs.Lines.{lines_of};
-ghost use Rattle.spl_app.specs.Registered.{HasFailedAt};
-ghost use Rattle.spl_app.specs.Run.{HasFront, IsRun, Past, StopsAt, answers_behind, ran};
+ghost use Rattle.spl_app.specs.Generated.{generated_lines, is_of_reading, last_answers};
+ghost use Rattle.spl_app.specs.Registered.{HasFailedAt, SomeFailed};
+ghost use Rattle.spl_app.specs.Run.{HasFront, IsRun, Past, StopsAt, ran};
 
 use crate::Status;
 use crate::fault::{RunEnd, RunFault};
@@ -76,20 +74,19 @@ pub fn run_generated<W: Sink, D: StopDisk>(
     requires blank { (i : ℕ) → i < 4 → AreBlank (images_at (images D.image_at D.moment pairs.old.items) i) }
     requires unpicked { AllUnpicked (bench D.image_at D.moment D.faults D.armed D.picks pairs.old.items) }
     ensures words { result ≡ Status.Usage → ⊥ }
-    ensures registry { (fault : RegistryFault) → result ≡ Status.BadRegistry fault → ⊥ }
-    ensures bad { (line : ℕ) → result ≡ Status.BadSchedule line → ⊥ }
-    ensures read { result ≡ Status.ReadFault → ⊥ }
-    ensures long { result ≡ Status.TooLong → ⊥ }
-    ensures ok { result ≡ Status.Ok → IsRun nodes (lines_of (text_of n seed)) × Appends (W.written out.old) (W.written out.new) (answers_behind (length (lines_of (text_of n seed)) - 9) nodes (lines_of (text_of n seed))) }
-    ensures many { (which : ℕ) → result ≡ Status.TooMany which → (number : ℕ) × StopsAt nodes (Past which) (lines_of (text_of n seed)) number
-        × Appends (W.written out.old) (W.written out.new) (answers_behind (length (lines_of (text_of n seed)) - 9) nodes (take (number - 1) (lines_of (text_of n seed)))) }
-    ensures disk { (node : Node) → result ≡ Status.DiskFault node → HasFront nodes (lines_of (text_of n seed)) (λ ls. Appends (W.written out.old) (W.written out.new) (answers_behind (length (lines_of (text_of n seed)) - 9) nodes ls))
+    ensures status { is_of_reading result ≡ false }
+    ensures ok { result ≡ Status.Ok → IsRun nodes (generated_lines n seed) × Appends (W.written out.old) (W.written out.new) (last_answers n seed (generated_lines n seed)) }
+    ensures many { (which : ℕ) → result ≡ Status.TooMany which → (number : ℕ) × StopsAt nodes (Past which) (generated_lines n seed) number
+        × Appends (W.written out.old) (W.written out.new) (last_answers n seed (take (number - 1) (generated_lines n seed))) }
+    ensures disk { (node : Node) → result ≡ Status.DiskFault node → HasFront nodes (generated_lines n seed) (λ ls. Appends (W.written out.old) (W.written out.new) (last_answers n seed ls))
         × HasFailedAt (made nodes) node (bench D.image_at D.moment D.faults D.armed D.picks pairs.old.items) (bench D.image_at D.moment D.faults D.armed D.picks pairs.new.items) }
     ensures write { result ≡ Status.WriteFault → Rose (W.faults out.old) (W.faults out.new) }
-    ensures held_ok { result ≡ Status.Ok → AreHeld (bench D.image_at D.moment D.faults D.armed D.picks pairs.old.items) nodes (ran (lines_of (text_of n seed))) (made nodes) (bench D.image_at D.moment D.faults D.armed D.picks pairs.new.items) }
+    ensures held_ok { result ≡ Status.Ok → AreHeld (bench D.image_at D.moment D.faults D.armed D.picks pairs.old.items) nodes (ran (generated_lines n seed)) (made nodes) (bench D.image_at D.moment D.faults D.armed D.picks pairs.new.items) }
+    ensures complete { IsRun nodes (generated_lines n seed) → (Rose (W.faults out.old) (W.faults out.new) → ⊥)
+        → (SomeFailed (bench D.image_at D.moment D.faults D.armed D.picks pairs.old.items) (bench D.image_at D.moment D.faults D.armed D.picks pairs.new.items) → ⊥) → (result ≡ Status.Ok) ⊎ (result ≡ Status.NoMemory) }
     ensures onward { NoneForgotten (bench D.image_at D.moment D.faults D.armed D.picks pairs.old.items) (bench D.image_at D.moment D.faults D.armed D.picks pairs.new.items) }
     ensures unarmed { (result ≡ Status.NoMemory → ⊥) → AllUnarmed (bench D.image_at D.moment D.faults D.armed D.picks pairs.new.items) }
-    ensures part { AppendsPart (W.written out.old) (W.written out.new) (answers_behind (length (lines_of (text_of n seed)) - 9) nodes (lines_of (text_of n seed))) }
+    ensures part { AppendsPart (W.written out.old) (W.written out.new) (last_answers n seed (generated_lines n seed)) }
 {
     generated_texts_are_lines();
     let Ok(registry) = registry(alloc) else {

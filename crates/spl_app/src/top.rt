@@ -1,5 +1,5 @@
 //! The call that does all that the program does.
-ghost use Rattle.std.specs.Prelude.{◌≡◌, ◌<◌, ◌≤◌, ◌↔◌, ◌⊎◌, ◌-◌, ℕ, [], Err, IsTrue, take, length, map, string_bytes};
+ghost use Rattle.std.specs.Prelude.{◌≡◌, ◌<◌, ◌≤◌, ◌↔◌, ◌⊎◌, ◌-◌, ℕ, [], false, Err, take, length, map, string_bytes};
 ghost use Rattle.std.specs.Io.{appended_bytes};
 ghost use Rattle.std.specs.Io.KnownBytes.{Appends, Consumes, IsAtEnd};
 ghost use Rattle.spl_edge.specs.Causes.{Rose, AppendsPart};
@@ -7,34 +7,33 @@ ghost use Rattle.spl_app.specs.Lines.{lines_of, rest_of, longest_line, limit};
 ghost use Rattle.spl_agreement.specs.Agreement.{Agree};
 ghost use Rattle.spl_agreement.specs.OneList.{TellOneList};
 ghost use Rattle.spl_registry.specs.declared.fault.RegistryFault.{RegistryFault};
+ghost use Rattle.spl_registry.specs.Nodes.{made};
 ghost use Rattle.spl_registry.specs.Tree.{registry_of};
 ghost use Rattle.spl_circuit.specs.Nodes.{Node};
+ghost use Rattle.spl_gen.specs.Circuits.{nodes as gen_nodes};
 ghost use Rattle.spl_world.specs.Disks.{AllUnarmed, AreBlank, NoneForgotten, bench as bench_of, images, images_at};
-ghost use Rattle.spl_world.specs.Held.{AllUnpicked};
-ghost use Rattle.spl_app.specs.Run.{HasFront, IsRun, ran, answers};
-ghost use Rattle.spl_app.specs.Registered.{HasFailedIn, Hold, IsRegistryText, SomeFailed, nodes_of};
+ghost use Rattle.spl_world.specs.Held.{AllUnpicked, AreHeld};
+ghost use Rattle.spl_app.specs.Command.{IsCommand, IsGen};
+ghost use Rattle.spl_app.specs.Generated.{generated_lines, is_of_reading, last_answers};
+ghost use Rattle.spl_app.specs.Run.{HasFront, IsRun, Past, StopsAt, ran, answers};
+ghost use Rattle.spl_app.specs.Registered.{HasFailedAt, HasFailedIn, Hold, IsRegistryText, SomeFailed, nodes_of};
 ghost use Rattle.spl_app.specs.Schedule.{IsReplay, IsSchedule, IsBadAt, HasTooMany, had, run_of};
 
 use crate::Status;
 use crate::agree::runs_agree;
+use crate::command::{is_replay, read_gen};
 use crate::fault::NodesFault;
+use crate::generating::run_generated;
 use crate::registered::read_registry;
 use crate::replay::replay;
 use spl_edge::{Bench, Sink, Source, StopDisk};
 use std::alloc::Global;
 
-fn is_replay(words: &[String]) -> bool
-    ensures { IsTrue result ↔ IsReplay (map string_bytes words.now) }
-{
-    match words {
-        [first, _, _] => first.as_str() == "replay",
-        _ => false,
-    }
-}
-
 /// Does what the words ask for: `replay REGISTRY SCHEDULE` reads the registry, runs the schedule line
 /// by line over its nodes, and writes each answer with the number of its line. The names are for the
-/// caller, who opens them. Want of memory can end any run; then a front of the answers is written.
+/// caller, who opens them. `gen N SEED` runs the schedule of N batches that is made from the seed, and
+/// writes the answers to its last nine lines alone. Want of memory can end any run; then a front of the
+/// answers is written.
 pub fn splinter<S: Source, W: Sink, D: StopDisk>(
     alloc: Global,
     words: &[String],
@@ -47,8 +46,8 @@ pub fn splinter<S: Source, W: Sink, D: StopDisk>(
     requires blank { (i : ℕ) → i < 16 → AreBlank (images_at (images D.image_at D.moment bench.old.pairs.items) i) }
     requires unpicked { AllUnpicked (bench_of D.image_at D.moment D.faults D.armed D.picks bench.old.pairs.items) }
 
-    // Exactly where the words aren't this command. Nothing is written.
-    ensures usage { (result ≡ Status.Usage) ↔ (IsReplay (map string_bytes words.now) → ⊥) }
+    // Exactly where the words are no command. Nothing is written.
+    ensures usage { (result ≡ Status.Usage) ↔ (IsCommand (map string_bytes words.now) → ⊥) }
     ensures nothing { result ≡ Status.Usage → Appends (W.written out.old) (W.written out.new) [] }
 
     // The registry was read to its end, and its bytes have this fault. Nothing is written.
@@ -64,7 +63,7 @@ pub fn splinter<S: Source, W: Sink, D: StopDisk>(
 
     // Both sources were read to their ends, they gave a registry and a schedule over its nodes, and
     // the answers to all of its lines are written.
-    ensures ok { result ≡ Status.Ok → let text = appended_bytes (S.taken registry.old) (S.taken registry.new) in
+    ensures ok { IsReplay (map string_bytes words.now) → result ≡ Status.Ok → let text = appended_bytes (S.taken registry.old) (S.taken registry.new) in
         let given = appended_bytes (S.taken schedule.old) (S.taken schedule.new) in
         IsRegistryText text × IsAtEnd (S.left registry.new) × IsSchedule (nodes_of text) given × IsAtEnd (S.left schedule.new)
         × Appends (W.written out.old) (W.written out.new) (answers (nodes_of text) (lines_of given)) }
@@ -78,7 +77,7 @@ pub fn splinter<S: Source, W: Sink, D: StopDisk>(
 
     // The run has too many events with a line, where this is 1, or too many stops, where it is 2, and
     // not before. The answers to the lines before it are written.
-    ensures many { (which : ℕ) → result ≡ Status.TooMany which → let text = appended_bytes (S.taken registry.old) (S.taken registry.new) in
+    ensures many { (which : ℕ) → IsReplay (map string_bytes words.now) → result ≡ Status.TooMany which → let text = appended_bytes (S.taken registry.old) (S.taken registry.new) in
         let given = appended_bytes (S.taken schedule.old) (S.taken schedule.new) in
         IsRegistryText text × HasTooMany (nodes_of text) given (W.written out.old) (W.written out.new) which }
 
@@ -92,7 +91,7 @@ pub fn splinter<S: Source, W: Sink, D: StopDisk>(
 
     // A disk of this node of the registry has failed since it was last picked from. The answers to
     // the lines before are written.
-    ensures disk { (node : Node) → result ≡ Status.DiskFault node → let text = appended_bytes (S.taken registry.old) (S.taken registry.new) in
+    ensures disk { (node : Node) → IsReplay (map string_bytes words.now) → result ≡ Status.DiskFault node → let text = appended_bytes (S.taken registry.old) (S.taken registry.new) in
         let given = appended_bytes (S.taken schedule.old) (S.taken schedule.new) in
         IsRegistryText text × HasFailedIn text node (bench_of D.image_at D.moment D.faults D.armed D.picks bench.old.pairs.items) (bench_of D.image_at D.moment D.faults D.armed D.picks bench.new.pairs.items)
         × HasFront (nodes_of text) (run_of given) (λ ls. Appends (W.written out.old) (W.written out.new) (answers (nodes_of text) ls)) }
@@ -123,7 +122,7 @@ pub fn splinter<S: Source, W: Sink, D: StopDisk>(
 
     // With every status a front of the answers is written, and what was taken is what the sources
     // had.
-    ensures part { AppendsPart (W.written out.old) (W.written out.new)
+    ensures part { IsReplay (map string_bytes words.now) → AppendsPart (W.written out.old) (W.written out.new)
         (answers (nodes_of (appended_bytes (S.taken registry.old) (S.taken registry.new))) (run_of (appended_bytes (S.taken schedule.old) (S.taken schedule.new)))) }
     ensures nodes_taken { Consumes (S.left registry.old) (S.left registry.new) (appended_bytes (S.taken registry.old) (S.taken registry.new)) }
     ensures taken { Consumes (S.left schedule.old) (S.left schedule.new) (appended_bytes (S.taken schedule.old) (S.taken schedule.new)) }
@@ -133,7 +132,7 @@ pub fn splinter<S: Source, W: Sink, D: StopDisk>(
     // and stopped it, and nowhere else, armed and filled as the line says. The two images stand for
     // what the node kept behind that line; where the line stopped an event with changes before its
     // record was written, the count of faults of one of the two had risen since the pick before.
-    ensures held_ok { result ≡ Status.Ok → let text = appended_bytes (S.taken registry.old) (S.taken registry.new) in
+    ensures held_ok { IsReplay (map string_bytes words.now) → result ≡ Status.Ok → let text = appended_bytes (S.taken registry.old) (S.taken registry.new) in
         let given = appended_bytes (S.taken schedule.old) (S.taken schedule.new) in
         Hold text (lines_of given) (bench_of D.image_at D.moment D.faults D.armed D.picks bench.old.pairs.items) (bench_of D.image_at D.moment D.faults D.armed D.picks bench.new.pairs.items) }
     ensures held_bad { (line : ℕ) → result ≡ Status.BadSchedule line → let text = appended_bytes (S.taken registry.old) (S.taken registry.new) in
@@ -158,8 +157,44 @@ pub fn splinter<S: Source, W: Sink, D: StopDisk>(
         → let text = had (S.left registry.old) (appended_bytes (S.taken registry.old) (S.taken registry.new)) in
         let given = had (S.left schedule.old) (appended_bytes (S.taken schedule.old) (S.taken schedule.new)) in
         (SomeFailed (bench_of D.image_at D.moment D.faults D.armed D.picks bench.old.pairs.items) (bench_of D.image_at D.moment D.faults D.armed D.picks bench.new.pairs.items) → ⊥) → IsRegistryText text → IsSchedule (nodes_of text) given → (result ≡ Status.Ok) ⊎ (result ≡ Status.NoMemory) }
+    // A generated schedule reads neither source, so no status comes that blames one.
+    ensures gen_unread { (n seed : ℕ) → IsGen (map string_bytes words.now) n seed → (registry.new ≡ registry.old) × (schedule.new ≡ schedule.old) }
+    ensures gen_status { (n seed : ℕ) → IsGen (map string_bytes words.now) n seed → is_of_reading result ≡ false }
+
+    // All its lines ran over its nodes, and the answers to the last nine are written.
+    ensures gen_ok { (n seed : ℕ) → IsGen (map string_bytes words.now) n seed → result ≡ Status.Ok
+        → IsRun gen_nodes (generated_lines n seed) × Appends (W.written out.old) (W.written out.new) (last_answers n seed (generated_lines n seed)) }
+
+    // Too many events or stops, or a disk that failed, as above. The answers to those of the last
+    // nine lines that stand before are written.
+    ensures gen_many { (n seed which : ℕ) → IsGen (map string_bytes words.now) n seed → result ≡ Status.TooMany which
+        → (number : ℕ) × StopsAt gen_nodes (Past which) (generated_lines n seed) number
+        × Appends (W.written out.old) (W.written out.new) (last_answers n seed (take (number - 1) (generated_lines n seed))) }
+    ensures gen_disk { (n seed : ℕ) (node : Node) → IsGen (map string_bytes words.now) n seed → result ≡ Status.DiskFault node
+        → HasFailedAt (made gen_nodes) node (bench_of D.image_at D.moment D.faults D.armed D.picks bench.old.pairs.items) (bench_of D.image_at D.moment D.faults D.armed D.picks bench.new.pairs.items)
+        × HasFront gen_nodes (generated_lines n seed) (λ ls. Appends (W.written out.old) (W.written out.new) (last_answers n seed ls)) }
+
+    // With every status a front of those answers is written.
+    ensures gen_part { (n seed : ℕ) → IsGen (map string_bytes words.now) n seed
+        → AppendsPart (W.written out.old) (W.written out.new) (last_answers n seed (generated_lines n seed)) }
+
+    // At the end the disks of its nodes hold what the nodes keep behind its lines, and its members
+    // agree, as above.
+    ensures gen_held { (n seed : ℕ) → IsGen (map string_bytes words.now) n seed → result ≡ Status.Ok
+        → AreHeld (bench_of D.image_at D.moment D.faults D.armed D.picks bench.old.pairs.items) gen_nodes (ran (generated_lines n seed)) (made gen_nodes) (bench_of D.image_at D.moment D.faults D.armed D.picks bench.new.pairs.items) }
+    ensures gen_agreed { (n seed : ℕ) → Agree gen_nodes (ran (generated_lines n seed)) }
+    ensures gen_told { (n seed : ℕ) → TellOneList gen_nodes (ran (generated_lines n seed)) }
+
+    // Where its lines are within the limits of events and stops, and neither the sink failed nor a
+    // disk since it was last picked from, it doesn't give up by itself.
+    ensures gen_complete { (n seed : ℕ) → IsGen (map string_bytes words.now) n seed → IsRun gen_nodes (generated_lines n seed)
+        → (Rose (W.faults out.old) (W.faults out.new) → ⊥)
+        → (SomeFailed (bench_of D.image_at D.moment D.faults D.armed D.picks bench.old.pairs.items) (bench_of D.image_at D.moment D.faults D.armed D.picks bench.new.pairs.items) → ⊥) → (result ≡ Status.Ok) ⊎ (result ≡ Status.NoMemory) }
 {
     runs_agree();
+    if let Some((n, seed)) = read_gen(words) {
+        return run_generated(alloc, n, seed, out, &mut bench.pairs);
+    }
     if !is_replay(words) {
         return Status::Usage;
     }

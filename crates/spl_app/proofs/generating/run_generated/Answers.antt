@@ -13,6 +13,7 @@ use Rattle.spl_app.specs.Registered.{HasFailedAt}
 use Rattle.spl_app.specs.Run.{HasFront, IsRun, Past, StopsAt, answers_behind, ran}
 use Rattle.spl_app.specs.Schedule.{IsBadAt, run_of}
 use Rattle.spl_app.proofs.Behinds.{both}
+use Rattle.spl_app.proofs.Events.{no_stop}
 use Rattle.spl_app.proofs.Wholes.{all_run, few, front_in, never_bad, given_of, part_in, same_before, sorted_nodes, stops_in}
 use Rattle.spl_app.proofs.generating.run_generated.Goals as goal
 
@@ -55,6 +56,22 @@ returns-in-Err-TooMany-clause-many g c = λ which is.
     let number = c.in-Err-TooMany.line in
     let found = both (λ (ns : List Node) (k : ℕ). StopsAt ns (Past which) (run_of (appended_bytes (take c.new-source.result.at c.new-source.result.text) (take c.run_lines.new.source.at c.run_lines.new.source.text))) number × Appends (g.W.Sink.written c.args.out.now) (g.W.Sink.written c.run_lines.new.out) (answers_behind k ns (take (number - 1) (run_of (appended_bytes (take c.new-source.result.at c.new-source.result.text) (take c.run_lines.new.source.at c.run_lines.new.source.text)))))) ids skips (c.in-Err-TooMany.ensures.many number which (search rules)) in
     (number, stops_in nodes (text c.args.n c.args.seed) (appended_bytes (take c.new-source.result.at c.new-source.result.text) (take c.run_lines.new.source.at c.run_lines.new.source.text)) (drop c.run_lines.new.source.at c.run_lines.new.source.text) is short (Past which) number found.0, subst (λ (ls : List (List ℕ)). Appends (g.W.Sink.written c.args.out.now) (g.W.Sink.written c.run_lines.new.out) (answers_behind (length (lines_of (text c.args.n c.args.seed)) - 9) nodes ls)) (sym (same_before nodes (text c.args.n c.args.seed) (appended_bytes (take c.new-source.result.at c.new-source.result.text) (take c.run_lines.new.source.at c.run_lines.new.source.text)) (drop c.run_lines.new.source.at c.run_lines.new.source.text) is short (Past which) number found.0)) found.1)
+
+pub returns-in-Err-TooMany-clause-complete : goal.returns-in-Err-TooMany-clause-complete
+returns-in-Err-TooMany-clause-complete g c = λ run wrote calm.
+    let which = c.in-Err-TooMany.which in
+    let lt : c.args.n < 2 ^ 64 = omega arith in
+    let count = c.generated_texts_are_lines.ensures.count c.args.n c.args.seed lt in
+    let short = c.generated_texts_are_lines.ensures.short c.args.n c.args.seed (omega arith) in
+    let ids = sorted_nodes c.in-Ok.registry c.in-Ok.ensures in
+    let skips : c.first_lines-skip.result ≡ length (lines_of (text c.args.n c.args.seed)) - 9 = omega (arith, count, c.first_lines-skip.ensures) in
+    let is = given_of (text c.args.n c.args.seed) _ _ (appended_bytes (take c.new-source.result.at c.new-source.result.text) (take c.run_lines.new.source.at c.run_lines.new.source.text)) (drop c.run_lines.new.source.at c.run_lines.new.source.text) c.new-source.ensures.at (c.new-source.ensures.text ∙ c.in-Ok-schedule.ensures) c.run_lines.ensures.taken in
+    let number = c.in-Err-TooMany.line in
+    let found = both (λ (ns : List Node) (k : ℕ). StopsAt ns (Past which) (run_of (appended_bytes (take c.new-source.result.at c.new-source.result.text) (take c.run_lines.new.source.at c.run_lines.new.source.text))) number × Appends (g.W.Sink.written c.args.out.now) (g.W.Sink.written c.run_lines.new.out) (answers_behind k ns (take (number - 1) (run_of (appended_bytes (take c.new-source.result.at c.new-source.result.text) (take c.run_lines.new.source.at c.run_lines.new.source.text)))))) ids skips (c.in-Err-TooMany.ensures.many number which (search rules)) in
+    absurd (no_stop nodes (Past which) (lines_of (text c.args.n c.args.seed)) number run (stops_in nodes (text c.args.n c.args.seed) (appended_bytes (take c.new-source.result.at c.new-source.result.text) (take c.run_lines.new.source.at c.run_lines.new.source.text)) (drop c.run_lines.new.source.at c.run_lines.new.source.text) is short (Past which) number found.0))
+
+pub returns-in-Err-Disk-clause-complete : goal.returns-in-Err-Disk-clause-complete
+returns-in-Err-Disk-clause-complete g c = λ run wrote calm. absurd (calm (c.in-Err-Disk.slot, c.in-Err-Disk.ensures.failed c.in-Err-Disk.slot (search rules)))
 
 pub returns-in-Err-Disk-clause-disk : goal.returns-in-Err-Disk-clause-disk
 returns-in-Err-Disk-clause-disk g c = λ node is.

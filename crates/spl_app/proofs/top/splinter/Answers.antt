@@ -1,40 +1,45 @@
-use Rattle.std.proofs.Common.{◌-◌, List, [], take, refl, sym, ◌∙◌, ap, subst, inl, inr, rules}
+use Rattle.std.proofs.Common.{◌≡◌, ◌⊎◌, ◌-◌, ℕ, List, [], take, refl, sym, ◌∙◌, ap, subst, inl, inr, rules}
 use Rattle.std.specs.Io.{appended_bytes}
 use Rattle.std.specs.Io.KnownBytes.{Appends, IsAtEnd}
 use Rattle.std.proofs.KnownBytes.{Appends-nil}
 use Rattle.spl_edge.specs.Causes.{AppendsPart}
 use Rattle.spl_circuit.specs.Nodes.{Node}
+use Rattle.spl_gen.specs.Circuits.{nodes as gen_nodes}
+use Rattle.spl_registry.specs.Nodes.{made}
+use Rattle.spl_app.specs.declared.status.Status.TheVariants as status
+use Rattle.spl_app.specs.Generated.{generated_lines, last_answers}
 use Rattle.spl_app.specs.Lines.{lines_of}
 use Rattle.spl_world.specs.Disks.{bench}
 use Rattle.spl_world.specs.Held.{AreHeld}
-use Rattle.spl_app.specs.Run.{HasFront, IsRun, ran, answers}
+use Rattle.spl_app.specs.Run.{HasFront, IsRun, Past, StopsAt, ran, answers}
 use Rattle.spl_app.specs.Schedule.{IsSchedule, IsBadAt, HasTooMany, had, run_of}
-use Rattle.spl_app.specs.Registered.{nodes_in, nodes_of}
+use Rattle.spl_app.specs.Registered.{HasFailedAt, nodes_in, nodes_of}
 use Rattle.spl_app.proofs.Benches.{none_itself, unpicked_unarmed}
 use Rattle.spl_app.proofs.Given.{all_had}
 use Rattle.spl_app.proofs.Registries.{no_fault, had_no_fault, had_not_long}
+use Rattle.spl_app.proofs.Words.{only_gen}
 use Rattle.spl_app.proofs.top.splinter.Goals as goal
 
 pub returns-then-not-is_replay-clause-part : goal.returns-then-not-is_replay-clause-part
-returns-then-not-is_replay-clause-part g c = ([], _, refl, Appends-nil _)
+returns-then-not-is_replay-clause-part g c = λ form. ([], _, refl, Appends-nil _)
 
 pub returns-in-Err-Bad-clause-part : goal.returns-in-Err-Bad-clause-part
-returns-in-Err-Bad-clause-part g c = ([], _, refl, Appends-nil _)
+returns-in-Err-Bad-clause-part g c = λ form. ([], _, refl, Appends-nil _)
 
 pub returns-in-Err-Read-clause-part : goal.returns-in-Err-Read-clause-part
-returns-in-Err-Read-clause-part g c = ([], _, refl, Appends-nil _)
+returns-in-Err-Read-clause-part g c = λ form. ([], _, refl, Appends-nil _)
 
 pub returns-in-Err-TooLong-clause-part : goal.returns-in-Err-TooLong-clause-part
-returns-in-Err-TooLong-clause-part g c = ([], _, refl, Appends-nil _)
+returns-in-Err-TooLong-clause-part g c = λ form. ([], _, refl, Appends-nil _)
 
 pub returns-in-Err-NoMemory-clause-part : goal.returns-in-Err-NoMemory-clause-part
-returns-in-Err-NoMemory-clause-part g c = ([], _, refl, Appends-nil _)
+returns-in-Err-NoMemory-clause-part g c = λ form. ([], _, refl, Appends-nil _)
 
 pub returns-in-Ok-clause-faulty : goal.returns-in-Ok-clause-faulty
 returns-in-Ok-clause-faulty g c = λ fault form sound bad short. absurd (no_fault _ fault c.in-Ok.ensures.text.spells bad)
 
 pub returns-in-Ok-clause-ok : goal.returns-in-Ok-clause-ok
-returns-in-Ok-clause-ok g c = λ is.
+returns-in-Ok-clause-ok g c = λ form is.
     let given = appended_bytes (g.S.Source.taken c.args.schedule.now) (g.S.Source.taken c.replay.new.schedule) in
     let (schedule, ended, wrote) = subst (λ (ns : List Node). IsSchedule ns given × IsAtEnd (g.S.Source.left c.replay.new.schedule) × Appends (g.W.Sink.written c.args.out.now) (g.W.Sink.written c.replay.new.out) (answers ns (lines_of given))) (sym (ap nodes_in c.in-Ok.ensures.entries)) (c.replay.ensures.ok is) in
     (c.in-Ok.ensures.text, c.in-Ok.ensures.ended, schedule, ended, wrote)
@@ -46,7 +51,7 @@ returns-in-Ok-clause-bad g c = λ line is.
     (c.in-Ok.ensures.text, at, wrote)
 
 pub returns-in-Ok-clause-many : goal.returns-in-Ok-clause-many
-returns-in-Ok-clause-many g c = λ which is.
+returns-in-Ok-clause-many g c = λ which form is.
     let given = appended_bytes (g.S.Source.taken c.args.schedule.now) (g.S.Source.taken c.replay.new.schedule) in
     let found = c.replay.ensures.many which is in
     (c.in-Ok.ensures.text, subst (λ (ns : List Node). HasTooMany ns given (g.W.Sink.written c.args.out.now) (g.W.Sink.written c.replay.new.out) which) (sym (ap nodes_in c.in-Ok.ensures.entries)) found)
@@ -66,7 +71,7 @@ returns-in-Ok-clause-long g c = λ is.
     inr (found.0, c.in-Ok.ensures.text, run, found.2, wrote)
 
 pub returns-in-Ok-clause-part : goal.returns-in-Ok-clause-part
-returns-in-Ok-clause-part g c =
+returns-in-Ok-clause-part g c = λ form.
     let given = appended_bytes (g.S.Source.taken c.args.schedule.now) (g.S.Source.taken c.replay.new.schedule) in
     subst (λ (ns : List Node). AppendsPart (g.W.Sink.written c.args.out.now) (g.W.Sink.written c.replay.new.out) (answers ns (run_of given))) (sym (ap nodes_in c.in-Ok.ensures.entries)) c.replay.ensures.part
 
@@ -106,14 +111,14 @@ pub returns-in-Err-NoMemory-clause-onward : goal.returns-in-Err-NoMemory-clause-
 returns-in-Err-NoMemory-clause-onward g c = none_itself _
 
 pub returns-in-Ok-clause-disk : goal.returns-in-Ok-clause-disk
-returns-in-Ok-clause-disk g c = λ node is.
+returns-in-Ok-clause-disk g c = λ node form is.
     let given = appended_bytes (g.S.Source.taken c.args.schedule.now) (g.S.Source.taken c.replay.new.schedule) in
     let found = c.replay.ensures.disk node is in
     let front = subst (λ (ns : List Node). HasFront ns (run_of given) (λ ls. Appends (g.W.Sink.written c.args.out.now) (g.W.Sink.written c.replay.new.out) (answers ns ls))) (sym (ap nodes_in c.in-Ok.ensures.entries)) found.0 in
     (c.in-Ok.ensures.text, record { entries = c.in-Ok.found; spelled = c.in-Ok.ensures.entries; failed = found.1 }, front)
 
 pub returns-in-Ok-clause-held_ok : goal.returns-in-Ok-clause-held_ok
-returns-in-Ok-clause-held_ok g c = λ is.
+returns-in-Ok-clause-held_ok g c = λ form is.
     let given = appended_bytes (g.S.Source.taken c.args.schedule.now) (g.S.Source.taken c.replay.new.schedule) in
     record { entries = c.in-Ok.found; spelled = c.in-Ok.ensures.entries; held = subst (λ (ns : List Node). AreHeld (bench g.D.Disk.image_at g.D.Disk.moment g.D.Disk.faults g.D.Disk.armed g.D.Disk.picks c.args.bench.now.pairs.items) ns (ran (lines_of given)) c.in-Ok.found (bench g.D.Disk.image_at g.D.Disk.moment g.D.Disk.faults g.D.Disk.armed g.D.Disk.picks c.replay.new.pairs.items)) (sym (ap nodes_in c.in-Ok.ensures.entries)) (c.replay.ensures.held_ok is) }
 
@@ -143,3 +148,19 @@ returns-in-Err-Read-clause-unarmed g c = λ room. unpicked_unarmed _ c.requires.
 
 pub returns-in-Err-TooLong-clause-unarmed : goal.returns-in-Err-TooLong-clause-unarmed
 returns-in-Err-TooLong-clause-unarmed g c = λ room. unpicked_unarmed _ c.requires.unpicked
+
+pub returns-in-Some-clause-gen_many : goal.returns-in-Some-clause-gen_many
+returns-in-Some-clause-gen_many g c = λ n seed which gen is.
+    only_gen (λ (n seed : ℕ). (number : ℕ) × StopsAt gen_nodes (Past which) (generated_lines n seed) number × Appends (g.W.Sink.written c.args.out.now) (g.W.Sink.written c.run_generated.new.out) (last_answers n seed (take (number - 1) (generated_lines n seed)))) c.read_gen.result n seed c.in-Some.n c.in-Some.seed (search rules) (c.read_gen.ensures.all n seed gen) (c.run_generated.ensures.many which is)
+
+pub returns-in-Some-clause-gen_disk : goal.returns-in-Some-clause-gen_disk
+returns-in-Some-clause-gen_disk g c = λ n seed node gen is.
+    only_gen (λ (n seed : ℕ). HasFailedAt (made gen_nodes) node (bench g.D.Disk.image_at g.D.Disk.moment g.D.Disk.faults g.D.Disk.armed g.D.Disk.picks c.args.bench.now.pairs.items) (bench g.D.Disk.image_at g.D.Disk.moment g.D.Disk.faults g.D.Disk.armed g.D.Disk.picks c.run_generated.new.pairs.items) × HasFront gen_nodes (generated_lines n seed) (λ ls. Appends (g.W.Sink.written c.args.out.now) (g.W.Sink.written c.run_generated.new.out) (last_answers n seed ls))) c.read_gen.result n seed c.in-Some.n c.in-Some.seed (search rules) (c.read_gen.ensures.all n seed gen) (let found = c.run_generated.ensures.disk node is in (found.1, found.0))
+
+pub returns-in-Some-clause-gen_held : goal.returns-in-Some-clause-gen_held
+returns-in-Some-clause-gen_held g c = λ n seed gen is.
+    only_gen (λ (n seed : ℕ). AreHeld (bench g.D.Disk.image_at g.D.Disk.moment g.D.Disk.faults g.D.Disk.armed g.D.Disk.picks c.args.bench.now.pairs.items) gen_nodes (ran (generated_lines n seed)) (made gen_nodes) (bench g.D.Disk.image_at g.D.Disk.moment g.D.Disk.faults g.D.Disk.armed g.D.Disk.picks c.run_generated.new.pairs.items)) c.read_gen.result n seed c.in-Some.n c.in-Some.seed (search rules) (c.read_gen.ensures.all n seed gen) (c.run_generated.ensures.held_ok is)
+
+pub returns-in-Some-clause-gen_complete : goal.returns-in-Some-clause-gen_complete
+returns-in-Some-clause-gen_complete g c = λ n seed gen run wrote calm.
+    only_gen (λ (n seed : ℕ). IsRun gen_nodes (generated_lines n seed) → (c.run_generated.result ≡ status.Ok) ⊎ (c.run_generated.result ≡ status.NoMemory)) c.read_gen.result n seed c.in-Some.n c.in-Some.seed (search rules) (c.read_gen.ensures.all n seed gen) (λ run. c.run_generated.ensures.complete run wrote calm) run

@@ -1,7 +1,7 @@
 use Rattle.std.proofs.Common.{arith, rules}
 use Rattle.std.proofs.lemmas.Grind.{common_steps}
 use Rattle.spl_app.proofs.Words.{replays}
-use Rattle.spl_app.proofs.top.is_replay.Goals as goal
+use Rattle.spl_app.proofs.command.is_replay.Goals as goal
 
 pub returns-in-len3 : goal.returns-in-len3
 returns-in-len3 c =
