@@ -1,4 +1,6 @@
 pub mod Streams
 pub mod Wires
+pub mod Carrying
 pub mod Messages
 pub mod Meetings
+pub mod Honest

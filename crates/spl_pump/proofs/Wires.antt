@@ -1,5 +1,5 @@
 -- What is put where messages are carried.
-use Rattle.std.proofs.Common.{◌≡◌, ◌≢◌, ◌<◌, ◌⊎◌, inl, inr, ℕ, Bool, true, false, ◌&&◌, eqb, cond, List, [], ◌++◌, length, min, max, Option, Some, None, append_assoc, append-nil, refl, sym, ap, subst, ◌∙◌, arith}
+use Rattle.std.proofs.Common.{◌≡◌, ◌<◌, ◌⊎◌, inl, inr, ℕ, Bool, true, false, ◌&&◌, eqb, cond, List, [], ◌++◌, Option, Some, None, append_assoc, append-nil, refl, sym, ap, ◌∙◌}
 use Rattle.std.specs.Io.KnownBytes.{append_known}
 use Rattle.std.proofs.lemmas.Bool.{eqb-true, eqb-false, eq-eqb}
 use Rattle.spl_edge.specs.Fabrics.{AreTaken, IsOtherPair}
@@ -7,7 +7,7 @@ use Rattle.spl_registry.specs.Nodes.{Entry}
 use Rattle.spl_pump.specs.Moves.{Streams, Grows, GrowsPart, IsLie}
 use Rattle.spl_pump.specs.declared.fault.PumpFault.{PumpFault}
 use Rattle.spl_pump.specs.declared.fault.PumpFault.TheVariants.{Link, Lied, NoMemory}
-use Rattle.spl_pump.specs.Wires.{Puts, PutsPart, AllTaken, Ends, LiesOf, on_pair, hands, hands_if, have_met, message_frame, carried_bytes, Pumped, Carried}
+use Rattle.spl_pump.specs.Wires.{Puts, PutsPart, AllTaken, Ends, LiesOf, on_pair, hands, hands_if}
 use Rattle.spl_pump.proofs.Streams.{known_same, known_more}
 
 pub puts_nothing : (a : Streams) → Puts (λ x y. []) a a
@@ -16,11 +16,11 @@ puts_nothing a = λ x y p q. sym (known_same (a x y))
 pub puts_nothing_part : (a : Streams) → PutsPart (λ x y. []) a a
 puts_nothing_part a = λ x y p q. ([], [], refl, sym (known_same (a x y)))
 
-tells : (b : Bool) → (b ≡ true) ⊎ (b ≡ false)
+pub tells : (b : Bool) → (b ≡ true) ⊎ (b ≡ false)
 tells true = inl refl
 tells false = inr refl
 
-never : true ≡ false → ⊥
+pub never : true ≡ false → ⊥
 never e = cc
 
 -- a pair is this one, or another
@@ -32,10 +32,10 @@ pair_cases a b from to = go (tells (eqb a from)) (tells (eqb b to))
     go (inl p) (inr q) = inr (λ e f. absurd (eqb-false b to q f), rw (p, q) refl)
     go (inr p) q = inr (λ e f. absurd (eqb-false a from p e), rw p refl)
 
-on_this : (from to : ℕ) (xs : List ℕ) → on_pair from to xs from to ≡ xs
+pub on_this : (from to : ℕ) (xs : List ℕ) → on_pair from to xs from to ≡ xs
 on_this from to xs = rw (eq-eqb from from refl, eq-eqb to to refl) refl
 
-on_other : (from to a b : ℕ) (xs : List ℕ) → cond (eqb a from && eqb b to) true false ≡ false → on_pair from to xs a b ≡ []
+pub on_other : (from to a b : ℕ) (xs : List ℕ) → cond (eqb a from && eqb b to) true false ≡ false → on_pair from to xs a b ≡ []
 on_other from to a b xs h = go (tells (eqb a from && eqb b to))
   where
     go : (eqb a from && eqb b to ≡ true) ⊎ (eqb a from && eqb b to ≡ false) → on_pair from to xs a b ≡ []
@@ -95,20 +95,3 @@ hands_when es low high a b met h all = rw h all
 
 pub hands_part_when : (es : List Entry) (low high : ℕ) (a b : Streams) (met : Bool) → met ≡ false → PutsPart (hands es low high) a b → PutsPart (hands_if es met low high) a b
 hands_part_when es low high a b met h all = rw h all
-
--- what a message puts, by the frames of the two nodes and its own
-module _ (p : Pumped) (c : Carried) (low high : ℕ) (old mid new : Streams) (l : low ≡ min c.from c.to) (h : high ≡ max c.from c.to) where
-  abbrev first : ℕ → ℕ → List ℕ
-  first = hands_if p.entries (have_met p.met (min c.from c.to) (max c.from c.to)) (min c.from c.to) (max c.from c.to)
-
-  pub carried_puts : Puts (hands_if p.entries (have_met p.met low high) low high) old mid → Puts (on_pair c.from c.to (message_frame c)) mid new → Puts (carried_bytes p c) old new
-  carried_puts met sent = puts_more first (on_pair c.from c.to (message_frame c)) old mid new
-      (subst (λ (x : ℕ). Puts (hands_if p.entries (have_met p.met x (max c.from c.to)) x (max c.from c.to)) old mid) l (subst (λ (y : ℕ). Puts (hands_if p.entries (have_met p.met low y) low y) old mid) h met)) sent
-
-  pub carried_met : PutsPart (hands_if p.entries (have_met p.met low high) low high) old mid → PutsPart (carried_bytes p c) old mid
-  carried_met met = part_no_more first (on_pair c.from c.to (message_frame c)) old mid
-      (subst (λ (x : ℕ). PutsPart (hands_if p.entries (have_met p.met x (max c.from c.to)) x (max c.from c.to)) old mid) l (subst (λ (y : ℕ). PutsPart (hands_if p.entries (have_met p.met low y) low y) old mid) h met))
-
-  pub carried_part : Puts (hands_if p.entries (have_met p.met low high) low high) old mid → PutsPart (on_pair c.from c.to (message_frame c)) mid new → PutsPart (carried_bytes p c) old new
-  carried_part met sent = puts_then_part first (on_pair c.from c.to (message_frame c)) old mid new
-      (subst (λ (x : ℕ). Puts (hands_if p.entries (have_met p.met x (max c.from c.to)) x (max c.from c.to)) old mid) l (subst (λ (y : ℕ). Puts (hands_if p.entries (have_met p.met low y) low y) old mid) h met)) sent

@@ -1,5 +1,5 @@
 -- Bytes that were put on a fabric, and taken.
-use Rattle.std.specs.Prelude.{◌≡◌, ◌≢◌, ◌<◌, ◌≤◌, ◌+◌, ℕ, List, [], ◌++◌, length, Option, IfSome, Result, IsErrOf, ⊤}
+use Rattle.std.specs.Prelude.{◌≡◌, ◌≢◌, ◌<◌, ◌≤◌, ◌+◌, ℕ, List, ◌++◌, length, Option, IfSome, Result, IsErrOf, ⊤}
 use Rattle.std.specs.Io.KnownBytes.{append_known}
 use Rattle.spl_edge.specs.Causes.{Rose}
 use Rattle.spl_edge.specs.Fabrics.{AreTaken, IsOtherPair}

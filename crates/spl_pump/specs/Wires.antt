@@ -1,7 +1,7 @@
 -- What is put on a fabric where messages are carried over it (docs/RULES.md, Links).
-use Rattle.std.specs.Prelude.{◌≡◌, ◌≢◌, ◌<◌, ℕ, min, max, ◌==◌, Bool, true, ◌&&◌, ◌||◌, nat_lt, not, List, [], ◌∷◌, ◌++◌, length, Option, Some, IfSome, if◌then◌else◌, ⊤}
+use Rattle.std.specs.Prelude.{◌≡◌, ◌≢◌, ◌<◌, ℕ, min, max, ◌==◌, Bool, ◌&&◌, ◌||◌, nat_lt, List, [], ◌∷◌, ◌++◌, length, Option, IfSome, if◌then◌else◌, ⊤}
 use Rattle.std.specs.List.{list_any, flat_map, filter}
-use Rattle.std.specs.Option.{option_map_or}
+use Rattle.std.specs.Option.{IsSome, option_map_or}
 use Rattle.std.specs.Io.KnownBytes.{append_known}
 use Rattle.spl_edge.specs.Fabrics.{AreTaken}
 use Rattle.spl_frame.specs.Frames.{frame}
@@ -18,6 +18,10 @@ pub record Carried : Type 0 where
   pub from : ℕ
   pub to : ℕ
   pub message : Message
+
+-- this message alone
+abbrev pub only : ℕ → ℕ → Message → List Carried
+only from to m = record { from = from; to = to; message = m } ∷ []
 
 -- it went from a to b
 abbrev pub is_on : ℕ → ℕ → Carried → Bool
@@ -47,13 +51,32 @@ hands es low high a b = on_pair low high (hand es low high) a b ++ on_pair high 
 abbrev pub hands_if : List Entry → Bool → ℕ → ℕ → ℕ → ℕ → List ℕ
 hands_if es met low high a b = if met then [] else hands es low high a b
 
--- what a message puts on the pair from a to b where its nodes have, or haven't, named themselves yet
-abbrev pub puts_of : List Entry → Bool → Carried → ℕ → ℕ → List ℕ
-puts_of es met c a b = hands_if es met (min c.from c.to) (max c.from c.to) a b ++ on_pair c.from c.to (message_frame c) a b
+-- whether two nodes have met
+abbrev pub have_met : List (ℕ × ℕ) → ℕ → ℕ → Bool
+have_met met low high = list_any (λ p. p.0 == low && p.1 == high) met
 
--- what a list of messages puts on the pair from a to b: a frame by which a names itself, where one went between the two, and the frames of the messages that went from a to b, in order
+abbrev pub met_after : List (ℕ × ℕ) → ℕ → ℕ → List (ℕ × ℕ)
+met_after met low high = if have_met met low high then met else met ++ (low, high) ∷ []
+
+-- the frames of the messages that went from a to b, in order
+abbrev pub frames_of : List Carried → ℕ → ℕ → List ℕ
+frames_of sent a b = flat_map message_frame (filter (is_on a b) sent)
+
+-- what messages put on the pair from a to b: a frame by which a names itself, where one went between the two, and the frames of those that went from a to b, in order
 abbrev pub wire_of : List Entry → List Carried → ℕ → ℕ → List ℕ
-wire_of es sent a b = (if list_any (is_between a b) sent then hand es a b else []) ++ flat_map message_frame (filter (is_on a b) sent)
+wire_of es sent a b = (if list_any (is_between a b) sent then hand es a b else []) ++ frames_of sent a b
+
+-- and the latter alone, where the two have met before
+abbrev pub wire_from : List Entry → List (ℕ × ℕ) → List Carried → ℕ → ℕ → List ℕ
+wire_from es met sent a b = if have_met met (min a b) (max a b) then frames_of sent a b else wire_of es sent a b
+
+-- what messages put on the pair from one node to another
+abbrev pub Wire : Type 0
+Wire = List Carried → ℕ → ℕ → List ℕ
+
+-- once these messages are carried, what others put comes behind what they put
+pub record GoesOn (sent : List Carried) (old new : Wire) : Type 0 where
+  pub behind : (later : List Carried) (a b : ℕ) → old (sent ++ later) a b ≡ old sent a b ++ new later a b
 
 -- as many bytes were taken from each node to each as were put
 abbrev pub AllTaken : Streams → Streams → Type 0
@@ -66,6 +89,10 @@ Puts bytes old new = (a b : ℕ) → a < 256 → b < 256 → new a b ≡ append_
 -- on each pair a front of these
 abbrev pub PutsPart : (ℕ → ℕ → List ℕ) → Streams → Streams → Type 0
 PutsPart bytes old new = (a b : ℕ) → a < 256 → b < 256 → (done : List ℕ) × (more : List ℕ) × (bytes a b ≡ done ++ more) × (new a b ≡ append_known (old a b) done)
+
+-- the bytes put and taken are told
+abbrev pub AreTold : Streams → Streams → Type 0
+AreTold put taken = (a b : ℕ) → IsSome (put a b) × IsSome (taken a b)
 
 -- these bytes are the last ones
 abbrev pub Ends : List ℕ → Option (List ℕ) → Type 0
@@ -82,18 +109,3 @@ pub record Pumped : Type 0 where
   pub entries : List Entry
   pub met : List (ℕ × ℕ)
   pub failed : Bool
-
--- whether two nodes have met
-abbrev pub have_met : List (ℕ × ℕ) → ℕ → ℕ → Bool
-have_met met low high = list_any (λ p. p.0 == low && p.1 == high) met
-
-abbrev pub met_after : List (ℕ × ℕ) → ℕ → ℕ → List (ℕ × ℕ)
-met_after met low high = if have_met met low high then met else met ++ (low, high) ∷ []
-
--- what the next message puts
-abbrev pub carried_bytes : Pumped → Carried → ℕ → ℕ → List ℕ
-carried_bytes p c = puts_of p.entries (have_met p.met (min c.from c.to) (max c.from c.to)) c
-
--- the pairs that have met are those between which a message went
-abbrev pub HasCarried : List (ℕ × ℕ) → List Carried → Type 0
-HasCarried met sent = (low high : ℕ) → low < high → have_met met low high ≡ list_any (is_between low high) sent

@@ -1,9 +1,8 @@
 //! What carries messages between nodes.
-ghost use Rattle.std.specs.Prelude.{◌≡◌, ◌≢◌, ◌<◌, ◌≤◌, ℕ, Bool, true, false, List, IsTrue, IfOk, IfErr, OnOk, OnErr, length};
-ghost use Rattle.spl_edge.specs.Fabrics.{AreTaken};
-ghost use Rattle.spl_wire.specs.Forms.{message_form};
+ghost use Rattle.std.specs.Prelude.{◌≡◌, ◌≢◌, ◌<◌, ℕ, Bool, true, false, List, [], IfOk, IfErr, OnOk, OnErr};
+ghost use Rattle.spl_wire.specs.Bounds.{IsSendable};
 ghost use Rattle.spl_pump.specs.Moves.{HasCause};
-ghost use Rattle.spl_pump.specs.Wires.{AllTaken, Carried};
+ghost use Rattle.spl_pump.specs.Wires.{AllTaken, Carried, GoesOn, only};
 
 use crate::fault::PumpFault;
 use spl_edge::Fabric;
@@ -20,10 +19,12 @@ pub trait Carry {
     /// Whether it has answered a fault.
     ghost failed: { Self → Bool };
 
-    /// The bytes that carrying a message puts on the pair from one node to another.
-    ghost bytes: { Self → Carried → ℕ → ℕ → List ℕ };
+    /// The bytes that carrying messages, one after another, puts on the pair from one node to another.
+    ghost wire: { Self → List Carried → ℕ → ℕ → List ℕ };
 
-    /// Carries a message. After a fault nothing more is carried.
+    /// Carries a message: what comes out is equal to it. `Link` comes only where the fabric failed more often, `Lied`
+    /// where other bytes were taken than were put, and any other error is want of memory. After an error a front of
+    /// the message's bytes was put, and nothing more is carried.
     fn carry<F: Fabric>(
         &mut self,
         alloc: Global,
@@ -36,16 +37,19 @@ pub trait Carry {
         requires from { from < slots self.old }
         requires to { to < slots self.old }
         requires going { failed self.old ≡ false }
-        requires bounded { IsTrue (message_form.bounded message.now) }
-        requires short { length (message_form.spell message.now) ≤ 16384 }
+        requires sendable { IsSendable message.now }
         requires taken { AllTaken (F.put_on fabric.old) (F.taken_on fabric.old) }
         ensures same { IfOk result (λ m. m ≡ message.now) }
         ensures slots { slots self.new ≡ slots self.old }
         ensures going { OnOk result (failed self.new ≡ false) }
         ensures done { OnErr result (failed self.new ≡ true) }
-        ensures put { OnOk result (Puts (bytes self.old (record { from = from; to = to; message = message.now })) (F.put_on fabric.old) (F.put_on fabric.new)) }
-        ensures part { PutsPart (bytes self.old (record { from = from; to = to; message = message.now })) (F.put_on fabric.old) (F.put_on fabric.new) }
+        ensures put { OnOk result (Puts (wire self.old (only from to message.now)) (F.put_on fabric.old) (F.put_on fabric.new)) }
+        ensures part { PutsPart (wire self.old (only from to message.now)) (F.put_on fabric.old) (F.put_on fabric.new) }
+        ensures onward { OnOk result (GoesOn (only from to message.now) (wire self.old) (wire self.new)) }
         ensures taken { OnOk result (AllTaken (F.put_on fabric.new) (F.taken_on fabric.new)) }
         ensures cause { HasCause (F.faults fabric.old) (F.faults fabric.new) result }
         ensures lied { IfErr result (λ e. LiesOf e (F.put_on fabric.new) (F.taken_on fabric.new)) };
+
+    /// Where no message is carried, nothing is put.
+    ghost idle: { (carrier : Self) (a b : ℕ) → wire carrier [] a b ≡ [] };
 }

@@ -3,12 +3,13 @@ ghost use Rattle.std.specs.Prelude.{min, max, ◌≡◌, ◌≢◌, ◌<◌, ◌
 ghost use Rattle.spl_base.specs.Ids.{is_node_id};
 ghost use Rattle.spl_edge.specs.Fabrics.{AreTaken};
 ghost use Rattle.spl_frame.specs.Frames.{frame, IsBody};
+ghost use Rattle.spl_wire.specs.Bounds.{IsSendable};
 ghost use Rattle.spl_wire.specs.Forms.{message_form};
 ghost use Rattle.spl_wire.specs.declared.message.Message.{Message as MessageValue};
 ghost use Rattle.spl_registry.specs.Nodes.{node_at};
 ghost use Rattle.spl_link.specs.Greetings.{greeting};
 ghost use Rattle.spl_pump.specs.Moves.{Grows, GrowsPart, HasCause, IsLie};
-ghost use Rattle.spl_pump.specs.Wires.{hand, hands, hands_if, on_pair, have_met, met_after, carried_bytes, Puts, PutsPart, AllTaken, LiesOf};
+ghost use Rattle.spl_pump.specs.Wires.{GoesOn, hand, hands, hands_if, on_pair, only, have_met, met_after, wire_from, Puts, PutsPart, AllTaken, LiesOf};
 
 use crate::carry::Carry;
 use crate::exchange::exchange;
@@ -40,8 +41,7 @@ fn carry_message<F: Fabric>(
     to: u8,
     message: &Message,
 ) -> Result<Message, PumpFault>
-    requires bounded { IsTrue (message_form.bounded message.now) }
-    requires short { length (message_form.spell message.now) ≤ 16384 }
+    requires sendable { IsSendable message.now }
     requires taken { AreTaken (F.put_on fabric.old from to) (F.taken_on fabric.old from to) }
     ensures same { IfOk result (λ m. m ≡ message.now) }
     ensures put { OnOk result (Grows from to (frame (message_form.spell message.now)) (F.put_on fabric.old) (F.put_on fabric.new)) }
@@ -124,8 +124,7 @@ fn send<F: Fabric>(
     to: u8,
     message: &Message,
 ) -> Result<Message, PumpFault>
-    requires bounded { IsTrue (message_form.bounded message.now) }
-    requires short { length (message_form.spell message.now) ≤ 16384 }
+    requires sendable { IsSendable message.now }
     requires taken { AllTaken (F.put_on fabric.old) (F.taken_on fabric.old) }
     ensures same { IfOk result (λ m. m ≡ message.now) }
     ensures put { OnOk result (Puts (on_pair from to (frame (message_form.spell message.now))) (F.put_on fabric.old) (F.put_on fabric.new)) }
@@ -238,15 +237,15 @@ impl Pump {
         requires apart { from ≢ to }
         requires from { from < length self.old.entries }
         requires to { to < length self.old.entries }
-        requires bounded { IsTrue (message_form.bounded message.now) }
-        requires short { length (message_form.spell message.now) ≤ 16384 }
+        requires sendable { IsSendable message.now }
         requires taken { AllTaken (F.put_on fabric.old) (F.taken_on fabric.old) }
         ensures same { IfOk result (λ m. m ≡ message.now) }
         ensures entries { self.new.entries ≡ self.old.entries }
         ensures failed { self.new.failed ≡ self.old.failed }
         ensures met { OnOk result (self.new.met ≡ met_after self.old.met (min from to) (max from to)) }
-        ensures put { OnOk result (Puts (carried_bytes self.old (record { from = from; to = to; message = message.now })) (F.put_on fabric.old) (F.put_on fabric.new)) }
-        ensures part { PutsPart (carried_bytes self.old (record { from = from; to = to; message = message.now })) (F.put_on fabric.old) (F.put_on fabric.new) }
+        ensures put { OnOk result (Puts (wire_from self.old.entries self.old.met (only from to message.now)) (F.put_on fabric.old) (F.put_on fabric.new)) }
+        ensures part { PutsPart (wire_from self.old.entries self.old.met (only from to message.now)) (F.put_on fabric.old) (F.put_on fabric.new) }
+        ensures onward { OnOk result (GoesOn (only from to message.now) (wire_from self.old.entries self.old.met) (wire_from self.new.entries self.new.met)) }
         ensures taken { OnOk result (AllTaken (F.put_on fabric.new) (F.taken_on fabric.new)) }
         ensures cause { HasCause (F.faults fabric.old) (F.faults fabric.new) result }
         ensures lied { IfErr result (λ e. LiesOf e (F.put_on fabric.new) (F.taken_on fabric.new)) }
@@ -259,13 +258,16 @@ impl Pump {
 
 impl Carry for Pump {
     ghost use Rattle.std.specs.Prelude.{length};
-    ghost use Rattle.spl_pump.specs.Wires.{carried_bytes};
+    ghost use Rattle.spl_pump.specs.Wires.{wire_from};
+    ghost use Rattle.spl_pump.specs.Idle.{idle_wire};
 
     ghost slots = { λ p. length p.entries };
 
     ghost failed = { λ p. p.failed };
 
-    ghost bytes = { carried_bytes };
+    ghost wire = { λ p. wire_from p.entries p.met };
+
+    ghost idle = { λ p. idle_wire p.entries p.met };
 
     fn carry<F: Fabric>(
         &mut self,

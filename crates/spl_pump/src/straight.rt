@@ -1,5 +1,5 @@
 //! Messages that are carried without bytes.
-ghost use Rattle.std.specs.Prelude.{◌≡◌, [], false};
+ghost use Rattle.std.specs.Prelude.{◌≡◌, [], false, refl};
 
 use crate::carry::Carry;
 use crate::fault::PumpFault;
@@ -26,9 +26,11 @@ impl Carry for Straight {
 
     ghost failed = { λ s. s.failed };
 
-    ghost bytes = { λ _ _ _ _. [] };
+    ghost wire = { λ _ _ _ _. [] };
 
-    #[tactic(auto, using(crate::proofs::Wires::puts_nothing, crate::proofs::Wires::puts_nothing_part))]
+    ghost idle = { λ _ _ _. refl };
+
+    #[tactic(auto, using(crate::proofs::Wires::puts_nothing, crate::proofs::Wires::puts_nothing_part, crate::proofs::Carrying::goes_on_silent))]
     fn carry<F: Fabric>(
         &mut self,
         alloc: Global,

@@ -1,4 +1,4 @@
-use Rattle.std.proofs.Common.{◌≡◌, ◌∙◌, ap, sym, subst, List, ℕ, IsTrue, rules}
+use Rattle.std.proofs.Common.{◌∙◌, ap, sym, subst, List, ℕ, IsTrue, rules}
 use Rattle.spl_base.specs.Ids.{is_node_id}
 use Rattle.spl_frame.specs.Frames.{frame}
 use Rattle.spl_link.specs.Sides.{Side}

@@ -1,4 +1,4 @@
-use Rattle.std.proofs.Common.{◌≡◌, ◌≤◌, ◌-◌, ℕ, length, vec_len}
+use Rattle.std.proofs.Common.{◌≡◌, ◌≤◌, ◌-◌, ℕ, length}
 use Rattle.spl_pump.specs.Moves.{Grows, AreDue}
 use Rattle.spl_pump.proofs.transfer.take_all.Given as goal
 

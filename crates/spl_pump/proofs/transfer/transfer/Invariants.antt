@@ -1,4 +1,4 @@
-use Rattle.std.proofs.Common.{◌≡◌, ◌≤◌, ◌-◌, ℕ, length, take, drop}
+use Rattle.std.proofs.Common.{◌≡◌, ◌≤◌, ◌-◌, length, take, drop}
 use Rattle.spl_edge.specs.Fabrics.{AreTaken}
 use Rattle.spl_pump.specs.Moves.{Grows}
 use Rattle.spl_pump.proofs.transfer.transfer.Given as goal

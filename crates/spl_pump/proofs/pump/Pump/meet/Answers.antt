@@ -1,4 +1,4 @@
-use Rattle.std.proofs.Common.{◌≡◌, ℕ, List, false, subst, rules}
+use Rattle.std.proofs.Common.{◌≡◌, List, false, subst, rules}
 use Rattle.spl_registry.specs.Nodes.{Entry}
 use Rattle.spl_pump.specs.Wires.{PutsPart, hands, have_met}
 use Rattle.spl_pump.proofs.Wires.{hands_part_when}

@@ -1,0 +1,29 @@
+-- Over an honest fabric nothing lies.
+use Rattle.std.proofs.Common.{◌≡◌, ℕ, List, ◌++◌, length, take, drop, Option, Some, None, length-append, sym, ap, ◌∙◌, arith}
+use Rattle.std.proofs.Math.Seq.{drop-append_seam, take-length}
+use Rattle.std.specs.Option.{IsSome}
+use Rattle.std.specs.Prelude.{IfSome}
+use Rattle.spl_edge.specs.Fabrics.{AreTaken, IsHonest}
+use Rattle.spl_pump.specs.Moves.{Streams, IsFault}
+use Rattle.spl_pump.specs.declared.fault.PumpFault.{PumpFault}
+use Rattle.spl_pump.specs.declared.fault.PumpFault.TheVariants.{Link, Lied, NoMemory}
+use Rattle.spl_pump.specs.Wires.{AreTold, Ends, LiesOf}
+
+-- lists of one length end with equal lists of one length where they are equal
+same_ends : (front front' sent got : List ℕ) → front ++ sent ≡ front' ++ got → length got ≡ length sent → sent ≡ got
+same_ends front front' sent got same long =
+    let fronts : length front ≡ length front' = omega (arith, length-append front sent, length-append front' got, ap length same, long) in
+    sym (drop-append_seam front sent) ∙ ap (λ (n : ℕ). drop n (front ++ sent)) fronts ∙ ap (λ (l : List ℕ). drop (length front') l) same ∙ drop-append_seam front' got
+
+-- on a pair where as much was taken as was put
+told_alike : (sent got : List ℕ) (put taken : Option (List ℕ)) → IsSome put → IsSome taken → AreTaken put taken → IfSome put (λ p. IfSome taken (λ t. t ≡ take (length t) p)) → Ends sent put → Ends got taken → length got ≡ length sent → sent ≡ got
+told_alike sent got None taken h k all front ends ends' long = absurd cc
+told_alike sent got (Some p) None h k all front ends ends' long = absurd cc
+told_alike sent got (Some p) (Some t) h k all front (before, is) (before', is') long =
+    let whole : t ≡ p = front ∙ ap (λ (n : ℕ). take n p) all ∙ take-length p in
+    same_ends before before' sent got (sym is ∙ sym whole ∙ is') long
+
+pub never_lies : (put taken : Streams) (e : PumpFault) → AreTold put taken → IsHonest put taken → LiesOf e put taken → IsFault e
+never_lies put taken Link told honest lies = tt
+never_lies put taken NoMemory told honest lies = tt
+never_lies put taken (Lied sent got) told honest (differ, long, (a, b, all, ends, ends')) = differ (told_alike sent got (put a b) (taken a b) (told a b).0 (told a b).1 all (honest a b) ends ends' long)

@@ -1,0 +1,25 @@
+//! What is known of what was put, and of lies.
+ghost use Rattle.std.specs.Prelude.{◌≡◌, ◌++◌, ℕ, List, []};
+ghost use Rattle.spl_edge.specs.Fabrics.{IsHonest};
+ghost use Rattle.spl_registry.specs.Nodes.{Entry};
+ghost use Rattle.spl_pump.specs.Moves.{Streams, IsFault};
+ghost use Rattle.spl_pump.specs.Wires.{AreTold, Carried, GoesOn, LiesOf, Puts, PutsPart, Wire, wire_from, wire_of};
+ghost use Rattle.spl_pump.specs.declared.fault.PumpFault.{PumpFault as Fault};
+
+/// What messages put, one after another: where none was carried nothing was put, and what some and then others put is
+/// what they put together, also where the others were put in part. Of a pump whose nodes haven't met this is what
+/// the format names.
+#[tactic(auto, using(crate::proofs::Carrying::goes_on_none, crate::proofs::Carrying::goes_on_more, crate::proofs::Carrying::puts_on))]
+pub fn messages_go_on()
+    ensures none { (f : Wire) → ((a b : ℕ) → f [] a b ≡ []) → GoesOn [] f f }
+    ensures more { (xs ys : List Carried) (f g h : Wire) → GoesOn xs f g → GoesOn ys g h → GoesOn (xs ++ ys) f h }
+    ensures put { (xs ys : List Carried) (f g : Wire) (a b c : Streams) → GoesOn xs f g → Puts (f xs) a b → Puts (g ys) b c → Puts (f (xs ++ ys)) a c }
+    ensures part { (xs ys : List Carried) (f g : Wire) (a b c : Streams) → GoesOn xs f g → Puts (f xs) a b → PutsPart (g ys) b c → PutsPart (f (xs ++ ys)) a c }
+    ensures format { (es : List Entry) (sent : List Carried) (a b : ℕ) → wire_from es [] sent a b ≡ wire_of es sent a b }
+{}
+
+/// Over a fabric that tells its bytes, and on which what was taken is a front of what was put, nothing lies.
+#[tactic(auto, using(crate::proofs::Honest::never_lies))]
+pub fn honest_fabrics_never_lie()
+    ensures { (put taken : Streams) (e : Fault) → AreTold put taken → IsHonest put taken → LiesOf e put taken → IsFault e }
+{}
