@@ -4,6 +4,7 @@ mod Benches
 mod Blanks
 mod Dues
 mod Ends
+mod Ending
 mod Events
 mod Fed
 mod Feeds
@@ -17,4 +18,5 @@ mod Runs
 mod Takes
 mod Texts
 mod Wholes
+mod WholeEnds
 mod Words

@@ -21,7 +21,7 @@ module _ (ns : List Node) (text given left : List ℕ) (is : text ≡ given ++ l
   pub few : length given ≤ limit
   few = omega (arith, short, ap length is, length-append given left)
 
-  front : (rest : List (List ℕ)) × (lines_of text ≡ run_of given ++ rest)
+  pub front : (rest : List (List ℕ)) × (lines_of text ≡ run_of given ++ rest)
   front = let (rest, same) = lines_front given left in (rest, ap lines_of is ∙ same ∙ ap (λ (ls : List (List ℕ)). ls ++ rest) (sym (run_given given few)))
 
   all_given : IsAtEnd (Some left) → text ≡ given

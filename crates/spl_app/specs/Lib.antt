@@ -9,3 +9,4 @@ pub mod Statuses
 pub mod Feed
 pub mod Command
 pub mod Generated
+pub mod Ends

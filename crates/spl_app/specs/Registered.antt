@@ -47,3 +47,9 @@ pub record Hold (text : List ℕ) (lines : List (List ℕ)) (start now : List Pa
   pub entries : List Entry
   pub spelled : registry_of text ≡ Ok entries
   pub held : AreHeld start (nodes_of text) (ran lines) entries now
+
+-- this holds of the registry that bytes spell
+pub record OfRegistry (text : List ℕ) (P : List Entry → Type 0) : Type 0 where
+  pub entries : List Entry
+  pub spelled : registry_of text ≡ Ok entries
+  pub holds : P entries

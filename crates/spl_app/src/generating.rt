@@ -9,6 +9,8 @@ ghost use Rattle.spl_gen.specs.declared.generate.TheConstants.{MOST_BATCHES};
 ghost use Rattle.spl_registry.specs.Nodes.{made};
 ghost use Rattle.spl_world.specs.Disks.{AllUnarmed, AreBlank, NoneForgotten, bench, images, images_at};
 ghost use Rattle.spl_world.specs.Held.{AllUnpicked, AreHeld};
+ghost use Rattle.spl_world.specs.declared.fault.WorldFault.TheVariants.{NoMemory as NoRoom};
+ghost use Rattle.spl_app.specs.Ends.{EndsAtNode, EndsPast, EndsShort, EndsSomewhere};
 ghost use Rattle.spl_app.specs.Generated.{generated_lines, is_of_reading, last_answers};
 ghost use Rattle.spl_app.specs.Registered.{HasFailedAt, SomeFailed};
 ghost use Rattle.spl_app.specs.Run.{HasFront, IsRun, Past, StopsAt, ran};
@@ -82,6 +84,10 @@ pub fn run_generated<W: Sink, D: StopDisk>(
         × HasFailedAt (made nodes) node (bench D.image_at D.moment D.faults D.armed D.picks pairs.old.items) (bench D.image_at D.moment D.faults D.armed D.picks pairs.new.items) }
     ensures write { result ≡ Status.WriteFault → Rose (W.faults out.old) (W.faults out.new) }
     ensures held_ok { result ≡ Status.Ok → AreHeld (bench D.image_at D.moment D.faults D.armed D.picks pairs.old.items) nodes (ran (generated_lines n seed)) (made nodes) (bench D.image_at D.moment D.faults D.armed D.picks pairs.new.items) }
+    ensures held_many { (which : ℕ) → result ≡ Status.TooMany which → EndsPast (made nodes) (generated_lines n seed) which (bench D.image_at D.moment D.faults D.armed D.picks pairs.old.items) (bench D.image_at D.moment D.faults D.armed D.picks pairs.new.items) }
+    ensures held_disk { (node : Node) → result ≡ Status.DiskFault node → EndsAtNode (made nodes) (generated_lines n seed) node (λ ls. Appends (W.written out.old) (W.written out.new) (last_answers n seed ls)) (bench D.image_at D.moment D.faults D.armed D.picks pairs.old.items) (bench D.image_at D.moment D.faults D.armed D.picks pairs.new.items) }
+    ensures held_write { result ≡ Status.WriteFault → EndsSomewhere (λ e. e ≡ NoRoom → ⊥) (made nodes) (generated_lines n seed) (bench D.image_at D.moment D.faults D.armed D.picks pairs.old.items) (bench D.image_at D.moment D.faults D.armed D.picks pairs.new.items) }
+    ensures held_memory { result ≡ Status.NoMemory → EndsShort (made nodes) (generated_lines n seed) (λ ls. Appends (W.written out.old) (W.written out.new) (last_answers n seed ls)) (bench D.image_at D.moment D.faults D.armed D.picks pairs.old.items) (bench D.image_at D.moment D.faults D.armed D.picks pairs.new.items) }
     ensures complete { IsRun nodes (generated_lines n seed) → (Rose (W.faults out.old) (W.faults out.new) → ⊥)
         → (SomeFailed (bench D.image_at D.moment D.faults D.armed D.picks pairs.old.items) (bench D.image_at D.moment D.faults D.armed D.picks pairs.new.items) → ⊥) → (result ≡ Status.Ok) ⊎ (result ≡ Status.NoMemory) }
     ensures onward { NoneForgotten (bench D.image_at D.moment D.faults D.armed D.picks pairs.old.items) (bench D.image_at D.moment D.faults D.armed D.picks pairs.new.items) }

@@ -8,6 +8,8 @@ ghost use Rattle.spl_registry.specs.declared.fault.RegistryFault.{RegistryFault}
 ghost use Rattle.spl_registry.specs.Nodes.{ids_of};
 ghost use Rattle.spl_world.specs.Disks.{AllUnarmed, AreBlank, NoneForgotten, bench, images, images_at};
 ghost use Rattle.spl_world.specs.Held.{AllUnpicked, AreHeld};
+ghost use Rattle.spl_world.specs.declared.fault.WorldFault.TheVariants.{NoMemory as NoRoom};
+ghost use Rattle.spl_app.specs.Ends.{EndsAtNode, EndsPast, EndsShort, EndsSomewhere};
 ghost use Rattle.spl_app.specs.Registered.{HasFailedAt, SomeFailed};
 ghost use Rattle.spl_app.specs.Lines.{lines_of, rest_of, longest_line, limit};
 ghost use Rattle.spl_app.specs.Run.{HasFront, IsRun, ran, answers};
@@ -61,6 +63,10 @@ pub fn replay<S: Source, W: Sink, D: StopDisk>(
         AreHeld (bench D.image_at D.moment D.faults D.armed D.picks pairs.old.items) (sorted (ids_of registry.now)) (ran (lines_of given)) registry.now (bench D.image_at D.moment D.faults D.armed D.picks pairs.new.items) }
     ensures held_long { result ≡ Status.TooLong → let given = appended_bytes (S.taken schedule.old) (S.taken schedule.new) in
         AreHeld (bench D.image_at D.moment D.faults D.armed D.picks pairs.old.items) (sorted (ids_of registry.now)) (ran (run_of given)) registry.now (bench D.image_at D.moment D.faults D.armed D.picks pairs.new.items) }
+    ensures held_many { (which : ℕ) → result ≡ Status.TooMany which → EndsPast registry.now (run_of (appended_bytes (S.taken schedule.old) (S.taken schedule.new))) which (bench D.image_at D.moment D.faults D.armed D.picks pairs.old.items) (bench D.image_at D.moment D.faults D.armed D.picks pairs.new.items) }
+    ensures held_disk { (node : Node) → result ≡ Status.DiskFault node → EndsAtNode registry.now (run_of (appended_bytes (S.taken schedule.old) (S.taken schedule.new))) node (λ ls. Appends (W.written out.old) (W.written out.new) (answers (sorted (ids_of registry.now)) ls)) (bench D.image_at D.moment D.faults D.armed D.picks pairs.old.items) (bench D.image_at D.moment D.faults D.armed D.picks pairs.new.items) }
+    ensures held_write { result ≡ Status.WriteFault → EndsSomewhere (λ e. e ≡ NoRoom → ⊥) registry.now (run_of (appended_bytes (S.taken schedule.old) (S.taken schedule.new))) (bench D.image_at D.moment D.faults D.armed D.picks pairs.old.items) (bench D.image_at D.moment D.faults D.armed D.picks pairs.new.items) }
+    ensures held_memory { result ≡ Status.NoMemory → EndsShort registry.now (run_of (appended_bytes (S.taken schedule.old) (S.taken schedule.new))) (λ ls. Appends (W.written out.old) (W.written out.new) (answers (sorted (ids_of registry.now)) ls)) (bench D.image_at D.moment D.faults D.armed D.picks pairs.old.items) (bench D.image_at D.moment D.faults D.armed D.picks pairs.new.items) }
     ensures onward { NoneForgotten (bench D.image_at D.moment D.faults D.armed D.picks pairs.old.items) (bench D.image_at D.moment D.faults D.armed D.picks pairs.new.items) }
     ensures unarmed { (result ≡ Status.NoMemory → ⊥) → AllUnarmed (bench D.image_at D.moment D.faults D.armed D.picks pairs.new.items) }
     ensures part { AppendsPart (W.written out.old) (W.written out.new)

@@ -1,5 +1,5 @@
 //! Runs the lines of a schedule.
-ghost use Rattle.std.specs.Prelude.{◌≡◌, ◌≢◌, false, ◌≤◌, ◌<◌, ◌+◌, ◌-◌, ◌++◌, ◌∷◌, [], ℕ, List, Option, IfOk, IfSome, OnOk, IsErrOf, IsTrue, take, length};
+ghost use Rattle.std.specs.Prelude.{◌≡◌, ◌≢◌, ◌⊎◌, false, ◌≤◌, ◌<◌, ◌+◌, ◌-◌, ◌++◌, ◌∷◌, [], ℕ, List, Option, IfErr, IfOk, IfSome, OnOk, IsErrOf, IsTrue, take, length};
 ghost use Rattle.std.specs.Io.{appended_bytes};
 ghost use Rattle.std.specs.Io.KnownBytes.{Appends, Consumes, IsAtEnd};
 ghost use Rattle.std.specs.List.{AllPairs};
@@ -8,6 +8,7 @@ ghost use Rattle.spl_circuit.specs.Nodes.{sorted};
 ghost use Rattle.spl_registry.specs.Nodes.{ids_of as registered};
 ghost use Rattle.spl_app.specs.Lines.{rest_of, longest_line, limit};
 ghost use Rattle.spl_app.specs.Due.{IsDue, IsDuePart};
+ghost use Rattle.spl_app.specs.Ends.{EndsAt, EndsBehind, EndsFailed, EndsIn, EndsShort, EndsSomewhere, FaultEnds, HeldAt, HeldOrEnds, RanOn};
 ghost use Rattle.spl_app.specs.Run.{IsLine, IsRunnable, IsRun, IsWithin, Past, StopsAt, HasFront, said, ran, shown, answers_behind};
 ghost use Rattle.spl_app.specs.Schedule.{IsSchedule, IsBadAt, run_of};
 ghost use Rattle.spl_answer.specs.Texts.{text as text_of};
@@ -17,6 +18,7 @@ ghost use Rattle.spl_model.specs.Answers.{answer_to};
 ghost use Rattle.spl_world.specs.Counts.{IsOver};
 ghost use Rattle.spl_world.specs.Disks.{AllUnarmed, AreBlank, NoneForgotten, PairView, bench, images, images_at};
 ghost use Rattle.spl_world.specs.Held.{AllHeld, AllUnpicked, AreHeld, FailedSince};
+ghost use Rattle.spl_world.specs.Making.{AreMadeBut};
 ghost use Rattle.spl_world.specs.Views.{ArePlaced, IsPlace, Sits, Stands, ids_of, is_halted, places_of, seen};
 
 use crate::fault::{RunEnd, RunFault};
@@ -67,6 +69,7 @@ impl Run {
         ensures held { IfOk result (λ run. AllHeld (bench D.image_at D.moment D.faults D.armed D.picks pairs.old.items) [] run.world (bench D.image_at D.moment D.faults D.armed D.picks pairs.new.items)) }
         ensures apart { OnOk result (AllPairs (λ a b. a ≢ b) (registered registry.now)) }
         ensures place { (slot : ℕ) → IsErrOf result (WorldFault.Disk slot) → slot < length registry.now }
+        ensures unmade { IfErr result (λ e. AreMadeBut (sorted (registered registry.now)) registry.now e (bench D.image_at D.moment D.faults D.armed D.picks pairs.old.items) (bench D.image_at D.moment D.faults D.armed D.picks pairs.new.items)) }
     {
         Ok(Run {
             nodes: sorted_ids(alloc, registry)?,
@@ -123,6 +126,7 @@ impl Run {
         ensures places { places_of self.new.world ≡ places_of self.old.world }
         ensures held { (start : List PairView) (before : List Ran) → Stands before self.old.world (images D.image_at D.moment pairs.old.items) → AllHeld start before self.old.world (bench D.image_at D.moment D.faults D.armed D.picks pairs.old.items) → OnOk result (AllHeld start (before ++ by_rule said.now ∷ []) self.new.world (bench D.image_at D.moment D.faults D.armed D.picks pairs.new.items)) }
         ensures place { (slot : ℕ) → IsErrOf result (WorldFault.Disk slot) → IsPlace (places_of self.old.world) slot }
+        ensures ended { (start : List PairView) (before : List Ran) → Stands before self.old.world (images D.image_at D.moment pairs.old.items) → AllHeld start before self.old.world (bench D.image_at D.moment D.faults D.armed D.picks pairs.old.items) → IfErr result (λ e. EndsAt self.old.nodes.items (places_of self.old.world) before said.now e start (bench D.image_at D.moment D.faults D.armed D.picks pairs.new.items) ⊎ ((e ≡ WorldFault.NoMemory) × RanOn self.old.nodes.items (places_of self.old.world) before said.now start (bench D.image_at D.moment D.faults D.armed D.picks pairs.new.items))) }
     {
         let answer = take_line(alloc, &mut self.world, pairs, said)?;
         self.text.clear();
@@ -164,6 +168,7 @@ impl Run {
         ensures places { places_of self.new.world ≡ places_of self.old.world }
         ensures held { (start : List PairView) (before : List Ran) → Stands before self.old.world (images D.image_at D.moment pairs.old.items) → AllHeld start before self.old.world (bench D.image_at D.moment D.faults D.armed D.picks pairs.old.items) → OnOk result (AllHeld start (before ++ by_rule said.now ∷ []) self.new.world (bench D.image_at D.moment D.faults D.armed D.picks pairs.new.items)) }
         ensures place { (slot : ℕ) → IsErrOf result (RunFault.Disk slot) → IsPlace (places_of self.old.world) slot }
+        ensures ended { (start : List PairView) (before : List Ran) → Stands before self.old.world (images D.image_at D.moment pairs.old.items) → AllHeld start before self.old.world (bench D.image_at D.moment D.faults D.armed D.picks pairs.old.items) → IfErr result (FaultEnds (λ e. EndsAt self.old.nodes.items (places_of self.old.world) before said.now e start (bench D.image_at D.moment D.faults D.armed D.picks pairs.new.items)) (RanOn self.old.nodes.items (places_of self.old.world) before said.now start (bench D.image_at D.moment D.faults D.armed D.picks pairs.new.items))) }
         ensures write { IsErrOf result RunFault.Write → Rose (W.faults out.old) (W.faults out.new) }
         ensures later { W.faults out.old ≤ W.faults out.new }
     {
@@ -214,6 +219,7 @@ impl Run {
         ensures held { (start : List PairView) (lines : List (List ℕ)) → Stands (ran lines) self.old.world (images D.image_at D.moment pairs.old.items) → AllHeld start (ran lines) self.old.world (bench D.image_at D.moment D.faults D.armed D.picks pairs.old.items) → OnOk result (AllHeld start (ran (lines ++ line.now ∷ [])) self.new.world (bench D.image_at D.moment D.faults D.armed D.picks pairs.new.items)) }
         ensures same { (n : ℕ) → IsErrOf result (RunFault.BadLine n) → pairs.new ≡ pairs.old }
         ensures place { (slot : ℕ) → IsErrOf result (RunFault.Disk slot) → IsPlace (places_of self.old.world) slot }
+        ensures ended { (start : List PairView) (lines : List (List ℕ)) → IsRun self.old.nodes.items lines → Stands (ran lines) self.old.world (images D.image_at D.moment pairs.old.items) → AllHeld start (ran lines) self.old.world (bench D.image_at D.moment D.faults D.armed D.picks pairs.old.items) → IfErr result (FaultEnds (λ e. EndsBehind self.old.nodes.items (places_of self.old.world) (lines ++ line.now ∷ []) lines e start (bench D.image_at D.moment D.faults D.armed D.picks pairs.new.items)) (HasFront self.old.nodes.items (lines ++ line.now ∷ []) (λ ls. HeldAt self.old.nodes.items (places_of self.old.world) (ran ls) start (bench D.image_at D.moment D.faults D.armed D.picks pairs.new.items)))) }
         ensures write { IsErrOf result RunFault.Write → Rose (W.faults out.old) (W.faults out.new) }
         ensures later { W.faults out.old ≤ W.faults out.new }
     {
@@ -251,6 +257,9 @@ impl Run {
         ensures place { (slot : ℕ) → IsErrOf result (RunFault.Disk slot) → IsPlace (places_of self.old.world) slot }
         ensures held { (start : List PairView) → AllHeld start [] self.old.world (bench D.image_at D.moment D.faults D.armed D.picks pairs.old.items) → OnOk result (AllHeld start (ran (run_of (appended_bytes (S.taken source.old) (S.taken source.new)))) self.old.world (bench D.image_at D.moment D.faults D.armed D.picks pairs.new.items)) }
         ensures bad_held { (start : List PairView) → AllHeld start [] self.old.world (bench D.image_at D.moment D.faults D.armed D.picks pairs.old.items) → (number : ℕ) → IsErrOf result (RunFault.BadLine number) → AllHeld start (ran (take (number - 1) (run_of (appended_bytes (S.taken source.old) (S.taken source.new))))) self.old.world (bench D.image_at D.moment D.faults D.armed D.picks pairs.new.items) }
+        ensures many_held { (start : List PairView) → AllHeld start [] self.old.world (bench D.image_at D.moment D.faults D.armed D.picks pairs.old.items) → (number which : ℕ) → IsErrOf result (RunFault.TooMany number which) → EndsBehind self.old.nodes.items (places_of self.old.world) (run_of (appended_bytes (S.taken source.old) (S.taken source.new))) (take (number - 1) (run_of (appended_bytes (S.taken source.old) (S.taken source.new)))) (WorldFault.TooMany which) start (bench D.image_at D.moment D.faults D.armed D.picks pairs.new.items) }
+        ensures disk_held { (start : List PairView) → AllHeld start [] self.old.world (bench D.image_at D.moment D.faults D.armed D.picks pairs.old.items) → (slot : ℕ) → IsErrOf result (RunFault.Disk slot) → HasFront self.old.nodes.items (run_of (appended_bytes (S.taken source.old) (S.taken source.new))) (λ ls. IsDue (W.written out.old) (W.written out.new) self.new.output (answers_behind self.old.skip self.old.nodes.items ls) × EndsBehind self.old.nodes.items (places_of self.old.world) (run_of (appended_bytes (S.taken source.old) (S.taken source.new))) ls (WorldFault.Disk slot) start (bench D.image_at D.moment D.faults D.armed D.picks pairs.new.items)) }
+        ensures reached { (start : List PairView) → AllHeld start [] self.old.world (bench D.image_at D.moment D.faults D.armed D.picks pairs.old.items) → HasFront self.old.nodes.items (run_of (appended_bytes (S.taken source.old) (S.taken source.new))) (HeldOrEnds (λ e. e ≡ WorldFault.NoMemory → IsErrOf result RunFault.NoMemory) self.old.nodes.items (places_of self.old.world) (run_of (appended_bytes (S.taken source.old) (S.taken source.new))) start (bench D.image_at D.moment D.faults D.armed D.picks pairs.new.items)) }
         ensures part { IsDuePart (W.written out.old) (W.written out.new) self.new.output (answers_behind self.old.skip self.old.nodes.items (run_of (appended_bytes (S.taken source.old) (S.taken source.new)))) }
         ensures taken { Consumes (S.left source.old) (S.left source.new) (appended_bytes (S.taken source.old) (S.taken source.new)) }
         ensures write { IsErrOf result RunFault.Write → Rose (W.faults out.old) (W.faults out.new) }
@@ -319,11 +328,17 @@ pub fn run_lines<S: Source, W: Sink, D: StopDisk>(
     // The first line with which the lines pass the limit `which`.
     ensures many { (number which : ℕ) → IsErrOf result (RunFault.TooMany number which) → StopsAt (sorted (registered registry.now)) (Past which) (run_of (appended_bytes (S.taken source.old) (S.taken source.new))) number
         × Appends (W.written out.old) (W.written out.new) (answers_behind skip (sorted (registered registry.now)) (take (number - 1) (run_of (appended_bytes (S.taken source.old) (S.taken source.new))))) }
+    ensures many_held { (number which : ℕ) → IsErrOf result (RunFault.TooMany number which) → EndsIn registry.now (run_of (appended_bytes (S.taken source.old) (S.taken source.new))) (take (number - 1) (run_of (appended_bytes (S.taken source.old) (S.taken source.new)))) (WorldFault.TooMany which) (bench D.image_at D.moment D.faults D.armed D.picks pairs.old.items) (bench D.image_at D.moment D.faults D.armed D.picks pairs.new.items) }
 
     // A disk failed. The answers to the lines before are written.
     ensures whole { (slot : ℕ) → IsErrOf result (RunFault.Disk slot) → HasFront (sorted (registered registry.now)) (run_of (appended_bytes (S.taken source.old) (S.taken source.new))) (λ ls. Appends (W.written out.old) (W.written out.new) (answers_behind skip (sorted (registered registry.now)) ls)) }
     ensures failed { (slot : ℕ) → IsErrOf result (RunFault.Disk slot) → FailedSince slot (bench D.image_at D.moment D.faults D.armed D.picks pairs.old.items) (bench D.image_at D.moment D.faults D.armed D.picks pairs.new.items) }
     ensures place { (slot : ℕ) → IsErrOf result (RunFault.Disk slot) → slot < length registry.now }
+    ensures disk_held { (slot : ℕ) → IsErrOf result (RunFault.Disk slot) → EndsFailed registry.now (run_of (appended_bytes (S.taken source.old) (S.taken source.new))) slot (λ ls. Appends (W.written out.old) (W.written out.new) (answers_behind skip (sorted (registered registry.now)) ls)) (bench D.image_at D.moment D.faults D.armed D.picks pairs.old.items) (bench D.image_at D.moment D.faults D.armed D.picks pairs.new.items) }
+
+    // The sink failed, or memory ran out.
+    ensures write_held { IsErrOf result RunFault.Write → EndsSomewhere (λ e. e ≡ WorldFault.NoMemory → ⊥) registry.now (run_of (appended_bytes (S.taken source.old) (S.taken source.new))) (bench D.image_at D.moment D.faults D.armed D.picks pairs.old.items) (bench D.image_at D.moment D.faults D.armed D.picks pairs.new.items) }
+    ensures memory_held { IsErrOf result RunFault.NoMemory → EndsShort registry.now (run_of (appended_bytes (S.taken source.old) (S.taken source.new))) (λ ls. Appends (W.written out.old) (W.written out.new) (answers_behind skip (sorted (registered registry.now)) ls)) (bench D.image_at D.moment D.faults D.armed D.picks pairs.old.items) (bench D.image_at D.moment D.faults D.armed D.picks pairs.new.items) }
 
     // Whatever the end.
     ensures onward { NoneForgotten (bench D.image_at D.moment D.faults D.armed D.picks pairs.old.items) (bench D.image_at D.moment D.faults D.armed D.picks pairs.new.items) }

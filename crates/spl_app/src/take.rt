@@ -1,5 +1,6 @@
 //! A line in the world, whichever it is.
-ghost use Rattle.std.specs.Prelude.{◌≡◌, ◌++◌, ◌∷◌, [], ℕ, List, false, IfOk, OnOk, IsErrOf};
+ghost use Rattle.std.specs.Prelude.{◌≡◌, ◌++◌, ◌∷◌, [], ℕ, List, false, IfErr, IfOk, OnOk, IsErrOf};
+ghost use Rattle.spl_app.specs.Ends.{EndsAt};
 ghost use Rattle.spl_app.specs.Run.{IsRunnable, IsWithin};
 ghost use Rattle.spl_model.specs.Answers.{answer_to};
 ghost use Rattle.spl_model.specs.Outcomes.{by_rule};
@@ -37,6 +38,7 @@ pub fn take_line<D: StopDisk>(
     ensures held { (start : List PairView) (before : List Ran) → Stands before world.old (images D.image_at D.moment pairs.old.items) → AllHeld start before world.old (bench D.image_at D.moment D.faults D.armed D.picks pairs.old.items) → OnOk result (AllHeld start (before ++ by_rule line.now ∷ []) world.new (bench D.image_at D.moment D.faults D.armed D.picks pairs.new.items)) }
     ensures failed { (start : List PairView) (before : List Ran) (slot : ℕ) → IsErrOf result (WorldFault.Disk slot) → AllHeld start before world.old (bench D.image_at D.moment D.faults D.armed D.picks pairs.old.items) → FailedSince slot start (bench D.image_at D.moment D.faults D.armed D.picks pairs.new.items) }
     ensures place { (slot : ℕ) → IsErrOf result (WorldFault.Disk slot) → IsPlace (places_of world.old) slot }
+    ensures ended { (start : List PairView) (before : List Ran) → Stands before world.old (images D.image_at D.moment pairs.old.items) → AllHeld start before world.old (bench D.image_at D.moment D.faults D.armed D.picks pairs.old.items) → IfErr result (λ e. EndsAt (ids_of world.old) (places_of world.old) before line.now e start (bench D.image_at D.moment D.faults D.armed D.picks pairs.new.items)) }
 
     // Whatever the answer.
     ensures onward { NoneForgotten (bench D.image_at D.moment D.faults D.armed D.picks pairs.old.items) (bench D.image_at D.moment D.faults D.armed D.picks pairs.new.items) }

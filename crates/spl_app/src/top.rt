@@ -13,10 +13,12 @@ ghost use Rattle.spl_circuit.specs.Nodes.{Node};
 ghost use Rattle.spl_gen.specs.Circuits.{nodes as gen_nodes};
 ghost use Rattle.spl_world.specs.Disks.{AllUnarmed, AreBlank, NoneForgotten, bench as bench_of, images, images_at};
 ghost use Rattle.spl_world.specs.Held.{AllUnpicked, AreHeld};
+ghost use Rattle.spl_world.specs.declared.fault.WorldFault.TheVariants.{NoMemory as NoRoom};
 ghost use Rattle.spl_app.specs.Command.{IsCommand, IsGen};
 ghost use Rattle.spl_app.specs.Generated.{generated_lines, is_of_reading, last_answers};
 ghost use Rattle.spl_app.specs.Run.{HasFront, IsRun, Past, StopsAt, ran, answers};
-ghost use Rattle.spl_app.specs.Registered.{HasFailedAt, HasFailedIn, Hold, IsRegistryText, SomeFailed, nodes_of};
+ghost use Rattle.spl_app.specs.Ends.{EndsAtNode, EndsPast, EndsShort, EndsSomewhere};
+ghost use Rattle.spl_app.specs.Registered.{HasFailedAt, HasFailedIn, Hold, IsRegistryText, OfRegistry, SomeFailed, nodes_of};
 ghost use Rattle.spl_app.specs.Schedule.{IsReplay, IsSchedule, IsBadAt, HasTooMany, had, run_of};
 
 use crate::Status;
@@ -145,6 +147,33 @@ pub fn splinter<S: Source, W: Sink, D: StopDisk>(
         let given = appended_bytes (S.taken schedule.old) (S.taken schedule.new) in
         (limit < length text) ⊎ Hold text (run_of given) (bench_of D.image_at D.moment D.faults D.armed D.picks bench.old.pairs.items) (bench_of D.image_at D.moment D.faults D.armed D.picks bench.new.pairs.items) }
 
+    // The line that passes the limit ended the run. The disks stand for what the nodes keep at one moment
+    // of it, the same for all, which is the one before it but in a calm, and were picked from at the
+    // lines before it.
+    ensures held_many { (which : ℕ) → IsReplay (map string_bytes words.now) → result ≡ Status.TooMany which → let text = appended_bytes (S.taken registry.old) (S.taken registry.new) in
+        let given = appended_bytes (S.taken schedule.old) (S.taken schedule.new) in
+        OfRegistry text (λ es. EndsPast es (run_of given) which (bench_of D.image_at D.moment D.faults D.armed D.picks bench.old.pairs.items) (bench_of D.image_at D.moment D.faults D.armed D.picks bench.new.pairs.items)) }
+
+    // The disks of the node failed in the first line that has no answer. So stand the disks of all other
+    // nodes, and what a stop leaves of these two stands for what the node keeps at that moment or at
+    // another of the line. Or they failed where the nodes were made, and no line ran.
+    ensures held_disk { (node : Node) → IsReplay (map string_bytes words.now) → result ≡ Status.DiskFault node → let text = appended_bytes (S.taken registry.old) (S.taken registry.new) in
+        let given = appended_bytes (S.taken schedule.old) (S.taken schedule.new) in
+        OfRegistry text (λ es. EndsAtNode es (run_of given) node (λ ls. Appends (W.written out.old) (W.written out.new) (answers (nodes_of text) ls)) (bench_of D.image_at D.moment D.faults D.armed D.picks bench.old.pairs.items) (bench_of D.image_at D.moment D.faults D.armed D.picks bench.new.pairs.items)) }
+
+    // A front of the lines ran, and the disks stand for what the nodes keep behind it; or the line behind
+    // it passed a limit or found a disk that failed, and they stand as is said above.
+    ensures held_write { IsReplay (map string_bytes words.now) → result ≡ Status.WriteFault → let text = appended_bytes (S.taken registry.old) (S.taken registry.new) in
+        let given = appended_bytes (S.taken schedule.old) (S.taken schedule.new) in
+        OfRegistry text (λ es. EndsSomewhere (λ e. e ≡ NoRoom → ⊥) es (run_of given) (bench_of D.image_at D.moment D.faults D.armed D.picks bench.old.pairs.items) (bench_of D.image_at D.moment D.faults D.armed D.picks bench.new.pairs.items)) }
+
+    // So it is for want of memory, which a line may find too; or not all nodes were made, or the registry
+    // wasn't read, and nothing is written.
+    ensures held_memory { IsReplay (map string_bytes words.now) → result ≡ Status.NoMemory → let text = appended_bytes (S.taken registry.old) (S.taken registry.new) in
+        let given = appended_bytes (S.taken schedule.old) (S.taken schedule.new) in
+        (Appends (W.written out.old) (W.written out.new) [] × ((bench_of D.image_at D.moment D.faults D.armed D.picks bench.new.pairs.items) ≡ (bench_of D.image_at D.moment D.faults D.armed D.picks bench.old.pairs.items)))
+        ⊎ OfRegistry text (λ es. EndsShort es (run_of given) (λ ls. Appends (W.written out.old) (W.written out.new) (answers (nodes_of text) ls)) (bench_of D.image_at D.moment D.faults D.armed D.picks bench.old.pairs.items) (bench_of D.image_at D.moment D.faults D.armed D.picks bench.new.pairs.items)) }
+
     // With every status no fault of a disk is forgotten, and but for want of memory no disk is armed.
     ensures onward { NoneForgotten (bench_of D.image_at D.moment D.faults D.armed D.picks bench.old.pairs.items) (bench_of D.image_at D.moment D.faults D.armed D.picks bench.new.pairs.items) }
     ensures unarmed { (result ≡ Status.NoMemory → ⊥) → AllUnarmed (bench_of D.image_at D.moment D.faults D.armed D.picks bench.new.pairs.items) }
@@ -182,6 +211,14 @@ pub fn splinter<S: Source, W: Sink, D: StopDisk>(
     // agree, as above.
     ensures gen_held { (n seed : ℕ) → IsGen (map string_bytes words.now) n seed → result ≡ Status.Ok
         → AreHeld (bench_of D.image_at D.moment D.faults D.armed D.picks bench.old.pairs.items) gen_nodes (ran (generated_lines n seed)) (made gen_nodes) (bench_of D.image_at D.moment D.faults D.armed D.picks bench.new.pairs.items) }
+    ensures gen_held_many { (n seed which : ℕ) → IsGen (map string_bytes words.now) n seed → result ≡ Status.TooMany which
+        → EndsPast (made gen_nodes) (generated_lines n seed) which (bench_of D.image_at D.moment D.faults D.armed D.picks bench.old.pairs.items) (bench_of D.image_at D.moment D.faults D.armed D.picks bench.new.pairs.items) }
+    ensures gen_held_disk { (n seed : ℕ) (node : Node) → IsGen (map string_bytes words.now) n seed → result ≡ Status.DiskFault node
+        → EndsAtNode (made gen_nodes) (generated_lines n seed) node (λ ls. Appends (W.written out.old) (W.written out.new) (last_answers n seed ls)) (bench_of D.image_at D.moment D.faults D.armed D.picks bench.old.pairs.items) (bench_of D.image_at D.moment D.faults D.armed D.picks bench.new.pairs.items) }
+    ensures gen_held_write { (n seed : ℕ) → IsGen (map string_bytes words.now) n seed → result ≡ Status.WriteFault
+        → EndsSomewhere (λ e. e ≡ NoRoom → ⊥) (made gen_nodes) (generated_lines n seed) (bench_of D.image_at D.moment D.faults D.armed D.picks bench.old.pairs.items) (bench_of D.image_at D.moment D.faults D.armed D.picks bench.new.pairs.items) }
+    ensures gen_held_memory { (n seed : ℕ) → IsGen (map string_bytes words.now) n seed → result ≡ Status.NoMemory
+        → EndsShort (made gen_nodes) (generated_lines n seed) (λ ls. Appends (W.written out.old) (W.written out.new) (last_answers n seed ls)) (bench_of D.image_at D.moment D.faults D.armed D.picks bench.old.pairs.items) (bench_of D.image_at D.moment D.faults D.armed D.picks bench.new.pairs.items) }
     ensures gen_agreed { (n seed : ℕ) → Agree gen_nodes (ran (generated_lines n seed)) }
     ensures gen_told { (n seed : ℕ) → TellOneList gen_nodes (ran (generated_lines n seed)) }
 

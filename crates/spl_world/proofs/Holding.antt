@@ -8,7 +8,7 @@ use Rattle.spl_edge.specs.declared.disk.Armed.{Armed}
 use Rattle.spl_model.specs.Answers.{is_up}
 use Rattle.spl_model.specs.Projection.{Ran}
 use Rattle.spl_world.specs.Disks.{DiskView, PairView, GoesOn, HasRisen, IsUnarmed, PairGoesOn, AllGoOn, RoseAt}
-use Rattle.spl_world.specs.Held.{AllPickBy, AllPicked, AllUnpicked, ArePickedAt, ArePicksAt, EachPair, FailedSince, HasFailedSince, HasPicked, IsCounted, IsUnpicked, KeepsPicks, PicksBy, PicksOnce, Point, last_count, picks_at, pick_points, point_at, stops_at}
+use Rattle.spl_world.specs.Held.{AllPickBy, AllPicked, AllUnpicked, ArePickedAt, ArePicksAt, AreUnpicked, EachPair, FailedSince, HasFailedSince, HasPicked, IsCounted, IsUnpicked, KeepsPicks, PicksBy, PicksOnce, Point, last_count, picks_at, pick_points, point_at, stops_at}
 use Rattle.spl_world.specs.Views.{IsPlace, ids_of, places_of, slot_id, slot_ids, slot_places}
 use Rattle.spl_world.specs.declared.slot.Slot.{Slot}
 use Rattle.spl_world.specs.declared.world.World.{World}
@@ -155,20 +155,36 @@ stops_none before r n e = ap (λ (b : Bool). b && is_up n before) e
 
 -- ---- the first moment
 
-pub none_picked : (w : World) (start now : List PairView) → AllUnpicked start → AllGoOn start now → AllPicked start [] w now
-none_picked w start now h on = λ i n k s p at place was there.
-    let u = h k s was in
-    let g = on.each k s p was there in
-    record {
-      picks = picked_as (ids_of w) n s.first.faults s.second.faults [] [] [] [] p.first.picks p.second.picks refl (g.first.picks ∙ u.first.picks) (g.second.picks ∙ u.second.picks) tt;
-      first = counted_first s.first p.first u.first g.first;
-      second = counted_first s.second p.second u.second g.second;
-    }
+-- nothing was picked from two disks that go on
+pub pair_unpicked : (ns : List NodeId) (n : NodeId) (s p : PairView) → AreUnpicked s → PairGoesOn s p → HasPicked ns [] n s p
+pair_unpicked ns n s p u g = record {
+  picks = picked_as ns n s.first.faults s.second.faults [] [] [] [] p.first.picks p.second.picks refl (g.first.picks ∙ u.first.picks) (g.second.picks ∙ u.second.picks) tt;
+  first = counted_first s.first p.first u.first g.first;
+  second = counted_first s.second p.second u.second g.second;
+}
   where
     counted_first : (x y : DiskView) → IsUnpicked x → GoesOn x y → IsCounted x y
     counted_first x y u g =
         let last : last_count x.faults y.picks ≡ x.faults = ap (last_count x.faults) (g.picks ∙ u.picks) in
         record { off = ap (λ (a : Armed). a.arming) g.armed ∙ u.off; later = omega (arith, last, g.no_less) }
+
+pub none_picked : (w : World) (start now : List PairView) → AllUnpicked start → AllGoOn start now → AllPicked start [] w now
+none_picked w start now h on = λ i n k s p at place was there. pair_unpicked (ids_of w) n s p (h k s was) (on.each k s p was there)
+
+-- ---- disks that go on
+
+picked_still : (ns : List NodeId) (rs : List Ran) (n : NodeId) (s p q : PairView) → PairGoesOn p q → HasPicked ns rs n s p → HasPicked ns rs n s q
+picked_still ns rs n s p q on h = record {
+  picks = picked_as ns n s.first.faults s.second.faults (pick_points n [] rs) (pick_points n [] rs) p.first.picks p.second.picks q.first.picks q.second.picks refl on.first.picks on.second.picks h.picks;
+  first = counted_on s.first p.first q.first on.first.picks on.first.armed on.first.no_less h.first;
+  second = counted_on s.second p.second q.second on.second.picks on.second.armed on.second.no_less h.second;
+}
+
+-- they have picked what they had
+pub all_picked_still : (ns : List NodeId) (places : List ℕ) (rs : List Ran) (start old new : List PairView) → AllGoOn old new → EachPair (HasPicked ns rs) ns places start old → EachPair (HasPicked ns rs) ns places start new
+all_picked_still ns places rs start old new on h = λ i n k s q at place first there.
+    let was = old_there old new k q on.as_many there in
+    picked_still ns rs n s (get_or old k q) q (on.each k (get_or old k q) q was there) (h i n k s (get_or old k q) at place first was)
 
 -- ---- disks that fail
 

@@ -58,7 +58,7 @@ module _ {D : Type 0} (image_at : D → ℕ → Option Image) (moment faults : D
   told ps = bench image_at moment faults armed picks ps
 
   -- what a pair tells is what it holds
-  told_images : (ps : List (Pair D)) (k : ℕ) (p : PairView) → slice_get (told ps) k ≡ Some p → images_at (images image_at moment ps) k ≡ (p.first.image_at p.first.moment, p.second.image_at p.second.moment)
+  pub told_images : (ps : List (Pair D)) (k : ℕ) (p : PairView) → slice_get (told ps) k ≡ Some p → images_at (images image_at moment ps) k ≡ (p.first.image_at p.first.moment, p.second.image_at p.second.moment)
   told_images [] k p e = absurd cc
   told_images (r ∷ ps) zero p e = let same : pair_view image_at moment faults armed picks r ≡ p = cc in ap (λ (v : PairView). (v.first.image_at v.first.moment, v.second.image_at v.second.moment)) same
   told_images (r ∷ ps) (suc k) p e = told_images ps k p e

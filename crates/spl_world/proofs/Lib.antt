@@ -5,6 +5,7 @@ mod Counting
 mod Delivery
 mod Entries
 mod Made
+mod Unmade
 mod Moving
 mod Handling
 pub mod Leaving

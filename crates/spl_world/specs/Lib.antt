@@ -7,3 +7,4 @@ pub mod Lines
 pub mod Held
 pub mod Halts
 pub mod Ended
+pub mod Making

@@ -1,10 +1,11 @@
 //! The nodes of a registry, where nothing happened yet.
-ghost use Rattle.std.specs.Prelude.{◌≡◌, ◌≤◌, ◌<◌, ◌++◌, ◌∷◌, ℕ, [], length, true, false, IfOk, OnOk, IsErrOf};
+ghost use Rattle.std.specs.Prelude.{◌≡◌, ◌≤◌, ◌<◌, ◌++◌, ◌∷◌, ℕ, [], length, true, false, IfErr, IfOk, OnOk, IsErrOf};
 ghost use Rattle.spl_circuit.specs.Nodes.{sorted};
 ghost use Rattle.spl_circuit.specs.Rules.{ascends};
 ghost use Rattle.spl_registry.specs.Nodes.{ids_of as registered};
 ghost use Rattle.spl_world.specs.Disks.{AreBlank, LeavesDisks, bench, images, images_at};
 ghost use Rattle.spl_world.specs.Held.{AllHeld, AllUnpicked};
+ghost use Rattle.spl_world.specs.Making.{AreMadeBut};
 ghost use Rattle.spl_world.specs.Views.{ArePlaced, Stands, ids_of, is_halted};
 
 use crate::events::Events;
@@ -53,6 +54,8 @@ impl World {
         ensures stands { IfOk result (λ w. Stands [] w (images D.image_at D.moment pairs.new.items)) }
         ensures held { AllUnpicked (bench D.image_at D.moment D.faults D.armed D.picks pairs.old.items) → IfOk result (λ w. AllHeld (bench D.image_at D.moment D.faults D.armed D.picks pairs.old.items) [] w (bench D.image_at D.moment D.faults D.armed D.picks pairs.new.items)) }
         ensures disks { LeavesDisks result (bench D.image_at D.moment D.faults D.armed D.picks pairs.old.items) (bench D.image_at D.moment D.faults D.armed D.picks pairs.new.items) }
+        // Where it ends with an error one node may be half made, and each other is made or not begun.
+        ensures unmade { AllUnpicked (bench D.image_at D.moment D.faults D.armed D.picks pairs.old.items) → IfErr result (λ e. AreMadeBut (sorted (registered registry.now)) registry.now e (bench D.image_at D.moment D.faults D.armed D.picks pairs.old.items) (bench D.image_at D.moment D.faults D.armed D.picks pairs.new.items)) }
     {
         let ids = sorted_ids(alloc, registry)?;
         let mut slots = Vec::new(alloc);

@@ -92,3 +92,20 @@ returns-in-Err-Disk-clause-disk g c = λ node is.
 
 pub returns-in-Err-Disk-clause-complete : goal.returns-in-Err-Disk-clause-complete
 returns-in-Err-Disk-clause-complete g c = λ calm read wrote schedule. absurd (calm (c.in-Err-Disk.slot, c.in-Err-Disk.ensures.failed c.in-Err-Disk.slot (search rules)))
+
+pub returns-in-Err-TooMany-clause-held_many : goal.returns-in-Err-TooMany-clause-held_many
+returns-in-Err-TooMany-clause-held_many g c = λ which is.
+    let same : c.in-Err-TooMany.which ≡ which = cc in
+    let number = c.in-Err-TooMany.line in
+    record { number = number; first = (c.in-Err-TooMany.ensures.many number which (search rules)).0; ends = c.in-Err-TooMany.ensures.many_held number which (search rules) }
+
+pub returns-in-Err-Disk-clause-held_disk : goal.returns-in-Err-Disk-clause-held_disk
+returns-in-Err-Disk-clause-held_disk g c = λ node is.
+    let same : c.node.result ≡ node = cc in
+    record { position = c.in-Err-Disk.slot; at = rw (← same) c.node.ensures; ends = c.in-Err-Disk.ensures.disk_held c.in-Err-Disk.slot (search rules) }
+
+pub returns-in-Err-Write-clause-held_write : goal.returns-in-Err-Write-clause-held_write
+returns-in-Err-Write-clause-held_write g c = λ is. c.in-Err-Write.ensures.write_held (search rules)
+
+pub returns-in-Err-NoMemory-clause-held_memory : goal.returns-in-Err-NoMemory-clause-held_memory
+returns-in-Err-NoMemory-clause-held_memory g c = λ is. c.in-Err-NoMemory.ensures.memory_held (search rules)

@@ -1,17 +1,25 @@
-use Rattle.std.proofs.Common.{◌≡◌, ◌-◌, ℕ, List, [], take, sym, subst, arith}
-use Rattle.std.specs.Prelude.{IfOk}
+use Rattle.std.proofs.Common.{◌≡◌, ◌-◌, ◌∙◌, inl, inr, ap, ℕ, List, [], take, sym, subst, arith}
+use Rattle.std.specs.Prelude.{IfOk, IsErrOf}
 use Rattle.std.specs.Io.{appended_bytes}
 use Rattle.std.specs.Io.KnownBytes.{Appends, IsAtEnd}
-use Rattle.spl_circuit.specs.Nodes.{Node}
+use Rattle.spl_circuit.specs.Nodes.{Node, sorted}
+use Rattle.spl_registry.specs.Nodes.{ids_of as registered}
 use Rattle.spl_world.specs.Disks.{bench}
 use Rattle.spl_world.specs.Held.{AreHeld}
+use Rattle.spl_world.specs.Making.{AreMadeBut}
+use Rattle.spl_world.specs.Views.{places_of}
+use Rattle.spl_world.specs.declared.fault.WorldFault.{WorldFault}
+use Rattle.spl_world.specs.declared.fault.WorldFault.TheVariants.{Disk as FailedDisk, NoMemory as NoRoom, TooMany as PastLimit}
 use Rattle.spl_app.specs.declared.fault.RunEnd.TheVariants.{Whole}
+use Rattle.spl_app.specs.declared.fault.RunFault.TheVariants.{NoMemory}
+use Rattle.spl_app.specs.Ends.{EndsBehind, HeldOrEnds}
 use Rattle.spl_app.specs.Schedule.{IsBadAt, IsSchedule, run_of}
 use Rattle.std.proofs.KnownBytes.{Appends-nil}
 use Rattle.spl_app.specs.Run.{ran, Past, HasFront, StopsAt, answers_behind}
 use Rattle.spl_app.specs.Due.{IsDue, IsDuePart}
 use Rattle.spl_app.proofs.Dues.{part_flushed, due_flushed}
 use Rattle.spl_app.proofs.Benches.{none_then, place_below}
+use Rattle.spl_app.proofs.Ending.{ends_in, made_short, somewhere}
 use Rattle.spl_app.proofs.Events.{none_within}
 use Rattle.spl_app.proofs.Behinds.{at_own, both, ok_then}
 use Rattle.spl_app.proofs.Outputs.{none_yet}
@@ -104,3 +112,90 @@ returns-then-lacks_memory-clause-part g c =
 
 pub returns-in_err-flushed-clause-unarmed : goal.returns-in_err-flushed-clause-unarmed
 returns-in_err-flushed-clause-unarmed g c = λ room. c.lines-ended.ensures.unarmed c.in-Ok.ensures.unarmed (c.lacks_memory.ensures c.if-lacks_memory.false)
+
+pub returns-clause-many_held : goal.returns-clause-many_held
+returns-clause-many_held g c = λ number which is.
+    let es = c.args.registry.now in
+    let w = c.in-Ok.run'.world in
+    let all = run_of (appended_bytes (g.S.Source.taken c.args.source.now) (g.S.Source.taken c.lines-ended.new.source)) in
+    let start = (bench g.D.Disk.image_at g.D.Disk.moment g.D.Disk.faults g.D.Disk.armed g.D.Disk.picks c.args.pairs.now.items) in
+    let now = (bench g.D.Disk.image_at g.D.Disk.moment g.D.Disk.faults g.D.Disk.armed g.D.Disk.picks c.lines-ended.new.pairs.items) in
+    let ids = (c.in-Ok.ensures.behind (g.W.Sink.written c.args.out.now)).world in
+    ends_in es w c.in-Ok.ensures.apart ids c.in-Ok.ensures.placed all (take (number - 1) all) (PastLimit which) start now
+    (subst (λ (ns : List Node). EndsBehind ns (places_of w) all (take (number - 1) all) (PastLimit which) start now) c.in-Ok.ensures.nodes (c.lines-ended.ensures.many_held start c.in-Ok.ensures.held number which is))
+
+pub returns-in-Err-Disk-clause-disk_held : goal.returns-in-Err-Disk-clause-disk_held
+returns-in-Err-Disk-clause-disk_held g c = λ slot is.
+    let same : c.in-Err-Disk.slot ≡ slot = cc in
+    let named : c.in-Err-Disk.field-0 ≡ FailedDisk slot = c.in-Err-Disk.field-0-is ∙ ap (λ (k : ℕ). FailedDisk k) same in
+    inl (subst (Appends _ _) (sym (none_yet _ c.args.skip [] (omega arith))) (Appends-nil _), subst (λ (e : WorldFault). AreMadeBut (sorted (registered c.args.registry.now)) c.args.registry.now e (bench g.D.Disk.image_at g.D.Disk.moment g.D.Disk.faults g.D.Disk.armed g.D.Disk.picks c.args.pairs.now.items) (bench g.D.Disk.image_at g.D.Disk.moment g.D.Disk.faults g.D.Disk.armed g.D.Disk.picks c.new.new.pairs.items)) named c.in-Err-Disk.ensures.unmade)
+
+pub returns-in-Err-clause-memory_held : goal.returns-in-Err-clause-memory_held
+returns-in-Err-clause-memory_held g c = λ is.
+    inl (subst (Appends _ _) (sym (none_yet _ c.args.skip [] (omega arith))) (Appends-nil _), made_short _ _ _ _ _ c.in-Err.ensures.unmade)
+
+pub returns-clause-disk_held : goal.returns-clause-disk_held
+returns-clause-disk_held g c = λ slot is.
+    let es = c.args.registry.now in
+    let w = c.in-Ok.run'.world in
+    let all = run_of (appended_bytes (g.S.Source.taken c.args.source.now) (g.S.Source.taken c.lines-ended.new.source)) in
+    let start = (bench g.D.Disk.image_at g.D.Disk.moment g.D.Disk.faults g.D.Disk.armed g.D.Disk.picks c.args.pairs.now.items) in
+    let now = (bench g.D.Disk.image_at g.D.Disk.moment g.D.Disk.faults g.D.Disk.armed g.D.Disk.picks c.lines-ended.new.pairs.items) in
+    let ids = (c.in-Ok.ensures.behind (g.W.Sink.written c.args.out.now)).world in
+    let found = both (λ (ns : List Node) (skip : ℕ). HasFront ns all (λ ls. IsDue (g.W.Sink.written c.args.out.now) (g.W.Sink.written c.lines-ended.new.out) c.lines-ended.new.self.output (answers_behind skip ns ls) × EndsBehind ns (places_of w) all ls (FailedDisk slot) start now)) c.in-Ok.ensures.nodes c.in-Ok.ensures.skip (c.lines-ended.ensures.disk_held start c.in-Ok.ensures.held slot is) in
+    inr (record { count = found.count; run = found.run; holds = (due_flushed _ _ _ _ _ found.holds.0 c.in_ok-flushed.ensures.ok, ends_in es w c.in-Ok.ensures.apart ids c.in-Ok.ensures.placed all (take found.count all) (FailedDisk slot) start now found.holds.1) })
+
+pub returns-in_err-flushed-clause-write_held : goal.returns-in_err-flushed-clause-write_held
+returns-in_err-flushed-clause-write_held g c = λ is.
+    let es = c.args.registry.now in
+    let w = c.in-Ok.run'.world in
+    let all = run_of (appended_bytes (g.S.Source.taken c.args.source.now) (g.S.Source.taken c.lines-ended.new.source)) in
+    let start = (bench g.D.Disk.image_at g.D.Disk.moment g.D.Disk.faults g.D.Disk.armed g.D.Disk.picks c.args.pairs.now.items) in
+    let now = (bench g.D.Disk.image_at g.D.Disk.moment g.D.Disk.faults g.D.Disk.armed g.D.Disk.picks c.lines-ended.new.pairs.items) in
+    let ids = (c.in-Ok.ensures.behind (g.W.Sink.written c.args.out.now)).world in
+    somewhere es w c.in-Ok.ensures.apart ids c.in-Ok.ensures.placed (λ e. e ≡ NoRoom → IsErrOf c.lines-ended.result NoMemory) (λ e. e ≡ NoRoom → ⊥) (λ e kind none. c.lacks_memory.ensures c.if-lacks_memory.false (kind none)) all start now
+    (subst (λ (ns : List Node). HasFront ns all (HeldOrEnds (λ e. e ≡ NoRoom → IsErrOf c.lines-ended.result NoMemory) ns (places_of w) all start now)) c.in-Ok.ensures.nodes (c.lines-ended.ensures.reached start c.in-Ok.ensures.held))
+
+pub returns-in_err-flushed-clause-memory_held : goal.returns-in_err-flushed-clause-memory_held
+returns-in_err-flushed-clause-memory_held g c = λ is.
+    let es = c.args.registry.now in
+    let w = c.in-Ok.run'.world in
+    let all = run_of (appended_bytes (g.S.Source.taken c.args.source.now) (g.S.Source.taken c.lines-ended.new.source)) in
+    let start = (bench g.D.Disk.image_at g.D.Disk.moment g.D.Disk.faults g.D.Disk.armed g.D.Disk.picks c.args.pairs.now.items) in
+    let now = (bench g.D.Disk.image_at g.D.Disk.moment g.D.Disk.faults g.D.Disk.armed g.D.Disk.picks c.lines-ended.new.pairs.items) in
+    let ids = (c.in-Ok.ensures.behind (g.W.Sink.written c.args.out.now)).world in
+    inr (somewhere es w c.in-Ok.ensures.apart ids c.in-Ok.ensures.placed (λ e. e ≡ NoRoom → IsErrOf c.lines-ended.result NoMemory) (λ e. Unit {0}) (λ e kind. tt) all start now
+    (subst (λ (ns : List Node). HasFront ns all (HeldOrEnds (λ e. e ≡ NoRoom → IsErrOf c.lines-ended.result NoMemory) ns (places_of w) all start now)) c.in-Ok.ensures.nodes (c.lines-ended.ensures.reached start c.in-Ok.ensures.held)))
+
+pub returns-then-lacks_memory-clause-memory_held : goal.returns-then-lacks_memory-clause-memory_held
+returns-then-lacks_memory-clause-memory_held g c = λ is.
+    let es = c.args.registry.now in
+    let w = c.in-Ok.run'.world in
+    let all = run_of (appended_bytes (g.S.Source.taken c.args.source.now) (g.S.Source.taken c.lines-ended.new.source)) in
+    let start = (bench g.D.Disk.image_at g.D.Disk.moment g.D.Disk.faults g.D.Disk.armed g.D.Disk.picks c.args.pairs.now.items) in
+    let now = (bench g.D.Disk.image_at g.D.Disk.moment g.D.Disk.faults g.D.Disk.armed g.D.Disk.picks c.lines-ended.new.pairs.items) in
+    let ids = (c.in-Ok.ensures.behind (g.W.Sink.written c.args.out.now)).world in
+    inr (somewhere es w c.in-Ok.ensures.apart ids c.in-Ok.ensures.placed (λ e. e ≡ NoRoom → IsErrOf c.lines-ended.result NoMemory) (λ e. Unit {0}) (λ e kind. tt) all start now
+    (subst (λ (ns : List Node). HasFront ns all (HeldOrEnds (λ e. e ≡ NoRoom → IsErrOf c.lines-ended.result NoMemory) ns (places_of w) all start now)) c.in-Ok.ensures.nodes (c.lines-ended.ensures.reached start c.in-Ok.ensures.held)))
+
+pub returns-clause-write_held : goal.returns-clause-write_held
+returns-clause-write_held g c = λ is.
+    let es = c.args.registry.now in
+    let w = c.in-Ok.run'.world in
+    let all = run_of (appended_bytes (g.S.Source.taken c.args.source.now) (g.S.Source.taken c.lines-ended.new.source)) in
+    let start = (bench g.D.Disk.image_at g.D.Disk.moment g.D.Disk.faults g.D.Disk.armed g.D.Disk.picks c.args.pairs.now.items) in
+    let now = (bench g.D.Disk.image_at g.D.Disk.moment g.D.Disk.faults g.D.Disk.armed g.D.Disk.picks c.lines-ended.new.pairs.items) in
+    let ids = (c.in-Ok.ensures.behind (g.W.Sink.written c.args.out.now)).world in
+    somewhere es w c.in-Ok.ensures.apart ids c.in-Ok.ensures.placed (λ e. e ≡ NoRoom → IsErrOf c.lines-ended.result NoMemory) (λ e. e ≡ NoRoom → ⊥) (λ e kind none. c.lacks_memory.ensures c.if-lacks_memory.false (kind none)) all start now
+    (subst (λ (ns : List Node). HasFront ns all (HeldOrEnds (λ e. e ≡ NoRoom → IsErrOf c.lines-ended.result NoMemory) ns (places_of w) all start now)) c.in-Ok.ensures.nodes (c.lines-ended.ensures.reached start c.in-Ok.ensures.held))
+
+pub returns-clause-memory_held : goal.returns-clause-memory_held
+returns-clause-memory_held g c = λ is.
+    let es = c.args.registry.now in
+    let w = c.in-Ok.run'.world in
+    let all = run_of (appended_bytes (g.S.Source.taken c.args.source.now) (g.S.Source.taken c.lines-ended.new.source)) in
+    let start = (bench g.D.Disk.image_at g.D.Disk.moment g.D.Disk.faults g.D.Disk.armed g.D.Disk.picks c.args.pairs.now.items) in
+    let now = (bench g.D.Disk.image_at g.D.Disk.moment g.D.Disk.faults g.D.Disk.armed g.D.Disk.picks c.lines-ended.new.pairs.items) in
+    let ids = (c.in-Ok.ensures.behind (g.W.Sink.written c.args.out.now)).world in
+    inr (somewhere es w c.in-Ok.ensures.apart ids c.in-Ok.ensures.placed (λ e. e ≡ NoRoom → IsErrOf c.lines-ended.result NoMemory) (λ e. Unit {0}) (λ e kind. tt) all start now
+    (subst (λ (ns : List Node). HasFront ns all (HeldOrEnds (λ e. e ≡ NoRoom → IsErrOf c.lines-ended.result NoMemory) ns (places_of w) all start now)) c.in-Ok.ensures.nodes (c.lines-ended.ensures.reached start c.in-Ok.ensures.held)))

@@ -1,6 +1,14 @@
-use Rattle.std.proofs.Common.{inl}
+use Rattle.std.proofs.Common.{◌≡◌, Err, inl, ap, ◌∙◌}
+use Rattle.spl_edge.specs.declared.bench.Pair.{Pair}
+use Rattle.std.specs.Global.{Vec}
+use Rattle.spl_projection.specs.Whole.{whole_world}
+use Rattle.spl_world.specs.Disks.{images}
+use Rattle.spl_world.specs.Ended.{LineEnds}
+use Rattle.spl_world.specs.Views.{ids_of, places_of}
+use Rattle.spl_world.specs.declared.fault.WorldFault.{WorldFault}
 use Rattle.spl_app.proofs.Behinds.{ok_then}
 use Rattle.spl_app.proofs.Benches.{none_on, unarmed_on}
+use Rattle.spl_app.proofs.Ending.{err_then, halt_ends, step_ends}
 use Rattle.spl_app.proofs.Halts.{stays_within}
 use Rattle.spl_app.proofs.take.take_line.Goals as goal
 
@@ -16,3 +24,17 @@ returns-else-stops_node-clause-onward g c = none_on _ _ c.step.ensures.disks.onw
 
 pub returns-else-stops_node-clause-unarmed : goal.returns-else-stops_node-clause-unarmed
 returns-else-stops_node-clause-unarmed g c = λ off room. unarmed_on _ _ c.step.ensures.disks.onward off
+
+pub returns-else-stops_node-clause-ended : goal.returns-else-stops_node-clause-ended
+returns-else-stops_node-clause-ended g c = λ start before stands held.
+    err_then c.step.result _ _ (c.step.ensures.ended before stands) (λ e is ends.
+    step_ends g.D.Disk.image_at g.D.Disk.moment g.D.Disk.faults g.D.Disk.armed g.D.Disk.picks (ids_of c.args.world.now) (places_of c.args.world.now) before c.args.line.now start c.args.pairs.now.items c.step.new.pairs.items held e (cc) c.step.ensures.disks.onward ends)
+
+pub returns-then-stops_node-clause-ended : goal.returns-then-stops_node-clause-ended
+returns-then-stops_node-clause-ended g c = λ start before stands held.
+    let ns = ids_of c.args.world.now in
+    let places = places_of c.args.world.now in
+    err_then c.halt.result (λ e. LineEnds (λ c'. whole_world ns c' before) c.args.line.now e ns places (images g.D.Disk.image_at g.D.Disk.moment c.halt.new.pairs.items)) _ (c.halt.ensures.ended before stands) (λ e is ends.
+    halt_ends g.D.Disk.image_at g.D.Disk.moment g.D.Disk.faults g.D.Disk.armed g.D.Disk.picks ns places before c.args.line.now start c.args.pairs.now.items c.halt.new.pairs.items held e (cc)
+    (λ which q. ap (λ (ps : Vec (Pair _)). ps.items) (c.halt.ensures.kept which (is ∙ ap (λ (f : WorldFault). Err f) q)))
+    (λ k q. c.halt.ensures.disk k (is ∙ ap (λ (f : WorldFault). Err f) q)) ends)

@@ -11,6 +11,8 @@ use Rattle.spl_app.specs.Generated.{generated_lines, last_answers}
 use Rattle.spl_app.specs.Lines.{lines_of}
 use Rattle.spl_world.specs.Disks.{bench}
 use Rattle.spl_world.specs.Held.{AreHeld}
+use Rattle.spl_app.specs.Ends.{EndsAtNode, EndsPast, EndsShort, EndsSomewhere}
+use Rattle.spl_world.specs.declared.fault.WorldFault.TheVariants.{NoMemory as NoRoom}
 use Rattle.spl_app.specs.Run.{HasFront, IsRun, Past, StopsAt, ran, answers}
 use Rattle.spl_app.specs.Schedule.{IsSchedule, IsBadAt, HasTooMany, had, run_of}
 use Rattle.spl_app.specs.Registered.{HasFailedAt, nodes_in, nodes_of}
@@ -161,6 +163,41 @@ pub returns-in-Some-clause-gen_held : goal.returns-in-Some-clause-gen_held
 returns-in-Some-clause-gen_held g c = λ n seed gen is.
     only_gen (λ (n seed : ℕ). AreHeld (bench g.D.Disk.image_at g.D.Disk.moment g.D.Disk.faults g.D.Disk.armed g.D.Disk.picks c.args.bench.now.pairs.items) gen_nodes (ran (generated_lines n seed)) (made gen_nodes) (bench g.D.Disk.image_at g.D.Disk.moment g.D.Disk.faults g.D.Disk.armed g.D.Disk.picks c.run_generated.new.pairs.items)) c.read_gen.result n seed c.in-Some.n c.in-Some.seed (search rules) (c.read_gen.ensures.all n seed gen) (c.run_generated.ensures.held_ok is)
 
+pub returns-in-Some-clause-gen_held_many : goal.returns-in-Some-clause-gen_held_many
+returns-in-Some-clause-gen_held_many g c = λ n seed which gen is.
+    only_gen (λ (n seed : ℕ). EndsPast (made gen_nodes) (generated_lines n seed) which (bench g.D.Disk.image_at g.D.Disk.moment g.D.Disk.faults g.D.Disk.armed g.D.Disk.picks c.args.bench.now.pairs.items) (bench g.D.Disk.image_at g.D.Disk.moment g.D.Disk.faults g.D.Disk.armed g.D.Disk.picks c.run_generated.new.pairs.items)) c.read_gen.result n seed c.in-Some.n c.in-Some.seed (search rules) (c.read_gen.ensures.all n seed gen) (c.run_generated.ensures.held_many which is)
+
+pub returns-in-Some-clause-gen_held_disk : goal.returns-in-Some-clause-gen_held_disk
+returns-in-Some-clause-gen_held_disk g c = λ n seed node gen is.
+    only_gen (λ (n seed : ℕ). EndsAtNode (made gen_nodes) (generated_lines n seed) node (λ (ls : List (List ℕ)). Appends (g.W.Sink.written c.args.out.now) (g.W.Sink.written c.run_generated.new.out) (last_answers n seed ls)) (bench g.D.Disk.image_at g.D.Disk.moment g.D.Disk.faults g.D.Disk.armed g.D.Disk.picks c.args.bench.now.pairs.items) (bench g.D.Disk.image_at g.D.Disk.moment g.D.Disk.faults g.D.Disk.armed g.D.Disk.picks c.run_generated.new.pairs.items)) c.read_gen.result n seed c.in-Some.n c.in-Some.seed (search rules) (c.read_gen.ensures.all n seed gen) (c.run_generated.ensures.held_disk node is)
+
+pub returns-in-Some-clause-gen_held_write : goal.returns-in-Some-clause-gen_held_write
+returns-in-Some-clause-gen_held_write g c = λ n seed gen is.
+    only_gen (λ (n seed : ℕ). EndsSomewhere (λ e. e ≡ NoRoom → ⊥) (made gen_nodes) (generated_lines n seed) (bench g.D.Disk.image_at g.D.Disk.moment g.D.Disk.faults g.D.Disk.armed g.D.Disk.picks c.args.bench.now.pairs.items) (bench g.D.Disk.image_at g.D.Disk.moment g.D.Disk.faults g.D.Disk.armed g.D.Disk.picks c.run_generated.new.pairs.items)) c.read_gen.result n seed c.in-Some.n c.in-Some.seed (search rules) (c.read_gen.ensures.all n seed gen) (c.run_generated.ensures.held_write is)
+
+pub returns-in-Some-clause-gen_held_memory : goal.returns-in-Some-clause-gen_held_memory
+returns-in-Some-clause-gen_held_memory g c = λ n seed gen is.
+    only_gen (λ (n seed : ℕ). EndsShort (made gen_nodes) (generated_lines n seed) (λ (ls : List (List ℕ)). Appends (g.W.Sink.written c.args.out.now) (g.W.Sink.written c.run_generated.new.out) (last_answers n seed ls)) (bench g.D.Disk.image_at g.D.Disk.moment g.D.Disk.faults g.D.Disk.armed g.D.Disk.picks c.args.bench.now.pairs.items) (bench g.D.Disk.image_at g.D.Disk.moment g.D.Disk.faults g.D.Disk.armed g.D.Disk.picks c.run_generated.new.pairs.items)) c.read_gen.result n seed c.in-Some.n c.in-Some.seed (search rules) (c.read_gen.ensures.all n seed gen) (c.run_generated.ensures.held_memory is)
+
 pub returns-in-Some-clause-gen_complete : goal.returns-in-Some-clause-gen_complete
 returns-in-Some-clause-gen_complete g c = λ n seed gen run wrote calm.
     only_gen (λ (n seed : ℕ). IsRun gen_nodes (generated_lines n seed) → (c.run_generated.result ≡ status.Ok) ⊎ (c.run_generated.result ≡ status.NoMemory)) c.read_gen.result n seed c.in-Some.n c.in-Some.seed (search rules) (c.read_gen.ensures.all n seed gen) (λ run. c.run_generated.ensures.complete run wrote calm) run
+
+pub returns-in-Ok-clause-held_many : goal.returns-in-Ok-clause-held_many
+returns-in-Ok-clause-held_many g c = λ which form is. record { entries = c.in-Ok.found; spelled = c.in-Ok.ensures.entries; holds = c.replay.ensures.held_many which is }
+
+pub returns-in-Ok-clause-held_disk : goal.returns-in-Ok-clause-held_disk
+returns-in-Ok-clause-held_disk g c = λ node form is.
+    let given = appended_bytes (g.S.Source.taken c.args.schedule.now) (g.S.Source.taken c.replay.new.schedule) in
+    record { entries = c.in-Ok.found; spelled = c.in-Ok.ensures.entries; holds = subst (λ (ns : List Node). EndsAtNode c.in-Ok.found (run_of given) node (λ ls. Appends (g.W.Sink.written c.args.out.now) (g.W.Sink.written c.replay.new.out) (answers ns ls)) (bench g.D.Disk.image_at g.D.Disk.moment g.D.Disk.faults g.D.Disk.armed g.D.Disk.picks c.args.bench.now.pairs.items) (bench g.D.Disk.image_at g.D.Disk.moment g.D.Disk.faults g.D.Disk.armed g.D.Disk.picks c.replay.new.pairs.items)) (sym (ap nodes_in c.in-Ok.ensures.entries)) (c.replay.ensures.held_disk node is) }
+
+pub returns-in-Ok-clause-held_write : goal.returns-in-Ok-clause-held_write
+returns-in-Ok-clause-held_write g c = λ form is. record { entries = c.in-Ok.found; spelled = c.in-Ok.ensures.entries; holds = c.replay.ensures.held_write is }
+
+pub returns-in-Ok-clause-held_memory : goal.returns-in-Ok-clause-held_memory
+returns-in-Ok-clause-held_memory g c = λ form is.
+    let given = appended_bytes (g.S.Source.taken c.args.schedule.now) (g.S.Source.taken c.replay.new.schedule) in
+    inr (record { entries = c.in-Ok.found; spelled = c.in-Ok.ensures.entries; holds = subst (λ (ns : List Node). EndsShort c.in-Ok.found (run_of given) (λ ls. Appends (g.W.Sink.written c.args.out.now) (g.W.Sink.written c.replay.new.out) (answers ns ls)) (bench g.D.Disk.image_at g.D.Disk.moment g.D.Disk.faults g.D.Disk.armed g.D.Disk.picks c.args.bench.now.pairs.items) (bench g.D.Disk.image_at g.D.Disk.moment g.D.Disk.faults g.D.Disk.armed g.D.Disk.picks c.replay.new.pairs.items)) (sym (ap nodes_in c.in-Ok.ensures.entries)) (c.replay.ensures.held_memory is) })
+
+pub returns-in-Err-NoMemory-clause-held_memory : goal.returns-in-Err-NoMemory-clause-held_memory
+returns-in-Err-NoMemory-clause-held_memory g c = λ form is. inl (Appends-nil _, refl)

@@ -1,12 +1,18 @@
-use Rattle.std.proofs.Common.{◌≡◌, ◌∙◌, Err, ap, ℕ, List, ◌++◌, subst, sym}
+use Rattle.std.proofs.Common.{◌≡◌, ◌⊎◌, ◌∙◌, Err, ap, ℕ, List, [], ◌∷◌, ◌++◌, subst, sym}
+use Rattle.spl_circuit.specs.Nodes.{Node}
 use Rattle.spl_answer.specs.Texts.{text}
 use Rattle.spl_model.specs.Outcomes.{by_rule}
 use Rattle.spl_model.specs.Answers.{answer_to}
 use Rattle.spl_app.specs.Due.{IsDuePart}
+use Rattle.spl_app.specs.Ends.{EndsAt, HeldAt, RanOn}
+use Rattle.spl_app.specs.Faults.{fault_of}
 use Rattle.spl_app.specs.Run.{shown}
 use Rattle.spl_app.proofs.Dues.{due_waits, due_part}
+use Rattle.spl_world.specs.Disks.{bench}
+use Rattle.spl_world.specs.Views.{places_of}
 use Rattle.spl_world.specs.declared.fault.WorldFault.{WorldFault}
-use Rattle.spl_world.specs.declared.fault.WorldFault.TheVariants.{Disk, TooMany}
+use Rattle.spl_world.specs.declared.fault.WorldFault.TheVariants.{Disk, NoMemory, TooMany}
+use Rattle.spl_app.proofs.Ending.{as_seats, ends_or_ran, err_from, only_ends, sink_ends}
 use Rattle.spl_app.proofs.run.Run.answer.Goals as goal
 
 pub returns-in-Err-TooMany-clause-part : goal.returns-in-Err-TooMany-clause-part
@@ -59,3 +65,32 @@ returns-in_err-put_behind-clause-unarmed g c = λ off room. c.in-Ok.ensures.unar
 
 pub returns-clause-unarmed : goal.returns-clause-unarmed
 returns-clause-unarmed g c = λ off room. c.in-Ok.ensures.unarmed off (λ is. cc)
+
+pub returns-in-Err-TooMany-clause-ended : goal.returns-in-Err-TooMany-clause-ended
+returns-in-Err-TooMany-clause-ended g c = λ start before stands held.
+    let now = (bench g.D.Disk.image_at g.D.Disk.moment g.D.Disk.faults g.D.Disk.armed g.D.Disk.picks c.ask.new.pairs.items) in
+    let f = c.in-Err-TooMany.field-0 in
+    subst (λ (e : WorldFault). EndsAt c.args.self.now.nodes.items (places_of c.args.self.now.world) before c.args.said.now e start now) c.in-Err-TooMany.field-0-is
+    (only_ends f (EndsAt c.args.self.now.nodes.items (places_of c.args.self.now.world) before c.args.said.now f start now) (RanOn c.args.self.now.nodes.items (places_of c.args.self.now.world) before c.args.said.now start now) (λ q. let is = c.in-Err-TooMany.field-0-is in cc) (c.in-Err-TooMany.ensures.ended start before stands held))
+
+pub returns-in-Err-Disk-clause-ended : goal.returns-in-Err-Disk-clause-ended
+returns-in-Err-Disk-clause-ended g c = λ start before stands held.
+    let now = (bench g.D.Disk.image_at g.D.Disk.moment g.D.Disk.faults g.D.Disk.armed g.D.Disk.picks c.ask.new.pairs.items) in
+    let f = c.in-Err-Disk.field-0 in
+    subst (λ (e : WorldFault). EndsAt c.args.self.now.nodes.items (places_of c.args.self.now.world) before c.args.said.now e start now) c.in-Err-Disk.field-0-is
+    (only_ends f (EndsAt c.args.self.now.nodes.items (places_of c.args.self.now.world) before c.args.said.now f start now) (RanOn c.args.self.now.nodes.items (places_of c.args.self.now.world) before c.args.said.now start now) (λ q. let is = c.in-Err-Disk.field-0-is in cc) (c.in-Err-Disk.ensures.ended start before stands held))
+
+pub returns-in-Err-NoMemory-clause-ended : goal.returns-in-Err-NoMemory-clause-ended
+returns-in-Err-NoMemory-clause-ended g c = λ start before stands held.
+    let now = (bench g.D.Disk.image_at g.D.Disk.moment g.D.Disk.faults g.D.Disk.armed g.D.Disk.picks c.ask.new.pairs.items) in
+    ends_or_ran (EndsAt c.args.self.now.nodes.items (places_of c.args.self.now.world) before c.args.said.now NoMemory start now) (RanOn c.args.self.now.nodes.items (places_of c.args.self.now.world) before c.args.said.now start now)
+    (subst (λ (e : WorldFault). EndsAt c.args.self.now.nodes.items (places_of c.args.self.now.world) before c.args.said.now e start now ⊎ ((e ≡ NoMemory) × (RanOn c.args.self.now.nodes.items (places_of c.args.self.now.world) before c.args.said.now start now))) c.in-Err-NoMemory.field-0-is (c.in-Err-NoMemory.ensures.ended start before stands held))
+
+pub returns-in_err-put_behind-clause-ended : goal.returns-in_err-put_behind-clause-ended
+returns-in_err-put_behind-clause-ended g c = λ start before stands held.
+    let now = (bench g.D.Disk.image_at g.D.Disk.moment g.D.Disk.faults g.D.Disk.armed g.D.Disk.picks c.ask.new.pairs.items) in
+    err_from c.from_residual.result (fault_of c.in_err-put_behind.field-0.0) _ c.from_residual.ensures
+    (sink_ends (λ e. (EndsAt c.args.self.now.nodes.items (places_of c.args.self.now.world) before c.args.said.now e start now)) (RanOn c.args.self.now.nodes.items (places_of c.args.self.now.world) before c.args.said.now start now) c.in_err-put_behind.field-0.0 (record {
+      held = as_seats (λ (ns : List Node) (ks : List ℕ). HeldAt ns ks (before ++ by_rule c.args.said.now ∷ []) start now) c.ask.ensures.world c.ask.ensures.places (c.in-Ok.ensures.held start before stands held);
+      few = λ few. c.in-Ok.ensures.few before stands few;
+    }))

@@ -1,14 +1,18 @@
-use Rattle.std.proofs.Common.{◌≡◌, Err, ◌∷◌, ◌++◌, ℕ, List, [], ap, ◌∙◌, rules, subst, sym}
+use Rattle.std.proofs.Common.{◌≡◌, inl, inr, refl, Err, ◌∷◌, ◌++◌, ℕ, List, [], ap, ◌∙◌, rules, subst, sym}
 use Rattle.std.specs.Prelude.{IsErrOf}
 use Rattle.spl_circuit.specs.Nodes.{NodeId}
 use Rattle.spl_answer.specs.Texts.{text}
 use Rattle.spl_model.specs.Outcomes.{by_rule}
 use Rattle.spl_model.specs.Answers.{answer_to}
 use Rattle.spl_world.specs.Counts.{IsOver}
+use Rattle.spl_world.specs.Disks.{bench}
+use Rattle.spl_world.specs.Views.{places_of}
 use Rattle.spl_world.specs.declared.fault.WorldFault.TheVariants.{Disk, NoMemory, TooMany}
 use Rattle.spl_world.specs.declared.fault.WorldFault.{WorldFault}
+use Rattle.spl_app.specs.Ends.{EndsAt, HeldAt}
 use Rattle.spl_app.specs.Run.{IsRunnable, IsWithin}
 use Rattle.spl_app.proofs.Benches.{err_back, err_same}
+use Rattle.spl_app.proofs.Ending.{as_seats, err_from}
 use Rattle.spl_app.proofs.run.Run.ask.Goals as goal
 
 pub take_line-requires-clause-runnable : goal.take_line-requires-clause-runnable
@@ -48,3 +52,21 @@ returns-in_err-answer-clause-unarmed g c = λ off room. c.in_err-answer.ensures.
 
 pub returns-clause-unarmed : goal.returns-clause-unarmed
 returns-clause-unarmed g c = λ off room. c.in_ok-answer.ensures.unarmed off (λ is. cc)
+
+pub returns-in_err-answer-clause-ended : goal.returns-in_err-answer-clause-ended
+returns-in_err-answer-clause-ended g c = λ start before stands held.
+    let now = (bench g.D.Disk.image_at g.D.Disk.moment g.D.Disk.faults g.D.Disk.armed g.D.Disk.picks c.take_line.new.pairs.items) in
+    err_from c.from_residual.result c.in_err-answer.field-0.0 _ c.from_residual.ensures
+    (inl (subst (λ (ns : List NodeId). EndsAt ns (places_of c.args.self.now.world) before c.args.said.now c.in_err-answer.field-0.0 start now) c.requires.nodes (c.in_err-answer.ensures.ended start before stands held)))
+
+pub returns-in_err-append_text-clause-ended : goal.returns-in_err-append_text-clause-ended
+returns-in_err-append_text-clause-ended g c = λ start before stands held.
+    let now = (bench g.D.Disk.image_at g.D.Disk.moment g.D.Disk.faults g.D.Disk.armed g.D.Disk.picks c.take_line.new.pairs.items) in
+    err_from c.from_residual-in_err-append_text.result NoMemory _ c.from_residual-in_err-append_text.ensures
+    (inr (
+      refl,
+      record {
+        held = as_seats (λ (ns : List NodeId) (ks : List ℕ). HeldAt ns ks (before ++ by_rule c.args.said.now ∷ []) start now) (c.take_line.ensures.ids ∙ c.requires.nodes) c.take_line.ensures.places (c.in_ok-answer.ensures.held start before stands held);
+        few = λ few. subst (λ (ns : List NodeId). IsWithin ns (before ++ by_rule c.args.said.now ∷ [])) c.requires.nodes (c.in_ok-answer.ensures.few before stands (subst (λ (ns : List NodeId). IsWithin ns before) (sym c.requires.nodes) few));
+      },
+    ))

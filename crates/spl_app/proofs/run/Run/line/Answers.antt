@@ -1,7 +1,11 @@
-use Rattle.std.proofs.Common.{[], ◌∷◌, sym, ◌∙◌}
+use Rattle.std.proofs.Common.{inr, List, [], ◌∷◌, ◌++◌, refl, subst, sym, ◌∙◌}
+use Rattle.spl_circuit.specs.Nodes.{Node}
 use Rattle.spl_world.specs.Disks.{bench}
+use Rattle.spl_world.specs.Views.{places_of}
+use Rattle.spl_app.specs.Ends.{HeldAt}
 use Rattle.spl_app.specs.Run.{ran}
 use Rattle.spl_app.proofs.Behinds.{ok_then, on_ok, past_said, behind_part, behind_silent, behind_said, part_said}
+use Rattle.spl_app.proofs.Ending.{err_then, fault_on, front_still}
 use Rattle.spl_app.proofs.Holds.{held_said, held_silent}
 use Rattle.spl_app.proofs.run.Run.line.Goals as goal
 
@@ -42,3 +46,19 @@ pub returns-in-Ok-Some-clause-held : goal.returns-in-Ok-Some-clause-held
 returns-in-Ok-Some-clause-held g c = λ start lines stands held.
     ok_then c.answer.result (c.answer.ensures.held start (ran lines) stands held)
     (held_said start lines c.args.line.now c.in-Ok-Some.said (sym c.in-Ok-Some.ensures.said ∙ c.in-Ok-Some.field-0-is) c.answer.new.self.world (bench g.D.Disk.image_at g.D.Disk.moment g.D.Disk.faults g.D.Disk.armed g.D.Disk.picks c.answer.new.pairs.items))
+
+pub returns-in-Err-BadLine-clause-ended : goal.returns-in-Err-BadLine-clause-ended
+returns-in-Err-BadLine-clause-ended g c = λ start lines run stands held.
+    front_still c.args.self.now.nodes.items (places_of c.args.self.now.world) lines c.args.line.now start (bench g.D.Disk.image_at g.D.Disk.moment g.D.Disk.faults g.D.Disk.armed g.D.Disk.picks c.args.pairs.now.items) (lines ++ c.args.line.now ∷ []) refl run
+    (subst (λ (ns : List Node). HeldAt ns (places_of c.args.self.now.world) (ran lines) start (bench g.D.Disk.image_at g.D.Disk.moment g.D.Disk.faults g.D.Disk.armed g.D.Disk.picks c.args.pairs.now.items)) c.requires.nodes held)
+
+pub returns-in-Err-NoMemory-clause-ended : goal.returns-in-Err-NoMemory-clause-ended
+returns-in-Err-NoMemory-clause-ended g c = λ start lines run stands held.
+    inr (front_still c.args.self.now.nodes.items (places_of c.args.self.now.world) lines c.args.line.now start (bench g.D.Disk.image_at g.D.Disk.moment g.D.Disk.faults g.D.Disk.armed g.D.Disk.picks c.args.pairs.now.items) (lines ++ c.args.line.now ∷ []) refl run
+    (subst (λ (ns : List Node). HeldAt ns (places_of c.args.self.now.world) (ran lines) start (bench g.D.Disk.image_at g.D.Disk.moment g.D.Disk.faults g.D.Disk.armed g.D.Disk.picks c.args.pairs.now.items)) c.requires.nodes held))
+
+pub returns-in-Ok-Some-clause-ended : goal.returns-in-Ok-Some-clause-ended
+returns-in-Ok-Some-clause-ended g c = λ start lines run stands held.
+    let now = (bench g.D.Disk.image_at g.D.Disk.moment g.D.Disk.faults g.D.Disk.armed g.D.Disk.picks c.answer.new.pairs.items) in
+    err_then c.answer.result _ _ (c.answer.ensures.ended start (ran lines) stands held)
+    (λ f is ends. fault_on c.args.self.now.nodes.items (places_of c.args.self.now.world) lines c.args.line.now start now c.in-Ok-Some.said (sym c.in-Ok-Some.ensures.said ∙ c.in-Ok-Some.field-0-is) c.in-Ok-Some.ensures.good run f ends)

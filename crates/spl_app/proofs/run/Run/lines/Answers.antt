@@ -5,10 +5,13 @@ use Rattle.spl_edge.specs.declared.bench.Pair.{Pair}
 use Rattle.std.specs.Global.{Vec}
 use Rattle.spl_world.specs.Disks.{bench}
 use Rattle.spl_world.specs.Held.{AllHeld}
+use Rattle.spl_world.specs.Views.{places_of}
+use Rattle.spl_world.specs.declared.fault.WorldFault.TheVariants.{Disk as FailedDisk, TooMany as PastLimit}
 use Rattle.spl_app.specs.declared.fault.RunFault.{RunFault}
 use Rattle.spl_app.specs.declared.fault.RunFault.TheVariants.{BadLine, TooMany, Disk}
+use Rattle.spl_app.specs.Ends.{EndsBehind, FaultEnds, HeldAt}
 use Rattle.spl_app.specs.Lines.{lines_of}
-use Rattle.spl_app.specs.Run.{ran, IsLine, IsRun, Bad, Past, StopsFor, answers_behind}
+use Rattle.spl_app.specs.Run.{HasFront, ran, IsLine, IsRun, Bad, Past, StopsFor, answers_behind}
 use Rattle.spl_app.specs.Schedule.{run_of}
 use Rattle.spl_app.specs.Due.{IsDue, IsDuePart}
 use Rattle.spl_app.specs.Feed.{Feeds, waiting}
@@ -16,6 +19,8 @@ use Rattle.spl_app.proofs.Dues.{due_same, due_whole}
 use Rattle.spl_app.proofs.Behinds.{at_first, at_own, both}
 use Rattle.spl_app.proofs.Benches.{none_itself, none_then}
 use Rattle.spl_app.proofs.Ends.{all_before, bad_rest, schedule, unfinished}
+use Rattle.spl_app.proofs.Ending.{as_seats, ends_more, fault_reached, front_at, front_whole}
+use Rattle.spl_app.proofs.Events.{none_within}
 use Rattle.spl_app.proofs.Fed.{all_lines, few_lines, is_long, is_overlong, is_short}
 use Rattle.spl_app.proofs.Given.{limit_is}
 use Rattle.spl_app.proofs.Holds.{held_as}
@@ -361,3 +366,115 @@ returns-in-Err-Overlong-clause-bad_held g c = λ start h number is.
     let same : c.lines.count + 1 ≡ number = cc in
     let counted : number ≡ length lines + 1 = omega (arith, same, c.lines.invariant.counted) in
     subst (λ (ls : List (List ℕ)). AllHeld start (ran ls) c.args.self.now.world (bench g.D.Disk.image_at g.D.Disk.moment g.D.Disk.faults g.D.Disk.armed g.D.Disk.picks c.lines.pairs.items)) (sym (all_before lines (run_of (appended_bytes (g.S.Source.taken c.args.source.now) (g.S.Source.taken c.advance.new.source))) number all counted)) (held_as start (ran c.lines.invariant.lines) c.lines.self.world c.args.self.now.world (bench g.D.Disk.image_at g.D.Disk.moment g.D.Disk.faults g.D.Disk.armed g.D.Disk.picks c.lines.pairs.items) (c.requires.fresh.world ∙ sym c.lines.invariant.behind.world) (sym c.lines.invariant.places) (c.lines.invariant.held start h))
+
+pub returns-in-Err-clause-many_held : goal.returns-in-Err-clause-many_held
+returns-in-Err-clause-many_held g c = λ start h number which is.
+    let lines = c.lines.invariant.lines in
+    let line = c.line-line.result.now in
+    let next = subst (λ (l : List ℕ). Feeds (g.S.Source.taken c.args.source.now) (g.S.Source.left c.args.source.now) (lines ++ l ∷ []) (g.S.Source.taken c.advance.new.source) (g.S.Source.left c.advance.new.source) c.advance.new.self) (sym c.line-line.ensures) (c.in-Ok-true.ensures.line c.in-Ok-true.field-0-test (g.S.Source.taken c.args.source.now) (g.S.Source.left c.args.source.now) lines c.lines.invariant.feeds) in
+    let all = run_of (appended_bytes (g.S.Source.taken c.args.source.now) (g.S.Source.taken c.advance.new.source)) in
+    let rest = lines_of (waiting c.advance.new.self) in
+    let ns = c.args.self.now.nodes.items in
+    let places = places_of c.args.self.now.world in
+    let now = (bench g.D.Disk.image_at g.D.Disk.moment g.D.Disk.faults g.D.Disk.armed g.D.Disk.picks c.line.new.pairs.items) in
+    let run : IsRun ns lines = record { lines = c.lines.invariant.good; few = c.lines.invariant.behind.few } in
+    let ended = as_seats (λ (ms : List Node) (ks : List ℕ). FaultEnds (λ e. EndsBehind ms ks (lines ++ line ∷ []) lines e start now) (HasFront ms (lines ++ line ∷ []) (λ ls. HeldAt ms ks (ran ls) start now)) c.in-Err.fault) c.lines.invariant.behind.nodes c.lines.invariant.places
+    (c.in-Err.ensures.ended start lines (subst (λ (ms : List Node). IsRun ms lines) (sym c.lines.invariant.behind.nodes) run) c.lines.invariant.behind.stands (c.lines.invariant.held start h)) in
+    let same : c.in-Err.fault ≡ TooMany number which = cc in
+    let found = c.in-Err.ensures.many number which (ap (λ (e : RunFault). Err e) same) in
+    let counted : number ≡ length lines + 1 = omega (arith, found.0, c.lines.invariant.counted) in
+    subst (λ (ls : List (List ℕ)). EndsBehind ns places all ls (PastLimit which) start now) (sym (before_it lines line rest all next.fed.run number counted))
+    (ends_more (lines ++ line ∷ []) rest all next.fed.run ns places lines (PastLimit which) start now (subst (FaultEnds (λ e. EndsBehind ns places (lines ++ line ∷ []) lines e start now) (HasFront ns (lines ++ line ∷ []) (λ ls. HeldAt ns places (ran ls) start now))) same ended))
+
+pub returns-in-Err-clause-disk_held : goal.returns-in-Err-clause-disk_held
+returns-in-Err-clause-disk_held g c = λ start h slot is.
+    let lines = c.lines.invariant.lines in
+    let line = c.line-line.result.now in
+    let next = subst (λ (l : List ℕ). Feeds (g.S.Source.taken c.args.source.now) (g.S.Source.left c.args.source.now) (lines ++ l ∷ []) (g.S.Source.taken c.advance.new.source) (g.S.Source.left c.advance.new.source) c.advance.new.self) (sym c.line-line.ensures) (c.in-Ok-true.ensures.line c.in-Ok-true.field-0-test (g.S.Source.taken c.args.source.now) (g.S.Source.left c.args.source.now) lines c.lines.invariant.feeds) in
+    let all = run_of (appended_bytes (g.S.Source.taken c.args.source.now) (g.S.Source.taken c.advance.new.source)) in
+    let rest = lines_of (waiting c.advance.new.self) in
+    let ns = c.args.self.now.nodes.items in
+    let places = places_of c.args.self.now.world in
+    let now = (bench g.D.Disk.image_at g.D.Disk.moment g.D.Disk.faults g.D.Disk.armed g.D.Disk.picks c.line.new.pairs.items) in
+    let run : IsRun ns lines = record { lines = c.lines.invariant.good; few = c.lines.invariant.behind.few } in
+    let ended = as_seats (λ (ms : List Node) (ks : List ℕ). FaultEnds (λ e. EndsBehind ms ks (lines ++ line ∷ []) lines e start now) (HasFront ms (lines ++ line ∷ []) (λ ls. HeldAt ms ks (ran ls) start now)) c.in-Err.fault) c.lines.invariant.behind.nodes c.lines.invariant.places
+    (c.in-Err.ensures.ended start lines (subst (λ (ms : List Node). IsRun ms lines) (sym c.lines.invariant.behind.nodes) run) c.lines.invariant.behind.stands (c.lines.invariant.held start h)) in
+    let same : c.in-Err.fault ≡ Disk slot = cc in
+    let found = c.in-Err.ensures.whole slot (ap (λ (e : RunFault). Err e) same) in
+    front_of_all lines line rest all next.fed.run ns
+    (λ (ls : List (List ℕ)). IsDue (g.W.Sink.written c.args.out.now) (g.W.Sink.written c.line.new.out) c.line.new.self.output (answers_behind c.args.self.now.skip ns ls) × EndsBehind ns places all ls (FailedDisk slot) start now) run
+    (due_same _ _ _ c.lines.self.output _ _ found.1 found.0 c.lines.invariant.behind.due, ends_more (lines ++ line ∷ []) rest all next.fed.run ns places lines (FailedDisk slot) start now (subst (FaultEnds (λ e. EndsBehind ns places (lines ++ line ∷ []) lines e start now) (HasFront ns (lines ++ line ∷ []) (λ ls. HeldAt ns places (ran ls) start now))) same ended))
+
+pub returns-in-Err-clause-reached : goal.returns-in-Err-clause-reached
+returns-in-Err-clause-reached g c = λ start h.
+    let lines = c.lines.invariant.lines in
+    let line = c.line-line.result.now in
+    let next = subst (λ (l : List ℕ). Feeds (g.S.Source.taken c.args.source.now) (g.S.Source.left c.args.source.now) (lines ++ l ∷ []) (g.S.Source.taken c.advance.new.source) (g.S.Source.left c.advance.new.source) c.advance.new.self) (sym c.line-line.ensures) (c.in-Ok-true.ensures.line c.in-Ok-true.field-0-test (g.S.Source.taken c.args.source.now) (g.S.Source.left c.args.source.now) lines c.lines.invariant.feeds) in
+    let all = run_of (appended_bytes (g.S.Source.taken c.args.source.now) (g.S.Source.taken c.advance.new.source)) in
+    let rest = lines_of (waiting c.advance.new.self) in
+    let ns = c.args.self.now.nodes.items in
+    let places = places_of c.args.self.now.world in
+    let now = (bench g.D.Disk.image_at g.D.Disk.moment g.D.Disk.faults g.D.Disk.armed g.D.Disk.picks c.line.new.pairs.items) in
+    let run : IsRun ns lines = record { lines = c.lines.invariant.good; few = c.lines.invariant.behind.few } in
+    let ended = as_seats (λ (ms : List Node) (ks : List ℕ). FaultEnds (λ e. EndsBehind ms ks (lines ++ line ∷ []) lines e start now) (HasFront ms (lines ++ line ∷ []) (λ ls. HeldAt ms ks (ran ls) start now)) c.in-Err.fault) c.lines.invariant.behind.nodes c.lines.invariant.places
+    (c.in-Err.ensures.ended start lines (subst (λ (ms : List Node). IsRun ms lines) (sym c.lines.invariant.behind.nodes) run) c.lines.invariant.behind.stands (c.lines.invariant.held start h)) in
+    fault_reached ns places lines line start now rest all next.fed.run run c.in-Err.fault ended
+
+pub returns-in-Ok-false-clause-reached : goal.returns-in-Ok-false-clause-reached
+returns-in-Ok-false-clause-reached g c = λ start h.
+    let lines = c.lines.invariant.lines in
+    let last = c.in-Ok-false.ensures.still c.in-Ok-false.field-0-test (g.S.Source.taken c.args.source.now) (g.S.Source.left c.args.source.now) lines c.lines.invariant.feeds in
+    let none = c.in-Ok-false.ensures.none c.in-Ok-false.field-0-test in
+    let all = all_lines (g.S.Source.taken c.args.source.now) (g.S.Source.left c.args.source.now) lines (g.S.Source.taken c.advance.new.source) (g.S.Source.left c.advance.new.source) c.advance.new.self last none in
+    front_whole c.args.self.now.nodes.items _ lines _ all record { lines = c.lines.invariant.good; few = c.lines.invariant.behind.few }
+    (inl (as_seats (λ (ms : List Node) (ks : List ℕ). HeldAt ms ks (ran lines) start (bench g.D.Disk.image_at g.D.Disk.moment g.D.Disk.faults g.D.Disk.armed g.D.Disk.picks c.lines.pairs.items)) c.lines.invariant.behind.world c.lines.invariant.places (c.lines.invariant.held start h)))
+
+pub returns-in-Err-Unfinished-clause-reached : goal.returns-in-Err-Unfinished-clause-reached
+returns-in-Err-Unfinished-clause-reached g c = λ start h.
+    let lines = c.lines.invariant.lines in
+    let last = c.in-Err-Unfinished.ensures.still refl (g.S.Source.taken c.args.source.now) (g.S.Source.left c.args.source.now) lines c.lines.invariant.feeds in
+    let none = c.in-Err-Unfinished.ensures.none refl in
+    let all = all_lines (g.S.Source.taken c.args.source.now) (g.S.Source.left c.args.source.now) lines (g.S.Source.taken c.advance.new.source) (g.S.Source.left c.advance.new.source) c.advance.new.self last none in
+    front_whole c.args.self.now.nodes.items _ lines _ all record { lines = c.lines.invariant.good; few = c.lines.invariant.behind.few }
+    (inl (as_seats (λ (ms : List Node) (ks : List ℕ). HeldAt ms ks (ran lines) start (bench g.D.Disk.image_at g.D.Disk.moment g.D.Disk.faults g.D.Disk.armed g.D.Disk.picks c.lines.pairs.items)) c.lines.invariant.behind.world c.lines.invariant.places (c.lines.invariant.held start h)))
+
+pub returns-in-Err-Overlong-clause-reached : goal.returns-in-Err-Overlong-clause-reached
+returns-in-Err-Overlong-clause-reached g c = λ start h.
+    let lines = c.lines.invariant.lines in
+    let last = c.in-Err-Overlong.ensures.still refl (g.S.Source.taken c.args.source.now) (g.S.Source.left c.args.source.now) lines c.lines.invariant.feeds in
+    let none = c.in-Err-Overlong.ensures.none refl in
+    let all = all_lines (g.S.Source.taken c.args.source.now) (g.S.Source.left c.args.source.now) lines (g.S.Source.taken c.advance.new.source) (g.S.Source.left c.advance.new.source) c.advance.new.self last none in
+    front_whole c.args.self.now.nodes.items _ lines _ all record { lines = c.lines.invariant.good; few = c.lines.invariant.behind.few }
+    (inl (as_seats (λ (ms : List Node) (ks : List ℕ). HeldAt ms ks (ran lines) start (bench g.D.Disk.image_at g.D.Disk.moment g.D.Disk.faults g.D.Disk.armed g.D.Disk.picks c.lines.pairs.items)) c.lines.invariant.behind.world c.lines.invariant.places (c.lines.invariant.held start h)))
+
+pub returns-in-Err-TooLong-clause-reached : goal.returns-in-Err-TooLong-clause-reached
+returns-in-Err-TooLong-clause-reached g c = λ start h.
+    let lines = c.lines.invariant.lines in
+    let last = c.in-Err-TooLong.ensures.still refl (g.S.Source.taken c.args.source.now) (g.S.Source.left c.args.source.now) lines c.lines.invariant.feeds in
+    let none = c.in-Err-TooLong.ensures.none refl in
+    let all = all_lines (g.S.Source.taken c.args.source.now) (g.S.Source.left c.args.source.now) lines (g.S.Source.taken c.advance.new.source) (g.S.Source.left c.advance.new.source) c.advance.new.self last none in
+    front_whole c.args.self.now.nodes.items _ lines _ all record { lines = c.lines.invariant.good; few = c.lines.invariant.behind.few }
+    (inl (as_seats (λ (ms : List Node) (ks : List ℕ). HeldAt ms ks (ran lines) start (bench g.D.Disk.image_at g.D.Disk.moment g.D.Disk.faults g.D.Disk.armed g.D.Disk.picks c.lines.pairs.items)) c.lines.invariant.behind.world c.lines.invariant.places (c.lines.invariant.held start h)))
+
+pub returns-in-Err-Read-clause-reached : goal.returns-in-Err-Read-clause-reached
+returns-in-Err-Read-clause-reached g c = λ start h.
+    let lines = c.lines.invariant.lines in
+    let last = c.in-Err-Read.ensures.still refl (g.S.Source.taken c.args.source.now) (g.S.Source.left c.args.source.now) lines c.lines.invariant.feeds in
+    let none = c.in-Err-Read.ensures.none refl in
+    let all = all_lines (g.S.Source.taken c.args.source.now) (g.S.Source.left c.args.source.now) lines (g.S.Source.taken c.advance.new.source) (g.S.Source.left c.advance.new.source) c.advance.new.self last none in
+    front_whole c.args.self.now.nodes.items _ lines _ all record { lines = c.lines.invariant.good; few = c.lines.invariant.behind.few }
+    (inl (as_seats (λ (ms : List Node) (ks : List ℕ). HeldAt ms ks (ran lines) start (bench g.D.Disk.image_at g.D.Disk.moment g.D.Disk.faults g.D.Disk.armed g.D.Disk.picks c.lines.pairs.items)) c.lines.invariant.behind.world c.lines.invariant.places (c.lines.invariant.held start h)))
+
+pub returns-in-Err-NoMemory-clause-reached : goal.returns-in-Err-NoMemory-clause-reached
+returns-in-Err-NoMemory-clause-reached g c = λ start h.
+    let lines = c.lines.invariant.lines in
+    let last = c.in-Err-NoMemory.ensures.still refl (g.S.Source.taken c.args.source.now) (g.S.Source.left c.args.source.now) lines c.lines.invariant.feeds in
+    let none = c.in-Err-NoMemory.ensures.none refl in
+    let all = all_lines (g.S.Source.taken c.args.source.now) (g.S.Source.left c.args.source.now) lines (g.S.Source.taken c.advance.new.source) (g.S.Source.left c.advance.new.source) c.advance.new.self last none in
+    front_whole c.args.self.now.nodes.items _ lines _ all record { lines = c.lines.invariant.good; few = c.lines.invariant.behind.few }
+    (inl (as_seats (λ (ms : List Node) (ks : List ℕ). HeldAt ms ks (ran lines) start (bench g.D.Disk.image_at g.D.Disk.moment g.D.Disk.faults g.D.Disk.armed g.D.Disk.picks c.lines.pairs.items)) c.lines.invariant.behind.world c.lines.invariant.places (c.lines.invariant.held start h)))
+
+pub returns-in_default-clause-reached : goal.returns-in_default-clause-reached
+returns-in_default-clause-reached g c = λ start h.
+    let run : IsRun c.args.self.now.nodes.items [] = record { lines = tt; few = none_within _ } in
+    front_at c.args.self.now.nodes.items _ [] _ _ refl run (inl (subst (λ (ms : List Node). HeldAt ms (places_of c.args.self.now.world) [] start (bench g.D.Disk.image_at g.D.Disk.moment g.D.Disk.faults g.D.Disk.armed g.D.Disk.picks c.args.pairs.now.items)) c.requires.fresh.world h))

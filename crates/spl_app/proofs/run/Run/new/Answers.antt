@@ -1,6 +1,8 @@
 use Rattle.std.proofs.Common.{refl}
 use Rattle.spl_app.proofs.Benches.{none_on, unarmed_on, unpicked_unarmed}
 use Rattle.spl_app.proofs.Behinds.{due_none}
+use Rattle.spl_world.specs.declared.fault.WorldFault.TheVariants.{NoMemory}
+use Rattle.spl_app.proofs.Ending.{err_from, made_none}
 use Rattle.spl_app.proofs.Events.{none_within}
 use Rattle.spl_app.proofs.run.Run.new.Goals as goal
 
@@ -26,3 +28,12 @@ returns-clause-held g c = c.in_ok-new-2.ensures.held c.requires.unpicked
 
 pub returns-in_err-new-2-clause-unarmed : goal.returns-in_err-new-2-clause-unarmed
 returns-in_err-new-2-clause-unarmed g c = unarmed_on _ _ c.new-3.ensures.disks.onward (unpicked_unarmed _ c.requires.unpicked)
+
+pub returns-in_err-sorted_ids-clause-unmade : goal.returns-in_err-sorted_ids-clause-unmade
+returns-in_err-sorted_ids-clause-unmade g c = err_from c.from_residual.result NoMemory _ c.from_residual.ensures (made_none _ _ NoMemory _ c.requires.unpicked (λ k q. cc))
+
+pub returns-in_err-new-clause-unmade : goal.returns-in_err-new-clause-unmade
+returns-in_err-new-clause-unmade g c = err_from c.from_residual-in_err-new.result NoMemory _ c.from_residual-in_err-new.ensures (made_none _ _ NoMemory _ c.requires.unpicked (λ k q. cc))
+
+pub returns-in_err-new-2-clause-unmade : goal.returns-in_err-new-2-clause-unmade
+returns-in_err-new-2-clause-unmade g c = err_from c.from_residual-in_err-new-2.result c.in_err-new-2.field-0.0 _ c.from_residual-in_err-new-2.ensures (c.in_err-new-2.ensures.unmade c.requires.unpicked)

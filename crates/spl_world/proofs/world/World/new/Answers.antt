@@ -1,15 +1,23 @@
 use Rattle.std.proofs.Common.{◌<◌, ◌≤◌, slice_set, ◌+◌, ◌++◌, ◌∷◌, [], ℕ, ◌∙◌, List, arith, ap, refl, sym, subst, length}
 use Rattle.std.proofs.lemmas.List.{take_all}
 use Rattle.std.proofs.lemmas.Option.{slice_get_read}
+use Rattle.spl_circuit.specs.Nodes.{sorted}
 use Rattle.spl_circuit.specs.Rules.{ascends}
 use Rattle.spl_projection.proofs.Counts.{events-none}
+use Rattle.spl_registry.specs.Nodes.{ids_of as registered}
+use Rattle.spl_world.specs.declared.fault.WorldFault.{WorldFault}
+use Rattle.spl_world.specs.declared.fault.WorldFault.TheVariants.{NoMemory}
 use Rattle.spl_world.specs.declared.slot.Slot.{Slot}
-use Rattle.spl_world.specs.Disks.{AreBlank, Images, images, images_of}
+use Rattle.spl_world.specs.Disks.{AreBlank, Images, bench, images, images_of}
+use Rattle.spl_world.specs.Making.{AreMadeBut}
 use Rattle.spl_world.specs.Views.{slot_ids}
+use Rattle.spl_world.proofs.Counting.{failed}
+use Rattle.spl_world.proofs.Ending.{failed_ends}
 use Rattle.spl_world.proofs.Handling.{one_leaves, one_onward}
 use Rattle.spl_world.proofs.HoldingLines.{held_first}
 use Rattle.spl_world.proofs.Leaving.{all_itself, all_then, leaves_failed, leaves_memory, leaves_ok, leaves_other, leaves_then}
 use Rattle.spl_world.proofs.Made.{AreMade, IsEntry, entry_at, entry_below, known_here, made_holds, made_placed, made_sits, none_made, one_more, still_there}
+use Rattle.spl_world.proofs.Unmade.{else_still, made_but}
 use Rattle.spl_world.proofs.Pairing.{images_here, images_length, images_set, pair_here}
 use Rattle.spl_world.proofs.world.World.new.Goals as goal
 
@@ -137,3 +145,52 @@ returns-clause-disks g c = leaves_ok _ _ _ c.loop-id.invariant.onward
 
 pub returns-clause-held : goal.returns-clause-held
 returns-clause-held g c = λ unpicked. held_first g.D.Disk.image_at g.D.Disk.moment g.D.Disk.faults g.D.Disk.armed g.D.Disk.picks _ c.args.pairs.now.items c.loop-id.pairs.items (returns-clause-stands g c) unpicked c.loop-id.invariant.onward
+
+pub returns-in_err-ids-clause-unmade : goal.returns-in_err-ids-clause-unmade
+returns-in_err-ids-clause-unmade g c = λ unpicked.
+    let es = c.args.registry.now in
+    let ns = sorted (registered es) in
+    let ps = c.args.pairs.now.items in
+    failed_ends c.from_residual.result NoMemory c.from_residual.ensures (λ (e : WorldFault). AreMadeBut ns es e (bench g.D.Disk.image_at g.D.Disk.moment g.D.Disk.faults g.D.Disk.armed g.D.Disk.picks ps) (bench g.D.Disk.image_at g.D.Disk.moment g.D.Disk.faults g.D.Disk.armed g.D.Disk.picks ps))
+    (made_but g.D.Disk.image_at g.D.Disk.moment g.D.Disk.faults g.D.Disk.armed g.D.Disk.picks ns es ns 0 [] NoMemory ps ps ps (none_made es ns (images g.D.Disk.image_at g.D.Disk.moment ps)) unpicked (all_itself _) 0 (λ k off. refl) (λ k q. cc))
+
+pub returns-in_err-slot-clause-unmade : goal.returns-in_err-slot-clause-unmade
+returns-in_err-slot-clause-unmade g c = λ unpicked.
+    let es = c.args.registry.now in
+    let ns = c.deref-id-items.result.now in
+    let ps = c.loop-id.pairs.items in
+    let n = c.id-item.result in
+    let order = ap ascends c.deref-id-items.ensures.value ∙ c.in_ok-ids.ensures.ordered in
+    let at = slice_get_read ns (length ns) c.loop-id.id-index n refl c.loop-id-test.true c.id-item.is in
+    let entry : IsEntry es c.from.result n = subst (λ (j : ℕ). IsEntry es j n) (sym c.from.ensures) (entry_at es n c.unwrap-position.result (sym c.slot.ensures.value ∙ c.unwrap-position.ensures)) in
+    let few = entry_below es c.from.result n entry in
+    let below : c.from.result < length ps = omega (arith, few, c.requires.room, c.loop-id.invariant.made.as_many, images_length g.D.Disk.image_at g.D.Disk.moment ps, images_length g.D.Disk.image_at g.D.Disk.moment c.args.pairs.now.items) in
+    let pair = slice_get_read ps (length ps) c.from.result c.index_mut-disks.result.now refl below c.index_mut-disks.ensures.value in
+    let old = c.args.pairs.now.items in
+    let all = sorted (registered es) in
+    let r = c.new.new.disks in
+    let f = c.in_err-slot.field-0.0 in
+    failed_ends c.from_residual-in_err-slot.result f c.from_residual-in_err-slot.ensures (λ (e : WorldFault). AreMadeBut all es e (bench g.D.Disk.image_at g.D.Disk.moment g.D.Disk.faults g.D.Disk.armed g.D.Disk.picks old) (bench g.D.Disk.image_at g.D.Disk.moment g.D.Disk.faults g.D.Disk.armed g.D.Disk.picks (slice_set ps c.from.result r)))
+    (made_but g.D.Disk.image_at g.D.Disk.moment g.D.Disk.faults g.D.Disk.armed g.D.Disk.picks all es ns c.loop-id.id-index c.loop-id.slots.items f old ps (slice_set ps c.from.result r) c.loop-id.invariant.made unpicked
+    (all_then _ _ _ c.loop-id.invariant.onward (one_onward g.D.Disk.image_at g.D.Disk.moment g.D.Disk.faults g.D.Disk.armed g.D.Disk.picks ps c.from.result c.index_mut-disks.result.now r pair c.new.ensures.onward))
+    c.from.result (else_still g.D.Disk.image_at g.D.Disk.moment g.D.Disk.faults g.D.Disk.armed g.D.Disk.picks ps c.from.result r) (λ k q. (c.in_err-slot.ensures.failed k (ap (failed Slot) q)).0 ∙ sym c.from.ensures))
+
+pub returns-in_err-join-clause-unmade : goal.returns-in_err-join-clause-unmade
+returns-in_err-join-clause-unmade g c = λ unpicked.
+    let es = c.args.registry.now in
+    let ns = c.deref-id-items.result.now in
+    let ps = c.loop-id.pairs.items in
+    let n = c.id-item.result in
+    let order = ap ascends c.deref-id-items.ensures.value ∙ c.in_ok-ids.ensures.ordered in
+    let at = slice_get_read ns (length ns) c.loop-id.id-index n refl c.loop-id-test.true c.id-item.is in
+    let entry : IsEntry es c.from.result n = subst (λ (j : ℕ). IsEntry es j n) (sym c.from.ensures) (entry_at es n c.unwrap-position.result (sym c.slot.ensures.value ∙ c.unwrap-position.ensures)) in
+    let few = entry_below es c.from.result n entry in
+    let below : c.from.result < length ps = omega (arith, few, c.requires.room, c.loop-id.invariant.made.as_many, images_length g.D.Disk.image_at g.D.Disk.moment ps, images_length g.D.Disk.image_at g.D.Disk.moment c.args.pairs.now.items) in
+    let pair = slice_get_read ps (length ps) c.from.result c.index_mut-disks.result.now refl below c.index_mut-disks.ensures.value in
+    let old = c.args.pairs.now.items in
+    let all = sorted (registered es) in
+    let r = c.new.new.disks in
+    failed_ends c.from_residual-in_err-join.result NoMemory c.from_residual-in_err-join.ensures (λ (e : WorldFault). AreMadeBut all es e (bench g.D.Disk.image_at g.D.Disk.moment g.D.Disk.faults g.D.Disk.armed g.D.Disk.picks old) (bench g.D.Disk.image_at g.D.Disk.moment g.D.Disk.faults g.D.Disk.armed g.D.Disk.picks (slice_set ps c.from.result r)))
+    (made_but g.D.Disk.image_at g.D.Disk.moment g.D.Disk.faults g.D.Disk.armed g.D.Disk.picks all es ns c.loop-id.id-index c.loop-id.slots.items NoMemory old ps (slice_set ps c.from.result r) c.loop-id.invariant.made unpicked
+    (all_then _ _ _ c.loop-id.invariant.onward (one_onward g.D.Disk.image_at g.D.Disk.moment g.D.Disk.faults g.D.Disk.armed g.D.Disk.picks ps c.from.result c.index_mut-disks.result.now r pair c.new.ensures.onward))
+    c.from.result (else_still g.D.Disk.image_at g.D.Disk.moment g.D.Disk.faults g.D.Disk.armed g.D.Disk.picks ps c.from.result r) (λ k q. cc))

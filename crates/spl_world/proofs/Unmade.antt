@@ -1,0 +1,100 @@
+-- The disks of the nodes of a registry where not all of them were made.
+use Rattle.std.proofs.Common.{◌≡◌, ◌⊎◌, inl, inr, ⊎_elim, ℕ, zero, suc, List, [], ◌∷◌, slice_get, slice_set, option_map, Option, Some, refl, ap, sym, ◌∙◌, subst}
+use Rattle.std.proofs.lemmas.Bool.{cases_eq}
+use Rattle.spl_circuit.specs.Nodes.{NodeId}
+use Rattle.spl_edge.specs.Image.{Image}
+use Rattle.spl_edge.specs.Picks.{Picked}
+use Rattle.spl_edge.specs.declared.bench.Pair.{Pair}
+use Rattle.spl_edge.specs.declared.disk.Armed.{Armed}
+use Rattle.spl_node.specs.Hosts.{HostStands}
+use Rattle.spl_registry.specs.Nodes.{Entry, node_at}
+use Rattle.spl_rules.specs.Cells.{Empty}
+use Rattle.spl_world.specs.Disks.{AllGoOn, Images, PairView, bench, images, images_at, images_of, images_or_none}
+use Rattle.spl_world.specs.Held.{AllUnpicked}
+use Rattle.spl_world.specs.Making.{AreMadeBut, HoldNothing}
+use Rattle.spl_world.specs.Views.{node_view, slot_id}
+use Rattle.spl_world.specs.declared.fault.WorldFault.{WorldFault}
+use Rattle.spl_world.specs.declared.fault.WorldFault.TheVariants.{Disk}
+use Rattle.spl_world.specs.declared.slot.Slot.{Slot}
+use Rattle.spl_world.proofs.Ending.{stands_hold}
+use Rattle.spl_world.proofs.Holding.{pair_unpicked}
+use Rattle.spl_world.proofs.HoldingNow.{stand_as, told_images}
+use Rattle.spl_world.proofs.Made.{AreMade, IsEntry}
+use Rattle.spl_world.proofs.Pairing.{images_set}
+use Rattle.spl_world.proofs.Slots.{set_else}
+
+-- ---- the node at a place
+
+-- a node so far has this place
+record IsTaken (ss : List Slot) (p : ℕ) : Type 0 where
+  index : ℕ
+  slot : Slot
+  there : slice_get ss index ≡ Some slot
+  place : slot.position ≡ p
+
+abbrev IsFree : List Slot → ℕ → Type 0
+IsFree ss p = (i : ℕ) (s : Slot) → slice_get ss i ≡ Some s → s.position ≡ p → ⊥
+
+free_more : (t : Slot) (ss : List Slot) (p : ℕ) → (t.position ≡ p → ⊥) → IsFree ss p → IsFree (t ∷ ss) p
+free_more t ss p off free zero s e q = let same : t ≡ s = cc in off (ap (λ (x : Slot). x.position) same ∙ q)
+free_more t ss p off free (suc i) s e q = free i s e q
+
+taken_or_free : (ss : List Slot) (p : ℕ) → IsTaken ss p ⊎ IsFree ss p
+taken_or_free [] p = inr (λ i s e q. absurd cc)
+taken_or_free (t ∷ ss) p = go (cases_eq t.position p) (taken_or_free ss p)
+  where
+    go : (t.position ≡ p) ⊎ (t.position ≡ p → ⊥) → IsTaken ss p ⊎ IsFree ss p → IsTaken (t ∷ ss) p ⊎ IsFree (t ∷ ss) p
+    go (inl here) more = inl (record { index = 0; slot = t; there = refl; place = here })
+    go (inr off) (inl found) = inl (record { index = suc found.index; slot = found.slot; there = found.there; place = found.place })
+    go (inr off) (inr free) = inr (free_more t ss p off free)
+
+-- ---- the nodes so far
+
+entry_id : (es : List Entry) (p : ℕ) (a b : NodeId) → IsEntry es p a → node_at es p ≡ Some b → a ≡ b
+entry_id es p a b entry at =
+    let e : Some entry.entry.identity ≡ Some b = sym (ap (option_map (λ (x : Entry). x.identity)) entry.there) ∙ at in
+    let same : entry.entry.identity ≡ b = cc in
+    sym entry.id_is ∙ same
+
+module _ (es : List Entry) (ns : List NodeId) (m : ℕ) (ss : List Slot) (start now : List Images) (made : AreMade es ns m ss start now) (p : ℕ) (n : NodeId) (at : node_at es p ≡ Some n) where
+  taken_made : IsTaken ss p → HoldNothing n (images_at now p)
+  taken_made t =
+      let s = t.slot in
+      let is = images_at now p in
+      let host : HostStands s.host is.0 is.1 = subst (λ (q : ℕ). HostStands s.host (images_at now q).0 (images_at now q).1) t.place (made.stands t.index s t.there) in
+      let id = entry_id es p (slot_id s) n (subst (λ (q : ℕ). IsEntry es q (slot_id s)) t.place (made.placed t.index s t.there)) at in
+      subst (λ (a : NodeId). HoldNothing a is) id (stand_as (slot_id s) (node_view s is).cells (λ c. Empty) (λ c. (made.fresh t.index s t.there).empty is c) is.0 is.1 (stands_hold s is host).read)
+
+  -- the disks of a node hold what they held, or nothing yet
+  made_or_still : (images_at now p ≡ images_at start p) ⊎ HoldNothing n (images_at now p)
+  made_or_still = ⊎_elim (λ t. inr (taken_made t)) (λ free. inl (made.rest p free)) (taken_or_free ss p)
+
+-- ---- the making of the next one
+
+module _ {D : Type 0} (image_at : D → ℕ → Option Image) (moment faults : D → ℕ) (armed : D → Armed) (picks : D → List Picked) where
+  abbrev told : List (Pair D) → List PairView
+  told ps = bench image_at moment faults armed picks ps
+
+  abbrev kept : List (Pair D) → List Images
+  kept ps = images image_at moment ps
+
+  -- it changes no other disk
+  pub else_still : (ps : List (Pair D)) (one : ℕ) (r : Pair D) (k : ℕ) → (k ≡ one → ⊥) → images_at (kept (slice_set ps one r)) k ≡ images_at (kept ps) k
+  else_still ps one r k off =
+      ap (λ (is : List Images). images_at is k) (images_set image_at moment ps one r) ∙ ap images_or_none (set_else (kept ps) one k (images_of image_at moment r) (λ same. off (sym same)))
+
+  -- and ends with an error
+  pub made_but : (ids : List NodeId) (es : List Entry) (ns : List NodeId) (m : ℕ) (ss : List Slot) (e : WorldFault) (old ps new : List (Pair D)) → AreMade es ns m ss (kept old) (kept ps) → AllUnpicked (told old) → AllGoOn (told old) (told new)
+      → (one : ℕ) → ((k : ℕ) → (k ≡ one → ⊥) → images_at (kept new) k ≡ images_at (kept ps) k) → ((k : ℕ) → e ≡ Disk k → k ≡ one) → AreMadeBut ids es e (told old) (told new)
+  made_but ids es ns m ss e old ps new made unpicked on one still named = record {
+    picked = λ k n s p at was there. pair_unpicked ids n s p (unpicked k s was) (on.each k s p was there);
+    one = one;
+    named = named;
+    others = λ k n s p at was there off.
+        let before = told_images image_at moment faults armed picks old k s was in
+        let behind = told_images image_at moment faults armed picks new k p there in
+        ⊎_elim
+        (λ same. inl (sym behind ∙ still k off ∙ same ∙ before))
+        (λ nothing. inr (subst (HoldNothing n) (sym (still k off) ∙ behind) nothing))
+        (made_or_still es ns m ss (kept old) (kept ps) made k n at);
+  }
