@@ -10,7 +10,7 @@ use spl_base::{BatchId, Boxed, CircuitId, NodeId, Reader, ServiceId, Value};
 use spl_cell::Cell;
 use spl_circuit::Definition;
 use spl_command::Batch;
-use spl_edge::Disk;
+use spl_edge::{Disk, Fill};
 use spl_trial::{PlainDisk, PlainDisks, Seat, acceptance, act_vote, batch_vote, delivery, is_own};
 use spl_wire::{Event, Message};
 use std::alloc::Global;
@@ -60,9 +60,7 @@ impl Target for Seated {
 
     fn take(&mut self, alloc: Global, event: &Event) -> Result<(), Fault> {
         let circuit = self.circuit;
-        let _ = self
-            .seat
-            .step(alloc, &mut self.disks, &circuit, event)?;
+        let _ = self.seat.step(alloc, &mut self.disks, &circuit, event)?;
         Ok(())
     }
 }
@@ -171,19 +169,18 @@ fn begun<T: Target>(
     act_round(target, alloc, life, circuit, 2)
 }
 
-/// A batch is submitted and committed, by three events.
-fn batch<T: Target>(
+/// A batch is submitted and committed in a round of this number, by three events.
+fn committed<T: Target>(
     target: &mut T,
     alloc: Global,
     life: &Life,
     circuit: &CircuitId,
+    batch: Batch,
     number: u64,
 ) -> Result<(), Fault>
     requires { T.site target.old ≡ site_at life.now.here circuit.now }
     ensures { T.site target.new ≡ T.site target.old }
 {
-    let mut batch = life.batch.copy(alloc)?;
-    batch.id = BatchId(number);
     let submission = Event::Submit(Boxed::new(alloc, batch)?);
     own(target, alloc, &life.here, circuit, submission)?;
     own(target, alloc, &life.here, circuit, Event::Tick)?;
@@ -192,19 +189,23 @@ fn batch<T: Target>(
     hear(target, alloc, &life.here, circuit, life.other, vote)
 }
 
+/// The batch of this number.
+fn batch_of(alloc: Global, life: &Life, number: u64) -> Result<Batch, Fault> {
+    let mut batch = life.batch.copy(alloc)?;
+    batch.id = BatchId(number);
+    Ok(batch)
+}
+
 /// A life of so many batches.
-fn lived<T: Target>(
-    target: &mut T,
-    alloc: Global,
-    life: &Life,
-    times: u32,
-) -> Result<(), Fault>
+fn lived<T: Target>(target: &mut T, alloc: Global, life: &Life, times: u32) -> Result<(), Fault>
     requires { T.site target.old ≡ site_at life.now.here life.now.definition.id }
 {
     let circuit = life.definition.id;
     begun(target, alloc, life, &circuit)?;
     for number in 0..times {
-        batch(target, alloc, life, &circuit, u64::from(number) + 1)?;
+        let number = u64::from(number) + 1;
+        let batch = batch_of(alloc, life, number)?;
+        committed(target, alloc, life, &circuit, batch, number)?;
     }
     Ok(())
 }
@@ -254,16 +255,24 @@ pub(crate) fn kept(alloc: Global, bytes: &[u8], times: u32) -> Result<u64, Fault
     Ok(u64::from(times))
 }
 
-/// How many batches a node has committed that is opened.
-const BATCHES: u32 = 1_500;
+/// The number in the last four bytes.
+fn last_number(bytes: &[u8]) -> Option<u32> {
+    let [.., a, b, c, d] = bytes else {
+        return None;
+    };
+    Some(u32::from_be_bytes([*a, *b, *c, *d]))
+}
 
-/// Opens a node of 1,500 batches again and again, and tells how many bytes its journal has.
+/// Opens a node of as many batches as the last four bytes say again and again, and tells how many bytes its journal has.
 pub(crate) fn open(alloc: Global, bytes: &[u8], times: u32) -> Result<u64, Fault> {
+    let Some(batches) = last_number(bytes) else {
+        return Err(Fault::Malformed);
+    };
     let Seated {
         mut seat,
         mut disks,
         circuit: _,
-    } = over_disks(alloc, bytes, BATCHES)?;
+    } = over_disks(alloc, bytes, batches)?;
     for _ in 0..times {
         seat = Seat::open(alloc, seat.here(), &mut disks)?;
     }
@@ -273,4 +282,59 @@ pub(crate) fn open(alloc: Global, bytes: &[u8], times: u32) -> Result<u64, Fault
         &mut disks.second
     };
     Ok(counting.len()?)
+}
+
+/// The batches of these bytes, each of which has so many, are committed one behind the other.
+fn grown<T: Target>(
+    target: &mut T,
+    alloc: Global,
+    life: &Life,
+    batches: &[u8],
+    each: usize,
+) -> Result<(), Fault>
+    requires { T.site target.old ≡ site_at life.now.here life.now.definition.id }
+{
+    let circuit = life.definition.id;
+    begun(target, alloc, life, &circuit)?;
+    for bytes in batches.chunks_exact(each.max(1)) {
+        let batch = Batch::read(alloc, &mut Reader::new(bytes))?;
+        let number = batch.id.0;
+        committed(target, alloc, life, &circuit, batch, number)?;
+    }
+    Ok(())
+}
+
+/// The node goes, with its cells.
+fn stop(_seat: Seat) {}
+
+/// A node that goes down and comes up over what its disks keep.
+fn restarted(alloc: Global, seat: Seat, disks: &mut PlainDisks) -> Result<Seat, Fault> {
+    let here = seat.here();
+    stop(seat);
+    disks.first.pick(alloc, Fill::Old)?;
+    disks.second.pick(alloc, Fill::Old)?;
+    Ok(Seat::open(alloc, here, disks)?)
+}
+
+/// Stops a node again and again and opens it, and tells how many bytes its disks have. Its batches, numbered from 1
+/// on and all as long as the first, stand behind the definition.
+pub(crate) fn stops(alloc: Global, bytes: &[u8], times: u32) -> Result<u64, Fault> {
+    let life = read(alloc, bytes)?;
+    let mut reader = Reader::new(bytes);
+    let _ = Definition::read(alloc, &mut reader)?;
+    let first = reader.place().min(bytes.len());
+    let _ = Batch::read(alloc, &mut reader)?;
+    let each = reader.place().saturating_sub(first);
+    let mut target = seat_at(alloc, &life)?;
+    grown(&mut target, alloc, &life, &bytes[first..], each)?;
+    let Seated {
+        mut seat,
+        mut disks,
+        circuit: _,
+    } = target;
+    for _ in 0..times {
+        seat = restarted(alloc, seat, &mut disks)?;
+    }
+    stop(seat);
+    Ok(disks.first.len()?.saturating_add(disks.second.len()?))
 }
