@@ -1,5 +1,6 @@
 -- What a change of one part does to the whole, in the words of the code's goals.
-use Rattle.std.proofs.Common.{◌≡◌, ◌≢◌, ℕ, zero, suc, ◌+◌, ◌-◌, ◌<◌, ◌≤◌, Bool, true, false, List, [], ◌∷◌, ◌++◌, length, length-append, get_or, replicate, Ordering, Less, Equal, Greater, min, Result, Ok, Err, IfOk, OnOk, OnErr, Option, None, refl, sym, ap, subst, ◌∙◌, arith, slice_set, zero-add, append-nil, add-one}
+use Rattle.std.proofs.Common.{◌≡◌, ◌≢◌, ℕ, zero, suc, ◌+◌, ◌-◌, ◌<◌, ◌≤◌, Bool, true, false, List, [], ◌∷◌, ◌++◌, length, length-append, get_or, replicate, Ordering, Less, Equal, Greater, min, Result, Ok, Err, IfOk, OnOk, OnErr, Option, None, Some, refl, sym, ap, subst, ◌∙◌, arith, slice_set, zero-add, append-nil, add-one}
+use Rattle.std.specs.Prelude.{if◌then◌else◌}
 use Rattle.std.specs.Map.{lookup, remove_entry}
 use Rattle.std.specs.BTreeMap.{insert_entry, is_at}
 use Rattle.std.specs.Ordering.{match_ordering}
@@ -111,15 +112,15 @@ found_below d i k a es ss old h at low is depth all =
     ∙ sym (lookup_parts d 0 i a ss old h.low h.sorted (sym at ∙ sym (zero-add i)) low)
     ∙ ap (λ n. lookup (is_at (tail_cmp n a)) (all_entries ss)) depth ∙ ap (λ xs. lookup (is_at (tail_cmp k a)) xs) all
 
-pub replaced_by : {E X : Type 0} (r : Result (Option X) E) (x y : Option X) → x ≡ y → IfOk r (λ o. o ≡ x) → IfOk r (λ o. o ≡ y)
-replaced_by (Ok o) x y e h = h ∙ e
-replaced_by (Err f) x y e h = tt
+pub former_by : {E X : Type 0} (r : Result Bool E) (v : X) (x y : Option X) → x ≡ y → IfOk r (λ b. (if b then Some v else None) ≡ x) → IfOk r (λ b. (if b then Some v else None) ≡ y)
+former_by (Ok b) v x y e h = h ∙ e
+former_by (Err f) v x y e h = tt
 
 -- what a write replaces in one part, it replaces in all, and so where there is nothing
-pub replaced_below : {E : Type 0} (r : Result (Option (List ℕ)) E) (d i k : ℕ) (a : Address) (es : List Entry) (ss : List Part) (old : Part) → IsInner d ss → i ≡ digit_of a.0 d → i < length ss → old ≡ get_or ss i old
+pub former_below : {E : Type 0} (r : Result Bool E) (v : List ℕ) (d i k : ℕ) (a : Address) (es : List Entry) (ss : List Part) (old : Part) → IsInner d ss → i ≡ digit_of a.0 d → i < length ss → old ≡ get_or ss i old
     → d ≡ k → all_entries ss ≡ es
-    → IfOk r (λ o. o ≡ lookup (is_at (tail_cmp old.depth a)) old.entries) → IfOk r (λ o. o ≡ lookup (is_at (tail_cmp k a)) es)
-replaced_below r d i k a es ss old h at low is depth all = replaced_by r _ _ (found_below d i k a es ss old h at low is depth all)
+    → IfOk r (λ b. (if b then Some v else None) ≡ lookup (is_at (tail_cmp old.depth a)) old.entries) → IfOk r (λ b. (if b then Some v else None) ≡ lookup (is_at (tail_cmp k a)) es)
+former_below r v d i k a es ss old h at low is depth all = former_by r v _ _ (found_below d i k a es ss old h at low is depth all)
 
 pub missing_below : {T E : Type 0} (r : Result T E) (d i k : ℕ) (a : Address) (es : List Entry) (ss : List Part) (old : Part) → IsInner d ss → i ≡ digit_of a.0 d → i < length ss → old ≡ get_or ss i old
     → d ≡ k → all_entries ss ≡ es

@@ -1,5 +1,6 @@
 -- A level with one part.
 use Rattle.std.proofs.Common.{◌≡◌, ◌≢◌, ℕ, ◌+◌, ◌-◌, ◌<◌, ◌≤◌, ◌==◌, Bool, true, false, cond, List, [], ◌∷◌, ◌++◌, length, Result, IfOk, OnOk, OnErr, Option, None, Some, IfSome, refl, sym, ap, subst, ◌∙◌, arith, append-nil, add-one, replicate}
+use Rattle.std.specs.Prelude.{if◌then◌else◌}
 use Rattle.std.specs.Map.{lookup, remove_entry}
 use Rattle.std.specs.BTreeMap.{insert_entry, is_at}
 use Rattle.sha2.specs.Sha256.{sha256}
@@ -14,7 +15,7 @@ use Rattle.spl_state.proofs.Nodes.{node_of-none, node_of-many}
 use Rattle.spl_state.proofs.Parts.{node_of_single, branch_all, branch_other}
 use Rattle.spl_state.proofs.PlainRoot.{joined_children}
 use Rattle.spl_state.proofs.Prefixes.{shares_branch}
-use Rattle.spl_state.proofs.Steps.{on_ok, on_err, either, replaced_by}
+use Rattle.spl_state.proofs.Steps.{on_ok, on_err, either, former_by}
 use Rattle.spl_state.proofs.Writes.{digits_inserted, digits_removed, insert_here, lookup_later, lookup_here, remove_later, remove_here}
 
 pub joined_none : (part : ℕ → List ℕ) → joined part 0 ≡ []
@@ -69,9 +70,9 @@ found_not d i j k a es part h at not depth all =
     ∙ ap (lookup (is_at (tail_cmp d a))) (append-nil part.entries)
     ∙ ap (λ n. lookup (is_at (tail_cmp n a)) part.entries) depth ∙ ap (λ xs. lookup (is_at (tail_cmp k a)) xs) all
 
-pub replaced_in : {E : Type 0} (r : Result (Option (List ℕ)) E) (d j k : ℕ) (a : Address) (es : List Entry) (part : Part) → IsThin d j part → digit_of a.0 d ≡ j → d ≡ k → part.entries ≡ es
-    → IfOk r (λ o. o ≡ lookup (is_at (tail_cmp part.depth a)) part.entries) → IfOk r (λ o. o ≡ lookup (is_at (tail_cmp k a)) es)
-replaced_in r d j k a es part h at depth all = replaced_by r _ _ (found_in d j k a es part h at depth all)
+pub former_in : {E : Type 0} (r : Result Bool E) (v : List ℕ) (d j k : ℕ) (a : Address) (es : List Entry) (part : Part) → IsThin d j part → digit_of a.0 d ≡ j → d ≡ k → part.entries ≡ es
+    → IfOk r (λ b. (if b then Some v else None) ≡ lookup (is_at (tail_cmp part.depth a)) part.entries) → IfOk r (λ b. (if b then Some v else None) ≡ lookup (is_at (tail_cmp k a)) es)
+former_in r v d j k a es part h at depth all = former_by r v _ _ (found_in d j k a es part h at depth all)
 
 pub missing_in : {T E : Type 0} (r : Result T E) (d j k : ℕ) (a : Address) (es : List Entry) (part : Part) → IsThin d j part → digit_of a.0 d ≡ j → d ≡ k → part.entries ≡ es
     → OnErr r (lookup (is_at (tail_cmp part.depth a)) part.entries ≡ None) → OnErr r (lookup (is_at (tail_cmp k a)) es ≡ None)

@@ -1,5 +1,5 @@
 //! Byte strings, which contracts see as lists.
-ghost use Rattle.std.specs.Prelude.{◌≡◌, IfOk};
+ghost use Rattle.std.specs.Prelude.{◌≡◌, [], IfOk};
 
 use std::alloc::{AllocError, Global};
 use std::marker::Model;
@@ -19,6 +19,15 @@ impl Model for Piece {
 }
 
 impl Piece {
+    /// No byte. It takes no memory.
+    pub(crate) fn none(alloc: Global) -> Piece
+        ensures { result ≡ [] }
+    {
+        Piece {
+            bytes: Vec::new(alloc),
+        }
+    }
+
     /// These bytes.
     pub(crate) fn from(alloc: Global, bytes: &[u8]) -> Result<Piece, AllocError>
         ensures { IfOk result (λ p. p ≡ bytes.now) }

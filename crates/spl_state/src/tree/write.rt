@@ -1,5 +1,5 @@
 //! Entries written and removed: the digests on the path to them become stale.
-ghost use Rattle.std.specs.Prelude.{◌≡◌, ◌≤◌, ◌<◌, ◌+◌, length, min, replicate, true, false, Some, None, IfOk, IfSome, IfNone, OnOk, OnErr, is_some, [], ◌∷◌};
+ghost use Rattle.std.specs.Prelude.{◌≡◌, ◌≤◌, ◌<◌, ◌+◌, length, min, replicate, true, false, Some, None, IfOk, IfSome, IfNone, OnOk, OnErr, is_some, [], ◌∷◌, if◌then◌else◌};
 ghost use Rattle.std.specs.Map.{lookup, remove_entry};
 ghost use Rattle.std.specs.BTreeMap.{insert_entry, is_at};
 ghost use Rattle.spl_state.specs.Digits.{tail_cmp};
@@ -14,7 +14,6 @@ use std::mem;
 impl Tree {
     /// Writes a value at an address, and gives back the one that it replaced. Where one stands
     /// there it takes no memory; after want of memory the entries are unchanged.
-    #[tactic(auto, using(crate::proofs::Steps::depth_of, crate::proofs::Steps::kept_stale, crate::proofs::Steps::entries_inserted, crate::proofs::Steps::entries_kept, crate::proofs::Steps::replaced_below, crate::proofs::Steps::missing_below, crate::proofs::Thin::thin_inserted, crate::proofs::Thin::entries_in, crate::proofs::Thin::replaced_in, crate::proofs::Thin::missing_in, crate::proofs::Thin::room_digit))]
     pub(crate) fn swap(
         &mut self,
         alloc: Global,
@@ -28,33 +27,67 @@ impl Tree {
         ensures err { OnErr result (self.new.entries ≡ self.old.entries) }
         ensures missing { OnErr result (lookup (is_at (tail_cmp self.old.depth address)) self.old.entries ≡ None) }
     {
-        self.make_room(alloc, &address)?;
+        let mut value = value;
+        if self.exchange(alloc, &address, &mut value)? {
+            Ok(Some(value))
+        } else {
+            Ok(None)
+        }
+    }
+
+    /// Writes a value at an address, and leaves the one that it replaced in its place; says
+    /// whether there was one. It is called once for each level, so that it moves nothing large.
+    #[tactic(auto, using(crate::proofs::Steps::depth_of, crate::proofs::Steps::kept_stale, crate::proofs::Steps::entries_inserted, crate::proofs::Steps::entries_kept, crate::proofs::Steps::former_below, crate::proofs::Steps::missing_below, crate::proofs::Thin::thin_inserted, crate::proofs::Thin::entries_in, crate::proofs::Thin::former_in, crate::proofs::Thin::missing_in, crate::proofs::Thin::room_digit))]
+    fn exchange(
+        &mut self,
+        alloc: Global,
+        address: &Address,
+        value: &mut Piece,
+    ) -> Result<bool, AllocError>
+        requires { self.old.depth ≤ 70 }
+        ensures depth { self.new.depth ≡ self.old.depth }
+        ensures ok { OnOk result (self.new.entries ≡ insert_entry (tail_cmp self.old.depth) self.old.entries address.now value.old) }
+        ensures replaced { IfOk result (λ found. (if found then Some value.new else None) ≡ lookup (is_at (tail_cmp self.old.depth address.now)) self.old.entries) }
+        ensures err { OnErr result (self.new.entries ≡ self.old.entries) }
+        ensures missing { OnErr result (lookup (is_at (tail_cmp self.old.depth address.now)) self.old.entries ≡ None) }
+    {
+        self.make_room(alloc, address)?;
         match &mut self.body {
             Body::Empty => {
-                self.size = 1;
-                self.fresh = false;
-                self.body = Body::Leaf(address, value);
-                Ok(None)
+                self.fill(alloc, address, value);
+                Ok(false)
             }
             Body::Leaf(_, old) => {
                 self.fresh = false;
-                Ok(Some(mem::replace(old, value)))
+                mem::swap(old, value);
+                Ok(true)
             }
             Body::Inner(parts) => {
                 let at = address.digit(self.depth) as usize;
                 let part = &mut parts[at];
-                let done = part.swap(alloc, address, value);
+                let done = part.exchange(alloc, address, value);
                 self.size = size_of_more(self.size, parts.as_slice());
                 self.fresh = false;
                 done
             }
             Body::Thin(_, part) => {
-                let done = part.swap(alloc, address, value);
+                let done = part.exchange(alloc, address, value);
                 self.size = part.size();
                 self.fresh = false;
                 done
             }
         }
+    }
+
+    /// Makes an entry the only one, whose value it takes.
+    #[inline(never)]
+    fn fill(&mut self, alloc: Global, address: &Address, value: &mut Piece)
+        ensures depth { self.new.depth ≡ self.old.depth }
+        ensures entries { self.new.entries ≡ (address.now, value.old) ∷ [] }
+    {
+        self.size = 1;
+        self.fresh = false;
+        self.body = Body::Leaf(*address, mem::replace(value, Piece::none(alloc)));
     }
 
     /// Removes the entry at an address, if there is one, and says whether there was.
@@ -158,8 +191,36 @@ impl Tree {
 
     /// Sees to it that an entry that stands here alone is the address's, and that a single part is
     /// that of its digit. Where the address has an entry that takes no memory.
-    #[tactic(auto, using(crate::proofs::Digits::tail_low))]
+    #[inline]
     fn make_room(&mut self, alloc: Global, address: &Address) -> Result<(), AllocError>
+        requires { self.old.depth ≤ 70 }
+        ensures depth { self.new.depth ≡ self.old.depth }
+        ensures entries { self.new.entries ≡ self.old.entries }
+        ensures room { OnOk result (IsRoom address.now self.new) }
+        ensures missing { OnErr result (lookup (is_at (tail_cmp self.old.depth address.now)) self.old.entries ≡ None) }
+    {
+        if self.leads(address) {
+            return Ok(());
+        }
+        self.part_ways(alloc, address)
+    }
+
+    /// Whether there is a single part, and it is that of the address's digit.
+    #[inline]
+    fn leads(&self, address: &Address) -> bool
+        requires { self.now.depth ≤ 70 }
+        ensures { result ≡ true → IsRoom address.now self.now }
+    {
+        match &self.body {
+            Body::Thin(only, _) => *only == address.digit(self.depth),
+            _ => false,
+        }
+    }
+
+    /// Makes the room that `make_room` sees to.
+    #[inline(never)]
+    #[tactic(auto, using(crate::proofs::Digits::tail_low))]
+    fn part_ways(&mut self, alloc: Global, address: &Address) -> Result<(), AllocError>
         requires { self.old.depth ≤ 70 }
         ensures depth { self.new.depth ≡ self.old.depth }
         ensures entries { self.new.entries ≡ self.old.entries }
@@ -286,6 +347,7 @@ fn empty_parts(alloc: Global, depth: usize) -> Result<Vec<Tree>, AllocError>
 }
 
 /// How many entries some parts have, up to two, where they have no fewer than `least`.
+#[inline]
 fn size_of_more(least: u8, parts: &[Tree]) -> u8
     requires { least ≤ length (all_entries parts.now) }
     ensures { result ≡ min (length (all_entries parts.now)) 2 }
@@ -294,6 +356,7 @@ fn size_of_more(least: u8, parts: &[Tree]) -> u8
 }
 
 /// How many entries some parts have, up to two.
+#[inline(never)]
 #[tactic(auto, using(crate::proofs::Parts::all_entries_more, crate::proofs::Parts::min_more))]
 fn size_of_all(parts: &[Tree]) -> u8
     ensures { result ≡ min (length (all_entries parts.now)) 2 }

@@ -3,7 +3,7 @@ use Rattle.std.proofs.Common.{sym, ap, ◌∙◌}
 use Rattle.spl_state.specs.Kept.{IsThin, entries_of}
 use Rattle.spl_state.proofs.Steps.{where_err}
 use Rattle.spl_state.proofs.Thin.{found_not}
-use Rattle.spl_state.proofs.tree.Tree.make_room.Goals as goal
+use Rattle.spl_state.proofs.tree.Tree.part_ways.Goals as goal
 
 pub returns-in_err-parts-in-Thin-clause-missing : goal.returns-in_err-parts-in-Thin-clause-missing
 returns-in_err-parts-in-Thin-clause-missing c =
