@@ -80,14 +80,13 @@ missing_in r d j k a es part h at depth all = on_err r (λ e. sym (found_in d j 
 
 -- A digest below.
 
-pub digest_in : (m d j k : ℕ) (a : Address) (es : List Entry) (part : Part) (r : List ℕ) → r ≡ node_of (70 - m) m (shares m part.depth a part.entries)
-    → IsThin d j part → digit_of a.0 d ≡ j → d < m → d ≡ k → part.entries ≡ es → r ≡ node_of (70 - m) m (shares m k a es)
-digest_in m d j k a es part r e h at deep depth all =
-    e ∙ ap (node_of (70 - m) m)
-    (ap (λ n. shares m n a part.entries) h.deep
+pub shares_in : (m d j k : ℕ) (a : Address) (es : List Entry) (part : Part) → IsThin d j part → digit_of a.0 d ≡ j → d < m → d ≡ k → part.entries ≡ es
+    → shares m part.depth a part.entries ≡ shares m k a es
+shares_in m d j k a es part h at deep depth all =
+    ap (λ n. shares m n a part.entries) h.deep
     ∙ ap (shares m (d + 1) a) (sym (branch_all d j part.entries h.digits))
     ∙ sym (shares_branch m d j a part.entries deep (sym at))
-    ∙ ap (λ n. shares m n a part.entries) depth ∙ ap (λ xs. shares m k a xs) all)
+    ∙ ap (λ n. shares m n a part.entries) depth ∙ ap (λ xs. shares m k a xs) all
 
 pub digest_not : (m d i j k : ℕ) (a : Address) (es : List Entry) (part : Part) → IsThin d j part → i ≡ digit_of a.0 d → i ≢ j → d < m → d ≡ k → part.entries ≡ es
     → replicate 32 0 ≡ node_of (70 - m) m (shares m k a es)
@@ -150,3 +149,9 @@ pub room_digit : (d : ℕ) (s : Part) (a : Address) (j : ℕ) → d ≡ s.depth 
 room_digit d s a j depth thin h =
     let is : j ≡ digit_of a.0 s.depth = subst (λ x. IfSome x (λ i. i ≡ digit_of a.0 s.depth)) (sym thin) h in
     ap (digit_of a.0) depth ∙ sym is
+
+-- where a descent ends, above its end
+pub ends_digit : (d e : ℕ) (s : Part) (a : Address) (j : ℕ) → d ≡ s.depth → d < e → Some j ≡ s.thin → IfSome s.thin (λ i. s.depth < e → digit_of a.0 s.depth ≢ i) → digit_of a.0 d ≢ j
+ends_digit d e s a j depth low thin h =
+    let not : s.depth < e → digit_of a.0 s.depth ≢ j = subst (λ x. IfSome x (λ i. s.depth < e → digit_of a.0 s.depth ≢ i)) (sym thin) h in
+    λ p. not (subst (λ n. n < e) depth low) (ap (digit_of a.0) (sym depth) ∙ p)

@@ -2,10 +2,11 @@
 mod read;
 mod write;
 
-ghost use Rattle.std.specs.Prelude.{◌≡◌, ◌≤◌, ◌-◌, length, min, option_copied};
+ghost use Rattle.std.specs.Prelude.{◌≡◌, ◌≢◌, ◌≤◌, ◌<◌, ◌-◌, length, min, option_copied, IfSome};
 ghost use Rattle.std.specs.Map.{lookup};
 ghost use Rattle.std.specs.BTreeMap.{is_at};
-ghost use Rattle.spl_state.specs.Digits.{tail_cmp};
+ghost use Rattle.spl_state.specs.Digits.{tail_cmp, shares};
+ghost use Rattle.spl_state.specs.Root.{digit_of};
 ghost use Rattle.spl_state.specs.Levels.{node_of};
 ghost use Rattle.spl_state.specs.Kept.{empty_part};
 
@@ -149,29 +150,51 @@ impl Tree {
         self.size
     }
 
+    /// The part that lone parts lead to, as long as they are those of an address's digits, and
+    /// down to the digit `end` at most.
+    #[tactic(auto, using(crate::proofs::Thin::found_in, crate::proofs::Thin::shares_in))]
+    fn below(&self, address: &Address, end: usize) -> &Tree
+        requires low { self.now.depth ≤ end }
+        requires high { end ≤ 70 }
+        ensures deeper { self.now.depth ≤ result.now.depth }
+        ensures low { result.now.depth ≤ end }
+        ensures ends { IfSome result.now.thin (λ j. result.now.depth < end → digit_of address.now.0 result.now.depth ≢ j) }
+        ensures found { lookup (is_at (tail_cmp result.now.depth address.now)) result.now.entries ≡ lookup (is_at (tail_cmp self.now.depth address.now)) self.now.entries }
+        ensures shared { shares end result.now.depth address.now result.now.entries ≡ shares end self.now.depth address.now self.now.entries }
+    {
+        if self.depth == end {
+            return self;
+        }
+        match &self.body {
+            Body::Thin(only, part) => {
+                if address.digit(self.depth) == *only {
+                    part.below(address, end)
+                } else {
+                    self
+                }
+            }
+            _ => self,
+        }
+    }
+
     /// The value at an address.
-    #[tactic(auto, using(crate::proofs::Steps::depth_of, crate::proofs::Steps::found_below, crate::proofs::Thin::found_in, crate::proofs::Thin::found_not))]
+    #[tactic(auto, using(crate::proofs::Steps::depth_of, crate::proofs::Steps::found_below))]
     pub(crate) fn get(&self, address: &Address) -> Option<&[u8]>
         requires { self.now.depth ≤ 70 }
         ensures { option_copied result ≡ lookup (is_at (tail_cmp self.now.depth address.now)) self.now.entries }
     {
-        match &self.body {
+        let here = self.below(address, 70);
+        match &here.body {
             Body::Empty => None,
             Body::Leaf(at, value) => {
-                if address.same_tail(at, self.depth) {
+                if address.same_tail(at, here.depth) {
                     Some(value.bytes())
                 } else {
                     None
                 }
             }
-            Body::Inner(parts) => parts[address.digit(self.depth) as usize].get(address),
-            Body::Thin(only, part) => {
-                if address.digit(self.depth) == *only {
-                    part.get(address)
-                } else {
-                    None
-                }
-            }
+            Body::Inner(parts) => parts[address.digit(here.depth) as usize].get(address),
+            Body::Thin(_, _) => None,
         }
     }
 }

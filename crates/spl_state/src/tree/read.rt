@@ -11,35 +11,30 @@ use std::alloc::{AllocError, Global};
 
 impl Tree {
     /// The digest of the entries that share the first `digits` digits of an address.
-    #[tactic(auto, using(crate::proofs::Steps::depth_of, crate::proofs::Prefixes::digest_all, crate::proofs::Prefixes::digest_none, crate::proofs::Prefixes::digest_below, crate::proofs::Thin::digest_in))]
+    #[tactic(auto, using(crate::proofs::Steps::depth_of, crate::proofs::Prefixes::digest_all, crate::proofs::Prefixes::digest_none, crate::proofs::Prefixes::digest_below))]
     pub(crate) fn digest_at(&self, address: &Address, digits: usize) -> [u8; 32]
         requires low { self.now.depth ≤ digits }
         requires high { digits ≤ 70 }
         ensures { result ≡ node_of (70 - digits) digits (shares digits self.now.depth address.now self.now.entries) }
     {
-        if self.depth == digits {
-            return self.digest();
+        let here = self.below(address, digits);
+        if here.depth == digits {
+            return here.digest();
         }
-        match &self.body {
+        match &here.body {
             Body::Empty => [0; 32],
             Body::Leaf(at, _) => {
-                if address.same_between(at, self.depth, digits) {
-                    self.digest()
+                if address.same_between(at, here.depth, digits) {
+                    here.digest()
                 } else {
                     [0; 32]
                 }
             }
             Body::Inner(parts) => {
-                let part = &parts[address.digit(self.depth) as usize];
+                let part = &parts[address.digit(here.depth) as usize];
                 part.digest_at(address, digits)
             }
-            Body::Thin(only, part) => {
-                if address.digit(self.depth) == *only {
-                    part.digest_at(address, digits)
-                } else {
-                    [0; 32]
-                }
-            }
+            Body::Thin(_, _) => [0; 32],
         }
     }
 

@@ -1,11 +1,16 @@
 -- No entry has another digit than the lone part.
-use Rattle.std.proofs.Common.{sym, ap, ◌∙◌}
-use Rattle.spl_state.specs.Kept.{IsThin, entries_of}
-use Rattle.spl_state.proofs.Thin.{found_not}
+use Rattle.std.proofs.Common.{◌≡◌, refl, sym, ap, ◌∙◌}
+use Rattle.spl_state.specs.Root.{digit_of}
+use Rattle.spl_state.specs.Kept.{IsThin, entries_of, thin_digit}
+use Rattle.spl_state.proofs.Thin.{ends_digit, found_not}
 use Rattle.spl_state.proofs.tree.Tree.+get.Goals as goal
 
-pub returns-else-digit-only : goal.returns-else-digit-only
-returns-else-digit-only t c =
-    let shape : IsThin c.self.inside.depth c.in-Thin.only c.in-Thin.part.value = rw c.in-Thin.is at c.self.invariant.shaped in
-    found_not c.self.inside.depth c.digit-in-Thin.result c.in-Thin.only c.args.self.now.depth c.args.address.now c.args.self.now.entries c.in-Thin.part.value shape
-    c.digit-in-Thin.ensures.value c.if-digit-only.false (ap (λ s. s.depth) c.self.view_is) (ap entries_of (sym c.in-Thin.is) ∙ ap (λ s. s.entries) c.self.view_is)
+pub returns-in-Thin : goal.returns-in-Thin
+returns-in-Thin t c =
+    let here = c.below-here.result.now in
+    let shape : IsThin c.here.inside.depth c.in-Thin.field-0 c.in-Thin.field-1.value = rw c.in-Thin.is at c.here.invariant.shaped in
+    let depth : c.here.inside.depth ≡ here.depth = ap (λ s. s.depth) c.here.view_is in
+    found_not c.here.inside.depth (digit_of c.args.address.now.0 c.here.inside.depth) c.in-Thin.field-0 here.depth c.args.address.now here.entries c.in-Thin.field-1.value shape refl
+    (ends_digit c.here.inside.depth 70 here c.args.address.now c.in-Thin.field-0 depth shape.low (ap thin_digit (sym c.in-Thin.is) ∙ ap (λ s. s.thin) c.here.view_is) c.below-here.ensures.ends)
+    depth (ap entries_of (sym c.in-Thin.is) ∙ ap (λ s. s.entries) c.here.view_is)
+    ∙ c.below-here.ensures.found
