@@ -103,9 +103,7 @@ impl Tree {
             Body::Leaf(at, _) => {
                 let found = address.same_tail(at, self.depth);
                 if found {
-                    self.size = 0;
-                    self.fresh = false;
-                    self.body = Body::Empty;
+                    self.clear();
                 }
                 found
             }
@@ -131,20 +129,33 @@ impl Tree {
         }
     }
 
+    /// Leaves no entry.
+    #[inline(never)]
+    fn clear(&mut self)
+        ensures depth { self.new.depth ≡ self.old.depth }
+        ensures entries { self.new.entries ≡ [] }
+    {
+        self.size = 0;
+        self.fresh = false;
+        self.body = Body::Empty;
+    }
+
     /// Gives up levels that tell no entries apart: all where no entry is left, and the next where
     /// one is left in a leaf of it.
+    #[inline]
     pub(crate) fn shrink(&mut self)
         ensures depth { self.new.depth ≡ self.old.depth }
         ensures entries { self.new.entries ≡ self.old.entries }
     {
         match self.size {
-            0 => self.body = Body::Empty,
+            0 => self.clear(),
             1 => self.lift(),
             _ => {}
         }
     }
 
     /// Takes the lone entry up, where the next level has it in a leaf.
+    #[inline(never)]
     #[tactic(auto, using(crate::proofs::Parts::few_in))]
     fn lift(&mut self)
         requires lone { length self.old.entries ≡ 1 }
