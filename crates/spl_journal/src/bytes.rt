@@ -64,12 +64,22 @@ pub(crate) fn head_fault(bytes: &[u8]) -> Option<u64>
     None
 }
 
-/// What an append writes behind the closed gate: the length, the record and the next gate.
-pub(crate) fn sized(alloc: Global, bytes: &[u8]) -> Result<Vec<u8>, AllocError>
+/// What an append writes behind the closed gate: the length, the record and the next gate. It takes the memory of what
+/// the last one wrote, where there was one.
+pub(crate) fn sized(
+    alloc: Global,
+    last: Option<Vec<u8>>,
+    bytes: &[u8],
+) -> Result<Vec<u8>, AllocError>
     requires most { length bytes.now ≤ 16384 }
     ensures { IfOk result (λ piece. piece.items ≡ sized bytes.now) }
 {
-    let mut piece = Vec::with_capacity(alloc, bytes.len() + 5)?;
+    let mut piece = match last {
+        Some(last) => last,
+        None => Vec::new(alloc),
+    };
+    piece.clear();
+    piece.try_reserve(bytes.len() + 5)?;
     piece.extend_from_slice(&size_bytes(bytes.len() as u32))?;
     piece.extend_from_slice(bytes)?;
     piece.push(0)?;

@@ -88,6 +88,7 @@ pub fn fill<R: Form, D: Disk>(
         epoch: cleared.epoch,
         extent: len,
         halted: false,
+        piece: None,
         of: PhantomData,
     })
 }

@@ -21,6 +21,8 @@ pub struct Journal<R> {
     /// How many bytes the disk has.
     pub(crate) extent: u64,
     pub(crate) halted: bool,
+    /// What the last append wrote; the next one takes its memory.
+    pub(crate) piece: Option<Vec<u8>>,
     pub(crate) of: PhantomData<R>,
     ghost small: { end < 2 ^ 63 },
     ghost low: { base < 2 ^ 63 },
@@ -110,7 +112,8 @@ impl<R: Form> Journal<R> {
     {
         let gate = self.end;
         self.halted = true;
-        let Ok(piece) = sized(alloc, bytes) else {
+        let last = self.piece.take();
+        let Ok(piece) = sized(alloc, last, bytes) else {
             return Err(JournalFault::NoMemory);
         };
         if let Err(fault) = open_gate(disk, gate, &piece) {
@@ -118,6 +121,7 @@ impl<R: Form> Journal<R> {
         }
         self.end = gate + 5 + bytes.len() as u64;
         self.extent = self.extent.max(self.end + 1);
+        self.piece = Some(piece);
         self.halted = false;
         Ok(())
     }

@@ -72,6 +72,7 @@ pub fn format<R: Form, D: Disk>(
         epoch,
         extent: 18,
         halted: false,
+        piece: None,
         of: PhantomData,
     })
 }

@@ -133,6 +133,7 @@ impl<R: Form> Walk<R> {
             epoch: self.epoch,
             extent: self.extent,
             halted: false,
+            piece: None,
             of: PhantomData,
         }
     }
