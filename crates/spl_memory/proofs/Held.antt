@@ -3,7 +3,7 @@ use Rattle.std.proofs.Common.{◌≡◌, inl, inr, ⊎_elim, ℕ, ◌+◌, ◌-�
 use Rattle.std.proofs.lemmas.List.{get_or-take, get_or-drop, map_push, take_more}
 use Rattle.spl_edge.specs.Image.{Image, MayLeave, patched, after_write, after_cut, after_sync, settled_at}
 use Rattle.spl_edge.specs.Picks.{picked_bytes, filled}
-use Rattle.spl_memory.specs.Replay.{replayed, back, undone, range_of, filled_in, IsSound, IsHeld}
+use Rattle.spl_memory.specs.Replay.{replayed, bytes_of, back, undone, range_of, filled_in, IsSound, IsHeld}
 use Rattle.spl_edge.specs.declared.fill.Fill.{Fill}
 use Rattle.spl_edge.specs.declared.fill.Fill.TheVariants.{Old, New, Byte}
 use Rattle.spl_memory.specs.Changes.{Call}
@@ -97,27 +97,27 @@ cut_back bytes n within =
 
 pub held_write : (first : Image) (calls later : List Call) (bytes now : List ℕ) (undo more : List Undo) (u : Undo) (at : ℕ) (piece : List ℕ)
     → replayed first later ≡ after_write at piece (replayed first calls) → now ≡ patched bytes at piece → more ≡ undo ++ u ∷ []
-    → u.at ≡ at → u.count ≡ length piece → u.len ≡ length bytes → u.old.items ≡ take (min (length piece) (length bytes - at)) (drop at bytes) → at ≤ length bytes
+    → u.at ≡ at → u.count ≡ length piece → u.len ≡ length bytes → bytes_of u.old ≡ take (min (length piece) (length bytes - at)) (drop at bytes) → at ≤ length bytes
     → IsHeld first calls bytes undo → IsHeld first later now more
 held_write first calls later bytes now undo more u at piece is done grown u_at u_count u_len u_old within held =
     held_more first calls later bytes now undo more u (after_write at piece (replayed first calls)) held is
     (done ∙ ap (λ (l : List ℕ). patched l at piece) held.bytes_are) refl
     (ap (λ (a : ℕ). (replayed first calls).touched ++ (a, length piece) ∷ []) (sym u_at) ∙ ap (λ (n : ℕ). (replayed first calls).touched ++ (u.at, n) ∷ []) (sym u_count))
     (sound_write (replayed first calls) at piece (omega (arith, within, ap length held.bytes_are)) held.sound) grown
-    (ap (λ (n : ℕ). take n (patched now u.at u.old.items)) u_len ∙ ap (λ (a : ℕ). take (length bytes) (patched now a u.old.items)) u_at
-    ∙ ap (λ (l : List ℕ). take (length bytes) (patched l at u.old.items)) done ∙ ap (λ (l : List ℕ). take (length bytes) (patched (patched bytes at piece) at l)) u_old ∙ write_back bytes piece at within)
+    (ap (λ (n : ℕ). take n (patched now u.at (bytes_of u.old))) u_len ∙ ap (λ (a : ℕ). take (length bytes) (patched now a (bytes_of u.old))) u_at
+    ∙ ap (λ (l : List ℕ). take (length bytes) (patched l at (bytes_of u.old))) done ∙ ap (λ (l : List ℕ). take (length bytes) (patched (patched bytes at piece) at l)) u_old ∙ write_back bytes piece at within)
 
 pub held_cut : (first : Image) (calls later : List Call) (bytes now : List ℕ) (undo more : List Undo) (u : Undo) (n : ℕ)
     → replayed first later ≡ after_cut n (replayed first calls) → now ≡ take n bytes → more ≡ undo ++ u ∷ []
-    → u.at ≡ n → u.count ≡ 0 → u.len ≡ length bytes → u.old.items ≡ drop n bytes → n ≤ length bytes
+    → u.at ≡ n → u.count ≡ 0 → u.len ≡ length bytes → bytes_of u.old ≡ drop n bytes → n ≤ length bytes
     → IsHeld first calls bytes undo → IsHeld first later now more
 held_cut first calls later bytes now undo more u n is done grown u_at u_count u_len u_old within held =
     held_more first calls later bytes now undo more u (after_cut n (replayed first calls)) held is
     (done ∙ ap (λ (l : List ℕ). take n l) held.bytes_are) refl
     (ap (λ (a : ℕ). (replayed first calls).touched ++ (a, 0) ∷ []) (sym u_at) ∙ ap (λ (m : ℕ). (replayed first calls).touched ++ (u.at, m) ∷ []) (sym u_count))
     (sound_cut (replayed first calls) n (omega (arith, within, ap length held.bytes_are)) held.sound) grown
-    (ap (λ (m : ℕ). take m (patched now u.at u.old.items)) u_len ∙ ap (λ (a : ℕ). take (length bytes) (patched now a u.old.items)) u_at
-    ∙ ap (λ (l : List ℕ). take (length bytes) (patched l n u.old.items)) done ∙ ap (λ (l : List ℕ). take (length bytes) (patched (take n bytes) n l)) u_old ∙ cut_back bytes n within)
+    (ap (λ (m : ℕ). take m (patched now u.at (bytes_of u.old))) u_len ∙ ap (λ (a : ℕ). take (length bytes) (patched now a (bytes_of u.old))) u_at
+    ∙ ap (λ (l : List ℕ). take (length bytes) (patched l n (bytes_of u.old))) done ∙ ap (λ (l : List ℕ). take (length bytes) (patched (take n bytes) n l)) u_old ∙ cut_back bytes n within)
 
 pub held_settled : (first : Image) (later : List Call) (now : List ℕ) (undo : List Undo) → replayed first later ≡ settled_at now → undo ≡ [] → IsHeld first later now undo
 held_settled first later now undo is none = record {

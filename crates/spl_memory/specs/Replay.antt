@@ -5,6 +5,8 @@ use Rattle.spl_edge.specs.Picks.{Picked, picked_of, picked_bytes, filled}
 use Rattle.spl_edge.specs.declared.fill.Fill.{Fill}
 use Rattle.spl_edge.specs.declared.fill.Fill.TheVariants.{Old, New, Byte}
 use Rattle.spl_memory.specs.Changes.{Change, Wrote, Cut, Synced, Picked as MadePick, Call}
+use Rattle.spl_memory.specs.declared.mem_disk.Taken.{Taken}
+use Rattle.spl_memory.specs.declared.mem_disk.Taken.TheVariants.{Nothing, Byte as OneByte, Bytes}
 use Rattle.spl_memory.specs.declared.mem_disk.Undo.{Undo}
 
 abbrev pub step : Change → Image → Image
@@ -45,9 +47,14 @@ pub record Pushed (moment : ℕ) (f : Image → Image) (kept : Image → List Pi
   pub all : (m : ℕ) → m < moment → all_until m old ≡ true → all_until moment new ≡ true
   pub picks : (i : Image) → picks_of i new ≡ picks_of i old ++ kept (replayed i old)
 
+abbrev pub bytes_of : Taken → List ℕ
+bytes_of Nothing = []
+bytes_of (OneByte cells) = cells
+bytes_of (Bytes all) = all.items
+
 -- the bytes from before a change
 abbrev pub back : Undo → List ℕ → List ℕ
-back u bytes = take u.len (patched bytes u.at u.old.items)
+back u bytes = take u.len (patched bytes u.at (bytes_of u.old))
 
 -- from before all of them, the oldest first
 abbrev pub undone : List Undo → List ℕ → List ℕ

@@ -1,6 +1,6 @@
 //! A disk in memory, which keeps each change that was made to it.
 ghost use Rattle.std.specs.Prelude.{◌≡◌, ◌≤◌, ◌<◌, ◌+◌, ◌^◌, ◌++◌, ◌∷◌, [], true, Some, length, vec_capacity, take, drop, map, OnOk, OnErr, IfOk, IsOk, refl};
-ghost use Rattle.spl_memory.specs.Replay.{replayed, until, all_until, picks_of, undone, back, range_of, filled_in, Pushed, IsHeld};
+ghost use Rattle.spl_memory.specs.Replay.{replayed, until, all_until, picks_of, bytes_of, undone, back, range_of, filled_in, Pushed, IsHeld};
 ghost use Rattle.spl_edge.specs.Image.{Image, patched, after_write, after_sync, after_cut, settled_at};
 ghost use Rattle.spl_edge.specs.Picks.{filled, painted, picked_bytes, picked_of};
 ghost use Rattle.spl_edge.specs.Calls.{Passes, fails_at, armed_with};
@@ -12,12 +12,20 @@ use std::alloc::{AllocError, Global};
 /// The most bytes that a disk has.
 pub(crate) const MOST: usize = i64::MAX as usize;
 
+/// Bytes that a change took away: none where it wrote at the end, and one where it opened a gate.
+#[derive(Drop)]
+pub enum Taken {
+    Nothing,
+    Byte([u8; 1]),
+    Bytes(Vec<u8>),
+}
+
 /// What a change since the last sync took away: the bytes from an offset on, and the length.
 #[derive(Drop)]
 pub struct Undo {
     pub at: usize,
     pub count: usize,
-    pub old: Vec<u8>,
+    pub old: Taken,
     pub len: usize,
 }
 
@@ -49,6 +57,7 @@ fn fails(armed: Armed, moment: u64) -> bool
 }
 
 /// A call comes: it fails by itself, or goes on.
+#[inline(always)]
 fn begin(
     moment: &mut u64,
     number: &mut u64,
@@ -103,17 +112,44 @@ pub(crate) fn patch(bytes: &mut Vec<u8>, at: usize, piece: &[u8]) -> Result<(), 
     ensures err { OnErr result (bytes.new.items ≡ bytes.old.items) }
     ensures roomy { length bytes.old.items + length piece.now ≤ vec_capacity bytes.old → IsOk result }
 {
+    if at == bytes.len() {
+        return bytes.extend_from_slice(piece);
+    }
     let over = piece.len().min(bytes.len() - at);
     bytes.extend_from_slice(&piece[over..])?;
     bytes[at..at + over].copy_from_slice(&piece[..over]);
     Ok(())
 }
 
+impl Taken {
+    /// A copy of bytes.
+    fn of(alloc: Global, bytes: &[u8]) -> Result<Taken, AllocError>
+        ensures { IfOk result (λ taken. bytes_of taken ≡ bytes.now) }
+    {
+        match bytes {
+            [] => Ok(Taken::Nothing),
+            [byte] => Ok(Taken::Byte([*byte])),
+            _ => Ok(Taken::Bytes(bytes.to_vec(alloc)?)),
+        }
+    }
+
+    /// The bytes.
+    fn bytes(&self) -> &[u8]
+        ensures { result.now ≡ bytes_of self.now }
+    {
+        match self {
+            Taken::Nothing => &[],
+            Taken::Byte(byte) => &byte[..],
+            Taken::Bytes(bytes) => bytes.as_slice(),
+        }
+    }
+}
+
 fn put_back(bytes: &mut Vec<u8>, undo: &Undo) -> Result<(), AllocError>
     ensures { OnOk result (bytes.new.items ≡ back undo.now bytes.old.items) }
 {
     let at = undo.at.min(bytes.len());
-    patch(bytes, at, &undo.old)?;
+    patch(bytes, at, undo.old.bytes())?;
     bytes.truncate(undo.len);
     Ok(())
 }
@@ -163,7 +199,7 @@ fn wrote(
 {
     let len = bytes.len();
     let over = piece.len().min(len - at);
-    let old = bytes[at..at + over].to_vec(alloc)?;
+    let old = Taken::of(alloc, &bytes[at..at + over])?;
     undo.try_reserve(1)?;
     bytes.try_reserve(piece.len())?;
     calls.wrote(moment, at, piece)?;
@@ -192,7 +228,7 @@ fn cut_to(
     ensures held { (i : Image) → IsHeld i calls.old bytes.old.items undo.old.items → IsHeld i calls.new bytes.new.items undo.new.items }
 {
     let len = bytes.len();
-    let old = bytes[at..].to_vec(alloc)?;
+    let old = Taken::of(alloc, &bytes[at..])?;
     undo.try_reserve(1)?;
     calls.cut(moment, at)?;
     bytes.truncate(at);
