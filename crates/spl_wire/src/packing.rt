@@ -7,20 +7,25 @@ ghost use Rattle.spl_wire.specs.Packing.{is_full, closed, added, taken, finished
 
 use crate::change::Change;
 use crate::record::{ChangeList, MOST_CHANGES, Record};
-use spl_base::{CircuitId, LONGEST_BODY, Listing, spelled};
+use spl_base::{CircuitId, Field, LONGEST_BODY, Listing, Writer};
 use std::alloc::{AllocError, Global};
 use std::marker::Model;
 use std::mem;
 
+/// The bytes that memory is taken for before the changes of a further record are written: most records are shorter.
+const ROOM: usize = 8192;
+
 /// The records of a packed cell, in order.
 pub type PackedRecords = Listing<Record>;
 
-/// Records so far, and the changes of the one that is begun, with how many bytes it has left.
+/// Records so far, and the changes of the one that is begun, with how many bytes it has left. Their byte forms are
+/// written one behind the other, so that measuring them takes memory only now and then.
 #[derive(Drop)]
 struct Packing {
     circuit: CircuitId,
     records: PackedRecords,
     group: ChangeList,
+    written: Writer,
     left: usize,
 }
 
@@ -36,14 +41,16 @@ impl Model for Packing {
     ghost invariant = { λ p. p.left ≡ most_bytes - record_size p.circuit p.group };
 }
 
-/// How many bytes the byte form of a change has. An error comes for want of memory alone.
-fn size_of(alloc: Global, change: &Change) -> Result<usize, AllocError>
+/// How many bytes the byte form of a change has, which is written behind others. An error comes for want of memory
+/// alone.
+fn size_of(change: &Change, written: &mut Writer) -> Result<usize, AllocError>
     requires { IsTrue (change_form.bounded change.now) }
     ensures size { IfOk result (λ n. n ≡ length (change_form.spell change.now)) }
     ensures fits { OnOk result (IsTrue (change_form.fits change.now)) }
 {
-    let bytes = spelled(alloc, change)?;
-    Ok(bytes.bytes().len())
+    let before = written.bytes().len();
+    change.put_parts(written)?;
+    Ok(written.bytes().len() - before)
 }
 
 /// How many bytes an empty record of the circuit has left.
@@ -63,6 +70,7 @@ impl Packing {
             circuit,
             records: Listing::new(alloc),
             group: ChangeList::new(alloc),
+            written: Writer::new(alloc),
             left: left_at_first(circuit),
         }
     }
@@ -81,7 +89,9 @@ impl Packing {
     fn close(&mut self, alloc: Global) -> Result<(), AllocError>
         ensures { OnOk result (self.new ≡ closed self.old) }
     {
+        let written = Writer::with_room(alloc, ROOM)?;
         let changes = mem::replace(&mut self.group, ChangeList::new(alloc));
+        self.written = written;
         self.left = left_at_first(self.circuit);
         let circuit = self.circuit;
         self.records.push(Record { circuit, changes })
@@ -104,7 +114,7 @@ impl Packing {
         ensures ok { OnOk result (self.new ≡ taken self.old change) }
         ensures fits { OnOk result (IsTrue (change_form.fits change)) }
     {
-        let bytes = size_of(alloc, &change)?;
+        let bytes = size_of(&change, &mut self.written)?;
         if self.is_full(&change, bytes) {
             self.close(alloc)?;
         }
