@@ -1,5 +1,5 @@
 //! A journal that is read, one record after another.
-ghost use Rattle.std.specs.Prelude.{◌≡◌, ◌≤◌, ◌<◌, ◌+◌, ◌-◌, ◌^◌, ◌++◌, ◌∷◌, [], ℕ, true, false, Ok, Err, Some, length, IfOk, IfSome, IfNone, IsErrOf};
+ghost use Rattle.std.specs.Prelude.{◌≡◌, ◌≤◌, ◌<◌, ◌+◌, ◌-◌, ◌^◌, ◌++◌, ◌∷◌, [], ℕ, true, false, Ok, Err, Some, length, OnErr, IfOk, IfSome, IfNone, IsErrOf};
 ghost use Rattle.spl_edge.specs.Causes.{Rose};
 ghost use Rattle.spl_edge.specs.Image.{Image, IsSettled};
 ghost use Rattle.spl_journal.specs.Reads.{Stays};
@@ -94,6 +94,7 @@ impl<R: Form> Walk<R> {
             records R.is_record i.bytes ≡ Ok (given_by R.is_record self.old i.bytes)))) }
         ensures ended { IfOk result (λ found. IfNone found (has_ended self.new ≡ true)) }
         ensures not { (at : ℕ) → IsErrOf result (JournalFault.NotAJournal at) → IfSome (D.image_at disk.old (D.moment disk.old)) (λ i. records R.is_record i.bytes ≡ Err at) }
+        ensures unmoved { OnErr result (self.new ≡ self.old) }
         ensures same { (epoch_walked self.new ≡ epoch_walked self.old) × (extent_walked self.new ≡ extent_walked self.old) }
         ensures stays { Stays (D.image_at disk.old) (D.moment disk.old) (D.image_at disk.new) (D.moment disk.new) }
         ensures failed { IsErrOf result JournalFault.Disk → Rose (D.faults disk.old) (D.faults disk.new) }
