@@ -1,5 +1,5 @@
 //! A record that is kept, with a checkpoint where there is no room for more.
-ghost use Rattle.std.specs.Prelude.{◌≡◌, ◌⊎◌, ◌<◌, ◌+◌, ◌-◌, ◌*◌, ◌^◌, ◌++◌, ◌∷◌, [], List, ℕ, true, false, not, ⊤, length, IsTrue, OnOk, OnErr, IfOk, IsOk, IsErrOf};
+ghost use Rattle.std.specs.Prelude.{◌≡◌, ◌⊎◌, ◌≤◌, ◌<◌, ◌+◌, ◌-◌, ◌*◌, ◌^◌, ◌++◌, ◌∷◌, [], List, ℕ, true, false, not, ⊤, length, IsTrue, OnOk, OnErr, IfOk, IsOk, IsErrOf};
 ghost use Rattle.spl_edge.specs.Calls.{fails_at, IsArmed};
 ghost use Rattle.spl_edge.specs.Causes.{Rose};
 ghost use Rattle.spl_journal.specs.Gate.{ByCalls, NamesOne, opened};
@@ -61,6 +61,10 @@ impl<R: Form> Pairing<R> {
         ensures turned { OnOk result (2 * base_of (journal_in self.old) + 65536 < len_of (journal_in self.old) + 5 + length bytes.now → epoch_of (journal_in self.old) < 2 ^ 64 - 1
             → is_second self.new ≡ not (is_second self.old)) }
         ensures passed { OnOk result ((is_second self.new ≡ is_second self.old) ⊎ ((n : ℕ) → n < 8 → IsTrue (fails_at (D.armed (chosen (is_second self.old) disks.old.second disks.old.first)) (D.moment (chosen (is_second self.old) disks.old.second disks.old.first) + n)) → ⊥)) }
+
+        // Where it leaves room no checkpoint is made: the other disk is as it was, and doesn't count.
+        ensures no_checkpoint { len_of (journal_in self.old) + 5 + length bytes.now ≤ 2 * base_of (journal_in self.old) + 65536
+            → (chosen (is_second self.old) disks.new.second disks.new.first ≡ chosen (is_second self.old) disks.old.second disks.old.first) × (is_second self.new ≡ is_second self.old) }
 
         // Where it leaves no room, the disk that counts is armed for none of its four calls, and the other for one of its eight, the other has failed, unless memory was wanting.
         ensures risen { IsFilledBy (length bytes.now) (journal_in self.old) → IsArmed (D.armed (chosen (is_second self.old) disks.old.first disks.old.second)) → (NamesOne (D.armed (chosen (is_second self.old) disks.old.first disks.old.second)) (D.moment (chosen (is_second self.old) disks.old.first disks.old.second)) 4 → ⊥) → NamesOne (D.armed (chosen (is_second self.old) disks.old.second disks.old.first)) (D.moment (chosen (is_second self.old) disks.old.second disks.old.first)) 8

@@ -1,5 +1,5 @@
 //! The journal that counts of two disks, read one record after another.
-ghost use Rattle.std.specs.Prelude.{◌≡◌, ◌⊎◌, ◌≤◌, ◌<◌, ◌++◌, ◌∷◌, [], ℕ, true, false, Ok, Err, Option, IfOk, IfSome, IfNone, IsErrOf};
+ghost use Rattle.std.specs.Prelude.{◌≡◌, ◌⊎◌, ◌≤◌, ◌<◌, ◌++◌, ◌∷◌, [], ℕ, true, false, Ok, Err, Option, OnErr, IfOk, IfSome, IfNone, IsErrOf};
 ghost use Rattle.spl_edge.specs.Causes.{Rose};
 ghost use Rattle.spl_edge.specs.Image.{Image, IsSettled};
 ghost use Rattle.spl_journal.specs.Journals.{base_of, epoch_of, has_ended, left_of, epoch_walked};
@@ -70,6 +70,7 @@ impl<R: Form> PairWalk<R> {
             HaveRecords R.is_record (pair_given R.is_record self.old i.bytes j.bytes) i.bytes j.bytes))) }
         ensures ended { IfOk result (λ found. IfNone found (has_ended (walk_in self.new) ≡ true)) }
         ensures not { (at : ℕ) → IsErrOf result (JournalFault.NotAJournal at) → IfBoth (D.image_at disks.old.first (D.moment disks.old.first)) (D.image_at disks.old.second (D.moment disks.old.second)) (λ i j. pair_records R.is_record i.bytes j.bytes ≡ Err at) }
+        ensures unmoved { OnErr result (self.new ≡ self.old) }
         ensures stays_first { Stays (D.image_at disks.old.first) (D.moment disks.old.first) (D.image_at disks.new.first) (D.moment disks.new.first) }
         ensures stays_second { Stays (D.image_at disks.old.second) (D.moment disks.old.second) (D.image_at disks.new.second) (D.moment disks.new.second) }
         ensures failed { IsErrOf result JournalFault.Disk → (Rose (D.faults disks.old.first) (D.faults disks.new.first) ⊎ Rose (D.faults disks.old.second) (D.faults disks.new.second)) }
