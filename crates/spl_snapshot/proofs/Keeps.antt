@@ -10,7 +10,7 @@ use Rattle.spl_journal.specs.Gate.{ByCalls}
 use Rattle.spl_journal.specs.Journals.{Stands}
 use Rattle.spl_snapshot.specs.declared.pairing.Pairing.{Pairing}
 use Rattle.spl_snapshot.specs.Pairs.{PairStands}
-use Rattle.spl_snapshot.specs.Counting.{chosen, pair_records_of, HaveRecords, HaveEither, HaveOneOf, IfBoth, PairLeaves, PairLeavesInTurn}
+use Rattle.spl_snapshot.specs.Counting.{chosen, pair_records_of, HaveRecords, HaveEither, HaveOneOf, IfBoth, PairLeaves, PairLeavesInTurn, TellsAs}
 use Rattle.spl_snapshot.proofs.Findings.{if_map}
 use Rattle.spl_snapshot.proofs.Turns.{first_then, second_then}
 
@@ -135,17 +135,23 @@ stands_settled fits q o p stands = settled_both q.second o p
     (if_map (chosen q.second o p) (Stands fits q.journal) IsSettled stands.counting (λ i s. s.holds.settled))
     (if_map (chosen q.second p o) (IsAtRest q.other) IsSettled stands.other (λ i s. s.settled))
 
+-- two disks that tell where they did
+both_tell : (o p x y : Option Image) → TellsAs o x → TellsAs p y → IfBoth o p (λ i j. IsSome x × IsSome y)
+both_tell None p x y told other_told = tt
+both_tell (Some i) None x y told other_told = tt
+both_tell (Some i) (Some j) x y told other_told = (told, other_told)
+
 -- an append and a checkpoint
 module _ {D : Type 0} (image_at : D → ℕ → Option Image) (moment : D → ℕ) (a b a1 b1 a2 b2 : D) (fits : List ℕ → Bool) (packed : List (List ℕ)) (r : List ℕ) (o p : Option Image)
     (first_past : SamePast (image_at a1) (moment a1) (image_at a2)) (first_later : moment a1 ≤ moment a2) (second_past : SamePast (image_at b1) (moment b1) (image_at b2)) (second_later : moment b1 ≤ moment b2)
     (rest : IfSome (image_at a1 (moment a1)) IsSettled × IfSome (image_at b1 (moment b1)) IsSettled)
-    (tells : IfBoth o p (λ i j. IsSome (image_at a1 (moment a1)) × IsSome (image_at b1 (moment b1))))
+    (told : TellsAs o (image_at a1 (moment a1))) (other_told : TellsAs p (image_at b1 (moment b1)))
     (after : IfBoth o p (λ i j. PairLeaves (image_at a1) (moment a1) (moment a1) (image_at b1) (moment b1) (moment b1) (HaveRecords fits (pair_records_of fits i.bytes j.bytes ++ r ∷ [])))) where
   pub both_any : (second : Bool) → chosen second b1 a1 ≡ chosen second b a → chosen second a2 b2 ≡ chosen second a1 b1
       → IfBoth o p (λ i j. PairLeaves (image_at a1) (moment a) (moment a1) (image_at b1) (moment b) (moment b1) (HaveEither fits (pair_records_of fits i.bytes j.bytes) (pair_records_of fits i.bytes j.bytes ++ r ∷ [])))
       → IfBoth (image_at a1 (moment a1)) (image_at b1 (moment b1)) (λ i j. PairLeaves (image_at a2) (moment a1) (moment a2) (image_at b2) (moment b1) (moment b2) (HaveEither fits (pair_records_of fits i.bytes j.bytes) packed))
       → IfBoth o p (λ i j. PairLeavesInTurn second (image_at a2) (moment a) (moment a2) (image_at b2) (moment b) (moment b2) (HaveOneOf fits (pair_records_of fits i.bytes j.bytes) (pair_records_of fits i.bytes j.bytes ++ r ∷ []) packed))
-  both_any second other counting before behind = both_two o p before tells after
+  both_any second other counting before behind = both_two o p before (both_tell o p (image_at a1 (moment a1)) (image_at b1 (moment b1)) told other_told) after
     where
       both_two : (x y : Option Image) → IfBoth x y (λ i j. PairLeaves (image_at a1) (moment a) (moment a1) (image_at b1) (moment b) (moment b1) (HaveEither fits (pair_records_of fits i.bytes j.bytes) (pair_records_of fits i.bytes j.bytes ++ r ∷ [])))
           → IfBoth x y (λ i j. IsSome (image_at a1 (moment a1)) × IsSome (image_at b1 (moment b1)))
@@ -160,7 +166,7 @@ module _ {D : Type 0} (image_at : D → ℕ → Option Image) (moment : D → �
 
   pub both_after : IfBoth (image_at a1 (moment a1)) (image_at b1 (moment b1)) (λ i j. PairLeaves (image_at a2) (moment a2) (moment a2) (image_at b2) (moment b2) (moment b2) (HaveRecords fits packed))
       → IfBoth o p (λ i j. PairLeaves (image_at a2) (moment a2) (moment a2) (image_at b2) (moment b2) (moment b2) (HaveEither fits (pair_records_of fits i.bytes j.bytes ++ r ∷ []) packed))
-  both_after behind = both_two o p tells after
+  both_after behind = both_two o p (both_tell o p (image_at a1 (moment a1)) (image_at b1 (moment b1)) told other_told) after
     where
       both_two : (x y : Option Image) → IfBoth x y (λ i j. IsSome (image_at a1 (moment a1)) × IsSome (image_at b1 (moment b1)))
           → IfBoth x y (λ i j. PairLeaves (image_at a1) (moment a1) (moment a1) (image_at b1) (moment b1) (moment b1) (HaveRecords fits (pair_records_of fits i.bytes j.bytes ++ r ∷ [])))
@@ -172,7 +178,7 @@ module _ {D : Type 0} (image_at : D → ℕ → Option Image) (moment : D → �
   -- and where the checkpoint failed
   pub both_last : IfBoth (image_at a1 (moment a1)) (image_at b1 (moment b1)) (λ i j. PairLeaves (image_at a2) (moment a1) (moment a2) (image_at b2) (moment b1) (moment b2) (HaveEither fits (pair_records_of fits i.bytes j.bytes) packed))
       → IfBoth o p (λ i j. PairLeaves (image_at a2) (moment a2) (moment a2) (image_at b2) (moment b2) (moment b2) (HaveEither fits (pair_records_of fits i.bytes j.bytes ++ r ∷ []) packed))
-  both_last behind = both_two o p tells after
+  both_last behind = both_two o p (both_tell o p (image_at a1 (moment a1)) (image_at b1 (moment b1)) told other_told) after
     where
       both_two : (x y : Option Image) → IfBoth x y (λ i j. IsSome (image_at a1 (moment a1)) × IsSome (image_at b1 (moment b1)))
           → IfBoth x y (λ i j. PairLeaves (image_at a1) (moment a1) (moment a1) (image_at b1) (moment b1) (moment b1) (HaveRecords fits (pair_records_of fits i.bytes j.bytes ++ r ∷ [])))

@@ -1,5 +1,5 @@
 -- Which of two disks counts, and what a stop may leave of both (docs/RULES.md, Journals).
-use Rattle.std.specs.Prelude.{◌≡◌, ◌⊎◌, ◌≤◌, ℕ, List, Bool, true, false, not, ◌&&◌, ◌||◌, nat_lt, if◌then◌else◌, Option, IfSome, Result, Ok}
+use Rattle.std.specs.Prelude.{◌≡◌, ◌⊎◌, ◌≤◌, ℕ, List, Bool, true, false, not, ◌&&◌, ◌||◌, nat_lt, if◌then◌else◌, Option, is_some, IfSome, Result, Ok}
 use Rattle.spl_edge.specs.Image.{Image, MayLeave}
 use Rattle.spl_edge.specs.Calls.{SamePast}
 use Rattle.spl_edge.specs.Picks.{Picked}
@@ -33,6 +33,10 @@ pair_records_of fits first second = records_of fits (counting_bytes first second
 -- where both disks tell
 abbrev pub IfBoth : Option Image → Option Image → (Image → Image → Type 0) → Type 0
 IfBoth first second P = IfSome first (λ i. IfSome second (λ j. P i j))
+
+-- a disk tells exactly where it did
+abbrev pub TellsAs : Option Image → Option Image → Type 0
+TellsAs old new = is_some new ≡ is_some old
 
 -- a stop that leaves any image of the first disk at one of these moments, and any of the second at one of those, leaves what has P
 abbrev pub PairLeaves : (ℕ → Option Image) → ℕ → ℕ → (ℕ → Option Image) → ℕ → ℕ → (List ℕ → List ℕ → Type 0) → Type 0

@@ -6,7 +6,7 @@ ghost use Rattle.spl_journal.specs.Clear.{IsAtRest};
 ghost use Rattle.spl_journal.specs.Gate.{LeavesSince};
 ghost use Rattle.spl_journal.specs.Journals.{Stands, len_of, base_of, epoch_of, extent_of, is_halted};
 ghost use Rattle.spl_journal.specs.Records.{blocks, records, AreGood};
-ghost use Rattle.spl_snapshot.specs.Counting.{Onward};
+ghost use Rattle.spl_snapshot.specs.Counting.{TellsAs, Onward};
 ghost use Rattle.spl_snapshot.specs.Anew.{IsSameOrAnew};
 
 use spl_edge::Disk;
@@ -31,6 +31,7 @@ pub(crate) fn write_anew<R: Form, D: Disk>(
     ensures passed { OnOk result ((n : ℕ) → n < 8 → IsTrue (fails_at (D.armed disk.old) (D.moment disk.old + n)) → ⊥) }
     ensures any_moment { IfSome (D.image_at disk.old (D.moment disk.old)) (λ i.
         LeavesSince (D.image_at disk.new) (D.moment disk.old) (D.moment disk.new) (IsSameOrAnew R.is_record epoch contents.now i.bytes)) }
+    ensures told { OnOk result (TellsAs (D.image_at disk.old (D.moment disk.old)) (D.image_at disk.new (D.moment disk.new))) }
     ensures onward { Onward (D.image_at disk.old) (D.image_at disk.new) (D.moment disk.old) (D.moment disk.new) (D.faults disk.old) (D.faults disk.new)
         (D.armed disk.old) (D.armed disk.new) (D.picks disk.old) (D.picks disk.new) }
     ensures failed { IsErrOf result JournalFault.Disk → Rose (D.faults disk.old) (D.faults disk.new) }

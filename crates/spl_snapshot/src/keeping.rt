@@ -5,7 +5,7 @@ ghost use Rattle.spl_edge.specs.Causes.{Rose};
 ghost use Rattle.spl_journal.specs.Gate.{ByCalls, NamesOne, opened};
 ghost use Rattle.spl_journal.specs.Journals.{end_of, len_of, base_of, epoch_of, has_room, IsFilledBy};
 ghost use Rattle.spl_journal.specs.Records.{blocks, sized, IsGood, AreGood};
-ghost use Rattle.spl_snapshot.specs.Counting.{chosen, pair_records_of, HaveEither, HaveOneOf, IfBoth, PairLeaves, PairLeavesInTurn, Onward};
+ghost use Rattle.spl_snapshot.specs.Counting.{chosen, pair_records_of, HaveEither, HaveOneOf, IfBoth, PairLeaves, PairLeavesInTurn, TellsAs, Onward};
 ghost use Rattle.spl_snapshot.specs.Pairs.{PairStands, is_second, journal_in, is_halted};
 
 use crate::Pairing;
@@ -44,6 +44,8 @@ impl<R: Form> Pairing<R> {
         ensures after { OnOk result (IfBoth (D.image_at disks.old.first (D.moment disks.old.first)) (D.image_at disks.old.second (D.moment disks.old.second)) (λ i j.
             PairLeaves (D.image_at disks.new.first) (D.moment disks.new.first) (D.moment disks.new.first) (D.image_at disks.new.second) (D.moment disks.new.second) (D.moment disks.new.second)
             (HaveEither R.is_record (pair_records_of R.is_record i.bytes j.bytes ++ bytes.now ∷ []) (P.packed state.now)))) }
+        ensures told_first { OnOk result (TellsAs (D.image_at disks.old.first (D.moment disks.old.first)) (D.image_at disks.new.first (D.moment disks.new.first))) }
+        ensures told_second { OnOk result (TellsAs (D.image_at disks.old.second (D.moment disks.old.second)) (D.image_at disks.new.second (D.moment disks.new.second))) }
         ensures room { OnOk result (epoch_of (journal_in self.new) < 2 ^ 64 - 1 → has_room (journal_in self.new) ≡ true) }
         ensures base { OnOk result ((base_of (journal_in self.new) ≡ base_of (journal_in self.old)) ⊎ (base_of (journal_in self.new) ≡ 18 + length (blocks (P.packed state.now)))) }
 

@@ -1,12 +1,12 @@
 //! The journals of two disks, of which one counts.
-ghost use Rattle.std.specs.Prelude.{◌≡◌, ◌≤◌, ◌<◌, ◌+◌, ◌-◌, ◌^◌, ◌++◌, ◌∷◌, [], ℕ, true, false, not, length, IsTrue, OnOk, OnErr, IfOk, IfSome, IsSome, IsOk, IsErrOf};
+ghost use Rattle.std.specs.Prelude.{◌≡◌, ◌≤◌, ◌<◌, ◌+◌, ◌-◌, ◌^◌, ◌++◌, ◌∷◌, [], ℕ, true, false, not, length, IsTrue, OnOk, OnErr, IfOk, IfSome, IsOk, IsErrOf};
 ghost use Rattle.spl_edge.specs.Calls.{fails_at};
 ghost use Rattle.spl_edge.specs.Causes.{Rose};
 ghost use Rattle.spl_journal.specs.Gate.{ByCalls, opened};
 ghost use Rattle.spl_journal.specs.Journals.{end_of, len_of, base_of, epoch_of, has_room};
 ghost use Rattle.spl_journal.specs.Make.{IsBlank};
 ghost use Rattle.spl_journal.specs.Records.{blocks, sized, IsGood, AreGood};
-ghost use Rattle.spl_snapshot.specs.Counting.{chosen, pair_records_of, HaveRecords, HaveEither, IfBoth, PairLeaves, Onward};
+ghost use Rattle.spl_snapshot.specs.Counting.{chosen, pair_records_of, HaveRecords, HaveEither, IfBoth, PairLeaves, TellsAs, Onward};
 ghost use Rattle.spl_snapshot.specs.Pairs.{PairStands, is_second, journal_in, is_halted};
 
 use crate::anew::write_anew;
@@ -35,6 +35,7 @@ pub fn format_pair<R: Form, D: Disk>(
     ensures stands { IfOk result (λ p. PairStands R.is_record p (D.image_at disks.new.first (D.moment disks.new.first)) (D.image_at disks.new.second (D.moment disks.new.second))) }
     ensures empty { OnOk result (IfBoth (D.image_at disks.new.first (D.moment disks.new.first)) (D.image_at disks.new.second (D.moment disks.new.second)) (λ i j. HaveRecords R.is_record [] i.bytes j.bytes)) }
     ensures fresh { IfOk result (λ p. (is_second p ≡ false) × (is_halted p ≡ false) × (epoch_of (journal_in p) ≡ 1) × (len_of (journal_in p) ≡ 18) × (base_of (journal_in p) ≡ 18)) }
+    ensures told_first { OnOk result (TellsAs (D.image_at disks.old.first (D.moment disks.old.first)) (D.image_at disks.new.first (D.moment disks.new.first))) }
     ensures not { (at : ℕ) → IsErrOf result (JournalFault.NotAJournal at) → ⊥ }
     ensures failed { IsErrOf result JournalFault.Disk → Rose (D.faults disks.old.first) (D.faults disks.new.first) }
     ensures on_first { Onward (D.image_at disks.old.first) (D.image_at disks.new.first) (D.moment disks.old.first) (D.moment disks.new.first) (D.faults disks.old.first) (D.faults disks.new.first)
@@ -115,7 +116,10 @@ impl<R: Form> Pairing<R> {
         ensures after { OnOk result (IfBoth (D.image_at disks.old.first (D.moment disks.old.first)) (D.image_at disks.old.second (D.moment disks.old.second)) (λ i j.
             PairLeaves (D.image_at disks.new.first) (D.moment disks.new.first) (D.moment disks.new.first) (D.image_at disks.new.second) (D.moment disks.new.second) (D.moment disks.new.second)
             (HaveRecords R.is_record (pair_records_of R.is_record i.bytes j.bytes ++ bytes.now ∷ [])))) }
-        ensures tells { OnOk result (IfBoth (D.image_at disks.old.first (D.moment disks.old.first)) (D.image_at disks.old.second (D.moment disks.old.second)) (λ i j. IsSome (D.image_at disks.new.first (D.moment disks.new.first)) × IsSome (D.image_at disks.new.second (D.moment disks.new.second)))) }
+
+        // After Ok each disk tells where it did.
+        ensures told_first { OnOk result (TellsAs (D.image_at disks.old.first (D.moment disks.old.first)) (D.image_at disks.new.first (D.moment disks.new.first))) }
+        ensures told_second { OnOk result (TellsAs (D.image_at disks.old.second (D.moment disks.old.second)) (D.image_at disks.new.second (D.moment disks.new.second))) }
         ensures by_calls { ByCalls 4 (D.image_at (chosen (is_second self.old) disks.new.first disks.new.second))
             (D.moment (chosen (is_second self.old) disks.old.first disks.old.second)) (D.moment (chosen (is_second self.old) disks.new.first disks.new.second))
             (opened (end_of (journal_in self.old)) (sized bytes.now))
@@ -182,6 +186,8 @@ impl<R: Form> Pairing<R> {
         ensures after { OnOk result (IfBoth (D.image_at disks.old.first (D.moment disks.old.first)) (D.image_at disks.old.second (D.moment disks.old.second)) (λ i j.
             PairLeaves (D.image_at disks.new.first) (D.moment disks.new.first) (D.moment disks.new.first) (D.image_at disks.new.second) (D.moment disks.new.second) (D.moment disks.new.second)
             (HaveRecords R.is_record contents.now))) }
+        ensures told_first { OnOk result (TellsAs (D.image_at disks.old.first (D.moment disks.old.first)) (D.image_at disks.new.first (D.moment disks.new.first))) }
+        ensures told_second { OnOk result (TellsAs (D.image_at disks.old.second (D.moment disks.old.second)) (D.image_at disks.new.second (D.moment disks.new.second))) }
         ensures counting { chosen (is_second self.old) disks.new.first disks.new.second ≡ chosen (is_second self.old) disks.old.first disks.old.second }
         ensures eight { OnOk result (D.moment (chosen (is_second self.old) disks.new.second disks.new.first) ≡ D.moment (chosen (is_second self.old) disks.old.second disks.old.first) + 8) }
 

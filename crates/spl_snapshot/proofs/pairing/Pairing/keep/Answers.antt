@@ -23,7 +23,7 @@ pub returns-in-Err-checkpoint-clause-any_moment : goal.returns-in-Err-checkpoint
 returns-in-Err-checkpoint-clause-any_moment g c =
     let full : c.in-Ok.contents ≡ g.P.Packed.packed c.args.state.now = search rules in
     both_any g.D.Disk.image_at g.D.Disk.moment c.args.disks.now.first c.args.disks.now.second c.append.new.disks.first c.append.new.disks.second c.checkpoint.new.disks.first c.checkpoint.new.disks.second g.R.Form.is_record (g.P.Packed.packed c.args.state.now) c.args.bytes.now (g.D.Disk.image_at c.args.disks.now.first (g.D.Disk.moment c.args.disks.now.first)) (g.D.Disk.image_at c.args.disks.now.second (g.D.Disk.moment c.args.disks.now.second)) c.checkpoint.ensures.on_first.past c.checkpoint.ensures.on_first.later c.checkpoint.ensures.on_second.past c.checkpoint.ensures.on_second.later
-    (stands_settled g.R.Form.is_record c.append.new.self (g.D.Disk.image_at c.append.new.disks.first (g.D.Disk.moment c.append.new.disks.first)) (g.D.Disk.image_at c.append.new.disks.second (g.D.Disk.moment c.append.new.disks.second)) c.in_default.ensures.stands) c.in_default.ensures.tells c.in_default.ensures.after
+    (stands_settled g.R.Form.is_record c.append.new.self (g.D.Disk.image_at c.append.new.disks.first (g.D.Disk.moment c.append.new.disks.first)) (g.D.Disk.image_at c.append.new.disks.second (g.D.Disk.moment c.append.new.disks.second)) c.in_default.ensures.stands) c.in_default.ensures.told_first c.in_default.ensures.told_second c.in_default.ensures.after
     c.args.self.now.second c.append.ensures.other (subst (λ (b : Bool). chosen b c.checkpoint.new.disks.first c.checkpoint.new.disks.second ≡ chosen b c.append.new.disks.first c.append.new.disks.second) c.append.ensures.same.0 c.checkpoint.ensures.counting) c.in_default.ensures.any_moment
     (subst (λ (l : List (List ℕ)). IfBoth (g.D.Disk.image_at c.append.new.disks.first (g.D.Disk.moment c.append.new.disks.first)) (g.D.Disk.image_at c.append.new.disks.second (g.D.Disk.moment c.append.new.disks.second)) (λ i j. PairLeaves (g.D.Disk.image_at c.checkpoint.new.disks.first) (g.D.Disk.moment c.append.new.disks.first) (g.D.Disk.moment c.checkpoint.new.disks.first) (g.D.Disk.image_at c.checkpoint.new.disks.second) (g.D.Disk.moment c.append.new.disks.second) (g.D.Disk.moment c.checkpoint.new.disks.second) (HaveEither g.R.Form.is_record (pair_records_of g.R.Form.is_record i.bytes j.bytes) l))) full c.in-Err-checkpoint.ensures.any_moment)
 
@@ -31,7 +31,7 @@ pub returns-clause-any_moment : goal.returns-clause-any_moment
 returns-clause-any_moment g c =
     let full : c.in-Ok.contents ≡ g.P.Packed.packed c.args.state.now = search rules in
     both_any g.D.Disk.image_at g.D.Disk.moment c.args.disks.now.first c.args.disks.now.second c.append.new.disks.first c.append.new.disks.second c.checkpoint.new.disks.first c.checkpoint.new.disks.second g.R.Form.is_record (g.P.Packed.packed c.args.state.now) c.args.bytes.now (g.D.Disk.image_at c.args.disks.now.first (g.D.Disk.moment c.args.disks.now.first)) (g.D.Disk.image_at c.args.disks.now.second (g.D.Disk.moment c.args.disks.now.second)) c.checkpoint.ensures.on_first.past c.checkpoint.ensures.on_first.later c.checkpoint.ensures.on_second.past c.checkpoint.ensures.on_second.later
-    (stands_settled g.R.Form.is_record c.append.new.self (g.D.Disk.image_at c.append.new.disks.first (g.D.Disk.moment c.append.new.disks.first)) (g.D.Disk.image_at c.append.new.disks.second (g.D.Disk.moment c.append.new.disks.second)) c.in_default.ensures.stands) c.in_default.ensures.tells c.in_default.ensures.after
+    (stands_settled g.R.Form.is_record c.append.new.self (g.D.Disk.image_at c.append.new.disks.first (g.D.Disk.moment c.append.new.disks.first)) (g.D.Disk.image_at c.append.new.disks.second (g.D.Disk.moment c.append.new.disks.second)) c.in_default.ensures.stands) c.in_default.ensures.told_first c.in_default.ensures.told_second c.in_default.ensures.after
     c.args.self.now.second c.append.ensures.other (subst (λ (b : Bool). chosen b c.checkpoint.new.disks.first c.checkpoint.new.disks.second ≡ chosen b c.append.new.disks.first c.append.new.disks.second) c.append.ensures.same.0 c.checkpoint.ensures.counting) c.in_default.ensures.any_moment
     (subst (λ (l : List (List ℕ)). IfBoth (g.D.Disk.image_at c.append.new.disks.first (g.D.Disk.moment c.append.new.disks.first)) (g.D.Disk.image_at c.append.new.disks.second (g.D.Disk.moment c.append.new.disks.second)) (λ i j. PairLeaves (g.D.Disk.image_at c.checkpoint.new.disks.first) (g.D.Disk.moment c.append.new.disks.first) (g.D.Disk.moment c.checkpoint.new.disks.first) (g.D.Disk.image_at c.checkpoint.new.disks.second) (g.D.Disk.moment c.append.new.disks.second) (g.D.Disk.moment c.checkpoint.new.disks.second) (HaveEither g.R.Form.is_record (pair_records_of g.R.Form.is_record i.bytes j.bytes) l))) full c.in_default-checkpoint.ensures.any_moment)
 
@@ -39,7 +39,7 @@ pub returns-clause-after : goal.returns-clause-after
 returns-clause-after g c =
     let full : c.in-Ok.contents ≡ g.P.Packed.packed c.args.state.now = search rules in
     both_after g.D.Disk.image_at g.D.Disk.moment c.args.disks.now.first c.args.disks.now.second c.append.new.disks.first c.append.new.disks.second c.checkpoint.new.disks.first c.checkpoint.new.disks.second g.R.Form.is_record (g.P.Packed.packed c.args.state.now) c.args.bytes.now (g.D.Disk.image_at c.args.disks.now.first (g.D.Disk.moment c.args.disks.now.first)) (g.D.Disk.image_at c.args.disks.now.second (g.D.Disk.moment c.args.disks.now.second)) c.checkpoint.ensures.on_first.past c.checkpoint.ensures.on_first.later c.checkpoint.ensures.on_second.past c.checkpoint.ensures.on_second.later
-    (stands_settled g.R.Form.is_record c.append.new.self (g.D.Disk.image_at c.append.new.disks.first (g.D.Disk.moment c.append.new.disks.first)) (g.D.Disk.image_at c.append.new.disks.second (g.D.Disk.moment c.append.new.disks.second)) c.in_default.ensures.stands) c.in_default.ensures.tells c.in_default.ensures.after
+    (stands_settled g.R.Form.is_record c.append.new.self (g.D.Disk.image_at c.append.new.disks.first (g.D.Disk.moment c.append.new.disks.first)) (g.D.Disk.image_at c.append.new.disks.second (g.D.Disk.moment c.append.new.disks.second)) c.in_default.ensures.stands) c.in_default.ensures.told_first c.in_default.ensures.told_second c.in_default.ensures.after
     (subst (λ (l : List (List ℕ)). IfBoth (g.D.Disk.image_at c.append.new.disks.first (g.D.Disk.moment c.append.new.disks.first)) (g.D.Disk.image_at c.append.new.disks.second (g.D.Disk.moment c.append.new.disks.second)) (λ i j. PairLeaves (g.D.Disk.image_at c.checkpoint.new.disks.first) (g.D.Disk.moment c.checkpoint.new.disks.first) (g.D.Disk.moment c.checkpoint.new.disks.first) (g.D.Disk.image_at c.checkpoint.new.disks.second) (g.D.Disk.moment c.checkpoint.new.disks.second) (g.D.Disk.moment c.checkpoint.new.disks.second) (HaveRecords g.R.Form.is_record l))) full c.in_default-checkpoint.ensures.after)
 
 pub returns-in-Err-checkpoint-clause-by_calls : goal.returns-in-Err-checkpoint-clause-by_calls
@@ -48,7 +48,7 @@ returns-in-Err-checkpoint-clause-by_calls g c =
     inr (
       (all_calls g.D.Disk.image_at g.D.Disk.moment (chosen c.args.self.now.second c.append.new.disks.first c.append.new.disks.second) (chosen c.args.self.now.second c.checkpoint.new.disks.first c.checkpoint.new.disks.second) 4 (g.D.Disk.moment (chosen c.args.self.now.second c.args.disks.now.first c.args.disks.now.second)) (opened (end_of (journal_in c.args.self.now)) (sized c.args.bytes.now)) (g.D.Disk.image_at (chosen c.args.self.now.second c.args.disks.now.first c.args.disks.now.second) (g.D.Disk.moment (chosen c.args.self.now.second c.args.disks.now.first c.args.disks.now.second))) (g.D.Disk.armed (chosen c.args.self.now.second c.args.disks.now.first c.args.disks.now.second)) _ _ (subst (λ (b : Bool). chosen b c.checkpoint.new.disks.first c.checkpoint.new.disks.second ≡ chosen b c.append.new.disks.first c.append.new.disks.second) c.append.ensures.same.0 c.checkpoint.ensures.counting) refl c.in_default.ensures.by_calls),
       both_last g.D.Disk.image_at g.D.Disk.moment c.args.disks.now.first c.args.disks.now.second c.append.new.disks.first c.append.new.disks.second c.checkpoint.new.disks.first c.checkpoint.new.disks.second g.R.Form.is_record (g.P.Packed.packed c.args.state.now) c.args.bytes.now (g.D.Disk.image_at c.args.disks.now.first (g.D.Disk.moment c.args.disks.now.first)) (g.D.Disk.image_at c.args.disks.now.second (g.D.Disk.moment c.args.disks.now.second)) c.checkpoint.ensures.on_first.past c.checkpoint.ensures.on_first.later c.checkpoint.ensures.on_second.past c.checkpoint.ensures.on_second.later
-          (stands_settled g.R.Form.is_record c.append.new.self (g.D.Disk.image_at c.append.new.disks.first (g.D.Disk.moment c.append.new.disks.first)) (g.D.Disk.image_at c.append.new.disks.second (g.D.Disk.moment c.append.new.disks.second)) c.in_default.ensures.stands) c.in_default.ensures.tells c.in_default.ensures.after
+          (stands_settled g.R.Form.is_record c.append.new.self (g.D.Disk.image_at c.append.new.disks.first (g.D.Disk.moment c.append.new.disks.first)) (g.D.Disk.image_at c.append.new.disks.second (g.D.Disk.moment c.append.new.disks.second)) c.in_default.ensures.stands) c.in_default.ensures.told_first c.in_default.ensures.told_second c.in_default.ensures.after
           (subst (λ (l : List (List ℕ)). IfBoth (g.D.Disk.image_at c.append.new.disks.first (g.D.Disk.moment c.append.new.disks.first)) (g.D.Disk.image_at c.append.new.disks.second (g.D.Disk.moment c.append.new.disks.second)) (λ i j. PairLeaves (g.D.Disk.image_at c.checkpoint.new.disks.first) (g.D.Disk.moment c.append.new.disks.first) (g.D.Disk.moment c.checkpoint.new.disks.first) (g.D.Disk.image_at c.checkpoint.new.disks.second) (g.D.Disk.moment c.append.new.disks.second) (g.D.Disk.moment c.checkpoint.new.disks.second) (HaveEither g.R.Form.is_record (pair_records_of g.R.Form.is_record i.bytes j.bytes) l))) full c.in-Err-checkpoint.ensures.any_moment),
     )
 
@@ -58,6 +58,6 @@ returns-clause-by_calls g c =
     inr (
       (all_calls g.D.Disk.image_at g.D.Disk.moment (chosen c.args.self.now.second c.append.new.disks.first c.append.new.disks.second) (chosen c.args.self.now.second c.checkpoint.new.disks.first c.checkpoint.new.disks.second) 4 (g.D.Disk.moment (chosen c.args.self.now.second c.args.disks.now.first c.args.disks.now.second)) (opened (end_of (journal_in c.args.self.now)) (sized c.args.bytes.now)) (g.D.Disk.image_at (chosen c.args.self.now.second c.args.disks.now.first c.args.disks.now.second) (g.D.Disk.moment (chosen c.args.self.now.second c.args.disks.now.first c.args.disks.now.second))) (g.D.Disk.armed (chosen c.args.self.now.second c.args.disks.now.first c.args.disks.now.second)) _ _ (subst (λ (b : Bool). chosen b c.checkpoint.new.disks.first c.checkpoint.new.disks.second ≡ chosen b c.append.new.disks.first c.append.new.disks.second) c.append.ensures.same.0 c.checkpoint.ensures.counting) refl c.in_default.ensures.by_calls),
       both_after g.D.Disk.image_at g.D.Disk.moment c.args.disks.now.first c.args.disks.now.second c.append.new.disks.first c.append.new.disks.second c.checkpoint.new.disks.first c.checkpoint.new.disks.second g.R.Form.is_record (g.P.Packed.packed c.args.state.now) c.args.bytes.now (g.D.Disk.image_at c.args.disks.now.first (g.D.Disk.moment c.args.disks.now.first)) (g.D.Disk.image_at c.args.disks.now.second (g.D.Disk.moment c.args.disks.now.second)) c.checkpoint.ensures.on_first.past c.checkpoint.ensures.on_first.later c.checkpoint.ensures.on_second.past c.checkpoint.ensures.on_second.later
-          (stands_settled g.R.Form.is_record c.append.new.self (g.D.Disk.image_at c.append.new.disks.first (g.D.Disk.moment c.append.new.disks.first)) (g.D.Disk.image_at c.append.new.disks.second (g.D.Disk.moment c.append.new.disks.second)) c.in_default.ensures.stands) c.in_default.ensures.tells c.in_default.ensures.after
+          (stands_settled g.R.Form.is_record c.append.new.self (g.D.Disk.image_at c.append.new.disks.first (g.D.Disk.moment c.append.new.disks.first)) (g.D.Disk.image_at c.append.new.disks.second (g.D.Disk.moment c.append.new.disks.second)) c.in_default.ensures.stands) c.in_default.ensures.told_first c.in_default.ensures.told_second c.in_default.ensures.after
           (subst (λ (l : List (List ℕ)). IfBoth (g.D.Disk.image_at c.append.new.disks.first (g.D.Disk.moment c.append.new.disks.first)) (g.D.Disk.image_at c.append.new.disks.second (g.D.Disk.moment c.append.new.disks.second)) (λ i j. PairLeaves (g.D.Disk.image_at c.checkpoint.new.disks.first) (g.D.Disk.moment c.checkpoint.new.disks.first) (g.D.Disk.moment c.checkpoint.new.disks.first) (g.D.Disk.image_at c.checkpoint.new.disks.second) (g.D.Disk.moment c.checkpoint.new.disks.second) (g.D.Disk.moment c.checkpoint.new.disks.second) (HaveRecords g.R.Form.is_record l))) full c.in_default-checkpoint.ensures.after),
     )
