@@ -6,14 +6,15 @@ use Rattle.spl_circuit.specs.Nodes.{NodeId, CircuitId}
 use Rattle.spl_edge.specs.Image.{Image, IsSettled, settled_at}
 use Rattle.spl_rules.specs.Cells.{Cell, is_open_cell}
 use Rattle.spl_rules.specs.Changes.{stopped_cell}
-use Rattle.spl_snapshot.specs.Counting.{pair_records, pair_records_of, IfBoth}
+use Rattle.spl_snapshot.specs.Counting.{pair_records, pair_records_of, IfBoth, TellsAs}
+use Rattle.spl_snapshot.specs.Pairs.{PairStands}
 use Rattle.spl_node.specs.declared.node.Node.{Node}
-use Rattle.spl_node.specs.Hosts.{Runs, Rests, kept_cell, made_cell}
+use Rattle.spl_node.specs.Hosts.{BothTell, Runs, Rests, kept_cell, made_cell}
 use Rattle.spl_node.specs.Kept.{CellsView, cell_at}
 use Rattle.spl_node.specs.Opening.{IsMade, IsRead}
 use Rattle.spl_node.specs.Records.{is_record, recorded_cell, changes_in, site_at}
 use Rattle.spl_node.specs.Stands.{Make, NodeStands, StandFor, here_of, cell_of, is_halted}
-use Rattle.spl_node.proofs.Disks.{settled_pair}
+use Rattle.spl_node.proofs.Disks.{both_if, settled_pair}
 use Rattle.spl_node.proofs.Standing.{makes}
 use Rattle.spl_node.proofs.Stops.{applied-still}
 
@@ -58,16 +59,28 @@ when_down None P down h = h
 pub runs_stand : (here : NodeId) (first second : Option Image) (n : Node) → Runs here first second n → IfBoth first second (λ i j. StandFor here (cell_of n) i.bytes j.bytes)
 runs_stand here first second n runs = subst (λ (m : NodeId). IfBoth first second (λ i j. StandFor m (cell_of n) i.bytes j.bytes)) runs.here_is runs.stands.cells
 
+-- where a step left the disks telling as they did
+stands_told : (n : Node) (first second now now_other : Option Image) → TellsAs first now → TellsAs second now_other → PairStands is_record n.pairing now now_other → IfBoth first second (λ i j. NodeStands n now now_other) → NodeStands n now now_other
+stands_told n (Some i) (Some j) now now_other told other_told pair stands = stands
+stands_told n None second None now_other told other_told pair stands = record { pair = pair; cells = tt }
+stands_told n None second (Some k) now_other told other_told pair stands = cc
+stands_told n (Some i) None None now_other told other_told pair stands = cc
+stands_told n (Some i) None (Some k) None told other_told pair stands = record { pair = pair; cells = tt }
+stands_told n (Some i) None (Some k) (Some l) told other_told pair stands = cc
+
 -- a step that succeeded leaves a node that goes on
-pub runs_on : (here : NodeId) (n m : Node) (first second now now_other : Option Image) → IsSome first → IsSome second → Runs here first second n → is_halted m ≡ false → here_of m ≡ here_of n
-    → IfBoth first second (λ i j. StandFor (here_of n) (cell_of n) i.bytes j.bytes → NodeStands m now now_other) → Runs here now now_other m
-runs_on here n m first second now now_other told other_told runs running same stands = record {
+pub runs_on : {A E : Type 0} (r : Result A E) (here : NodeId) (n m : Node) (first second now now_other : Option Image) → OnOk r (TellsAs first now) → OnOk r (TellsAs second now_other) → Runs here first second n → OnOk r (is_halted m ≡ false) → here_of m ≡ here_of n
+    → OnOk r (PairStands is_record m.pairing now now_other) → OnOk r (IfBoth first second (λ i j. StandFor (here_of n) (cell_of n) i.bytes j.bytes → NodeStands m now now_other)) → OnOk r (Runs here now now_other m)
+runs_on (Ok a) here n m first second now now_other told other_told runs running same pair stands = record {
   running = running;
   here_is = same ∙ runs.here_is;
-  stands = both_told first second (λ i j. NodeStands m now now_other) (NodeStands m now now_other) told other_told
-      (both_apply first second (λ i j. StandFor (here_of n) (cell_of n) i.bytes j.bytes) (λ i j. NodeStands m now now_other) runs.stands.cells stands)
-      (λ i j is other_is h. h);
+  stands = stands_told m first second now now_other told other_told pair (both_apply first second (λ i j. StandFor (here_of n) (cell_of n) i.bytes j.bytes) (λ i j. NodeStands m now now_other) runs.stands.cells stands);
 }
+runs_on (Err e) here n m first second now now_other told other_told runs running same pair stands = tt
+
+pub ok_map : {A E : Type 0} {P Q : Type 0} (r : Result A E) → (P → Q) → OnOk r P → OnOk r Q
+ok_map (Ok a) f p = f p
+ok_map (Err e) f p = p
 
 pub ok_both : {A E : Type 0} {P Q S : Type 0} (r : Result A E) → (P → Q → S) → OnOk r P → OnOk r Q → OnOk r S
 ok_both (Ok a) f p q = f p q
@@ -137,16 +150,19 @@ not_both : (r : Result (List (List ℕ)) ℕ) (at : ℕ) → IsOk r → r ≡ Er
 not_both (Ok rs) at ok err = cc
 not_both (Err e) at ok err = cc
 
-pub started_cells : (here : NodeId) (o : Option Node) (n : Node) (first second : Option Image) → is_some o ≡ false → here_of n ≡ here → IsSome first → IsSome second → IfBoth first second (λ i j. IsRead n.cells i.bytes j.bytes)
+pub started_cells : (here : NodeId) (o : Option Node) (n : Node) (first second : Option Image) → is_some o ≡ false → here_of n ≡ here → IfBoth first second (λ i j. IsRead n.cells i.bytes j.bytes) → BothTell first second
     → (c : CircuitId) → cell_of n c ≡ kept_cell here o first second c
-started_cells here (Some m) n first second down same told other_told read c = cc
-started_cells here None n first second down same told other_told read c = read_made here n.cells first second same told other_told read c
+started_cells here (Some m) n first second down same read tell c = cc
+started_cells here None n first second down same read tell c = read_made here n.cells first second same tell.0 tell.1 read c
+
+untold : (o : Option Image) → is_some o ≡ false → IsSome o → ⊥
+untold o none told = cc
 
 -- bytes that are a journal aren't no journal
-pub is_journal : (o p : Option Image) (at : ℕ) → IsSome o → IsSome p → IfBoth o p (λ i j. IsOk (pair_records is_record i.bytes j.bytes)) → IfBoth o p (λ i j. pair_records is_record i.bytes j.bytes ≡ Err at) → ⊥
-is_journal (Some i) (Some j) at a b ok err = not_both (pair_records is_record i.bytes j.bytes) at ok err
-is_journal (Some i) None at a b ok err = cc
-is_journal None p at a b ok err = cc
+pub is_journal : (o p : Option Image) (at : ℕ) → BothTell o p → IfBoth o p (λ i j. IsOk (pair_records is_record i.bytes j.bytes)) → IfBoth o p (λ i j. pair_records is_record i.bytes j.bytes ≡ Err at) → ⊥
+is_journal (Some i) (Some j) at tell ok err = not_both (pair_records is_record i.bytes j.bytes) at ok err
+is_journal (Some i) None at tell ok err = absurd (untold None refl tell.1)
+is_journal None p at tell ok err = absurd (untold None refl tell.0)
 
 -- disks that stay
 pub runs_still : (here : NodeId) (n : Node) (o p x y : Option Image) → x ≡ o → y ≡ p → Runs here o p n → Runs here x y n
@@ -171,3 +187,22 @@ rests_stand here (Some i) (Some j) rests = recorded_make here (pair_records is_r
 pub kept_stand : (here : NodeId) (o : Option Node) (first second : Option Image) → IfSome o (Runs here first second) → IfNone o (Rests first second) → IfBoth first second (λ i j. StandFor here (kept_cell here o first second) i.bytes j.bytes)
 kept_stand here (Some n) first second up down = runs_stand here first second n up
 kept_stand here None first second up down = rests_stand here first second down
+
+-- ---- a host that goes down without a call
+
+pub rests_down : (here : NodeId) (o : Option Node) (first second : Option Image) → IfSome o (Runs here first second) → IfNone o (Rests first second) → Rests first second
+rests_down here (Some n) first second up down =
+    let settled = settled_pair is_record n.pairing first second up.stands.pair in
+    record {
+      first_is = settled.0;
+      second_is = settled.1;
+      journal = both_if first second (λ i j. StandFor here (cell_of n) i.bytes j.bytes) (λ i j. IsOk (pair_records is_record i.bytes j.bytes)) (runs_stand here first second n up)
+          (λ i j stands. ok_of (pair_records is_record i.bytes j.bytes) (Make here (cell_of n)) stands);
+    }
+rests_down here None first second up down = down
+
+pub down_cells : (here : NodeId) (o : Option Node) (first second : Option Image) → IfSome o (Runs here first second) → IfNone o (Rests first second) → BothTell first second
+    → (c : CircuitId) → made_cell here c first second ≡ stopped_cell (kept_cell here o first second c)
+down_cells here o (Some i) (Some j) up down tell c = makes here (kept_cell here o (Some i) (Some j)) i.bytes j.bytes (kept_stand here o (Some i) (Some j) up down) c
+down_cells here o (Some i) None up down tell c = absurd (untold None refl tell.1)
+down_cells here o None second up down tell c = absurd (untold None refl tell.0)

@@ -1,5 +1,5 @@
 -- What a stop leaves of two disks that were called or picked from, whatever the result.
-use Rattle.std.proofs.Common.{◌≡◌, ◌⊎◌, inl, inr, ⊎_elim, ℕ, ◌≤◌, Bool, true, false, List, Option, Some, None, IfSome, OnOk, OnErr, Result, Ok, Err, refl, sym, ap, ◌∙◌, subst, arith}
+use Rattle.std.proofs.Common.{◌≡◌, ◌⊎◌, inl, inr, ℕ, ◌≤◌, Bool, true, false, List, Option, Some, None, IfSome, OnOk, OnErr, Result, Ok, Err, refl, sym, ap, ◌∙◌, subst, arith}
 use Rattle.std.specs.Prelude.{IsSome, IfNone}
 use Rattle.spl_circuit.specs.Nodes.{NodeId, CircuitId}
 use Rattle.spl_edge.specs.Calls.{SamePast}
@@ -12,7 +12,6 @@ use Rattle.spl_rules.specs.Cells.{Cell, Empty, Held, Purged}
 use Rattle.spl_rules.specs.Changes.{stopped_cell}
 use Rattle.spl_rules.specs.Plans.{plan_of}
 use Rattle.spl_snapshot.specs.Counting.{IfBoth, IsInTurn, PairLeaves, PairLeavesInTurn}
-use Rattle.spl_wire.specs.declared.change.Change.{Change}
 use Rattle.spl_wire.specs.declared.event.Event.{Event}
 use Rattle.spl_node.specs.declared.node.Node.{Node}
 use Rattle.spl_node.specs.Hosts.{Rests, Runs, kept_cell}

@@ -1,5 +1,5 @@
 -- A node that is up or down, and what its disks stand for.
-use Rattle.std.specs.Prelude.{◌≡◌, ◌+◌, ℕ, List, Bool, false, Option, Some, None, is_some, IsOk, IfSome, IfNone}
+use Rattle.std.specs.Prelude.{◌≡◌, ◌+◌, ℕ, List, Bool, false, Option, Some, None, is_some, IsSome, IsOk, IfSome, IfNone}
 use Rattle.spl_circuit.specs.Nodes.{NodeId, CircuitId}
 use Rattle.spl_edge.specs.Calls.{SamePast}
 use Rattle.spl_edge.specs.Image.{Image, IsSettled}
@@ -55,6 +55,10 @@ pub record Rests (first second : Option Image) : Type 0 where
   pub first_is : IfSome first IsSettled
   pub second_is : IfSome second IsSettled
   pub journal : IfBoth first second (λ i j. IsOk (pair_records is_record i.bytes j.bytes))
+
+-- both disks tell
+abbrev pub BothTell : Option Image → Option Image → Type 0
+BothTell first second = IsSome first × IsSome second
 
 -- the disks, where they tell, are as the host takes them
 pub record HostStands (h : Host) (first second : Option Image) : Type 0 where

@@ -11,13 +11,13 @@ ghost use Rattle.spl_edge.specs.Causes.{Rose};
 ghost use Rattle.spl_edge.specs.Image.{Image};
 ghost use Rattle.spl_journal.specs.Make.{IsBlank};
 ghost use Rattle.spl_journal.specs.Reads.{Stays};
-ghost use Rattle.spl_snapshot.specs.Counting.{chosen, second_counts, IfBoth, PairLeaves, PairLeavesInTurn, Onward};
+ghost use Rattle.spl_snapshot.specs.Counting.{chosen, second_counts, IfBoth, PairLeaves, PairLeavesInTurn, TellsAs, Onward};
 ghost use Rattle.spl_wire.specs.Bounds.{AllSendable};
 ghost use Rattle.spl_rules.specs.Cells.{Empty, is_bound, is_open_cell};
 ghost use Rattle.spl_rules.specs.Changes.{stopped_cell};
 ghost use Rattle.spl_rules.specs.Plans.{plan_of};
 ghost use Rattle.spl_rules.specs.Valid.{IsFor, are_legal};
-ghost use Rattle.spl_node.specs.Hosts.{HostStands, PicksOld, host_id, host_cell, host_second, is_up};
+ghost use Rattle.spl_node.specs.Hosts.{BothTell, HostStands, PicksOld, host_id, host_cell, host_second, is_up};
 ghost use Rattle.spl_node.specs.Kept.{cells_after};
 ghost use Rattle.spl_node.specs.Records.{site_at};
 ghost use Rattle.spl_node.specs.Stands.{StandFor};
@@ -54,6 +54,7 @@ impl Host {
         ensures up { IfOk result (λ h. is_up h ≡ true) }
         ensures empty { IfOk result (λ h. (first second : Option Image) (c : CircuitId) → host_cell h first second c ≡ Empty) }
         ensures stands { IfOk result (λ h. HostStands h (D.image_at disks.new.first (D.moment disks.new.first)) (D.image_at disks.new.second (D.moment disks.new.second))) }
+        ensures told_first { OnOk result (TellsAs (D.image_at disks.old.first (D.moment disks.old.first)) (D.image_at disks.new.first (D.moment disks.new.first))) }
         ensures not { (at : ℕ) → IsErrOf result (JournalFault.NotAJournal at) → ⊥ }
         ensures failed { IsErrOf result JournalFault.Disk → Rose (D.faults disks.old.first) (D.faults disks.new.first) }
         ensures on_first { Onward (D.image_at disks.old.first) (D.image_at disks.new.first) (D.moment disks.old.first) (D.moment disks.new.first) (D.faults disks.old.first) (D.faults disks.new.first)
@@ -93,7 +94,7 @@ impl Host {
 
     /// An event at the cell of a circuit. The record of what it changes is kept before the answer
     /// comes. After an error the disks have to be read again.
-    pub fn handle<D: StopDisk>(
+    pub fn handle<D: Disk>(
         &mut self,
         alloc: Global,
         disks: &mut Pair<D>,
@@ -113,6 +114,8 @@ impl Host {
         // The plan is carried out at the cell of the circuit, and the other cells stay.
         ensures cells { OnOk result ((first second : Option Image) (c : CircuitId) → host_cell self.new first second c ≡ cells_after (host_id self.old) (host_cell self.old (D.image_at disks.old.first (D.moment disks.old.first)) (D.image_at disks.old.second (D.moment disks.old.second))) circuit.now event.now c) }
         ensures stands { OnOk result (HostStands self.new (D.image_at disks.new.first (D.moment disks.new.first)) (D.image_at disks.new.second (D.moment disks.new.second))) }
+        ensures told_first { OnOk result (TellsAs (D.image_at disks.old.first (D.moment disks.old.first)) (D.image_at disks.new.first (D.moment disks.new.first))) }
+        ensures told_second { OnOk result (TellsAs (D.image_at disks.old.second (D.moment disks.old.second)) (D.image_at disks.new.second (D.moment disks.new.second))) }
 
         // A stop at any moment of the call leaves disks that stand for the cells before the event or for those after it.
         ensures any_moment { IfBoth (D.image_at disks.old.first (D.moment disks.old.first)) (D.image_at disks.old.second (D.moment disks.old.second))
@@ -168,6 +171,20 @@ impl Host {
         pick_both(alloc, disks, Fill::Old)
     }
 
+    /// Takes the node down without a call of its disks: nothing of it stays in memory. A node that
+    /// is down stays as it is.
+    pub fn go_down(&mut self)
+        ensures id { host_id self.new ≡ host_id self.old }
+        ensures down { is_up self.new ≡ false }
+        ensures same { is_up self.old ≡ false → self.new ≡ self.old }
+
+        // Its disks are as it takes them, and where both tell it keeps its cells but for their open rounds.
+        ensures stands { (first second : Option Image) → HostStands self.old first second → HostStands self.new first second }
+        ensures cells { (first second : Option Image) → HostStands self.old first second → BothTell first second → (c : CircuitId) → host_cell self.new first second c ≡ stopped_cell (host_cell self.old first second c) }
+    {
+        self.node.take();
+    }
+
     /// Takes the node down in an event at the cell of a circuit, or in none: its disks are armed, the
     /// event is handled, and each disk picks what it keeps. Nothing is sent. It tells whether the
     /// event has changes. An error comes for want of memory alone.
@@ -220,19 +237,17 @@ impl Host {
 
     /// Brings the node up: its cells are those that its disks make. A node that is up stays as it
     /// is.
-    pub fn start<D: StopDisk>(
-        &mut self,
-        alloc: Global,
-        disks: &mut Pair<D>,
-    ) -> Result<(), JournalFault>
+    pub fn start<D: Disk>(&mut self, alloc: Global, disks: &mut Pair<D>) -> Result<(), JournalFault>
         requires stands { HostStands self.old (D.image_at disks.old.first (D.moment disks.old.first)) (D.image_at disks.old.second (D.moment disks.old.second)) }
         ensures id { host_id self.new ≡ host_id self.old }
         ensures up { OnOk result (is_up self.new ≡ true) }
         ensures stands { OnOk result (HostStands self.new (D.image_at disks.new.first (D.moment disks.new.first)) (D.image_at disks.new.second (D.moment disks.new.second))) }
-        ensures cells { OnOk result ((c : CircuitId) → host_cell self.new (D.image_at disks.new.first (D.moment disks.new.first)) (D.image_at disks.new.second (D.moment disks.new.second)) c ≡ host_cell self.old (D.image_at disks.old.first (D.moment disks.old.first)) (D.image_at disks.old.second (D.moment disks.old.second)) c) }
+        ensures cells { OnOk result (BothTell (D.image_at disks.old.first (D.moment disks.old.first)) (D.image_at disks.old.second (D.moment disks.old.second)) → (c : CircuitId) → host_cell self.new (D.image_at disks.new.first (D.moment disks.new.first)) (D.image_at disks.new.second (D.moment disks.new.second)) c ≡ host_cell self.old (D.image_at disks.old.first (D.moment disks.old.first)) (D.image_at disks.old.second (D.moment disks.old.second)) c) }
         ensures same { is_up self.old ≡ true → (self.new ≡ self.old) × (disks.new ≡ disks.old) }
-        ensures not { (at : ℕ) → IsErrOf result (JournalFault.NotAJournal at) → ⊥ }
+        ensures not { BothTell (D.image_at disks.old.first (D.moment disks.old.first)) (D.image_at disks.old.second (D.moment disks.old.second)) → (at : ℕ) → IsErrOf result (JournalFault.NotAJournal at) → ⊥ }
         ensures failed { IsErrOf result JournalFault.Disk → Rose (D.faults disks.old.first) (D.faults disks.new.first) ⊎ Rose (D.faults disks.old.second) (D.faults disks.new.second) }
+        ensures told_first { TellsAs (D.image_at disks.old.first (D.moment disks.old.first)) (D.image_at disks.new.first (D.moment disks.new.first)) }
+        ensures told_second { TellsAs (D.image_at disks.old.second (D.moment disks.old.second)) (D.image_at disks.new.second (D.moment disks.new.second)) }
         ensures stays_first { Stays (D.image_at disks.old.first) (D.moment disks.old.first) (D.image_at disks.new.first) (D.moment disks.new.first) }
         ensures stays_second { Stays (D.image_at disks.old.second) (D.moment disks.old.second) (D.image_at disks.new.second) (D.moment disks.new.second) }
         ensures on_first { Onward (D.image_at disks.old.first) (D.image_at disks.new.first) (D.moment disks.old.first) (D.moment disks.new.first) (D.faults disks.old.first) (D.faults disks.new.first)

@@ -14,7 +14,7 @@ ghost use Rattle.spl_journal.specs.Journals.{end_of, len_of, base_of, epoch_of, 
 ghost use Rattle.spl_journal.specs.Make.{IsBlank};
 ghost use Rattle.spl_journal.specs.Records.{blocks, sized};
 ghost use Rattle.spl_journal.specs.Stops.{is_kept};
-ghost use Rattle.spl_snapshot.specs.Counting.{chosen, IfBoth, PairLeaves, PairLeavesInTurn, Onward};
+ghost use Rattle.spl_snapshot.specs.Counting.{chosen, IfBoth, PairLeaves, PairLeavesInTurn, TellsAs, Onward};
 ghost use Rattle.spl_snapshot.specs.Pairs.{PairStands, is_second, journal_in};
 ghost use Rattle.spl_snapshot.specs.Stopped.{kept_on};
 ghost use Rattle.spl_wire.specs.Bounds.{AllSendable};
@@ -68,6 +68,7 @@ impl Node {
         ensures empty { IfOk result (λ n. (c : CircuitId) → cell_of n c ≡ Empty) }
         ensures running { IfOk result (λ n. is_halted n ≡ false) }
         ensures stands { IfOk result (λ n. NodeStands n (D.image_at disks.new.first (D.moment disks.new.first)) (D.image_at disks.new.second (D.moment disks.new.second))) }
+        ensures told_first { OnOk result (TellsAs (D.image_at disks.old.first (D.moment disks.old.first)) (D.image_at disks.new.first (D.moment disks.new.first))) }
         ensures base { IfOk result (λ n. (is_second n.pairing ≡ false) × (epoch_of (journal_in n.pairing) ≡ 1) × (base_of (journal_in n.pairing) ≡ 18)) }
         ensures not { (at : ℕ) → IsErrOf result (JournalFault.NotAJournal at) → ⊥ }
         ensures failed { IsErrOf result JournalFault.Disk → Rose (D.faults disks.old.first) (D.faults disks.new.first) }
@@ -134,6 +135,8 @@ impl Node {
         ensures after { OnOk result (IfBoth (D.image_at disks.old.first (D.moment disks.old.first)) (D.image_at disks.old.second (D.moment disks.old.second)) (λ i j. StandFor (here_of self.old) (cell_of self.old) i.bytes j.bytes →
             PairLeaves (D.image_at disks.new.first) (D.moment disks.new.first) (D.moment disks.new.first) (D.image_at disks.new.second) (D.moment disks.new.second) (D.moment disks.new.second)
             (StandFor (here_of self.old) (cells_after (here_of self.old) (cell_of self.old) circuit.now event.now)))) }
+        ensures told_first { OnOk result (TellsAs (D.image_at disks.old.first (D.moment disks.old.first)) (D.image_at disks.new.first (D.moment disks.new.first))) }
+        ensures told_second { OnOk result (TellsAs (D.image_at disks.old.second (D.moment disks.old.second)) (D.image_at disks.new.second (D.moment disks.new.second))) }
         ensures pair { OnOk result (PairStands is_record self.new.pairing (D.image_at disks.new.first (D.moment disks.new.first)) (D.image_at disks.new.second (D.moment disks.new.second))) }
         ensures stands { OnOk result (IfBoth (D.image_at disks.old.first (D.moment disks.old.first)) (D.image_at disks.old.second (D.moment disks.old.second)) (λ i j. StandFor (here_of self.old) (cell_of self.old) i.bytes j.bytes → NodeStands self.new (D.image_at disks.new.first (D.moment disks.new.first)) (D.image_at disks.new.second (D.moment disks.new.second)))) }
 

@@ -1,4 +1,4 @@
-use Rattle.std.proofs.Common.{◌≡◌, ◌++◌, ◌∷◌, [], ◌∙◌, ℕ, List, Option, Some, Err, IfSome, ap, sym, subst}
+use Rattle.std.proofs.Common.{◌≡◌, ◌++◌, ◌∷◌, [], ◌∙◌, Option, Err, IfSome, sym, subst}
 use Rattle.std.specs.Prelude.{IfNone}
 use Rattle.spl_snapshot.specs.Counting.{IfBoth, HaveRecords, pair_records}
 use Rattle.spl_snapshot.specs.Pairs.{pair_given}

@@ -4,16 +4,13 @@ use Rattle.spl_snapshot.specs.Pairs.{is_second}
 use Rattle.spl_node.specs.Hosts.{counts_second}
 use Rattle.spl_node.specs.Kept.{cells_after}
 use Rattle.spl_node.specs.Stands.{StandFor, here_of, cell_of}
-use Rattle.spl_node.proofs.Hosting.{as_host, both_apply, ok_both, runs_on, up_runs}
+use Rattle.spl_node.proofs.Hosting.{as_host, both_apply, ok_map, runs_on, up_runs}
 use Rattle.spl_node.proofs.host.Host.handle.Goals as goal
 
 pub returns-clause-stands : goal.returns-clause-stands
-returns-clause-stands g c = ok_both c.step.result
-    (λ running stands. record {
-      up = runs_on c.args.self.now.id c.in-Some.node c.step.new.self (g.D.Disk.image_at c.args.disks.now.first (g.D.Disk.moment c.args.disks.now.first)) (g.D.Disk.image_at c.args.disks.now.second (g.D.Disk.moment c.args.disks.now.second)) (g.D.Disk.image_at c.step.new.disks.first (g.D.Disk.moment c.step.new.disks.first)) (g.D.Disk.image_at c.step.new.disks.second (g.D.Disk.moment c.step.new.disks.second)) (g.met.D.StopDisk.tells c.args.disks.now.first) (g.met.D.StopDisk.tells c.args.disks.now.second) (up_runs c.args.self.now.id c.args.self.now.node c.in-Some.node (g.D.Disk.image_at c.args.disks.now.first (g.D.Disk.moment c.args.disks.now.first)) (g.D.Disk.image_at c.args.disks.now.second (g.D.Disk.moment c.args.disks.now.second)) c.in-Some.is c.requires.stands.up) running c.step.ensures.here stands;
-      down = tt;
-    })
-    c.step.ensures.running c.step.ensures.stands
+returns-clause-stands g c = ok_map c.step.result (λ runs. record { up = runs; down = tt })
+    (runs_on c.step.result c.args.self.now.id c.in-Some.node c.step.new.self (g.D.Disk.image_at c.args.disks.now.first (g.D.Disk.moment c.args.disks.now.first)) (g.D.Disk.image_at c.args.disks.now.second (g.D.Disk.moment c.args.disks.now.second)) (g.D.Disk.image_at c.step.new.disks.first (g.D.Disk.moment c.step.new.disks.first)) (g.D.Disk.image_at c.step.new.disks.second (g.D.Disk.moment c.step.new.disks.second)) c.step.ensures.told_first c.step.ensures.told_second (up_runs c.args.self.now.id c.args.self.now.node c.in-Some.node (g.D.Disk.image_at c.args.disks.now.first (g.D.Disk.moment c.args.disks.now.first)) (g.D.Disk.image_at c.args.disks.now.second (g.D.Disk.moment c.args.disks.now.second)) c.in-Some.is c.requires.stands.up)
+    c.step.ensures.running c.step.ensures.here c.step.ensures.pair c.step.ensures.stands)
 
 pub returns-clause-any_moment : goal.returns-clause-any_moment
 returns-clause-any_moment g c = as_host (λ here cells. IfBoth (g.D.Disk.image_at c.args.disks.now.first (g.D.Disk.moment c.args.disks.now.first)) (g.D.Disk.image_at c.args.disks.now.second (g.D.Disk.moment c.args.disks.now.second)) (λ i j. PairLeavesInTurn (counts_second c.args.self.now.node) (g.D.Disk.image_at c.step.new.disks.first) (g.D.Disk.moment c.args.disks.now.first) (g.D.Disk.moment c.step.new.disks.first) (g.D.Disk.image_at c.step.new.disks.second) (g.D.Disk.moment c.args.disks.now.second) (g.D.Disk.moment c.step.new.disks.second) (λ a b. StandFor here cells a b ⊎ StandFor here (cells_after here cells c.args.circuit.now c.args.event.now) a b))) c.args.self.now.id c.args.self.now.node c.in-Some.node (g.D.Disk.image_at c.args.disks.now.first (g.D.Disk.moment c.args.disks.now.first)) (g.D.Disk.image_at c.args.disks.now.second (g.D.Disk.moment c.args.disks.now.second)) c.in-Some.is (up_runs c.args.self.now.id c.args.self.now.node c.in-Some.node (g.D.Disk.image_at c.args.disks.now.first (g.D.Disk.moment c.args.disks.now.first)) (g.D.Disk.image_at c.args.disks.now.second (g.D.Disk.moment c.args.disks.now.second)) c.in-Some.is c.requires.stands.up).here_is
