@@ -1,18 +1,21 @@
 -- The nodes of a registry, each with the pair at its position there.
-use Rattle.std.proofs.Common.{◌≡◌, ◌≢◌, ◌⊎◌, inl, inr, ℕ, zero, suc, ◌<◌, true, false, ltb, List, [], ◌∷◌, length, get_or, slice_get, Some, refl, ap, sym, ◌∙◌, arith}
+use Rattle.std.proofs.Common.{◌≡◌, ◌≢◌, ◌⊎◌, inl, inr, ℕ, zero, suc, ◌<◌, true, false, ltb, List, [], ◌∷◌, length, get_or, slice_get, Option, Some, None, IsSome, option_map, refl, ap, sym, ◌∙◌, arith}
 use Rattle.std.proofs.lemmas.Option.{slice_get_within, slice_get-get_or, slice_get-map}
-use Rattle.std.specs.List.{AllPairs}
+use Rattle.std.specs.List.{AllPairs, position_from}
+use Rattle.std.specs.Option.{option_map_or}
 use Rattle.std.specs.Str.{bytes_eq}
 use Rattle.spl_agree.proofs.Tests.{ltb_is, ltb_not}
 use Rattle.spl_circuit.specs.Nodes.{NodeId, has_node, sorted}
 use Rattle.spl_circuit.proofs.Sorting.{has_sorted}
 use Rattle.spl_model.specs.Projection.{Ran}
-use Rattle.spl_registry.specs.Nodes.{Entry, ids_of as registered, node_at}
+use Rattle.spl_registry.specs.Nodes.{Entry, ids_of as registered, is_of, node_at}
 use Rattle.spl_world.specs.Disks.{PairView}
 use Rattle.spl_world.specs.Held.{AllHeld, AreHeld}
+use Rattle.spl_world.specs.Links.{Places, seat_of}
 use Rattle.spl_world.specs.Views.{ArePlaced, ids_of, places_of, slot_ids, slot_places}
 use Rattle.spl_world.specs.declared.slot.Slot.{Slot}
 use Rattle.spl_world.specs.declared.world.World.{World}
+use Rattle.spl_world.proofs.Made.{entry_at, found_known}
 use Rattle.spl_world.proofs.Reading.{has_at}
 use Rattle.spl_world.proofs.Sends.{bool_cases, bytes_are}
 
@@ -50,6 +53,10 @@ one_position ids a b n differ at also = go (bool_cases (ltb a b)) (bool_cases (l
     go (inr p) (inl q) = absurd (apart_below ids b a n differ also at (ltb_is b a q))
     go (inr p) (inr q) = let one = ltb_not a b p in let other = ltb_not b a q in omega (arith, one, other)
 
+some_is : (o : Option ℕ) → IsSome o → (k : ℕ) × (o ≡ Some k)
+some_is None h = absurd cc
+some_is (Some k) h = (k, refl)
+
 -- the id at a position of a registry
 id_there : (es : List Entry) (k : ℕ) (n : NodeId) → node_at es k ≡ Some n → slice_get (registered es) k ≡ Some n
 id_there es k n at = slice_get-map (λ (e : Entry). e.identity) es k ∙ at
@@ -63,6 +70,16 @@ module _ (es : List Entry) (w : World) (differ : AllPairs (λ x y. x ≢ y) (reg
       let place = place_there w.slots.items here.0 n here.1 in
       let same : place.0 ≡ k = one_position (registered es) place.0 k n differ (id_there es place.0 n (placed here.0 n place.0 here.1 place.1)) (id_there es k n at) in
       (here.0, here.1, place.1 ∙ ap (λ (m : ℕ). Some m) same)
+
+  -- the place of each node is its position
+  pub seats_placed : Places (seat_of es) (ids_of w) (places_of w)
+  seats_placed i n k at there =
+      let here = placed i n k at there in
+      let known : has_node (registered es) n ≡ true = has_at (registered es) k n (id_there es k n here) in
+      let found = some_is (position_from (is_of n) 0 es) (found_known es n 0 known) in
+      let entry = entry_at es n found.0 found.1 in
+      let other : node_at es found.0 ≡ Some n = ap (option_map (λ (e : Entry). e.identity)) entry.there ∙ ap Some entry.id_is in
+      ap (λ (o : Option ℕ). option_map_or (λ j. j) o 0) found.1 ∙ one_position (registered es) found.0 k n differ (id_there es found.0 n other) (id_there es k n here)
 
   pub seats_held : (start : List PairView) (rs : List Ran) (ps : List PairView) → AllHeld start rs w ps → AreHeld start (ids_of w) rs es ps
   seats_held start rs ps h = λ k n p q at was there. let s = is_seated k n at in h s.0 n k p q s.1 s.2 was there

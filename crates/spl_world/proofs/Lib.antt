@@ -36,3 +36,6 @@ mod Ending
 mod EndingParts
 mod EndingLines
 mod Settles
+pub mod Linking
+mod LinkingParts
+mod Seating

@@ -10,7 +10,7 @@ use Rattle.spl_node.specs.Hosts.{HostStands}
 use Rattle.spl_registry.specs.Nodes.{Entry, ids_of, is_of, node_at}
 use Rattle.spl_world.specs.Disks.{Images, images_at, images_or_none}
 use Rattle.spl_world.specs.Kept.{Posted, lists_about, sent_to}
-use Rattle.spl_world.specs.Views.{Holds, IsFresh, Sits, slot_id, slot_ids, slot_places}
+use Rattle.spl_world.specs.Views.{Holds, IsFresh, IsPlace, Sits, slot_id, slot_ids, slot_places}
 use Rattle.spl_world.specs.declared.slot.Slot.{Slot}
 use Rattle.spl_world.proofs.Pairing.{pair_here}
 use Rattle.spl_world.proofs.Reading.{has_at}
@@ -183,3 +183,13 @@ placed_in es (s ∷ ss) h (suc i) n p e f = placed_in es ss (λ j z g. h (suc j)
 
 pub made_placed : (es : List Entry) (ns : List NodeId) (k : ℕ) (ss : List Slot) (start now : List Images) → AreMade es ns k ss start now → (i : ℕ) (n : NodeId) (p : ℕ) → slice_get (slot_ids ss) i ≡ Some n → slice_get (slot_places ss) i ≡ Some p → node_at es p ≡ Some n
 made_placed es ns k ss start now made = placed_in es ss made.placed
+
+slot_of : (xs : List Slot) (i k : ℕ) → slice_get (slot_places xs) i ≡ Some k → (s : Slot) × (slice_get xs i ≡ Some s) × (s.position ≡ k)
+slot_of [] i k h = absurd cc
+slot_of (x ∷ xs) zero k h = let same : x.position ≡ k = cc in (x, refl, same)
+slot_of (x ∷ xs) (suc i) k h = slot_of xs i k h
+
+pub made_below : (es : List Entry) (ns : List NodeId) (k : ℕ) (ss : List Slot) (start now : List Images) → AreMade es ns k ss start now → (p : ℕ) → IsPlace (slot_places ss) p → p < length es
+made_below es ns k ss start now made p at =
+    let s = slot_of ss at.0 p at.1 in
+    subst (λ (q : ℕ). q < length es) s.2 (entry_below es s.0.position (slot_id s.0) (made.placed at.0 s.0 s.1))

@@ -33,6 +33,12 @@ deliver_more c z a b taken index m h = sym (
     ∙ ap (λ (w : Calming). w.world) (delivers_more c (record z { world = m }) a b (taken + 1) (index - taken))
     ∙ ap (λ (k : ℕ). step_world (delivered c z a b (taken + 1) (index - taken) m) (step.Deliver a b c k)) (numbers taken index h))
 
+pub deliver_next : (c : CircuitId) (z : Calming) (a b : NodeId) (taken index : ℕ) → taken ≤ index → calming_step (delivers c z a b (taken + 1) (index - taken)) (step.Deliver a b c (index + 1)) ≡ delivers c z a b (taken + 1) ((index + 1) - taken)
+deliver_next c z a b taken index h = sym (
+    ap (λ (k : ℕ). delivers c z a b (taken + 1) k) (left taken index h)
+    ∙ delivers_more c z a b (taken + 1) (index - taken)
+    ∙ ap (λ (k : ℕ). calming_step (delivers c z a b (taken + 1) (index - taken)) (step.Deliver a b c k)) (numbers taken index h))
+
 nothing_less : (t : ℕ) → 0 - t ≡ 0
 nothing_less t = omega arith
 

@@ -8,3 +8,4 @@ pub mod Held
 pub mod Halts
 pub mod Ended
 pub mod Making
+pub mod Links

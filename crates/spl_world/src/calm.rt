@@ -11,13 +11,15 @@ ghost use Rattle.spl_world.specs.Calms.{tick_at, tick_count, IsIdleTick, AreRows
 ghost use Rattle.spl_world.specs.Counts.{Counts};
 ghost use Rattle.spl_world.specs.Disks.{Images, LeavesDisks, bench, images};
 ghost use Rattle.spl_world.specs.Ended.{EventEnds, PartEnds};
+ghost use Rattle.spl_world.specs.Links.{Delivers, IsReady, PartDelivers, Places, carried_in, is_of_links, link_view};
 ghost use Rattle.spl_world.specs.Views.{IsPlace, Holds, IsAt, IsUp, Moves, Sits, Spares, places_of, ids_of, over, seen};
 
 use crate::fault::WorldFault;
 use crate::world::World;
 use spl_agree::Note;
 use spl_base::CircuitId;
-use spl_edge::{Pair, StopDisk};
+use spl_edge::{Fabric, Pair, StopDisk};
+use spl_pump::Carry;
 use spl_wire::{Answer, Event};
 use std::alloc::{AllocError, Global};
 
@@ -85,6 +87,7 @@ impl World {
         ensures disks { LeavesDisks result (bench D.image_at D.moment D.faults D.armed D.picks pairs.old.items) (bench D.image_at D.moment D.faults D.armed D.picks pairs.new.items) }
         ensures place { (slot : ℕ) → IsErrOf result (WorldFault.Disk slot) → IsPlace (places_of self.old) slot }
         ensures ended { (m : CircuitWorld) (n : Id) → Holds circuit m (seen D.image_at D.moment self.old pairs.old.items) → IsAt self.old slot n → IfErr result (λ e. EventEnds circuit (tick_at circuit n m) e (seen D.image_at D.moment self.old pairs.old.items) (images D.image_at D.moment pairs.new.items)) }
+        ensures unlinked { IfErr result (λ e. is_of_links e ≡ false) }
     {
         if !self.is_open(slot, &circuit) {
             return Ok(false);
@@ -113,6 +116,7 @@ impl World {
         ensures disks { LeavesDisks result (bench D.image_at D.moment D.faults D.armed D.picks pairs.old.items) (bench D.image_at D.moment D.faults D.armed D.picks pairs.new.items) }
         ensures place { (slot : ℕ) → IsErrOf result (WorldFault.Disk slot) → IsPlace (places_of self.old) slot }
         ensures ended { (z : Calming) → Holds circuit z.world (seen D.image_at D.moment self.old pairs.old.items) → IfErr result (λ e. PartEnds circuit z (ticks circuit z (open_nodes z.world (ids_of self.old))) e (seen D.image_at D.moment self.old pairs.old.items) (images D.image_at D.moment pairs.new.items)) }
+        ensures unlinked { IfErr result (λ e. is_of_links e ≡ false) }
     {
         let mut moved = false;
         for slot in 0..self.len() {
@@ -123,10 +127,12 @@ impl World {
     }
 
     // The messages of a pair from one index to another are delivered.
-    fn deliver_from<D: StopDisk>(
+    fn deliver_from<D: StopDisk, C: Carry, F: Fabric>(
         &mut self,
         alloc: Global,
         pairs: &mut Vec<Pair<D>>,
+        carrier: &mut C,
+        fabric: &mut F,
         circuit: CircuitId,
         from: usize,
         to: usize,
@@ -138,6 +144,7 @@ impl World {
         requires apart { (a b : Id) → IsAt self.old from a → IsAt self.old to b → bytes_eq a b ≡ false }
         requires up { IsUp self.old to }
         requires sits { Sits (seen D.image_at D.moment self.old pairs.old.items) }
+        requires ready { IsReady (places_of self.old) (link_view C.slots C.failed C.wire F.put_on F.taken_on F.faults carrier.old fabric.old) }
         ensures ids { ids_of self.new ≡ ids_of self.old }
         ensures places { places_of self.new ≡ places_of self.old }
         ensures stops { self.new.stops ≡ self.old.stops }
@@ -147,20 +154,24 @@ impl World {
         ensures disks { LeavesDisks result (bench D.image_at D.moment D.faults D.armed D.picks pairs.old.items) (bench D.image_at D.moment D.faults D.armed D.picks pairs.new.items) }
         ensures place { (slot : ℕ) → IsErrOf result (WorldFault.Disk slot) → IsPlace (places_of self.old) slot }
         ensures ended { (z : Calming) (a b : Id) → Holds circuit z.world (seen D.image_at D.moment self.old pairs.old.items) → IsAt self.old from a → IsAt self.old to b → IfErr result (λ e. PartEnds circuit z (delivers circuit z a b (taken + 1) (all - taken)) e (seen D.image_at D.moment self.old pairs.old.items) (images D.image_at D.moment pairs.new.items)) }
+        ensures ready { OnOk result (IsReady (places_of self.new) (link_view C.slots C.failed C.wire F.put_on F.taken_on F.faults carrier.new fabric.new)) }
+        ensures links { (place : Id → ℕ) (z : Calming) (a b : Id) → Places place (ids_of self.old) (places_of self.old) → Holds circuit z.world (seen D.image_at D.moment self.old pairs.old.items) → IsAt self.old from a → IsAt self.old to b → PartDelivers result place z (delivers circuit z a b (taken + 1) (all - taken)) (link_view C.slots C.failed C.wire F.put_on F.taken_on F.faults carrier.old fabric.old) (link_view C.slots C.failed C.wire F.put_on F.taken_on F.faults carrier.new fabric.new) }
     {
         for index in taken..all {
             self.events.add(1)?;
-            self.deliver(alloc, pairs, from, to, circuit, index)?;
+            self.deliver(alloc, pairs, carrier, fabric, from, to, circuit, index)?;
         }
         Ok(())
     }
 
     // The turn of a pair: what was sent on it and isn't taken yet is delivered, where the recipient
     // is up. Answers how many are taken now.
-    fn pair_turn<D: StopDisk>(
+    fn pair_turn<D: StopDisk, C: Carry, F: Fabric>(
         &mut self,
         alloc: Global,
         pairs: &mut Vec<Pair<D>>,
+        carrier: &mut C,
+        fabric: &mut F,
         circuit: CircuitId,
         from: usize,
         to: usize,
@@ -169,6 +180,7 @@ impl World {
         requires from_below { from < length self.old.slots.items }
         requires to_below { to < length self.old.slots.items }
         requires sits { Sits (seen D.image_at D.moment self.old pairs.old.items) }
+        requires ready { IsReady (places_of self.old) (link_view C.slots C.failed C.wire F.put_on F.taken_on F.faults carrier.old fabric.old) }
         ensures ids { ids_of self.new ≡ ids_of self.old }
         ensures places { places_of self.new ≡ places_of self.old }
         ensures stops { self.new.stops ≡ self.old.stops }
@@ -179,6 +191,8 @@ impl World {
         ensures disks { LeavesDisks result (bench D.image_at D.moment D.faults D.armed D.picks pairs.old.items) (bench D.image_at D.moment D.faults D.armed D.picks pairs.new.items) }
         ensures place { (slot : ℕ) → IsErrOf result (WorldFault.Disk slot) → IsPlace (places_of self.old) slot }
         ensures ended { (z : Calming) (a b : Id) → Holds circuit z.world (seen D.image_at D.moment self.old pairs.old.items) → IsAt self.old from a → IsAt self.old to b → z.taken a b ≡ taken → IfErr result (λ e. PartEnds circuit z (pair_turn circuit z a b) e (seen D.image_at D.moment self.old pairs.old.items) (images D.image_at D.moment pairs.new.items)) }
+        ensures ready { OnOk result (IsReady (places_of self.new) (link_view C.slots C.failed C.wire F.put_on F.taken_on F.faults carrier.new fabric.new)) }
+        ensures links { (place : Id → ℕ) (z : Calming) (a b : Id) → Places place (ids_of self.old) (places_of self.old) → Holds circuit z.world (seen D.image_at D.moment self.old pairs.old.items) → IsAt self.old from a → IsAt self.old to b → z.taken a b ≡ taken → PartDelivers result place z (pair_turn circuit z a b) (link_view C.slots C.failed C.wire F.put_on F.taken_on F.faults carrier.old fabric.old) (link_view C.slots C.failed C.wire F.put_on F.taken_on F.faults carrier.new fabric.new) }
     {
         if !self.is_up(to) {
             return Ok(taken);
@@ -187,15 +201,17 @@ impl World {
             return Ok(0);
         }
         let all = self.count(from, to, &circuit);
-        self.deliver_from(alloc, pairs, circuit, from, to, taken, all)?;
+        self.deliver_from(alloc, pairs, carrier, fabric, circuit, from, to, taken, all)?;
         Ok(all)
     }
 
     // The turns of the pairs of one sender.
-    fn to_all<D: StopDisk>(
+    fn to_all<D: StopDisk, C: Carry, F: Fabric>(
         &mut self,
         alloc: Global,
         pairs: &mut Vec<Pair<D>>,
+        carrier: &mut C,
+        fabric: &mut F,
         circuit: CircuitId,
         from: usize,
         row: &mut Vec<usize>,
@@ -203,6 +219,7 @@ impl World {
         requires below { from < length self.old.slots.items }
         requires wide { length row.old.items ≡ length self.old.slots.items }
         requires sits { Sits (seen D.image_at D.moment self.old pairs.old.items) }
+        requires ready { IsReady (places_of self.old) (link_view C.slots C.failed C.wire F.put_on F.taken_on F.faults carrier.old fabric.old) }
         ensures ids { ids_of self.new ≡ ids_of self.old }
         ensures places { places_of self.new ≡ places_of self.old }
         ensures stops { self.new.stops ≡ self.old.stops }
@@ -214,23 +231,28 @@ impl World {
         ensures disks { LeavesDisks result (bench D.image_at D.moment D.faults D.armed D.picks pairs.old.items) (bench D.image_at D.moment D.faults D.armed D.picks pairs.new.items) }
         ensures place { (slot : ℕ) → IsErrOf result (WorldFault.Disk slot) → IsPlace (places_of self.old) slot }
         ensures ended { (z : Calming) (a : Id) → Holds circuit z.world (seen D.image_at D.moment self.old pairs.old.items) → IsAt self.old from a → row.old.items ≡ row_of z.taken a (ids_of self.old) → IfErr result (λ e. PartEnds circuit z (to_all circuit z a (ids_of self.old)) e (seen D.image_at D.moment self.old pairs.old.items) (images D.image_at D.moment pairs.new.items)) }
+        ensures ready { OnOk result (IsReady (places_of self.new) (link_view C.slots C.failed C.wire F.put_on F.taken_on F.faults carrier.new fabric.new)) }
+        ensures links { (place : Id → ℕ) (z : Calming) (a : Id) → Places place (ids_of self.old) (places_of self.old) → Holds circuit z.world (seen D.image_at D.moment self.old pairs.old.items) → IsAt self.old from a → row.old.items ≡ row_of z.taken a (ids_of self.old) → PartDelivers result place z (to_all circuit z a (ids_of self.old)) (link_view C.slots C.failed C.wire F.put_on F.taken_on F.faults carrier.old fabric.old) (link_view C.slots C.failed C.wire F.put_on F.taken_on F.faults carrier.new fabric.new) }
     {
         for to in 0..self.len() {
-            row[to] = self.pair_turn(alloc, pairs, circuit, from, to, row[to])?;
+            row[to] = self.pair_turn(alloc, pairs, carrier, fabric, circuit, from, to, row[to])?;
         }
         Ok(())
     }
 
     // The turns of all pairs.
-    fn from_all<D: StopDisk>(
+    fn from_all<D: StopDisk, C: Carry, F: Fabric>(
         &mut self,
         alloc: Global,
         pairs: &mut Vec<Pair<D>>,
+        carrier: &mut C,
+        fabric: &mut F,
         circuit: CircuitId,
         rows: &mut Vec<Vec<usize>>,
     ) -> Result<(), WorldFault>
         requires square { IsSquare (length self.old.slots.items) rows.old.items }
         requires sits { Sits (seen D.image_at D.moment self.old pairs.old.items) }
+        requires ready { IsReady (places_of self.old) (link_view C.slots C.failed C.wire F.put_on F.taken_on F.faults carrier.old fabric.old) }
         ensures ids { ids_of self.new ≡ ids_of self.old }
         ensures places { places_of self.new ≡ places_of self.old }
         ensures stops { self.new.stops ≡ self.old.stops }
@@ -242,23 +264,36 @@ impl World {
         ensures disks { LeavesDisks result (bench D.image_at D.moment D.faults D.armed D.picks pairs.old.items) (bench D.image_at D.moment D.faults D.armed D.picks pairs.new.items) }
         ensures place { (slot : ℕ) → IsErrOf result (WorldFault.Disk slot) → IsPlace (places_of self.old) slot }
         ensures ended { (z : Calming) → Holds circuit z.world (seen D.image_at D.moment self.old pairs.old.items) → AreRows z.taken (ids_of self.old) rows.old.items → IfErr result (λ e. PartEnds circuit z (from_all circuit z (ids_of self.old) (ids_of self.old)) e (seen D.image_at D.moment self.old pairs.old.items) (images D.image_at D.moment pairs.new.items)) }
+        ensures ready { OnOk result (IsReady (places_of self.new) (link_view C.slots C.failed C.wire F.put_on F.taken_on F.faults carrier.new fabric.new)) }
+        ensures links { (place : Id → ℕ) (z : Calming) → Places place (ids_of self.old) (places_of self.old) → Holds circuit z.world (seen D.image_at D.moment self.old pairs.old.items) → AreRows z.taken (ids_of self.old) rows.old.items → PartDelivers result place z (from_all circuit z (ids_of self.old) (ids_of self.old)) (link_view C.slots C.failed C.wire F.put_on F.taken_on F.faults carrier.old fabric.old) (link_view C.slots C.failed C.wire F.put_on F.taken_on F.faults carrier.new fabric.new) }
     {
         for from in 0..self.len() {
-            self.to_all(alloc, pairs, circuit, from, &mut rows[from])?;
+            self.to_all(
+                alloc,
+                pairs,
+                carrier,
+                fabric,
+                circuit,
+                from,
+                &mut rows[from],
+            )?;
         }
         Ok(())
     }
 
     // A pass: the ticks, and then the turns of all pairs. Answers whether there was anything to do.
-    fn pass<D: StopDisk>(
+    fn pass<D: StopDisk, C: Carry, F: Fabric>(
         &mut self,
         alloc: Global,
         pairs: &mut Vec<Pair<D>>,
+        carrier: &mut C,
+        fabric: &mut F,
         circuit: CircuitId,
         rows: &mut Vec<Vec<usize>>,
     ) -> Result<bool, WorldFault>
         requires square { IsSquare (length self.old.slots.items) rows.old.items }
         requires sits { Sits (seen D.image_at D.moment self.old pairs.old.items) }
+        requires ready { IsReady (places_of self.old) (link_view C.slots C.failed C.wire F.put_on F.taken_on F.faults carrier.old fabric.old) }
         ensures ids { ids_of self.new ≡ ids_of self.old }
         ensures places { places_of self.new ≡ places_of self.old }
         ensures stops { self.new.stops ≡ self.old.stops }
@@ -271,24 +306,29 @@ impl World {
         ensures disks { LeavesDisks result (bench D.image_at D.moment D.faults D.armed D.picks pairs.old.items) (bench D.image_at D.moment D.faults D.armed D.picks pairs.new.items) }
         ensures place { (slot : ℕ) → IsErrOf result (WorldFault.Disk slot) → IsPlace (places_of self.old) slot }
         ensures ended { (z : Calming) → Holds circuit z.world (seen D.image_at D.moment self.old pairs.old.items) → AreRows z.taken (ids_of self.old) rows.old.items → IfErr result (λ e. PartEnds circuit z (pass circuit (ids_of self.old) z) e (seen D.image_at D.moment self.old pairs.old.items) (images D.image_at D.moment pairs.new.items)) }
+        ensures ready { OnOk result (IsReady (places_of self.new) (link_view C.slots C.failed C.wire F.put_on F.taken_on F.faults carrier.new fabric.new)) }
+        ensures links { (place : Id → ℕ) (z : Calming) → Places place (ids_of self.old) (places_of self.old) → Holds circuit z.world (seen D.image_at D.moment self.old pairs.old.items) → AreRows z.taken (ids_of self.old) rows.old.items → PartDelivers result place z (pass circuit (ids_of self.old) z) (link_view C.slots C.failed C.wire F.put_on F.taken_on F.faults carrier.old fabric.old) (link_view C.slots C.failed C.wire F.put_on F.taken_on F.faults carrier.new fabric.new) }
     {
         let moved = self.tick_all(alloc, pairs, circuit)?;
         let ticked = self.events.count();
-        self.from_all(alloc, pairs, circuit, rows)?;
+        self.from_all(alloc, pairs, carrier, fabric, circuit, rows)?;
         let delivered = self.events.grew_since(ticked);
         Ok(moved | delivered)
     }
 
     // So many passes. Behind one in which there was nothing to do the others have its ticks alone,
     // which are counted. After an error the world is done.
-    pub(crate) fn calm<D: StopDisk>(
+    pub(crate) fn calm<D: StopDisk, C: Carry, F: Fabric>(
         &mut self,
         alloc: Global,
         pairs: &mut Vec<Pair<D>>,
+        carrier: &mut C,
+        fabric: &mut F,
         circuit: CircuitId,
         passes: u8,
     ) -> Result<(), WorldFault>
         requires sits { Sits (seen D.image_at D.moment self.old pairs.old.items) }
+        requires ready { IsReady (places_of self.old) (link_view C.slots C.failed C.wire F.put_on F.taken_on F.faults carrier.old fabric.old) }
         ensures ids { ids_of self.new ≡ ids_of self.old }
         ensures places { places_of self.new ≡ places_of self.old }
         ensures stops { self.new.stops ≡ self.old.stops }
@@ -298,11 +338,13 @@ impl World {
         ensures disks { LeavesDisks result (bench D.image_at D.moment D.faults D.armed D.picks pairs.old.items) (bench D.image_at D.moment D.faults D.armed D.picks pairs.new.items) }
         ensures place { (slot : ℕ) → IsErrOf result (WorldFault.Disk slot) → IsPlace (places_of self.old) slot }
         ensures ended { (m : CircuitWorld) → Holds circuit m (seen D.image_at D.moment self.old pairs.old.items) → IfErr result (λ e. PartEnds circuit (calming m) (calm circuit m passes) e (seen D.image_at D.moment self.old pairs.old.items) (images D.image_at D.moment pairs.new.items)) }
+        ensures ready { OnOk result (IsReady (places_of self.new) (link_view C.slots C.failed C.wire F.put_on F.taken_on F.faults carrier.new fabric.new)) }
+        ensures links { (place : Id → ℕ) (m : CircuitWorld) → Places place (ids_of self.old) (places_of self.old) → Holds circuit m (seen D.image_at D.moment self.old pairs.old.items) → Delivers result (carried_in place m (calm circuit m passes).happened) (link_view C.slots C.failed C.wire F.put_on F.taken_on F.faults carrier.old fabric.old) (link_view C.slots C.failed C.wire F.put_on F.taken_on F.faults carrier.new fabric.new) }
     {
         let mut rows = self.rows(alloc, &circuit)?;
         for done in 0..passes {
             let before = self.events.count();
-            if !self.pass(alloc, pairs, circuit, &mut rows)? {
+            if !self.pass(alloc, pairs, carrier, fabric, circuit, &mut rows)? {
                 let ticks = self.events.count().saturating_sub(before);
                 return self.events.add(ticks * (passes - done - 1) as u32);
             }

@@ -1,20 +1,39 @@
 //! Why a line has no answer.
-ghost use Rattle.std.specs.Prelude.{◌≡◌, ℕ};
+ghost use Rattle.std.specs.Prelude.{◌≡◌, ℕ, false};
+ghost use Rattle.spl_world.specs.Links.{carry_fault, is_of_links};
 ghost use Rattle.spl_world.specs.declared.fault.WorldFault.TheVariants.{NoMemory};
 
+use spl_base::Piece;
 use spl_journal::JournalFault;
+use spl_pump::PumpFault;
 use std::alloc::AllocError;
 use thiserror::Error;
 
 /// Why a line has no answer. The world is halted then.
-#[derive(Clone, Copy, Debug, PartialEq, Eq, Error)]
+#[derive(Debug, Drop, Error)]
 pub enum WorldFault {
     /// The run would have more than the limit of this number allows: 1 is events.
     #[error("over limit {which}")]
-    TooMany { which: u8 },
+    TooMany {
+        which: u8,
+    },
     /// A disk of the node at this position of the registry failed.
     #[error("a disk of node {slot} failed")]
-    Disk { slot: u8 },
+    Disk {
+        slot: u8,
+    },
+    /// What carries messages between the nodes failed.
+    #[error("a link failed")]
+    Link,
+    /// Where a message was to go between the nodes at these positions, other bytes came than were
+    /// sent.
+    #[error("other bytes came from node {from} to node {to} than were sent")]
+    Lied {
+        from: u8,
+        to: u8,
+        sent: Piece,
+        got: Piece,
+    },
     #[error("out of memory")]
     NoMemory,
 }
@@ -32,10 +51,28 @@ pub(crate) fn journal_fault(fault: JournalFault, slot: u8) -> WorldFault
     requires { (at : ℕ) → fault ≡ JournalFault.NotAJournal at → ⊥ }
     ensures disk { (i : ℕ) → result ≡ WorldFault.Disk i → (i ≡ slot) × (fault ≡ JournalFault.Disk) }
     ensures few { (which : ℕ) → result ≡ WorldFault.TooMany which → ⊥ }
+    ensures unlinked { is_of_links result ≡ false }
 {
     match fault {
         JournalFault::Disk => WorldFault::Disk { slot },
         JournalFault::NotAJournal { .. } => unreachable!(),
         JournalFault::NoMemory => WorldFault::NoMemory,
+    }
+}
+
+/// What a fault of the carrier is to the world, where it was asked to carry a message between the
+/// nodes at these positions.
+pub(crate) fn carry_fault(fault: PumpFault, from: u8, to: u8) -> WorldFault
+    ensures { result ≡ carry_fault from to fault }
+{
+    match fault {
+        PumpFault::Link => WorldFault::Link,
+        PumpFault::Lied { sent, got } => WorldFault::Lied {
+            from,
+            to,
+            sent,
+            got,
+        },
+        PumpFault::NoMemory => WorldFault::NoMemory,
     }
 }

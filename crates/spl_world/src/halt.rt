@@ -15,6 +15,7 @@ ghost use Rattle.spl_world.specs.Ended.{LineEnds};
 ghost use Rattle.spl_world.specs.Halts.{said};
 ghost use Rattle.spl_world.specs.Held.{AllHeld, HigherAt, IsInCheckpointIn, StopsBy, StopsPair, cells_behind, stopping_of, stops_at};
 ghost use Rattle.spl_world.specs.Lines.{stops};
+ghost use Rattle.spl_world.specs.Links.{is_of_links};
 ghost use Rattle.spl_world.specs.Views.{Holds, Sits, Stands, ids_of, is_halted, places_of, seen, slot_id, slot_up};
 ghost use Rattle.spl_world.specs.declared.slot.Slot.{Slot as Seat};
 
@@ -88,6 +89,7 @@ impl World {
         ensures unarmed { AllUnarmed (bench D.image_at D.moment D.faults D.armed D.picks pairs.old.items) → OnOk result (AllUnarmed (bench D.image_at D.moment D.faults D.armed D.picks pairs.new.items)) }
         ensures running { OnOk result (is_halted self.new ≡ false) }
         ensures halted { OnErr result (is_halted self.new ≡ true) }
+        ensures unlinked { IfErr result (λ e. is_of_links e ≡ false) }
     {
         let answered = self.halt_line(alloc, pairs, line);
         self.events.are_within();
@@ -119,6 +121,7 @@ impl World {
         ensures slot { OnOk result (StopsBy line.now (seen D.image_at D.moment self.old pairs.old.items) (bench D.image_at D.moment D.faults D.armed D.picks pairs.old.items) (bench D.image_at D.moment D.faults D.armed D.picks pairs.new.items)) }
         ensures ended { (before : List Ran) → Stands before self.old (images D.image_at D.moment pairs.old.items) → IfErr result (λ e. LineEnds (λ c. whole_world (ids_of self.old) c before) line.now e (ids_of self.old) (places_of self.old) (images D.image_at D.moment pairs.new.items)) }
         ensures onward { NoneForgotten (bench D.image_at D.moment D.faults D.armed D.picks pairs.old.items) (bench D.image_at D.moment D.faults D.armed D.picks pairs.new.items) }
+        ensures unlinked { IfErr result (λ e. is_of_links e ≡ false) }
     {
         self.events.add(1)?;
         self.stops.add()?;

@@ -2,6 +2,7 @@
 #![tactic(auto)]
 
 mod calm;
+mod carrying;
 mod cut;
 mod events;
 mod fault;

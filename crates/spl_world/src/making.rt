@@ -5,8 +5,9 @@ ghost use Rattle.spl_circuit.specs.Rules.{ascends};
 ghost use Rattle.spl_registry.specs.Nodes.{ids_of as registered};
 ghost use Rattle.spl_world.specs.Disks.{AreBlank, LeavesDisks, bench, images, images_at};
 ghost use Rattle.spl_world.specs.Held.{AllHeld, AllUnpicked};
+ghost use Rattle.spl_world.specs.Links.{is_of_links};
 ghost use Rattle.spl_world.specs.Making.{AreMadeBut};
-ghost use Rattle.spl_world.specs.Views.{ArePlaced, Stands, ids_of, is_halted};
+ghost use Rattle.spl_world.specs.Views.{ArePlaced, IsPlace, Stands, ids_of, is_halted, places_of};
 
 use crate::events::Events;
 use crate::fault::WorldFault;
@@ -48,8 +49,10 @@ impl World {
         requires blank { (i : ℕ) → i < length registry.now → AreBlank (images_at (images D.image_at D.moment pairs.old.items) i) }
         ensures ids { IfOk result (λ w. ids_of w ≡ sorted (registered registry.now)) }
         ensures few { (which : ℕ) → IsErrOf result (WorldFault.TooMany which) → ⊥ }
+        ensures unlinked { IfErr result (λ e. is_of_links e ≡ false) }
         ensures place { (slot : ℕ) → IsErrOf result (WorldFault.Disk slot) → slot < length registry.now }
         ensures placed { IfOk result (ArePlaced registry.now) }
+        ensures below { IfOk result (λ w. (k : ℕ) → IsPlace (places_of w) k → k < length registry.now) }
         ensures running { IfOk result (λ w. is_halted w ≡ false) }
         ensures stands { IfOk result (λ w. Stands [] w (images D.image_at D.moment pairs.new.items)) }
         ensures held { AllUnpicked (bench D.image_at D.moment D.faults D.armed D.picks pairs.old.items) → IfOk result (λ w. AllHeld (bench D.image_at D.moment D.faults D.armed D.picks pairs.old.items) [] w (bench D.image_at D.moment D.faults D.armed D.picks pairs.new.items)) }

@@ -1,5 +1,5 @@
 //! Nodes that go down and come up, and what is bound at one.
-ghost use Rattle.std.specs.Prelude.{◌≡◌, ◌++◌, ◌∷◌, [], ◌<◌, ℕ, List, Some, None, true, length, slice_get, IfOk, OnOk, OnErr, IsErrOf};
+ghost use Rattle.std.specs.Prelude.{◌≡◌, ◌++◌, ◌∷◌, [], ◌<◌, ℕ, List, Some, None, true, false, length, slice_get, IfErr, IfOk, OnOk, OnErr, IsErrOf};
 ghost use Rattle.spl_circuit.specs.Nodes.{NodeId as Id};
 ghost use Rattle.spl_model.specs.Answers.{roll_answer};
 ghost use Rattle.spl_model.specs.Outcomes.{by_rule};
@@ -10,6 +10,7 @@ ghost use Rattle.spl_sched.specs.Grammar.{is_line};
 ghost use Rattle.spl_sched.specs.declared.line.Line.TheVariants as line;
 ghost use Rattle.spl_world.specs.Disks.{Images, LeavesDisks, NoneForgotten, bench, images};
 ghost use Rattle.spl_world.specs.Ended.{EventEnds};
+ghost use Rattle.spl_world.specs.Links.{is_of_links};
 ghost use Rattle.spl_world.specs.Held.{PickUnarmed, StopsAt};
 ghost use Rattle.spl_world.specs.Views.{IsPlace, Holds, IsAt, Sits, ids_of, over, places_of, seen, slot_up};
 ghost use Rattle.spl_world.specs.declared.slot.Slot.{Slot as Seat};
@@ -40,6 +41,7 @@ impl World {
         ensures place { (slot : ℕ) → IsErrOf result (WorldFault.Disk slot) → IsPlace (places_of self.old) slot }
         ensures same { images D.image_at D.moment pairs.new.items ≡ images D.image_at D.moment pairs.old.items }
         ensures few { (which : ℕ) → IsErrOf result (WorldFault.TooMany which) → ⊥ }
+        ensures unlinked { IfErr result (λ e. is_of_links e ≡ false) }
     {
         let here = &mut self.slots[slot];
         let disks = &mut pairs[here.position()];

@@ -1,5 +1,5 @@
 //! A node of the world.
-ghost use Rattle.std.specs.Prelude.{◌≡◌, ◌≢◌, ◌&&◌, ◌<◌, ◌≤◌, ℕ, [], length, slice_get, Option, Some, None, true, false, IfOk, IfSome, OnOk, IsErrOf};
+ghost use Rattle.std.specs.Prelude.{◌≡◌, ◌≢◌, ◌&&◌, ◌<◌, ◌≤◌, ℕ, [], length, slice_get, Option, Some, None, true, false, IfErr, IfOk, IfSome, OnOk, IsErrOf};
 ghost use Rattle.std.specs.Option.{option_copied};
 ghost use Rattle.std.specs.List.{list_any};
 ghost use Rattle.std.specs.List.Sorted.{IsStrictlySortedBy};
@@ -19,6 +19,7 @@ ghost use Rattle.spl_world.specs.Disks.{AreBlank, HasRisen, Images, PairGoesOn, 
 ghost use Rattle.spl_world.specs.Held.{HavePicked, OtherPicksHigher, PickUnarmed};
 ghost use Rattle.spl_node.specs.Kept.{cells_after};
 ghost use Rattle.spl_world.specs.Ended.{LeaveEither, LeaveNow};
+ghost use Rattle.spl_world.specs.Links.{is_of_links};
 ghost use Rattle.spl_world.specs.Kept.{IsDone, AllBelong, place_of, lists_about, sent_to};
 ghost use Rattle.spl_world.specs.Views.{IsFresh, node_view, slot_id, slot_up};
 
@@ -54,6 +55,7 @@ impl Slot {
         ensures onward { PairGoesOn (pair_view D.image_at D.moment D.faults D.armed D.picks disks.old) (pair_view D.image_at D.moment D.faults D.armed D.picks disks.new) }
         ensures failed { (slot : ℕ) → IsErrOf result (WorldFault.Disk slot) → (slot ≡ position) × HasRisen (pair_view D.image_at D.moment D.faults D.armed D.picks disks.old) (pair_view D.image_at D.moment D.faults D.armed D.picks disks.new) }
         ensures few { (which : ℕ) → IsErrOf result (WorldFault.TooMany which) → ⊥ }
+        ensures unlinked { IfErr result (λ e. is_of_links e ≡ false) }
     {
         match Host::new(alloc, id, disks) {
             Ok(host) => Ok(Slot {
@@ -118,6 +120,7 @@ impl Slot {
         ensures leaves { LeaveEither (slot_id self.old) (node_view self.old (images_of D.image_at D.moment disks.old)).cells (cells_after (slot_id self.old) (node_view self.old (images_of D.image_at D.moment disks.old)).cells circuit.now event.now) (images_of D.image_at D.moment disks.new) }
         ensures failed { (slot : ℕ) → IsErrOf result (WorldFault.Disk slot) → (slot ≡ self.old.position) × HasRisen (pair_view D.image_at D.moment D.faults D.armed D.picks disks.old) (pair_view D.image_at D.moment D.faults D.armed D.picks disks.new) }
         ensures few { (which : ℕ) → IsErrOf result (WorldFault.TooMany which) → ⊥ }
+        ensures unlinked { IfErr result (λ e. is_of_links e ≡ false) }
     {
         match self.host.handle(alloc, disks, circuit, event) {
             Ok(Outcome { answer, sends, .. }) => {
@@ -146,6 +149,7 @@ impl Slot {
         ensures same { images_of D.image_at D.moment disks.new ≡ images_of D.image_at D.moment disks.old }
         ensures failed { (slot : ℕ) → IsErrOf result (WorldFault.Disk slot) → (slot ≡ self.old.position) × HasRisen (pair_view D.image_at D.moment D.faults D.armed D.picks disks.old) (pair_view D.image_at D.moment D.faults D.armed D.picks disks.new) }
         ensures few { (which : ℕ) → IsErrOf result (WorldFault.TooMany which) → ⊥ }
+        ensures unlinked { IfErr result (λ e. is_of_links e ≡ false) }
     {
         match self.host.start(alloc, disks) {
             Ok(()) => Ok(()),

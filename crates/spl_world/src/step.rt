@@ -10,7 +10,7 @@ ghost use Rattle.spl_command.specs.declared.batch.Batch.{Batch};
 ghost use Rattle.spl_model.specs.Projection.{Ran};
 ghost use Rattle.spl_model.specs.Outcomes.{by_rule};
 ghost use Rattle.spl_sched.specs.Grammar.{nodes_of, step_nodes, step_circuit, is_line, is_step};
-ghost use Rattle.spl_model.specs.Worlds.{World as CircuitWorld, step_plan, step_world};
+ghost use Rattle.spl_model.specs.Worlds.{World as CircuitWorld, Steps, step_plan, step_world};
 ghost use Rattle.spl_model.specs.Answers.{answer_to};
 ghost use Rattle.spl_model.specs.Counts.{events_of};
 ghost use Rattle.spl_world.specs.Lines.{stops};
@@ -18,27 +18,32 @@ ghost use Rattle.spl_world.specs.Disks.{LeavesDisks, PairView, bench, images};
 ghost use Rattle.spl_world.specs.Held.{AllHeld, FailedSince};
 ghost use Rattle.spl_projection.specs.Whole.{whole_world};
 ghost use Rattle.spl_world.specs.Ended.{EventEnds, LineEnds};
+ghost use Rattle.spl_world.specs.Links.{Delivers, IsReady, Places, carried_at, line_carried, link_view};
 ghost use Rattle.spl_world.specs.Views.{IsPlace, Holds, Moves, Sits, Stands, Stays, places_of, ids_of, is_halted, seen};
 
 use crate::fault::WorldFault;
 use crate::world::World;
-use spl_edge::{Pair, StopDisk};
+use spl_edge::{Fabric, Pair, StopDisk};
 use spl_model::MOST_EVENTS;
+use spl_pump::Carry;
 use spl_sched::{Line, Step};
 use spl_wire::{Answer, Refusal};
 use std::alloc::Global;
 
 impl World {
     // Runs a step.
-    fn run<D: StopDisk>(
+    fn run<D: StopDisk, C: Carry, F: Fabric>(
         &mut self,
         alloc: Global,
         pairs: &mut Vec<Pair<D>>,
+        carrier: &mut C,
+        fabric: &mut F,
         step: &Step,
     ) -> Result<Answer, WorldFault>
         requires known { list_all (has_node (ids_of self.old)) (step_nodes step.now) ≡ true }
         requires fits { is_step step.now ≡ true }
         requires sits { Sits (seen D.image_at D.moment self.old pairs.old.items) }
+        requires ready { IsReady (places_of self.old) (link_view C.slots C.failed C.wire F.put_on F.taken_on F.faults carrier.old fabric.old) }
         ensures ids { ids_of self.new ≡ ids_of self.old }
         ensures places { places_of self.new ≡ places_of self.old }
         ensures stops { self.new.stops ≡ self.old.stops }
@@ -50,6 +55,8 @@ impl World {
         ensures place { (slot : ℕ) → IsErrOf result (WorldFault.Disk slot) → IsPlace (places_of self.old) slot }
         ensures few { (which : ℕ) → IsErrOf result (WorldFault.TooMany which) → ⊥ }
         ensures ended { (m : CircuitWorld) → Holds (step_circuit step.now) m (seen D.image_at D.moment self.old pairs.old.items) → IfErr result (λ e. EventEnds (step_circuit step.now) (step_world m step.now) e (seen D.image_at D.moment self.old pairs.old.items) (images D.image_at D.moment pairs.new.items)) }
+        ensures ready { OnOk result (IsReady (places_of self.new) (link_view C.slots C.failed C.wire F.put_on F.taken_on F.faults carrier.new fabric.new)) }
+        ensures links { (place : CircuitId → ℕ) (m : CircuitWorld) → Places place (ids_of self.old) (places_of self.old) → Holds (step_circuit step.now) m (seen D.image_at D.moment self.old pairs.old.items) → Delivers result (carried_at place m (Steps step.now)) (link_view C.slots C.failed C.wire F.put_on F.taken_on F.faults carrier.old fabric.old) (link_view C.slots C.failed C.wire F.put_on F.taken_on F.faults carrier.new fabric.new) }
     {
         match step {
             Step::At {
@@ -75,19 +82,26 @@ impl World {
                     return Ok(Answer::Refused(Refusal::Down));
                 }
                 let index = (*number - 1) as usize;
-                self.deliver(alloc, pairs, sender, recipient, *circuit, index)
+                self.deliver(
+                    alloc, pairs, carrier, fabric, sender, recipient, *circuit, index,
+                )
             }
         }
     }
 
     /// Runs a line that stops no node, and answers it. `before` are the lines that ran so far. `TooMany` comes exactly
     /// where the events of these lines and of this one are more than `MOST_EVENTS`, and is about
-    /// them; `Disk` only where a disk of that node failed more often. Any other error is want of
-    /// memory. After an error the world is halted.
-    pub fn step<D: StopDisk>(
+    /// them; `Disk` only where a disk of that node failed more often; `Link` only where the fabric
+    /// did; and `Lied` only where other bytes were taken from it than were put. Any other error is
+    /// want of memory. After an error the world is halted.
+    ///
+    /// Each message that is delivered goes through the carrier, and nothing else does.
+    pub fn step<D: StopDisk, C: Carry, F: Fabric>(
         &mut self,
         alloc: Global,
         pairs: &mut Vec<Pair<D>>,
+        carrier: &mut C,
+        fabric: &mut F,
         line: &Line,
     ) -> Result<Answer, WorldFault>
         requires running { is_halted self.old ≡ false }
@@ -95,6 +109,7 @@ impl World {
         requires fits { IsTrue (is_line line.now) }
         requires steps { stops line.now ≡ false }
         requires sits { Sits (seen D.image_at D.moment self.old pairs.old.items) }
+        requires ready { IsReady (places_of self.old) (link_view C.slots C.failed C.wire F.put_on F.taken_on F.faults carrier.old fabric.old) }
         ensures ids { ids_of self.new ≡ ids_of self.old }
         ensures places { places_of self.new ≡ places_of self.old }
         ensures answer { (before : List Ran) → Stands before self.old (images D.image_at D.moment pairs.old.items) → IfOk result (λ a. a ≡ answer_to (ids_of self.old) before (by_rule line.now)) }
@@ -119,9 +134,13 @@ impl World {
         // Where it ends with an error, the disks of all nodes hold what the nodes keep at one moment of the line, but for one node
         // where a disk failed or memory was wanting, and those of that node hold what it keeps at that moment or another.
         ensures ended { (before : List Ran) → Stands before self.old (images D.image_at D.moment pairs.old.items) → IfErr result (λ e. LineEnds (λ c. whole_world (ids_of self.old) c before) line.now e (ids_of self.old) (places_of self.old) (images D.image_at D.moment pairs.new.items)) }
+        // Each message of the line that is delivered is carried from place to place, in their order, and nothing else is. Where it
+        // ends with an error, the first of them are carried, and maybe a part of the last of these.
+        ensures ready { OnOk result (IsReady (places_of self.new) (link_view C.slots C.failed C.wire F.put_on F.taken_on F.faults carrier.new fabric.new)) }
+        ensures links { (place : CircuitId → ℕ) (before : List Ran) → Places place (ids_of self.old) (places_of self.old) → Stands before self.old (images D.image_at D.moment pairs.old.items) → Delivers result (line_carried place (λ c. whole_world (ids_of self.old) c before) line.now) (link_view C.slots C.failed C.wire F.put_on F.taken_on F.faults carrier.old fabric.old) (link_view C.slots C.failed C.wire F.put_on F.taken_on F.faults carrier.new fabric.new) }
     {
         self.calms_settle();
-        let answered = self.run_line(alloc, pairs, line);
+        let answered = self.run_line(alloc, pairs, carrier, fabric, line);
         self.events.are_within();
         let failed = answered.is_err();
         self.halted = failed;
@@ -129,16 +148,19 @@ impl World {
     }
 
     // Runs a line, whether the world is halted or not.
-    fn run_line<D: StopDisk>(
+    fn run_line<D: StopDisk, C: Carry, F: Fabric>(
         &mut self,
         alloc: Global,
         pairs: &mut Vec<Pair<D>>,
+        carrier: &mut C,
+        fabric: &mut F,
         line: &Line,
     ) -> Result<Answer, WorldFault>
         requires known { IsTrue (list_all (has_node (ids_of self.old)) (nodes_of line.now)) }
         requires fits { IsTrue (is_line line.now) }
         requires steps { stops line.now ≡ false }
         requires sits { Sits (seen D.image_at D.moment self.old pairs.old.items) }
+        requires ready { IsReady (places_of self.old) (link_view C.slots C.failed C.wire F.put_on F.taken_on F.faults carrier.old fabric.old) }
         ensures ids { ids_of self.new ≡ ids_of self.old }
         ensures places { places_of self.new ≡ places_of self.old }
         ensures stops { self.new.stops ≡ self.old.stops }
@@ -150,14 +172,16 @@ impl World {
         ensures disks { LeavesDisks result (bench D.image_at D.moment D.faults D.armed D.picks pairs.old.items) (bench D.image_at D.moment D.faults D.armed D.picks pairs.new.items) }
         ensures place { (slot : ℕ) → IsErrOf result (WorldFault.Disk slot) → IsPlace (places_of self.old) slot }
         ensures ended { (before : List Ran) → Stands before self.old (images D.image_at D.moment pairs.old.items) → IfErr result (λ e. LineEnds (λ c. whole_world (ids_of self.old) c before) line.now e (ids_of self.old) (places_of self.old) (images D.image_at D.moment pairs.new.items)) }
+        ensures ready { OnOk result (IsReady (places_of self.new) (link_view C.slots C.failed C.wire F.put_on F.taken_on F.faults carrier.new fabric.new)) }
+        ensures links { (place : CircuitId → ℕ) (before : List Ran) → Places place (ids_of self.old) (places_of self.old) → Stands before self.old (images D.image_at D.moment pairs.old.items) → Delivers result (line_carried place (λ c. whole_world (ids_of self.old) c before) line.now) (link_view C.slots C.failed C.wire F.put_on F.taken_on F.faults carrier.old fabric.old) (link_view C.slots C.failed C.wire F.put_on F.taken_on F.faults carrier.new fabric.new) }
     {
         match line {
             Line::Step(step) => {
                 self.events.add(1)?;
-                self.run(alloc, pairs, step)
+                self.run(alloc, pairs, carrier, fabric, step)
             }
             Line::Calm { circuit, passes } => {
-                self.calm(alloc, pairs, *circuit, *passes)?;
+                self.calm(alloc, pairs, carrier, fabric, *circuit, *passes)?;
                 Ok(Answer::Calm { passes: *passes })
             }
             Line::Start(node) => {

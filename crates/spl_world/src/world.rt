@@ -7,10 +7,11 @@ ghost use Rattle.spl_sched.specs.declared.line.Step.TheVariants as step;
 ghost use Rattle.spl_rules.specs.Cells.{is_open_cell};
 ghost use Rattle.spl_rules.specs.Plans.{plan_of};
 ghost use Rattle.spl_rules.specs.Valid.{IsFor};
-ghost use Rattle.spl_model.specs.Worlds.{site_at, World as CircuitWorld, messages, carried_out, step_plan, step_world};
+ghost use Rattle.spl_model.specs.Worlds.{site_at, World as CircuitWorld, Steps, messages, carried_out, step_plan, step_world};
 ghost use Rattle.spl_world.specs.Disks.{Images, LeavesDisks, bench, images};
 ghost use Rattle.spl_world.specs.Halts.{delivery_of};
 ghost use Rattle.spl_world.specs.Ended.{EventEnds};
+ghost use Rattle.spl_world.specs.Links.{Delivers, IsReady, Places, carried_at, is_of_links, link_view};
 ghost use Rattle.spl_world.specs.Views.{IsPlace, Holds, IsAt, IsUp, Moves, Sits, has_id, places_of, ids_of, is_halted, over, seen, ups_of};
 
 use crate::events::Events;
@@ -18,7 +19,8 @@ use crate::fault::WorldFault;
 use crate::slot::Slot;
 use crate::stops::Stops;
 use spl_base::{Boxed, CircuitId, NodeId};
-use spl_edge::{Pair, StopDisk};
+use spl_edge::{Fabric, Pair, StopDisk};
+use spl_pump::Carry;
 use spl_wire::{Answer, Event, Message, Refusal};
 use std::alloc::{AllocError, Global};
 
@@ -110,6 +112,7 @@ impl World {
         ensures place { (slot : ℕ) → IsErrOf result (WorldFault.Disk slot) → IsPlace (places_of self.old) slot }
         ensures ended { (m : CircuitWorld) (n : Id) → Holds circuit m (seen D.image_at D.moment self.old pairs.old.items) → IsAt self.old slot n → IfErr result (λ e. EventEnds circuit (carried_out m n (plan_of (site_at n circuit) (m.at n) event.now)) e (seen D.image_at D.moment self.old pairs.old.items) (images D.image_at D.moment pairs.new.items)) }
         ensures few { (which : ℕ) → IsErrOf result (WorldFault.TooMany which) → ⊥ }
+        ensures unlinked { IfErr result (λ e. is_of_links e ≡ false) }
     {
         let here = &mut self.slots[slot];
         let disks = &mut pairs[here.position()];
@@ -186,11 +189,13 @@ impl World {
     }
 
     // The message of this index, from 0, of those about a circuit that one node sent to another
-    // comes there, where that one is up; and the answer.
-    pub(crate) fn deliver<D: StopDisk>(
+    // is carried there, where that one is up, and comes; and the answer.
+    pub(crate) fn deliver<D: StopDisk, C: Carry, F: Fabric>(
         &mut self,
         alloc: Global,
         pairs: &mut Vec<Pair<D>>,
+        carrier: &mut C,
+        fabric: &mut F,
         from: usize,
         to: usize,
         circuit: CircuitId,
@@ -201,6 +206,7 @@ impl World {
         requires apart { (a b : Id) → IsAt self.old from a → IsAt self.old to b → bytes_eq a b ≡ false }
         requires up { IsUp self.old to }
         requires sits { Sits (seen D.image_at D.moment self.old pairs.old.items) }
+        requires ready { IsReady (places_of self.old) (link_view C.slots C.failed C.wire F.put_on F.taken_on F.faults carrier.old fabric.old) }
         ensures ids { ids_of self.new ≡ ids_of self.old }
         ensures places { places_of self.new ≡ places_of self.old }
         ensures stops { self.new.stops ≡ self.old.stops }
@@ -213,8 +219,10 @@ impl World {
         ensures place { (slot : ℕ) → IsErrOf result (WorldFault.Disk slot) → IsPlace (places_of self.old) slot }
         ensures ended { (m : CircuitWorld) (a b : Id) → Holds circuit m (seen D.image_at D.moment self.old pairs.old.items) → IsAt self.old from a → IsAt self.old to b → IfErr result (λ e. EventEnds circuit (step_world m (step.Deliver a b circuit (index + 1))) e (seen D.image_at D.moment self.old pairs.old.items) (images D.image_at D.moment pairs.new.items)) }
         ensures few { (which : ℕ) → IsErrOf result (WorldFault.TooMany which) → ⊥ }
+        ensures ready { OnOk result (IsReady (places_of self.new) (link_view C.slots C.failed C.wire F.put_on F.taken_on F.faults carrier.new fabric.new)) }
+        ensures links { (place : Id → ℕ) (m : CircuitWorld) (a b : Id) → Places place (ids_of self.old) (places_of self.old) → Holds circuit m (seen D.image_at D.moment self.old pairs.old.items) → IsAt self.old from a → IsAt self.old to b → Delivers result (carried_at place m (Steps (step.Deliver a b circuit (index + 1)))) (link_view C.slots C.failed C.wire F.put_on F.taken_on F.faults carrier.old fabric.old) (link_view C.slots C.failed C.wire F.put_on F.taken_on F.faults carrier.new fabric.new) }
     {
-        let delivery = self.delivery(alloc, from, to, &circuit, index)?;
+        let delivery = self.carried(alloc, carrier, fabric, from, to, &circuit, index)?;
         match delivery {
             Some(event) => self.handle(alloc, pairs, to, circuit, &event),
             None => Ok(Answer::Refused(Refusal::NoMessage)),

@@ -17,6 +17,12 @@ use Rattle.spl_world.proofs.Leaving.{all_itself, all_then, leaves_counted, leave
 use Rattle.spl_world.proofs.Ending.{any_fault, failed_ends}
 use Rattle.spl_world.proofs.EndingParts.{leads_pass, leads_same, leads_then, leads_to, next_pass_leads, part_still, part_then, passes_so_far}
 use Rattle.spl_world.specs.Ended.{PartEnds}
+use Rattle.spl_world.proofs.Linking.{done, fails_early, off_limit}
+use Rattle.spl_world.proofs.LinkingParts.{err_then, ok_then, part_alone, part_failed, part_left, part_same, part_to, whole_part}
+use Rattle.spl_world.proofs.Seating.{places_as}
+use Rattle.spl_world.specs.Links.{PartDelivers, carried_in, link_view}
+use Rattle.spl_world.specs.Views.{places_of}
+use Rattle.spl_world.specs.declared.fault.WorldFault.TheVariants.{NoMemory}
 use Rattle.spl_world.proofs.world.World.calm.Goals as goal
 
 pub pass-requires-clause-square : goal.pass-requires-clause-square
@@ -47,6 +53,20 @@ loop-done-preserved g c =
       all_then _ _ _ c.loop-done.invariant.7 c.in_ok-pass.ensures.disks.onward,
       c.pass.ensures.places ∙ c.loop-done.invariant.8,
       c.pass.ensures.stops ∙ c.loop-done.invariant.9,
+      c.in_ok-pass.ensures.ready,
+      λ place m placed h.
+          let p = (link_view g.C.Carry.slots g.C.Carry.failed g.C.Carry.wire g.F.Fabric.put_on g.F.Fabric.taken_on g.F.Fabric.faults c.args.carrier.now c.args.fabric.now) in
+          let q = (link_view g.C.Carry.slots g.C.Carry.failed g.C.Carry.wire g.F.Fabric.put_on g.F.Fabric.taken_on g.F.Fabric.faults c.loop-done.carrier c.loop-done.fabric) in
+          let s = (link_view g.C.Carry.slots g.C.Carry.failed g.C.Carry.wire g.F.Fabric.put_on g.F.Fabric.taken_on g.F.Fabric.faults c.pass.new.carrier c.pass.new.fabric) in
+          let ids = ids_of c.args.self.now in
+          let so_far = c.loop-done.invariant.3 m h in
+          let y : Calming = passes c.args.circuit ids c.loop-done.done (calming m) in
+          let rows = subst (λ (ns : List NodeId). AreRows y.taken ns c.loop-done.rows.items) (sym c.loop-done.invariant.1) so_far.1 in
+          let seats = places_as place ids (ids_of c.loop-done.self) (places_of c.args.self.now) (places_of c.loop-done.self) c.loop-done.invariant.1 c.loop-done.invariant.8 placed in
+          let carried = c.loop-done.invariant.11 place m placed h in
+          let one = subst (λ (ns : List NodeId). PartDelivers done place y (pass c.args.circuit ns y) q s) c.loop-done.invariant.1 (c.in_ok-pass.ensures.links place y seats so_far.0 rows) in
+          part_to place done (calming m) (pass c.args.circuit ids y) (passes c.args.circuit ids (c.loop-done.done + 1) (calming m)) p s (sym (passes_next c.args.circuit ids c.loop-done.done (calming m)))
+          (ok_then place done (calming m) y (pass c.args.circuit ids y) p q s carried one),
     )
 
 pub returns-clause-moves : goal.returns-clause-moves
@@ -59,7 +79,7 @@ returns-clause-moves g c =
     }
 
 pub loop-done-init : goal.loop-done-init
-loop-done-init g c = (refl, refl, c.in_ok-rows.ensures.square, λ m h. (h, c.in_ok-rows.ensures.counts (images g.D.Disk.image_at g.D.Disk.moment c.args.pairs.now.items) m h), λ d m off h. h, λ m h. refl, c.requires.sits, all_itself _, refl, refl)
+loop-done-init g c = (refl, refl, c.in_ok-rows.ensures.square, λ m h. (h, c.in_ok-rows.ensures.counts (images g.D.Disk.image_at g.D.Disk.moment c.args.pairs.now.items) m h), λ d m off h. h, λ m h. refl, c.requires.sits, all_itself _, refl, refl, c.requires.ready, λ place m placed h. part_same place (calming m) (link_view g.C.Carry.slots g.C.Carry.failed g.C.Carry.wire g.F.Fabric.put_on g.F.Fabric.taken_on g.F.Fabric.faults c.args.carrier.now c.args.fabric.now) (g.met.C.Carry.idle c.args.carrier.now))
 
 -- ---- how many events
 
@@ -183,3 +203,65 @@ returns-then-not-branch-clause-ended g c = λ m h.
     (λ e. part_still c.args.circuit (calming m) here whole e old last (leads_then (calming m) y here (passes_so_far c.args.circuit ids c.loop-done.done (calming m)) (leads_pass c.args.circuit ids y))
     (leads_to here (passes c.args.circuit ids c.args.passes (calming m)) whole (calm_is c.args.circuit m old c.args.passes h) (next_pass_leads c.args.circuit ids c.loop-done.done c.args.passes (calming m) most))
     (c.pass.ensures.ids ∙ c.loop-done.invariant.1) (c.pass.ensures.places ∙ c.loop-done.invariant.8) c.in_ok-pass.ensures.sits behind (spares_then c.args.circuit old mid last c.loop-done.invariant.4 c.in_ok-pass.ensures.others))
+
+-- ---- the links
+
+pub pass-requires-clause-ready : goal.pass-requires-clause-ready
+pass-requires-clause-ready g c = c.loop-done.invariant.10
+
+pub returns-clause-ready : goal.returns-clause-ready
+returns-clause-ready g c = c.loop-done.invariant.10
+
+pub returns-then-not-branch-clause-ready : goal.returns-then-not-branch-clause-ready
+returns-then-not-branch-clause-ready g c = on_ok c.add.result c.in_ok-pass.ensures.ready
+
+pub returns-in_err-rows-clause-links : goal.returns-in_err-rows-clause-links
+returns-in_err-rows-clause-links g c = λ place m placed h. fails_early c.from_residual.result NoMemory c.from_residual.ensures refl (carried_in place m (calm c.args.circuit m c.args.passes).happened) (link_view g.C.Carry.slots g.C.Carry.failed g.C.Carry.wire g.F.Fabric.put_on g.F.Fabric.taken_on g.F.Fabric.faults c.args.carrier.now c.args.fabric.now) (g.met.C.Carry.idle c.args.carrier.now)
+
+pub returns-in_err-pass-clause-links : goal.returns-in_err-pass-clause-links
+returns-in_err-pass-clause-links g c = λ place m placed h.
+    let p = (link_view g.C.Carry.slots g.C.Carry.failed g.C.Carry.wire g.F.Fabric.put_on g.F.Fabric.taken_on g.F.Fabric.faults c.args.carrier.now c.args.fabric.now) in
+    let q = (link_view g.C.Carry.slots g.C.Carry.failed g.C.Carry.wire g.F.Fabric.put_on g.F.Fabric.taken_on g.F.Fabric.faults c.loop-done.carrier c.loop-done.fabric) in
+    let s = (link_view g.C.Carry.slots g.C.Carry.failed g.C.Carry.wire g.F.Fabric.put_on g.F.Fabric.taken_on g.F.Fabric.faults c.pass.new.carrier c.pass.new.fabric) in
+    let ids = ids_of c.args.self.now in
+    let so_far = c.loop-done.invariant.3 m h in
+    let y : Calming = passes c.args.circuit ids c.loop-done.done (calming m) in
+    let rows = subst (λ (ns : List NodeId). AreRows y.taken ns c.loop-done.rows.items) (sym c.loop-done.invariant.1) so_far.1 in
+    let seats = places_as place ids (ids_of c.loop-done.self) (places_of c.args.self.now) (places_of c.loop-done.self) c.loop-done.invariant.1 c.loop-done.invariant.8 placed in
+    let carried = c.loop-done.invariant.11 place m placed h in
+    let f = c.in_err-pass.field-0.0 in
+    let all : Calming = passes c.args.circuit ids c.args.passes (calming m) in
+    let most : c.loop-done.done + 1 ≤ c.args.passes = omega (arith, c.loop-done-test.true) in
+    let part = subst (λ (ns : List NodeId). PartDelivers (failed Bool f) place y (pass c.args.circuit ns y) q s) c.loop-done.invariant.1 (c.in_err-pass.ensures.links place y seats so_far.0 rows) in
+    whole_part place c.from_residual-in_err-pass.result m (calm c.args.circuit m c.args.passes) p s
+    (part_to place c.from_residual-in_err-pass.result (calming m) all (calm c.args.circuit m c.args.passes) p s (calm_is c.args.circuit m (seen g.D.Disk.image_at g.D.Disk.moment c.args.self.now c.args.pairs.now.items) c.args.passes h)
+    (part_failed place c.from_residual-in_err-pass.result f c.from_residual-in_err-pass.ensures (calming m) all p s
+    (err_then place f (calming m) y (pass c.args.circuit ids y) all p q s carried part (next_pass_leads c.args.circuit ids c.loop-done.done c.args.passes (calming m) most))))
+
+pub returns-then-not-branch-clause-links : goal.returns-then-not-branch-clause-links
+returns-then-not-branch-clause-links g c = λ place m placed h.
+    let p = (link_view g.C.Carry.slots g.C.Carry.failed g.C.Carry.wire g.F.Fabric.put_on g.F.Fabric.taken_on g.F.Fabric.faults c.args.carrier.now c.args.fabric.now) in
+    let q = (link_view g.C.Carry.slots g.C.Carry.failed g.C.Carry.wire g.F.Fabric.put_on g.F.Fabric.taken_on g.F.Fabric.faults c.loop-done.carrier c.loop-done.fabric) in
+    let s = (link_view g.C.Carry.slots g.C.Carry.failed g.C.Carry.wire g.F.Fabric.put_on g.F.Fabric.taken_on g.F.Fabric.faults c.pass.new.carrier c.pass.new.fabric) in
+    let ids = ids_of c.args.self.now in
+    let so_far = c.loop-done.invariant.3 m h in
+    let y : Calming = passes c.args.circuit ids c.loop-done.done (calming m) in
+    let rows = subst (λ (ns : List NodeId). AreRows y.taken ns c.loop-done.rows.items) (sym c.loop-done.invariant.1) so_far.1 in
+    let seats = places_as place ids (ids_of c.loop-done.self) (places_of c.args.self.now) (places_of c.loop-done.self) c.loop-done.invariant.1 c.loop-done.invariant.8 placed in
+    let carried = c.loop-done.invariant.11 place m placed h in
+    let all : Calming = passes c.args.circuit ids c.args.passes (calming m) in
+    let quiet : IsQuiet c.args.circuit ids y = subst (λ (ns : List NodeId). IsQuiet c.args.circuit ns y) c.loop-done.invariant.1 (c.in_ok-pass.ensures.quiet y so_far.0 rows c.if-not-branch.true) in
+    let one = subst (λ (ns : List NodeId). PartDelivers done place y (pass c.args.circuit ns y) q s) c.loop-done.invariant.1 (c.in_ok-pass.ensures.links place y seats so_far.0 rows) in
+    whole_part place c.add.result m (calm c.args.circuit m c.args.passes) p s
+    (part_to place c.add.result (calming m) all (calm c.args.circuit m c.args.passes) p s (calm_is c.args.circuit m (seen g.D.Disk.image_at g.D.Disk.moment c.args.self.now c.args.pairs.now.items) c.args.passes h)
+    (part_alone place c.add.result (calming m) all p s (off_limit c.add.result 1 c.add.ensures.fault)
+    (part_left place c.args.circuit ids (calming m) c.loop-done.done c.args.passes p q s c.loop-done-test.true quiet (g.met.C.Carry.idle c.pass.new.carrier) carried one)))
+
+pub returns-clause-links : goal.returns-clause-links
+returns-clause-links g c = λ place m placed h.
+    let p = (link_view g.C.Carry.slots g.C.Carry.failed g.C.Carry.wire g.F.Fabric.put_on g.F.Fabric.taken_on g.F.Fabric.faults c.args.carrier.now c.args.fabric.now) in
+    let q = (link_view g.C.Carry.slots g.C.Carry.failed g.C.Carry.wire g.F.Fabric.put_on g.F.Fabric.taken_on g.F.Fabric.faults c.loop-done.carrier c.loop-done.fabric) in
+    let done_all : c.loop-done.done ≡ c.args.passes = omega (arith, c.loop-done.auto, c.loop-done-test.false) in
+    whole_part place done m (calm c.args.circuit m c.args.passes) p q
+    (subst (λ (w : Calming). PartDelivers done place (calming m) w p q) (calm_is c.args.circuit m (seen g.D.Disk.image_at g.D.Disk.moment c.args.self.now c.args.pairs.now.items) c.args.passes h)
+    (subst (λ (k : ℕ). PartDelivers done place (calming m) (passes c.args.circuit (ids_of c.args.self.now) k (calming m)) p q) done_all (c.loop-done.invariant.11 place m placed h)))

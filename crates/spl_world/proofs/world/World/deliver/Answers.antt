@@ -16,6 +16,12 @@ use Rattle.spl_world.proofs.Ending.{any_fault, still_ended}
 use Rattle.spl_world.specs.Ended.{EventEnds}
 use Rattle.std.specs.Prelude.{IfErr}
 use Rattle.spl_world.proofs.world.World.deliver.Given.{Over}
+use Rattle.spl_model.specs.Worlds.{Steps}
+use Rattle.spl_world.proofs.Linking.{delivers_as, delivers_failed, delivers_still, done}
+use Rattle.spl_world.proofs.Results.{on_ok}
+use Rattle.spl_world.proofs.Seating.{carried_up, seats_differ, still_ready}
+use Rattle.spl_world.specs.Links.{carried_at, carried_of, link_view}
+use Rattle.spl_world.specs.Views.{places_of}
 use Rattle.spl_world.proofs.world.World.deliver.Goals as goal
 
 -- no message is there
@@ -59,3 +65,29 @@ pub returns-in-Some-clause-ended : goal.returns-in-Some-clause-ended
 returns-in-Some-clause-ended g c = λ m a b h at to.
     let same = delivered_as m c.args.circuit a b c.args.index c.in-Some.event (sym c.in-Some.is ∙ c.in_ok-delivery.ensures.event (images g.D.Disk.image_at g.D.Disk.moment c.args.pairs.now.items) m a b h at to) (node_up c.args.circuit m (seen g.D.Disk.image_at g.D.Disk.moment c.args.self.now c.args.pairs.now.items) c.args.to b h to c.requires.up) in
     subst (λ (w : CircuitWorld). IfErr c.handle.result (λ e. EventEnds c.args.circuit w e (seen g.D.Disk.image_at g.D.Disk.moment c.args.self.now c.args.pairs.now.items) (images g.D.Disk.image_at g.D.Disk.moment c.handle.new.pairs.items))) (ap (carried_out m b) same) (c.handle.ensures.ended m b h to)
+
+-- ---- the links
+
+pub carried-requires-clause-seats : goal.carried-requires-clause-seats
+carried-requires-clause-seats g c = λ x y at to. seats_differ (seen g.D.Disk.image_at g.D.Disk.moment c.args.self.now c.args.pairs.now.items) c.args.from c.args.to x y c.requires.sits c.requires.from_below c.requires.to_below c.requires.apart at to
+
+pub returns-in-Some-clause-ready : goal.returns-in-Some-clause-ready
+returns-in-Some-clause-ready g c = on_ok c.handle.result (still_ready (places_of c.args.self.now) (places_of c.handle.new.self) (link_view g.C.Carry.slots g.C.Carry.failed g.C.Carry.wire g.F.Fabric.put_on g.F.Fabric.taken_on g.F.Fabric.faults c.carried.new.carrier c.carried.new.fabric) c.handle.ensures.places c.in_ok-delivery.ensures.ready)
+
+pub returns-in_err-delivery-clause-links : goal.returns-in_err-delivery-clause-links
+returns-in_err-delivery-clause-links g c = λ place m a b placed h at to.
+    let x = (link_view g.C.Carry.slots g.C.Carry.failed g.C.Carry.wire g.F.Fabric.put_on g.F.Fabric.taken_on g.F.Fabric.faults c.args.carrier.now c.args.fabric.now) in
+    let y = (link_view g.C.Carry.slots g.C.Carry.failed g.C.Carry.wire g.F.Fabric.put_on g.F.Fabric.taken_on g.F.Fabric.faults c.carried.new.carrier c.carried.new.fabric) in
+    delivers_as c.from_residual.result (carried_of (place a) (place b) (slice_get (messages m a b) c.args.index)) (carried_at place m (Steps (step.Deliver a b c.args.circuit (c.args.index + 1)))) x y (carried_up place m a b c.args.circuit c.args.index (node_up c.args.circuit m (seen g.D.Disk.image_at g.D.Disk.moment c.args.self.now c.args.pairs.now.items) c.args.to b h to c.requires.up))
+    (delivers_failed c.from_residual.result c.in_err-delivery.field-0.0 c.from_residual.ensures (carried_of (place a) (place b) (slice_get (messages m a b) c.args.index)) x y (c.in_err-delivery.ensures.links place (images g.D.Disk.image_at g.D.Disk.moment c.args.pairs.now.items) m a b placed h at to))
+
+pub returns-in-None-clause-links : goal.returns-in-None-clause-links
+returns-in-None-clause-links g c = λ place m a b placed h at to.
+    delivers_as done (carried_of (place a) (place b) (slice_get (messages m a b) c.args.index)) (carried_at place m (Steps (step.Deliver a b c.args.circuit (c.args.index + 1)))) (link_view g.C.Carry.slots g.C.Carry.failed g.C.Carry.wire g.F.Fabric.put_on g.F.Fabric.taken_on g.F.Fabric.faults c.args.carrier.now c.args.fabric.now) (link_view g.C.Carry.slots g.C.Carry.failed g.C.Carry.wire g.F.Fabric.put_on g.F.Fabric.taken_on g.F.Fabric.faults c.carried.new.carrier c.carried.new.fabric) (carried_up place m a b c.args.circuit c.args.index (node_up c.args.circuit m (seen g.D.Disk.image_at g.D.Disk.moment c.args.self.now c.args.pairs.now.items) c.args.to b h to c.requires.up)) (c.in_ok-delivery.ensures.links place (images g.D.Disk.image_at g.D.Disk.moment c.args.pairs.now.items) m a b placed h at to)
+
+pub returns-in-Some-clause-links : goal.returns-in-Some-clause-links
+returns-in-Some-clause-links g c = λ place m a b placed h at to.
+    let x = (link_view g.C.Carry.slots g.C.Carry.failed g.C.Carry.wire g.F.Fabric.put_on g.F.Fabric.taken_on g.F.Fabric.faults c.args.carrier.now c.args.fabric.now) in
+    let y = (link_view g.C.Carry.slots g.C.Carry.failed g.C.Carry.wire g.F.Fabric.put_on g.F.Fabric.taken_on g.F.Fabric.faults c.carried.new.carrier c.carried.new.fabric) in
+    delivers_as c.handle.result (carried_of (place a) (place b) (slice_get (messages m a b) c.args.index)) (carried_at place m (Steps (step.Deliver a b c.args.circuit (c.args.index + 1)))) x y (carried_up place m a b c.args.circuit c.args.index (node_up c.args.circuit m (seen g.D.Disk.image_at g.D.Disk.moment c.args.self.now c.args.pairs.now.items) c.args.to b h to c.requires.up))
+    (delivers_still c.handle.result (carried_of (place a) (place b) (slice_get (messages m a b) c.args.index)) x y c.handle.ensures.unlinked (c.in_ok-delivery.ensures.links place (images g.D.Disk.image_at g.D.Disk.moment c.args.pairs.now.items) m a b placed h at to))

@@ -14,6 +14,15 @@ use Rattle.spl_world.proofs.EndingParts.{delivers_front, leads_delivers, part_ev
 use Rattle.spl_world.specs.Ended.{EventEnds, PartEnds}
 use Rattle.spl_world.specs.Disks.{images}
 use Rattle.spl_model.specs.Calm.{Calming, delivers}
+use Rattle.spl_model.specs.Calm.{calming_step}
+use Rattle.spl_sched.specs.declared.line.Step.{Step}
+use Rattle.spl_world.proofs.Counting.{failed}
+use Rattle.spl_world.proofs.Linking.{done, off_limit}
+use Rattle.spl_world.proofs.LinkingParts.{err_more, err_then, ok_then, part_alone, part_failed, part_same, part_step, part_to}
+use Rattle.spl_world.proofs.Seating.{places_as}
+use Rattle.spl_world.proofs.Turns.{deliver_next}
+use Rattle.spl_world.specs.Links.{PartDelivers, link_view}
+use Rattle.spl_world.specs.Views.{ids_of, places_of}
 use Rattle.spl_world.proofs.world.World.deliver_from.Goals as goal
 
 pub deliver-requires-clause-from_below : goal.deliver-requires-clause-from_below
@@ -49,6 +58,21 @@ loop-index-preserved g c =
       all_then _ _ _ c.loop-index.invariant.8 c.in_ok-deliver.ensures.disks.onward,
       c.deliver.ensures.places ∙ c.loop-index.invariant.9,
       c.deliver.ensures.stops ∙ c.loop-index.invariant.10,
+      c.in_ok-deliver.ensures.ready,
+      λ place z a b placed h at to.
+          let p = (link_view g.C.Carry.slots g.C.Carry.failed g.C.Carry.wire g.F.Fabric.put_on g.F.Fabric.taken_on g.F.Fabric.faults c.args.carrier.now c.args.fabric.now) in
+          let q = (link_view g.C.Carry.slots g.C.Carry.failed g.C.Carry.wire g.F.Fabric.put_on g.F.Fabric.taken_on g.F.Fabric.faults c.loop-index.carrier c.loop-index.fabric) in
+          let s = (link_view g.C.Carry.slots g.C.Carry.failed g.C.Carry.wire g.F.Fabric.put_on g.F.Fabric.taken_on g.F.Fabric.faults c.deliver.new.carrier c.deliver.new.fabric) in
+          let here : Calming = delivers c.args.circuit z a b (c.args.taken + 1) (c.loop-index.index - c.args.taken) in
+          let next : Calming = delivers c.args.circuit z a b (c.args.taken + 1) ((c.loop-index.index + 1) - c.args.taken) in
+          let one : Step = step.Deliver a b c.args.circuit (c.loop-index.index + 1) in
+          let moves = c.loop-index.invariant.5 z a b at to in
+          let first = ap (λ (ns : List NodeId). slice_get ns c.args.from) c.loop-index.invariant.1 ∙ at in
+          let second = ap (λ (ns : List NodeId). slice_get ns c.args.to) c.loop-index.invariant.1 ∙ to in
+          let seats = places_as place (ids_of c.args.self.now) (ids_of c.loop-index.self) (places_of c.args.self.now) (places_of c.loop-index.self) c.loop-index.invariant.1 c.loop-index.invariant.9 placed in
+          let so_far = c.loop-index.invariant.12 place z a b placed h at to in
+          part_to place done z (calming_step here one) next p s (deliver_next c.args.circuit z a b c.args.taken c.loop-index.index c.loop-index.invariant.3)
+          (ok_then place done z here (calming_step here one) p q s so_far (part_step place done here one q s (c.in_ok-deliver.ensures.links place here.world a b seats (moves.own z.world h) first second))),
     )
 
 pub returns-clause-moves : goal.returns-clause-moves
@@ -87,6 +111,10 @@ loop-index-init g c =
       all_itself _,
       refl,
       refl,
+      c.requires.ready,
+      λ place z a b placed h at to.
+          let p = (link_view g.C.Carry.slots g.C.Carry.failed g.C.Carry.wire g.F.Fabric.put_on g.F.Fabric.taken_on g.F.Fabric.faults c.args.carrier.now c.args.fabric.now) in
+          part_to place done z z (delivers c.args.circuit z a b (c.args.taken + 1) (c.args.taken - c.args.taken)) p p (sym (ap (delivers c.args.circuit z a b (c.args.taken + 1)) none)) (part_same place z p (g.met.C.Carry.idle c.args.carrier.now)),
     )
 
 pub deliver-requires-clause-sits : goal.deliver-requires-clause-sits
@@ -137,3 +165,50 @@ returns-in_err-deliver-clause-ended g c = λ z a b h at to.
     failed_ends c.from_residual-in_err-deliver.result _ c.from_residual-in_err-deliver.ensures (λ e. PartEnds c.args.circuit z all e old is)
     (part_event c.args.circuit z here next all c.in_err-deliver.field-0.0 old mid is (leads_delivers c.args.circuit z a b (c.args.taken + 1) (c.loop-index.index - c.args.taken)) (delivers_front c.args.circuit z a b (c.args.taken + 1) (c.loop-index.index - c.args.taken) ((c.loop-index.index + 1) - c.args.taken) more) (delivers_front c.args.circuit z a b (c.args.taken + 1) ((c.loop-index.index + 1) - c.args.taken) (c.args.all - c.args.taken) most)
     c.loop-index.invariant.1 c.loop-index.invariant.9 c.loop-index.invariant.7 (moves.own z.world h) moves.others ended)
+
+-- ---- the links
+
+pub deliver-requires-clause-ready : goal.deliver-requires-clause-ready
+deliver-requires-clause-ready g c = c.loop-index.invariant.11
+
+pub returns-clause-ready : goal.returns-clause-ready
+returns-clause-ready g c = c.loop-index.invariant.11
+
+pub returns-in_err-add-clause-links : goal.returns-in_err-add-clause-links
+returns-in_err-add-clause-links g c = λ place z a b placed h at to.
+    let p = (link_view g.C.Carry.slots g.C.Carry.failed g.C.Carry.wire g.F.Fabric.put_on g.F.Fabric.taken_on g.F.Fabric.faults c.args.carrier.now c.args.fabric.now) in
+    let q = (link_view g.C.Carry.slots g.C.Carry.failed g.C.Carry.wire g.F.Fabric.put_on g.F.Fabric.taken_on g.F.Fabric.faults c.loop-index.carrier c.loop-index.fabric) in
+    let f = c.in_err-add.field-0.0 in
+    let here : Calming = delivers c.args.circuit z a b (c.args.taken + 1) (c.loop-index.index - c.args.taken) in
+    let all : Calming = delivers c.args.circuit z a b (c.args.taken + 1) (c.args.all - c.args.taken) in
+    part_failed place c.from_residual.result f c.from_residual.ensures z all p q
+    (err_more place f z here all p q (part_alone place (failed (Unit {0}) f) z here p q (off_limit (failed (Unit {0}) f) 1 c.in_err-add.ensures.fault) (c.loop-index.invariant.12 place z a b placed h at to))
+    (delivers_front c.args.circuit z a b (c.args.taken + 1) (c.loop-index.index - c.args.taken) (c.args.all - c.args.taken) c.loop-index.invariant.4))
+
+pub returns-in_err-deliver-clause-links : goal.returns-in_err-deliver-clause-links
+returns-in_err-deliver-clause-links g c = λ place z a b placed h at to.
+    let p = (link_view g.C.Carry.slots g.C.Carry.failed g.C.Carry.wire g.F.Fabric.put_on g.F.Fabric.taken_on g.F.Fabric.faults c.args.carrier.now c.args.fabric.now) in
+    let q = (link_view g.C.Carry.slots g.C.Carry.failed g.C.Carry.wire g.F.Fabric.put_on g.F.Fabric.taken_on g.F.Fabric.faults c.loop-index.carrier c.loop-index.fabric) in
+    let s = (link_view g.C.Carry.slots g.C.Carry.failed g.C.Carry.wire g.F.Fabric.put_on g.F.Fabric.taken_on g.F.Fabric.faults c.deliver.new.carrier c.deliver.new.fabric) in
+    let here : Calming = delivers c.args.circuit z a b (c.args.taken + 1) (c.loop-index.index - c.args.taken) in
+    let next : Calming = delivers c.args.circuit z a b (c.args.taken + 1) ((c.loop-index.index + 1) - c.args.taken) in
+    let one : Step = step.Deliver a b c.args.circuit (c.loop-index.index + 1) in
+    let moves = c.loop-index.invariant.5 z a b at to in
+    let first = ap (λ (ns : List NodeId). slice_get ns c.args.from) c.loop-index.invariant.1 ∙ at in
+    let second = ap (λ (ns : List NodeId). slice_get ns c.args.to) c.loop-index.invariant.1 ∙ to in
+    let seats = places_as place (ids_of c.args.self.now) (ids_of c.loop-index.self) (places_of c.args.self.now) (places_of c.loop-index.self) c.loop-index.invariant.1 c.loop-index.invariant.9 placed in
+    let so_far = c.loop-index.invariant.12 place z a b placed h at to in
+    let f = c.in_err-deliver.field-0.0 in
+    let all : Calming = delivers c.args.circuit z a b (c.args.taken + 1) (c.args.all - c.args.taken) in
+    let most : (c.loop-index.index + 1) - c.args.taken ≤ c.args.all - c.args.taken = omega (arith, c.loop-index.invariant.3, c.loop-index.invariant.4, c.loop-index-test.true) in
+    let part = part_to place (failed (Unit {0}) f) here (calming_step here one) next q s (deliver_next c.args.circuit z a b c.args.taken c.loop-index.index c.loop-index.invariant.3)
+    (part_step place (failed (Unit {0}) f) here one q s (c.in_err-deliver.ensures.links place here.world a b seats (moves.own z.world h) first second)) in
+    part_failed place c.from_residual-in_err-deliver.result f c.from_residual-in_err-deliver.ensures z all p s
+    (err_then place f z here next all p q s so_far part (delivers_front c.args.circuit z a b (c.args.taken + 1) ((c.loop-index.index + 1) - c.args.taken) (c.args.all - c.args.taken) most))
+
+pub returns-clause-links : goal.returns-clause-links
+returns-clause-links g c = λ place z a b placed h at to.
+    let p = (link_view g.C.Carry.slots g.C.Carry.failed g.C.Carry.wire g.F.Fabric.put_on g.F.Fabric.taken_on g.F.Fabric.faults c.args.carrier.now c.args.fabric.now) in
+    let q = (link_view g.C.Carry.slots g.C.Carry.failed g.C.Carry.wire g.F.Fabric.put_on g.F.Fabric.taken_on g.F.Fabric.faults c.loop-index.carrier c.loop-index.fabric) in
+    let all : c.loop-index.index - c.args.taken ≡ c.args.all - c.args.taken = omega (arith, c.loop-index.invariant.3, c.loop-index.invariant.4, c.loop-index-test.false) in
+    subst (λ (k : ℕ). PartDelivers done place z (delivers c.args.circuit z a b (c.args.taken + 1) k) p q) all (c.loop-index.invariant.12 place z a b placed h at to)

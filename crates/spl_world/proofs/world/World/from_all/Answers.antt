@@ -16,6 +16,11 @@ use Rattle.spl_world.proofs.Ending.{failed_ends}
 use Rattle.spl_world.proofs.EndingParts.{from_all_turn, leads_from_all, part_then}
 use Rattle.spl_world.specs.Ended.{PartEnds}
 use Rattle.spl_world.specs.Disks.{images}
+use Rattle.spl_world.proofs.Linking.{done}
+use Rattle.spl_world.proofs.LinkingParts.{err_then, ok_then, part_failed, part_same, part_to}
+use Rattle.spl_world.proofs.Seating.{places_as}
+use Rattle.spl_world.specs.Links.{PartDelivers, link_view}
+use Rattle.spl_world.specs.Views.{places_of}
 use Rattle.spl_world.proofs.world.World.from_all.Goals as goal
 
 pub loop-from-preserved : goal.loop-from-preserved
@@ -50,6 +55,20 @@ loop-from-preserved g c =
       all_then _ _ _ c.loop-from.invariant.7 c.in_ok-to_all.ensures.disks.onward,
       c.to_all.ensures.places ∙ c.loop-from.invariant.8,
       c.to_all.ensures.stops ∙ c.loop-from.invariant.9,
+      c.in_ok-to_all.ensures.ready,
+      λ place z placed h rows.
+          let p = (link_view g.C.Carry.slots g.C.Carry.failed g.C.Carry.wire g.F.Fabric.put_on g.F.Fabric.taken_on g.F.Fabric.faults c.args.carrier.now c.args.fabric.now) in
+          let q = (link_view g.C.Carry.slots g.C.Carry.failed g.C.Carry.wire g.F.Fabric.put_on g.F.Fabric.taken_on g.F.Fabric.faults c.loop-from.carrier c.loop-from.fabric) in
+          let s = (link_view g.C.Carry.slots g.C.Carry.failed g.C.Carry.wire g.F.Fabric.put_on g.F.Fabric.taken_on g.F.Fabric.faults c.to_all.new.carrier c.to_all.new.fabric) in
+          let y : Calming = from_all c.args.circuit z (ids_of c.args.self.now) (take c.loop-from.from (ids_of c.args.self.now)) in
+          let so_far = c.loop-from.invariant.3 z h rows in
+          let here : slice_get (ids_of c.loop-from.self) c.loop-from.from ≡ Some sender.0 = ap (λ (ns : List NodeId). slice_get ns c.loop-from.from) c.loop-from.invariant.1 ∙ sender.1 in
+          let row = subst (λ (ns : List NodeId). c.index_mut.result.now.items ≡ row_of y.taken sender.0 ns) (sym c.loop-from.invariant.1) (so_far.1 c.loop-from.from sender.0 c.index_mut.result.now sender.1 there) in
+          let seats = places_as place (ids_of c.args.self.now) (ids_of c.loop-from.self) (places_of c.args.self.now) (places_of c.loop-from.self) c.loop-from.invariant.1 c.loop-from.invariant.8 placed in
+          let carried = c.loop-from.invariant.11 place z placed h rows in
+          let one = subst (λ (ns : List NodeId). PartDelivers done place y (to_all c.args.circuit y sender.0 ns) q s) c.loop-from.invariant.1 (c.in_ok-to_all.ensures.links place y sender.0 seats so_far.0 here row) in
+          part_to place done z (to_all c.args.circuit y sender.0 (ids_of c.args.self.now)) (from_all c.args.circuit z (ids_of c.args.self.now) (take (c.loop-from.from + 1) (ids_of c.args.self.now))) p s (sym (from_all_next c.args.circuit z (ids_of c.args.self.now) c.loop-from.from sender.0 sender.1))
+          (ok_then place done z y (to_all c.args.circuit y sender.0 (ids_of c.args.self.now)) p q s carried one),
     )
 
 pub returns-clause-own : goal.returns-clause-own
@@ -90,7 +109,7 @@ returns-clause-counts g c = λ z h rows.
 -- ---- the disks
 
 pub loop-from-init : goal.loop-from-init
-loop-from-init g c = (refl, refl, c.requires.square, λ z h rows. (h, rows), λ d m off h. h, λ z h rows. refl, c.requires.sits, all_itself _, refl, refl)
+loop-from-init g c = (refl, refl, c.requires.square, λ z h rows. (h, rows), λ d m off h. h, λ z h rows. refl, c.requires.sits, all_itself _, refl, refl, c.requires.ready, λ place z placed h rows. part_same place z (link_view g.C.Carry.slots g.C.Carry.failed g.C.Carry.wire g.F.Fabric.put_on g.F.Fabric.taken_on g.F.Fabric.faults c.args.carrier.now c.args.fabric.now) (g.met.C.Carry.idle c.args.carrier.now))
 
 pub to_all-requires-clause-sits : goal.to_all-requires-clause-sits
 to_all-requires-clause-sits g c = c.loop-from.invariant.6
@@ -125,3 +144,37 @@ returns-in_err-to_all-clause-ended g c = λ z h rows.
     failed_ends c.from_residual.result _ c.from_residual.ensures (λ e. PartEnds c.args.circuit z whole e old is)
     (part_then c.args.circuit z y (to_all c.args.circuit y sender.0 ids) whole c.in_err-to_all.field-0.0 old mid is (leads_from_all c.args.circuit z ids (take c.loop-from.from ids)) (from_all_turn c.args.circuit z ids c.loop-from.from sender.0 sender.1)
     c.loop-from.invariant.1 c.loop-from.invariant.8 c.loop-from.invariant.4 part)
+
+-- ---- the links
+
+pub to_all-requires-clause-ready : goal.to_all-requires-clause-ready
+to_all-requires-clause-ready g c = c.loop-from.invariant.10
+
+pub returns-clause-ready : goal.returns-clause-ready
+returns-clause-ready g c = c.loop-from.invariant.10
+
+pub returns-in_err-to_all-clause-links : goal.returns-in_err-to_all-clause-links
+returns-in_err-to_all-clause-links g c = λ place z placed h rows.
+    let below = rw (c.len-from-end.ensures) at c.loop-from-test.true in
+    let sender = some_at c.args.self.now.slots.items c.loop-from.from below in
+    let there : slice_get c.loop-from.rows.items c.loop-from.from ≡ Some c.index_mut.result.now =
+    slice_get_read c.loop-from.rows.items (length c.loop-from.rows.items) c.loop-from.from c.index_mut.result.now refl (subst (λ (n : ℕ). c.loop-from.from < n) (sym c.loop-from.invariant.2.tall) below) c.index_mut.ensures.value in
+    let p = (link_view g.C.Carry.slots g.C.Carry.failed g.C.Carry.wire g.F.Fabric.put_on g.F.Fabric.taken_on g.F.Fabric.faults c.args.carrier.now c.args.fabric.now) in
+    let q = (link_view g.C.Carry.slots g.C.Carry.failed g.C.Carry.wire g.F.Fabric.put_on g.F.Fabric.taken_on g.F.Fabric.faults c.loop-from.carrier c.loop-from.fabric) in
+    let s = (link_view g.C.Carry.slots g.C.Carry.failed g.C.Carry.wire g.F.Fabric.put_on g.F.Fabric.taken_on g.F.Fabric.faults c.to_all.new.carrier c.to_all.new.fabric) in
+    let y : Calming = from_all c.args.circuit z (ids_of c.args.self.now) (take c.loop-from.from (ids_of c.args.self.now)) in
+    let so_far = c.loop-from.invariant.3 z h rows in
+    let here : slice_get (ids_of c.loop-from.self) c.loop-from.from ≡ Some sender.0 = ap (λ (ns : List NodeId). slice_get ns c.loop-from.from) c.loop-from.invariant.1 ∙ sender.1 in
+    let row = subst (λ (ns : List NodeId). c.index_mut.result.now.items ≡ row_of y.taken sender.0 ns) (sym c.loop-from.invariant.1) (so_far.1 c.loop-from.from sender.0 c.index_mut.result.now sender.1 there) in
+    let seats = places_as place (ids_of c.args.self.now) (ids_of c.loop-from.self) (places_of c.args.self.now) (places_of c.loop-from.self) c.loop-from.invariant.1 c.loop-from.invariant.8 placed in
+    let carried = c.loop-from.invariant.11 place z placed h rows in
+    let f = c.in_err-to_all.field-0.0 in
+    let whole : Calming = from_all c.args.circuit z (ids_of c.args.self.now) (ids_of c.args.self.now) in
+    let part = subst (λ (ns : List NodeId). PartDelivers (failed (Unit {0}) f) place y (to_all c.args.circuit y sender.0 ns) q s) c.loop-from.invariant.1 (c.in_err-to_all.ensures.links place y sender.0 seats so_far.0 here row) in
+    part_failed place c.from_residual.result f c.from_residual.ensures z whole p s
+    (err_then place f z y (to_all c.args.circuit y sender.0 (ids_of c.args.self.now)) whole p q s carried part (from_all_turn c.args.circuit z (ids_of c.args.self.now) c.loop-from.from sender.0 sender.1))
+
+pub returns-clause-links : goal.returns-clause-links
+returns-clause-links g c = λ place z placed h rows.
+    subst (λ (ns : List NodeId). PartDelivers done place z (from_all c.args.circuit z (ids_of c.args.self.now) ns) (link_view g.C.Carry.slots g.C.Carry.failed g.C.Carry.wire g.F.Fabric.put_on g.F.Fabric.taken_on g.F.Fabric.faults c.args.carrier.now c.args.fabric.now) (link_view g.C.Carry.slots g.C.Carry.failed g.C.Carry.wire g.F.Fabric.put_on g.F.Fabric.taken_on g.F.Fabric.faults c.loop-from.carrier c.loop-from.fabric))
+    (take_all c.loop-from.from (ids_of c.args.self.now) (subst (λ (k : ℕ). k ≤ c.loop-from.from) (c.len-from-end.ensures ∙ sym (length_ids c.args.self.now.slots.items)) c.loop-from-test.false)) (c.loop-from.invariant.11 place z placed h rows)

@@ -16,7 +16,7 @@ use Rattle.spl_world.proofs.Ending.{failed_ends}
 use Rattle.spl_world.proofs.Handling.{one_leaves, one_onward}
 use Rattle.spl_world.proofs.HoldingLines.{held_first}
 use Rattle.spl_world.proofs.Leaving.{all_itself, all_then, leaves_failed, leaves_memory, leaves_ok, leaves_other, leaves_then}
-use Rattle.spl_world.proofs.Made.{AreMade, IsEntry, entry_at, entry_below, known_here, made_holds, made_placed, made_sits, none_made, one_more, still_there}
+use Rattle.spl_world.proofs.Made.{AreMade, IsEntry, entry_at, entry_below, known_here, made_below, made_holds, made_placed, made_sits, none_made, one_more, still_there}
 use Rattle.spl_world.proofs.Unmade.{else_still, made_but}
 use Rattle.spl_world.proofs.Pairing.{images_here, images_length, images_set, pair_here}
 use Rattle.spl_world.proofs.world.World.new.Goals as goal
@@ -118,6 +118,9 @@ returns-in_err-join-clause-disks g c =
 
 pub returns-clause-ids : goal.returns-clause-ids
 returns-clause-ids g c = c.loop-id.invariant.made.ids ∙ take_all c.loop-id.id-index c.deref-id-items.result.now c.loop-id-test.false ∙ c.deref-id-items.ensures.value ∙ c.in_ok-ids.ensures.ids
+
+pub returns-clause-below : goal.returns-clause-below
+returns-clause-below g c = made_below c.args.registry.now c.deref-id-items.result.now c.loop-id.id-index c.loop-id.slots.items _ _ c.loop-id.invariant.made
 
 pub returns-clause-placed : goal.returns-clause-placed
 returns-clause-placed g c = made_placed c.args.registry.now c.deref-id-items.result.now c.loop-id.id-index c.loop-id.slots.items _ _ c.loop-id.invariant.made

@@ -12,6 +12,9 @@ use Rattle.spl_world.proofs.Leaving.{leaves_failed, leaves_ok, leaves_same, disk
 use Rattle.spl_world.proofs.Ending.{failed_ends}
 use Rattle.spl_world.proofs.EndingParts.{leads_same, part_then, turn_leads}
 use Rattle.spl_world.specs.Ended.{PartEnds}
+use Rattle.spl_world.proofs.Linking.{done}
+use Rattle.spl_world.proofs.LinkingParts.{err_more, part_down, part_failed, part_own, part_turn}
+use Rattle.spl_world.specs.Links.{link_view}
 use Rattle.spl_world.proofs.world.World.pair_turn.Goals as goal
 
 -- the recipient is down
@@ -104,3 +107,31 @@ returns-in_err-deliver_from-clause-ended g c = λ z a b h at to e.
     let whole : Calming = pair_turn c.args.circuit z a b in
     failed_ends c.from_residual.result _ c.from_residual.ensures (λ f. PartEnds c.args.circuit z whole f old is)
     (part_then c.args.circuit z z part whole c.in_err-deliver_from.field-0.0 old old is (leads_same z) (turn_leads c.args.circuit z a b c.args.taken c.count-all.result e all up) refl refl (λ d m off k. k) (c.in_err-deliver_from.ensures.ended z a b h at to))
+
+-- ---- the links
+
+pub returns-then-not-is_up-clause-links : goal.returns-then-not-is_up-clause-links
+returns-then-not-is_up-clause-links g c = λ place z a b placed h at to e.
+    part_down place c.args.circuit z a b (link_view g.C.Carry.slots g.C.Carry.failed g.C.Carry.wire g.F.Fabric.put_on g.F.Fabric.taken_on g.F.Fabric.faults c.args.carrier.now c.args.fabric.now) (sym (c.is_up.ensures.world (images g.D.Disk.image_at g.D.Disk.moment c.args.pairs.now.items) c.args.circuit z.world b h to) ∙ c.if-not-is_up.true) (g.met.C.Carry.idle c.args.carrier.now)
+
+pub returns-then-is_same-clause-links : goal.returns-then-is_same-clause-links
+returns-then-is_same-clause-links g c = λ place z a b placed h at to e.
+    part_own place c.args.circuit z a b (link_view g.C.Carry.slots g.C.Carry.failed g.C.Carry.wire g.F.Fabric.put_on g.F.Fabric.taken_on g.F.Fabric.faults c.args.carrier.now c.args.fabric.now) (sym (c.is_same.ensures a b at to) ∙ c.if-is_same.true) (sym (c.is_up.ensures.world (images g.D.Disk.image_at g.D.Disk.moment c.args.pairs.now.items) c.args.circuit z.world b h to) ∙ c.if-not-is_up.false) (g.met.C.Carry.idle c.args.carrier.now)
+
+pub returns-in_err-deliver_from-clause-links : goal.returns-in_err-deliver_from-clause-links
+returns-in_err-deliver_from-clause-links g c = λ place z a b placed h at to e.
+    let p = (link_view g.C.Carry.slots g.C.Carry.failed g.C.Carry.wire g.F.Fabric.put_on g.F.Fabric.taken_on g.F.Fabric.faults c.args.carrier.now c.args.fabric.now) in
+    let q = (link_view g.C.Carry.slots g.C.Carry.failed g.C.Carry.wire g.F.Fabric.put_on g.F.Fabric.taken_on g.F.Fabric.faults c.deliver_from.new.carrier c.deliver_from.new.fabric) in
+    let f = c.in_err-deliver_from.field-0.0 in
+    let up : z.world.up b ≡ true = sym (c.is_up.ensures.world (images g.D.Disk.image_at g.D.Disk.moment c.args.pairs.now.items) c.args.circuit z.world b h to) ∙ c.if-not-is_up.false in
+    let all = c.count-all.ensures (images g.D.Disk.image_at g.D.Disk.moment c.args.pairs.now.items) z.world a b h at to in
+    let part : Calming = delivers c.args.circuit z a b (c.args.taken + 1) (c.count-all.result - c.args.taken) in
+    let whole : Calming = pair_turn c.args.circuit z a b in
+    part_failed place c.from_residual.result f c.from_residual.ensures z whole p q
+    (err_more place f z part whole p q (c.in_err-deliver_from.ensures.links place z a b placed h at to) (turn_leads c.args.circuit z a b c.args.taken c.count-all.result e all up))
+
+pub returns-clause-links : goal.returns-clause-links
+returns-clause-links g c = λ place z a b placed h at to e.
+    let up : z.world.up b ≡ true = sym (c.is_up.ensures.world (images g.D.Disk.image_at g.D.Disk.moment c.args.pairs.now.items) c.args.circuit z.world b h to) ∙ c.if-not-is_up.false in
+    let all = c.count-all.ensures (images g.D.Disk.image_at g.D.Disk.moment c.args.pairs.now.items) z.world a b h at to in
+    part_turn place c.args.circuit done z a b c.args.taken c.count-all.result (link_view g.C.Carry.slots g.C.Carry.failed g.C.Carry.wire g.F.Fabric.put_on g.F.Fabric.taken_on g.F.Fabric.faults c.args.carrier.now c.args.fabric.now) (link_view g.C.Carry.slots g.C.Carry.failed g.C.Carry.wire g.F.Fabric.put_on g.F.Fabric.taken_on g.F.Fabric.faults c.deliver_from.new.carrier c.deliver_from.new.fabric) e all up (c.in_ok-deliver_from.ensures.links place z a b placed h at to)

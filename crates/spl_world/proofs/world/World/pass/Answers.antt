@@ -16,6 +16,13 @@ use Rattle.spl_world.proofs.Ending.{failed_ends}
 use Rattle.spl_world.proofs.EndingParts.{leads_from_all, leads_same, leads_ticks, part_then}
 use Rattle.spl_world.specs.Ended.{PartEnds}
 use Rattle.spl_world.specs.Disks.{images}
+use Rattle.std.proofs.Common.{Bool}
+use Rattle.spl_world.proofs.Linking.{done}
+use Rattle.spl_world.proofs.LinkingParts.{err_more, err_then, ok_then, part_alone, part_failed, part_same, part_ticks}
+use Rattle.spl_world.proofs.EndingParts.{leads_pass}
+use Rattle.spl_world.proofs.Seating.{places_as, still_ready}
+use Rattle.spl_world.specs.Links.{PartDelivers, link_view}
+use Rattle.spl_world.specs.Views.{places_of}
 use Rattle.spl_world.proofs.world.World.pass.Goals as goal
 
 pub from_all-requires-clause-square : goal.from_all-requires-clause-square
@@ -115,3 +122,44 @@ returns-in_err-from_all-clause-ended g c = λ z h rows.
     let part = subst (λ (ns : List NodeId). PartEnds c.args.circuit y (from_all c.args.circuit y ns ns) c.in_err-from_all.field-0.0 mid is) c.tick_all.ensures.ids (c.in_err-from_all.ensures.ended y ((c.in_ok-moved.ensures.moves z).own z.world h) taken) in
     failed_ends c.from_residual-in_err-from_all.result _ c.from_residual-in_err-from_all.ensures (λ e. PartEnds c.args.circuit z whole e old is)
     (part_then c.args.circuit z y whole whole c.in_err-from_all.field-0.0 old mid is (leads_ticks c.args.circuit z (open_nodes z.world ids)) (leads_same whole) c.tick_all.ensures.ids c.tick_all.ensures.places (c.in_ok-moved.ensures.moves z).others part)
+
+-- ---- the links
+
+pub from_all-requires-clause-ready : goal.from_all-requires-clause-ready
+from_all-requires-clause-ready g c = still_ready (places_of c.args.self.now) (places_of c.tick_all.new.self) (link_view g.C.Carry.slots g.C.Carry.failed g.C.Carry.wire g.F.Fabric.put_on g.F.Fabric.taken_on g.F.Fabric.faults c.args.carrier.now c.args.fabric.now) c.tick_all.ensures.places c.requires.ready
+
+pub returns-in_err-moved-clause-links : goal.returns-in_err-moved-clause-links
+returns-in_err-moved-clause-links g c = λ place z placed h rows.
+    let p = (link_view g.C.Carry.slots g.C.Carry.failed g.C.Carry.wire g.F.Fabric.put_on g.F.Fabric.taken_on g.F.Fabric.faults c.args.carrier.now c.args.fabric.now) in
+    let f = c.in_err-moved.field-0.0 in
+    let whole : Calming = pass c.args.circuit (ids_of c.args.self.now) z in
+    part_failed place c.from_residual.result f c.from_residual.ensures z whole p p
+    (err_more place f z z whole p p (part_alone place (failed Bool f) z z p p c.in_err-moved.ensures.unlinked (part_same place z p (g.met.C.Carry.idle c.args.carrier.now))) (leads_pass c.args.circuit (ids_of c.args.self.now) z))
+
+pub returns-in_err-from_all-clause-links : goal.returns-in_err-from_all-clause-links
+returns-in_err-from_all-clause-links g c = λ place z placed h rows.
+    let p = (link_view g.C.Carry.slots g.C.Carry.failed g.C.Carry.wire g.F.Fabric.put_on g.F.Fabric.taken_on g.F.Fabric.faults c.args.carrier.now c.args.fabric.now) in
+    let q = (link_view g.C.Carry.slots g.C.Carry.failed g.C.Carry.wire g.F.Fabric.put_on g.F.Fabric.taken_on g.F.Fabric.faults c.from_all.new.carrier c.from_all.new.fabric) in
+    let f = c.in_err-from_all.field-0.0 in
+    let ids = ids_of c.args.self.now in
+    let y : Calming = ticks c.args.circuit z (open_nodes z.world ids) in
+    let whole : Calming = pass c.args.circuit ids z in
+    let taken = subst (λ (ns : List NodeId). AreRows y.taken ns c.args.rows.now.items) (sym c.tick_all.ensures.ids) (rows_same z.taken y.taken ids c.args.rows.now.items (λ a b. sym (ticks_taken c.args.circuit z (open_nodes z.world ids) a b)) rows) in
+    let seats = places_as place ids (ids_of c.tick_all.new.self) (places_of c.args.self.now) (places_of c.tick_all.new.self) c.tick_all.ensures.ids c.tick_all.ensures.places placed in
+    let ticked = part_ticks place c.args.circuit z (open_nodes z.world ids) p (g.met.C.Carry.idle c.args.carrier.now) in
+    let part = subst (λ (ns : List NodeId). PartDelivers (failed (Unit {0}) f) place y (from_all c.args.circuit y ns ns) p q) c.tick_all.ensures.ids (c.in_err-from_all.ensures.links place y seats ((c.in_ok-moved.ensures.moves z).own z.world h) taken) in
+    part_failed place c.from_residual-in_err-from_all.result f c.from_residual-in_err-from_all.ensures z whole p q
+    (err_then place f z y whole whole p p q ticked part (leads_same whole))
+
+pub returns-clause-links : goal.returns-clause-links
+returns-clause-links g c = λ place z placed h rows.
+    let p = (link_view g.C.Carry.slots g.C.Carry.failed g.C.Carry.wire g.F.Fabric.put_on g.F.Fabric.taken_on g.F.Fabric.faults c.args.carrier.now c.args.fabric.now) in
+    let q = (link_view g.C.Carry.slots g.C.Carry.failed g.C.Carry.wire g.F.Fabric.put_on g.F.Fabric.taken_on g.F.Fabric.faults c.from_all.new.carrier c.from_all.new.fabric) in
+    let ids = ids_of c.args.self.now in
+    let y : Calming = ticks c.args.circuit z (open_nodes z.world ids) in
+    let whole : Calming = pass c.args.circuit ids z in
+    let taken = subst (λ (ns : List NodeId). AreRows y.taken ns c.args.rows.now.items) (sym c.tick_all.ensures.ids) (rows_same z.taken y.taken ids c.args.rows.now.items (λ a b. sym (ticks_taken c.args.circuit z (open_nodes z.world ids) a b)) rows) in
+    let seats = places_as place ids (ids_of c.tick_all.new.self) (places_of c.args.self.now) (places_of c.tick_all.new.self) c.tick_all.ensures.ids c.tick_all.ensures.places placed in
+    let ticked = part_ticks place c.args.circuit z (open_nodes z.world ids) p (g.met.C.Carry.idle c.args.carrier.now) in
+    let part = subst (λ (ns : List NodeId). PartDelivers done place y (from_all c.args.circuit y ns ns) p q) c.tick_all.ensures.ids (c.in_ok-from_all.ensures.links place y seats ((c.in_ok-moved.ensures.moves z).own z.world h) taken) in
+    ok_then place done z y whole p p q ticked part

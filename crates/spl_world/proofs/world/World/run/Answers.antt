@@ -15,6 +15,13 @@ use Rattle.spl_world.proofs.Up.{step_up, world_up, step_down}
 use Rattle.spl_world.proofs.Steps.{step_for, pair_apart, number_back, second_known}
 use Rattle.spl_world.specs.Ended.{EventEnds}
 use Rattle.std.specs.Prelude.{IfErr}
+use Rattle.std.proofs.Common.{[]}
+use Rattle.spl_model.specs.Worlds.{Steps}
+use Rattle.spl_world.proofs.Linking.{carries_nothing, delivers_as, delivers_nothing, done}
+use Rattle.spl_world.proofs.Results.{on_ok}
+use Rattle.spl_world.proofs.Seating.{carried_down, still_ready}
+use Rattle.spl_world.specs.Links.{Delivers, carried_at, link_view}
+use Rattle.spl_world.specs.Views.{places_of}
 use Rattle.spl_world.proofs.world.World.run.Goals as goal
 
 pub handle-requires-clause-own : goal.handle-requires-clause-own
@@ -103,3 +110,28 @@ returns-else-not-is_up-2-clause-ended g c = λ m h.
     let is = images g.D.Disk.image_at g.D.Disk.moment c.deliver.new.pairs.items in
     rw (c.in-Deliver.is) (subst (λ (k : ℕ). IfErr c.deliver.result (λ e. EventEnds c.in-Deliver.circuit (step_world m (step.Deliver c.in-Deliver.from c.in-Deliver.to c.in-Deliver.circuit k)) e (seen g.D.Disk.image_at g.D.Disk.moment c.args.self.now c.args.pairs.now.items) is)) back
     (c.deliver.ensures.ended m c.in-Deliver.from c.in-Deliver.to (rw (c.in-Deliver.is) at h) c.slot-sender.ensures.at c.slot-recipient.ensures.at))
+
+-- ---- the links
+
+pub returns-else-not-is_up-clause-ready : goal.returns-else-not-is_up-clause-ready
+returns-else-not-is_up-clause-ready g c = on_ok c.handle.result (still_ready (places_of c.args.self.now) (places_of c.handle.new.self) (link_view g.C.Carry.slots g.C.Carry.failed g.C.Carry.wire g.F.Fabric.put_on g.F.Fabric.taken_on g.F.Fabric.faults c.args.carrier.now c.args.fabric.now) c.handle.ensures.places c.requires.ready)
+
+pub returns-then-not-is_up-clause-links : goal.returns-then-not-is_up-clause-links
+returns-then-not-is_up-clause-links g c = rw (c.in-At.is) (λ place m placed h. carries_nothing (link_view g.C.Carry.slots g.C.Carry.failed g.C.Carry.wire g.F.Fabric.put_on g.F.Fabric.taken_on g.F.Fabric.faults c.args.carrier.now c.args.fabric.now) (g.met.C.Carry.idle c.args.carrier.now))
+
+pub returns-else-not-is_up-clause-links : goal.returns-else-not-is_up-clause-links
+returns-else-not-is_up-clause-links g c = rw (c.in-At.is) (λ place m placed h. delivers_nothing c.handle.result (link_view g.C.Carry.slots g.C.Carry.failed g.C.Carry.wire g.F.Fabric.put_on g.F.Fabric.taken_on g.F.Fabric.faults c.args.carrier.now c.args.fabric.now) (g.met.C.Carry.idle c.args.carrier.now) c.handle.ensures.unlinked)
+
+pub returns-then-not-is_up-2-clause-links : goal.returns-then-not-is_up-2-clause-links
+returns-then-not-is_up-2-clause-links g c = rw (c.in-Deliver.is) (λ place m placed h.
+    let x = (link_view g.C.Carry.slots g.C.Carry.failed g.C.Carry.wire g.F.Fabric.put_on g.F.Fabric.taken_on g.F.Fabric.faults c.args.carrier.now c.args.fabric.now) in
+    let down : m.up c.in-Deliver.to ≡ false = sym (c.is_up-in-Deliver.ensures.world (images g.D.Disk.image_at g.D.Disk.moment c.args.pairs.now.items) c.in-Deliver.circuit m c.in-Deliver.to h c.slot-recipient.ensures.at) ∙ c.if-not-is_up-2.true in
+    delivers_as done [] (carried_at place m (Steps (step.Deliver c.in-Deliver.from c.in-Deliver.to c.in-Deliver.circuit c.in-Deliver.number))) x x (carried_down place m c.in-Deliver.from c.in-Deliver.to c.in-Deliver.circuit c.in-Deliver.number down) (carries_nothing x (g.met.C.Carry.idle c.args.carrier.now)))
+
+pub returns-else-not-is_up-2-clause-links : goal.returns-else-not-is_up-2-clause-links
+returns-else-not-is_up-2-clause-links g c = λ place m placed h.
+    let x = (link_view g.C.Carry.slots g.C.Carry.failed g.C.Carry.wire g.F.Fabric.put_on g.F.Fabric.taken_on g.F.Fabric.faults c.args.carrier.now c.args.fabric.now) in
+    let y = (link_view g.C.Carry.slots g.C.Carry.failed g.C.Carry.wire g.F.Fabric.put_on g.F.Fabric.taken_on g.F.Fabric.faults c.deliver.new.carrier c.deliver.new.fabric) in
+    let back = number_back c.in-Deliver.from c.in-Deliver.to c.in-Deliver.circuit c.in-Deliver.number (rw (c.in-Deliver.is) at c.requires.fits) in
+    rw (c.in-Deliver.is) (subst (λ (k : ℕ). Delivers c.deliver.result (carried_at place m (Steps (step.Deliver c.in-Deliver.from c.in-Deliver.to c.in-Deliver.circuit k))) x y) back
+    (c.deliver.ensures.links place m c.in-Deliver.from c.in-Deliver.to placed (rw (c.in-Deliver.is) at h) c.slot-sender.ensures.at c.slot-recipient.ensures.at))

@@ -15,6 +15,10 @@ use Rattle.spl_world.specs.Ended.{LineEnds}
 use Rattle.spl_world.proofs.Ending.{failed_ends}
 use Rattle.spl_world.proofs.EndingLines.{ended_by, ended_calm, ended_still, limit_named, memory_named}
 use Rattle.spl_world.specs.declared.fault.WorldFault.TheVariants.{NoMemory}
+use Rattle.spl_circuit.specs.Nodes.{CircuitId}
+use Rattle.spl_world.proofs.Linking.{carries_nothing, delivers_failed, fails_early, off_limit}
+use Rattle.spl_world.proofs.Seating.{still_ready}
+use Rattle.spl_world.specs.Links.{carried_in, line_carried, link_view}
 use Rattle.spl_world.proofs.world.World.run_line.Goals as goal
 
 -- ---- a step
@@ -182,3 +186,44 @@ returns-in_err-roll_at-in-Roll-clause-ended g c = λ before stands.
     let was = images g.D.Disk.image_at g.D.Disk.moment c.args.pairs.now.items in
     failed_ends c.from_residual-in_err-roll_at-in-Roll.result NoMemory c.from_residual-in_err-roll_at-in-Roll.ensures (λ e. LineEnds (λ k. whole_world (ids_of c.args.self.now) k before) c.args.line.now e (ids_of c.args.self.now) (places_of c.args.self.now) was)
     (ended_still before c.args.self.now was stands NoMemory (memory_named (places_of c.args.self.now)) c.args.line.now was refl)
+
+-- ---- the links
+
+pub returns-in_err-add-in-Step-clause-links : goal.returns-in_err-add-in-Step-clause-links
+returns-in_err-add-in-Step-clause-links g c = λ place before placed stands. fails_early c.from_residual.result c.in_err-add-in-Step.field-0.0 c.from_residual.ensures (off_limit (failed (Unit {0}) c.in_err-add-in-Step.field-0.0) 1 c.in_err-add-in-Step.ensures.fault) (line_carried place (λ (k : CircuitId). whole_world (ids_of c.args.self.now) k before) c.args.line.now) (link_view g.C.Carry.slots g.C.Carry.failed g.C.Carry.wire g.F.Fabric.put_on g.F.Fabric.taken_on g.F.Fabric.faults c.args.carrier.now c.args.fabric.now) (g.met.C.Carry.idle c.args.carrier.now)
+
+pub returns-in_err-add-in-Start-clause-links : goal.returns-in_err-add-in-Start-clause-links
+returns-in_err-add-in-Start-clause-links g c = λ place before placed stands. fails_early c.from_residual-in_err-add-in-Start.result c.in_err-add-in-Start.field-0.0 c.from_residual-in_err-add-in-Start.ensures (off_limit (failed (Unit {0}) c.in_err-add-in-Start.field-0.0) 1 c.in_err-add-in-Start.ensures.fault) (line_carried place (λ (k : CircuitId). whole_world (ids_of c.args.self.now) k before) c.args.line.now) (link_view g.C.Carry.slots g.C.Carry.failed g.C.Carry.wire g.F.Fabric.put_on g.F.Fabric.taken_on g.F.Fabric.faults c.args.carrier.now c.args.fabric.now) (g.met.C.Carry.idle c.args.carrier.now)
+
+pub returns-in_err-add-in-Roll-clause-links : goal.returns-in_err-add-in-Roll-clause-links
+returns-in_err-add-in-Roll-clause-links g c = λ place before placed stands. fails_early c.from_residual-in_err-add-in-Roll.result c.in_err-add-in-Roll.field-0.0 c.from_residual-in_err-add-in-Roll.ensures (off_limit (failed (Unit {0}) c.in_err-add-in-Roll.field-0.0) 1 c.in_err-add-in-Roll.ensures.fault) (line_carried place (λ (k : CircuitId). whole_world (ids_of c.args.self.now) k before) c.args.line.now) (link_view g.C.Carry.slots g.C.Carry.failed g.C.Carry.wire g.F.Fabric.put_on g.F.Fabric.taken_on g.F.Fabric.faults c.args.carrier.now c.args.fabric.now) (g.met.C.Carry.idle c.args.carrier.now)
+
+pub returns-in_err-start_at-in-Start-clause-links : goal.returns-in_err-start_at-in-Start-clause-links
+returns-in_err-start_at-in-Start-clause-links g c = λ place before placed stands. fails_early c.from_residual-in_err-start_at-in-Start.result c.in_err-start_at-in-Start.field-0.0 c.from_residual-in_err-start_at-in-Start.ensures c.in_err-start_at-in-Start.ensures.unlinked (line_carried place (λ (k : CircuitId). whole_world (ids_of c.args.self.now) k before) c.args.line.now) (link_view g.C.Carry.slots g.C.Carry.failed g.C.Carry.wire g.F.Fabric.put_on g.F.Fabric.taken_on g.F.Fabric.faults c.args.carrier.now c.args.fabric.now) (g.met.C.Carry.idle c.args.carrier.now)
+
+pub returns-in_err-roll_at-in-Roll-clause-links : goal.returns-in_err-roll_at-in-Roll-clause-links
+returns-in_err-roll_at-in-Roll-clause-links g c = λ place before placed stands. fails_early c.from_residual-in_err-roll_at-in-Roll.result NoMemory c.from_residual-in_err-roll_at-in-Roll.ensures refl (line_carried place (λ (k : CircuitId). whole_world (ids_of c.args.self.now) k before) c.args.line.now) (link_view g.C.Carry.slots g.C.Carry.failed g.C.Carry.wire g.F.Fabric.put_on g.F.Fabric.taken_on g.F.Fabric.faults c.args.carrier.now c.args.fabric.now) (g.met.C.Carry.idle c.args.carrier.now)
+
+pub returns-in_ok-add-in-Step-clause-links : goal.returns-in_ok-add-in-Step-clause-links
+returns-in_ok-add-in-Step-clause-links g c = λ place before placed stands.
+    let s = c.in-Step.step in
+    rw (c.in-Step.is) (c.run.ensures.links place (whole_world (ids_of c.args.self.now) (step_circuit s) before) placed (stands.each (step_circuit s)))
+
+pub returns-in_ok-calm-in-Calm-clause-links : goal.returns-in_ok-calm-in-Calm-clause-links
+returns-in_ok-calm-in-Calm-clause-links g c = λ place before placed stands.
+    rw (c.in-Calm.is) (c.in_ok-calm-in-Calm.ensures.links place (whole_world (ids_of c.args.self.now) c.in-Calm.circuit before) placed (stands.each c.in-Calm.circuit))
+
+pub returns-in_err-calm-in-Calm-clause-links : goal.returns-in_err-calm-in-Calm-clause-links
+returns-in_err-calm-in-Calm-clause-links g c = λ place before placed stands.
+    let w = (whole_world (ids_of c.args.self.now) c.in-Calm.circuit before) in
+    rw (c.in-Calm.is) (delivers_failed c.from_residual-in_err-calm-in-Calm.result c.in_err-calm-in-Calm.field-0.0 c.from_residual-in_err-calm-in-Calm.ensures (carried_in place w (calm c.in-Calm.circuit w c.in-Calm.passes).happened) (link_view g.C.Carry.slots g.C.Carry.failed g.C.Carry.wire g.F.Fabric.put_on g.F.Fabric.taken_on g.F.Fabric.faults c.args.carrier.now c.args.fabric.now) (link_view g.C.Carry.slots g.C.Carry.failed g.C.Carry.wire g.F.Fabric.put_on g.F.Fabric.taken_on g.F.Fabric.faults c.calm.new.carrier c.calm.new.fabric)
+    (c.in_err-calm-in-Calm.ensures.links place w placed (stands.each c.in-Calm.circuit)))
+
+pub returns-in_ok-start_at-in-Start-clause-links : goal.returns-in_ok-start_at-in-Start-clause-links
+returns-in_ok-start_at-in-Start-clause-links g c = λ place before placed stands. rw (c.in-Start.is) (carries_nothing (link_view g.C.Carry.slots g.C.Carry.failed g.C.Carry.wire g.F.Fabric.put_on g.F.Fabric.taken_on g.F.Fabric.faults c.args.carrier.now c.args.fabric.now) (g.met.C.Carry.idle c.args.carrier.now))
+
+pub returns-in_ok-roll_at-in-Roll-clause-links : goal.returns-in_ok-roll_at-in-Roll-clause-links
+returns-in_ok-roll_at-in-Roll-clause-links g c = λ place before placed stands. rw (c.in-Roll.is) (carries_nothing (link_view g.C.Carry.slots g.C.Carry.failed g.C.Carry.wire g.F.Fabric.put_on g.F.Fabric.taken_on g.F.Fabric.faults c.args.carrier.now c.args.fabric.now) (g.met.C.Carry.idle c.args.carrier.now))
+
+pub returns-in_ok-start_at-in-Start-clause-ready : goal.returns-in_ok-start_at-in-Start-clause-ready
+returns-in_ok-start_at-in-Start-clause-ready g c = still_ready (places_of c.args.self.now) (places_of c.start_at.new.self) (link_view g.C.Carry.slots g.C.Carry.failed g.C.Carry.wire g.F.Fabric.put_on g.F.Fabric.taken_on g.F.Fabric.faults c.args.carrier.now c.args.fabric.now) c.start_at.ensures.places c.requires.ready

@@ -14,6 +14,11 @@ use Rattle.spl_world.proofs.Ending.{failed_ends}
 use Rattle.spl_world.proofs.EndingParts.{part_then, to_all_so_far, to_all_turn}
 use Rattle.spl_world.specs.Ended.{PartEnds}
 use Rattle.spl_world.specs.Disks.{images}
+use Rattle.spl_world.proofs.Linking.{done}
+use Rattle.spl_world.proofs.LinkingParts.{err_then, ok_then, part_failed, part_same, part_to}
+use Rattle.spl_world.proofs.Seating.{places_as}
+use Rattle.spl_world.specs.Links.{PartDelivers, link_view}
+use Rattle.spl_world.specs.Views.{places_of}
 use Rattle.spl_world.proofs.world.World.to_all.Goals as goal
 
 pub loop-to-preserved : goal.loop-to-preserved
@@ -46,6 +51,19 @@ loop-to-preserved g c =
       all_then _ _ _ c.loop-to.invariant.7 c.in_ok-row.ensures.disks.onward,
       c.pair_turn.ensures.places ∙ c.loop-to.invariant.8,
       c.pair_turn.ensures.stops ∙ c.loop-to.invariant.9,
+      c.in_ok-row.ensures.ready,
+      λ place z a placed h at row.
+          let p = (link_view g.C.Carry.slots g.C.Carry.failed g.C.Carry.wire g.F.Fabric.put_on g.F.Fabric.taken_on g.F.Fabric.faults c.args.carrier.now c.args.fabric.now) in
+          let q = (link_view g.C.Carry.slots g.C.Carry.failed g.C.Carry.wire g.F.Fabric.put_on g.F.Fabric.taken_on g.F.Fabric.faults c.loop-to.carrier c.loop-to.fabric) in
+          let s = (link_view g.C.Carry.slots g.C.Carry.failed g.C.Carry.wire g.F.Fabric.put_on g.F.Fabric.taken_on g.F.Fabric.faults c.pair_turn.new.carrier c.pair_turn.new.fabric) in
+          let y : Calming = to_all c.args.circuit z a (take c.loop-to.to (ids_of c.args.self.now)) in
+          let so_far = c.loop-to.invariant.3 z a h at row in
+          let here : slice_get (ids_of c.loop-to.self) c.args.from ≡ Some a = ap (λ (ns : List NodeId). slice_get ns c.args.from) c.loop-to.invariant.1 ∙ at in
+          let taken : y.taken a recipient.0 ≡ c.index.result.now = sym (c.index.ensures ∙ ap (λ (r : List ℕ). get_or r c.loop-to.to c.index.result.now) so_far.1 ∙ row_at y.taken a (ids_of c.args.self.now) c.loop-to.to recipient.0 c.index.result.now recipient.1) in
+          let seats = places_as place (ids_of c.args.self.now) (ids_of c.loop-to.self) (places_of c.args.self.now) (places_of c.loop-to.self) c.loop-to.invariant.1 c.loop-to.invariant.8 placed in
+          let carried = c.loop-to.invariant.11 place z a placed h at row in
+          part_to place done z (pair_turn c.args.circuit y a recipient.0) (to_all c.args.circuit z a (take (c.loop-to.to + 1) (ids_of c.args.self.now))) p s (sym (to_all_next c.args.circuit z a (ids_of c.args.self.now) c.loop-to.to recipient.0 recipient.1))
+          (ok_then place done z y (pair_turn c.args.circuit y a recipient.0) p q s carried (c.in_ok-row.ensures.links place y a recipient.0 seats so_far.0 here to taken)),
     )
 
 pub returns-clause-own : goal.returns-clause-own
@@ -75,7 +93,7 @@ returns-clause-counts g c = λ z a h at row.
 -- ---- the disks
 
 pub loop-to-init : goal.loop-to-init
-loop-to-init g c = (refl, refl, refl, λ z a h at row. (h, row), λ d m off h. h, λ z a h at row. refl, c.requires.sits, all_itself _, refl, refl)
+loop-to-init g c = (refl, refl, refl, λ z a h at row. (h, row), λ d m off h. h, λ z a h at row. refl, c.requires.sits, all_itself _, refl, refl, c.requires.ready, λ place z a placed h at row. part_same place z (link_view g.C.Carry.slots g.C.Carry.failed g.C.Carry.wire g.F.Fabric.put_on g.F.Fabric.taken_on g.F.Fabric.faults c.args.carrier.now c.args.fabric.now) (g.met.C.Carry.idle c.args.carrier.now))
 
 pub pair_turn-requires-clause-sits : goal.pair_turn-requires-clause-sits
 pair_turn-requires-clause-sits g c = c.loop-to.invariant.6
@@ -107,3 +125,34 @@ returns-in_err-row-clause-ended g c = λ z a h at row.
     failed_ends c.from_residual.result _ c.from_residual.ensures (λ e. PartEnds c.args.circuit z whole e old is)
     (part_then c.args.circuit z y (pair_turn c.args.circuit y a recipient.0) whole c.in_err-row.field-0.0 old mid is (to_all_so_far c.args.circuit z a ids c.loop-to.to) (to_all_turn c.args.circuit z a ids c.loop-to.to recipient.0 recipient.1)
     c.loop-to.invariant.1 c.loop-to.invariant.8 c.loop-to.invariant.4 (c.in_err-row.ensures.ended y a recipient.0 so_far.0 here to taken))
+
+-- ---- the links
+
+pub pair_turn-requires-clause-ready : goal.pair_turn-requires-clause-ready
+pair_turn-requires-clause-ready g c = c.loop-to.invariant.10
+
+pub returns-clause-ready : goal.returns-clause-ready
+returns-clause-ready g c = c.loop-to.invariant.10
+
+pub returns-in_err-row-clause-links : goal.returns-in_err-row-clause-links
+returns-in_err-row-clause-links g c = λ place z a placed h at row.
+    let recipient = some_at c.args.self.now.slots.items c.loop-to.to (rw (c.len-to-end.ensures) at c.loop-to-test.true) in
+    let to : slice_get (ids_of c.loop-to.self) c.loop-to.to ≡ Some recipient.0 = ap (λ (ns : List NodeId). slice_get ns c.loop-to.to) c.loop-to.invariant.1 ∙ recipient.1 in
+    let p = (link_view g.C.Carry.slots g.C.Carry.failed g.C.Carry.wire g.F.Fabric.put_on g.F.Fabric.taken_on g.F.Fabric.faults c.args.carrier.now c.args.fabric.now) in
+    let q = (link_view g.C.Carry.slots g.C.Carry.failed g.C.Carry.wire g.F.Fabric.put_on g.F.Fabric.taken_on g.F.Fabric.faults c.loop-to.carrier c.loop-to.fabric) in
+    let s = (link_view g.C.Carry.slots g.C.Carry.failed g.C.Carry.wire g.F.Fabric.put_on g.F.Fabric.taken_on g.F.Fabric.faults c.pair_turn.new.carrier c.pair_turn.new.fabric) in
+    let y : Calming = to_all c.args.circuit z a (take c.loop-to.to (ids_of c.args.self.now)) in
+    let so_far = c.loop-to.invariant.3 z a h at row in
+    let here : slice_get (ids_of c.loop-to.self) c.args.from ≡ Some a = ap (λ (ns : List NodeId). slice_get ns c.args.from) c.loop-to.invariant.1 ∙ at in
+    let taken : y.taken a recipient.0 ≡ c.index.result.now = sym (c.index.ensures ∙ ap (λ (r : List ℕ). get_or r c.loop-to.to c.index.result.now) so_far.1 ∙ row_at y.taken a (ids_of c.args.self.now) c.loop-to.to recipient.0 c.index.result.now recipient.1) in
+    let seats = places_as place (ids_of c.args.self.now) (ids_of c.loop-to.self) (places_of c.args.self.now) (places_of c.loop-to.self) c.loop-to.invariant.1 c.loop-to.invariant.8 placed in
+    let carried = c.loop-to.invariant.11 place z a placed h at row in
+    let f = c.in_err-row.field-0.0 in
+    let whole : Calming = to_all c.args.circuit z a (ids_of c.args.self.now) in
+    part_failed place c.from_residual.result f c.from_residual.ensures z whole p s
+    (err_then place f z y (pair_turn c.args.circuit y a recipient.0) whole p q s carried (c.in_err-row.ensures.links place y a recipient.0 seats so_far.0 here to taken) (to_all_turn c.args.circuit z a (ids_of c.args.self.now) c.loop-to.to recipient.0 recipient.1))
+
+pub returns-clause-links : goal.returns-clause-links
+returns-clause-links g c = λ place z a placed h at row.
+    subst (λ (ns : List NodeId). PartDelivers done place z (to_all c.args.circuit z a ns) (link_view g.C.Carry.slots g.C.Carry.failed g.C.Carry.wire g.F.Fabric.put_on g.F.Fabric.taken_on g.F.Fabric.faults c.args.carrier.now c.args.fabric.now) (link_view g.C.Carry.slots g.C.Carry.failed g.C.Carry.wire g.F.Fabric.put_on g.F.Fabric.taken_on g.F.Fabric.faults c.loop-to.carrier c.loop-to.fabric))
+    (take_all c.loop-to.to (ids_of c.args.self.now) (subst (λ (k : ℕ). k ≤ c.loop-to.to) (c.len-to-end.ensures ∙ sym (length_ids c.args.self.now.slots.items)) c.loop-to-test.false)) (c.loop-to.invariant.11 place z a placed h at row)

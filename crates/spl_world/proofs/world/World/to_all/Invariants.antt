@@ -4,6 +4,9 @@ use Rattle.spl_model.specs.Calm.{Calming, to_all}
 use Rattle.spl_world.specs.Calms.{row_of}
 use Rattle.spl_world.specs.Disks.{AllGoOn, bench}
 use Rattle.spl_world.specs.Views.{Holds, IsAt, Spares, ids_of, Sits, places_of, seen}
+use Rattle.std.proofs.Common.{ℕ}
+use Rattle.spl_world.proofs.Linking.{done}
+use Rattle.spl_world.specs.Links.{IsReady, PartDelivers, Places, link_view}
 use Rattle.spl_world.proofs.world.World.to_all.Given as goal
 
 -- the recipients so far had their turns
@@ -17,3 +20,6 @@ invariant-loop-to g l = (length l.self.slots.items ≡ length l.fn.self.slots.it
     × Sits (seen g.D.Disk.image_at g.D.Disk.moment l.self l.pairs.items)
     × AllGoOn (bench g.D.Disk.image_at g.D.Disk.moment g.D.Disk.faults g.D.Disk.armed g.D.Disk.picks l.fn.pairs.items) (bench g.D.Disk.image_at g.D.Disk.moment g.D.Disk.faults g.D.Disk.armed g.D.Disk.picks l.pairs.items)
     × (places_of l.self ≡ places_of l.fn.self) × (l.self.stops ≡ l.fn.self.stops)
+    × IsReady (places_of l.self) (link_view g.C.Carry.slots g.C.Carry.failed g.C.Carry.wire g.F.Fabric.put_on g.F.Fabric.taken_on g.F.Fabric.faults l.carrier l.fabric)
+    × ((place : NodeId → ℕ) (z : Calming) (a : NodeId) → Places place (ids_of l.fn.self) (places_of l.fn.self) → Holds l.circuit z.world (seen g.D.Disk.image_at g.D.Disk.moment l.fn.self l.fn.pairs.items) → IsAt l.fn.self l.from a → l.fn.row.items ≡ row_of z.taken a (ids_of l.fn.self)
+    → PartDelivers done place z (to_all l.circuit z a (take l.to (ids_of l.fn.self))) (link_view g.C.Carry.slots g.C.Carry.failed g.C.Carry.wire g.F.Fabric.put_on g.F.Fabric.taken_on g.F.Fabric.faults l.fn.carrier l.fn.fabric) (link_view g.C.Carry.slots g.C.Carry.failed g.C.Carry.wire g.F.Fabric.put_on g.F.Fabric.taken_on g.F.Fabric.faults l.carrier l.fabric))

@@ -1,0 +1,176 @@
+-- How calls leave the links, one behind the other.
+use Rattle.std.proofs.Common.{◌≡◌, ℕ, ◌≤◌, Bool, true, false, ◌||◌, List, [], ◌++◌, append-nil, append_assoc, Result, Ok, Err, OnErr, refl, sym, ap, subst, ◌∙◌, arith}
+use Rattle.std.specs.Prelude.{IfErr, IsErr, IsErrOf}
+use Rattle.std.specs.List.{list_any}
+use Rattle.std.specs.Result.{IsErrAnd}
+use Rattle.std.proofs.lemmas.List.Folds.{list_any-append}
+use Rattle.spl_pump.proofs.Carrying.{goes_on_none, goes_on_more, puts_on, puts_on_part, same_puts}
+use Rattle.spl_pump.proofs.Wires.{puts_nothing, puts_part}
+use Rattle.spl_pump.specs.Moves.{Streams}
+use Rattle.std.proofs.lemmas.Bool.{eq-eqb}
+use Rattle.spl_edge.specs.Causes.{Rose}
+use Rattle.spl_pump.specs.Wires.{Carried, LiesOf, Puts, PutsPart, is_on, only}
+use Rattle.spl_pump.specs.declared.fault.PumpFault.{PumpFault}
+use Rattle.spl_pump.specs.declared.fault.PumpFault.TheVariants as pump
+use Rattle.spl_wire.specs.declared.message.Message.{Message}
+use Rattle.spl_world.specs.Links.{Carries, CarriesPart, Delivers, HasLinkCause, LinkView, carry_fault, is_of_links}
+use Rattle.spl_world.specs.declared.fault.WorldFault.{WorldFault}
+use Rattle.spl_world.specs.declared.fault.WorldFault.TheVariants.{Disk, Lied, Link, NoMemory, TooMany}
+
+-- a carrier puts nothing where it carries nothing
+abbrev pub IsIdle : LinkView → Type 0
+IsIdle x = (a b : ℕ) → x.wire [] a b ≡ []
+
+-- an error of no link
+abbrev pub IsOff : {A : Type 0} → Result A WorldFault → Type 0
+IsOff r = IfErr r (λ e. is_of_links e ≡ false)
+
+-- a call that succeeded, whatever it answered
+abbrev pub done : Result ℕ WorldFault
+done = Ok 0
+
+-- ---- messages that are carried
+
+idle_puts : (x : LinkView) (s : Streams) → IsIdle x → Puts (x.wire []) s s
+idle_puts x s idle = same_puts (λ a b. []) (x.wire []) s s (λ a b. sym (idle a b)) (puts_nothing s)
+
+pub carries_nothing : (x : LinkView) → IsIdle x → Carries [] x x
+carries_nothing x idle = record { onward = goes_on_none x.wire idle; put = idle_puts x x.put idle; no_less = omega arith }
+
+pub carries_then : (xs ys : List Carried) (x y z : LinkView) → Carries xs x y → Carries ys y z → Carries (xs ++ ys) x z
+carries_then xs ys x y z a b = record {
+  onward = goes_on_more xs ys x.wire y.wire z.wire a.onward b.onward;
+  put = puts_on xs ys x.wire y.wire x.put y.put z.put a.onward a.put b.put;
+  no_less = omega (arith, a.no_less, b.no_less);
+}
+
+-- ---- a part of them
+
+or_left : (a b : Bool) → a ≡ true → (a || b) ≡ true
+or_left true b e = refl
+or_left false b e = absurd cc
+
+or_right : (a b : Bool) → b ≡ true → (a || b) ≡ true
+or_right true b e = refl
+or_right false b e = e
+
+any_front : (p : Carried → Bool) (xs ys : List Carried) → list_any p xs ≡ true → list_any p (xs ++ ys) ≡ true
+any_front p xs ys h = list_any-append p xs ys ∙ or_left (list_any p xs) (list_any p ys) h
+
+any_behind : (p : Carried → Bool) (xs ys : List Carried) → list_any p ys ≡ true → list_any p (xs ++ ys) ≡ true
+any_behind p xs ys h = list_any-append p xs ys ∙ or_right (list_any p xs) (list_any p ys) h
+
+cause_behind : (e : WorldFault) (xs ys : List Carried) (x y z : LinkView) → x.faults ≤ y.faults → HasLinkCause e ys y z → HasLinkCause e (xs ++ ys) x z
+cause_behind Link xs ys x y z less c = omega (arith, less, c)
+cause_behind (Lied from to put got) xs ys x y z less c = (any_behind (is_on from to) xs ys c.0, c.1)
+cause_behind (TooMany which) xs ys x y z less c = tt
+cause_behind (Disk slot) xs ys x y z less c = tt
+cause_behind NoMemory xs ys x y z less c = tt
+
+cause_more : (e : WorldFault) (xs ys : List Carried) (x y : LinkView) → HasLinkCause e xs x y → HasLinkCause e (xs ++ ys) x y
+cause_more Link xs ys x y c = c
+cause_more (Lied from to put got) xs ys x y c = (any_front (is_on from to) xs ys c.0, c.1)
+cause_more (TooMany which) xs ys x y c = tt
+cause_more (Disk slot) xs ys x y c = tt
+cause_more NoMemory xs ys x y c = tt
+
+no_cause : (e : WorldFault) (xs : List Carried) (x y : LinkView) → is_of_links e ≡ false → HasLinkCause e xs x y
+no_cause Link xs x y off = absurd cc
+no_cause (Lied from to put got) xs x y off = absurd cc
+no_cause (TooMany which) xs x y off = tt
+no_cause (Disk slot) xs x y off = tt
+no_cause NoMemory xs x y off = tt
+
+pub part_behind : (e : WorldFault) (xs ys : List Carried) (x y z : LinkView) → Carries xs x y → CarriesPart e ys y z → CarriesPart e (xs ++ ys) x z
+part_behind e xs ys x y z a b = record {
+  first = xs ++ b.first;
+  rest = b.rest;
+  all = ap (λ (l : List Carried). xs ++ l) b.all ∙ sym (append_assoc xs b.first b.rest);
+  put = puts_on_part xs b.first x.wire y.wire x.put y.put z.put a.onward a.put b.put;
+  no_less = omega (arith, a.no_less, b.no_less);
+  cause = cause_behind e xs ys x y z a.no_less b.cause;
+}
+
+pub part_more : (e : WorldFault) (xs ys : List Carried) (x y : LinkView) → CarriesPart e xs x y → CarriesPart e (xs ++ ys) x y
+part_more e xs ys x y p = record {
+  first = p.first;
+  rest = p.rest ++ ys;
+  all = ap (λ (l : List Carried). l ++ ys) p.all ∙ append_assoc p.first p.rest ys;
+  put = p.put;
+  no_less = p.no_less;
+  cause = cause_more e xs ys x y p.cause;
+}
+
+carries_part : (e : WorldFault) (xs : List Carried) (x y : LinkView) → is_of_links e ≡ false → Carries xs x y → CarriesPart e xs x y
+carries_part e xs x y off k = record {
+  first = xs;
+  rest = [];
+  all = sym (append-nil xs);
+  put = puts_part (x.wire xs) x.put y.put k.put;
+  no_less = k.no_less;
+  cause = no_cause e xs x y off;
+}
+
+-- ---- calls
+
+pub delivers_as : {A : Type 0} (r : Result A WorldFault) (xs ys : List Carried) (x y : LinkView) → xs ≡ ys → Delivers r xs x y → Delivers r ys x y
+delivers_as r xs ys x y same d = subst (λ (l : List Carried). Delivers r l x y) same d
+
+-- a call that carried these, and another behind it
+pub delivers_then : {A : Type 0} (r : Result A WorldFault) (xs ys : List Carried) (x y z : LinkView) → Carries xs x y → Delivers r ys y z → Delivers r (xs ++ ys) x z
+delivers_then (Ok a) xs ys x y z k d = carries_then xs ys x y z k d
+delivers_then (Err e) xs ys x y z k d = part_behind e xs ys x y z k d
+
+-- one that carries nothing itself
+pub delivers_still : {A : Type 0} (r : Result A WorldFault) (xs : List Carried) (x y : LinkView) → IsOff r → Carries xs x y → Delivers r xs x y
+delivers_still (Ok a) xs x y off k = k
+delivers_still (Err e) xs x y off k = carries_part e xs x y off k
+
+pub delivers_nothing : {A : Type 0} (r : Result A WorldFault) (x : LinkView) → IsIdle x → IsOff r → Delivers r [] x x
+delivers_nothing r x idle off = delivers_still r [] x x off (carries_nothing x idle)
+
+-- one that fails as the call in it does
+pub delivers_failed : {B : Type 0} (r : Result B WorldFault) (f : WorldFault) → IsErr r × IsErrAnd r (λ y. y ≡ f) → (xs : List Carried) (x y : LinkView) → CarriesPart f xs x y → Delivers r xs x y
+delivers_failed (Ok b) f e xs x y d = absurd e.1
+delivers_failed (Err g) f e xs x y d = subst (λ (h : WorldFault). CarriesPart h xs x y) (sym e.1) d
+
+pub off_limit : {A : Type 0} (r : Result A WorldFault) (n : ℕ) → OnErr r (IsErrOf r (TooMany n)) → IsOff r
+off_limit (Ok a) n e = tt
+off_limit (Err f) n e = let is : f ≡ TooMany n = cc in ap is_of_links is
+
+pub off_failed : {B : Type 0} (r : Result B WorldFault) (f : WorldFault) → IsErr r × IsErrAnd r (λ y. y ≡ f) → is_of_links f ≡ false → IsOff r
+off_failed (Ok b) f e off = absurd e.1
+off_failed (Err g) f e off = ap is_of_links e.1 ∙ off
+
+pub off_memory : {B : Type 0} (r : Result B WorldFault) → IsErr r × IsErrAnd r (λ y. y ≡ NoMemory) → IsOff r
+off_memory (Ok b) e = absurd e.1
+off_memory (Err g) e = ap is_of_links e.1
+
+-- ---- one message
+
+on_own : (from to : ℕ) (m : Message) → list_any (is_on from to) (only from to m) ≡ true
+on_own from to m = rw (eq-eqb from from refl, eq-eqb to to refl) refl
+
+fault_cause : (e : PumpFault) (from to : ℕ) (m : Message) (x y : LinkView) → (e ≡ pump.Link → Rose x.faults y.faults) → LiesOf e y.put y.taken → HasLinkCause (carry_fault from to e) (only from to m) x y
+fault_cause pump.Link from to m x y rose lies = rose refl
+fault_cause (pump.Lied sent got) from to m x y rose lies = (on_own from to m, lies)
+fault_cause pump.NoMemory from to m x y rose lies = tt
+
+-- it was not carried
+pub fault_part : (f : WorldFault) (e : PumpFault) (from to : ℕ) (m : Message) (x y : LinkView) → f ≡ carry_fault from to e → PutsPart (x.wire (only from to m)) x.put y.put → x.faults ≤ y.faults → (e ≡ pump.Link → Rose x.faults y.faults) → LiesOf e y.put y.taken → CarriesPart f (only from to m) x y
+fault_part f e from to m x y is part less rose lies = subst (λ (g : WorldFault). CarriesPart g (only from to m) x y) (sym is) (record {
+  first = only from to m;
+  rest = [];
+  all = sym (append-nil (only from to m));
+  put = part;
+  no_less = less;
+  cause = fault_cause e from to m x y rose lies;
+})
+
+-- it was, and memory for it is wanting
+pub memory_part : {B : Type 0} (r : Result B WorldFault) → IsErr r × IsErrAnd r (λ y. y ≡ NoMemory) → (xs : List Carried) (x y : LinkView) → Carries xs x y → Delivers r xs x y
+memory_part r e xs x y k = delivers_still r xs x y (off_memory r e) k
+
+-- nothing was carried yet
+pub fails_early : {B : Type 0} (r : Result B WorldFault) (f : WorldFault) → IsErr r × IsErrAnd r (λ y. y ≡ f) → is_of_links f ≡ false → (xs : List Carried) (x : LinkView) → IsIdle x → Delivers r xs x x
+fails_early r f e off xs x idle = delivers_failed r f e xs x x (part_more f [] xs x x (carries_part f [] x x off (carries_nothing x idle)))

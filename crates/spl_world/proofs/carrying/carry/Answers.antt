@@ -1,0 +1,17 @@
+use Rattle.std.proofs.Common.{ap, Err}
+use Rattle.spl_pump.specs.Wires.{only}
+use Rattle.spl_world.specs.Links.{link_view}
+use Rattle.spl_world.proofs.Linking.{fault_part, memory_part}
+use Rattle.spl_world.proofs.carrying.carry.Goals as goal
+
+pub returns-in_err-new-in-Ok-clause-links : goal.returns-in_err-new-in-Ok-clause-links
+returns-in_err-new-in-Ok-clause-links g c =
+    let x = link_view g.C.Carry.slots g.C.Carry.failed g.C.Carry.wire g.F.Fabric.put_on g.F.Fabric.taken_on g.F.Fabric.faults c.args.carrier.now c.args.fabric.now in
+    let y = link_view g.C.Carry.slots g.C.Carry.failed g.C.Carry.wire g.F.Fabric.put_on g.F.Fabric.taken_on g.F.Fabric.faults c.carry.new.self c.carry.new.fabric in
+    memory_part c.from_residual.result c.from_residual.ensures (only c.args.from c.args.to c.args.message.now) x y (record { onward = c.in-Ok.ensures.onward; put = c.in-Ok.ensures.put; no_less = c.in-Ok.ensures.cause.later })
+
+pub returns-in-Err-clause-links : goal.returns-in-Err-clause-links
+returns-in-Err-clause-links g c =
+    let x = link_view g.C.Carry.slots g.C.Carry.failed g.C.Carry.wire g.F.Fabric.put_on g.F.Fabric.taken_on g.F.Fabric.faults c.args.carrier.now c.args.fabric.now in
+    let y = link_view g.C.Carry.slots g.C.Carry.failed g.C.Carry.wire g.F.Fabric.put_on g.F.Fabric.taken_on g.F.Fabric.faults c.carry.new.self c.carry.new.fabric in
+    fault_part c.carry_fault.result c.in-Err.fault c.args.from c.args.to c.args.message.now x y c.carry_fault.ensures c.in-Err.ensures.part c.in-Err.ensures.cause.later (λ q. c.in-Err.ensures.cause.failed (ap Err q)) c.in-Err.ensures.lied

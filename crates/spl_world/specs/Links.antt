@@ -1,0 +1,118 @@
+-- Which messages a line carries from node to node, and how a call leaves the links (docs/RULES.md, Links).
+use Rattle.std.specs.Prelude.{◌≡◌, ◌-◌, ◌<◌, ◌≤◌, ℕ, Bool, true, false, List, [], ◌∷◌, ◌++◌, if◌then◌else◌, slice_get, Option, Some, None, Result, Ok, Err, ⊤}
+use Rattle.std.specs.List.{list_any}
+use Rattle.std.specs.Option.{option_map_or}
+use Rattle.spl_circuit.specs.Nodes.{NodeId, CircuitId}
+use Rattle.spl_edge.specs.Causes.{Rose}
+use Rattle.spl_model.specs.Calm.{Calming, calm}
+use Rattle.spl_model.specs.Worlds.{World as CircuitWorld, Occurrence, Steps, happens, messages}
+use Rattle.spl_pump.specs.Moves.{Streams}
+use Rattle.spl_pump.specs.Wires.{AllTaken, Carried, GoesOn, LiesOf, Puts, PutsPart, Wire, is_on, only}
+use Rattle.spl_pump.specs.declared.fault.PumpFault.{PumpFault}
+use Rattle.spl_pump.specs.declared.fault.PumpFault.TheVariants as pump
+use Rattle.spl_registry.specs.Nodes.{Entry, slot_of}
+use Rattle.spl_sched.specs.Grammar.{step_circuit}
+use Rattle.spl_sched.specs.declared.line.Line.{Line}
+use Rattle.spl_sched.specs.declared.line.Line.TheVariants as line
+use Rattle.spl_sched.specs.declared.line.Step.TheVariants as step
+use Rattle.spl_wire.specs.declared.message.Message.{Message}
+use Rattle.spl_world.specs.Ended.{Leads}
+use Rattle.spl_world.specs.Views.{IsPlace}
+use Rattle.spl_world.specs.declared.fault.WorldFault.{WorldFault}
+use Rattle.spl_world.specs.declared.fault.WorldFault.TheVariants.{Link, Lied, NoMemory}
+
+-- ---- what is carried
+
+abbrev pub carried_of : ℕ → ℕ → Option Message → List Carried
+carried_of from to None = []
+carried_of from to (Some m) = only from to m
+
+-- where each node has this place: the message of a delivery is carried, where its recipient is up and there is such a message,
+-- and nothing in any other occurrence
+abbrev pub carried_at : (NodeId → ℕ) → CircuitWorld → Occurrence → List Carried
+carried_at place w (Steps (step.Deliver from to c k)) = if w.up to then carried_of (place from) (place to) (slice_get (messages w from to) (k - 1)) else []
+carried_at place w _ = []
+
+-- one occurrence after the other, each in the world that the earlier ones led to
+abbrev pub carried_in : (NodeId → ℕ) → CircuitWorld → List Occurrence → List Carried
+carried_in place w [] = []
+carried_in place w (e ∷ es) = carried_at place w e ++ carried_in place (happens w e) es
+
+-- a line, before which each circuit had this world
+abbrev pub line_carried : (NodeId → ℕ) → (CircuitId → CircuitWorld) → Line → List Carried
+line_carried place own (line.Step s) = carried_at place (own (step_circuit s)) (Steps s)
+line_carried place own (line.Calm c k) = carried_in place (own c) (calm c (own c) k).happened
+line_carried place own _ = []
+
+-- the place of each node is this
+abbrev pub Places : (NodeId → ℕ) → List NodeId → List ℕ → Type 0
+Places place ids places = (i : ℕ) (n : NodeId) (k : ℕ) → slice_get ids i ≡ Some n → slice_get places i ≡ Some k → place n ≡ k
+
+-- the position of a node in a registry
+abbrev pub seat_of : List Entry → NodeId → ℕ
+seat_of es n = option_map_or (λ k. k) (slot_of es n) 0
+
+-- ---- a carrier and its fabric
+
+-- what they tell of themselves
+pub record LinkView : Type 0 where
+  pub slots : ℕ
+  pub failed : Bool
+  pub wire : Wire
+  pub put : Streams
+  pub taken : Streams
+  pub faults : ℕ
+
+abbrev pub link_view : {C F : Type 0} → (C → ℕ) → (C → Bool) → (C → Wire) → (F → Streams) → (F → Streams) → (F → ℕ) → C → F → LinkView
+link_view slots failed wire put taken faults c f = record { slots = slots c; failed = failed c; wire = wire c; put = put f; taken = taken f; faults = faults f }
+
+-- there is a slot for each of these places, no fault was answered, and all bytes put were taken
+pub record IsReady (places : List ℕ) (x : LinkView) : Type 0 where
+  pub below : (k : ℕ) → IsPlace places k → k < x.slots
+  pub going : x.failed ≡ false
+  pub taken : AllTaken x.put x.taken
+
+-- what a fault of the carrier is to the world, where it was asked on this pair of places
+abbrev pub carry_fault : ℕ → ℕ → PumpFault → WorldFault
+carry_fault from to pump.Link = Link
+carry_fault from to (pump.Lied sent got) = Lied from to sent got
+carry_fault from to pump.NoMemory = NoMemory
+
+-- ---- how a call leaves them
+
+-- these messages were carried
+pub record Carries (sent : List Carried) (x y : LinkView) : Type 0 where
+  pub onward : GoesOn sent x.wire y.wire
+  pub put : Puts (x.wire sent) x.put y.put
+  pub no_less : x.faults ≤ y.faults
+
+-- where the links are at fault the fabric failed more often, or other bytes were taken than were put, and one of these
+-- messages was to go between these places
+abbrev pub HasLinkCause : WorldFault → List Carried → LinkView → LinkView → Type 0
+HasLinkCause Link sent x y = Rose x.faults y.faults
+HasLinkCause (Lied from to put got) sent x y = (list_any (is_on from to) sent ≡ true) × LiesOf (pump.Lied put got) y.put y.taken
+HasLinkCause _ sent x y = ⊤
+
+-- of the first of these messages were put all bytes, or a front of them on each pair
+pub record CarriesPart (e : WorldFault) (sent : List Carried) (x y : LinkView) : Type 0 where
+  pub first : List Carried
+  pub rest : List Carried
+  pub all : sent ≡ first ++ rest
+  pub put : PutsPart (x.wire first) x.put y.put
+  pub no_less : x.faults ≤ y.faults
+  pub cause : HasLinkCause e sent x y
+
+-- a call carried these messages, or ended with an error before or behind one of them
+abbrev pub Delivers : {A : Type 0} → Result A WorldFault → List Carried → LinkView → LinkView → Type 0
+Delivers (Ok a) sent x y = Carries sent x y
+Delivers (Err e) sent x y = CarriesPart e sent x y
+
+-- so it did with those of a part of a calm
+abbrev pub PartDelivers : {A : Type 0} → Result A WorldFault → (NodeId → ℕ) → Calming → Calming → LinkView → LinkView → Type 0
+PartDelivers r place from to x y = (leads : Leads from to) × Delivers r (carried_in place from.world leads.steps) x y
+
+-- the links are at fault
+abbrev pub is_of_links : WorldFault → Bool
+is_of_links Link = true
+is_of_links (Lied from to put got) = true
+is_of_links _ = false

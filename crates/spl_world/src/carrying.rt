@@ -1,0 +1,88 @@
+//! Messages that are carried to where they are delivered.
+ghost use Rattle.std.specs.Prelude.{◌≡◌, ◌≢◌, ◌<◌, ℕ, List, Some, false, length, slice_get, IfOk, IfSome, OnOk, IsErrOf};
+ghost use Rattle.std.specs.Str.{bytes_eq};
+ghost use Rattle.spl_circuit.specs.Nodes.{NodeId as Id};
+ghost use Rattle.spl_model.specs.Worlds.{World as CircuitWorld, messages, site_at};
+ghost use Rattle.spl_pump.specs.Wires.{AllTaken, only};
+ghost use Rattle.spl_rules.specs.Valid.{IsFor};
+ghost use Rattle.spl_wire.specs.Bounds.{IsSendable};
+ghost use Rattle.spl_world.specs.Disks.{Images};
+ghost use Rattle.spl_world.specs.Halts.{delivery_of};
+ghost use Rattle.spl_world.specs.Links.{Delivers, IsReady, Places, carried_of, link_view};
+ghost use Rattle.spl_world.specs.Views.{Holds, IsAt, ids_of, over, places_of};
+
+use crate::fault::{WorldFault, carry_fault};
+use crate::world::World;
+use spl_base::{Boxed, CircuitId};
+use spl_edge::Fabric;
+use spl_pump::Carry;
+use spl_wire::{Event, Message};
+use std::alloc::Global;
+
+// Carries a message between the nodes at these positions: what comes out is on the heap.
+fn carry<C: Carry, F: Fabric>(
+    alloc: Global,
+    carrier: &mut C,
+    fabric: &mut F,
+    from: u8,
+    to: u8,
+    message: &Message,
+) -> Result<Boxed<Message>, WorldFault>
+    requires apart { from ≢ to }
+    requires from { from < C.slots carrier.old }
+    requires to { to < C.slots carrier.old }
+    requires going { C.failed carrier.old ≡ false }
+    requires sendable { IsSendable message.now }
+    requires taken { AllTaken (F.put_on fabric.old) (F.taken_on fabric.old) }
+    ensures same { IfOk result (λ m. m ≡ message.now) }
+    ensures slots { C.slots carrier.new ≡ C.slots carrier.old }
+    ensures going { OnOk result (C.failed carrier.new ≡ false) }
+    ensures taken { OnOk result (AllTaken (F.put_on fabric.new) (F.taken_on fabric.new)) }
+    ensures links { Delivers result (only from to message.now) (link_view C.slots C.failed C.wire F.put_on F.taken_on F.faults carrier.old fabric.old) (link_view C.slots C.failed C.wire F.put_on F.taken_on F.faults carrier.new fabric.new) }
+    ensures few { (which : ℕ) → IsErrOf result (WorldFault.TooMany which) → ⊥ }
+    ensures disk { (slot : ℕ) → IsErrOf result (WorldFault.Disk slot) → ⊥ }
+{
+    match carrier.carry(alloc, fabric, from, to, message) {
+        Ok(copy) => Ok(Boxed::new(alloc, copy)?),
+        Err(fault) => Err(carry_fault(fault, from, to)),
+    }
+}
+
+impl World {
+    // The delivery of the message of this index, from 0, of those about a circuit that one node sent
+    // to another, as it comes out of the carrier; None exactly where there are fewer.
+    pub(crate) fn carried<C: Carry, F: Fabric>(
+        &self,
+        alloc: Global,
+        carrier: &mut C,
+        fabric: &mut F,
+        from: usize,
+        to: usize,
+        circuit: &CircuitId,
+        index: usize,
+    ) -> Result<Option<Event>, WorldFault>
+        requires from_below { from < length self.now.slots.items }
+        requires to_below { to < length self.now.slots.items }
+        requires apart { (a b : Id) → IsAt self.now from a → IsAt self.now to b → bytes_eq a b ≡ false }
+        requires seats { (x y : ℕ) → slice_get (places_of self.now) from ≡ Some x → slice_get (places_of self.now) to ≡ Some y → x ≢ y }
+        requires ready { IsReady (places_of self.now) (link_view C.slots C.failed C.wire F.put_on F.taken_on F.faults carrier.old fabric.old) }
+        ensures event { (is : List Images) (m : CircuitWorld) (a b : Id) → Holds circuit.now m (over self.now is) → IsAt self.now from a → IsAt self.now to b → IfOk result (λ e. e ≡ delivery_of a (slice_get (messages m a b) index)) }
+        ensures own { (n : Id) → IsAt self.now to n → IfOk result (λ e. IfSome e (IsFor (site_at n circuit.now))) }
+        ensures ready { OnOk result (IsReady (places_of self.now) (link_view C.slots C.failed C.wire F.put_on F.taken_on F.faults carrier.new fabric.new)) }
+        ensures links { (place : Id → ℕ) (is : List Images) (m : CircuitWorld) (a b : Id) → Places place (ids_of self.now) (places_of self.now) → Holds circuit.now m (over self.now is) → IsAt self.now from a → IsAt self.now to b → Delivers result (carried_of (place a) (place b) (slice_get (messages m a b) index)) (link_view C.slots C.failed C.wire F.put_on F.taken_on F.faults carrier.old fabric.old) (link_view C.slots C.failed C.wire F.put_on F.taken_on F.faults carrier.new fabric.new) }
+        ensures few { (which : ℕ) → IsErrOf result (WorldFault.TooMany which) → ⊥ }
+        ensures disk { (slot : ℕ) → IsErrOf result (WorldFault.Disk slot) → ⊥ }
+    {
+        let sender = self.slots[from].id();
+        let recipient = self.slots[to].id();
+        let (here, there) = (self.slots[from].position, self.slots[to].position);
+        let message = match self.slots[from].message(circuit, &recipient, index) {
+            Some(message) => carry(alloc, carrier, fabric, here, there, message)?,
+            None => return Ok(None),
+        };
+        Ok(Some(Event::Deliver {
+            from: sender,
+            message,
+        }))
+    }
+}
