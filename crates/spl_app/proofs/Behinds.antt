@@ -1,5 +1,5 @@
 -- A run, one line further.
-use Rattle.std.proofs.Common.{◌≡◌, ℕ, ◌+◌, false, List, [], ◌∷◌, ◌++◌, Option, Some, None, Result, Ok, Err, OnOk, length, sym, subst, arith}
+use Rattle.std.proofs.Common.{◌∙◌, ◌≡◌, ℕ, ◌+◌, false, List, [], ◌∷◌, ◌++◌, Option, Some, None, Result, Ok, Err, OnOk, length, sym, subst, arith}
 use Rattle.spl_circuit.specs.Nodes.{Node}
 use Rattle.spl_sched.specs.declared.line.Line.{Line}
 use Rattle.spl_model.specs.Projection.{Ran}
@@ -8,7 +8,8 @@ use Rattle.spl_model.specs.Answers.{answer_to}
 use Rattle.spl_answer.specs.Texts.{text}
 use Rattle.spl_world.specs.Counts.{IsOver}
 use Rattle.spl_world.specs.Disks.{Images}
-use Rattle.spl_world.specs.Views.{ids_of, is_halted, Stands}
+use Rattle.spl_world.specs.Views.{ids_of, is_halted, places_of, Stands}
+use Rattle.spl_app.proofs.Unlinked.{places_kept}
 use Rattle.spl_app.specs.declared.run.Run.{Run}
 use Rattle.spl_app.specs.Due.{IsDue, IsDuePart}
 use Rattle.spl_app.specs.Run.{IsWithin, said, ran, shown, answers_behind}
@@ -58,20 +59,22 @@ module _ (ns : List Node) (skip : ℕ) (lines : List (List ℕ)) (run : Run) (he
       skips = behind.skips;
       world = behind.world;
       running = behind.running;
+      seats = behind.seats;
       stands = subst (λ (ls : List Ran). Stands ls run.world held) (sym (ran_silent lines line is)) behind.stands;
       few = subst (IsWithin ns) (sym (ran_silent lines line is)) behind.few;
       due = subst (IsDue a b run.output) (sym (answers_silent ns skip lines line is)) behind.due;
     }
 
     module _ (number : ℕ) (l : Line) (counted : number ≡ length lines + 1) (is : said line ≡ Some l) (c : Option (List ℕ)) (later : Run) where
-      pub behind_said : (now : List Images) → later.nodes.items ≡ ns → later.skip ≡ skip → ids_of later.world ≡ ns → is_halted later.world ≡ false → Stands (ran lines ++ by_rule l ∷ []) later.world now
+      pub behind_said : (now : List Images) → later.nodes.items ≡ ns → later.skip ≡ skip → ids_of later.world ≡ ns → places_of later.world ≡ places_of run.world → is_halted later.world ≡ false → Stands (ran lines ++ by_rule l ∷ []) later.world now
           → IsWithin ns (ran lines ++ by_rule l ∷ [])
           → IsDue b c later.output (run.output ++ shown skip number (text (answer_to ns (ran lines) (by_rule l)))) → IsBehind ns skip (lines ++ line ∷ []) later now a c
-      behind_said now nodes skips world running stands few due = record {
+      behind_said now nodes skips world places running stands few due = record {
         nodes = nodes;
         skips = skips;
         world = world;
         running = running;
+        seats = places_kept run.world later.world (world ∙ sym behind.world) places behind.seats;
         stands = subst (λ (ls : List Ran). Stands ls later.world now) (sym (ran_said lines line l is)) stands;
         few = subst (IsWithin ns) (sym (ran_said lines line l is)) few;
         due = subst (IsDue a c later.output) (sym (answers_said ns skip lines line number l counted is)) (due_due a b c _ _ _ _ behind.due due);

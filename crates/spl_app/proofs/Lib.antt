@@ -17,6 +17,7 @@ mod Registries
 mod Runs
 mod Takes
 mod Texts
+mod Unlinked
 mod Wholes
 mod WholeEnds
 mod Words

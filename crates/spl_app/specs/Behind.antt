@@ -4,6 +4,7 @@ use Rattle.spl_circuit.specs.Nodes.{Node}
 use Rattle.spl_world.specs.Disks.{Images}
 use Rattle.spl_world.specs.Views.{ids_of, is_halted, Stands}
 use Rattle.spl_app.specs.declared.run.Run.{Run}
+use Rattle.spl_app.specs.Able.{HavePlaces}
 use Rattle.spl_app.specs.Due.{IsDue}
 use Rattle.spl_app.specs.Run.{ran, IsWithin, answers_behind}
 
@@ -13,6 +14,7 @@ pub record IsBehind (ns : List Node) (skip : ℕ) (lines : List (List ℕ)) (run
   pub skips : run.skip ≡ skip
   pub world : ids_of run.world ≡ ns
   pub running : is_halted run.world ≡ false
+  pub seats : HavePlaces run.world
   pub stands : Stands (ran lines) run.world is
   pub few : IsWithin ns (ran lines)
   pub due : IsDue old new run.output (answers_behind skip ns lines)

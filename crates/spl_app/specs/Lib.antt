@@ -2,6 +2,7 @@ pub mod Lines
 pub mod Due
 pub mod Faults
 pub mod Run
+pub mod Able
 pub mod Behind
 pub mod Schedule
 pub mod Registered

@@ -5,6 +5,7 @@
 mod agree;
 mod bench;
 mod command;
+mod fabric;
 mod fault;
 mod feed;
 mod generated;

@@ -1,5 +1,5 @@
 //! The nodes of a run: those of the registry that a source gives.
-ghost use Rattle.std.specs.Prelude.{◌≡◌, ◌≢◌, ◌<◌, Ok, Err, length, IfOk, OnOk, IsErrOf};
+ghost use Rattle.std.specs.Prelude.{◌≡◌, ◌≢◌, ◌<◌, ◌≤◌, Ok, Err, length, IfOk, OnOk, IsErrOf};
 ghost use Rattle.std.specs.Io.{appended_bytes};
 ghost use Rattle.std.specs.List.{AllPairs};
 ghost use Rattle.std.specs.Io.KnownBytes.{Consumes, IsAtEnd};
@@ -26,6 +26,13 @@ pub fn sorted_ids(alloc: Global, registry: &Registry) -> Result<Vec<NodeId>, All
     let mut ids = registry.ids(alloc)?;
     ids.sort_unstable();
     Ok(ids)
+}
+
+/// A registry has at most sixteen nodes.
+pub fn registries_are_small(registry: &Registry)
+    ensures { length registry.now ≤ 16 }
+{
+    registry.len();
 }
 
 /// The registry that a source gives.

@@ -6,6 +6,7 @@ ghost use Rattle.std.specs.List.{AllPairs};
 ghost use Rattle.spl_edge.specs.Causes.{Rose, AppendsPart};
 ghost use Rattle.spl_circuit.specs.Nodes.{sorted};
 ghost use Rattle.spl_registry.specs.Nodes.{ids_of as registered};
+ghost use Rattle.spl_app.specs.Able.{IsAble};
 ghost use Rattle.spl_app.specs.Lines.{rest_of, longest_line, limit};
 ghost use Rattle.spl_app.specs.Due.{IsDue, IsDuePart};
 ghost use Rattle.spl_app.specs.Ends.{EndsAt, EndsBehind, EndsFailed, EndsIn, EndsShort, EndsSomewhere, FaultEnds, HeldAt, HeldOrEnds, RanOn};
@@ -18,14 +19,15 @@ ghost use Rattle.spl_model.specs.Answers.{answer_to};
 ghost use Rattle.spl_world.specs.Counts.{IsOver};
 ghost use Rattle.spl_world.specs.Disks.{AllUnarmed, AreBlank, NoneForgotten, PairView, bench, images, images_at};
 ghost use Rattle.spl_world.specs.Held.{AllHeld, AllUnpicked, AreHeld, FailedSince};
+ghost use Rattle.spl_world.specs.Links.{is_of_links};
 ghost use Rattle.spl_world.specs.Making.{AreMadeBut};
-ghost use Rattle.spl_world.specs.Views.{ArePlaced, IsPlace, Sits, Stands, ids_of, is_halted, places_of, seen};
+ghost use Rattle.spl_world.specs.Views.{ArePlaced, IsPlace, Stands, ids_of, is_halted, places_of};
 
 use crate::fault::{RunEnd, RunFault};
 use crate::feed::{Feed, FeedFault};
 use crate::lines::{LONGEST_LINE, is_silent};
 use crate::output::Output;
-use crate::registered::sorted_ids;
+use crate::registered::{registries_are_small, sorted_ids};
 use crate::take::take_line;
 use spl_answer::append_text;
 use spl_base::NodeId;
@@ -71,6 +73,7 @@ impl Run {
         ensures place { (slot : ℕ) → IsErrOf result (WorldFault.Disk slot) → slot < length registry.now }
         ensures unmade { IfErr result (λ e. AreMadeBut (sorted (registered registry.now)) registry.now e (bench D.image_at D.moment D.faults D.armed D.picks pairs.old.items) (bench D.image_at D.moment D.faults D.armed D.picks pairs.new.items)) }
     {
+        registries_are_small(registry);
         Ok(Run {
             nodes: sorted_ids(alloc, registry)?,
             text: Vec::new(alloc),
@@ -109,7 +112,7 @@ impl Run {
     ) -> Result<(), WorldFault>
         requires nodes { ids_of self.old.world ≡ self.old.nodes.items }
         requires running { is_halted self.old.world ≡ false }
-        requires sits { Sits (seen D.image_at D.moment self.old.world pairs.old.items) }
+        requires able { IsAble self.old.world (images D.image_at D.moment pairs.old.items) }
         requires known { IsRunnable self.old.nodes.items said.now }
         ensures nodes { self.new.nodes.items ≡ self.old.nodes.items }
         ensures skip { self.new.skip ≡ self.old.skip }
@@ -125,6 +128,7 @@ impl Run {
         ensures failed { (start : List PairView) (before : List Ran) (slot : ℕ) → IsErrOf result (WorldFault.Disk slot) → AllHeld start before self.old.world (bench D.image_at D.moment D.faults D.armed D.picks pairs.old.items) → FailedSince slot start (bench D.image_at D.moment D.faults D.armed D.picks pairs.new.items) }
         ensures places { places_of self.new.world ≡ places_of self.old.world }
         ensures held { (start : List PairView) (before : List Ran) → Stands before self.old.world (images D.image_at D.moment pairs.old.items) → AllHeld start before self.old.world (bench D.image_at D.moment D.faults D.armed D.picks pairs.old.items) → OnOk result (AllHeld start (before ++ by_rule said.now ∷ []) self.new.world (bench D.image_at D.moment D.faults D.armed D.picks pairs.new.items)) }
+        ensures unlinked { IfErr result (λ e. is_of_links e ≡ false) }
         ensures place { (slot : ℕ) → IsErrOf result (WorldFault.Disk slot) → IsPlace (places_of self.old.world) slot }
         ensures ended { (start : List PairView) (before : List Ran) → Stands before self.old.world (images D.image_at D.moment pairs.old.items) → AllHeld start before self.old.world (bench D.image_at D.moment D.faults D.armed D.picks pairs.old.items) → IfErr result (λ e. EndsAt self.old.nodes.items (places_of self.old.world) before said.now e start (bench D.image_at D.moment D.faults D.armed D.picks pairs.new.items) ⊎ ((e ≡ WorldFault.NoMemory) × RanOn self.old.nodes.items (places_of self.old.world) before said.now start (bench D.image_at D.moment D.faults D.armed D.picks pairs.new.items))) }
     {
@@ -146,7 +150,7 @@ impl Run {
     ) -> Result<(), RunFault>
         requires nodes { ids_of self.old.world ≡ self.old.nodes.items }
         requires running { is_halted self.old.world ≡ false }
-        requires sits { Sits (seen D.image_at D.moment self.old.world pairs.old.items) }
+        requires able { IsAble self.old.world (images D.image_at D.moment pairs.old.items) }
         requires known { IsRunnable self.old.nodes.items said.now }
         ensures nodes { self.new.nodes.items ≡ self.old.nodes.items }
         ensures skip { self.new.skip ≡ self.old.skip }
@@ -182,6 +186,7 @@ impl Run {
             }
             Err(WorldFault::Disk { slot }) => return Err(RunFault::Disk(slot)),
             Err(WorldFault::NoMemory) => return Err(RunFault::NoMemory),
+            Err(WorldFault::Link | WorldFault::Lied { .. }) => unreachable!(),
         }
         self.output.put_behind(out, self.skip, number, &self.text)?;
         Ok(())
@@ -199,7 +204,7 @@ impl Run {
     ) -> Result<(), RunFault>
         requires nodes { ids_of self.old.world ≡ self.old.nodes.items }
         requires running { is_halted self.old.world ≡ false }
-        requires sits { Sits (seen D.image_at D.moment self.old.world pairs.old.items) }
+        requires able { IsAble self.old.world (images D.image_at D.moment pairs.old.items) }
         ensures ok { (lines : List (List ℕ)) → (start : Option (List ℕ)) → IsBehind self.old.nodes.items self.old.skip lines self.old (images D.image_at D.moment pairs.old.items) start (W.written out.old) → number ≡ length lines + 1
             → OnOk result (IsBehind self.old.nodes.items self.old.skip (lines ++ line.now ∷ []) self.new (images D.image_at D.moment pairs.new.items) start (W.written out.new)) }
         ensures good { OnOk result (IsLine self.old.nodes.items line.now) }

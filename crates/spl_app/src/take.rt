@@ -1,5 +1,6 @@
 //! A line in the world, whichever it is.
 ghost use Rattle.std.specs.Prelude.{◌≡◌, ◌++◌, ◌∷◌, [], ℕ, List, false, IfErr, IfOk, OnOk, IsErrOf};
+ghost use Rattle.spl_app.specs.Able.{IsAble};
 ghost use Rattle.spl_app.specs.Ends.{EndsAt};
 ghost use Rattle.spl_app.specs.Run.{IsRunnable, IsWithin};
 ghost use Rattle.spl_model.specs.Answers.{answer_to};
@@ -8,15 +9,18 @@ ghost use Rattle.spl_model.specs.Projection.{Ran};
 ghost use Rattle.spl_world.specs.Counts.{IsOver};
 ghost use Rattle.spl_world.specs.Disks.{AllUnarmed, NoneForgotten, PairView, bench, images};
 ghost use Rattle.spl_world.specs.Held.{AllHeld, FailedSince};
-ghost use Rattle.spl_world.specs.Views.{IsPlace, Sits, Stands, ids_of, is_halted, places_of, seen};
+ghost use Rattle.spl_world.specs.Links.{is_of_links};
+ghost use Rattle.spl_world.specs.Views.{IsPlace, Stands, ids_of, is_halted, places_of};
 
+use crate::fabric::NoFabric;
 use spl_edge::{Pair, StopDisk};
+use spl_pump::Straight;
 use spl_sched::Line;
 use spl_wire::Answer;
 use spl_world::{World, WorldFault, stops_node};
 use std::alloc::Global;
 
-/// Runs a line, and answers it. `before` are the lines that ran so far. `TooMany` comes exactly
+/// Runs a line, and answers it; messages are handed over in memory. `before` are the lines that ran so far. `TooMany` comes exactly
 /// where these lines and this one pass a limit, and `Disk` only where a disk of that node has failed
 /// since it was last picked from. Any other error is want of memory.
 pub fn take_line<D: StopDisk>(
@@ -27,7 +31,7 @@ pub fn take_line<D: StopDisk>(
 ) -> Result<Answer, WorldFault>
     requires running { is_halted world.old ≡ false }
     requires runnable { IsRunnable (ids_of world.old) line.now }
-    requires sits { Sits (seen D.image_at D.moment world.old pairs.old.items) }
+    requires able { IsAble world.old (images D.image_at D.moment pairs.old.items) }
     ensures ids { ids_of world.new ≡ ids_of world.old }
     ensures places { places_of world.new ≡ places_of world.old }
     ensures running { OnOk result (is_halted world.new ≡ false) }
@@ -38,6 +42,7 @@ pub fn take_line<D: StopDisk>(
     ensures held { (start : List PairView) (before : List Ran) → Stands before world.old (images D.image_at D.moment pairs.old.items) → AllHeld start before world.old (bench D.image_at D.moment D.faults D.armed D.picks pairs.old.items) → OnOk result (AllHeld start (before ++ by_rule line.now ∷ []) world.new (bench D.image_at D.moment D.faults D.armed D.picks pairs.new.items)) }
     ensures failed { (start : List PairView) (before : List Ran) (slot : ℕ) → IsErrOf result (WorldFault.Disk slot) → AllHeld start before world.old (bench D.image_at D.moment D.faults D.armed D.picks pairs.old.items) → FailedSince slot start (bench D.image_at D.moment D.faults D.armed D.picks pairs.new.items) }
     ensures place { (slot : ℕ) → IsErrOf result (WorldFault.Disk slot) → IsPlace (places_of world.old) slot }
+    ensures unlinked { IfErr result (λ e. is_of_links e ≡ false) }
     ensures ended { (start : List PairView) (before : List Ran) → Stands before world.old (images D.image_at D.moment pairs.old.items) → AllHeld start before world.old (bench D.image_at D.moment D.faults D.armed D.picks pairs.old.items) → IfErr result (λ e. EndsAt (ids_of world.old) (places_of world.old) before line.now e start (bench D.image_at D.moment D.faults D.armed D.picks pairs.new.items)) }
 
     // Whatever the answer.
@@ -47,6 +52,8 @@ pub fn take_line<D: StopDisk>(
     if stops_node(line) {
         world.halt(alloc, pairs, line)
     } else {
-        world.step(alloc, pairs, line)
+        let mut carrier = Straight::new();
+        let mut fabric = NoFabric;
+        world.step(alloc, pairs, &mut carrier, &mut fabric, line)
     }
 }

@@ -21,7 +21,7 @@ returns-in-Ok-Some-clause-ok g c = λ lines start behind counted.
     let said_is = sym c.in-Ok-Some.ensures.said ∙ c.in-Ok-Some.field-0-is in
     on_ok c.answer.result c.answer.ensures.running (c.answer.ensures.stands (ran lines) behind.stands)
     (c.answer.ensures.few (ran lines) behind.stands behind.few) (c.answer.ensures.due (ran lines) behind.stands)
-    (behind_said _ _ lines c.args.self.now _ start _ behind c.args.line.now c.args.number c.in-Ok-Some.said counted said_is _ c.answer.new.self _ c.answer.ensures.nodes c.answer.ensures.skip c.answer.ensures.world)
+    (behind_said _ _ lines c.args.self.now _ start _ behind c.args.line.now c.args.number c.in-Ok-Some.said counted said_is _ c.answer.new.self _ c.answer.ensures.nodes c.answer.ensures.skip c.answer.ensures.world c.answer.ensures.places)
 
 pub returns-in-Ok-Some-clause-part : goal.returns-in-Ok-Some-clause-part
 returns-in-Ok-Some-clause-part g c = λ lines start behind counted.

@@ -1,4 +1,6 @@
-use Rattle.std.proofs.Common.{refl}
+use Rattle.std.proofs.Common.{refl, arith}
+use Rattle.spl_world.proofs.HoldingSeats.{seats_placed}
+use Rattle.spl_world.specs.Links.{seat_of}
 use Rattle.spl_app.proofs.Benches.{none_on, unarmed_on, unpicked_unarmed}
 use Rattle.spl_app.proofs.Behinds.{due_none}
 use Rattle.spl_world.specs.declared.fault.WorldFault.TheVariants.{NoMemory}
@@ -12,6 +14,11 @@ returns-clause-behind g c = λ start. record {
   skips = refl;
   world = c.in_ok-new-2.ensures.ids;
   running = c.in_ok-new-2.ensures.running;
+  seats = record {
+    low = λ k is. let low = c.registries_are_small.ensures in let below = c.in_ok-new-2.ensures.below k is in omega (arith, below, low);
+    place = seat_of c.args.registry.now;
+    placed = seats_placed c.args.registry.now c.in_ok-new-2.field-0 c.in_ok-sorted_ids.ensures.apart c.in_ok-new-2.ensures.ids c.in_ok-new-2.ensures.placed;
+  };
   stands = c.in_ok-new-2.ensures.stands;
   few = none_within _;
   due = due_none _ c.args.skip start _ c.in_ok-new.ensures;
