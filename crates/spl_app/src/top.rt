@@ -48,14 +48,16 @@ pub fn splinter<S: Source, W: Sink, D: StopDisk>(
     requires blank { (i : ℕ) → i < 16 → AreBlank (images_at (images D.image_at D.moment bench.old.pairs.items) i) }
     requires unpicked { AllUnpicked (bench_of D.image_at D.moment D.faults D.armed D.picks bench.old.pairs.items) }
 
-    // Exactly where the words are no command. Nothing is written.
+    // Exactly where the words are no command. Nothing is read or written, and no disk is called.
     ensures usage { (result ≡ Status.Usage) ↔ (IsCommand (map string_bytes words.now) → ⊥) }
-    ensures nothing { result ≡ Status.Usage → Appends (W.written out.old) (W.written out.new) [] }
+    ensures nothing { result ≡ Status.Usage → Appends (W.written out.old) (W.written out.new) []
+        × (registry.new ≡ registry.old) × (schedule.new ≡ schedule.old) × (bench.new ≡ bench.old) }
 
-    // The registry was read to its end, and its bytes have this fault. Nothing is written.
+    // The registry was read to its end, and its bytes have this fault. Nothing is written, the schedule
+    // isn't read, and no disk is called.
     ensures registry { (fault : RegistryFault) → result ≡ Status.BadRegistry fault
         → (registry_of (appended_bytes (S.taken registry.old) (S.taken registry.new)) ≡ Err fault) × IsAtEnd (S.left registry.new)
-        × Appends (W.written out.old) (W.written out.new) [] }
+        × Appends (W.written out.old) (W.written out.new) [] × (schedule.new ≡ schedule.old) × (bench.new ≡ bench.old) }
 
     // Where the bytes given have a fault, and the source has none, that is told.
     ensures faulty { (fault : RegistryFault) → let text = appended_bytes (S.taken registry.old) (S.taken registry.new) in
@@ -83,12 +85,12 @@ pub fn splinter<S: Source, W: Sink, D: StopDisk>(
         let given = appended_bytes (S.taken schedule.old) (S.taken schedule.new) in
         IsRegistryText text × HasTooMany (nodes_of text) given (W.written out.old) (W.written out.new) which }
 
-    // A source failed: that of the registry, and nothing is written, or that of the schedule, and
-    // the answers to all lines that it gave are written.
+    // A source failed: that of the registry, and nothing is written and the schedule isn't read, or that
+    // of the schedule, within its limit, and the answers to all lines that it gave are written.
     ensures read { result ≡ Status.ReadFault → let text = appended_bytes (S.taken registry.old) (S.taken registry.new) in
         let given = appended_bytes (S.taken schedule.old) (S.taken schedule.new) in
-        (Rose (S.faults registry.old) (S.faults registry.new) × Appends (W.written out.old) (W.written out.new) [])
-        ⊎ (Rose (S.faults schedule.old) (S.faults schedule.new) × IsRegistryText text × IsRun (nodes_of text) (lines_of given)
+        (Rose (S.faults registry.old) (S.faults registry.new) × Appends (W.written out.old) (W.written out.new) [] × (schedule.new ≡ schedule.old))
+        ⊎ (Rose (S.faults schedule.old) (S.faults schedule.new) × (length given ≤ limit) × IsRegistryText text × IsRun (nodes_of text) (lines_of given)
         × Appends (W.written out.old) (W.written out.new) (answers (nodes_of text) (lines_of given))) }
 
     // A disk of this node of the registry has failed since it was last picked from. The answers to
@@ -101,12 +103,12 @@ pub fn splinter<S: Source, W: Sink, D: StopDisk>(
     // The sink failed.
     ensures write { result ≡ Status.WriteFault → Rose (W.faults out.old) (W.faults out.new) }
 
-    // A source gave more bytes than it may: that of the registry, and nothing is written, or that of
-    // the schedule, and the line that the limit cuts may go on. Then the answers to the lines up to
-    // the limit are written.
+    // A source gave more bytes than it may: that of the registry, and nothing is written, the schedule
+    // isn't read and no disk is called, or that of the schedule, and the line that the limit cuts may go
+    // on. Then the answers to the lines up to the limit are written.
     ensures long { result ≡ Status.TooLong → let text = appended_bytes (S.taken registry.old) (S.taken registry.new) in
         let given = appended_bytes (S.taken schedule.old) (S.taken schedule.new) in
-        ((limit < length text) × Appends (W.written out.old) (W.written out.new) [])
+        ((limit < length text) × Appends (W.written out.old) (W.written out.new) [] × (schedule.new ≡ schedule.old) × (bench.new ≡ bench.old))
         ⊎ ((limit < length given) × IsRegistryText text × IsRun (nodes_of text) (run_of given) × (length (rest_of (take limit given)) ≤ longest_line)
         × Appends (W.written out.old) (W.written out.new) (answers (nodes_of text) (run_of given))) }
 
@@ -122,6 +124,11 @@ pub fn splinter<S: Source, W: Sink, D: StopDisk>(
     ensures told { TellOneList (nodes_of (appended_bytes (S.taken registry.old) (S.taken registry.new)))
         (ran (run_of (appended_bytes (S.taken schedule.old) (S.taken schedule.new)))) }
 
+    // Before the registry is read to its end nothing is written, the schedule isn't read, and no disk is
+    // called: so what is said here of its bytes is said of all that its source had.
+    ensures whole { IsReplay (map string_bytes words.now) → IsAtEnd (S.left registry.new)
+        ⊎ (Appends (W.written out.old) (W.written out.new) [] × (schedule.new ≡ schedule.old) × (bench.new ≡ bench.old)) }
+
     // With every status a front of the answers is written, and what was taken is what the sources
     // had.
     ensures part { IsReplay (map string_bytes words.now) → AppendsPart (W.written out.old) (W.written out.new)
@@ -133,7 +140,8 @@ pub fn splinter<S: Source, W: Sink, D: StopDisk>(
     // keeps behind the lines that ran. Each was picked from once at each line that found the node up
     // and stopped it, and nowhere else, armed and filled as the line says. The two images stand for
     // what the node kept behind that line; where the line stopped an event with changes before its
-    // record was written, the count of faults of one of the two had risen since the pick before.
+    // record was written, the count of faults of one of the two had risen since the pick before. Where
+    // the registry's reading failed, no disk is called.
     ensures held_ok { IsReplay (map string_bytes words.now) → result ≡ Status.Ok → let text = appended_bytes (S.taken registry.old) (S.taken registry.new) in
         let given = appended_bytes (S.taken schedule.old) (S.taken schedule.new) in
         Hold text (lines_of given) (bench_of D.image_at D.moment D.faults D.armed D.picks bench.old.pairs.items) (bench_of D.image_at D.moment D.faults D.armed D.picks bench.new.pairs.items) }
@@ -142,7 +150,7 @@ pub fn splinter<S: Source, W: Sink, D: StopDisk>(
         Hold text (take (line - 1) (run_of given)) (bench_of D.image_at D.moment D.faults D.armed D.picks bench.old.pairs.items) (bench_of D.image_at D.moment D.faults D.armed D.picks bench.new.pairs.items) }
     ensures held_read { result ≡ Status.ReadFault → let text = appended_bytes (S.taken registry.old) (S.taken registry.new) in
         let given = appended_bytes (S.taken schedule.old) (S.taken schedule.new) in
-        Rose (S.faults registry.old) (S.faults registry.new) ⊎ Hold text (lines_of given) (bench_of D.image_at D.moment D.faults D.armed D.picks bench.old.pairs.items) (bench_of D.image_at D.moment D.faults D.armed D.picks bench.new.pairs.items) }
+        (Rose (S.faults registry.old) (S.faults registry.new) × (schedule.new ≡ schedule.old) × (bench.new ≡ bench.old)) ⊎ Hold text (lines_of given) (bench_of D.image_at D.moment D.faults D.armed D.picks bench.old.pairs.items) (bench_of D.image_at D.moment D.faults D.armed D.picks bench.new.pairs.items) }
     ensures held_long { result ≡ Status.TooLong → let text = appended_bytes (S.taken registry.old) (S.taken registry.new) in
         let given = appended_bytes (S.taken schedule.old) (S.taken schedule.new) in
         (limit < length text) ⊎ Hold text (run_of given) (bench_of D.image_at D.moment D.faults D.armed D.picks bench.old.pairs.items) (bench_of D.image_at D.moment D.faults D.armed D.picks bench.new.pairs.items) }

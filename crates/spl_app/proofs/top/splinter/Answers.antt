@@ -62,8 +62,8 @@ pub returns-in-Ok-clause-read : goal.returns-in-Ok-clause-read
 returns-in-Ok-clause-read g c = λ is.
     let given = appended_bytes (g.S.Source.taken c.args.schedule.now) (g.S.Source.taken c.replay.new.schedule) in
     let found = c.replay.ensures.read is in
-    let (run, wrote) = subst (λ (ns : List Node). IsRun ns (lines_of given) × Appends (g.W.Sink.written c.args.out.now) (g.W.Sink.written c.replay.new.out) (answers ns (lines_of given))) (sym (ap nodes_in c.in-Ok.ensures.entries)) (found.1, found.2) in
-    inr (found.0, c.in-Ok.ensures.text, run, wrote)
+    let (run, wrote) = subst (λ (ns : List Node). IsRun ns (lines_of given) × Appends (g.W.Sink.written c.args.out.now) (g.W.Sink.written c.replay.new.out) (answers ns (lines_of given))) (sym (ap nodes_in c.in-Ok.ensures.entries)) (found.2, found.3) in
+    inr (found.0, found.1, c.in-Ok.ensures.text, run, wrote)
 
 pub returns-in-Ok-clause-long : goal.returns-in-Ok-clause-long
 returns-in-Ok-clause-long g c = λ is.
@@ -201,3 +201,21 @@ returns-in-Ok-clause-held_memory g c = λ form is.
 
 pub returns-in-Err-NoMemory-clause-held_memory : goal.returns-in-Err-NoMemory-clause-held_memory
 returns-in-Err-NoMemory-clause-held_memory g c = λ form is. inl (Appends-nil _, refl)
+
+pub returns-in-Ok-clause-whole : goal.returns-in-Ok-clause-whole
+returns-in-Ok-clause-whole g c = λ form. inl c.in-Ok.ensures.ended
+
+pub returns-then-not-is_replay-clause-whole : goal.returns-then-not-is_replay-clause-whole
+returns-then-not-is_replay-clause-whole g c = λ form. inr (Appends-nil _, refl, refl)
+
+pub returns-in-Err-Bad-clause-whole : goal.returns-in-Err-Bad-clause-whole
+returns-in-Err-Bad-clause-whole g c = λ form. inr (Appends-nil _, refl, refl)
+
+pub returns-in-Err-Read-clause-whole : goal.returns-in-Err-Read-clause-whole
+returns-in-Err-Read-clause-whole g c = λ form. inr (Appends-nil _, refl, refl)
+
+pub returns-in-Err-TooLong-clause-whole : goal.returns-in-Err-TooLong-clause-whole
+returns-in-Err-TooLong-clause-whole g c = λ form. inr (Appends-nil _, refl, refl)
+
+pub returns-in-Err-NoMemory-clause-whole : goal.returns-in-Err-NoMemory-clause-whole
+returns-in-Err-NoMemory-clause-whole g c = λ form. inr (Appends-nil _, refl, refl)
