@@ -3,10 +3,16 @@ use spl_agree::{Agreed, Reason, Renew};
 use spl_base::BatchId;
 use spl_command::Batch;
 use spl_rows::{
-    Answered, RowFault, add, batch, halves, hex_text, number, receipts_text, state_text,
+    Answered, RowFault, Telling, batch, halves, hex_text, made, number, receipts_text, state_text,
 };
 use spl_scabbard::Service;
 use std::alloc::Global;
+
+/// The batch of the words behind a circuit.
+fn batch_of(alloc: Global, words: &str) -> Result<Batch, RowFault> {
+    let line = format!(in alloc; "submit alpha Ab3dE-00001 {}", words.trim())?;
+    batch(alloc, line.as_str())
+}
 
 /// The reason against a batch, which is applied where there is none.
 fn offer(alloc: Global, service: &mut Service, batch: Batch) -> Result<Option<Reason>, RowFault> {
@@ -21,71 +27,63 @@ fn offer(alloc: Global, service: &mut Service, batch: Batch) -> Result<Option<Re
 }
 
 fn answer(alloc: Global, service: &mut Service, words: &str) -> Answered {
-    let line = format!(in alloc; "submit alpha Ab3dE-00001 {}", words.trim())?;
-    let batch = batch(alloc, line.as_str())?;
-    match offer(alloc, service, batch)? {
-        Some(reason) => Ok(format!(in alloc; "refused {} {}", reason.code, reason.at)?),
-        None => Ok(format!(in alloc; "taken")?),
+    match offer(alloc, service, batch_of(alloc, words)?)? {
+        Some(reason) => made(format!(in alloc; "refused {} {}", reason.code, reason.at)),
+        None => made(format!(in alloc; "taken")),
     }
 }
 
-fn history_text(alloc: Global, service: &Service) -> Answered {
-    let mut text = String::from_str(alloc, "history")?;
+fn tell_answers(alloc: Global, told: &mut Telling, service: &mut Service, batches: &str) {
+    for words in batches.split('/') {
+        told.tell(", ", answer(alloc, service, words));
+    }
+}
+
+fn tell_history(alloc: Global, told: &mut Telling, service: &Service) {
+    told.tell("\n  ", made(format!(in alloc; "history")));
     for id in service.history().as_slice() {
-        add(&mut text, " ", format!(in alloc; "{}", id.0)?.as_str())?;
+        told.tell(" ", made(format!(in alloc; "{}", id.0)));
     }
-    Ok(text)
 }
 
-/// The place of a batch and what it did.
-fn kept_text(alloc: Global, service: &Service, id: u64) -> Answered {
-    let place = match service.place_of(BatchId(id)) {
-        Some(place) => format!(in alloc; "{id} at {}", place.0)?,
-        None => format!(in alloc; "{id} nowhere")?,
-    };
-    match service.receipt(BatchId(id)) {
-        Some(receipts) => {
-            let receipts = receipts_text(alloc, receipts)?;
-            Ok(format!(in alloc; "{}, {}", place.as_str(), receipts.as_str())?)
+fn place_text(alloc: Global, service: &Service, id: BatchId) -> Answered {
+    match service.place_of(id) {
+        Some(place) => made(format!(in alloc; "{} at {}", id.0, place.0)),
+        None => made(format!(in alloc; "{} nowhere", id.0)),
+    }
+}
+
+/// The place of each batch and what it did.
+fn tell_kept(alloc: Global, told: &mut Telling, service: &Service, ids: &str) {
+    for word in ids.split(',') {
+        match number(word) {
+            Ok(id) => {
+                told.tell("\n  ", place_text(alloc, service, BatchId(id)));
+                if let Some(receipts) = service.receipt(BatchId(id)) {
+                    told.tell(", ", receipts_text(alloc, receipts));
+                }
+            }
+            Err(fault) => told.tell("", Err(fault)),
         }
-        None => Ok(place),
     }
 }
 
 /// The state, its root, and its root once it is made anew.
-fn left_text(alloc: Global, service: &mut Service) -> Answered {
-    let state = state_text(alloc, service.state())?;
-    let root = hex_text(alloc, &service.root())?;
+fn tell_left(alloc: Global, told: &mut Telling, service: &mut Service) {
+    told.tell("\n  state ", state_text(alloc, service.state()));
+    told.tell("\n  root ", hex_text(alloc, &service.root()));
     service.renew();
-    let renewed = hex_text(alloc, &service.root())?;
-    Ok(format!(in alloc;
-        "state {}\n  root {}, renewed {}",
-        state.as_str(),
-        root.as_str(),
-        renewed.as_str()
-    )?)
+    told.tell(", renewed ", hex_text(alloc, &service.root()));
 }
 
 /// What each batch is answered, the history, what is kept of ids, and what is left: ID,ID .. BATCH / BATCH ..
 pub fn offered(alloc: Global, text: &str) -> Answered {
     let (ids, batches) = halves(text, ' ')?;
     let mut service = Service::new(alloc);
-    let mut told = String::new(alloc);
-    for words in batches.split('/') {
-        add(
-            &mut told,
-            ", ",
-            answer(alloc, &mut service, words)?.as_str(),
-        )?;
-    }
-    add(&mut told, "\n  ", history_text(alloc, &service)?.as_str())?;
-    for id in ids.split(',') {
-        add(
-            &mut told,
-            "\n  ",
-            kept_text(alloc, &service, number(id)?)?.as_str(),
-        )?;
-    }
-    add(&mut told, "\n  ", left_text(alloc, &mut service)?.as_str())?;
-    Ok(told)
+    let mut told = Telling::new(alloc);
+    tell_answers(alloc, &mut told, &mut service, batches);
+    tell_history(alloc, &mut told, &service);
+    tell_kept(alloc, &mut told, &service, ids);
+    tell_left(alloc, &mut told, &mut service);
+    told.finish()
 }

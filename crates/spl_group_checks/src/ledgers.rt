@@ -5,9 +5,10 @@ use spl_agree::{Admit, Agreed, Reason};
 use spl_base::{Boxed, Value};
 use spl_circuit::{Act, ActKind, Definition};
 use spl_rows::{
-    Answered, RowFault, add, byte, definition, halves, long, name_and_rest, node, text_of, words,
+    Answered, RowFault, Telling, byte, definition, halves, long, made, name_and_rest, node,
+    text_of, words,
 };
-use std::alloc::{AllocError, Global};
+use std::alloc::Global;
 
 /// The definition of a name.
 fn definition_of(alloc: Global, name: &str) -> Result<Definition, RowFault> {
@@ -46,10 +47,10 @@ fn offer(alloc: Global, ledger: &mut Ledger, act: Act) -> Result<Option<Reason>,
     Ok(None)
 }
 
-fn reason_text(alloc: Global, reason: Option<Reason>) -> Result<String, AllocError> {
+fn reason_text(alloc: Global, reason: Option<Reason>) -> Answered {
     match reason {
-        Some(reason) => format!(in alloc; "refused {} {}", reason.code, reason.at),
-        None => format!(in alloc; "taken"),
+        Some(reason) => made(format!(in alloc; "refused {} {}", reason.code, reason.at)),
+        None => made(format!(in alloc; "taken")),
     }
 }
 
@@ -57,69 +58,78 @@ fn reason_text(alloc: Global, reason: Option<Reason>) -> Result<String, AllocErr
 fn answered(alloc: Global, ledger: &mut Ledger, word: &str) -> Answered {
     let act = act(alloc, word, 1)?;
     let reason = offer(alloc, ledger, act)?;
-    Ok(reason_text(alloc, reason)?)
+    reason_text(alloc, reason)
 }
 
-/// A ledger to which the acts were offered, and what each was answered.
-fn offered(alloc: Global, acts: &[&str]) -> Result<(Ledger, String), RowFault> {
+/// The ledger of the circuit, to which no act was offered yet.
+fn ledger(alloc: Global) -> Result<Ledger, RowFault> {
     let definition = definition_of(alloc, "trade")?;
     if definition.fault().is_some() {
         return Err(RowFault::BadRow);
     }
-    let mut ledger = Ledger::new(alloc, Boxed::new(alloc, definition)?);
-    let mut told = String::new(alloc);
+    Ok(Ledger::new(alloc, Boxed::new(alloc, definition)?))
+}
+
+/// What each of the acts is answered in turn.
+fn offered(alloc: Global, ledger: &mut Ledger, acts: &[&str]) -> Answered {
+    let mut told = Telling::new(alloc);
     for word in acts {
-        let answer = answered(alloc, &mut ledger, word)?;
-        add(&mut told, ", ", answer.as_str())?;
+        told.tell(", ", answered(alloc, ledger, word));
     }
-    Ok((ledger, told))
+    told.finish()
 }
 
 fn requester_text(alloc: Global, ledger: &Ledger) -> Answered {
     match ledger.requester() {
         Some(requester) => text_of(alloc, requester.bytes()),
-        None => Ok(String::from_str(alloc, "nobody")?),
+        None => made(String::from_str(alloc, "nobody")),
     }
 }
 
 fn accepted_text(alloc: Global, ledger: &Ledger) -> Answered {
-    let mut text = String::new(alloc);
-    for member in ledger.accepted_members(alloc)?.as_slice() {
-        add(&mut text, ",", text_of(alloc, member.bytes())?.as_str())?;
+    let members = ledger.accepted_members(alloc)?;
+    if members.as_slice().is_empty() {
+        return made(String::from_str(alloc, "nobody"));
     }
-    if text.is_empty() {
-        text.push_str("nobody")?;
+    let mut told = Telling::new(alloc);
+    for member in members.as_slice() {
+        told.tell(",", text_of(alloc, member.bytes()));
     }
-    Ok(text)
+    told.finish()
 }
 
-fn standing_text(alloc: Global, ledger: &Ledger) -> Answered {
-    let requester = requester_text(alloc, ledger)?;
-    let accepted = accepted_text(alloc, ledger)?;
-    Ok(format!(in alloc;
-        "{:?} by {}, accepted by {}, acts {}",
-        ledger.lifecycle(),
-        requester.as_str(),
-        accepted.as_str(),
-        ledger.acts()
-    )?)
+/// Where the acts so far bring the circuit.
+fn tell_standing(alloc: Global, told: &mut Telling, ledger: &Ledger) {
+    let stage = ledger.lifecycle();
+    told.tell(": ", made(format!(in alloc; "{stage:?}")));
+    told.tell(" by ", requester_text(alloc, ledger));
+    told.tell(", accepted by ", accepted_text(alloc, ledger));
+    told.tell(", acts ", made(format!(in alloc; "{}", ledger.acts())));
 }
 
 /// What each act is answered, and where they bring the circuit: ACT ..
 pub fn brought(alloc: Global, text: &str) -> Answered {
     let acts = words(alloc, text)?;
-    let (ledger, mut told) = offered(alloc, &acts)?;
-    let standing = standing_text(alloc, &ledger)?;
-    add(&mut told, ": ", standing.as_str())?;
-    Ok(told)
+    let mut ledger = ledger(alloc)?;
+    let mut told = Telling::new(alloc);
+    told.tell("", offered(alloc, &mut ledger, &acts));
+    tell_standing(alloc, &mut told, &ledger);
+    told.finish()
 }
 
 fn admit_text(alloc: Global, admit: Admit) -> Answered {
     match admit {
-        Admit::Take => Ok(format!(in alloc; "take")?),
-        Admit::Ignore => Ok(format!(in alloc; "ignore")?),
-        Admit::Return(reason) => Ok(format!(in alloc; "return {} {}", reason.code, reason.at)?),
+        Admit::Take => made(format!(in alloc; "take")),
+        Admit::Ignore => made(format!(in alloc; "ignore")),
+        Admit::Return(reason) => made(format!(in alloc; "return {} {}", reason.code, reason.at)),
     }
+}
+
+/// What becomes of an act that the member at a position forwards behind the acts before.
+fn admitted(alloc: Global, sender: u8, act: &Act, before: &[&str]) -> Answered {
+    let mut ledger = ledger(alloc)?;
+    offered(alloc, &mut ledger, before)?;
+    admit_text(alloc, ledger.admits(sender, act))
 }
 
 /// What becomes of an act that the member at a position forwards: POSITION ACT, and the acts before.
@@ -130,36 +140,45 @@ pub fn forwarded(alloc: Global, text: &str) -> Answered {
     };
     let sender = byte(sender)?;
     let act = act(alloc, word, 1)?;
-    let (ledger, _) = offered(alloc, before)?;
-    admit_text(alloc, ledger.admits(sender, &act))
+    admitted(alloc, sender, &act, before)
 }
 
 /// Whether an act that is forwarded to a member that doesn't lead goes back: ACT.
 pub fn stray(alloc: Global, text: &str) -> Answered {
     match Ledger::stray(&act(alloc, text, 1)?) {
-        Some(reason) => Ok(format!(in alloc; "return {} {}", reason.code, reason.at)?),
-        None => Ok(format!(in alloc; "ignore")?),
+        Some(reason) => made(format!(in alloc; "return {} {}", reason.code, reason.at)),
+        None => made(format!(in alloc; "ignore")),
     }
+}
+
+fn compared_text(alloc: Global, a: &Act, b: &Act) -> Answered {
+    let keys = if Ledger::key(a) == Ledger::key(b) {
+        "one key"
+    } else {
+        "two keys"
+    };
+    let values = if Ledger::same(a, b) {
+        "equal"
+    } else {
+        "different"
+    };
+    made(format!(in alloc; "{keys}, {values}"))
+}
+
+/// An act is compared with the copy of one that has these words.
+fn compared_with(alloc: Global, act: &Act, word: &str, turn: u32) -> Answered {
+    let other = self::act(alloc, word, turn)?;
+    let copy = Ledger::copy(alloc, &other)?;
+    compared_text(alloc, act, &copy)
 }
 
 /// Whether an act and the copy of another have one key, and are equal: ACT TURN ACT TURN.
 pub fn compared(alloc: Global, text: &str) -> Answered {
     let all = words(alloc, text)?;
-    let [first, turn, second, other_turn] = all.as_slice() else {
+    let [word, turn, other, other_turn] = all.as_slice() else {
         return Err(RowFault::BadRow);
     };
-    let a = act(alloc, first, long(turn)?)?;
-    let b = act(alloc, second, long(other_turn)?)?;
-    let b = Ledger::copy(alloc, &b)?;
-    let keys = if Ledger::key(&a) == Ledger::key(&b) {
-        "one key"
-    } else {
-        "two keys"
-    };
-    let values = if Ledger::same(&a, &b) {
-        "equal"
-    } else {
-        "different"
-    };
-    Ok(format!(in alloc; "{keys}, {values}")?)
+    let (turn, other_turn) = (long(turn)?, long(other_turn)?);
+    let act = act(alloc, word, turn)?;
+    compared_with(alloc, &act, other, other_turn)
 }

@@ -1,46 +1,51 @@
 //! What a member of a group of three plans, tells and knows. A row has the position of the member, the changes that it
 //! was given, and open:1,2 where its round is open, with those that have not voted yes. The first member leads.
-ghost use Rattle.std.specs.Prelude.{◌≡◌, ◌<◌, IfOk};
+ghost use Rattle.std.specs.Prelude.{◌≡◌, IfOk, OnOk};
 ghost use Rattle.spl_agree.specs.Fits.{generation_of};
-ghost use Rattle.spl_group_checks.specs.Seats.{IsReady};
+ghost use Rattle.spl_group_checks.specs.Seats.{IsSeat, IsReady};
 
 use crate::numbers::Numbers;
 use crate::plans::plan_text;
-use crate::seats::{GENERATION, change, seat, wait_for};
+use crate::seats::{GENERATION, change, give_all, seat, wait_for};
 use spl_agree::{CommitMsg, GroupChange, GroupEvent, GroupPlan, Place, Round};
 use spl_commit::Member;
-use spl_rows::{Answered, RowFault, byte, halves, long, number, reason, words};
+use spl_rows::{Answered, RowFault, byte, halves, long, made, number, reason, words};
 use std::alloc::Global;
 
-/// The position of a row, and the changes and the round behind it.
-fn placed<'a>(alloc: Global, text: &'a str) -> Result<(u8, Vec<&'a str>), RowFault>
-    ensures { IfOk result (λ p. p.0 < 3) }
-{
-    let (here, rest) = text.split_once(' ').unwrap_or((text, ""));
-    let here = byte(here)?;
-    if here >= 3 {
-        return Err(RowFault::BadRow);
-    }
-    Ok((here, words(alloc, rest)?))
+/// What is asked of a member.
+#[derive(Clone, Copy)]
+enum Asked<'a> {
+    /// What it plans for an event.
+    Plan(&'a [&'a str]),
+    /// What it tells of itself behind a stop.
+    Restarted,
+    /// What it knows of a key.
+    Known(u64),
+    /// Whether a change fits it.
+    Fits(&'a GroupChange<u64>),
 }
 
-/// The member that a row has.
+/// Brings a member where a row has it.
 #[tactic(auto, using(crate::proofs::Seating::seat_ready))]
-fn member(alloc: Global, here: u8, given: &[&str]) -> Result<Member<Numbers>, RowFault>
-    requires { here < 3 }
-    ensures { IfOk result (λ m. IsReady here m) }
+fn bring(
+    alloc: Global,
+    member: &mut Member<Numbers>,
+    here: u8,
+    given: &[&str],
+) -> Result<(), RowFault>
+    requires { IsSeat here member.old }
+    ensures { OnOk result (IsReady here member.new) }
 {
     if let Some((last, before)) = given.split_last() {
         if let Some(waited) = last.strip_prefix("open:") {
             if here != 0 {
                 return Err(RowFault::BadRow);
             }
-            let mut member = seat(alloc, 0, before)?;
-            wait_for(alloc, &mut member, waited)?;
-            return Ok(member);
+            give_all(alloc, member, 0, before)?;
+            return wait_for(alloc, member, waited);
         }
     }
-    seat(alloc, here, given)
+    give_all(alloc, member, here, given)
 }
 
 fn truth(word: &str, yes: &str, no: &str) -> Result<bool, RowFault> {
@@ -143,53 +148,42 @@ fn plan(
     }
 }
 
-/// What a member plans: MEMBER / EVENT.
-pub fn planned(alloc: Global, text: &str) -> Answered {
-    let (before, event) = halves(text, '/')?;
-    let event = words(alloc, event)?;
-    let (here, given) = placed(alloc, before)?;
-    let member = member(alloc, here, &given)?;
-    let plan = plan(alloc, &member, here, &event)?;
+fn planned_text(
+    alloc: Global,
+    member: &Member<Numbers>,
+    here: u8,
+    event: &[&str],
+) -> Answered
+    requires { IsReady here member.now }
+{
+    let plan = plan(alloc, member, here, event)?;
     plan_text(alloc, &plan)
 }
 
+fn promise_text(alloc: Global, member: &Member<Numbers>) -> Answered {
+    match member.promise() {
+        Some((round, value)) => made(format!(in alloc; "promised {} {value}", round.0)),
+        None => made(format!(in alloc; "free")),
+    }
+}
+
 fn member_text(alloc: Global, member: &Member<Numbers>) -> Answered {
-    let promised = match member.promise() {
-        Some((round, value)) => format!(in alloc; "promised {} {value}", round.0)?,
-        None => format!(in alloc; "free")?,
-    };
-    Ok(format!(in alloc;
+    let promise = promise_text(alloc, member)?;
+    made(format!(in alloc;
         "{} committed, {}, seen {}, next {}, {} pending",
         member.history_len().0,
-        promised.as_str(),
+        promise.as_str(),
         member.seen().0,
         member.next().0,
         member.queue().len()
-    )?)
-}
-
-/// What a member tells of itself behind a stop: MEMBER.
-pub fn told(alloc: Global, text: &str) -> Answered {
-    let (here, given) = placed(alloc, text)?;
-    let mut member = member(alloc, here, &given)?;
-    member.restart();
-    member_text(alloc, &member)
+    ))
 }
 
 fn known_text(alloc: Global, member: &Member<Numbers>, key: u64) -> Answered {
     match member.known(&key) {
-        Some(value) => Ok(format!(in alloc; "{value}")?),
-        None => Ok(String::from_str(alloc, "nothing")?),
+        Some(value) => made(format!(in alloc; "{value}")),
+        None => made(format!(in alloc; "nothing")),
     }
-}
-
-/// What a member knows of a key: KEY MEMBER.
-pub fn known(alloc: Global, text: &str) -> Answered {
-    let (key, rest) = halves(text, ' ')?;
-    let key = number(key)?;
-    let (here, given) = placed(alloc, rest)?;
-    let member = member(alloc, here, &given)?;
-    known_text(alloc, &member, key)
 }
 
 fn fitting_text(
@@ -201,14 +195,64 @@ fn fitting_text(
     requires { IsReady here member.now }
 {
     let fits = member.fits(alloc, change)?;
-    Ok(format!(in alloc; "{fits}")?)
+    made(format!(in alloc; "{fits}"))
+}
+
+/// What a member answers once it is brought where a row has it.
+fn answer(
+    alloc: Global,
+    member: &mut Member<Numbers>,
+    here: u8,
+    given: &[&str],
+    asked: Asked<'_>,
+) -> Answered
+    requires { IsSeat here member.old }
+{
+    bring(alloc, member, here, given)?;
+    match asked {
+        Asked::Plan(event) => planned_text(alloc, member, here, event),
+        Asked::Restarted => {
+            member.restart();
+            member_text(alloc, member)
+        }
+        Asked::Known(key) => known_text(alloc, member, key),
+        Asked::Fits(change) => fitting_text(alloc, member, here, change),
+    }
+}
+
+/// What the member of a row answers: HERE CHANGE ..
+fn answered(alloc: Global, row: &str, asked: Asked<'_>) -> Answered {
+    let (here, rest) = row.split_once(' ').unwrap_or((row, ""));
+    let here = byte(here)?;
+    if here >= 3 {
+        return Err(RowFault::BadRow);
+    }
+    let given = words(alloc, rest)?;
+    let mut member = seat(alloc, here);
+    answer(alloc, &mut member, here, &given, asked)
+}
+
+/// What a member plans: MEMBER / EVENT.
+pub fn planned(alloc: Global, text: &str) -> Answered {
+    let (before, event) = halves(text, '/')?;
+    let event = words(alloc, event)?;
+    answered(alloc, before, Asked::Plan(&event))
+}
+
+/// What a member tells of itself behind a stop: MEMBER.
+pub fn told(alloc: Global, text: &str) -> Answered {
+    answered(alloc, text, Asked::Restarted)
+}
+
+/// What a member knows of a key: KEY MEMBER.
+pub fn known(alloc: Global, text: &str) -> Answered {
+    let (key, rest) = halves(text, ' ')?;
+    answered(alloc, rest, Asked::Known(number(key)?))
 }
 
 /// Whether a change fits a member: MEMBER / CHANGE.
 pub fn fitting(alloc: Global, text: &str) -> Answered {
     let (before, word) = halves(text, '/')?;
     let change = change(word.trim())?;
-    let (here, given) = placed(alloc, before)?;
-    let member = member(alloc, here, &given)?;
-    fitting_text(alloc, &member, here, &change)
+    answered(alloc, before, Asked::Fits(&change))
 }

@@ -1,6 +1,6 @@
 //! The texts of what a member plans.
 use spl_agree::{CommitMsg, GroupChange, GroupPlan, Note, OpenMove};
-use spl_rows::Answered;
+use spl_rows::{Answered, Telling, made};
 use std::alloc::{AllocError, Global};
 
 fn note_text(alloc: Global, note: Note) -> Result<String, AllocError> {
@@ -94,19 +94,21 @@ fn message_text(alloc: Global, message: &CommitMsg<u64>) -> Result<String, Alloc
     }
 }
 
+fn sent_text(alloc: Global, to: u8, message: &CommitMsg<u64>) -> Answered {
+    let message = message_text(alloc, message)?;
+    made(format!(in alloc; "{to} {message}"))
+}
+
 /// The note, the changes, the move of the open round and the messages, each part behind a bar.
 pub fn plan_text(alloc: Global, plan: &GroupPlan<u64>) -> Answered {
-    let mut text = note_text(alloc, plan.note)?;
+    let mut told = Telling::new(alloc);
+    told.tell("", made(note_text(alloc, plan.note)));
     for change in plan.changes.as_slice() {
-        text.push_str(" | ")?;
-        text.push_str(change_text(alloc, change)?.as_str())?;
+        told.tell(" | ", made(change_text(alloc, change)));
     }
-    text.push_str(" | ")?;
-    text.push_str(move_text(alloc, plan.opening)?.as_str())?;
+    told.tell(" | ", made(move_text(alloc, plan.opening)));
     for (to, message) in plan.sends.as_slice() {
-        let to = format!(in alloc; " | {to} ")?;
-        text.push_str(to.as_str())?;
-        text.push_str(message_text(alloc, message)?.as_str())?;
+        told.tell(" | ", sent_text(alloc, *to, message));
     }
-    Ok(text)
+    told.finish()
 }

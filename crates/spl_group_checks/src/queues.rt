@@ -1,7 +1,9 @@
 //! The pending and the refused values of a member. A row has what is done to a queue and asked of it.
 use spl_agree::Reason;
 use spl_queue::{Known, OfferFault, Queue};
-use spl_rows::{Answered, RowFault, add, halves, long, name_and_rest, number, reason, words};
+use spl_rows::{
+    Answered, RowFault, Telling, halves, long, made, name_and_rest, number, reason, words,
+};
 use std::alloc::{AllocError, Global};
 
 type Numbers = Queue<u64, u64>;
@@ -28,11 +30,11 @@ fn value_text(alloc: Global, value: Option<&u64>) -> Result<String, AllocError> 
 fn offer(alloc: Global, queue: &mut Numbers, key: u64, value: u64) -> Answered {
     match queue.status(&key) {
         Known::No => {}
-        known => return Ok(known_text(alloc, known)?),
+        known => return made(known_text(alloc, known)),
     }
     match queue.offer(key, value) {
-        Ok(_) => Ok(format!(in alloc; "queued")?),
-        Err(OfferFault::Full { value }) => Ok(format!(in alloc; "full, {value} back")?),
+        Ok(_) => made(format!(in alloc; "queued")),
+        Err(OfferFault::Full { value }) => made(format!(in alloc; "full, {value} back")),
         Err(OfferFault::NoMemory) => Err(RowFault::NoMemory),
     }
 }
@@ -45,7 +47,7 @@ fn settle(alloc: Global, queue: &mut Numbers, words: &str) -> Answered {
         Some(reason(why)?)
     };
     queue.settle(&number(key)?, reason)?;
-    Ok(format!(in alloc; "settled")?)
+    made(format!(in alloc; "settled"))
 }
 
 /// offer:KEY:VALUE, settle:KEY, settle:KEY:CODE:AT, status:KEY, length, first, pending:POSITION or refused:POSITION.
@@ -57,25 +59,29 @@ fn answered(alloc: Global, queue: &mut Numbers, word: &str) -> Answered {
             offer(alloc, queue, number(key)?, number(value)?)
         }
         "settle" => settle(alloc, queue, rest),
-        "status" => Ok(known_text(alloc, queue.status(&number(rest)?))?),
-        "length" => Ok(format!(in alloc; "{}", queue.len())?),
-        "first" => Ok(value_text(alloc, queue.first())?),
-        "pending" => Ok(value_text(alloc, queue.pending_at(long(rest)?))?),
+        "status" => made(known_text(alloc, queue.status(&number(rest)?))),
+        "length" => made(format!(in alloc; "{}", queue.len())),
+        "first" => made(value_text(alloc, queue.first())),
+        "pending" => made(value_text(alloc, queue.pending_at(long(rest)?))),
         "refused" => match queue.refused_at(long(rest)? as usize) {
-            Some((value, reason)) => Ok(refused_text(alloc, *value, reason)?),
-            None => Ok(format!(in alloc; "none")?),
+            Some((value, reason)) => made(refused_text(alloc, *value, reason)),
+            None => made(format!(in alloc; "none")),
         },
         _ => Err(RowFault::BadRow),
     }
 }
 
+fn tell_answers(alloc: Global, told: &mut Telling, queue: &mut Numbers, words: &[&str]) {
+    for word in words {
+        told.tell(", ", answered(alloc, queue, word));
+    }
+}
+
 /// What each word is answered by a queue that is empty at first.
 pub fn queued(alloc: Global, text: &str) -> Answered {
+    let words = words(alloc, text)?;
     let mut queue: Numbers = Queue::new(alloc);
-    let mut told = String::new(alloc);
-    for word in words(alloc, text)? {
-        let answer = answered(alloc, &mut queue, word)?;
-        add(&mut told, ", ", answer.as_str())?;
-    }
-    Ok(told)
+    let mut told = Telling::new(alloc);
+    tell_answers(alloc, &mut told, &mut queue, &words);
+    told.finish()
 }

@@ -1,5 +1,5 @@
 //! A member of a group of three with numbers as its values, brought where a row has it.
-ghost use Rattle.std.specs.Prelude.{◌≡◌, ◌<◌, ◌∷◌, [], IfOk, OnOk, slice_get};
+ghost use Rattle.std.specs.Prelude.{◌≡◌, ◌<◌, ◌∷◌, [], OnOk, slice_get};
 ghost use Rattle.spl_group_checks.specs.Seats.{IsSeat, IsReady, missing};
 
 use crate::numbers::Numbers;
@@ -66,19 +66,31 @@ fn give(alloc: Global, member: &mut Member<Numbers>, here: u8, word: &str) -> Re
     Ok(())
 }
 
-/// The member at a position, of which the first leads, with these changes made in order.
-pub fn seat(alloc: Global, here: u8, given: &[&str]) -> Result<Member<Numbers>, RowFault>
+/// Makes changes in order, where each fits.
+pub fn give_all(
+    alloc: Global,
+    member: &mut Member<Numbers>,
+    here: u8,
+    given: &[&str],
+) -> Result<(), RowFault>
+    requires { IsSeat here member.old }
+    ensures { IsSeat here member.new }
+{
+    for word in given {
+        give(alloc, member, here, word)?;
+    }
+    Ok(())
+}
+
+/// The member at a position, of which the first leads, before any change.
+pub fn seat(alloc: Global, here: u8) -> Member<Numbers>
     requires { here < 3 }
-    ensures { IfOk result (λ m. IsSeat here m) }
+    ensures { IsSeat here result }
 {
     let content = Numbers {
         applied: Vec::new(alloc),
     };
-    let mut member = Member::new(alloc, content, GENERATION, 3, 0, here);
-    for word in given {
-        give(alloc, &mut member, here, word)?;
-    }
-    Ok(member)
+    Member::new(alloc, content, GENERATION, 3, 0, here)
 }
 
 /// The first pending value.

@@ -1,15 +1,70 @@
 //! The states of a coordinator.
+ghost use Rattle.std.specs.Prelude.{◌<◌, IfOk};
+
 use spl_agree::Round;
-use spl_coord::{Idle, Voted, decision_of, is_empty};
-use spl_rows::{Answered, RowFault, add, byte, halves, number, words};
+use spl_coord::{Idle, Voted, Voting, decision_of, is_empty};
+use spl_rows::{Answered, RowFault, Telling, byte, halves, made, number, words};
 use std::alloc::Global;
 
 /// ROUND:MEMBER:yes or no.
-fn vote(word: &str) -> Result<(Round, u8, bool), RowFault> {
+fn vote(word: &str) -> Result<(Round, u8, bool), RowFault>
+    ensures { IfOk result (λ v. v.1 < 8) }
+{
     let (round, rest) = halves(word, ':')?;
     let (member, yes) = halves(rest, ':')?;
-    let member = byte(member)?;
-    Ok((Round(number(round)?), member, yes == "yes"))
+    let (round, member) = (Round(number(round)?), byte(member)?);
+    if member >= 8 {
+        return Err(RowFault::BadRow);
+    }
+    Ok((round, member, yes == "yes"))
+}
+
+/// What a vote gives, and the voting where it goes on.
+fn vote_on(
+    alloc: Global,
+    voting: Voting<u64>,
+    round: Round,
+    member: u8,
+    yes: bool,
+) -> (Answered, Option<Voting<u64>>)
+    requires { member < 8 }
+{
+    match voting.on_vote(round, member, yes) {
+        Voted::Ignored(still) => (made(format!(in alloc; "ignored")), Some(still)),
+        Voted::Counted(still) => {
+            let missing = still.missing();
+            let answer = made(format!(in alloc; "counted, {missing} missing"));
+            (answer, Some(still))
+        }
+        Voted::Committed(_, round, value) => {
+            (made(format!(in alloc; "committed {} {value}", round.0)), None)
+        }
+        Voted::Aborted(_, round, value) => {
+            (made(format!(in alloc; "aborted {} {value}", round.0)), None)
+        }
+    }
+}
+
+fn answered(alloc: Global, voting: Voting<u64>, word: &str) -> (Answered, Option<Voting<u64>>) {
+    match vote(word) {
+        Ok((round, member, yes)) => vote_on(alloc, voting, round, member, yes),
+        Err(fault) => (Err(fault), None),
+    }
+}
+
+/// What each vote gives, up to the one that ends the voting.
+fn told(alloc: Global, voting: Voting<u64>, votes: &[&str]) -> Answered {
+    let mut voting = voting;
+    let mut told = Telling::new(alloc);
+    for word in votes {
+        let (answer, still) = answered(alloc, voting, word);
+        told.tell(", ", answer);
+        match still {
+            Some(still) => voting = still,
+            None => break,
+        }
+    }
+    told.finish()
 }
 
 /// What each vote on a round gives: ROUND VALUE OTHERS VOTE .., with the bits of the other members.
@@ -18,40 +73,19 @@ pub fn counted(alloc: Global, text: &str) -> Answered {
     let [round, value, others, votes @ ..] = all.as_slice() else {
         return Err(RowFault::BadRow);
     };
-    let others = byte(others)?;
+    let (round, value, others) = (Round(number(round)?), number(value)?, byte(others)?);
     if is_empty(others) {
         return Err(RowFault::BadRow);
     }
-    let mut voting = Idle::new().begin(Round(number(round)?), number(value)?, others);
-    let mut told = String::new(alloc);
-    for word in votes {
-        let (round, member, yes) = vote(word)?;
-        if member >= 8 {
-            return Err(RowFault::BadRow);
-        }
-        let answer = match voting.on_vote(round, member, yes) {
-            Voted::Ignored(still) => {
-                voting = still;
-                format!(in alloc; "ignored")?
-            }
-            Voted::Counted(still) => {
-                voting = still;
-                format!(in alloc; "counted, {} missing", voting.missing())?
-            }
-            Voted::Committed(_, round, value) => {
-                let answer = format!(in alloc; "committed {} {value}", round.0)?;
-                add(&mut told, ", ", answer.as_str())?;
-                return Ok(told);
-            }
-            Voted::Aborted(_, round, value) => {
-                let answer = format!(in alloc; "aborted {} {value}", round.0)?;
-                add(&mut told, ", ", answer.as_str())?;
-                return Ok(told);
-            }
-        };
-        add(&mut told, ", ", answer.as_str())?;
+    told(alloc, Idle::new().begin(round, value, others), votes)
+}
+
+fn rounds(alloc: Global, words: &[&str]) -> Result<Vec<Round>, RowFault> {
+    let mut all = Vec::new(alloc);
+    for word in words {
+        all.push(Round(number(word)?))?;
     }
-    Ok(told)
+    Ok(all)
 }
 
 /// What is told of a round: ROUND NEXT OPEN COMMITTED ..
@@ -60,16 +94,13 @@ pub fn decided(alloc: Global, text: &str) -> Answered {
     let [round, next, opened, committed @ ..] = all.as_slice() else {
         return Err(RowFault::BadRow);
     };
-    let mut rounds = Vec::new(alloc);
-    for word in committed {
-        rounds.push(Round(number(word)?))?;
-    }
-    let (next, opened) = (Round(number(next)?), Round(number(opened)?));
-    let decision = decision_of(&rounds, next, Some(opened), Round(number(round)?));
+    let (round, next, opened) = (number(round)?, number(next)?, number(opened)?);
+    let committed = rounds(alloc, committed)?;
+    let decision = decision_of(&committed, Round(next), Some(Round(opened)), Round(round));
     let text = match decision {
         Some(true) => "commit",
         Some(false) => "abort",
         None => "unknown",
     };
-    Ok(String::from_str(alloc, text)?)
+    made(String::from_str(alloc, text))
 }

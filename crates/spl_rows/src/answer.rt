@@ -33,10 +33,55 @@ pub fn add(text: &mut String, sign: &str, part: &str) -> Result<(), RowFault> {
     Ok(())
 }
 
+/// The answer that a text is, where there was memory for it.
+pub fn made(text: Result<String, AllocError>) -> Answered {
+    match text {
+        Ok(text) => Ok(text),
+        Err(_) => Err(RowFault::NoMemory),
+    }
+}
+
+/// An answer that is told part by part. A part without an answer is the answer of the whole, whatever comes behind it.
+#[derive(Drop)]
+pub struct Telling {
+    text: String,
+    fault: Option<RowFault>,
+}
+
+impl Telling {
+    /// Nothing is told yet.
+    pub fn new(alloc: Global) -> Telling {
+        Telling {
+            text: String::new(alloc),
+            fault: None,
+        }
+    }
+
+    /// Adds a part behind a sign, or the first one.
+    fn add(&mut self, sign: &str, part: Answered) -> Result<(), RowFault> {
+        add(&mut self.text, sign, part?.as_str())
+    }
+
+    /// Tells a part behind a sign, or the first one.
+    pub fn tell(&mut self, sign: &str, part: Answered) {
+        if self.fault.is_none() {
+            self.fault = self.add(sign, part).err();
+        }
+    }
+
+    /// All that was told.
+    pub fn finish(self) -> Answered {
+        match self.fault {
+            None => Ok(self.text),
+            Some(fault) => Err(fault),
+        }
+    }
+}
+
 /// The text of bytes in hex; none is -.
 pub fn hex_text(alloc: Global, bytes: &[u8]) -> Answered {
     if bytes.is_empty() {
-        return Ok(String::from_str(alloc, "-")?);
+        return made(String::from_str(alloc, "-"));
     }
     Ok(hex::encode(alloc, bytes)?)
 }

@@ -6,7 +6,7 @@ mod lines;
 mod receipts;
 mod word;
 
-pub use answer::{Answered, RowFault, add, hex_text, text_of};
+pub use answer::{Answered, RowFault, Telling, add, hex_text, made, text_of};
 pub use lines::{print_answer, row_of};
 pub use receipts::{receipts_text, state_text};
 pub use word::{
