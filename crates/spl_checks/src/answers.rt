@@ -2,12 +2,12 @@
 use crate::definitions::definition;
 use spl_agree::{Generation, Note, Place, Round};
 use spl_answer::text;
-use spl_base::{BatchId, Boxed, Listing, Piece, Value};
+use spl_base::{BatchId, Boxed, Listing, NodeId, Piece, Value};
 use spl_circuit::{Lifecycle, Mark, Members, RouteFault};
-use spl_command::{Command, Receipt, StateChange, StateEvent, Transaction};
+use spl_command::{Batch, Command, Receipt, Receipts, StateChange, StateEvent, Transaction};
 use spl_rows::{
-    Answered, RowFault, address, batch, byte, bytes, circuit, halves, long, name_and_rest, node,
-    nodes, number, reason, text_of, words,
+    Answered, RowFault, address, batch, byte, bytes, circuit, halves, long, made, name_and_rest,
+    node, nodes, number, reason, text_of, words,
 };
 use spl_wire::{Answer, BatchStatus, Bit, Entry, Refusal};
 use std::alloc::Global;
@@ -19,34 +19,44 @@ fn digest() -> [u8; 32] {
     digest
 }
 
-fn round(word: &str) -> Result<Round, RowFault> {
-    Ok(Round(number(word)?))
+/// The notes that have no word behind their name.
+fn plain_note(name: &str) -> Result<Note, RowFault> {
+    Ok(match name {
+        "idle" => Note::Idle,
+        "forwarded" => Note::Forwarded,
+        "ignored" => Note::Ignored,
+        "queued" => Note::Queued,
+        "off" => Note::Off,
+        _ => return Err(RowFault::BadRow),
+    })
+}
+
+fn round_note(name: &str, round: Round) -> Result<Note, RowFault> {
+    Ok(match name {
+        "asked" => Note::Asked(round),
+        "begun" => Note::Begun(round),
+        "expired" => Note::Expired(round),
+        "declined" => Note::Declined(round),
+        "again" => Note::Again(round),
+        "promised" => Note::Promised(round),
+        "counted" => Note::Counted(round),
+        "committed" => Note::Committed(round),
+        "aborted" => Note::Aborted(round),
+        "told-commit" => Note::Told(round, true),
+        "told-abort" => Note::Told(round, false),
+        _ => return Err(RowFault::BadRow),
+    })
 }
 
 /// idle, asked:ROUND, refused:CODE:TRANSACTION ..
 fn note(word: &str) -> Result<Note, RowFault> {
     let (name, rest) = name_and_rest(word);
-    Ok(match name {
-        "idle" => Note::Idle,
-        "asked" => Note::Asked(round(rest)?),
-        "refused" => Note::Refused(reason(rest)?),
-        "begun" => Note::Begun(round(rest)?),
-        "forwarded" => Note::Forwarded,
-        "expired" => Note::Expired(round(rest)?),
-        "declined" => Note::Declined(round(rest)?),
-        "again" => Note::Again(round(rest)?),
-        "ignored" => Note::Ignored,
-        "promised" => Note::Promised(round(rest)?),
-        "counted" => Note::Counted(round(rest)?),
-        "committed" => Note::Committed(round(rest)?),
-        "aborted" => Note::Aborted(round(rest)?),
-        "told-commit" => Note::Told(round(rest)?, true),
-        "told-abort" => Note::Told(round(rest)?, false),
-        "returned" => Note::Returned(reason(rest)?),
-        "queued" => Note::Queued,
-        "off" => Note::Off,
-        _ => return Err(RowFault::BadRow),
-    })
+    match name {
+        "refused" => Ok(Note::Refused(reason(rest)?)),
+        "returned" => Ok(Note::Returned(reason(rest)?)),
+        _ if rest.is_empty() => plain_note(name),
+        _ => round_note(name, Round(number(rest)?)),
+    }
 }
 
 fn route_fault(word: &str) -> Result<RouteFault, RowFault> {
@@ -60,17 +70,12 @@ fn route_fault(word: &str) -> Result<RouteFault, RowFault> {
     }
 }
 
-/// down, no-circuit, bad-definition:RULE ..
-fn refusal(word: &str) -> Result<Refusal, RowFault> {
-    let (name, rest) = name_and_rest(word);
+/// The refusals that have no word behind their name.
+fn plain_refusal(name: &str) -> Result<Refusal, RowFault> {
     Ok(match name {
         "down" => Refusal::Down,
         "no-circuit" => Refusal::NoCircuit,
-        "bad-definition" => Refusal::BadDefinition(byte(rest)?),
         "not-member" => Refusal::NotMember,
-        "stale-generation" => Refusal::StaleGeneration {
-            bound: Generation(long(rest)?),
-        },
         "circuit-held" => Refusal::CircuitHeld,
         "act-pending" => Refusal::ActPending,
         "no-proposal" => Refusal::NoProposal,
@@ -78,15 +83,27 @@ fn refusal(word: &str) -> Result<Refusal, RowFault> {
         "not-requester" => Refusal::NotRequester,
         "not-active" => Refusal::NotActive,
         "closed" => Refusal::Closed,
-        "bad-batch" => Refusal::BadBatch(byte(rest)?),
         "id-taken" => Refusal::IdTaken,
         "queue-full" => Refusal::QueueFull,
         "not-purgeable" => Refusal::NotPurgeable,
         "no-message" => Refusal::NoMessage,
-        "not-routed" => Refusal::NotRouted(route_fault(rest)?),
         "unknown-id" => Refusal::UnknownId,
         _ => return Err(RowFault::BadRow),
     })
+}
+
+/// down, no-circuit, bad-definition:RULE ..
+fn refusal(word: &str) -> Result<Refusal, RowFault> {
+    let (name, rest) = name_and_rest(word);
+    match name {
+        "bad-definition" => Ok(Refusal::BadDefinition(byte(rest)?)),
+        "bad-batch" => Ok(Refusal::BadBatch(byte(rest)?)),
+        "not-routed" => Ok(Refusal::NotRouted(route_fault(rest)?)),
+        "stale-generation" => Ok(Refusal::StaleGeneration {
+            bound: Generation(long(rest)?),
+        }),
+        _ => plain_refusal(name),
+    }
 }
 
 fn bit(word: &str) -> Result<Bit, RowFault> {
@@ -119,9 +136,10 @@ fn mark(word: &str) -> Result<Mark, RowFault> {
 }
 
 fn members(alloc: Global, word: &str) -> Result<Members, RowFault> {
+    let nodes = nodes(alloc, word)?;
     let mut all = Listing::new(alloc);
-    for member in nodes(alloc, word)? {
-        all.push(member)?;
+    for node in nodes.as_slice() {
+        all.push(*node)?;
     }
     Ok(all)
 }
@@ -142,99 +160,134 @@ fn show(alloc: Global, rest: &str) -> Result<Answer, RowFault> {
     else {
         return Err(RowFault::BadRow);
     };
+    let (generation, lifecycle, mark) = (long(generation)?, lifecycle(stage)?, mark(left)?);
+    let (acts, acts_pending) = (long(acts)?, long(acts_pending)?);
+    let (batches, batches_pending) = (long(batches)?, long(batches_pending)?);
     Ok(Answer::Show {
-        generation: Generation(long(generation)?),
-        lifecycle: lifecycle(stage)?,
-        mark: mark(left)?,
+        generation: Generation(generation),
+        lifecycle,
+        mark,
         accepted: members(alloc, accepted)?,
-        acts: long(acts)?,
-        acts_pending: long(acts_pending)?,
-        batches: long(batches)?,
-        batches_pending: long(batches_pending)?,
+        acts,
+        acts_pending,
+        batches,
+        batches_pending,
     })
+}
+
+fn requester(word: &str) -> Result<Option<NodeId>, RowFault> {
+    if word == "-" {
+        return Ok(None);
+    }
+    Ok(Some(node(word)?))
 }
 
 /// ACCEPTED REQUESTER DEFINITION, of a circuit that is proposed and open.
 fn detail(alloc: Global, rest: &str) -> Result<Answer, RowFault> {
     let (accepted, rest) = halves(rest, ' ')?;
-    let (requester, rest) = halves(rest, ' ')?;
-    let requester = if requester == "-" {
-        None
-    } else {
-        Some(node(requester)?)
-    };
+    let (word, rest) = halves(rest, ' ')?;
+    let requester = requester(word)?;
+    let accepted = members(alloc, accepted)?;
+    let definition = Boxed::new(alloc, definition(alloc, rest)?)?;
     Ok(Answer::Detail {
-        definition: Boxed::new(alloc, definition(alloc, rest)?)?,
+        definition,
         hash: digest(),
         lifecycle: Lifecycle::Proposed,
         mark: Mark::Open,
-        accepted: members(alloc, accepted)?,
+        accepted,
         requester,
     })
 }
 
-/// What a transaction would leave if each of its commands left something: a get leaves nothing.
+/// Adds what a command would leave: a get leaves nothing.
+fn leave(alloc: Global, left: &mut Receipt, command: &Command) -> Result<(), RowFault> {
+    match command {
+        Command::Set(address, value) => {
+            let value = value.copy(alloc)?;
+            left.changes.push(StateChange::Set(*address, value))?;
+        }
+        Command::Delete(address) => left.changes.push(StateChange::Delete(*address))?,
+        Command::Event(kind, data) => {
+            let (kind, data) = (*kind, data.copy(alloc)?);
+            left.events.push(StateEvent { kind, data })?;
+        }
+        Command::Data(data) => left.returned.push(data.copy(alloc)?)?,
+        _ => {}
+    }
+    Ok(())
+}
+
+fn leave_all(alloc: Global, left: &mut Receipt, commands: &[Command]) -> Result<(), RowFault> {
+    for command in commands {
+        leave(alloc, left, command)?;
+    }
+    Ok(())
+}
+
+/// What a transaction would leave if each of its commands left something.
 fn receipt(alloc: Global, transaction: &Transaction) -> Result<Receipt, RowFault> {
     let mut left = Receipt {
         changes: Listing::new(alloc),
         events: Listing::new(alloc),
         returned: Listing::new(alloc),
     };
-    for command in transaction.commands.as_slice() {
-        match command {
-            Command::Set(address, value) => left
-                .changes
-                .push(StateChange::Set(*address, value.copy(alloc)?))?,
-            Command::Delete(address) => left.changes.push(StateChange::Delete(*address))?,
-            Command::Event(kind, data) => {
-                let (kind, data) = (*kind, data.copy(alloc)?);
-                left.events.push(StateEvent { kind, data })?;
-            }
-            Command::Data(data) => left.returned.push(data.copy(alloc)?)?,
-            _ => {}
-        }
-    }
+    leave_all(alloc, &mut left, transaction.commands.as_slice())?;
     Ok(left)
+}
+
+fn add_receipts(alloc: Global, receipts: &mut Receipts, batch: &Batch) -> Result<(), RowFault> {
+    for transaction in batch.transactions.get().as_slice() {
+        receipts.push(receipt(alloc, transaction)?)?;
+    }
+    Ok(())
 }
 
 /// PLACE and the line of a batch whose commands say what was left.
 fn receipts(alloc: Global, rest: &str) -> Result<Answer, RowFault> {
     let (place, line) = halves(rest, ' ')?;
+    let place = Place(long(place)?);
     let batch = batch(alloc, line)?;
     let mut receipts = Listing::new(alloc);
-    for transaction in batch.transactions.get().as_slice() {
-        receipts.push(receipt(alloc, transaction)?)?;
-    }
+    add_receipts(alloc, &mut receipts, &batch)?;
     Ok(Answer::Receipt {
         batch: batch.id,
-        place: Place(long(place)?),
+        place,
         receipts,
+    })
+}
+
+fn entry(alloc: Global, word: &str) -> Result<Entry, RowFault> {
+    let (at, value) = halves(word, '=')?;
+    let (address, value) = (address(alloc, at)?, bytes(alloc, value)?);
+    Ok(Entry {
+        address,
+        value: Piece::from(alloc, &value)?,
     })
 }
 
 /// ADDRESS=VALUE ..
 fn entries(alloc: Global, rest: &str) -> Result<Answer, RowFault> {
+    let words = words(alloc, rest)?;
     let mut entries = Listing::new(alloc);
-    for word in words(alloc, rest)? {
-        let (at, value) = halves(word, '=')?;
-        let address = address(alloc, at)?;
-        let value = Piece::from(alloc, &bytes(alloc, value)?)?;
-        entries.push(Entry { address, value })?;
+    for word in words.as_slice() {
+        entries.push(entry(alloc, word)?)?;
     }
     Ok(Answer::Listed(entries))
 }
 
 fn history(alloc: Global, rest: &str) -> Result<Answer, RowFault> {
+    let words = words(alloc, rest)?;
     let mut ids = Listing::new(alloc);
-    for word in words(alloc, rest)? {
+    for word in words.as_slice() {
         ids.push(BatchId(number(word)?))?;
     }
     Ok(Answer::History(ids))
 }
 
 fn roll(alloc: Global, rest: &str) -> Result<Answer, RowFault> {
+    let words = words(alloc, rest)?;
     let mut ids = Listing::new(alloc);
-    for word in words(alloc, rest)? {
+    for word in words.as_slice() {
         ids.push(circuit(word)?)?;
     }
     Ok(Answer::Roll(ids))
@@ -269,42 +322,56 @@ fn plain(name: &str) -> Result<Answer, RowFault> {
     })
 }
 
-fn answer(alloc: Global, name: &str, rest: &str) -> Result<Answer, RowFault> {
+/// The notes of a tick: ADMIN SERVICE.
+fn notes(rest: &str) -> Result<Answer, RowFault> {
+    let (admin, service) = halves(rest, ' ')?;
+    let (admin, service) = (note(admin)?, note(service)?);
+    Ok(Answer::Notes { admin, service })
+}
+
+/// The answers that have one word behind their name.
+fn short(name: &str, word: &str) -> Result<Answer, RowFault> {
     match name {
-        "delivered" => Ok(Answer::Delivered(note(rest)?)),
-        "notes" => {
-            let (admin, service) = halves(rest, ' ')?;
-            Ok(Answer::Notes {
-                admin: note(admin)?,
-                service: note(service)?,
-            })
-        }
-        "refused" => Ok(Answer::Refused(refusal(rest)?)),
+        "delivered" => Ok(Answer::Delivered(note(word)?)),
+        "refused" => Ok(Answer::Refused(refusal(word)?)),
         "calm" => Ok(Answer::Calm {
-            passes: byte(rest)?,
+            passes: byte(word)?,
         }),
-        "cut" => Ok(Answer::Cut(bit(rest)?)),
-        "fault" => Ok(Answer::Fault(bit(rest)?)),
-        "show" => show(alloc, rest),
-        "detail" => detail(alloc, rest),
+        "cut" => Ok(Answer::Cut(bit(word)?)),
+        "fault" => Ok(Answer::Fault(bit(word)?)),
         "root" => Ok(Answer::Root {
-            count: long(rest)?,
+            count: long(word)?,
             root: digest(),
         }),
-        "history" => history(alloc, rest),
-        "value" => value(alloc, rest),
-        "listed" => entries(alloc, rest),
-        "status" => Ok(Answer::Status(status(rest)?)),
-        "receipt" => receipts(alloc, rest),
-        "roll" => roll(alloc, rest),
+        "status" => Ok(Answer::Status(status(word)?)),
         _ => plain(name),
     }
 }
 
+fn answer(alloc: Global, name: &str, rest: &str) -> Result<Answer, RowFault> {
+    match name {
+        "notes" => notes(rest),
+        "show" => show(alloc, rest),
+        "detail" => detail(alloc, rest),
+        "history" => history(alloc, rest),
+        "value" => value(alloc, rest),
+        "listed" => entries(alloc, rest),
+        "receipt" => receipts(alloc, rest),
+        "roll" => roll(alloc, rest),
+        _ => short(name, rest),
+    }
+}
+
 /// The text of an answer between signs, since some end with a space.
+fn answer_text(alloc: Global, answer: &Answer) -> Answered {
+    let text = text(alloc, answer)?;
+    let text = text_of(alloc, text.bytes())?;
+    made(format!(in alloc; "<{text}>"))
+}
+
+/// The text of an answer: the kind of the answer and what it says.
 pub fn printed(alloc: Global, row: &str) -> Answered {
     let (name, rest) = row.split_once(' ').unwrap_or((row, ""));
-    let piece = text(alloc, &answer(alloc, name, rest)?)?;
-    let text = text_of(alloc, piece.bytes())?;
-    Ok(format!(in alloc; "<{text}>")?)
+    let answer = answer(alloc, name, rest)?;
+    answer_text(alloc, &answer)
 }

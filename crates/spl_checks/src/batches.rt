@@ -2,7 +2,7 @@
 use crate::states::state;
 use spl_base::{Malformed, Reader, Value, Writer};
 use spl_command::{Batch, Receipts, Verdict, apply_receipts, execute, valid_batches_have_a_form};
-use spl_rows::{Answered, RowFault, bytes, halves, receipts_text, state_text};
+use spl_rows::{Answered, RowFault, Telling, bytes, halves, made, receipts_text, state_text};
 use spl_state::{Draft, State};
 use std::alloc::Global;
 
@@ -20,55 +20,76 @@ fn batch(alloc: Global, text: &str) -> Result<Batch, RowFault> {
     }
 }
 
-/// The first broken rule, or how many bytes the batch's form has: BATCH.
-pub fn judged(alloc: Global, text: &str) -> Answered {
-    let batch = batch(alloc, text)?;
+fn judged_text(alloc: Global, batch: &Batch) -> Answered {
     if let Some(rule) = batch.fault() {
-        return Ok(format!(in alloc; "breaks rule {rule}")?);
+        return made(format!(in alloc; "breaks rule {rule}"));
     }
     valid_batches_have_a_form();
     let mut writer = Writer::new(alloc);
     batch.write(alloc, &mut writer)?;
-    Ok(format!(in alloc; "good, {} bytes", writer.bytes().len())?)
+    made(format!(in alloc; "good, {} bytes", writer.bytes().len()))
 }
 
-/// Whether a batch and the copy of another are equal: BATCH / BATCH.
-pub fn compared(alloc: Global, text: &str) -> Answered {
-    let (first, second) = halves(text, '/')?;
-    let first = batch(alloc, first.trim())?;
-    let second = batch(alloc, second.trim())?.copy(alloc)?;
-    let same = if first.same(&second) {
+/// The first broken rule, or how many bytes the batch's form has: BATCH.
+pub fn judged(alloc: Global, text: &str) -> Answered {
+    let batch = batch(alloc, text)?;
+    judged_text(alloc, &batch)
+}
+
+fn compared_with(alloc: Global, batch: &Batch, line: &str) -> Answered {
+    let other = self::batch(alloc, line)?;
+    let copy = other.copy(alloc)?;
+    let same = if batch.same(&copy) {
         "equal"
     } else {
         "different"
     };
-    Ok(String::from_str(alloc, same)?)
+    made(String::from_str(alloc, same))
 }
 
-/// The state behind the receipts.
-fn left(alloc: Global, state: State, receipts: &Receipts) -> Result<State, RowFault> {
+/// Whether a batch and the copy of another are equal: BATCH / BATCH.
+pub fn compared(alloc: Global, text: &str) -> Answered {
+    let (line, other) = halves(text, '/')?;
+    let batch = batch(alloc, line.trim())?;
+    compared_with(alloc, &batch, other.trim())
+}
+
+/// The text of a state behind the receipts.
+fn left_text(alloc: Global, state: State, receipts: &Receipts) -> Answered {
     let mut draft = Draft::new(alloc, state);
     apply_receipts(&mut draft, receipts)?;
-    Ok(draft.finish())
+    state_text(alloc, &draft.finish())
+}
+
+/// What a batch is on a state, and the state that it leaves.
+fn executed_text(alloc: Global, state: State, batch: &Batch) -> Answered {
+    let mut told = Telling::new(alloc);
+    match execute(alloc, &state, batch)? {
+        Verdict::Valid(receipts) => {
+            told.tell("", receipts_text(alloc, &receipts));
+            told.tell("\n  ", left_text(alloc, state, &receipts));
+        }
+        Verdict::Invalid { transaction, cause } => {
+            told.tell(
+                "",
+                made(format!(in alloc; "cause {cause} in transaction {transaction}")),
+            );
+            told.tell("\n  ", state_text(alloc, &state));
+        }
+    }
+    told.finish()
+}
+
+fn executed_on(alloc: Global, words: &str, batch: &Batch) -> Answered {
+    if let Some(rule) = batch.fault() {
+        return made(format!(in alloc; "breaks rule {rule}"));
+    }
+    executed_text(alloc, state(alloc, words)?, batch)
 }
 
 /// What a batch is on a state, and the state that it leaves: WORD .. / BATCH, with the words of a state.
 pub fn executed(alloc: Global, text: &str) -> Answered {
     let (words, line) = halves(text, '/')?;
-    let mut state = state(alloc, words)?;
     let batch = batch(alloc, line.trim())?;
-    if let Some(rule) = batch.fault() {
-        return Ok(format!(in alloc; "breaks rule {rule}")?);
-    }
-    let verdict = match execute(alloc, &state, &batch)? {
-        Verdict::Valid(receipts) => {
-            state = left(alloc, state, &receipts)?;
-            receipts_text(alloc, &receipts)?
-        }
-        Verdict::Invalid { transaction, cause } => {
-            format!(in alloc; "cause {cause} in transaction {transaction}")?
-        }
-    };
-    let state = state_text(alloc, &state)?;
-    Ok(format!(in alloc; "{}\n  {}", verdict.as_str(), state.as_str())?)
+    executed_on(alloc, words, &batch)
 }

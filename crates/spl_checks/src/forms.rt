@@ -3,7 +3,7 @@ use crate::runs::Runs;
 use spl_base::{Malformed, Reader};
 use spl_circuit::{Act, Definition};
 use spl_command::Batch;
-use spl_rows::{Answered, RowFault, bytes, halves};
+use spl_rows::{Answered, RowFault, bytes, halves, made};
 use spl_wire::{Message, Record};
 use std::alloc::Global;
 
@@ -28,31 +28,61 @@ fn kind_of(word: &str) -> Result<Kind, RowFault> {
     }
 }
 
+fn definition_size(alloc: Global, bytes: &[u8]) -> Result<usize, Malformed> {
+    let mut reader = Reader::new(bytes);
+    Definition::read(alloc, &mut reader)?;
+    Ok(reader.place())
+}
+
+fn act_size(alloc: Global, bytes: &[u8]) -> Result<usize, Malformed> {
+    let mut reader = Reader::new(bytes);
+    Act::read(alloc, &mut reader)?;
+    Ok(reader.place())
+}
+
+fn batch_size(alloc: Global, bytes: &[u8]) -> Result<usize, Malformed> {
+    let mut reader = Reader::new(bytes);
+    Batch::read(alloc, &mut reader)?;
+    Ok(reader.place())
+}
+
+fn message_size(alloc: Global, bytes: &[u8]) -> Result<usize, Malformed> {
+    let (_, size) = Message::read(alloc, bytes)?;
+    Ok(size)
+}
+
+fn record_size(alloc: Global, bytes: &[u8]) -> Result<usize, Malformed> {
+    let (_, size) = Record::read(alloc, bytes)?;
+    Ok(size)
+}
+
 /// How many bytes a value takes.
 fn size_of(alloc: Global, kind: Kind, bytes: &[u8]) -> Result<usize, Malformed> {
-    let mut reader = Reader::new(bytes);
     match kind {
-        Kind::Definition => {
-            let _ = Definition::read(alloc, &mut reader)?;
-        }
-        Kind::Act => {
-            let _ = Act::read(alloc, &mut reader)?;
-        }
-        Kind::Batch => {
-            let _ = Batch::read(alloc, &mut reader)?;
-        }
-        Kind::Message => return Ok(Message::read(alloc, bytes)?.1),
-        Kind::Record => return Ok(Record::read(alloc, bytes)?.1),
+        Kind::Definition => definition_size(alloc, bytes),
+        Kind::Act => act_size(alloc, bytes),
+        Kind::Batch => batch_size(alloc, bytes),
+        Kind::Message => message_size(alloc, bytes),
+        Kind::Record => record_size(alloc, bytes),
     }
-    Ok(reader.place())
 }
 
 fn size_text(alloc: Global, kind: Kind, bytes: &[u8]) -> Answered {
     match size_of(alloc, kind, bytes) {
-        Ok(size) => Ok(format!(in alloc; "{size} bytes")?),
-        Err(Malformed::At { at }) => Ok(format!(in alloc; "malformed at {at}")?),
+        Ok(size) => made(format!(in alloc; "{size} bytes")),
+        Err(Malformed::At { at }) => made(format!(in alloc; "malformed at {at}")),
         Err(Malformed::NoMemory) => Err(RowFault::NoMemory),
     }
+}
+
+/// Whether a copy of a message is written as these bytes.
+fn is_message_form(alloc: Global, message: &Message, bytes: &[u8]) -> Result<bool, Malformed> {
+    let copy = message.copy(alloc)?;
+    Ok(copy.write(alloc)?.bytes() == bytes)
+}
+
+fn is_record_form(alloc: Global, record: &Record, bytes: &[u8]) -> Result<bool, Malformed> {
+    Ok(record.write(alloc)?.bytes() == bytes)
 }
 
 /// Whether a message or record that takes all of the bytes is written back as it was.
@@ -60,11 +90,11 @@ fn is_written_back(alloc: Global, kind: Kind, bytes: &[u8]) -> Result<bool, Malf
     match kind {
         Kind::Message => {
             let (message, size) = Message::read(alloc, bytes)?;
-            Ok(message.copy(alloc)?.write(alloc)?.bytes() == &bytes[..size.min(bytes.len())])
+            is_message_form(alloc, &message, &bytes[..size.min(bytes.len())])
         }
         Kind::Record => {
             let (record, size) = Record::read(alloc, bytes)?;
-            Ok(record.write(alloc)?.bytes() == &bytes[..size.min(bytes.len())])
+            is_record_form(alloc, &record, &bytes[..size.min(bytes.len())])
         }
         _ => Ok(false),
     }
@@ -77,7 +107,7 @@ pub fn read(alloc: Global, text: &str) -> Answered {
     let bytes = bytes(alloc, hex)?;
     let size = size_text(alloc, kind, &bytes)?;
     if let Ok(true) = is_written_back(alloc, kind, &bytes) {
-        return Ok(format!(in alloc; "{size}, written back")?);
+        return made(format!(in alloc; "{size}, written back"));
     }
     Ok(size)
 }

@@ -1,53 +1,88 @@
 //! Streams of frames, and greetings.
-use spl_base::{LONGEST_BODY, Piece};
+use spl_base::{LONGEST_BODY, NodeId, Piece};
 use spl_frame::{FrameFault, Framer, frames_in, write_frame};
 use spl_link::{LinkFault, Opening};
 use spl_registry::Registry;
-use spl_rows::{Answered, RowFault, add, bytes, halves, hex_text, node, text_of, words};
+use spl_rows::{Answered, RowFault, Telling, bytes, hex_text, made, node, text_of, words};
 use std::alloc::Global;
 
 fn fed(alloc: Global, framer: &mut Framer, piece: &[u8]) -> Answered {
     match framer.feed(piece) {
-        Ok(()) => Ok(String::from_str(alloc, "fed")?),
+        Ok(()) => made(String::from_str(alloc, "fed")),
         Err(FrameFault::NoMemory) => Err(RowFault::NoMemory),
-        Err(fault) => Ok(format!(in alloc; "{fault:?}")?),
+        Err(fault) => made(format!(in alloc; "{fault:?}")),
+    }
+}
+
+/// The next body, if there is one.
+fn next_text(alloc: Global, framer: &mut Framer) -> Result<Option<String>, RowFault> {
+    match framer.next(alloc)? {
+        Some(body) => Ok(Some(hex_text(alloc, body.bytes())?)),
+        None => Ok(None),
+    }
+}
+
+fn tell_bodies(alloc: Global, told: &mut Telling, framer: &mut Framer, most: usize) {
+    for _ in 0..most {
+        match next_text(alloc, framer) {
+            Ok(Some(body)) => told.tell(" ", Ok(body)),
+            Ok(None) => break,
+            Err(fault) => return told.tell("", Err(fault)),
+        }
+    }
+}
+
+fn tell_feed(alloc: Global, told: &mut Telling, framer: &mut Framer, word: &str) {
+    match bytes(alloc, word) {
+        Ok(piece) => {
+            told.tell(", ", fed(alloc, framer, &piece));
+            tell_bodies(alloc, told, framer, piece.len());
+        }
+        Err(fault) => told.tell("", Err(fault)),
+    }
+}
+
+fn tell_feeds(alloc: Global, told: &mut Telling, framer: &mut Framer, words: &[&str]) {
+    for word in words {
+        tell_feed(alloc, told, framer, word);
     }
 }
 
 /// Each feed of a piece, with the bodies that are there behind it: HEX HEX ..
 pub fn framed(alloc: Global, text: &str) -> Answered {
+    let words = words(alloc, text)?;
     let mut framer = Framer::new(alloc);
-    let mut told = String::new(alloc);
-    for word in words(alloc, text)? {
-        let piece = bytes(alloc, word)?;
-        let answer = fed(alloc, &mut framer, &piece)?;
-        add(&mut told, ", ", answer.as_str())?;
-        for _ in 0..piece.len() {
-            let Some(body) = framer.next(alloc)? else {
-                break;
-            };
-            let body = hex_text(alloc, body.bytes())?;
-            add(&mut told, " ", body.as_str())?;
-        }
+    let mut told = Telling::new(alloc);
+    tell_feeds(alloc, &mut told, &mut framer, &words);
+    told.finish()
+}
+
+fn add_pieces(alloc: Global, pieces: &mut Vec<Piece>, words: &[&str]) -> Result<(), RowFault> {
+    for word in words {
+        let bytes = bytes(alloc, word)?;
+        pieces.push(Piece::from(alloc, &bytes)?)?;
     }
-    Ok(told)
+    Ok(())
+}
+
+fn stream_text(alloc: Global, pieces: &[Piece]) -> Answered {
+    let (bodies, fault) = frames_in(alloc, pieces)?;
+    let mut told = Telling::new(alloc);
+    for body in bodies.as_slice() {
+        told.tell(" ", hex_text(alloc, body.bytes()));
+    }
+    if let Some(fault) = fault {
+        told.tell(" ", made(format!(in alloc; "{fault:?}")));
+    }
+    told.finish()
 }
 
 /// The bodies of a stream in pieces, and its fault, where it has one: HEX HEX ..
 pub fn streamed(alloc: Global, text: &str) -> Answered {
+    let words = words(alloc, text)?;
     let mut pieces = Vec::new(alloc);
-    for word in words(alloc, text)? {
-        pieces.push(Piece::from(alloc, &bytes(alloc, word)?)?)?;
-    }
-    let (bodies, fault) = frames_in(alloc, &pieces)?;
-    let mut told = String::new(alloc);
-    for body in bodies.as_slice() {
-        add(&mut told, " ", hex_text(alloc, body.bytes())?.as_str())?;
-    }
-    if let Some(fault) = fault {
-        add(&mut told, " ", format!(in alloc; "{fault:?}")?.as_str())?;
-    }
-    Ok(told)
+    add_pieces(alloc, &mut pieces, &words)?;
+    stream_text(alloc, &pieces)
 }
 
 /// The frame of a body: HEX.
@@ -63,18 +98,37 @@ pub fn written(alloc: Global, text: &str) -> Answered {
 const REGISTRY: &str =
     "[[node]]\nidentity = \"alpha\"\ndisplay_name = \"A\"\nendpoints = [\"x\"]\n[[node]]\nidentity = \"beta\"\ndisplay_name = \"B\"\nendpoints = [\"x\"]\n";
 
+fn wrong_name_text(alloc: Global, expected: &NodeId, found: &NodeId) -> Answered {
+    let expected = text_of(alloc, expected.bytes())?;
+    let found = text_of(alloc, found.bytes())?;
+    made(format!(in alloc; "WrongName expected {expected} found {found}"))
+}
+
 fn fault_text(alloc: Global, fault: &LinkFault) -> Answered {
     match fault {
         LinkFault::Unknown { identity } => {
             let identity = text_of(alloc, identity.bytes())?;
-            Ok(format!(in alloc; "Unknown {identity}")?)
+            made(format!(in alloc; "Unknown {identity}"))
         }
-        LinkFault::WrongName { expected, found } => {
-            let expected = text_of(alloc, expected.bytes())?;
-            let found = text_of(alloc, found.bytes())?;
-            Ok(format!(in alloc; "WrongName expected {expected} found {found}")?)
+        LinkFault::WrongName { expected, found } => wrong_name_text(alloc, expected, found),
+        other => made(format!(in alloc; "{other:?}")),
+    }
+}
+
+/// The greeting of a node to beta.
+fn hello_text(alloc: Global, name: &str, beta: NodeId) -> Answered {
+    let opening = Opening::new(node(name)?, beta, true);
+    hex_text(alloc, opening.hello(alloc)?.bytes())
+}
+
+/// How beta takes the body of a greeting.
+fn taken_text(alloc: Global, opening: Opening, registry: &Registry, body: &[u8]) -> Answered {
+    match opening.on_frame(registry, body) {
+        Ok(named) => {
+            let peer = text_of(alloc, named.peer().bytes())?;
+            made(format!(in alloc; "named {peer}"))
         }
-        other => Ok(format!(in alloc; "{other:?}")?),
+        Err((_, fault)) => fault_text(alloc, &fault),
     }
 }
 
@@ -83,18 +137,11 @@ fn fault_text(alloc: Global, fault: &LinkFault) -> Answered {
 pub fn greeted(alloc: Global, text: &str) -> Answered {
     let (alpha, beta) = (node("alpha")?, node("beta")?);
     if let Some(name) = text.strip_prefix("of ") {
-        let hello = Opening::new(node(name)?, beta, true).hello(alloc)?;
-        return hex_text(alloc, hello.bytes());
+        return hello_text(alloc, name, beta);
     }
-    let Ok(registry) = Registry::read(alloc, REGISTRY.as_bytes()) else {
-        return Err(RowFault::NoMemory);
-    };
     let body = bytes(alloc, text)?;
-    match Opening::new(beta, alpha, false).on_frame(&registry, &body) {
-        Ok(named) => {
-            let peer = text_of(alloc, named.peer().bytes())?;
-            Ok(format!(in alloc; "named {peer}")?)
-        }
-        Err((_, fault)) => fault_text(alloc, &fault),
+    match Registry::read(alloc, REGISTRY.as_bytes()) {
+        Ok(registry) => taken_text(alloc, Opening::new(beta, alpha, false), &registry, &body),
+        Err(_) => Err(RowFault::NoMemory),
     }
 }

@@ -1,7 +1,7 @@
 //! Schedules that are made from a number.
 use sha2::{Digest, Sha256};
 use spl_gen::{MOST_BATCHES, schedule};
-use spl_rows::{Answered, RowFault, halves, hex_text, number, text_of};
+use spl_rows::{Answered, RowFault, halves, hex_text, made, number, text_of};
 use std::alloc::Global;
 
 /// In which line the first batch is submitted, counted from 0.
@@ -28,5 +28,5 @@ pub fn summed(alloc: Global, text: &str) -> Answered {
     let digest = hex_text(alloc, &Sha256::digest(bytes))?;
     let first = bytes.split(|b| *b == b'\n').nth(FIRST_BATCH);
     let first = text_of(alloc, first.ok_or(RowFault::BadRow)?)?;
-    Ok(format!(in alloc; "{size} bytes, {lines} lines, {digest}, {first}")?)
+    made(format!(in alloc; "{size} bytes, {lines} lines, {digest}, {first}"))
 }

@@ -1,13 +1,14 @@
 //! Lines of schedules.
-use spl_rows::{Answered, RowFault, halves, nodes, text_of};
+use spl_base::NodeId;
+use spl_rows::{Answered, RowFault, Telling, halves, made, nodes, text_of};
 use spl_sched::{Line, LineFault, Step, read_line, write_line};
 use std::alloc::Global;
 
 fn step_text(alloc: Global, step: &Step) -> Answered {
     let node = text_of(alloc, step.node().bytes())?;
     match step {
-        Step::Deliver { number, .. } => Ok(format!(in alloc; "at {node} number {number}")?),
-        Step::At { .. } => Ok(format!(in alloc; "at {node}")?),
+        Step::Deliver { number, .. } => made(format!(in alloc; "at {node} number {number}")),
+        Step::At { .. } => made(format!(in alloc; "at {node}")),
     }
 }
 
@@ -16,13 +17,13 @@ fn parts_text(alloc: Global, line: &Line) -> Answered {
         Line::Step(step) => step_text(alloc, step),
         Line::Cut { calls, fill, step } => {
             let step = step_text(alloc, step)?;
-            Ok(format!(in alloc; "cut {calls} {fill:?} {step}")?)
+            made(format!(in alloc; "cut {calls} {fill:?} {step}"))
         }
         Line::Fail { call, step } => {
             let step = step_text(alloc, step)?;
-            Ok(format!(in alloc; "fail {call} {step}")?)
+            made(format!(in alloc; "fail {call} {step}"))
         }
-        Line::Calm { passes, .. } => Ok(format!(in alloc; "passes {passes}")?),
+        Line::Calm { passes, .. } => made(format!(in alloc; "passes {passes}")),
         Line::Stop(node) => text_of(alloc, node.bytes()),
         Line::Start(node) => text_of(alloc, node.bytes()),
         Line::Roll(node) => text_of(alloc, node.bytes()),
@@ -32,26 +33,45 @@ fn parts_text(alloc: Global, line: &Line) -> Answered {
 fn circuit_text(alloc: Global, line: &Line) -> Answered {
     match line.circuit() {
         Some(circuit) => text_of(alloc, circuit.bytes()),
-        None => Ok(String::from_str(alloc, "-")?),
+        None => made(String::from_str(alloc, "-")),
     }
 }
 
-/// What a line says: its circuit, its parts, and whether it is written back as it was.
-pub fn said(alloc: Global, text: &str) -> Answered {
-    let line = match read_line(alloc, text.as_bytes()) {
-        Ok(line) => line,
-        Err(LineFault::BadLine) => return Ok(String::from_str(alloc, "bad line")?),
-        Err(LineFault::NoMemory) => return Err(RowFault::NoMemory),
-    };
-    let circuit = circuit_text(alloc, &line)?;
-    let parts = parts_text(alloc, &line)?;
-    let written = write_line(alloc, &line)?;
+/// Whether a line is written back as it was.
+fn again_text(alloc: Global, line: &Line, text: &str) -> Answered {
+    let written = write_line(alloc, line)?;
     let again = if written.bytes() == text.as_bytes() {
         "written back"
     } else {
         "written otherwise"
     };
-    Ok(format!(in alloc; "{circuit}, {parts}, {again}")?)
+    made(String::from_str(alloc, again))
+}
+
+fn said_text(alloc: Global, line: &Line, text: &str) -> Answered {
+    let mut told = Telling::new(alloc);
+    told.tell("", circuit_text(alloc, line));
+    told.tell(", ", parts_text(alloc, line));
+    told.tell(", ", again_text(alloc, line, text));
+    told.finish()
+}
+
+/// What a line says: its circuit, its parts, and whether it is written back as it was.
+pub fn said(alloc: Global, text: &str) -> Answered {
+    match read_line(alloc, text.as_bytes()) {
+        Ok(line) => said_text(alloc, &line, text),
+        Err(LineFault::BadLine) => made(format!(in alloc; "bad line")),
+        Err(LineFault::NoMemory) => Err(RowFault::NoMemory),
+    }
+}
+
+fn named_text(alloc: Global, line: &Line, known: &[NodeId]) -> Answered {
+    let named = if line.names_only(known) {
+        "these alone"
+    } else {
+        "others too"
+    };
+    made(String::from_str(alloc, named))
 }
 
 /// Whether a line names no node but these: NODE,NODE LINE.
@@ -59,8 +79,7 @@ pub fn named(alloc: Global, text: &str) -> Answered {
     let (known, line) = halves(text, ' ')?;
     let known = nodes(alloc, known)?;
     match read_line(alloc, line.as_bytes()) {
-        Ok(line) if line.names_only(&known) => Ok(String::from_str(alloc, "these alone")?),
-        Ok(_) => Ok(String::from_str(alloc, "others too")?),
+        Ok(line) => named_text(alloc, &line, &known),
         Err(LineFault::NoMemory) => Err(RowFault::NoMemory),
         Err(LineFault::BadLine) => Err(RowFault::BadRow),
     }

@@ -1,7 +1,7 @@
 //! Registries. A row has the text of one, with \n for the end of a line.
 use spl_base::NodeId;
 use spl_registry::{Registry, RegistryFault};
-use spl_rows::{Answered, RowFault, add, halves, nodes, text_of};
+use spl_rows::{Answered, RowFault, Telling, halves, made, nodes, text_of};
 use std::alloc::Global;
 
 /// The text with its ends of lines.
@@ -16,16 +16,21 @@ fn lines_of(alloc: Global, text: &str) -> Answered {
     Ok(lines)
 }
 
+fn entry_text(alloc: Global, node: &NodeId, endpoint: &[u8]) -> Answered {
+    let node = text_of(alloc, node.bytes())?;
+    let endpoint = text_of(alloc, endpoint)?;
+    made(format!(in alloc; "{node} at {endpoint}"))
+}
+
 /// The nodes in order, and where each is reached.
-fn entries_text(alloc: Global, registry: &Registry) -> Answered {
-    let mut told = format!(in alloc; "{} nodes", registry.len())?;
+fn tell_entries(alloc: Global, told: &mut Telling, registry: &Registry) {
+    told.tell("", made(format!(in alloc; "{} nodes", registry.len())));
     for slot in 0..registry.len() {
-        let node = text_of(alloc, registry.node(slot).bytes())?;
-        let endpoint = text_of(alloc, registry.endpoint(slot))?;
-        let entry = format!(in alloc; "{} at {}", node.as_str(), endpoint.as_str())?;
-        add(&mut told, ", ", entry.as_str())?;
+        told.tell(
+            ", ",
+            entry_text(alloc, &registry.node(slot), registry.endpoint(slot)),
+        );
     }
-    Ok(told)
 }
 
 /// Whether a node is known, and at which position.
@@ -37,26 +42,28 @@ fn place_text(alloc: Global, registry: &Registry, node: &NodeId) -> Answered {
         "unknown"
     };
     match registry.slot(node) {
-        Some(slot) => Ok(format!(in alloc; "{} {known} at {slot}", name.as_str())?),
-        None => Ok(format!(in alloc; "{} {known} nowhere", name.as_str())?),
+        Some(slot) => made(format!(in alloc; "{} {known} at {slot}", name.as_str())),
+        None => made(format!(in alloc; "{} {known} nowhere", name.as_str())),
     }
+}
+
+fn registry_text(alloc: Global, registry: &Registry, asked: &[NodeId]) -> Answered {
+    let mut told = Telling::new(alloc);
+    tell_entries(alloc, &mut told, registry);
+    for node in asked {
+        told.tell(", ", place_text(alloc, registry, node));
+    }
+    told.finish()
 }
 
 /// The nodes of a registry, and the positions of some: NODE,NODE .. TEXT. - asks for none.
 pub fn read(alloc: Global, text: &str) -> Answered {
     let (asked, text) = halves(text, ' ')?;
-    let registry = match Registry::read(alloc, lines_of(alloc, text)?.as_bytes()) {
-        Ok(registry) => registry,
-        Err(RegistryFault::NoMemory) => return Err(RowFault::NoMemory),
-        Err(fault) => return Ok(format!(in alloc; "{fault:?}")?),
-    };
-    let mut told = entries_text(alloc, &registry)?;
-    for node in nodes(alloc, asked)? {
-        add(
-            &mut told,
-            ", ",
-            place_text(alloc, &registry, &node)?.as_str(),
-        )?;
+    let asked = nodes(alloc, asked)?;
+    let lines = lines_of(alloc, text)?;
+    match Registry::read(alloc, lines.as_bytes()) {
+        Ok(registry) => registry_text(alloc, &registry, &asked),
+        Err(RegistryFault::NoMemory) => Err(RowFault::NoMemory),
+        Err(fault) => made(format!(in alloc; "{fault:?}")),
     }
-    Ok(told)
 }
