@@ -2,7 +2,9 @@
 use spl_base::{Malformed, NodeId, Reader, ServiceId, Value};
 use spl_circuit::{Definition, valid_definitions_have_a_form};
 use spl_router::route;
-use spl_rows::{Answered, RowFault, Telling, bytes, halves, hex_text, made, node, service, text_of};
+use spl_rows::{
+    Answered, RowFault, Telling, bytes, halves, hex_text, made, node, service, text_of,
+};
 use std::alloc::Global;
 
 /// The definition of a row.
@@ -28,8 +30,14 @@ fn judged_text(alloc: Global, definition: &Definition) -> Answered {
     let mut told = Telling::new(alloc);
     told.tell("", made(format!(in alloc; "good")));
     told.tell(", ", hex_text(alloc, &hash));
-    told.tell(", acts by ", text_of(alloc, definition.admin_coordinator().bytes()));
-    told.tell(", batches by ", text_of(alloc, definition.service_coordinator().bytes()));
+    told.tell(
+        ", acts by ",
+        text_of(alloc, definition.admin_coordinator().bytes()),
+    );
+    told.tell(
+        ", batches by ",
+        text_of(alloc, definition.service_coordinator().bytes()),
+    );
     told.finish()
 }
 

@@ -148,12 +148,7 @@ fn plan(
     }
 }
 
-fn planned_text(
-    alloc: Global,
-    member: &Member<Numbers>,
-    here: u8,
-    event: &[&str],
-) -> Answered
+fn planned_text(alloc: Global, member: &Member<Numbers>, here: u8, event: &[&str]) -> Answered
     requires { IsReady here member.now }
 {
     let plan = plan(alloc, member, here, event)?;

@@ -55,7 +55,10 @@ fn decided(
 ) -> (Answered, Option<Promised<u64>>) {
     match promised.restart().on_decision(round, commit) {
         Decided::Committed(_, round, value) => {
-            (made(format!(in alloc; "committed {} {value}", round.0)), None)
+            (
+                made(format!(in alloc; "committed {} {value}", round.0)),
+                None,
+            )
         }
         Decided::Aborted(_, round, value) => {
             (made(format!(in alloc; "aborted {} {value}", round.0)), None)

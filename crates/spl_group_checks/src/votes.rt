@@ -37,7 +37,10 @@ fn vote_on(
             (answer, Some(still))
         }
         Voted::Committed(_, round, value) => {
-            (made(format!(in alloc; "committed {} {value}", round.0)), None)
+            (
+                made(format!(in alloc; "committed {} {value}", round.0)),
+                None,
+            )
         }
         Voted::Aborted(_, round, value) => {
             (made(format!(in alloc; "aborted {} {value}", round.0)), None)
