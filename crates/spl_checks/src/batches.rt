@@ -1,4 +1,7 @@
 //! Batches. A row has a line that submits one, or form and the bytes of one.
+ghost use Rattle.std.specs.Prelude.{◌≡◌, None};
+ghost use Rattle.spl_command.specs.Rules.{broken_batch};
+
 use crate::states::state;
 use spl_base::{Malformed, Reader, Value, Writer};
 use spl_command::{Batch, Receipts, Verdict, apply_receipts, execute, valid_batches_have_a_form};
@@ -62,7 +65,9 @@ fn left_text(alloc: Global, state: State, receipts: &Receipts) -> Answered {
 }
 
 /// What a batch is on a state, and the state that it leaves.
-fn executed_text(alloc: Global, state: State, batch: &Batch) -> Answered {
+fn executed_text(alloc: Global, state: State, batch: &Batch) -> Answered
+    requires { broken_batch batch.now ≡ None }
+{
     let mut told = Telling::new(alloc);
     match execute(alloc, &state, batch)? {
         Verdict::Valid(receipts) => {

@@ -75,26 +75,16 @@ fn size_text(alloc: Global, kind: Kind, bytes: &[u8]) -> Answered {
     }
 }
 
-/// Whether a copy of a message is written as these bytes.
-fn is_message_form(alloc: Global, message: &Message, bytes: &[u8]) -> Result<bool, Malformed> {
-    let copy = message.copy(alloc)?;
-    Ok(copy.write(alloc)?.bytes() == bytes)
-}
-
-fn is_record_form(alloc: Global, record: &Record, bytes: &[u8]) -> Result<bool, Malformed> {
-    Ok(record.write(alloc)?.bytes() == bytes)
-}
-
 /// Whether a message or record that takes all of the bytes is written back as it was.
 fn is_written_back(alloc: Global, kind: Kind, bytes: &[u8]) -> Result<bool, Malformed> {
     match kind {
         Kind::Message => {
             let (message, size) = Message::read(alloc, bytes)?;
-            is_message_form(alloc, &message, &bytes[..size.min(bytes.len())])
+            Ok(message.copy(alloc)?.write(alloc)?.bytes() == &bytes[..size.min(bytes.len())])
         }
         Kind::Record => {
             let (record, size) = Record::read(alloc, bytes)?;
-            is_record_form(alloc, &record, &bytes[..size.min(bytes.len())])
+            Ok(record.write(alloc)?.bytes() == &bytes[..size.min(bytes.len())])
         }
         _ => Ok(false),
     }
