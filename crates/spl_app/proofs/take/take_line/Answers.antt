@@ -55,4 +55,4 @@ pub returns-else-stops_node-clause-unlinked : goal.returns-else-stops_node-claus
 returns-else-stops_node-clause-unlinked g c =
     let able = c.requires.able in
     unlinked c.step.result _ _ _ (record { put = λ a b. refl; taken = λ a b. refl; faults = refl })
-      (c.step.ensures.links able.seats.place able.before able.seats.placed able.stands)
+    (c.step.ensures.links able.seats.place able.before able.seats.placed able.stands)
