@@ -1,5 +1,5 @@
 //! Definitions of circuits. A row has the line that proposes one, or form and the bytes of one.
-use spl_base::{Malformed, NodeId, Reader, ServiceId, Value};
+use spl_base::{Malformed, NodeId, Reader, Value};
 use spl_circuit::{Definition, valid_definitions_have_a_form};
 use spl_router::route;
 use spl_rows::{
@@ -84,62 +84,35 @@ pub fn service_at(alloc: Global, text: &str) -> Answered {
     member_text(alloc, &definition, &node)
 }
 
-/// A message of a service on the way to another.
-#[derive(Clone, Copy)]
-struct Way {
-    bound: bool,
-    active: bool,
-    from: NodeId,
-    sender: ServiceId,
-    recipient: ServiceId,
-    here: NodeId,
-}
-
-impl Way {
-    /// The way of six words, and what stands behind them.
-    fn read(text: &str) -> Result<(Way, &str), RowFault> {
-        let (bound, rest) = halves(text, ' ')?;
-        let (active, rest) = halves(rest, ' ')?;
-        let (from, rest) = halves(rest, ' ')?;
-        let (sender, rest) = halves(rest, ' ')?;
-        let (recipient, rest) = halves(rest, ' ')?;
-        let (here, rest) = halves(rest, ' ')?;
-        let way = Way {
-            bound: bound == "bound",
-            active: active == "active",
-            from: node(from)?,
-            sender: service(sender)?,
-            recipient: service(recipient)?,
-            here: node(here)?,
-        };
-        Ok((way, rest))
-    }
-
-    fn known<'a>(&self, definition: &'a Definition) -> Option<&'a Definition> {
-        if self.bound { Some(definition) } else { None }
-    }
-
-    /// The first test that fails.
-    fn routed_text(&self, alloc: Global, definition: &Definition) -> Answered {
-        let way = route(
-            self.known(definition),
-            self.active,
-            &self.from,
-            &self.sender,
-            &self.recipient,
-            &self.here,
-        );
-        match way {
-            Ok(_) => made(format!(in alloc; "routed")),
-            Err(fault) => made(format!(in alloc; "{fault:?}")),
-        }
-    }
-}
-
 /// The first test of routing that fails: bound or unbound, active or inactive, the node that it comes from, from
 /// which service to which, the node here, and DEFINITION.
 pub fn routed(alloc: Global, text: &str) -> Answered {
-    let (way, line) = Way::read(text)?;
-    let definition = definition(alloc, line)?;
-    way.routed_text(alloc, &definition)
+    let mut rest = text;
+    let mut parts = Vec::new(alloc);
+    for _ in 0..6 {
+        let (part, behind) = halves(rest, ' ')?;
+        parts.push(part)?;
+        rest = behind;
+    }
+    let definition = definition(alloc, rest)?;
+    let [bound, active, from, sender, recipient, here] = parts.as_slice() else {
+        return Err(RowFault::BadRow);
+    };
+    let known = if *bound == "bound" {
+        Some(&definition)
+    } else {
+        None
+    };
+    let way = route(
+        known,
+        *active == "active",
+        &node(from)?,
+        &service(sender)?,
+        &service(recipient)?,
+        &node(here)?,
+    );
+    match way {
+        Ok(_) => Ok(String::from_str(alloc, "routed")?),
+        Err(fault) => Ok(format!(in alloc; "{fault:?}")?),
+    }
 }
