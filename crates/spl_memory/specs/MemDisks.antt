@@ -28,6 +28,10 @@ armed_of d = d.armed
 abbrev pub picked_by : MemDisk → List Picked
 picked_by d = picks_of (settled_at d.first.items) d.calls
 
+-- the numbers of its calls, from 1 on, that fail by themselves while it isn't armed
+abbrev pub failing_of : MemDisk → List ℕ
+failing_of d = d.failing.items
+
 -- a disk that has no bytes, and was neither called nor armed
 pub record IsFreshDisk (d : MemDisk) : Type 0 where
   pub blank : image_of d (moment_of d) ≡ Some (settled_at [])

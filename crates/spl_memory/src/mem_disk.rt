@@ -81,11 +81,12 @@ fn begin(
 }
 
 impl MemDisk {
-    ghost use Rattle.spl_memory.specs.MemDisks.{IsFreshDisk};
+    ghost use Rattle.spl_memory.specs.MemDisks.{IsFreshDisk, failing_of};
 
     /// A blank disk, on which the calls of these numbers, from 1 on, fail while it isn't armed.
     pub fn new(alloc: Global, failing: Vec<u64>) -> MemDisk
-        ensures { IsFreshDisk result }
+        ensures fresh { IsFreshDisk result }
+        ensures calls { failing_of result ≡ failing.items }
     {
         MemDisk {
             alloc,

@@ -14,8 +14,8 @@ invariant_of-result c =
       timely = ap (λ (l : List Call). all_until 0 l) calls;
     }
 
-pub returns : goal.returns
-returns c =
+pub returns-clause-fresh : goal.returns-clause-fresh
+returns-clause-fresh c =
     let calls = c.new-3.ensures in
     let first : settled_at c.new.result.items ≡ settled_at [] = ap (λ (l : List ℕ). settled_at l) c.new.ensures.items in
     record {
