@@ -1,0 +1,16 @@
+-- What is due to a sink, where some of it still waits.
+use Rattle.std.specs.Prelude.{◌≡◌, ℕ, List, ◌++◌, Option}
+use Rattle.std.specs.Io.KnownBytes.{Appends}
+
+-- what was written since, and behind it what waits, are all of these bytes
+pub record IsDue (old new : Option (List ℕ)) (waiting all : List ℕ) : Type 0 where
+  pub done : List ℕ
+  pub is : all ≡ done ++ waiting
+  pub written : Appends old new done
+
+-- what was written since, and behind it what waits, are a front of these bytes
+pub record IsDuePart (old new : Option (List ℕ)) (waiting all : List ℕ) : Type 0 where
+  pub due : List ℕ
+  pub more : List ℕ
+  pub is : all ≡ due ++ more
+  pub so_far : IsDue old new waiting due

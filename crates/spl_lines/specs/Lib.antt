@@ -1,0 +1,5 @@
+pub mod Lines
+pub mod Due
+pub mod Feed
+pub mod Given
+pub mod Written

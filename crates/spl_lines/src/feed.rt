@@ -1,0 +1,197 @@
+//! The lines of a source, read in pieces.
+ghost use Rattle.std.specs.Prelude.{◌≡◌, ◌≢◌, ◌+◌, ◌-◌, ◌<◌, ◌≤◌, ◌++◌, ◌∷◌, [], ℕ, List, Option, IfOk, ◌==◌, OnErr, IsErrOf, true, false, length, take, vec_len, vec_capacity};
+ghost use Rattle.std.specs.List.{position};
+ghost use Rattle.std.specs.Io.{appended_bytes};
+ghost use Rattle.std.specs.Io.KnownBytes.{Consumes, IsAtEnd};
+ghost use Rattle.spl_edge.specs.Causes.{HasCause, Rose};
+ghost use Rattle.spl_lines.specs.Lines.{has_feed, limit, longest_line};
+ghost use Rattle.spl_lines.specs.declared.lines.TheConstants.{LONGEST_LINE, MOST_BYTES};
+ghost use Rattle.spl_lines.specs.declared.feed.TheConstants.{PIECE};
+
+use crate::lines::{LONGEST_LINE, MOST_BYTES};
+use spl_edge::{DeviceError, Source};
+use std::alloc::{AllocError, Global};
+
+/// The most bytes that are read at once.
+const PIECE: usize = 4096;
+
+/// Why there is no next line.
+#[derive(Clone, Copy, Debug, PartialEq, Eq)]
+pub enum FeedFault {
+    /// The source is at its end, and its last line lacks its line feed.
+    Unfinished,
+    /// The line is longer than a line may be.
+    Overlong,
+    /// The source gave more bytes than the limit.
+    TooLong,
+    /// The source failed.
+    Read,
+    /// Memory ran out.
+    NoMemory,
+}
+
+/// The lines of a source, which is read in pieces. It keeps no more than a line and a piece.
+#[derive(Drop)]
+pub struct Feed {
+    /// Bytes within the limit. The last line stands from `from` to `to`, what waits from `start` on.
+    buffer: Vec<u8>,
+    from: usize,
+    to: usize,
+    start: usize,
+    /// How many bytes were read, those past the limit too.
+    taken: usize,
+    ghost line: { from ≤ to },
+    ghost order: { to ≤ start },
+    ghost within: { start ≤ vec_len buffer },
+    ghost room: { LONGEST_LINE + PIECE ≤ vec_capacity buffer },
+    ghost small: { vec_len buffer ≤ LONGEST_LINE + PIECE },
+    ghost few: { taken ≤ MOST_BYTES + PIECE },
+}
+
+// The place of the first line feed.
+fn place_of_feed(bytes: &[u8]) -> Option<usize>
+    ensures { result ≡ position (λ b. b == 10) bytes.now }
+{
+    bytes.iter().position(|b| *b == b'\n')
+}
+
+impl Feed {
+    ghost use Rattle.spl_lines.specs.Feed.{Feeds, count_of, has_line, last_line, waiting};
+
+    /// A feed that has read nothing. It takes all its memory here.
+    pub fn new(alloc: Global) -> Result<Feed, AllocError>
+        ensures { IfOk result (λ feed. (before : List ℕ) → (left : Option (List ℕ)) → Feeds before left [] before left feed) }
+    {
+        Ok(Feed {
+            buffer: Vec::with_capacity(alloc, LONGEST_LINE + PIECE)?,
+            from: 0,
+            to: 0,
+            start: 0,
+            taken: 0,
+        })
+    }
+
+    /// The line that `advance` took, without its line feed.
+    pub fn line(&self) -> &[u8]
+        ensures { result.now ≡ last_line self.now }
+    {
+        &self.buffer[self.from..self.to]
+    }
+
+    // How many bytes wait.
+    fn wait(&self) -> usize
+        ensures { result ≡ length (waiting self.now) }
+    {
+        self.buffer.len() - self.start
+    }
+
+    // Takes the first line that waits, where one does. The first bytes that wait, so many, have no line feed.
+    fn cut(&mut self, seen: usize) -> bool
+        requires seen { seen ≤ length (waiting self.old) }
+        requires none { has_feed (take seen (waiting self.old)) ≡ false }
+        ensures line { result ≡ true → (waiting self.old ≡ last_line self.new ++ 10 ∷ waiting self.new) × (has_feed (last_line self.new) ≡ false) }
+        ensures none { result ≡ false → (has_feed (waiting self.old) ≡ false) × (waiting self.new ≡ waiting self.old) }
+        ensures same { count_of self.new ≡ count_of self.old }
+    {
+        let from = self.start;
+        match place_of_feed(&self.buffer[from + seen..]) {
+            Some(count) => {
+                self.from = from;
+                self.to = from + seen + count;
+                self.start = from + seen + count + 1;
+                true
+            }
+            None => false,
+        }
+    }
+
+    // Moves what waits to the front.
+    fn shift(&mut self)
+        ensures waits { waiting self.new ≡ waiting self.old }
+        ensures front { self.new.start ≡ 0 }
+        ensures same { count_of self.new ≡ count_of self.old }
+    {
+        let wait = self.wait();
+        self.buffer.copy_within(self.start.., 0);
+        self.buffer.truncate(wait);
+        self.from = 0;
+        self.to = 0;
+        self.start = 0;
+    }
+
+    // Keeps what is within the limit, and counts all.
+    fn put(&mut self, piece: &[u8])
+        requires room { length (waiting self.old) ≤ longest_line }
+        requires front { self.old.start ≡ 0 }
+        requires within { count_of self.old ≤ limit }
+        requires short { length piece.now ≤ PIECE }
+        ensures waits { waiting self.new ≡ waiting self.old ++ take (limit - count_of self.old) piece.now }
+        ensures count { count_of self.new ≡ count_of self.old + length piece.now }
+    {
+        let within = piece.len().min(MOST_BYTES - self.taken);
+        self.buffer.extend_from_slice(&piece[..within]).unwrap();
+        self.taken += piece.len();
+    }
+
+    // Reads a piece, and tells how long it is.
+    fn fill<S: Source>(&mut self, source: &mut S) -> Result<usize, DeviceError>
+        requires room { length (waiting self.old) ≤ longest_line }
+        requires within { count_of self.old ≤ limit }
+        ensures taken { S.taken source.new ≡ S.taken source.old ++ appended_bytes (S.taken source.old) (S.taken source.new) }
+        ensures left { Consumes (S.left source.old) (S.left source.new) (appended_bytes (S.taken source.old) (S.taken source.new)) }
+        ensures waits { waiting self.new ≡ waiting self.old ++ take (limit - count_of self.old) (appended_bytes (S.taken source.old) (S.taken source.new)) }
+        ensures count { count_of self.new ≡ count_of self.old + length (appended_bytes (S.taken source.old) (S.taken source.new)) }
+        ensures told { IfOk result (λ n. n ≡ length (appended_bytes (S.taken source.old) (S.taken source.new))) }
+        ensures end { IfOk result (λ n. n ≡ 0 → IsAtEnd (S.left source.new)) }
+        ensures none { OnErr result (appended_bytes (S.taken source.old) (S.taken source.new) ≡ []) }
+        ensures cause { HasCause (S.faults source.old) (S.faults source.new) result }
+    {
+        let mut piece = [0u8; PIECE];
+        self.shift();
+        let count = match source.read(&mut piece) {
+            Ok(count) => count,
+            Err(fault) => return Err(fault),
+        };
+        self.put(&piece[..count]);
+        Ok(count)
+    }
+
+    /// Takes the next line, and tells whether there is one: the source is at its end where there
+    /// isn't. A line that stands whole within the limit comes before a fault.
+    pub fn advance<S: Source>(&mut self, source: &mut S) -> Result<bool, FeedFault>
+        ensures line { has_line result ≡ true → (before : List ℕ) → (had : Option (List ℕ)) → (lines : List (List ℕ)) → Feeds before had lines (S.taken source.old) (S.left source.old) self.old
+            → Feeds before had (lines ++ last_line self.new ∷ []) (S.taken source.new) (S.left source.new) self.new }
+        ensures still { has_line result ≡ false → (before : List ℕ) → (had : Option (List ℕ)) → (lines : List (List ℕ)) → Feeds before had lines (S.taken source.old) (S.left source.old) self.old
+            → Feeds before had lines (S.taken source.new) (S.left source.new) self.new }
+
+        // Where there is none, none waits.
+        ensures none { has_line result ≡ false → has_feed (waiting self.new) ≡ false }
+        ensures end { IfOk result (λ more. more ≡ false → IsAtEnd (S.left source.new) × (count_of self.new ≤ limit) × (waiting self.new ≡ [])) }
+        ensures unfinished { IsErrOf result FeedFault.Unfinished → IsAtEnd (S.left source.new) × (count_of self.new ≤ limit) × (waiting self.new ≢ []) }
+        ensures over { IsErrOf result FeedFault.Overlong → longest_line < length (waiting self.new) }
+        ensures long { IsErrOf result FeedFault.TooLong → (limit < count_of self.new) × (length (waiting self.new) ≤ longest_line) }
+        ensures read { IsErrOf result FeedFault.Read → Rose (S.faults source.old) (S.faults source.new) × (count_of self.new ≤ limit) }
+        ensures later { S.faults source.old ≤ S.faults source.new }
+    {
+        let mut seen = 0;
+        'pieces: loop {
+            if self.cut(seen) {
+                return Ok(true);
+            }
+            seen = self.wait();
+            if seen > LONGEST_LINE {
+                return Err(FeedFault::Overlong);
+            }
+            if self.taken > MOST_BYTES {
+                return Err(FeedFault::TooLong);
+            }
+            match self.fill(source) {
+                Ok(0) if seen == 0 => return Ok(false),
+                Ok(0) => return Err(FeedFault::Unfinished),
+                Ok(_) => {}
+                Err(DeviceError::Failed) => return Err(FeedFault::Read),
+                Err(DeviceError::NoMemory) => return Err(FeedFault::NoMemory),
+            }
+        }
+    }
+}

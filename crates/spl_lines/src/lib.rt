@@ -1,0 +1,12 @@
+//! The lines of a source, and the answers that wait to be written.
+#![tactic(auto)]
+
+mod feed;
+mod lines;
+mod output;
+mod reading;
+
+pub use feed::{Feed, FeedFault};
+pub use lines::{LONGEST_LINE, MOST_BYTES, is_silent};
+pub use output::Output;
+pub use reading::read_admitted;

@@ -1,0 +1,115 @@
+//! What is to be written, in pieces.
+ghost use Rattle.std.specs.Prelude.{◌≡◌, ◌++◌, ◌∷◌, [], IfOk, OnOk, OnErr};
+ghost use Rattle.std.specs.Io.KnownBytes.{Appends};
+ghost use Rattle.spl_edge.specs.Causes.{HasCause, AppendsPart};
+ghost use Rattle.spl_lines.specs.Due.{IsDue, IsDuePart};
+ghost use Rattle.spl_lines.specs.Written.{printed, shown};
+
+use itoa::Buffer;
+use spl_edge::{DeviceError, Sink, write_all};
+use std::alloc::{AllocError, Global};
+use std::marker::Model;
+
+/// Bytes that wait to be handed to a sink.
+#[derive(Drop)]
+pub struct Output {
+    waiting: Vec<u8>,
+}
+
+impl Model for Output {
+    ghost use Rattle.std.specs.Prelude.{List, ℕ};
+
+    ghost Value = { List ℕ };
+
+    ghost view = { λ o. o.waiting.items };
+}
+
+// The most bytes that wait, where no answer is longer.
+const PIECE: usize = 4096;
+
+impl Output {
+    /// Nothing waits yet.
+    pub fn new(alloc: Global) -> Result<Output, AllocError>
+        ensures { IfOk result (λ o. o ≡ []) }
+    {
+        Ok(Output {
+            waiting: Vec::with_capacity(alloc, PIECE)?,
+        })
+    }
+
+    /// Hands over all that waits. After a fault nothing waits.
+    pub fn flush<W: Sink>(&mut self, sink: &mut W) -> Result<(), DeviceError>
+        ensures ok { OnOk result (Appends (W.written sink.old) (W.written sink.new) self.old) }
+        ensures part { AppendsPart (W.written sink.old) (W.written sink.new) self.old }
+        ensures cause { HasCause (W.faults sink.old) (W.faults sink.new) result }
+        ensures empty { self.new ≡ [] }
+    {
+        let sent = write_all(sink, &self.waiting);
+        self.waiting.clear();
+        sent
+    }
+
+    // Lets an answer wait behind the others.
+    fn append(&mut self, number: &[u8], text: &[u8]) -> Result<(), AllocError>
+        ensures ok { OnOk result (self.new ≡ self.old ++ (number.now ++ 32 ∷ text.now ++ 10 ∷ [])) }
+        ensures err { OnErr result (self.new ≡ self.old) }
+    {
+        let size = number.len().saturating_add(text.len()).saturating_add(2);
+        self.waiting.try_reserve(size)?;
+        self.waiting.extend_from_slice(number).unwrap();
+        self.waiting.push(b' ').unwrap();
+        self.waiting.extend_from_slice(text).unwrap();
+        self.waiting.push(b'\n').unwrap();
+        Ok(())
+    }
+
+    // Hands over what waits, where that and so many bytes more are above a piece.
+    fn make_room<W: Sink>(&mut self, sink: &mut W, size: usize) -> Result<(), DeviceError>
+        ensures ok { OnOk result (IsDue (W.written sink.old) (W.written sink.new) self.new self.old) }
+        ensures part { IsDuePart (W.written sink.old) (W.written sink.new) self.new self.old }
+        ensures cause { HasCause (W.faults sink.old) (W.faults sink.new) result }
+    {
+        if PIECE.saturating_sub(self.waiting.len()) < size {
+            return self.flush(sink);
+        }
+        Ok(())
+    }
+
+    /// Lets an answer wait, with the number of its line. It hands over what waits before, where
+    /// both together are more than a piece.
+    pub fn put<W: Sink>(
+        &mut self,
+        sink: &mut W,
+        number: u32,
+        text: &[u8],
+    ) -> Result<(), DeviceError>
+        ensures ok { OnOk result (IsDue (W.written sink.old) (W.written sink.new) self.new (self.old ++ printed number text.now)) }
+        ensures part { IsDuePart (W.written sink.old) (W.written sink.new) self.new (self.old ++ printed number text.now) }
+        ensures cause { HasCause (W.faults sink.old) (W.faults sink.new) result }
+    {
+        let mut buffer = Buffer::new();
+        let digits = buffer.format(number).as_bytes();
+        let size = digits.len().saturating_add(text.len()).saturating_add(2);
+        self.make_room(sink, size)?;
+        self.append(digits, text)?;
+        Ok(())
+    }
+
+    /// Lets the answer to a line wait, where that is behind the first `skip` lines.
+    pub fn put_behind<W: Sink>(
+        &mut self,
+        sink: &mut W,
+        skip: u32,
+        number: u32,
+        text: &[u8],
+    ) -> Result<(), DeviceError>
+        ensures ok { OnOk result (IsDue (W.written sink.old) (W.written sink.new) self.new (self.old ++ shown skip number text.now)) }
+        ensures part { IsDuePart (W.written sink.old) (W.written sink.new) self.new (self.old ++ shown skip number text.now) }
+        ensures cause { HasCause (W.faults sink.old) (W.faults sink.new) result }
+    {
+        if number <= skip {
+            return Ok(());
+        }
+        self.put(sink, number, text)
+    }
+}
