@@ -1,5 +1,5 @@
 -- A run, one line further.
-use Rattle.std.proofs.Common.{◌∙◌, ◌≡◌, ℕ, ◌+◌, false, List, [], ◌∷◌, ◌++◌, Option, Some, None, Result, Ok, Err, OnOk, length, sym, subst, arith}
+use Rattle.std.proofs.Common.{◌∙◌, ◌≡◌, ℕ, ◌+◌, false, List, [], ◌∷◌, ◌++◌, Option, Some, None, length, sym, subst}
 use Rattle.spl_circuit.specs.Nodes.{Node}
 use Rattle.spl_sched.specs.declared.line.Line.{Line}
 use Rattle.spl_model.specs.Projection.{Ran}
@@ -9,31 +9,17 @@ use Rattle.spl_answer.specs.Texts.{text}
 use Rattle.spl_world.specs.Counts.{IsOver}
 use Rattle.spl_world.specs.Disks.{Images}
 use Rattle.spl_world.specs.Views.{ids_of, is_halted, places_of, Stands}
+use Rattle.spl_lines.specs.Due.{IsDue, IsDuePart}
+use Rattle.spl_lines.specs.Written.{IsWithin, said, ran, shown, answers_behind}
+use Rattle.spl_lines.proofs.Dues.{due_part, due_due, due_then}
+use Rattle.spl_lines.proofs.Outputs.{answers_more, answers_silent, ran_silent, answers_said, ran_said}
 use Rattle.spl_app.proofs.Unlinked.{places_kept}
 use Rattle.spl_app.specs.declared.run.Run.{Run}
-use Rattle.spl_app.specs.Due.{IsDue, IsDuePart}
-use Rattle.spl_app.specs.Run.{IsWithin, said, ran, shown, answers_behind}
 use Rattle.spl_app.specs.Behind.{IsBehind}
-use Rattle.spl_app.proofs.Dues.{due_waits, due_part, due_due, due_then}
-use Rattle.spl_app.proofs.Outputs.{none_yet, answers_more, answers_silent, ran_silent, answers_said, ran_said}
-
--- four facts of what succeeded give a fifth
-pub on_ok : {T E : Type 0} (r : Result T E) {O P Q R S : Type 0} → OnOk r O → OnOk r P → OnOk r Q → OnOk r R → (O → P → Q → R → S) → OnOk r S
-on_ok (Ok x) o p q r f = f o p q r
-on_ok (Err e) o p q r f = tt
-
--- and one a second
-pub ok_then : {T E : Type 0} (r : Result T E) {P Q : Type 0} → OnOk r P → (P → Q) → OnOk r Q
-ok_then (Ok x) p f = f p
-ok_then (Err e) p f = tt
 
 -- over the same nodes, behind the same lines
 pub both : (P : List Node → ℕ → Type 0) {ms ns : List Node} {k n : ℕ} → ms ≡ ns → k ≡ n → P ms k → P ns n
 both P {ms} {ns} {k} {n} nodes skips h = subst (P ns) skips (subst (λ (l : List Node). P l k) nodes h)
-
--- where no line ran nothing is due
-pub due_none : (ns : List Node) (skip : ℕ) (start : Option (List ℕ)) (waiting : List ℕ) → waiting ≡ [] → IsDue start start waiting (answers_behind skip ns [])
-due_none ns skip start waiting none = subst (IsDue start start waiting) (sym (none_yet ns skip [] (omega arith))) (subst (λ (l : List ℕ). IsDue start start l []) (sym none) (due_waits start []))
 
 -- a run is over its own nodes
 pub at_own : (ns : List Node) (skip : ℕ) (lines : List (List ℕ)) (run : Run) (is : List Images) (a b : Option (List ℕ)) → IsBehind ns skip lines run is a b → IsBehind run.nodes.items run.skip lines run is a b

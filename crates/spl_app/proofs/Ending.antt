@@ -30,13 +30,14 @@ use Rattle.spl_world.specs.declared.world.World.{World}
 use Rattle.spl_world.proofs.Holding.{all_picked_still, pair_unpicked}
 use Rattle.spl_world.proofs.HoldingSeats.{seats_held}
 use Rattle.spl_world.proofs.Leaving.{all_itself, same_there}
+use Rattle.spl_lines.specs.Written.{IsLine, IsWithin, ran, said}
+use Rattle.spl_lines.proofs.Outputs.{ran_said}
 use Rattle.spl_app.specs.declared.fault.RunEnd.{RunEnd}
 use Rattle.spl_app.specs.declared.fault.RunFault.{RunFault}
 use Rattle.spl_app.specs.declared.fault.RunFault.TheVariants as fault
 use Rattle.spl_app.specs.Ends.{AreSeats, EndsAt, EndsBehind, EndsIn, EndsSomewhere, FaultEnds, HeldAt, HeldOrEnds, RanOn, all_images}
 use Rattle.spl_app.specs.Faults.{fault_of}
-use Rattle.spl_app.specs.Run.{HasFront, IsLine, IsRun, IsWithin, ran, said}
-use Rattle.spl_app.proofs.Outputs.{ran_said}
+use Rattle.spl_app.specs.Run.{HasFront, IsRun}
 use Rattle.spl_app.proofs.Runs.{all-push}
 
 -- ---- results

@@ -1,26 +1,21 @@
 -- What the end of a feed says of the bytes that the source gave.
-use Rattle.std.proofs.Common.{◌≡◌, ◌≢◌, ◌⊎◌, inl, inr, ⊎_elim, false, ℕ, ◌+◌, ◌-◌, ◌≤◌, List, [], Option, length, take, sym, ◌∙◌, ap, subst, arith}
+use Rattle.std.proofs.Common.{◌≡◌, ◌⊎◌, inl, inr, ⊎_elim, false, ℕ, ◌+◌, ◌-◌, ◌≤◌, List, [], Option, length, take, sym, ◌∙◌, ap, subst, arith}
 use Rattle.std.proofs.lemmas.List.{take_all}
 use Rattle.std.specs.Io.{appended_bytes}
-use Rattle.std.specs.Io.KnownBytes.{Consumes, IsAtEnd}
+use Rattle.std.specs.Io.KnownBytes.{Consumes}
 use Rattle.spl_circuit.specs.Nodes.{Node}
-use Rattle.spl_app.specs.declared.feed.Feed.{Feed}
-use Rattle.spl_app.specs.Lines.{has_feed, limit, rest_of}
-use Rattle.spl_app.specs.Run.{IsLine, IsRun, Bad}
-use Rattle.spl_app.specs.Schedule.{IsBadAt, IsOverlong, IsSchedule, IsUnfinished, had, run_of}
-use Rattle.spl_app.specs.Feed.{Feeds, waiting, count_of}
-use Rattle.spl_app.proofs.Given.{all_had, runs_on}
-use Rattle.spl_app.proofs.Fed.{is_short, lines_given, rest_given, overlong_had}
+use Rattle.spl_lines.specs.declared.feed.Feed.{Feed}
+use Rattle.spl_lines.specs.Lines.{has_feed, limit, rest_of}
+use Rattle.spl_lines.specs.Written.{IsLine}
+use Rattle.spl_lines.specs.Given.{IsOverlong, IsUnfinished, had, run_of}
+use Rattle.spl_lines.specs.Feed.{Feeds, waiting, count_of}
+use Rattle.spl_lines.proofs.Given.{all_had}
+use Rattle.spl_lines.proofs.Fed.{is_short, lines_given, rest_given, overlong_had}
+use Rattle.spl_app.specs.Run.{IsRun, Bad}
+use Rattle.spl_app.specs.Schedule.{IsBadAt, IsSchedule}
+use Rattle.spl_app.proofs.Given.{runs_on}
 
 module _ (before : List ℕ) (start : Option (List ℕ)) (lines : List (List ℕ)) (taken : List ℕ) (left : Option (List ℕ)) (feed : Feed) (feeds : Feeds before start lines taken left feed) (none : has_feed (waiting feed) ≡ false) (few : count_of feed ≤ limit) where
-  -- something waits
-  pub unfinished : IsAtEnd left → waiting feed ≢ [] → IsUnfinished (appended_bytes before taken) left
-  unfinished ended more = record {
-    ended = ended;
-    short = is_short before start lines taken left feed feeds none few;
-    more = λ empty. more (sym (rest_given before start lines taken left feed feeds none few) ∙ empty);
-  }
-
   -- nothing does
   pub schedule : (ns : List Node) → IsRun ns lines → waiting feed ≡ [] → IsSchedule ns (appended_bytes before taken)
   schedule ns run empty = record {

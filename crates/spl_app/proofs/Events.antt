@@ -6,11 +6,12 @@ use Rattle.spl_model.specs.Projection.{Ran}
 use Rattle.spl_model.specs.Counts.{events_behind, events_of, stops_of}
 use Rattle.spl_projection.proofs.Counts.{events-none}
 use Rattle.spl_world.specs.Counts.{IsOver}
-use Rattle.spl_app.specs.Lines.{lines_of}
-use Rattle.spl_app.specs.Run.{IsLine, IsWithin, IsRun, Reason, Bad, Past, StopsAt, ran}
-use Rattle.spl_app.proofs.Feeds.{lines_front, all_front}
+use Rattle.spl_lines.specs.Lines.{lines_of}
+use Rattle.spl_lines.specs.Written.{IsLine, IsWithin, ran}
+use Rattle.spl_lines.proofs.Feeds.{lines_front, all_front}
+use Rattle.spl_lines.proofs.Outputs.{ran-append}
+use Rattle.spl_app.specs.Run.{IsRun, Reason, Bad, Past, StopsAt}
 use Rattle.spl_app.proofs.Halts.{stops-append}
-use Rattle.spl_app.proofs.Outputs.{ran-append}
 
 -- where no line ran they are within their limits
 pub none_within : (ns : List NodeId) → IsWithin ns []

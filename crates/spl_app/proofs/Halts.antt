@@ -8,7 +8,7 @@ use Rattle.spl_model.specs.declared.TheConstants.{MOST_STOPS}
 use Rattle.spl_sched.specs.declared.line.Line.{Line}
 use Rattle.spl_sched.specs.declared.line.Line.TheVariants as line
 use Rattle.spl_world.specs.Lines.{stops}
-use Rattle.spl_app.specs.Run.{IsWithin}
+use Rattle.spl_lines.specs.Written.{IsWithin}
 
 pub stops-append : (xs ys : List Ran) → stops_of (xs ++ ys) ≡ stops_of xs + stops_of ys
 stops-append [] ys = omega arith

@@ -8,8 +8,8 @@ use Rattle.spl_world.specs.Disks.{PairView}
 use Rattle.spl_world.specs.Held.{AllHeld, IsHeld}
 use Rattle.spl_world.specs.Views.{ids_of, places_of}
 use Rattle.spl_world.specs.declared.world.World.{World}
-use Rattle.spl_app.specs.Run.{said, ran}
-use Rattle.spl_app.proofs.Outputs.{ran_said, ran_silent}
+use Rattle.spl_lines.specs.Written.{said, ran}
+use Rattle.spl_lines.proofs.Outputs.{ran_said, ran_silent}
 
 -- nodes of the same ids at the same places
 pub held_as : (start : List PairView) (rs : List Ran) (w v : World) (ps : List PairView) → ids_of v ≡ ids_of w → places_of v ≡ places_of w → AllHeld start rs w ps → AllHeld start rs v ps

@@ -4,10 +4,10 @@ use Rattle.std.specs.Prelude.{Ok, Err}
 use Rattle.std.specs.Io.KnownBytes.{Consumes, IsAtEnd}
 use Rattle.spl_registry.specs.declared.fault.RegistryFault.{RegistryFault}
 use Rattle.spl_registry.specs.Tree.{registry_of}
-use Rattle.spl_app.specs.Lines.{limit}
-use Rattle.spl_app.specs.Schedule.{had}
+use Rattle.spl_lines.specs.Lines.{limit}
+use Rattle.spl_lines.specs.Given.{had}
+use Rattle.spl_lines.proofs.Given.{all_had, had_more}
 use Rattle.spl_app.specs.Registered.{Spells, IsRegistryText}
-use Rattle.spl_app.proofs.Given.{all_had, had_more}
 
 -- bytes that spell a registry have no fault
 pub no_fault : (text : List ℕ) (fault : RegistryFault) → Spells text → registry_of text ≡ Err fault → ⊥

@@ -4,10 +4,11 @@ use Rattle.std.proofs.Math.Seq.{take-append_seam}
 use Rattle.std.proofs.lemmas.List.{drop_at}
 use Rattle.std.specs.List.{AllByRecursion}
 use Rattle.spl_circuit.specs.Nodes.{Node}
-use Rattle.spl_app.specs.Due.{IsDuePart}
-use Rattle.spl_app.specs.Run.{HasFront, IsLine, IsRun, Reason, StopsFor, StopsAt, answers_behind}
-use Rattle.spl_app.proofs.Dues.{part_more}
-use Rattle.spl_app.proofs.Outputs.{answers_more}
+use Rattle.spl_lines.specs.Due.{IsDuePart}
+use Rattle.spl_lines.specs.Written.{IsLine, answers_behind}
+use Rattle.spl_lines.proofs.Dues.{part_more}
+use Rattle.spl_lines.proofs.Outputs.{answers_more}
+use Rattle.spl_app.specs.Run.{HasFront, IsRun, Reason, StopsFor, StopsAt}
 
 pub all-push : (ns : List Node) (xs : List (List ℕ)) (x : List ℕ) → AllByRecursion (IsLine ns) xs → IsLine ns x → AllByRecursion (IsLine ns) (xs ++ x ∷ [])
 all-push ns [] x all good = (good, tt)

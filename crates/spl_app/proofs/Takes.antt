@@ -6,8 +6,8 @@ use Rattle.std.proofs.lemmas.Bool.{and_parts, leb-true}
 use Rattle.spl_circuit.specs.Nodes.{Node, has_node}
 use Rattle.spl_sched.specs.declared.line.Line.{Line}
 use Rattle.spl_sched.specs.Grammar.{line_of, nodes_of, spelling}
-use Rattle.spl_app.specs.Lines.{longest_line}
-use Rattle.spl_app.specs.Run.{IsAdmitted, IsLine}
+use Rattle.spl_lines.specs.Lines.{longest_line}
+use Rattle.spl_lines.specs.Written.{IsAdmitted, IsLine}
 
 first_same : {A : Type 0} (x y : Option A) (xs ys : List (Option A)) → x ∷ xs ≡ y ∷ ys → (x ≡ y) × (xs ≡ ys)
 first_same x y xs ys same = (cc, cc)

@@ -6,10 +6,11 @@ use Rattle.spl_world.specs.Disks.{PairView}
 use Rattle.spl_world.specs.Held.{AreHeld}
 use Rattle.spl_world.specs.declared.fault.WorldFault.{WorldFault}
 use Rattle.spl_world.specs.declared.fault.WorldFault.TheVariants.{Disk, TooMany}
+use Rattle.spl_lines.specs.Lines.{lines_of, limit}
+use Rattle.spl_lines.specs.Written.{ran}
+use Rattle.spl_lines.specs.Given.{run_of}
 use Rattle.spl_app.specs.Ends.{EndsAtNode, EndsFailed, EndsIn, EndsPast, EndsShort, EndsSomewhere}
-use Rattle.spl_app.specs.Lines.{lines_of, limit}
-use Rattle.spl_app.specs.Run.{HasFront, Past, ran}
-use Rattle.spl_app.specs.Schedule.{run_of}
+use Rattle.spl_app.specs.Run.{HasFront, Past}
 use Rattle.spl_app.proofs.Ending.{ends_more, front_then}
 use Rattle.spl_app.proofs.Wholes.{front, front_in, same_before, stops_in}
 

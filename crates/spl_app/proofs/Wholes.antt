@@ -8,14 +8,16 @@ use Rattle.spl_edge.specs.Causes.{AppendsPart}
 use Rattle.spl_circuit.specs.Nodes.{Node, sorted}
 use Rattle.spl_gen.specs.Circuits.{nodes}
 use Rattle.spl_registry.specs.Nodes.{Entry, ids_of, made}
-use Rattle.spl_app.specs.Lines.{lines_of, rest_of, limit}
-use Rattle.spl_app.specs.Run.{HasFront, IsLine, IsRun, Reason, StopsAt, StopsFor, answers_behind}
-use Rattle.spl_app.specs.Schedule.{IsBadAt, IsOverlong, IsUnfinished, run_of}
+use Rattle.spl_lines.specs.Lines.{lines_of, rest_of, limit}
+use Rattle.spl_lines.specs.Written.{IsLine, answers_behind}
+use Rattle.spl_lines.specs.Given.{IsOverlong, IsUnfinished, run_of}
+use Rattle.spl_lines.proofs.Fed.{overlong_text}
+use Rattle.spl_lines.proofs.Feeds.{all_front, lines_front}
+use Rattle.spl_lines.proofs.Given.{run_given}
+use Rattle.spl_lines.proofs.Outputs.{answers_more}
+use Rattle.spl_app.specs.Run.{HasFront, IsRun, Reason, StopsAt, StopsFor}
+use Rattle.spl_app.specs.Schedule.{IsBadAt}
 use Rattle.spl_app.proofs.Events.{no_bad}
-use Rattle.spl_app.proofs.Fed.{overlong_text}
-use Rattle.spl_app.proofs.Feeds.{all_front, lines_front}
-use Rattle.spl_app.proofs.Given.{run_given}
-use Rattle.spl_app.proofs.Outputs.{answers_more}
 
 module _ (ns : List Node) (text given left : List ℕ) (is : text ≡ given ++ left) (short : length text ≤ limit) where
   pub few : length given ≤ limit

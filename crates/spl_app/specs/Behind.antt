@@ -3,10 +3,10 @@ use Rattle.std.specs.Prelude.{◌≡◌, ℕ, false, List, Option}
 use Rattle.spl_circuit.specs.Nodes.{Node}
 use Rattle.spl_world.specs.Disks.{Images}
 use Rattle.spl_world.specs.Views.{ids_of, is_halted, Stands}
+use Rattle.spl_lines.specs.Due.{IsDue}
+use Rattle.spl_lines.specs.Written.{ran, IsWithin, answers_behind}
 use Rattle.spl_app.specs.declared.run.Run.{Run}
 use Rattle.spl_app.specs.Able.{HavePlaces}
-use Rattle.spl_app.specs.Due.{IsDue}
-use Rattle.spl_app.specs.Run.{ran, IsWithin, answers_behind}
 
 -- in a run over these nodes, whose disks hold these images, these lines ran, within the limits, and the answers to those behind the first `skip` were written or wait
 pub record IsBehind (ns : List Node) (skip : ℕ) (lines : List (List ℕ)) (run : Run) (is : List Images) (old new : Option (List ℕ)) : Type 0 where

@@ -13,9 +13,10 @@ use Rattle.spl_world.specs.Lines.{stops}
 use Rattle.spl_world.specs.Making.{AreMadeBut, images_now}
 use Rattle.spl_world.specs.declared.fault.WorldFault.{WorldFault}
 use Rattle.spl_world.specs.declared.fault.WorldFault.TheVariants as error
+use Rattle.spl_lines.specs.Written.{IsLine, IsWithin, ran, said}
 use Rattle.spl_app.specs.declared.fault.RunFault.{RunFault}
 use Rattle.spl_app.specs.declared.fault.RunFault.TheVariants as fault
-use Rattle.spl_app.specs.Run.{HasFront, IsLine, IsWithin, Past, StopsAt, ran, said}
+use Rattle.spl_app.specs.Run.{HasFront, Past, StopsAt}
 
 -- ---- over the nodes of a world, whose pairs have these places
 

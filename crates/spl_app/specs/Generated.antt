@@ -2,10 +2,10 @@
 use Rattle.std.specs.Prelude.{◌-◌, ℕ, List, Bool, true, false, length}
 use Rattle.spl_gen.specs.Circuits.{nodes}
 use Rattle.spl_gen.specs.Generated.{text}
+use Rattle.spl_lines.specs.Lines.{lines_of}
+use Rattle.spl_lines.specs.Written.{answers_behind}
 use Rattle.spl_app.specs.declared.status.Status.{Status}
 use Rattle.spl_app.specs.declared.status.Status.TheVariants.{BadRegistry, BadSchedule, ReadFault, TooLong}
-use Rattle.spl_app.specs.Lines.{lines_of}
-use Rattle.spl_app.specs.Run.{answers_behind}
 
 -- the lines of the schedule of n batches that is made from the seed
 abbrev pub generated_lines : ℕ → ℕ → List (List ℕ)

@@ -1,5 +1,3 @@
-pub mod Lines
-pub mod Due
 pub mod Faults
 pub mod Run
 pub mod Able
@@ -7,7 +5,6 @@ pub mod Behind
 pub mod Schedule
 pub mod Registered
 pub mod Statuses
-pub mod Feed
 pub mod Command
 pub mod Generated
 pub mod Ends

@@ -6,8 +6,8 @@ use Rattle.spl_registry.specs.Nodes.{Entry, ids_of, node_at}
 use Rattle.spl_registry.specs.Tree.{registry_of}
 use Rattle.spl_world.specs.Disks.{PairView}
 use Rattle.spl_world.specs.Held.{AreHeld, FailedSince}
-use Rattle.spl_app.specs.Lines.{limit}
-use Rattle.spl_app.specs.Run.{ran}
+use Rattle.spl_lines.specs.Lines.{limit}
+use Rattle.spl_lines.specs.Written.{ran}
 
 abbrev pub nodes_in : Result (List Entry) RegistryFault → List Node
 nodes_in (Ok entries) = sorted (ids_of entries)

@@ -3,7 +3,7 @@ ghost use Rattle.std.specs.Prelude.{List, ℕ};
 ghost use Rattle.spl_agreement.specs.Agreement.{Agree};
 ghost use Rattle.spl_agreement.specs.OneList.{TellOneList};
 ghost use Rattle.spl_circuit.specs.Nodes.{Node};
-ghost use Rattle.spl_app.specs.Run.{ran};
+ghost use Rattle.spl_lines.specs.Written.{ran};
 
 use spl_agreement::{circuits_agree, members_tell_one_list};
 use spl_sched::lines_have_one_spelling;

@@ -5,8 +5,8 @@ ghost use Rattle.spl_sched.specs.Grammar.{spelling};
 ghost use Rattle.spl_gen.specs.Circuits.{nodes};
 ghost use Rattle.spl_gen.specs.Generated.{generated, text};
 ghost use Rattle.spl_gen.specs.declared.generate.TheConstants.{MOST_BATCHES};
-ghost use Rattle.spl_app.specs.Lines.{lines_of, rest_of, limit};
-ghost use Rattle.spl_app.specs.Run.{IsLine};
+ghost use Rattle.spl_lines.specs.Lines.{lines_of, rest_of, limit};
+ghost use Rattle.spl_lines.specs.Written.{IsLine};
 
 use spl_gen::{
     generated_lines_are_counted, generated_lines_are_lines, generated_lines_are_spelled,

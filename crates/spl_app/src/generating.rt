@@ -10,10 +10,11 @@ ghost use Rattle.spl_registry.specs.Nodes.{made};
 ghost use Rattle.spl_world.specs.Disks.{AllUnarmed, AreBlank, NoneForgotten, bench, images, images_at};
 ghost use Rattle.spl_world.specs.Held.{AllUnpicked, AreHeld};
 ghost use Rattle.spl_world.specs.declared.fault.WorldFault.TheVariants.{NoMemory as NoRoom};
+ghost use Rattle.spl_lines.specs.Written.{ran};
 ghost use Rattle.spl_app.specs.Ends.{EndsAtNode, EndsPast, EndsShort, EndsSomewhere};
 ghost use Rattle.spl_app.specs.Generated.{generated_lines, is_of_reading, last_answers};
 ghost use Rattle.spl_app.specs.Registered.{HasFailedAt, SomeFailed};
-ghost use Rattle.spl_app.specs.Run.{HasFront, IsRun, Past, StopsAt, ran};
+ghost use Rattle.spl_app.specs.Run.{HasFront, IsRun, Past, StopsAt};
 
 use crate::Status;
 use crate::fault::{RunEnd, RunFault};

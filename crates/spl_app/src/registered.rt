@@ -8,13 +8,13 @@ ghost use Rattle.spl_circuit.specs.Nodes.{sorted};
 ghost use Rattle.spl_registry.specs.Nodes.{ids_of};
 ghost use Rattle.spl_registry.specs.declared.fault.RegistryFault.{RegistryFault as Fault};
 ghost use Rattle.spl_registry.specs.Tree.{registry_of};
-ghost use Rattle.spl_app.specs.Lines.{limit};
+ghost use Rattle.spl_lines.specs.Lines.{limit};
 ghost use Rattle.spl_app.specs.Registered.{IsRegistryText};
 
 use crate::fault::NodesFault;
-use crate::lines::MOST_BYTES;
 use spl_base::NodeId;
 use spl_edge::{ReadEnd, Source, read_all};
+use spl_lines::MOST_BYTES;
 use spl_registry::{Registry, RegistryFault};
 use std::alloc::{AllocError, Global};
 

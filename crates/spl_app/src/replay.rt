@@ -9,11 +9,13 @@ ghost use Rattle.spl_registry.specs.Nodes.{ids_of};
 ghost use Rattle.spl_world.specs.Disks.{AllUnarmed, AreBlank, NoneForgotten, bench, images, images_at};
 ghost use Rattle.spl_world.specs.Held.{AllUnpicked, AreHeld};
 ghost use Rattle.spl_world.specs.declared.fault.WorldFault.TheVariants.{NoMemory as NoRoom};
+ghost use Rattle.spl_lines.specs.Lines.{lines_of, rest_of, longest_line, limit};
+ghost use Rattle.spl_lines.specs.Written.{ran, answers};
+ghost use Rattle.spl_lines.specs.Given.{had, run_of};
 ghost use Rattle.spl_app.specs.Ends.{EndsAtNode, EndsPast, EndsShort, EndsSomewhere};
 ghost use Rattle.spl_app.specs.Registered.{HasFailedAt, SomeFailed};
-ghost use Rattle.spl_app.specs.Lines.{lines_of, rest_of, longest_line, limit};
-ghost use Rattle.spl_app.specs.Run.{HasFront, IsRun, ran, answers};
-ghost use Rattle.spl_app.specs.Schedule.{IsSchedule, IsBadAt, HasTooMany, had, run_of};
+ghost use Rattle.spl_app.specs.Run.{HasFront, IsRun};
+ghost use Rattle.spl_app.specs.Schedule.{IsSchedule, IsBadAt, HasTooMany};
 
 use crate::Status;
 use crate::fault::{RunEnd, RunFault};

@@ -1,17 +1,19 @@
 //! Runs the lines of a schedule.
-ghost use Rattle.std.specs.Prelude.{◌≡◌, ◌≢◌, ◌⊎◌, false, ◌≤◌, ◌<◌, ◌+◌, ◌-◌, ◌++◌, ◌∷◌, [], ℕ, List, Option, IfErr, IfOk, IfSome, OnOk, IsErrOf, IsTrue, take, length};
+ghost use Rattle.std.specs.Prelude.{◌≡◌, ◌≢◌, ◌⊎◌, false, ◌≤◌, ◌<◌, ◌+◌, ◌-◌, ◌++◌, ◌∷◌, [], ℕ, List, Option, IfErr, IfOk, OnOk, IsErrOf, take, length};
 ghost use Rattle.std.specs.Io.{appended_bytes};
 ghost use Rattle.std.specs.Io.KnownBytes.{Appends, Consumes, IsAtEnd};
 ghost use Rattle.std.specs.List.{AllPairs};
 ghost use Rattle.spl_edge.specs.Causes.{Rose, AppendsPart};
 ghost use Rattle.spl_circuit.specs.Nodes.{sorted};
 ghost use Rattle.spl_registry.specs.Nodes.{ids_of as registered};
+ghost use Rattle.spl_lines.specs.Lines.{rest_of, longest_line, limit};
+ghost use Rattle.spl_lines.specs.Due.{IsDue, IsDuePart};
+ghost use Rattle.spl_lines.specs.Written.{IsLine, IsRunnable, IsWithin, said, ran, shown, answers_behind};
+ghost use Rattle.spl_lines.specs.Given.{run_of};
 ghost use Rattle.spl_app.specs.Able.{IsAble};
-ghost use Rattle.spl_app.specs.Lines.{rest_of, longest_line, limit};
-ghost use Rattle.spl_app.specs.Due.{IsDue, IsDuePart};
 ghost use Rattle.spl_app.specs.Ends.{EndsAt, EndsBehind, EndsFailed, EndsIn, EndsShort, EndsSomewhere, FaultEnds, HeldAt, HeldOrEnds, RanOn};
-ghost use Rattle.spl_app.specs.Run.{IsLine, IsRunnable, IsRun, IsWithin, Past, StopsAt, HasFront, said, ran, shown, answers_behind};
-ghost use Rattle.spl_app.specs.Schedule.{IsSchedule, IsBadAt, run_of};
+ghost use Rattle.spl_app.specs.Run.{IsRun, Past, StopsAt, HasFront};
+ghost use Rattle.spl_app.specs.Schedule.{IsSchedule, IsBadAt};
 ghost use Rattle.spl_answer.specs.Texts.{text as text_of};
 ghost use Rattle.spl_model.specs.Projection.{Ran};
 ghost use Rattle.spl_model.specs.Outcomes.{by_rule};
@@ -24,18 +26,16 @@ ghost use Rattle.spl_world.specs.Making.{AreMadeBut};
 ghost use Rattle.spl_world.specs.Views.{ArePlaced, IsPlace, Stands, ids_of, is_halted, places_of};
 
 use crate::fault::{RunEnd, RunFault};
-use crate::feed::{Feed, FeedFault};
-use crate::lines::{LONGEST_LINE, is_silent};
-use crate::output::Output;
 use crate::registered::{registries_are_small, sorted_ids};
 use crate::take::take_line;
 use spl_answer::append_text;
 use spl_base::NodeId;
 use spl_edge::{Pair, Sink, Source, StopDisk};
+use spl_lines::{Feed, FeedFault, Output, read_admitted};
 use spl_registry::Registry;
-use spl_sched::{Line, LineFault, read_line};
+use spl_sched::{Line, LineFault};
 use spl_world::{World, WorldFault};
-use std::alloc::{AllocError, Global};
+use std::alloc::Global;
 
 /// A run: its nodes, the text of the last answer, and the answers that wait. Those to the first
 /// `skip` lines are left out.
@@ -81,26 +81,6 @@ impl Run {
             world: World::new(alloc, registry, pairs)?,
             skip,
         })
-    }
-
-    // What is run of a line.
-    fn read(&self, alloc: Global, line: &[u8]) -> Result<Option<Line>, LineFault>
-        ensures good { OnOk result (IsLine self.now.nodes.items line.now) }
-        ensures said { IfOk result (λ o. o ≡ said line.now) }
-        ensures known { IfOk result (λ o. IfSome o (IsRunnable self.now.nodes.items)) }
-        ensures bad { IsErrOf result LineFault.BadLine → IsLine self.now.nodes.items line.now → ⊥ }
-    {
-        if line.len() > LONGEST_LINE {
-            return Err(LineFault::BadLine);
-        }
-        if is_silent(line) {
-            return Ok(None);
-        }
-        match read_line(alloc, line) {
-            Ok(said) if said.names_only(&self.nodes) => Ok(Some(said)),
-            Ok(_) => Err(LineFault::BadLine),
-            Err(fault) => Err(fault),
-        }
     }
 
     // Runs a line that says this, and keeps the text of the answer.
@@ -228,7 +208,7 @@ impl Run {
         ensures write { IsErrOf result RunFault.Write → Rose (W.faults out.old) (W.faults out.new) }
         ensures later { W.faults out.old ≤ W.faults out.new }
     {
-        match self.read(alloc, line) {
+        match read_admitted(alloc, &self.nodes, line) {
             Ok(None) => Ok(()),
             Ok(Some(said)) => self.answer(alloc, pairs, number, &said, out),
             Err(LineFault::BadLine) => Err(RunFault::BadLine(number)),

@@ -1,8 +1,8 @@
 //! A line in the world, whichever it is.
 ghost use Rattle.std.specs.Prelude.{◌≡◌, ◌++◌, ◌∷◌, [], ℕ, List, false, IfErr, IfOk, OnOk, IsErrOf};
+ghost use Rattle.spl_lines.specs.Written.{IsRunnable, IsWithin};
 ghost use Rattle.spl_app.specs.Able.{IsAble};
 ghost use Rattle.spl_app.specs.Ends.{EndsAt};
-ghost use Rattle.spl_app.specs.Run.{IsRunnable, IsWithin};
 ghost use Rattle.spl_model.specs.Answers.{answer_to};
 ghost use Rattle.spl_model.specs.Outcomes.{by_rule};
 ghost use Rattle.spl_model.specs.Projection.{Ran};

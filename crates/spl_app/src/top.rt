@@ -3,7 +3,6 @@ ghost use Rattle.std.specs.Prelude.{◌≡◌, ◌<◌, ◌≤◌, ◌↔◌, �
 ghost use Rattle.std.specs.Io.{appended_bytes};
 ghost use Rattle.std.specs.Io.KnownBytes.{Appends, Consumes, IsAtEnd};
 ghost use Rattle.spl_edge.specs.Causes.{Rose, AppendsPart};
-ghost use Rattle.spl_app.specs.Lines.{lines_of, rest_of, longest_line, limit};
 ghost use Rattle.spl_agreement.specs.Agreement.{Agree};
 ghost use Rattle.spl_agreement.specs.OneList.{TellOneList};
 ghost use Rattle.spl_registry.specs.declared.fault.RegistryFault.{RegistryFault};
@@ -14,12 +13,15 @@ ghost use Rattle.spl_gen.specs.Circuits.{nodes as gen_nodes};
 ghost use Rattle.spl_world.specs.Disks.{AllUnarmed, AreBlank, NoneForgotten, bench as bench_of, images, images_at};
 ghost use Rattle.spl_world.specs.Held.{AllUnpicked, AreHeld};
 ghost use Rattle.spl_world.specs.declared.fault.WorldFault.TheVariants.{NoMemory as NoRoom};
+ghost use Rattle.spl_lines.specs.Lines.{lines_of, rest_of, longest_line, limit};
+ghost use Rattle.spl_lines.specs.Written.{ran, answers};
+ghost use Rattle.spl_lines.specs.Given.{had, run_of};
 ghost use Rattle.spl_app.specs.Command.{IsCommand, IsGen};
 ghost use Rattle.spl_app.specs.Generated.{generated_lines, is_of_reading, last_answers};
-ghost use Rattle.spl_app.specs.Run.{HasFront, IsRun, Past, StopsAt, ran, answers};
+ghost use Rattle.spl_app.specs.Run.{HasFront, IsRun, Past, StopsAt};
 ghost use Rattle.spl_app.specs.Ends.{EndsAtNode, EndsPast, EndsShort, EndsSomewhere};
 ghost use Rattle.spl_app.specs.Registered.{HasFailedAt, HasFailedIn, Hold, IsRegistryText, OfRegistry, SomeFailed, nodes_of};
-ghost use Rattle.spl_app.specs.Schedule.{IsReplay, IsSchedule, IsBadAt, HasTooMany, had, run_of};
+ghost use Rattle.spl_app.specs.Schedule.{IsReplay, IsSchedule, IsBadAt, HasTooMany};
 
 use crate::Status;
 use crate::agree::runs_agree;

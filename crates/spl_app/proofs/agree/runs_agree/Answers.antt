@@ -1,5 +1,5 @@
-use Rattle.spl_app.specs.Run.{ran}
-use Rattle.spl_app.proofs.Agreed.{ran_fits}
+use Rattle.spl_lines.specs.Written.{ran}
+use Rattle.spl_lines.proofs.Fits.{ran_fits}
 use Rattle.spl_app.proofs.agree.runs_agree.Goals as goal
 
 pub returns-clause-agreed : goal.returns-clause-agreed

@@ -1,7 +1,7 @@
 use Rattle.std.proofs.Common.{◌<◌, ◌≤◌, length, sym, ◌∙◌, ap, arith}
 use Rattle.spl_registry.specs.Tree.{registry_of}
-use Rattle.spl_app.specs.Lines.{limit}
-use Rattle.spl_app.proofs.Given.{gives, limit_is}
+use Rattle.spl_lines.specs.Lines.{limit}
+use Rattle.spl_lines.proofs.Given.{gives, limit_is}
 use Rattle.spl_app.proofs.registered.read_registry.Goals as goal
 
 pub returns-in-Ok-clause-text : goal.returns-in-Ok-clause-text

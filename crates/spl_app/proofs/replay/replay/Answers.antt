@@ -5,10 +5,13 @@ use Rattle.spl_circuit.specs.Nodes.{sorted}
 use Rattle.spl_registry.specs.Nodes.{ids_of}
 use Rattle.spl_world.specs.Disks.{bench}
 use Rattle.spl_world.specs.Held.{AreHeld}
-use Rattle.spl_app.specs.Run.{IsRun, Past, ran, answers}
-use Rattle.spl_app.specs.Schedule.{IsBadAt, run_of}
+use Rattle.spl_lines.specs.Written.{ran, answers}
+use Rattle.spl_lines.specs.Given.{run_of}
+use Rattle.spl_lines.proofs.Given.{run_given}
+use Rattle.spl_app.specs.Run.{IsRun, Past}
+use Rattle.spl_app.specs.Schedule.{IsBadAt}
 use Rattle.spl_app.proofs.Ends.{none_bad}
-use Rattle.spl_app.proofs.Given.{had_short, run_given, runs_on}
+use Rattle.spl_app.proofs.Given.{had_short, runs_on}
 use Rattle.spl_app.proofs.replay.replay.Goals as goal
 
 pub returns-in-Ok-Whole-clause-ok : goal.returns-in-Ok-Whole-clause-ok

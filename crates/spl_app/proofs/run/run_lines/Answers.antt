@@ -10,19 +10,22 @@ use Rattle.spl_world.specs.Making.{AreMadeBut}
 use Rattle.spl_world.specs.Views.{places_of}
 use Rattle.spl_world.specs.declared.fault.WorldFault.{WorldFault}
 use Rattle.spl_world.specs.declared.fault.WorldFault.TheVariants.{Disk as FailedDisk, NoMemory as NoRoom, TooMany as PastLimit}
+use Rattle.spl_lines.specs.Given.{run_of}
+use Rattle.spl_lines.specs.Written.{ran, answers_behind}
+use Rattle.spl_lines.specs.Due.{IsDue, IsDuePart}
+use Rattle.spl_lines.proofs.Dues.{part_flushed, due_flushed}
+use Rattle.spl_lines.proofs.Results.{ok_then}
+use Rattle.spl_lines.proofs.Outputs.{none_yet}
 use Rattle.spl_app.specs.declared.fault.RunEnd.TheVariants.{Whole}
 use Rattle.spl_app.specs.declared.fault.RunFault.TheVariants.{NoMemory}
 use Rattle.spl_app.specs.Ends.{EndsBehind, HeldOrEnds}
-use Rattle.spl_app.specs.Schedule.{IsBadAt, IsSchedule, run_of}
+use Rattle.spl_app.specs.Schedule.{IsBadAt, IsSchedule}
 use Rattle.std.proofs.KnownBytes.{Appends-nil}
-use Rattle.spl_app.specs.Run.{ran, Past, HasFront, StopsAt, answers_behind}
-use Rattle.spl_app.specs.Due.{IsDue, IsDuePart}
-use Rattle.spl_app.proofs.Dues.{part_flushed, due_flushed}
+use Rattle.spl_app.specs.Run.{Past, HasFront, StopsAt}
 use Rattle.spl_app.proofs.Benches.{none_then, place_below}
 use Rattle.spl_app.proofs.Ending.{ends_in, made_short, somewhere}
 use Rattle.spl_app.proofs.Events.{none_within}
-use Rattle.spl_app.proofs.Behinds.{at_own, both, ok_then}
-use Rattle.spl_app.proofs.Outputs.{none_yet}
+use Rattle.spl_app.proofs.Behinds.{at_own, both}
 use Rattle.spl_world.proofs.HoldingSeats.{seats_held}
 use Rattle.spl_app.proofs.run.run_lines.Goals as goal
 

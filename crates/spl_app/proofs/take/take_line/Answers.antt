@@ -7,7 +7,7 @@ use Rattle.spl_world.specs.Ended.{LineEnds}
 use Rattle.spl_world.specs.Links.{is_of_links}
 use Rattle.spl_world.specs.Views.{ids_of, places_of}
 use Rattle.spl_world.specs.declared.fault.WorldFault.{WorldFault}
-use Rattle.spl_app.proofs.Behinds.{ok_then}
+use Rattle.spl_lines.proofs.Results.{ok_then}
 use Rattle.spl_app.proofs.Benches.{none_on, unarmed_on}
 use Rattle.spl_app.proofs.Ending.{err_then, halt_ends, step_ends}
 use Rattle.spl_app.proofs.Halts.{stays_within}

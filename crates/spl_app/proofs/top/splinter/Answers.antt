@@ -6,18 +6,20 @@ use Rattle.spl_edge.specs.Causes.{AppendsPart}
 use Rattle.spl_circuit.specs.Nodes.{Node}
 use Rattle.spl_gen.specs.Circuits.{nodes as gen_nodes}
 use Rattle.spl_registry.specs.Nodes.{made}
+use Rattle.spl_lines.specs.Lines.{lines_of}
+use Rattle.spl_lines.specs.Written.{ran, answers}
+use Rattle.spl_lines.specs.Given.{had, run_of}
+use Rattle.spl_lines.proofs.Given.{all_had}
 use Rattle.spl_app.specs.declared.status.Status.TheVariants as status
 use Rattle.spl_app.specs.Generated.{generated_lines, last_answers}
-use Rattle.spl_app.specs.Lines.{lines_of}
 use Rattle.spl_world.specs.Disks.{bench}
 use Rattle.spl_world.specs.Held.{AreHeld}
 use Rattle.spl_app.specs.Ends.{EndsAtNode, EndsPast, EndsShort, EndsSomewhere}
 use Rattle.spl_world.specs.declared.fault.WorldFault.TheVariants.{NoMemory as NoRoom}
-use Rattle.spl_app.specs.Run.{HasFront, IsRun, Past, StopsAt, ran, answers}
-use Rattle.spl_app.specs.Schedule.{IsSchedule, IsBadAt, HasTooMany, had, run_of}
+use Rattle.spl_app.specs.Run.{HasFront, IsRun, Past, StopsAt}
+use Rattle.spl_app.specs.Schedule.{IsSchedule, IsBadAt, HasTooMany}
 use Rattle.spl_app.specs.Registered.{HasFailedAt, nodes_in, nodes_of}
 use Rattle.spl_app.proofs.Benches.{none_itself, unpicked_unarmed}
-use Rattle.spl_app.proofs.Given.{all_had}
 use Rattle.spl_app.proofs.Registries.{no_fault, had_no_fault, had_not_long}
 use Rattle.spl_app.proofs.Words.{only_gen}
 use Rattle.spl_app.proofs.top.splinter.Goals as goal

@@ -3,11 +3,11 @@ use Rattle.spl_circuit.specs.Nodes.{Node}
 use Rattle.spl_answer.specs.Texts.{text}
 use Rattle.spl_model.specs.Outcomes.{by_rule}
 use Rattle.spl_model.specs.Answers.{answer_to}
-use Rattle.spl_app.specs.Due.{IsDuePart}
+use Rattle.spl_lines.specs.Due.{IsDuePart}
+use Rattle.spl_lines.specs.Written.{shown}
+use Rattle.spl_lines.proofs.Dues.{due_waits, due_part}
 use Rattle.spl_app.specs.Ends.{EndsAt, HeldAt, RanOn}
 use Rattle.spl_app.specs.Faults.{fault_of}
-use Rattle.spl_app.specs.Run.{shown}
-use Rattle.spl_app.proofs.Dues.{due_waits, due_part}
 use Rattle.spl_world.specs.Disks.{bench}
 use Rattle.spl_world.specs.Views.{places_of}
 use Rattle.spl_world.specs.declared.fault.WorldFault.{WorldFault}

@@ -9,8 +9,8 @@ use Rattle.spl_world.specs.Disks.{bench}
 use Rattle.spl_world.specs.Views.{places_of}
 use Rattle.spl_world.specs.declared.fault.WorldFault.TheVariants.{Disk, NoMemory, TooMany}
 use Rattle.spl_world.specs.declared.fault.WorldFault.{WorldFault}
+use Rattle.spl_lines.specs.Written.{IsRunnable, IsWithin}
 use Rattle.spl_app.specs.Ends.{EndsAt, HeldAt}
-use Rattle.spl_app.specs.Run.{IsRunnable, IsWithin}
 use Rattle.spl_app.proofs.Benches.{err_back, err_same}
 use Rattle.spl_app.proofs.Ending.{as_seats, err_from}
 use Rattle.spl_app.proofs.run.Run.ask.Goals as goal

@@ -2,9 +2,10 @@ use Rattle.std.proofs.Common.{inr, List, [], ◌∷◌, ◌++◌, refl, subst, s
 use Rattle.spl_circuit.specs.Nodes.{Node}
 use Rattle.spl_world.specs.Disks.{bench}
 use Rattle.spl_world.specs.Views.{places_of}
+use Rattle.spl_lines.specs.Written.{IsLine, ran}
+use Rattle.spl_lines.proofs.Results.{ok_then, on_ok}
 use Rattle.spl_app.specs.Ends.{HeldAt}
-use Rattle.spl_app.specs.Run.{ran}
-use Rattle.spl_app.proofs.Behinds.{ok_then, on_ok, past_said, behind_part, behind_silent, behind_said, part_said}
+use Rattle.spl_app.proofs.Behinds.{past_said, behind_part, behind_silent, behind_said, part_said}
 use Rattle.spl_app.proofs.Ending.{err_then, fault_on, front_still}
 use Rattle.spl_app.proofs.Holds.{held_said, held_silent}
 use Rattle.spl_app.proofs.run.Run.line.Goals as goal
@@ -61,4 +62,5 @@ pub returns-in-Ok-Some-clause-ended : goal.returns-in-Ok-Some-clause-ended
 returns-in-Ok-Some-clause-ended g c = λ start lines run stands held.
     let now = (bench g.D.Disk.image_at g.D.Disk.moment g.D.Disk.faults g.D.Disk.armed g.D.Disk.picks c.answer.new.pairs.items) in
     err_then c.answer.result _ _ (c.answer.ensures.ended start (ran lines) stands held)
-    (λ f is ends. fault_on c.args.self.now.nodes.items (places_of c.args.self.now.world) lines c.args.line.now start now c.in-Ok-Some.said (sym c.in-Ok-Some.ensures.said ∙ c.in-Ok-Some.field-0-is) c.in-Ok-Some.ensures.good run f ends)
+    (λ f is ends. fault_on c.args.self.now.nodes.items (places_of c.args.self.now.world) lines c.args.line.now start now c.in-Ok-Some.said (sym c.in-Ok-Some.ensures.said ∙ c.in-Ok-Some.field-0-is)
+    (subst (λ (ns : List Node). IsLine ns c.args.line.now) c.deref.ensures.value c.in-Ok-Some.ensures.good) run f ends)

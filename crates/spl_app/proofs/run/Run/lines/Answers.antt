@@ -7,22 +7,23 @@ use Rattle.spl_world.specs.Disks.{bench}
 use Rattle.spl_world.specs.Held.{AllHeld}
 use Rattle.spl_world.specs.Views.{places_of}
 use Rattle.spl_world.specs.declared.fault.WorldFault.TheVariants.{Disk as FailedDisk, TooMany as PastLimit}
+use Rattle.spl_lines.specs.Lines.{lines_of}
+use Rattle.spl_lines.specs.Written.{ran, IsLine, answers_behind}
+use Rattle.spl_lines.specs.Given.{run_of}
+use Rattle.spl_lines.specs.Due.{IsDue, IsDuePart}
+use Rattle.spl_lines.specs.Feed.{Feeds, waiting}
+use Rattle.spl_lines.proofs.Dues.{due_same, due_whole}
+use Rattle.spl_lines.proofs.Fed.{unfinished, all_lines, few_lines, is_long, is_overlong, is_short}
+use Rattle.spl_lines.proofs.Given.{limit_is}
 use Rattle.spl_app.specs.declared.fault.RunFault.{RunFault}
 use Rattle.spl_app.specs.declared.fault.RunFault.TheVariants.{BadLine, TooMany, Disk}
 use Rattle.spl_app.specs.Ends.{EndsBehind, FaultEnds, HeldAt}
-use Rattle.spl_app.specs.Lines.{lines_of}
-use Rattle.spl_app.specs.Run.{HasFront, ran, IsLine, IsRun, Bad, Past, StopsFor, answers_behind}
-use Rattle.spl_app.specs.Schedule.{run_of}
-use Rattle.spl_app.specs.Due.{IsDue, IsDuePart}
-use Rattle.spl_app.specs.Feed.{Feeds, waiting}
-use Rattle.spl_app.proofs.Dues.{due_same, due_whole}
+use Rattle.spl_app.specs.Run.{HasFront, IsRun, Bad, Past, StopsFor}
 use Rattle.spl_app.proofs.Behinds.{at_first, at_own, both}
 use Rattle.spl_app.proofs.Benches.{none_itself, none_then}
-use Rattle.spl_app.proofs.Ends.{all_before, bad_rest, schedule, unfinished}
+use Rattle.spl_app.proofs.Ends.{all_before, bad_rest, schedule}
 use Rattle.spl_app.proofs.Ending.{as_seats, ends_more, fault_reached, front_at, front_whole}
 use Rattle.spl_app.proofs.Events.{none_within}
-use Rattle.spl_app.proofs.Fed.{all_lines, few_lines, is_long, is_overlong, is_short}
-use Rattle.spl_app.proofs.Given.{limit_is}
 use Rattle.spl_app.proofs.Holds.{held_as}
 use Rattle.spl_app.proofs.Runs.{all-push, before_it, front_of_all, part_of_all, stops_at}
 use Rattle.spl_app.proofs.run.Run.lines.Goals as goal

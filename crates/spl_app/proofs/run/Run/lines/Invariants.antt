@@ -3,9 +3,9 @@ use Rattle.std.specs.List.{AllByRecursion}
 use Rattle.spl_world.specs.Disks.{AllUnarmed, NoneForgotten, PairView, bench, images}
 use Rattle.spl_world.specs.Held.{AllHeld}
 use Rattle.spl_world.specs.Views.{places_of}
-use Rattle.spl_app.specs.Run.{IsLine, ran}
+use Rattle.spl_lines.specs.Written.{IsLine, ran}
+use Rattle.spl_lines.specs.Feed.{Feeds}
 use Rattle.spl_app.specs.Behind.{IsBehind}
-use Rattle.spl_app.specs.Feed.{Feeds}
 use Rattle.spl_app.proofs.run.Run.lines.Given as goal
 
 abbrev pub invariant-lines : goal.invariant-lines

@@ -1,8 +1,8 @@
 use Rattle.std.proofs.Common.{refl, arith}
 use Rattle.spl_world.proofs.HoldingSeats.{seats_placed}
 use Rattle.spl_world.specs.Links.{seat_of}
+use Rattle.spl_lines.proofs.Outputs.{due_none}
 use Rattle.spl_app.proofs.Benches.{none_on, unarmed_on, unpicked_unarmed}
-use Rattle.spl_app.proofs.Behinds.{due_none}
 use Rattle.spl_world.specs.declared.fault.WorldFault.TheVariants.{NoMemory}
 use Rattle.spl_app.proofs.Ending.{err_from, made_none}
 use Rattle.spl_app.proofs.Events.{none_within}
