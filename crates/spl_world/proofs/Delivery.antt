@@ -84,6 +84,7 @@ quiet_holds c n m a xs h = record {
     state = stood.state ∙ sym (quiet_at m n (slot_id x) a);
     sent = λ b known. stood.sent b known ∙ ap (on_pair (slot_id x) b) (sym (append_nothing m.sent));
   };
+  told = h.told;
 }
 
 -- so a step at a node that is down

@@ -19,7 +19,7 @@ use Rattle.spl_world.specs.Disks.{Images, images_at}
 use Rattle.spl_world.specs.Ended.{EachAt, EventEnds, IsLeftAtOne, Leads, LeaveEither, HoldFor, LineEnds, PartEnds, cells_in, is_calm, with_record}
 use Rattle.spl_world.specs.Views.{Holds, IsPlace, Nodes, Sits, Stands, ids_in, ids_of, over, places_of, slot_id, slot_places, view_in}
 use Rattle.spl_world.specs.declared.fault.WorldFault.{WorldFault}
-use Rattle.spl_world.specs.declared.fault.WorldFault.TheVariants.{Disk, Lied, Link, NoMemory, TooMany}
+use Rattle.spl_world.specs.declared.fault.WorldFault.TheVariants.{Disk, Lied, Link, NoMemory, NotAJournal, TooMany}
 use Rattle.spl_world.specs.declared.slot.Slot.{Slot}
 use Rattle.spl_world.specs.declared.world.World.{World}
 use Rattle.spl_world.proofs.Counting.{failed}
@@ -128,6 +128,7 @@ module _ (xs : Nodes) (worlds : CircuitId → CircuitWorld) (sits : Sits xs) (ho
 some_place : (ks : List ℕ) (e : WorldFault) → ((k : ℕ) → e ≡ Disk k → IsPlace ks k) → (i : ℕ) × ((k : ℕ) → e ≡ Disk k → slice_get ks i ≡ Some k)
 some_place ks (TooMany which) h = (0, λ k q. cc)
 some_place ks (Disk slot) h = let p = h slot refl in (p.0, λ k q. let same : slot ≡ k = cc in p.1 ∙ ap Some same)
+some_place ks (NotAJournal slot at) h = (0, λ k q. cc)
 some_place ks Link h = (0, λ k q. cc)
 some_place ks (Lied from to put got) h = (0, λ k q. cc)
 some_place ks NoMemory h = (0, λ k q. cc)

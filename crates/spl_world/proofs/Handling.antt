@@ -13,9 +13,9 @@ use Rattle.spl_rules.specs.Plans.{plan_of}
 use Rattle.spl_wire.specs.declared.event.Event.{Event}
 use Rattle.spl_world.specs.declared.fault.WorldFault.{WorldFault}
 use Rattle.spl_world.specs.declared.fault.WorldFault.TheVariants.{Disk}
-use Rattle.spl_world.specs.Disks.{AllGoOn, HasRisen, Images, LeavesDisks, PairGoesOn, bench, images, images_at, images_of, pair_view}
+use Rattle.spl_world.specs.Disks.{AllGoOn, HasRisen, Images, LeavesDisks, PairGoesOn, Tell, TellAs, bench, images, images_at, images_of, pair_view}
 use Rattle.spl_world.specs.Kept.{IsDone, NodeView, place_of}
-use Rattle.spl_world.specs.Views.{Moves, Nodes, Sits, node_view, slot_id, slot_ids, slot_up, view_in}
+use Rattle.spl_world.specs.Views.{Holds, Moves, Nodes, Sits, node_view, slot_id, slot_ids, slot_up, view_in}
 use Rattle.spl_world.specs.declared.slot.Slot.{Slot}
 use Rattle.spl_world.proofs.Leaving.{all_one, bench_here, bench_set, leaves_one}
 use Rattle.spl_world.proofs.Moving.{event_moves}
@@ -37,6 +37,10 @@ module _ {D : Type 0} (image_at : D → ℕ → Option Image) (moment : D → �
     pub own_stands : HostStands s.host (images_of image_at moment p).0 (images_of image_at moment p).1
     own_stands = subst (λ (q : Images). HostStands s.host q.0 q.1) own_images (sits.each i s there)
 
+    -- and tells where the nodes stand for a world
+    pub own_told : (c : CircuitId) (m : CircuitWorld) → Holds c m nodes → Tell (images_of image_at moment p)
+    own_told c m h = subst Tell own_images (h.told i s there)
+
     pub own_view : view_in nodes s ≡ node_view s (images_of image_at moment p)
     own_view = ap (node_view s) own_images
 
@@ -52,13 +56,13 @@ module _ {D : Type 0} (image_at : D → ℕ → Option Image) (moment : D → �
       own_sits same stands = subst (λ (is : List Images). Sits (record { slots = slice_set ss i t; disks = is })) disks_are (sits_changed nodes i s t (images_of image_at moment r) sits there same stands)
 
       -- an event there
-      pub own_moves : (c : CircuitId) (n : NodeId) (e : Event) → t.position ≡ s.position → slot_id t ≡ slot_id s → slot_up t ≡ slot_up s → slice_get (slot_ids ss) i ≡ Some n
+      pub own_moves : (c : CircuitId) (n : NodeId) (e : Event) → t.position ≡ s.position → slot_id t ≡ slot_id s → slot_up t ≡ slot_up s → slice_get (slot_ids ss) i ≡ Some n → TellAs (images_of image_at moment p) (images_of image_at moment r)
           → IsDone (slot_id s) (plan_of (site_at (slot_id s) c) ((node_view s (images_of image_at moment p)).cells c) e) (place_of (node_view s (images_of image_at moment p)) c) (place_of (node_view t (images_of image_at moment r)) c)
           → ((d : CircuitId) → bytes_eq c d ≡ false → place_of (node_view t (images_of image_at moment r)) d ≡ place_of (node_view s (images_of image_at moment p)) d)
           → Moves c (λ m. carried_out m n (plan_of (site_at n c) (m.at n) e)) nodes (record { slots = slice_set ss i t; disks = images image_at moment (slice_set ps k r) })
-      own_moves c n e same id up at done others =
+      own_moves c n e same id up at tells done others =
           subst (λ (is : List Images). Moves c (λ (m : CircuitWorld). carried_out m n (plan_of (site_at n c) (m.at n) e)) nodes (record { slots = slice_set ss i t; disks = is })) disks_are
-          (event_moves nodes i s t (images_of image_at moment r) c n e sits there same id up at
+          (event_moves nodes i s t (images_of image_at moment r) c n e sits there same id up at (subst (λ (q : Images). TellAs q (images_of image_at moment r)) (sym own_images) tells)
           (subst (λ (v : NodeView). IsDone (slot_id s) (plan_of (site_at (slot_id s) c) (v.cells c) e) (place_of v c) (place_of (node_view t (images_of image_at moment r)) c)) (sym own_view) done)
           (λ d off. subst (λ (v : NodeView). place_of (node_view t (images_of image_at moment r)) d ≡ place_of v d) (sym own_view) (others d off)))
 

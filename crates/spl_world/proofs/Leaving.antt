@@ -1,6 +1,6 @@
 -- How calls leave the disks, one behind the other.
-use Rattle.std.proofs.Common.{◌≡◌, ◌⊎◌, inl, inr, ℕ, zero, suc, ◌<◌, ◌≤◌, List, [], ◌∷◌, length, slice_get, slice_set, Option, Some, Result, Ok, Err, OnErr, refl, ap, sym, subst, ◌∙◌, arith}
-use Rattle.std.specs.Prelude.{IsErr, IsErrOf}
+use Rattle.std.proofs.Common.{◌≡◌, ◌⊎◌, inl, inr, ℕ, zero, suc, ◌<◌, ◌≤◌, false, true≢false, List, [], ◌∷◌, length, slice_get, slice_set, Option, Some, Result, Ok, Err, OnErr, refl, ap, sym, subst, ◌∙◌, arith}
+use Rattle.std.specs.Prelude.{IfErr, IsErr, IsErrOf}
 use Rattle.std.specs.Result.{IsErrAnd}
 use Rattle.spl_edge.specs.Image.{Image}
 use Rattle.spl_edge.specs.Picks.{Picked}
@@ -8,8 +8,8 @@ use Rattle.spl_edge.specs.declared.bench.Pair.{Pair}
 use Rattle.spl_edge.specs.declared.disk.Armed.{Armed}
 use Rattle.spl_world.specs.Views.{IsPlace}
 use Rattle.spl_world.specs.declared.fault.WorldFault.{WorldFault}
-use Rattle.spl_world.specs.declared.fault.WorldFault.TheVariants.{Disk, NoMemory, TooMany}
-use Rattle.spl_world.specs.Disks.{DiskView, PairView, GoesOn, PairGoesOn, AllGoOn, HasRisen, RoseAt, LeavesDisks, bench, pair_view}
+use Rattle.spl_world.specs.declared.fault.WorldFault.TheVariants.{Disk, NoMemory, NotAJournal, TooMany}
+use Rattle.spl_world.specs.Disks.{DiskView, PairView, GoesOn, PairGoesOn, AllGoOn, HasRisen, RoseAt, LeavesDisks, bench, is_of_journal, pair_view}
 use Rattle.spl_world.proofs.Counting.{failed}
 use Rattle.spl_world.proofs.Slots.{set_cases, set_length}
 
@@ -128,6 +128,17 @@ disk_at {A} ks ls (Err y) f e same k slot q = let is : y ≡ f = e.1 in let faul
 pub counted_no_disk : {A : Type 0} (r : Result A WorldFault) (n : ℕ) → OnErr r (IsErrOf r (TooMany n)) → (slot : ℕ) → IsErrOf r (Disk slot) → ⊥
 counted_no_disk (Ok a) n e slot q = cc
 counted_no_disk (Err f) n e slot q = cc
+
+-- ---- no journal
+
+pub no_journal : {A : Type 0} (r : Result A WorldFault) → IfErr r (λ e. is_of_journal e ≡ false) → (slot at : ℕ) → IsErrOf r (NotAJournal slot at) → ⊥
+no_journal (Ok a) off slot at q = cc
+no_journal (Err f) off slot at q = let same : f ≡ NotAJournal slot at = cc in true≢false (sym (ap is_of_journal same) ∙ off)
+
+-- a call fails as the call in it does
+pub journal_from : {A B : Type 0} (r : Result B WorldFault) (f : WorldFault) → IsErr r × IsErrAnd r (λ y. y ≡ f) → (slot at : ℕ) → IsErrOf r (NotAJournal slot at) → IsErrOf (failed A f) (NotAJournal slot at)
+journal_from (Ok b) f e slot at q = absurd e.1
+journal_from {A} (Err y) f e slot at q = let is : y ≡ f = e.1 in let fault : f ≡ NotAJournal slot at = cc in ap (failed A) fault
 
 -- ---- one pair
 

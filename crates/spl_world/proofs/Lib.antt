@@ -22,6 +22,7 @@ mod Staying
 mod Defined
 mod Steps
 mod Ticking
+pub mod Telling
 mod Turns
 mod Up
 pub mod Powering

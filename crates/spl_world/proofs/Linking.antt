@@ -15,7 +15,7 @@ use Rattle.spl_pump.specs.declared.fault.PumpFault.TheVariants as pump
 use Rattle.spl_wire.specs.declared.message.Message.{Message}
 use Rattle.spl_world.specs.Links.{Carries, CarriesPart, Delivers, HasLinkCause, LinkView, carry_fault, is_of_links}
 use Rattle.spl_world.specs.declared.fault.WorldFault.{WorldFault}
-use Rattle.spl_world.specs.declared.fault.WorldFault.TheVariants.{Disk, Lied, Link, NoMemory, TooMany}
+use Rattle.spl_world.specs.declared.fault.WorldFault.TheVariants.{Disk, Lied, Link, NoMemory, NotAJournal, TooMany}
 
 -- a carrier puts nothing where it carries nothing
 abbrev pub IsIdle : LinkView → Type 0
@@ -65,6 +65,7 @@ cause_behind Link xs ys x y z less c = omega (arith, less, c)
 cause_behind (Lied from to put got) xs ys x y z less c = (any_behind (is_on from to) xs ys c.0, c.1)
 cause_behind (TooMany which) xs ys x y z less c = tt
 cause_behind (Disk slot) xs ys x y z less c = tt
+cause_behind (NotAJournal slot at) xs ys x y z less c = tt
 cause_behind NoMemory xs ys x y z less c = tt
 
 cause_more : (e : WorldFault) (xs ys : List Carried) (x y : LinkView) → HasLinkCause e xs x y → HasLinkCause e (xs ++ ys) x y
@@ -72,6 +73,7 @@ cause_more Link xs ys x y c = c
 cause_more (Lied from to put got) xs ys x y c = (any_front (is_on from to) xs ys c.0, c.1)
 cause_more (TooMany which) xs ys x y c = tt
 cause_more (Disk slot) xs ys x y c = tt
+cause_more (NotAJournal slot at) xs ys x y c = tt
 cause_more NoMemory xs ys x y c = tt
 
 no_cause : (e : WorldFault) (xs : List Carried) (x y : LinkView) → is_of_links e ≡ false → HasLinkCause e xs x y
@@ -79,6 +81,7 @@ no_cause Link xs x y off = absurd cc
 no_cause (Lied from to put got) xs x y off = absurd cc
 no_cause (TooMany which) xs x y off = tt
 no_cause (Disk slot) xs x y off = tt
+no_cause (NotAJournal slot at) xs x y off = tt
 no_cause NoMemory xs x y off = tt
 
 pub part_behind : (e : WorldFault) (xs ys : List Carried) (x y z : LinkView) → Carries xs x y → CarriesPart e ys y z → CarriesPart e (xs ++ ys) x z

@@ -1,5 +1,6 @@
 -- The nodes of a registry, one behind the other.
 use Rattle.std.proofs.Common.{◌≡◌, ◌⊎◌, inl, inr, ℕ, zero, suc, ◌+◌, ◌<◌, ◌≤◌, true, false, true≢false, List, [], ◌∷◌, ◌++◌, length, take, option_map, Some, IsSome, slice_get, slice_set, refl, ap, sym, ◌∙◌, subst, arith}
+use Rattle.std.proofs.lemmas.Bool.{cases_eq}
 use Rattle.std.specs.List.{position_from}
 use Rattle.spl_circuit.specs.Nodes.{NodeId, CircuitId, has_node, is_below, sorted}
 use Rattle.spl_circuit.specs.Rules.{ascends}
@@ -8,7 +9,7 @@ use Rattle.spl_circuit.proofs.Sorting.{has_sorted}
 use Rattle.spl_model.specs.Worlds.{first_world}
 use Rattle.spl_node.specs.Hosts.{HostStands}
 use Rattle.spl_registry.specs.Nodes.{Entry, ids_of, is_of, node_at}
-use Rattle.spl_world.specs.Disks.{Images, images_at, images_or_none}
+use Rattle.spl_world.specs.Disks.{AllTell, Images, Tell, TellAs, images_at, images_or_none}
 use Rattle.spl_world.specs.Kept.{Posted, lists_about, sent_to}
 use Rattle.spl_world.specs.Views.{Holds, IsFresh, IsPlace, Sits, slot_id, slot_ids, slot_places}
 use Rattle.spl_world.specs.declared.slot.Slot.{Slot}
@@ -16,6 +17,7 @@ use Rattle.spl_world.proofs.Pairing.{pair_here}
 use Rattle.spl_world.proofs.Reading.{has_at}
 use Rattle.spl_world.proofs.Sends.{bool_cases, bytes_are}
 use Rattle.spl_world.proofs.Slots.{below_after, id_at, not_before, set_else, set_here, set_length, tail_ascends, take_one}
+use Rattle.spl_world.proofs.Telling.{told_as}
 use Rattle.spl_world.proofs.Turns.{append_cases}
 
 -- ---- positions in a registry
@@ -73,17 +75,18 @@ once (m ∷ ms) (suc i) (suc j) n a e f = ap suc (once ms i j n (tail_ascends m 
 -- ---- the nodes so far
 
 -- they have the first of the ids, nothing happened at them, and each stands over the pair at its position; the other pairs hold
--- what they held
+-- what they held. Disks that told tell
 pub record AreMade (es : List Entry) (ns : List NodeId) (k : ℕ) (ss : List Slot) (start now : List Images) : Type 0 where
   pub ids : slot_ids ss ≡ take k ns
   pub fresh : (i : ℕ) (s : Slot) → slice_get ss i ≡ Some s → IsFresh s
   pub placed : (i : ℕ) (s : Slot) → slice_get ss i ≡ Some s → IsEntry es s.position (slot_id s)
   pub stands : (i : ℕ) (s : Slot) → slice_get ss i ≡ Some s → HostStands s.host (images_at now s.position).0 (images_at now s.position).1
   pub rest : (p : ℕ) → ((i : ℕ) (s : Slot) → slice_get ss i ≡ Some s → s.position ≡ p → ⊥) → images_at now p ≡ images_at start p
+  pub told : (p : ℕ) → Tell (images_at start p) → Tell (images_at now p)
   pub as_many : length now ≡ length start
 
 pub none_made : (es : List Entry) (ns : List NodeId) (start : List Images) → AreMade es ns 0 [] start start
-none_made es ns start = record { ids = refl; fresh = λ i s e. absurd (empty i s e); placed = λ i s e. absurd (empty i s e); stands = λ i s e. absurd (empty i s e); rest = λ p h. refl; as_many = refl }
+none_made es ns start = record { ids = refl; fresh = λ i s e. absurd (empty i s e); placed = λ i s e. absurd (empty i s e); stands = λ i s e. absurd (empty i s e); rest = λ p h. refl; told = λ p h. h; as_many = refl }
   where
     empty : (i : ℕ) (s : Slot) → slice_get [] i ≡ Some s → ⊥
     empty i s e = cc
@@ -104,7 +107,7 @@ module _ (es : List Entry) (ns : List NodeId) (k : ℕ) (ss : List Slot) (start 
   pub still_there : images_at now p ≡ images_at start p
   still_there = made.rest p not_taken
 
-  module _ (t : Slot) (q : Images) (id_is : slot_id t ≡ n) (place : t.position ≡ p) (below : p < length now) (fresh : IsFresh t) (stands : HostStands t.host q.0 q.1) where
+  module _ (t : Slot) (q : Images) (id_is : slot_id t ≡ n) (place : t.position ≡ p) (below : p < length now) (fresh : IsFresh t) (stands : HostStands t.host q.0 q.1) (tells : TellAs (images_at now p) q) where
     fresh_each : (i : ℕ) (s : Slot) → (slice_get ss i ≡ Some s) ⊎ ((i ≡ length ss) × (t ≡ s)) → IsFresh s
     fresh_each i s (inl e) = made.fresh i s e
     fresh_each i s (inr e) = subst IsFresh e.1 fresh
@@ -117,6 +120,12 @@ module _ (es : List Entry) (ns : List NodeId) (k : ℕ) (ss : List Slot) (start 
     stands_each i s (inl e) = subst (λ (r : Images). HostStands s.host r.0 r.1) (sym (ap images_or_none (set_else now p s.position q (λ f. not_taken i s e (sym f))))) (made.stands i s e)
     stands_each i s (inr e) = subst (λ (u : Slot). HostStands u.host (images_at (slice_set now p q) u.position).0 (images_at (slice_set now p q) u.position).1) e.1
         (subst (λ (r : Images). HostStands t.host r.0 r.1) (sym (ap (images_at (slice_set now p q)) place ∙ pair_here (slice_set now p q) p q (set_here now p q below))) stands)
+
+    told_each : (j : ℕ) → Tell (images_at start j) → (j ≡ p) ⊎ (j ≡ p → ⊥) → Tell (images_at (slice_set now p q) j)
+    told_each j h (inl e) =
+        subst (λ (k : ℕ). Tell (images_at (slice_set now p q) k)) (sym e)
+        (subst Tell (sym (pair_here (slice_set now p q) p q (set_here now p q below))) (told_as (images_at now p) q tells (made.told p (subst (λ (k : ℕ). Tell (images_at start k)) e h))))
+    told_each j h (inr off) = subst Tell (sym (ap images_or_none (set_else now p j q (λ e. off (sym e))))) (made.told j h)
 
     old_there : (i : ℕ) (s : Slot) → slice_get ss i ≡ Some s → slice_get (ss ++ t ∷ []) i ≡ Some s
     old_there = front ss
@@ -141,6 +150,7 @@ module _ (es : List Entry) (ns : List NodeId) (k : ℕ) (ss : List Slot) (start 
       placed = λ i s e. placed_each i s (append_cases ss t i s e);
       stands = λ i s e. stands_each i s (append_cases ss t i s e);
       rest = λ j free. ap images_or_none (set_else now p j q (λ f. free (length ss) t last_there (place ∙ f))) ∙ made.rest j (λ i s e. free i s (old_there i s e));
+      told = λ j h. told_each j h (cases_eq j p);
       as_many = set_length now p q ∙ made.as_many;
     }
 
@@ -159,8 +169,8 @@ module _ (es : List Entry) (ns : List NodeId) (k : ℕ) (ss : List Slot) (start 
     each = made.stands;
   }
 
-  pub made_holds : (c : CircuitId) → Holds c (first_world (slot_ids ss)) (record { slots = ss; disks = now })
-  made_holds c = record {
+  pub made_holds : AllTell (length es) start → (c : CircuitId) → Holds c (first_world (slot_ids ss)) (record { slots = ss; disks = now })
+  made_holds tell c = record {
     ordered = ap ascends all ∙ order;
     nodes = refl;
     each = λ i s e. let f = made.fresh i s e in record {
@@ -168,6 +178,7 @@ module _ (es : List Entry) (ns : List NodeId) (k : ℕ) (ss : List Slot) (start 
       state = f.empty (images_at now s.position) c;
       sent = λ b known. ap (λ (ps : Posted). sent_to (lists_about ps c) b) f.silent;
     };
+    told = λ i s e. made.told s.position (tell s.position (entry_below es s.position (slot_id s) (made.placed i s e)));
   }
 
 -- ---- positions

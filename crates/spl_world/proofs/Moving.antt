@@ -13,13 +13,14 @@ use Rattle.spl_rules.specs.Changes.{after_plan}
 use Rattle.spl_model.specs.Worlds.{site_at, World as CircuitWorld, Sent, on_pair, posted, carried_out}
 use Rattle.spl_model.specs.Puts.{put_at-here, put_at-other}
 use Rattle.spl_world.specs.Kept.{NodeView, PlaceView, IsDone, place_of, sent_to, sends_to}
-use Rattle.spl_world.specs.Disks.{Images}
+use Rattle.spl_world.specs.Disks.{Images, Tell, TellAs, images_at}
 use Rattle.spl_world.specs.Views.{Nodes, Holds, IsAs, Moves, Sits, node_view, slot_id, slot_ids, slot_up, view_in}
 use Rattle.spl_world.specs.declared.slot.Slot.{Slot}
 use Rattle.spl_world.proofs.About.{same_itself}
 use Rattle.spl_world.proofs.Sends.{bool_cases, bytes_are}
-use Rattle.spl_world.proofs.Pairing.{changed, view_else, view_here}
+use Rattle.spl_world.proofs.Pairing.{changed, told_changed, view_else, view_here}
 use Rattle.spl_world.proofs.Slots.{same_at, id_at, same_ids, set_cases, apart}
+use Rattle.spl_world.proofs.Telling.{told_as}
 
 -- ---- what is posted
 
@@ -104,18 +105,20 @@ module _ (xs : Nodes) (i : ℕ) (x y : Slot) (q : Images) (sits : Sits xs) (ther
       (subst (λ (v : NodeView). IsAs d m v) (sym (view_here xs i x y q sits there place)) (same_as d m (view_in xs x) (node_view y q) same ups kept (h.each i x there)))
   others_each d m h kept j z (inr e) = else_each (IsAs d m) j z e.0 e.1 (h.each j z e.1)
 
-  pub own_holds : (c : CircuitId) (m : CircuitWorld) (n : NodeId) (p : Plan) → Holds c m xs → slot_id x ≡ n → IsDone n p (place_of (view_in xs x) c) (place_of (node_view y q) c) → Holds c (carried_out m n p) (changed xs i x y q)
-  own_holds c m n p h here done = record {
+  pub own_holds : (c : CircuitId) (m : CircuitWorld) (n : NodeId) (p : Plan) → Holds c m xs → Tell q → slot_id x ≡ n → IsDone n p (place_of (view_in xs x) c) (place_of (node_view y q) c) → Holds c (carried_out m n p) (changed xs i x y q)
+  own_holds c m n p h tells here done = record {
     ordered = ap ascends ids ∙ h.ordered;
     nodes = h.nodes ∙ sym ids;
     each = λ j z e. own_each c m n p h here done j z (set_cases xs.slots i j y z e);
+    told = told_changed xs i x y q sits there place tells h.told;
   }
 
-  pub others_hold : (d : CircuitId) (m : CircuitWorld) → Holds d m xs → place_of (node_view y q) d ≡ place_of (view_in xs x) d → Holds d m (changed xs i x y q)
-  others_hold d m h kept = record {
+  pub others_hold : (d : CircuitId) (m : CircuitWorld) → Holds d m xs → Tell q → place_of (node_view y q) d ≡ place_of (view_in xs x) d → Holds d m (changed xs i x y q)
+  others_hold d m h tells kept = record {
     ordered = ap ascends ids ∙ h.ordered;
     nodes = h.nodes ∙ sym ids;
     each = λ j z e. others_each d m h kept j z (set_cases xs.slots i j y z e);
+    told = told_changed xs i x y q sits there place tells h.told;
   }
 
 -- the plan of an event at a node
@@ -123,14 +126,14 @@ pub same_plan : (xs : Nodes) (i : ℕ) (x : Slot) (c : CircuitId) (n : NodeId) (
 same_plan xs i x c n e m there at h = ap (λ (k : Cell). plan_of (site_at (slot_id x) c) k e) ((h.each i x there).state) ∙ ap (λ (k : NodeId). plan_of (site_at k c) (m.at k) e) (same_at xs.slots i x n there at)
 
 -- an event at a node
-pub event_moves : (xs : Nodes) (i : ℕ) (x y : Slot) (q : Images) (c : CircuitId) (n : NodeId) (e : Event) → Sits xs → slice_get xs.slots i ≡ Some x → y.position ≡ x.position → slot_id y ≡ slot_id x → slot_up y ≡ slot_up x → slice_get (slot_ids xs.slots) i ≡ Some n
+pub event_moves : (xs : Nodes) (i : ℕ) (x y : Slot) (q : Images) (c : CircuitId) (n : NodeId) (e : Event) → Sits xs → slice_get xs.slots i ≡ Some x → y.position ≡ x.position → slot_id y ≡ slot_id x → slot_up y ≡ slot_up x → slice_get (slot_ids xs.slots) i ≡ Some n → TellAs (images_at xs.disks x.position) q
     → IsDone (slot_id x) (plan_of (site_at (slot_id x) c) ((view_in xs x).cells c) e) (place_of (view_in xs x) c) (place_of (node_view y q) c) → ((d : CircuitId) → bytes_eq c d ≡ false → place_of (node_view y q) d ≡ place_of (view_in xs x) d)
     → Moves c (λ m. carried_out m n (plan_of (site_at n c) (m.at n) e)) xs (changed xs i x y q)
-event_moves xs i x y q c n e sits there place same ups at done others = record {
+event_moves xs i x y q c n e sits there place same ups at tells done others = record {
   own = λ m h.
       let here : slot_id x ≡ n = same_at xs.slots i x n there at in
       let plans : plan_of (site_at (slot_id x) c) ((view_in xs x).cells c) e ≡ plan_of (site_at n c) (m.at n) e = same_plan xs i x c n e m there at h in
-      own_holds xs i x y q sits there place same ups c m n (plan_of (site_at n c) (m.at n) e) h here
+      own_holds xs i x y q sits there place same ups c m n (plan_of (site_at n c) (m.at n) e) h (told_as (images_at xs.disks x.position) q tells (h.told i x there)) here
       (subst (λ (p : Plan). IsDone n p (place_of (view_in xs x) c) (place_of (node_view y q) c)) plans (subst (λ (k : NodeId). IsDone k (plan_of (site_at (slot_id x) c) ((view_in xs x).cells c) e) (place_of (view_in xs x) c) (place_of (node_view y q) c)) here done));
-  others = λ d m off h. others_hold xs i x y q sits there place same ups d m h (others d off);
+  others = λ d m off h. others_hold xs i x y q sits there place same ups d m h (told_as (images_at xs.disks x.position) q tells (h.told i x there)) (others d off);
 }

@@ -1,12 +1,12 @@
 -- A node and its pair of disks, one of which was written.
-use Rattle.std.proofs.Common.{◌≡◌, ℕ, zero, suc, ◌<◌, ◌⊎◌, inl, inr, List, [], ◌∷◌, length, slice_get, slice_set, Option, Some, refl, ap, sym, ◌∙◌, subst}
+use Rattle.std.proofs.Common.{◌≡◌, ℕ, zero, suc, ◌<◌, ◌⊎◌, inl, inr, List, [], ◌∷◌, length, slice_get, slice_set, Option, Some, refl, ap, sym, ◌∙◌, subst, arith}
 use Rattle.spl_edge.specs.Image.{Image}
 use Rattle.spl_edge.specs.declared.bench.Pair.{Pair}
 use Rattle.spl_node.specs.Hosts.{HostStands}
-use Rattle.spl_world.specs.Disks.{Images, images, images_at, images_of, images_or_none}
+use Rattle.spl_world.specs.Disks.{Images, Tell, images, images_at, images_of, images_or_none}
 use Rattle.spl_world.specs.Views.{Nodes, Sits, node_view, view_in}
 use Rattle.spl_world.specs.declared.slot.Slot.{Slot}
-use Rattle.spl_world.proofs.Slots.{set_cases, set_length, set_here, set_else}
+use Rattle.spl_world.proofs.Slots.{set_cases, set_length, set_here, set_else, set_same}
 
 -- ---- what the pairs hold
 
@@ -28,6 +28,11 @@ images_length image_at moment (r ∷ ps) = ap suc (images_length image_at moment
 pub pair_here : (is : List Images) (k : ℕ) (q : Images) → slice_get is k ≡ Some q → images_at is k ≡ q
 pair_here is k q e = ap images_or_none e
 
+pub pair_there : (is : List Images) (k : ℕ) → k < length is → slice_get is k ≡ Some (images_at is k)
+pair_there [] k below = absurd (omega (arith, below))
+pair_there (q ∷ is) zero below = refl
+pair_there (q ∷ is) (suc k) below = let rest : k < length is = omega (arith, below) in pair_there is k rest
+
 -- ---- one node and its pair are written
 
 abbrev pub changed : Nodes → ℕ → Slot → Slot → Images → Nodes
@@ -47,6 +52,20 @@ pair_else xs i j x z q sits there at ne = ap images_or_none (set_else xs.disks x
 
 pub view_else : (xs : Nodes) (i j : ℕ) (x y z : Slot) (q : Images) → Sits xs → slice_get xs.slots i ≡ Some x → slice_get xs.slots j ≡ Some z → (j ≡ i → ⊥) → view_in (changed xs i x y q) z ≡ view_in xs z
 view_else xs i j x y z q sits there at ne = ap (node_view z) (pair_else xs i j x z q sits there at ne)
+
+-- a node alone, over a pair that stays
+pub changed_alone : (xs : Nodes) (i : ℕ) (x y : Slot) → Sits xs → slice_get xs.slots i ≡ Some x → changed xs i x y (images_at xs.disks x.position) ≡ record { slots = slice_set xs.slots i y; disks = xs.disks }
+changed_alone xs i x y sits there =
+    ap (λ (is : List Images). record { slots = slice_set xs.slots i y; disks = is }) (set_same xs.disks x.position (images_at xs.disks x.position) (pair_there xs.disks x.position (sits.below i x there)))
+
+-- the disks tell as before, where those that were written do
+pub told_changed : (xs : Nodes) (i : ℕ) (x y : Slot) (q : Images) → Sits xs → slice_get xs.slots i ≡ Some x → y.position ≡ x.position → Tell q
+    → ((j : ℕ) (z : Slot) → slice_get xs.slots j ≡ Some z → Tell (images_at xs.disks z.position)) → (j : ℕ) (z : Slot) → slice_get (slice_set xs.slots i y) j ≡ Some z → Tell (images_at (slice_set xs.disks x.position q) z.position)
+told_changed xs i x y q sits there place own told j z at = go (set_cases xs.slots i j y z at)
+  where
+    go : ((j ≡ i) × (y ≡ z)) ⊎ ((j ≡ i → ⊥) × (slice_get xs.slots j ≡ Some z)) → Tell (images_at (slice_set xs.disks x.position q) z.position)
+    go (inl e) = subst (λ (u : Slot). Tell (images_at (slice_set xs.disks x.position q) u.position)) e.1 (subst Tell (sym (here_is xs i x y q sits there place)) own)
+    go (inr e) = subst Tell (sym (pair_else xs i j x z q sits there e.1 e.0)) (told j z e.1)
 
 -- the nodes sit as before, where the one that was written stands over its pair
 module _ (xs : Nodes) (i : ℕ) (x y : Slot) (q : Images) (sits : Sits xs) (there : slice_get xs.slots i ≡ Some x) (place : y.position ≡ x.position) (stands : HostStands y.host q.0 q.1) where

@@ -17,14 +17,14 @@ use Rattle.spl_projection.proofs.Counts.{events-more}
 use Rattle.spl_projection.specs.Whole.{world_after, world_beside, whole_world}
 use Rattle.spl_projection.specs.Apart.{moves-beside, whole_from-append}
 use Rattle.spl_rules.specs.Cells.{Cell}
-use Rattle.spl_world.specs.Disks.{Images}
+use Rattle.spl_world.specs.Disks.{Images, Tell}
 use Rattle.spl_world.specs.Kept.{NodeView, Posted, lists_about, sent_to}
 use Rattle.spl_world.specs.Views.{Nodes, Holds, IsAs, Sits, Stands, ids_of, node_view, over, slot_id, slot_ids, slot_up, view_in}
 use Rattle.spl_world.specs.declared.slot.Slot.{Slot}
 use Rattle.spl_world.specs.declared.world.World.{World}
 use Rattle.spl_world.proofs.About.{same_itself}
 use Rattle.spl_world.proofs.Sends.{bool_cases}
-use Rattle.spl_world.proofs.Pairing.{changed, view_else, view_here}
+use Rattle.spl_world.proofs.Pairing.{changed, told_changed, view_else, view_here}
 use Rattle.spl_world.proofs.Standing.{stops_after}
 use Rattle.spl_world.proofs.Slots.{id_at, same_ids, set_cases, apart}
 
@@ -35,7 +35,7 @@ pub record IsSameBut (n : NodeId) (m m2 : CircuitWorld) : Type 0 where
   pub up : (k : NodeId) → bytes_eq k n ≡ false → m2.up k ≡ m.up k
   pub at : (k : NodeId) → bytes_eq k n ≡ false → m2.at k ≡ m.at k
 
-module _ (xs : Nodes) (i : ℕ) (x y : Slot) (q : Images) (sits : Sits xs) (there : slice_get xs.slots i ≡ Some x) (place : y.position ≡ x.position) (same : slot_id y ≡ slot_id x) where
+module _ (xs : Nodes) (i : ℕ) (x y : Slot) (q : Images) (sits : Sits xs) (there : slice_get xs.slots i ≡ Some x) (place : y.position ≡ x.position) (same : slot_id y ≡ slot_id x) (tells : Tell q) where
   -- the cells of the node, before and behind
   abbrev was_at : CircuitId → Cell
   was_at c = (view_in xs x).cells c
@@ -49,6 +49,7 @@ module _ (xs : Nodes) (i : ℕ) (x y : Slot) (q : Images) (sits : Sits xs) (ther
     ordered = ap ascends ids ∙ h.ordered;
     nodes = o.nodes ∙ h.nodes ∙ sym ids;
     each = λ j z e. go j z (set_cases xs.slots i j y z e);
+    told = told_changed xs i x y q sits there place tells h.told;
   }
     where
       ids : slot_ids (slice_set xs.slots i y) ≡ slot_ids xs.slots

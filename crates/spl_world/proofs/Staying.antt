@@ -14,7 +14,7 @@ use Rattle.spl_world.proofs.Sends.{bool_cases, bytes_are}
 
 -- nodes that stand for a world stand for what it was before it stayed
 holds_unmoved : (c : CircuitId) (m n : CircuitWorld) (xs : Nodes) → IsUnmoved m n → Holds c n xs → Holds c m xs
-holds_unmoved c m n xs u h = record { ordered = h.ordered; nodes = sym u.nodes ∙ h.nodes; each = λ i s there. each (view_in xs s) (h.each i s there) }
+holds_unmoved c m n xs u h = record { ordered = h.ordered; nodes = sym u.nodes ∙ h.nodes; each = λ i s there. each (view_in xs s) (h.each i s there); told = h.told }
   where
     each : (x : NodeView) → IsAs c n x → IsAs c m x
     each x k = record {

@@ -1,5 +1,5 @@
 -- How a call counts the events of a line (docs/RULES.md, Limits).
-use Rattle.std.specs.Prelude.{◌≡◌, ◌⊎◌, ◌+◌, ◌<◌, ◌≤◌, ℕ, List, Result, OnOk, IsErrOf}
+use Rattle.std.specs.Prelude.{◌≡◌, ◌⊎◌, ◌+◌, ◌<◌, ◌≤◌, ℕ, Bool, true, false, List, Result, OnOk, IsErrOf}
 use Rattle.spl_circuit.specs.Nodes.{NodeId}
 use Rattle.spl_model.specs.declared.TheConstants.{MOST_EVENTS, MOST_STOPS}
 use Rattle.spl_model.specs.Counts.{events_of, stops_of}
@@ -12,6 +12,11 @@ use Rattle.spl_world.specs.declared.fault.WorldFault.TheVariants.{TooMany}
 pub record Counts {A : Type 0} (r : Result A WorldFault) (old new before after : ℕ) : Type 0 where
   pub ok : OnOk r (new + before ≡ old + after)
   pub many : (which : ℕ) → IsErrOf r (TooMany which) → (which ≡ 1) × (MOST_EVENTS + before < old + after)
+
+-- an error is that of a limit
+abbrev pub is_of_limit : WorldFault → Bool
+is_of_limit (TooMany which) = true
+is_of_limit _ = false
 
 -- lines have more events than a run may, which is limit 1; or no more, and stop more often than it may, which is limit 2
 abbrev pub IsOver : List NodeId → List Ran → ℕ → Type 0

@@ -1,5 +1,5 @@
 -- What the disks of the nodes tell, and how a call leaves them.
-use Rattle.std.specs.Prelude.{◌≡◌, ◌⊎◌, ◌<◌, ◌≤◌, ℕ, List, [], ◌∷◌, length, slice_get, Option, Some, None, Result, IsErrOf, IfSome}
+use Rattle.std.specs.Prelude.{◌≡◌, ◌⊎◌, ◌<◌, ◌≤◌, ℕ, Bool, true, false, List, [], ◌∷◌, length, slice_get, Option, Some, None, Result, IsErrOf, IfSome}
 use Rattle.spl_edge.specs.Causes.{Rose}
 use Rattle.spl_edge.specs.Image.{Image}
 use Rattle.spl_edge.specs.Picks.{Picked}
@@ -7,9 +7,10 @@ use Rattle.spl_edge.specs.declared.bench.Pair.{Pair}
 use Rattle.spl_edge.specs.declared.disk.Armed.{Armed}
 use Rattle.spl_edge.specs.declared.disk.Arming.TheVariants.{Off}
 use Rattle.spl_journal.specs.Make.{IsBlank}
-use Rattle.spl_snapshot.specs.Counting.{Onward}
+use Rattle.spl_node.specs.Hosts.{BothTell}
+use Rattle.spl_snapshot.specs.Counting.{Onward, TellsAs}
 use Rattle.spl_world.specs.declared.fault.WorldFault.{WorldFault}
-use Rattle.spl_world.specs.declared.fault.WorldFault.TheVariants.{Disk}
+use Rattle.spl_world.specs.declared.fault.WorldFault.TheVariants.{Disk, NotAJournal}
 
 -- what the two disks of a node hold now, where they tell
 abbrev pub Images : Type 0
@@ -30,6 +31,18 @@ images_or_none (Some is) = is
 -- the pair at a position
 abbrev pub images_at : List Images → ℕ → Images
 images_at is i = images_or_none (slice_get is i)
+
+-- both disks of a node tell what they hold
+abbrev pub Tell : Images → Type 0
+Tell is = BothTell is.0 is.1
+
+-- so do those of each of the first so many pairs
+abbrev pub AllTell : ℕ → List Images → Type 0
+AllTell n is = (i : ℕ) → i < n → Tell (images_at is i)
+
+-- each of the two tells exactly where it did
+abbrev pub TellAs : Images → Images → Type 0
+TellAs old new = TellsAs old.0 new.0 × TellsAs old.1 new.1
 
 -- both disks are blank, where they tell
 pub record AreBlank (is : Images) : Type 0 where
@@ -81,6 +94,11 @@ HasRisen p q = Rose p.first.faults q.first.faults ⊎ Rose p.second.faults q.sec
 pub record RoseAt (i : ℕ) (old new : List PairView) : Type 0 where
   pub below : i < length old
   pub rose : (p q : PairView) → slice_get old i ≡ Some p → slice_get new i ≡ Some q → HasRisen p q
+
+-- bytes that were read from disks are no journal
+abbrev pub is_of_journal : WorldFault → Bool
+is_of_journal (NotAJournal slot at) = true
+is_of_journal _ = false
 
 -- a call lets all pairs go on, and one that ends because the disks of a node failed tells the position of a pair of which one
 -- failed more often

@@ -12,7 +12,7 @@ use Rattle.spl_node.specs.Hosts.{HostStands, host_id, host_cell, is_up}
 use Rattle.spl_projection.specs.Whole.{whole_world}
 use Rattle.spl_registry.specs.Nodes.{Entry, node_at}
 use Rattle.spl_rules.specs.Cells.{Empty}
-use Rattle.spl_world.specs.Disks.{Images, images, images_at}
+use Rattle.spl_world.specs.Disks.{Images, Tell, images, images_at}
 use Rattle.spl_world.specs.Kept.{NodeView, place_of, lists_about, sent_to}
 use Rattle.spl_world.specs.declared.slot.Slot.{Slot}
 use Rattle.spl_world.specs.declared.world.World.{World}
@@ -60,6 +60,10 @@ IsPlace ks k = (i : ℕ) × (slice_get ks i ≡ Some k)
 -- the node of this index has this id
 abbrev pub IsAt : World → ℕ → NodeId → Type 0
 IsAt w i n = slice_get (ids_of w) i ≡ Some n
+
+-- the disks of the node of this id are the pair at this position
+abbrev pub HasPlace : World → NodeId → ℕ → Type 0
+HasPlace w n k = (i : ℕ) × IsAt w i n × (slice_get (places_of w) i ≡ Some k)
 
 -- the node of this index is up
 abbrev pub IsUp : World → ℕ → Type 0
@@ -120,11 +124,12 @@ pub record IsAs (c : CircuitId) (m : CircuitWorld) (x : NodeView) : Type 0 where
   pub state : (place_of x c).state ≡ m.at x.id
   pub sent : (b : NodeId) → has_node m.nodes b ≡ true → sent_to (place_of x c).sent b ≡ on_pair x.id b m.sent
 
--- the nodes stand for a world of a circuit
+-- the nodes stand for a world of a circuit, and their disks tell what they hold
 pub record Holds (c : CircuitId) (m : CircuitWorld) (xs : Nodes) : Type 0 where
   pub ordered : ascends (ids_in xs) ≡ true
   pub nodes : m.nodes ≡ ids_in xs
   pub each : (i : ℕ) (s : Slot) → slice_get xs.slots i ≡ Some s → IsAs c m (view_in xs s)
+  pub told : (i : ℕ) (s : Slot) → slice_get xs.slots i ≡ Some s → Tell (images_at xs.disks s.position)
 
 -- behind these lines each node keeps, about each circuit, what the world of that circuit behind all of them has there; and
 -- what it sent to each other is what was sent in that world. Their events and their stops are counted. Each node stands over its own disks

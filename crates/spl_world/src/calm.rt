@@ -9,7 +9,7 @@ ghost use Rattle.spl_model.specs.Quiet.{IsIdleAt, IsQuiet};
 ghost use Rattle.spl_rules.specs.Idle.{is_idle_note, is_idle};
 ghost use Rattle.spl_world.specs.Calms.{tick_at, tick_count, IsIdleTick, AreRows, IsSquare, row_of, sent_count};
 ghost use Rattle.spl_world.specs.Counts.{Counts};
-ghost use Rattle.spl_world.specs.Disks.{Images, LeavesDisks, bench, images};
+ghost use Rattle.spl_world.specs.Disks.{Images, LeavesDisks, bench, images, is_of_journal};
 ghost use Rattle.spl_world.specs.Ended.{EventEnds, PartEnds};
 ghost use Rattle.spl_world.specs.Links.{Delivers, IsReady, PartDelivers, Places, carried_in, is_of_links, link_view};
 ghost use Rattle.spl_world.specs.Views.{IsPlace, Holds, IsAt, IsUp, Moves, Sits, Spares, places_of, ids_of, over, seen};
@@ -18,7 +18,7 @@ use crate::fault::WorldFault;
 use crate::world::World;
 use spl_agree::Note;
 use spl_base::CircuitId;
-use spl_edge::{Fabric, Pair, StopDisk};
+use spl_edge::{Disk, Fabric, Pair};
 use spl_pump::Carry;
 use spl_wire::{Answer, Event};
 use std::alloc::{AllocError, Global};
@@ -68,7 +68,7 @@ impl World {
 
     // A tick at a node, where it is up and the circuit bound and open there. Answers whether there
     // was anything to do.
-    fn tick<D: StopDisk>(
+    fn tick<D: Disk>(
         &mut self,
         alloc: Global,
         pairs: &mut Vec<Pair<D>>,
@@ -86,6 +86,7 @@ impl World {
         ensures sits { OnOk result (Sits (seen D.image_at D.moment self.new pairs.new.items)) }
         ensures disks { LeavesDisks result (bench D.image_at D.moment D.faults D.armed D.picks pairs.old.items) (bench D.image_at D.moment D.faults D.armed D.picks pairs.new.items) }
         ensures place { (slot : ℕ) → IsErrOf result (WorldFault.Disk slot) → IsPlace (places_of self.old) slot }
+        ensures sound { IfErr result (λ e. is_of_journal e ≡ false) }
         ensures ended { (m : CircuitWorld) (n : Id) → Holds circuit m (seen D.image_at D.moment self.old pairs.old.items) → IsAt self.old slot n → IfErr result (λ e. EventEnds circuit (tick_at circuit n m) e (seen D.image_at D.moment self.old pairs.old.items) (images D.image_at D.moment pairs.new.items)) }
         ensures unlinked { IfErr result (λ e. is_of_links e ≡ false) }
     {
@@ -99,7 +100,7 @@ impl World {
 
     // A tick at each node that is up and where the circuit is bound and open. Answers whether there
     // was anything to do.
-    fn tick_all<D: StopDisk>(
+    fn tick_all<D: Disk>(
         &mut self,
         alloc: Global,
         pairs: &mut Vec<Pair<D>>,
@@ -115,6 +116,7 @@ impl World {
         ensures sits { OnOk result (Sits (seen D.image_at D.moment self.new pairs.new.items)) }
         ensures disks { LeavesDisks result (bench D.image_at D.moment D.faults D.armed D.picks pairs.old.items) (bench D.image_at D.moment D.faults D.armed D.picks pairs.new.items) }
         ensures place { (slot : ℕ) → IsErrOf result (WorldFault.Disk slot) → IsPlace (places_of self.old) slot }
+        ensures sound { IfErr result (λ e. is_of_journal e ≡ false) }
         ensures ended { (z : Calming) → Holds circuit z.world (seen D.image_at D.moment self.old pairs.old.items) → IfErr result (λ e. PartEnds circuit z (ticks circuit z (open_nodes z.world (ids_of self.old))) e (seen D.image_at D.moment self.old pairs.old.items) (images D.image_at D.moment pairs.new.items)) }
         ensures unlinked { IfErr result (λ e. is_of_links e ≡ false) }
     {
@@ -127,7 +129,7 @@ impl World {
     }
 
     // The messages of a pair from one index to another are delivered.
-    fn deliver_from<D: StopDisk, C: Carry, F: Fabric>(
+    fn deliver_from<D: Disk, C: Carry, F: Fabric>(
         &mut self,
         alloc: Global,
         pairs: &mut Vec<Pair<D>>,
@@ -153,6 +155,7 @@ impl World {
         ensures sits { OnOk result (Sits (seen D.image_at D.moment self.new pairs.new.items)) }
         ensures disks { LeavesDisks result (bench D.image_at D.moment D.faults D.armed D.picks pairs.old.items) (bench D.image_at D.moment D.faults D.armed D.picks pairs.new.items) }
         ensures place { (slot : ℕ) → IsErrOf result (WorldFault.Disk slot) → IsPlace (places_of self.old) slot }
+        ensures sound { IfErr result (λ e. is_of_journal e ≡ false) }
         ensures ended { (z : Calming) (a b : Id) → Holds circuit z.world (seen D.image_at D.moment self.old pairs.old.items) → IsAt self.old from a → IsAt self.old to b → IfErr result (λ e. PartEnds circuit z (delivers circuit z a b (taken + 1) (all - taken)) e (seen D.image_at D.moment self.old pairs.old.items) (images D.image_at D.moment pairs.new.items)) }
         ensures ready { OnOk result (IsReady (places_of self.new) (link_view C.slots C.failed C.wire F.put_on F.taken_on F.faults carrier.new fabric.new)) }
         ensures links { (place : Id → ℕ) (z : Calming) (a b : Id) → Places place (ids_of self.old) (places_of self.old) → Holds circuit z.world (seen D.image_at D.moment self.old pairs.old.items) → IsAt self.old from a → IsAt self.old to b → PartDelivers result place z (delivers circuit z a b (taken + 1) (all - taken)) (link_view C.slots C.failed C.wire F.put_on F.taken_on F.faults carrier.old fabric.old) (link_view C.slots C.failed C.wire F.put_on F.taken_on F.faults carrier.new fabric.new) }
@@ -166,7 +169,7 @@ impl World {
 
     // The turn of a pair: what was sent on it and isn't taken yet is delivered, where the recipient
     // is up. Answers how many are taken now.
-    fn pair_turn<D: StopDisk, C: Carry, F: Fabric>(
+    fn pair_turn<D: Disk, C: Carry, F: Fabric>(
         &mut self,
         alloc: Global,
         pairs: &mut Vec<Pair<D>>,
@@ -190,6 +193,7 @@ impl World {
         ensures sits { OnOk result (Sits (seen D.image_at D.moment self.new pairs.new.items)) }
         ensures disks { LeavesDisks result (bench D.image_at D.moment D.faults D.armed D.picks pairs.old.items) (bench D.image_at D.moment D.faults D.armed D.picks pairs.new.items) }
         ensures place { (slot : ℕ) → IsErrOf result (WorldFault.Disk slot) → IsPlace (places_of self.old) slot }
+        ensures sound { IfErr result (λ e. is_of_journal e ≡ false) }
         ensures ended { (z : Calming) (a b : Id) → Holds circuit z.world (seen D.image_at D.moment self.old pairs.old.items) → IsAt self.old from a → IsAt self.old to b → z.taken a b ≡ taken → IfErr result (λ e. PartEnds circuit z (pair_turn circuit z a b) e (seen D.image_at D.moment self.old pairs.old.items) (images D.image_at D.moment pairs.new.items)) }
         ensures ready { OnOk result (IsReady (places_of self.new) (link_view C.slots C.failed C.wire F.put_on F.taken_on F.faults carrier.new fabric.new)) }
         ensures links { (place : Id → ℕ) (z : Calming) (a b : Id) → Places place (ids_of self.old) (places_of self.old) → Holds circuit z.world (seen D.image_at D.moment self.old pairs.old.items) → IsAt self.old from a → IsAt self.old to b → z.taken a b ≡ taken → PartDelivers result place z (pair_turn circuit z a b) (link_view C.slots C.failed C.wire F.put_on F.taken_on F.faults carrier.old fabric.old) (link_view C.slots C.failed C.wire F.put_on F.taken_on F.faults carrier.new fabric.new) }
@@ -206,7 +210,7 @@ impl World {
     }
 
     // The turns of the pairs of one sender.
-    fn to_all<D: StopDisk, C: Carry, F: Fabric>(
+    fn to_all<D: Disk, C: Carry, F: Fabric>(
         &mut self,
         alloc: Global,
         pairs: &mut Vec<Pair<D>>,
@@ -230,6 +234,7 @@ impl World {
         ensures sits { OnOk result (Sits (seen D.image_at D.moment self.new pairs.new.items)) }
         ensures disks { LeavesDisks result (bench D.image_at D.moment D.faults D.armed D.picks pairs.old.items) (bench D.image_at D.moment D.faults D.armed D.picks pairs.new.items) }
         ensures place { (slot : ℕ) → IsErrOf result (WorldFault.Disk slot) → IsPlace (places_of self.old) slot }
+        ensures sound { IfErr result (λ e. is_of_journal e ≡ false) }
         ensures ended { (z : Calming) (a : Id) → Holds circuit z.world (seen D.image_at D.moment self.old pairs.old.items) → IsAt self.old from a → row.old.items ≡ row_of z.taken a (ids_of self.old) → IfErr result (λ e. PartEnds circuit z (to_all circuit z a (ids_of self.old)) e (seen D.image_at D.moment self.old pairs.old.items) (images D.image_at D.moment pairs.new.items)) }
         ensures ready { OnOk result (IsReady (places_of self.new) (link_view C.slots C.failed C.wire F.put_on F.taken_on F.faults carrier.new fabric.new)) }
         ensures links { (place : Id → ℕ) (z : Calming) (a : Id) → Places place (ids_of self.old) (places_of self.old) → Holds circuit z.world (seen D.image_at D.moment self.old pairs.old.items) → IsAt self.old from a → row.old.items ≡ row_of z.taken a (ids_of self.old) → PartDelivers result place z (to_all circuit z a (ids_of self.old)) (link_view C.slots C.failed C.wire F.put_on F.taken_on F.faults carrier.old fabric.old) (link_view C.slots C.failed C.wire F.put_on F.taken_on F.faults carrier.new fabric.new) }
@@ -241,7 +246,7 @@ impl World {
     }
 
     // The turns of all pairs.
-    fn from_all<D: StopDisk, C: Carry, F: Fabric>(
+    fn from_all<D: Disk, C: Carry, F: Fabric>(
         &mut self,
         alloc: Global,
         pairs: &mut Vec<Pair<D>>,
@@ -263,6 +268,7 @@ impl World {
         ensures sits { OnOk result (Sits (seen D.image_at D.moment self.new pairs.new.items)) }
         ensures disks { LeavesDisks result (bench D.image_at D.moment D.faults D.armed D.picks pairs.old.items) (bench D.image_at D.moment D.faults D.armed D.picks pairs.new.items) }
         ensures place { (slot : ℕ) → IsErrOf result (WorldFault.Disk slot) → IsPlace (places_of self.old) slot }
+        ensures sound { IfErr result (λ e. is_of_journal e ≡ false) }
         ensures ended { (z : Calming) → Holds circuit z.world (seen D.image_at D.moment self.old pairs.old.items) → AreRows z.taken (ids_of self.old) rows.old.items → IfErr result (λ e. PartEnds circuit z (from_all circuit z (ids_of self.old) (ids_of self.old)) e (seen D.image_at D.moment self.old pairs.old.items) (images D.image_at D.moment pairs.new.items)) }
         ensures ready { OnOk result (IsReady (places_of self.new) (link_view C.slots C.failed C.wire F.put_on F.taken_on F.faults carrier.new fabric.new)) }
         ensures links { (place : Id → ℕ) (z : Calming) → Places place (ids_of self.old) (places_of self.old) → Holds circuit z.world (seen D.image_at D.moment self.old pairs.old.items) → AreRows z.taken (ids_of self.old) rows.old.items → PartDelivers result place z (from_all circuit z (ids_of self.old) (ids_of self.old)) (link_view C.slots C.failed C.wire F.put_on F.taken_on F.faults carrier.old fabric.old) (link_view C.slots C.failed C.wire F.put_on F.taken_on F.faults carrier.new fabric.new) }
@@ -282,7 +288,7 @@ impl World {
     }
 
     // A pass: the ticks, and then the turns of all pairs. Answers whether there was anything to do.
-    fn pass<D: StopDisk, C: Carry, F: Fabric>(
+    fn pass<D: Disk, C: Carry, F: Fabric>(
         &mut self,
         alloc: Global,
         pairs: &mut Vec<Pair<D>>,
@@ -305,6 +311,7 @@ impl World {
         ensures sits { OnOk result (Sits (seen D.image_at D.moment self.new pairs.new.items)) }
         ensures disks { LeavesDisks result (bench D.image_at D.moment D.faults D.armed D.picks pairs.old.items) (bench D.image_at D.moment D.faults D.armed D.picks pairs.new.items) }
         ensures place { (slot : ℕ) → IsErrOf result (WorldFault.Disk slot) → IsPlace (places_of self.old) slot }
+        ensures sound { IfErr result (λ e. is_of_journal e ≡ false) }
         ensures ended { (z : Calming) → Holds circuit z.world (seen D.image_at D.moment self.old pairs.old.items) → AreRows z.taken (ids_of self.old) rows.old.items → IfErr result (λ e. PartEnds circuit z (pass circuit (ids_of self.old) z) e (seen D.image_at D.moment self.old pairs.old.items) (images D.image_at D.moment pairs.new.items)) }
         ensures ready { OnOk result (IsReady (places_of self.new) (link_view C.slots C.failed C.wire F.put_on F.taken_on F.faults carrier.new fabric.new)) }
         ensures links { (place : Id → ℕ) (z : Calming) → Places place (ids_of self.old) (places_of self.old) → Holds circuit z.world (seen D.image_at D.moment self.old pairs.old.items) → AreRows z.taken (ids_of self.old) rows.old.items → PartDelivers result place z (pass circuit (ids_of self.old) z) (link_view C.slots C.failed C.wire F.put_on F.taken_on F.faults carrier.old fabric.old) (link_view C.slots C.failed C.wire F.put_on F.taken_on F.faults carrier.new fabric.new) }
@@ -318,7 +325,7 @@ impl World {
 
     // So many passes. Behind one in which there was nothing to do the others have its ticks alone,
     // which are counted. After an error the world is done.
-    pub(crate) fn calm<D: StopDisk, C: Carry, F: Fabric>(
+    pub(crate) fn calm<D: Disk, C: Carry, F: Fabric>(
         &mut self,
         alloc: Global,
         pairs: &mut Vec<Pair<D>>,
@@ -337,6 +344,7 @@ impl World {
         ensures sits { OnOk result (Sits (seen D.image_at D.moment self.new pairs.new.items)) }
         ensures disks { LeavesDisks result (bench D.image_at D.moment D.faults D.armed D.picks pairs.old.items) (bench D.image_at D.moment D.faults D.armed D.picks pairs.new.items) }
         ensures place { (slot : ℕ) → IsErrOf result (WorldFault.Disk slot) → IsPlace (places_of self.old) slot }
+        ensures sound { IfErr result (λ e. is_of_journal e ≡ false) }
         ensures ended { (m : CircuitWorld) → Holds circuit m (seen D.image_at D.moment self.old pairs.old.items) → IfErr result (λ e. PartEnds circuit (calming m) (calm circuit m passes) e (seen D.image_at D.moment self.old pairs.old.items) (images D.image_at D.moment pairs.new.items)) }
         ensures ready { OnOk result (IsReady (places_of self.new) (link_view C.slots C.failed C.wire F.put_on F.taken_on F.faults carrier.new fabric.new)) }
         ensures links { (place : Id → ℕ) (m : CircuitWorld) → Places place (ids_of self.old) (places_of self.old) → Holds circuit m (seen D.image_at D.moment self.old pairs.old.items) → Delivers result (carried_in place m (calm circuit m passes).happened) (link_view C.slots C.failed C.wire F.put_on F.taken_on F.faults carrier.old fabric.old) (link_view C.slots C.failed C.wire F.put_on F.taken_on F.faults carrier.new fabric.new) }

@@ -1,12 +1,12 @@
 //! Messages that are carried to where they are delivered.
-ghost use Rattle.std.specs.Prelude.{◌≡◌, ◌≢◌, ◌<◌, ℕ, List, Some, false, length, slice_get, IfOk, IfSome, OnOk, IsErrOf};
+ghost use Rattle.std.specs.Prelude.{◌≡◌, ◌≢◌, ◌<◌, ℕ, List, Some, false, length, slice_get, IfErr, IfOk, IfSome, OnOk, IsErrOf};
 ghost use Rattle.std.specs.Str.{bytes_eq};
 ghost use Rattle.spl_circuit.specs.Nodes.{NodeId as Id};
 ghost use Rattle.spl_model.specs.Worlds.{World as CircuitWorld, messages, site_at};
 ghost use Rattle.spl_pump.specs.Wires.{AllTaken, only};
 ghost use Rattle.spl_rules.specs.Valid.{IsFor};
 ghost use Rattle.spl_wire.specs.Bounds.{IsSendable};
-ghost use Rattle.spl_world.specs.Disks.{Images};
+ghost use Rattle.spl_world.specs.Disks.{Images, is_of_journal};
 ghost use Rattle.spl_world.specs.Halts.{delivery_of};
 ghost use Rattle.spl_world.specs.Links.{Delivers, IsReady, Places, carried_of, link_view};
 ghost use Rattle.spl_world.specs.Views.{Holds, IsAt, ids_of, over, places_of};
@@ -41,6 +41,7 @@ fn carry<C: Carry, F: Fabric>(
     ensures links { Delivers result (only from to message.now) (link_view C.slots C.failed C.wire F.put_on F.taken_on F.faults carrier.old fabric.old) (link_view C.slots C.failed C.wire F.put_on F.taken_on F.faults carrier.new fabric.new) }
     ensures few { (which : ℕ) → IsErrOf result (WorldFault.TooMany which) → ⊥ }
     ensures disk { (slot : ℕ) → IsErrOf result (WorldFault.Disk slot) → ⊥ }
+    ensures sound { IfErr result (λ e. is_of_journal e ≡ false) }
 {
     match carrier.carry(alloc, fabric, from, to, message) {
         Ok(copy) => Ok(Boxed::new(alloc, copy)?),
@@ -72,6 +73,7 @@ impl World {
         ensures links { (place : Id → ℕ) (is : List Images) (m : CircuitWorld) (a b : Id) → Places place (ids_of self.now) (places_of self.now) → Holds circuit.now m (over self.now is) → IsAt self.now from a → IsAt self.now to b → Delivers result (carried_of (place a) (place b) (slice_get (messages m a b) index)) (link_view C.slots C.failed C.wire F.put_on F.taken_on F.faults carrier.old fabric.old) (link_view C.slots C.failed C.wire F.put_on F.taken_on F.faults carrier.new fabric.new) }
         ensures few { (which : ℕ) → IsErrOf result (WorldFault.TooMany which) → ⊥ }
         ensures disk { (slot : ℕ) → IsErrOf result (WorldFault.Disk slot) → ⊥ }
+        ensures sound { IfErr result (λ e. is_of_journal e ≡ false) }
     {
         let sender = self.slots[from].id();
         let recipient = self.slots[to].id();

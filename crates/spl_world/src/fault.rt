@@ -1,5 +1,6 @@
 //! Why a line has no answer.
 ghost use Rattle.std.specs.Prelude.{◌≡◌, ℕ, false};
+ghost use Rattle.spl_world.specs.Disks.{is_of_journal};
 ghost use Rattle.spl_world.specs.Links.{carry_fault, is_of_links};
 ghost use Rattle.spl_world.specs.declared.fault.WorldFault.TheVariants.{NoMemory};
 
@@ -21,6 +22,13 @@ pub enum WorldFault {
     #[error("a disk of node {slot} failed")]
     Disk {
         slot: u8,
+    },
+    /// The bytes that were read from the disks of the node at this position, where it was to come up,
+    /// are no journal, and this is the place where they aren't one.
+    #[error("the disks of node {slot} hold no journal at {at}")]
+    NotAJournal {
+        slot: u8,
+        at: u64,
     },
     /// What carries messages between the nodes failed.
     #[error("a link failed")]
@@ -48,14 +56,15 @@ impl From<AllocError> for WorldFault {
 
 /// What a fault of the journal of the node at this position is to the world.
 pub(crate) fn journal_fault(fault: JournalFault, slot: u8) -> WorldFault
-    requires { (at : ℕ) → fault ≡ JournalFault.NotAJournal at → ⊥ }
     ensures disk { (i : ℕ) → result ≡ WorldFault.Disk i → (i ≡ slot) × (fault ≡ JournalFault.Disk) }
+    ensures journal { (i at : ℕ) → result ≡ WorldFault.NotAJournal i at → (i ≡ slot) × (fault ≡ JournalFault.NotAJournal at) }
+    ensures sound { ((at : ℕ) → fault ≡ JournalFault.NotAJournal at → ⊥) → is_of_journal result ≡ false }
     ensures few { (which : ℕ) → result ≡ WorldFault.TooMany which → ⊥ }
     ensures unlinked { is_of_links result ≡ false }
 {
     match fault {
         JournalFault::Disk => WorldFault::Disk { slot },
-        JournalFault::NotAJournal { .. } => unreachable!(),
+        JournalFault::NotAJournal { at } => WorldFault::NotAJournal { slot, at },
         JournalFault::NoMemory => WorldFault::NoMemory,
     }
 }
@@ -63,7 +72,8 @@ pub(crate) fn journal_fault(fault: JournalFault, slot: u8) -> WorldFault
 /// What a fault of the carrier is to the world, where it was asked to carry a message between the
 /// nodes at these positions.
 pub(crate) fn carry_fault(fault: PumpFault, from: u8, to: u8) -> WorldFault
-    ensures { result ≡ carry_fault from to fault }
+    ensures fault { result ≡ carry_fault from to fault }
+    ensures sound { is_of_journal result ≡ false }
 {
     match fault {
         PumpFault::Link => WorldFault::Link,

@@ -10,7 +10,7 @@ ghost use Rattle.spl_model.specs.Worlds.{World as CircuitWorld};
 ghost use Rattle.spl_projection.specs.Whole.{whole_world, world_after};
 ghost use Rattle.spl_sched.specs.Grammar.{nodes_of, is_line};
 ghost use Rattle.spl_world.specs.Counts.{IsOver};
-ghost use Rattle.spl_world.specs.Disks.{AllUnarmed, NoneForgotten, PairView, bench, images};
+ghost use Rattle.spl_world.specs.Disks.{AllUnarmed, NoneForgotten, PairView, bench, images, is_of_journal};
 ghost use Rattle.spl_world.specs.Ended.{LineEnds};
 ghost use Rattle.spl_world.specs.Halts.{said};
 ghost use Rattle.spl_world.specs.Held.{AllHeld, HigherAt, IsInCheckpointIn, StopsBy, StopsPair, cells_behind, stopping_of, stops_at};
@@ -89,6 +89,7 @@ impl World {
         ensures unarmed { AllUnarmed (bench D.image_at D.moment D.faults D.armed D.picks pairs.old.items) → OnOk result (AllUnarmed (bench D.image_at D.moment D.faults D.armed D.picks pairs.new.items)) }
         ensures running { OnOk result (is_halted self.new ≡ false) }
         ensures halted { OnErr result (is_halted self.new ≡ true) }
+        ensures sound { IfErr result (λ e. is_of_journal e ≡ false) }
         ensures unlinked { IfErr result (λ e. is_of_links e ≡ false) }
     {
         let answered = self.halt_line(alloc, pairs, line);
@@ -121,6 +122,7 @@ impl World {
         ensures slot { OnOk result (StopsBy line.now (seen D.image_at D.moment self.old pairs.old.items) (bench D.image_at D.moment D.faults D.armed D.picks pairs.old.items) (bench D.image_at D.moment D.faults D.armed D.picks pairs.new.items)) }
         ensures ended { (before : List Ran) → Stands before self.old (images D.image_at D.moment pairs.old.items) → IfErr result (λ e. LineEnds (λ c. whole_world (ids_of self.old) c before) line.now e (ids_of self.old) (places_of self.old) (images D.image_at D.moment pairs.new.items)) }
         ensures onward { NoneForgotten (bench D.image_at D.moment D.faults D.armed D.picks pairs.old.items) (bench D.image_at D.moment D.faults D.armed D.picks pairs.new.items) }
+        ensures sound { IfErr result (λ e. is_of_journal e ≡ false) }
         ensures unlinked { IfErr result (λ e. is_of_links e ≡ false) }
     {
         self.events.add(1)?;

@@ -4,6 +4,7 @@
 mod calm;
 mod carrying;
 mod cut;
+mod down;
 mod events;
 mod fault;
 mod halt;

@@ -3,7 +3,7 @@ ghost use Rattle.std.specs.Prelude.{◌≡◌, ◌≤◌, ◌<◌, ◌++◌, ◌
 ghost use Rattle.spl_circuit.specs.Nodes.{sorted};
 ghost use Rattle.spl_circuit.specs.Rules.{ascends};
 ghost use Rattle.spl_registry.specs.Nodes.{ids_of as registered};
-ghost use Rattle.spl_world.specs.Disks.{AreBlank, LeavesDisks, bench, images, images_at};
+ghost use Rattle.spl_world.specs.Disks.{AllTell, AreBlank, LeavesDisks, bench, images, images_at, is_of_journal};
 ghost use Rattle.spl_world.specs.Held.{AllHeld, AllUnpicked};
 ghost use Rattle.spl_world.specs.Links.{is_of_links};
 ghost use Rattle.spl_world.specs.Making.{AreMadeBut};
@@ -15,7 +15,7 @@ use crate::slot::Slot;
 use crate::stops::Stops;
 use crate::world::World;
 use spl_base::NodeId;
-use spl_edge::{Pair, StopDisk};
+use spl_edge::{Disk, Pair};
 use spl_registry::Registry;
 use std::alloc::{AllocError, Global};
 
@@ -40,7 +40,8 @@ fn join(slots: &mut Vec<Slot>, slot: Slot) -> Result<(), AllocError>
 impl World {
     /// The nodes of a registry, in the order of their ids, each of them up. The disks of a node are
     /// the pair at its position in the registry. Nothing happened yet, and those disks are blank.
-    pub fn new<D: StopDisk>(
+    /// What the nodes stand for is told where the disks tell what they hold.
+    pub fn new<D: Disk>(
         alloc: Global,
         registry: &Registry,
         pairs: &mut Vec<Pair<D>>,
@@ -49,13 +50,14 @@ impl World {
         requires blank { (i : ℕ) → i < length registry.now → AreBlank (images_at (images D.image_at D.moment pairs.old.items) i) }
         ensures ids { IfOk result (λ w. ids_of w ≡ sorted (registered registry.now)) }
         ensures few { (which : ℕ) → IsErrOf result (WorldFault.TooMany which) → ⊥ }
+        ensures sound { IfErr result (λ e. is_of_journal e ≡ false) }
         ensures unlinked { IfErr result (λ e. is_of_links e ≡ false) }
         ensures place { (slot : ℕ) → IsErrOf result (WorldFault.Disk slot) → slot < length registry.now }
         ensures placed { IfOk result (ArePlaced registry.now) }
         ensures below { IfOk result (λ w. (k : ℕ) → IsPlace (places_of w) k → k < length registry.now) }
         ensures running { IfOk result (λ w. is_halted w ≡ false) }
-        ensures stands { IfOk result (λ w. Stands [] w (images D.image_at D.moment pairs.new.items)) }
-        ensures held { AllUnpicked (bench D.image_at D.moment D.faults D.armed D.picks pairs.old.items) → IfOk result (λ w. AllHeld (bench D.image_at D.moment D.faults D.armed D.picks pairs.old.items) [] w (bench D.image_at D.moment D.faults D.armed D.picks pairs.new.items)) }
+        ensures stands { AllTell (length registry.now) (images D.image_at D.moment pairs.old.items) → IfOk result (λ w. Stands [] w (images D.image_at D.moment pairs.new.items)) }
+        ensures held { AllTell (length registry.now) (images D.image_at D.moment pairs.old.items) → AllUnpicked (bench D.image_at D.moment D.faults D.armed D.picks pairs.old.items) → IfOk result (λ w. AllHeld (bench D.image_at D.moment D.faults D.armed D.picks pairs.old.items) [] w (bench D.image_at D.moment D.faults D.armed D.picks pairs.new.items)) }
         ensures disks { LeavesDisks result (bench D.image_at D.moment D.faults D.armed D.picks pairs.old.items) (bench D.image_at D.moment D.faults D.armed D.picks pairs.new.items) }
         // Where it ends with an error one node may be half made, and each other is made or not begun.
         ensures unmade { AllUnpicked (bench D.image_at D.moment D.faults D.armed D.picks pairs.old.items) → IfErr result (λ e. AreMadeBut (sorted (registered registry.now)) registry.now e (bench D.image_at D.moment D.faults D.armed D.picks pairs.old.items) (bench D.image_at D.moment D.faults D.armed D.picks pairs.new.items)) }

@@ -17,13 +17,13 @@ ghost use Rattle.spl_world.specs.declared.slot.Slot.{Slot as Seat};
 
 use crate::fault::WorldFault;
 use crate::world::World;
-use spl_edge::{Pair, StopDisk};
+use spl_edge::{Disk, Pair, StopDisk};
 use spl_wire::{Answer, Refusal};
 use std::alloc::{AllocError, Global};
 
 impl World {
     // The node of this index comes up.
-    pub(crate) fn start_at<D: StopDisk>(
+    pub(crate) fn start_at<D: Disk>(
         &mut self,
         alloc: Global,
         pairs: &mut Vec<Pair<D>>,
@@ -39,6 +39,8 @@ impl World {
         ensures sits { OnOk result (Sits (seen D.image_at D.moment self.new pairs.new.items)) }
         ensures disks { LeavesDisks result (bench D.image_at D.moment D.faults D.armed D.picks pairs.old.items) (bench D.image_at D.moment D.faults D.armed D.picks pairs.new.items) }
         ensures place { (slot : ℕ) → IsErrOf result (WorldFault.Disk slot) → IsPlace (places_of self.old) slot }
+        ensures sound { (c : Id) (m : CircuitWorld) (slot at : ℕ) → Holds c m (seen D.image_at D.moment self.old pairs.old.items) → IsErrOf result (WorldFault.NotAJournal slot at) → ⊥ }
+        ensures journal { (position at : ℕ) → IsErrOf result (WorldFault.NotAJournal position at) → slice_get (places_of self.old) slot ≡ Some position }
         ensures same { images D.image_at D.moment pairs.new.items ≡ images D.image_at D.moment pairs.old.items }
         ensures few { (which : ℕ) → IsErrOf result (WorldFault.TooMany which) → ⊥ }
         ensures unlinked { IfErr result (λ e. is_of_links e ≡ false) }

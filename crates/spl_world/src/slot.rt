@@ -15,7 +15,7 @@ ghost use Rattle.spl_rules.specs.Plans.{plan_of};
 ghost use Rattle.spl_rules.specs.Valid.{IsFor};
 ghost use Rattle.spl_node.specs.Stands.{StandFor};
 ghost use Rattle.spl_node.specs.Stopping.{FillsHost, IsInCheckpoint, IsStopping, cells_stopped, event_changes, has_changes, keeps, passing};
-ghost use Rattle.spl_world.specs.Disks.{AreBlank, HasRisen, Images, PairGoesOn, images_of, pair_view};
+ghost use Rattle.spl_world.specs.Disks.{AreBlank, HasRisen, Images, PairGoesOn, Tell, TellAs, images_of, is_of_journal, pair_view};
 ghost use Rattle.spl_world.specs.Held.{HavePicked, OtherPicksHigher, PickUnarmed};
 ghost use Rattle.spl_node.specs.Kept.{cells_after};
 ghost use Rattle.spl_world.specs.Ended.{LeaveEither, LeaveNow};
@@ -26,7 +26,7 @@ ghost use Rattle.spl_world.specs.Views.{IsFresh, node_view, slot_id, slot_up};
 use crate::fault::{WorldFault, journal_fault};
 use crate::posts::Posts;
 use spl_base::{CircuitId, Listing, NodeId};
-use spl_edge::{Pair, StopDisk};
+use spl_edge::{Disk, Pair, StopDisk};
 use spl_node::{Host, Outcome, Stopping};
 use spl_wire::{Answer, Event, Message};
 use std::alloc::{AllocError, Global};
@@ -41,7 +41,7 @@ pub struct Slot {
 
 impl Slot {
     /// A node that is up and where nothing happened, over two blank disks.
-    pub fn new<D: StopDisk>(
+    pub fn new<D: Disk>(
         alloc: Global,
         id: NodeId,
         position: u8,
@@ -52,9 +52,11 @@ impl Slot {
         ensures position { IfOk result (λ s. s.position ≡ position) }
         ensures fresh { IfOk result IsFresh }
         ensures stands { IfOk result (λ s. HostStands s.host (D.image_at disks.new.first (D.moment disks.new.first)) (D.image_at disks.new.second (D.moment disks.new.second))) }
+        ensures tells { OnOk result (TellAs (images_of D.image_at D.moment disks.old) (images_of D.image_at D.moment disks.new)) }
         ensures onward { PairGoesOn (pair_view D.image_at D.moment D.faults D.armed D.picks disks.old) (pair_view D.image_at D.moment D.faults D.armed D.picks disks.new) }
         ensures failed { (slot : ℕ) → IsErrOf result (WorldFault.Disk slot) → (slot ≡ position) × HasRisen (pair_view D.image_at D.moment D.faults D.armed D.picks disks.old) (pair_view D.image_at D.moment D.faults D.armed D.picks disks.new) }
         ensures few { (which : ℕ) → IsErrOf result (WorldFault.TooMany which) → ⊥ }
+        ensures sound { IfErr result (λ e. is_of_journal e ≡ false) }
         ensures unlinked { IfErr result (λ e. is_of_links e ≡ false) }
     {
         match Host::new(alloc, id, disks) {
@@ -97,7 +99,7 @@ impl Slot {
 
     /// An event at the cell of a circuit, and its answer: the plan of the event is carried out, and
     /// its messages are posted. The other cells stay as they were.
-    pub fn handle<D: StopDisk>(
+    pub fn handle<D: Disk>(
         &mut self,
         alloc: Global,
         disks: &mut Pair<D>,
@@ -115,11 +117,14 @@ impl Slot {
             (place_of (node_view self.old (images_of D.image_at D.moment disks.old)) circuit.now) (place_of (node_view self.new (images_of D.image_at D.moment disks.new)) circuit.now)) }
         ensures others { OnOk result ((c : Id) → bytes_eq circuit.now c ≡ false → place_of (node_view self.new (images_of D.image_at D.moment disks.new)) c ≡ place_of (node_view self.old (images_of D.image_at D.moment disks.old)) c) }
         ensures stands { OnOk result (HostStands self.new.host (D.image_at disks.new.first (D.moment disks.new.first)) (D.image_at disks.new.second (D.moment disks.new.second))) }
+        ensures tells { OnOk result (TellAs (images_of D.image_at D.moment disks.old) (images_of D.image_at D.moment disks.new)) }
         ensures onward { PairGoesOn (pair_view D.image_at D.moment D.faults D.armed D.picks disks.old) (pair_view D.image_at D.moment D.faults D.armed D.picks disks.new) }
-        // Whatever the result, a stop leaves what stands for the cells before the event or for those after it.
-        ensures leaves { LeaveEither (slot_id self.old) (node_view self.old (images_of D.image_at D.moment disks.old)).cells (cells_after (slot_id self.old) (node_view self.old (images_of D.image_at D.moment disks.old)).cells circuit.now event.now) (images_of D.image_at D.moment disks.new) }
+        // Whatever the result, a stop leaves what stands for the cells before the event or for those after it, where the disks
+        // told before it.
+        ensures leaves { Tell (images_of D.image_at D.moment disks.old) → LeaveEither (slot_id self.old) (node_view self.old (images_of D.image_at D.moment disks.old)).cells (cells_after (slot_id self.old) (node_view self.old (images_of D.image_at D.moment disks.old)).cells circuit.now event.now) (images_of D.image_at D.moment disks.new) }
         ensures failed { (slot : ℕ) → IsErrOf result (WorldFault.Disk slot) → (slot ≡ self.old.position) × HasRisen (pair_view D.image_at D.moment D.faults D.armed D.picks disks.old) (pair_view D.image_at D.moment D.faults D.armed D.picks disks.new) }
         ensures few { (which : ℕ) → IsErrOf result (WorldFault.TooMany which) → ⊥ }
+        ensures sound { IfErr result (λ e. is_of_journal e ≡ false) }
         ensures unlinked { IfErr result (λ e. is_of_links e ≡ false) }
     {
         match self.host.handle(alloc, disks, circuit, event) {
@@ -132,22 +137,21 @@ impl Slot {
     }
 
     /// The node comes up, with the cells that it had. One that is up stays so.
-    pub fn start<D: StopDisk>(
-        &mut self,
-        alloc: Global,
-        disks: &mut Pair<D>,
-    ) -> Result<(), WorldFault>
+    pub fn start<D: Disk>(&mut self, alloc: Global, disks: &mut Pair<D>) -> Result<(), WorldFault>
         requires stands { HostStands self.old.host (D.image_at disks.old.first (D.moment disks.old.first)) (D.image_at disks.old.second (D.moment disks.old.second)) }
         ensures id { slot_id self.new ≡ slot_id self.old }
         ensures position { self.new.position ≡ self.old.position }
         ensures posts { self.new.posts ≡ self.old.posts }
         ensures up { OnOk result (slot_up self.new ≡ true) }
-        ensures cells { OnOk result ((c : Id) → (node_view self.new (images_of D.image_at D.moment disks.new)).cells c ≡ (node_view self.old (images_of D.image_at D.moment disks.old)).cells c) }
+        ensures cells { OnOk result (Tell (images_of D.image_at D.moment disks.old) → (c : Id) → (node_view self.new (images_of D.image_at D.moment disks.new)).cells c ≡ (node_view self.old (images_of D.image_at D.moment disks.old)).cells c) }
         ensures stands { OnOk result (HostStands self.new.host (D.image_at disks.new.first (D.moment disks.new.first)) (D.image_at disks.new.second (D.moment disks.new.second))) }
         ensures onward { PairGoesOn (pair_view D.image_at D.moment D.faults D.armed D.picks disks.old) (pair_view D.image_at D.moment D.faults D.armed D.picks disks.new) }
         // Whatever the result, its disks hold what they held.
         ensures same { images_of D.image_at D.moment disks.new ≡ images_of D.image_at D.moment disks.old }
         ensures failed { (slot : ℕ) → IsErrOf result (WorldFault.Disk slot) → (slot ≡ self.old.position) × HasRisen (pair_view D.image_at D.moment D.faults D.armed D.picks disks.old) (pair_view D.image_at D.moment D.faults D.armed D.picks disks.new) }
+        // What disks that tell hold is a journal.
+        ensures sound { Tell (images_of D.image_at D.moment disks.old) → (slot at : ℕ) → IsErrOf result (WorldFault.NotAJournal slot at) → ⊥ }
+        ensures journal { (slot at : ℕ) → IsErrOf result (WorldFault.NotAJournal slot at) → slot ≡ self.old.position }
         ensures few { (which : ℕ) → IsErrOf result (WorldFault.TooMany which) → ⊥ }
         ensures unlinked { IfErr result (λ e. is_of_links e ≡ false) }
     {
@@ -181,6 +185,21 @@ impl Slot {
         ensures second_stays { D.faults disks.old.second ≤ D.faults disks.new.second }
     {
         self.host.stop(alloc, disks)
+    }
+
+    /// The node goes down without a call of its disks: it forgets its open rounds. One that is down
+    /// stays so.
+    pub fn go_down(&mut self)
+        ensures id { slot_id self.new ≡ slot_id self.old }
+        ensures position { self.new.position ≡ self.old.position }
+        ensures posts { self.new.posts ≡ self.old.posts }
+        ensures down { slot_up self.new ≡ false }
+        // Where its disks tell it keeps its cells but for the open rounds.
+        ensures stopped { slot_up self.old ≡ true → (is : Images) → HostStands self.old.host is.0 is.1 → Tell is → (c : Id) → (node_view self.new is).cells c ≡ stopped_cell ((node_view self.old is).cells c) }
+        ensures same { slot_up self.old ≡ false → (is : Images) (c : Id) → (node_view self.new is).cells c ≡ (node_view self.old is).cells c }
+        ensures stands { (is : Images) → HostStands self.old.host is.0 is.1 → HostStands self.new.host is.0 is.1 }
+    {
+        self.host.go_down();
     }
 
     /// The node goes down in an event at the cell of a circuit, or in none: it forgets its open

@@ -2,7 +2,7 @@
 ghost use Rattle.std.specs.Prelude.{◌≡◌, ◌++◌, ◌∷◌, [], ℕ, ◌<◌, ◌≤◌, List, true, false, IsTrue, IfErr, IfOk, OnOk, OnErr, IsErrOf};
 ghost use Rattle.std.specs.List.{list_all};
 ghost use Rattle.spl_calm.specs.Settled.{acts_kept, batches_kept, IsActiveAll, IsSettled, IsWhole};
-ghost use Rattle.spl_circuit.specs.Nodes.{CircuitId, has_node};
+ghost use Rattle.spl_circuit.specs.Nodes.{CircuitId, NodeId as Id, has_node};
 ghost use Rattle.spl_circuit.specs.Rules.{admin, service};
 ghost use Rattle.spl_circuit.specs.declared.act.Act.{Act};
 ghost use Rattle.spl_circuit.specs.declared.definition.Definition.{Definition};
@@ -13,17 +13,17 @@ ghost use Rattle.spl_sched.specs.Grammar.{nodes_of, step_nodes, step_circuit, is
 ghost use Rattle.spl_model.specs.Worlds.{World as CircuitWorld, Steps, step_plan, step_world};
 ghost use Rattle.spl_model.specs.Answers.{answer_to};
 ghost use Rattle.spl_model.specs.Counts.{events_of};
-ghost use Rattle.spl_world.specs.Lines.{stops};
-ghost use Rattle.spl_world.specs.Disks.{LeavesDisks, PairView, bench, images};
+ghost use Rattle.spl_world.specs.Lines.{starts, stops};
+ghost use Rattle.spl_world.specs.Disks.{LeavesDisks, PairView, bench, images, is_of_journal};
 ghost use Rattle.spl_world.specs.Held.{AllHeld, FailedSince};
 ghost use Rattle.spl_projection.specs.Whole.{whole_world};
 ghost use Rattle.spl_world.specs.Ended.{EventEnds, LineEnds};
 ghost use Rattle.spl_world.specs.Links.{Delivers, IsReady, Places, carried_at, line_carried, link_view};
-ghost use Rattle.spl_world.specs.Views.{IsPlace, Holds, Moves, Sits, Stands, Stays, places_of, ids_of, is_halted, seen};
+ghost use Rattle.spl_world.specs.Views.{HasPlace, IsPlace, Holds, Moves, Sits, Stands, Stays, places_of, ids_of, is_halted, seen};
 
 use crate::fault::WorldFault;
 use crate::world::World;
-use spl_edge::{Fabric, Pair, StopDisk};
+use spl_edge::{Disk, Fabric, Pair};
 use spl_model::MOST_EVENTS;
 use spl_pump::Carry;
 use spl_sched::{Line, Step};
@@ -32,7 +32,7 @@ use std::alloc::Global;
 
 impl World {
     // Runs a step.
-    fn run<D: StopDisk, C: Carry, F: Fabric>(
+    fn run<D: Disk, C: Carry, F: Fabric>(
         &mut self,
         alloc: Global,
         pairs: &mut Vec<Pair<D>>,
@@ -53,6 +53,7 @@ impl World {
         ensures sits { OnOk result (Sits (seen D.image_at D.moment self.new pairs.new.items)) }
         ensures disks { LeavesDisks result (bench D.image_at D.moment D.faults D.armed D.picks pairs.old.items) (bench D.image_at D.moment D.faults D.armed D.picks pairs.new.items) }
         ensures place { (slot : ℕ) → IsErrOf result (WorldFault.Disk slot) → IsPlace (places_of self.old) slot }
+        ensures sound { IfErr result (λ e. is_of_journal e ≡ false) }
         ensures few { (which : ℕ) → IsErrOf result (WorldFault.TooMany which) → ⊥ }
         ensures ended { (m : CircuitWorld) → Holds (step_circuit step.now) m (seen D.image_at D.moment self.old pairs.old.items) → IfErr result (λ e. EventEnds (step_circuit step.now) (step_world m step.now) e (seen D.image_at D.moment self.old pairs.old.items) (images D.image_at D.moment pairs.new.items)) }
         ensures ready { OnOk result (IsReady (places_of self.new) (link_view C.slots C.failed C.wire F.put_on F.taken_on F.faults carrier.new fabric.new)) }
@@ -91,12 +92,13 @@ impl World {
 
     /// Runs a line that stops no node, and answers it. `before` are the lines that ran so far. `TooMany` comes exactly
     /// where the events of these lines and of this one are more than `MOST_EVENTS`, and is about
-    /// them; `Disk` only where a disk of that node failed more often; `Link` only where the fabric
-    /// did; and `Lied` only where other bytes were taken from it than were put. Any other error is
-    /// want of memory. After an error the world is halted.
+    /// them; `Disk` only where a disk of that node failed more often; `NotAJournal` only where the
+    /// line starts that node, and never where its disks tell what they hold; `Link` only where the
+    /// fabric failed more often; and `Lied` only where other bytes were taken from it than were put.
+    /// Any other error is want of memory. After an error the world is halted.
     ///
     /// Each message that is delivered goes through the carrier, and nothing else does.
-    pub fn step<D: StopDisk, C: Carry, F: Fabric>(
+    pub fn step<D: Disk, C: Carry, F: Fabric>(
         &mut self,
         alloc: Global,
         pairs: &mut Vec<Pair<D>>,
@@ -125,6 +127,10 @@ impl World {
         ensures held { (start : List PairView) (before : List Ran) → Stands before self.old (images D.image_at D.moment pairs.old.items) → AllHeld start before self.old (bench D.image_at D.moment D.faults D.armed D.picks pairs.old.items) → OnOk result (AllHeld start (before ++ by_rule line.now ∷ []) self.new (bench D.image_at D.moment D.faults D.armed D.picks pairs.new.items)) }
         ensures failed { (start : List PairView) (before : List Ran) (slot : ℕ) → IsErrOf result (WorldFault.Disk slot) → AllHeld start before self.old (bench D.image_at D.moment D.faults D.armed D.picks pairs.old.items) → FailedSince slot start (bench D.image_at D.moment D.faults D.armed D.picks pairs.new.items) }
         ensures place { (slot : ℕ) → IsErrOf result (WorldFault.Disk slot) → IsPlace (places_of self.old) slot }
+        // Only a line that starts a node ends because its disks hold no journal, and over disks that tell none does.
+        ensures sound { (before : List Ran) (slot at : ℕ) → Stands before self.old (images D.image_at D.moment pairs.old.items) → IsErrOf result (WorldFault.NotAJournal slot at) → ⊥ }
+        ensures journal { (slot at : ℕ) → IsErrOf result (WorldFault.NotAJournal slot at) → IsPlace (places_of self.old) slot × (starts line.now ≡ true) }
+        ensures own { (n : Id) (slot at : ℕ) → line.now ≡ Line.Start n → IsErrOf result (WorldFault.NotAJournal slot at) → HasPlace self.old n slot }
         ensures running { OnOk result (is_halted self.new ≡ false) }
         ensures halted { OnErr result (is_halted self.new ≡ true) }
         // A calm of six passes or more settles the first pending act, and the first pending batch, of a
@@ -148,7 +154,7 @@ impl World {
     }
 
     // Runs a line, whether the world is halted or not.
-    fn run_line<D: StopDisk, C: Carry, F: Fabric>(
+    fn run_line<D: Disk, C: Carry, F: Fabric>(
         &mut self,
         alloc: Global,
         pairs: &mut Vec<Pair<D>>,
@@ -171,6 +177,9 @@ impl World {
         ensures refused { (why : Refusal) → IfOk result (λ a. a ≡ Answer.Refused why → Stays (seen D.image_at D.moment self.old pairs.old.items) (seen D.image_at D.moment self.new pairs.new.items)) }
         ensures disks { LeavesDisks result (bench D.image_at D.moment D.faults D.armed D.picks pairs.old.items) (bench D.image_at D.moment D.faults D.armed D.picks pairs.new.items) }
         ensures place { (slot : ℕ) → IsErrOf result (WorldFault.Disk slot) → IsPlace (places_of self.old) slot }
+        ensures sound { (before : List Ran) (slot at : ℕ) → Stands before self.old (images D.image_at D.moment pairs.old.items) → IsErrOf result (WorldFault.NotAJournal slot at) → ⊥ }
+        ensures journal { (slot at : ℕ) → IsErrOf result (WorldFault.NotAJournal slot at) → IsPlace (places_of self.old) slot × (starts line.now ≡ true) }
+        ensures own { (n : Id) (slot at : ℕ) → line.now ≡ Line.Start n → IsErrOf result (WorldFault.NotAJournal slot at) → HasPlace self.old n slot }
         ensures ended { (before : List Ran) → Stands before self.old (images D.image_at D.moment pairs.old.items) → IfErr result (λ e. LineEnds (λ c. whole_world (ids_of self.old) c before) line.now e (ids_of self.old) (places_of self.old) (images D.image_at D.moment pairs.new.items)) }
         ensures ready { OnOk result (IsReady (places_of self.new) (link_view C.slots C.failed C.wire F.put_on F.taken_on F.faults carrier.new fabric.new)) }
         ensures links { (place : CircuitId → ℕ) (before : List Ran) → Places place (ids_of self.old) (places_of self.old) → Stands before self.old (images D.image_at D.moment pairs.old.items) → Delivers result (line_carried place (λ c. whole_world (ids_of self.old) c before) line.now) (link_view C.slots C.failed C.wire F.put_on F.taken_on F.faults carrier.old fabric.old) (link_view C.slots C.failed C.wire F.put_on F.taken_on F.faults carrier.new fabric.new) }

@@ -8,7 +8,7 @@ ghost use Rattle.spl_rules.specs.Cells.{is_open_cell};
 ghost use Rattle.spl_rules.specs.Plans.{plan_of};
 ghost use Rattle.spl_rules.specs.Valid.{IsFor};
 ghost use Rattle.spl_model.specs.Worlds.{site_at, World as CircuitWorld, Steps, messages, carried_out, step_plan, step_world};
-ghost use Rattle.spl_world.specs.Disks.{Images, LeavesDisks, bench, images};
+ghost use Rattle.spl_world.specs.Disks.{Images, LeavesDisks, bench, images, is_of_journal};
 ghost use Rattle.spl_world.specs.Halts.{delivery_of};
 ghost use Rattle.spl_world.specs.Ended.{EventEnds};
 ghost use Rattle.spl_world.specs.Links.{Delivers, IsReady, Places, carried_at, is_of_links, link_view};
@@ -19,7 +19,7 @@ use crate::fault::WorldFault;
 use crate::slot::Slot;
 use crate::stops::Stops;
 use spl_base::{Boxed, CircuitId, NodeId};
-use spl_edge::{Fabric, Pair, StopDisk};
+use spl_edge::{Disk, Fabric, Pair};
 use spl_pump::Carry;
 use spl_wire::{Answer, Event, Message, Refusal};
 use std::alloc::{AllocError, Global};
@@ -88,7 +88,7 @@ impl World {
     }
 
     // An event at the cell of a circuit at the node of this index, and its answer.
-    pub(crate) fn handle<D: StopDisk>(
+    pub(crate) fn handle<D: Disk>(
         &mut self,
         alloc: Global,
         pairs: &mut Vec<Pair<D>>,
@@ -111,6 +111,7 @@ impl World {
         ensures disks { LeavesDisks result (bench D.image_at D.moment D.faults D.armed D.picks pairs.old.items) (bench D.image_at D.moment D.faults D.armed D.picks pairs.new.items) }
         ensures place { (slot : ℕ) → IsErrOf result (WorldFault.Disk slot) → IsPlace (places_of self.old) slot }
         ensures ended { (m : CircuitWorld) (n : Id) → Holds circuit m (seen D.image_at D.moment self.old pairs.old.items) → IsAt self.old slot n → IfErr result (λ e. EventEnds circuit (carried_out m n (plan_of (site_at n circuit) (m.at n) event.now)) e (seen D.image_at D.moment self.old pairs.old.items) (images D.image_at D.moment pairs.new.items)) }
+        ensures sound { IfErr result (λ e. is_of_journal e ≡ false) }
         ensures few { (which : ℕ) → IsErrOf result (WorldFault.TooMany which) → ⊥ }
         ensures unlinked { IfErr result (λ e. is_of_links e ≡ false) }
     {
@@ -190,7 +191,7 @@ impl World {
 
     // The message of this index, from 0, of those about a circuit that one node sent to another
     // is carried there, where that one is up, and comes; and the answer.
-    pub(crate) fn deliver<D: StopDisk, C: Carry, F: Fabric>(
+    pub(crate) fn deliver<D: Disk, C: Carry, F: Fabric>(
         &mut self,
         alloc: Global,
         pairs: &mut Vec<Pair<D>>,
@@ -218,6 +219,7 @@ impl World {
         ensures disks { LeavesDisks result (bench D.image_at D.moment D.faults D.armed D.picks pairs.old.items) (bench D.image_at D.moment D.faults D.armed D.picks pairs.new.items) }
         ensures place { (slot : ℕ) → IsErrOf result (WorldFault.Disk slot) → IsPlace (places_of self.old) slot }
         ensures ended { (m : CircuitWorld) (a b : Id) → Holds circuit m (seen D.image_at D.moment self.old pairs.old.items) → IsAt self.old from a → IsAt self.old to b → IfErr result (λ e. EventEnds circuit (step_world m (step.Deliver a b circuit (index + 1))) e (seen D.image_at D.moment self.old pairs.old.items) (images D.image_at D.moment pairs.new.items)) }
+        ensures sound { IfErr result (λ e. is_of_journal e ≡ false) }
         ensures few { (which : ℕ) → IsErrOf result (WorldFault.TooMany which) → ⊥ }
         ensures ready { OnOk result (IsReady (places_of self.new) (link_view C.slots C.failed C.wire F.put_on F.taken_on F.faults carrier.new fabric.new)) }
         ensures links { (place : Id → ℕ) (m : CircuitWorld) (a b : Id) → Places place (ids_of self.old) (places_of self.old) → Holds circuit m (seen D.image_at D.moment self.old pairs.old.items) → IsAt self.old from a → IsAt self.old to b → Delivers result (carried_at place m (Steps (step.Deliver a b circuit (index + 1)))) (link_view C.slots C.failed C.wire F.put_on F.taken_on F.faults carrier.old fabric.old) (link_view C.slots C.failed C.wire F.put_on F.taken_on F.faults carrier.new fabric.new) }

@@ -5,9 +5,9 @@ use Rattle.spl_rules.specs.Plans.{plan_of}
 use Rattle.spl_wire.specs.declared.plan.Plan.{Plan}
 use Rattle.spl_world.specs.Kept.{NodeView}
 use Rattle.spl_world.specs.Views.{seen, slot_id}
-use Rattle.spl_world.proofs.Handling.{pair_below, own_stands, own_view, own_sits, own_moves, one_leaves}
+use Rattle.spl_world.proofs.Handling.{pair_below, own_stands, own_view, own_told, own_sits, own_moves, one_leaves}
 use Rattle.spl_world.proofs.Moving.{same_plan}
-use Rattle.spl_world.proofs.Results.{at_ok, ok_both, when_ok}
+use Rattle.spl_world.proofs.Results.{at_ok, ok_three, when_ok}
 use Rattle.spl_world.proofs.Slots.{same_ids, same_places, id_at, place_at}
 use Rattle.spl_world.proofs.Up.{is_there_up, same_ups}
 use Rattle.spl_world.proofs.Ending.{own_ended}
@@ -73,10 +73,10 @@ returns-clause-moves g c = λ n at.
     let there = slice_get_read ss (length ss) c.args.slot s refl c.requires.below c.index_mut-here.ensures.value in
     let below = pair_below g.D.Disk.image_at g.D.Disk.moment ss ps c.args.slot s c.requires.sits there c.position.result c.position.ensures in
     let pair = slice_get_read ps (length ps) c.position.result c.index_mut-disks.result.now refl below c.index_mut-disks.ensures.value in
-    ok_both c.handle.result
-    (λ done others. own_moves g.D.Disk.image_at g.D.Disk.moment ss ps c.args.slot s c.requires.sits there c.position.result c.position.ensures c.index_mut-disks.result.now pair c.handle.new.self c.handle.new.disks c.args.circuit n c.args.event.now
-    c.handle.ensures.position c.handle.ensures.id c.handle.ensures.up at done others)
-    c.handle.ensures.done c.handle.ensures.others
+    ok_three c.handle.result
+    (λ tells done others. own_moves g.D.Disk.image_at g.D.Disk.moment ss ps c.args.slot s c.requires.sits there c.position.result c.position.ensures c.index_mut-disks.result.now pair c.handle.new.self c.handle.new.disks c.args.circuit n c.args.event.now
+    c.handle.ensures.position c.handle.ensures.id c.handle.ensures.up at tells done others)
+    c.handle.ensures.tells c.handle.ensures.done c.handle.ensures.others
 
 pub returns-clause-sits : goal.returns-clause-sits
 returns-clause-sits g c =
@@ -114,4 +114,5 @@ returns-clause-ended g c = λ m n h at.
     let below = pair_below g.D.Disk.image_at g.D.Disk.moment ss ps c.args.slot s c.requires.sits there c.position.result c.position.ensures in
     let pair = slice_get_read ps (length ps) c.position.result c.index_mut-disks.result.now refl below c.index_mut-disks.ensures.value in
     own_ended g.D.Disk.image_at g.D.Disk.moment ss ps c.args.slot s c.requires.sits there c.position.result c.position.ensures c.index_mut-disks.result.now pair c.handle.new.self c.handle.new.disks c.args.circuit n c.args.event.now m at h
-    c.handle.result c.handle.ensures.few (λ slot q. (c.handle.ensures.failed slot q).0) c.handle.ensures.leaves
+    c.handle.result c.handle.ensures.few (λ slot q. (c.handle.ensures.failed slot q).0)
+    (c.handle.ensures.leaves (own_told g.D.Disk.image_at g.D.Disk.moment ss ps c.args.slot s c.requires.sits there c.position.result c.position.ensures c.index_mut-disks.result.now pair c.args.circuit m h))

@@ -8,7 +8,7 @@ use Rattle.spl_registry.specs.Nodes.{ids_of as registered}
 use Rattle.spl_world.specs.declared.fault.WorldFault.{WorldFault}
 use Rattle.spl_world.specs.declared.fault.WorldFault.TheVariants.{NoMemory}
 use Rattle.spl_world.specs.declared.slot.Slot.{Slot}
-use Rattle.spl_world.specs.Disks.{AreBlank, Images, bench, images, images_of}
+use Rattle.spl_world.specs.Disks.{AreBlank, Images, TellAs, bench, images, images_of}
 use Rattle.spl_world.specs.Making.{AreMadeBut}
 use Rattle.spl_world.specs.Views.{slot_ids}
 use Rattle.spl_world.proofs.Counting.{failed}
@@ -76,8 +76,9 @@ loop-id-preserved g c =
     let start = images g.D.Disk.image_at g.D.Disk.moment c.args.pairs.now.items in
     let now = images g.D.Disk.image_at g.D.Disk.moment ps in
     let r = c.new.new.disks in
+    let tells = subst (λ (q : Images). TellAs q (images_of g.D.Disk.image_at g.D.Disk.moment r)) (sym (pair_here now c.from.result (images_of g.D.Disk.image_at g.D.Disk.moment c.index_mut-disks.result.now) (images_here g.D.Disk.image_at g.D.Disk.moment ps c.from.result c.index_mut-disks.result.now pair))) c.in_ok-slot.ensures.tells in
     let within : c.from.result < length now = subst (λ (m : ℕ). c.from.result < m) (sym (images_length g.D.Disk.image_at g.D.Disk.moment ps)) below in
-    let more = one_more es ns c.loop-id.id-index c.loop-id.slots.items start now n c.from.result order c.loop-id.invariant.made at entry c.in_ok-slot.slot (images_of g.D.Disk.image_at g.D.Disk.moment r) c.in_ok-slot.ensures.id (c.in_ok-slot.ensures.position ∙ sym c.from.ensures) within c.in_ok-slot.ensures.fresh c.in_ok-slot.ensures.stands in
+    let more = one_more es ns c.loop-id.id-index c.loop-id.slots.items start now n c.from.result order c.loop-id.invariant.made at entry c.in_ok-slot.slot (images_of g.D.Disk.image_at g.D.Disk.moment r) c.in_ok-slot.ensures.id (c.in_ok-slot.ensures.position ∙ sym c.from.ensures) within c.in_ok-slot.ensures.fresh c.in_ok-slot.ensures.stands tells in
     record {
       made = subst (λ (ss : List Slot). AreMade es ns (c.loop-id.id-index + 1) ss start (images g.D.Disk.image_at g.D.Disk.moment (slice_set ps c.from.result r))) (sym c.in_ok-join.ensures)
           (subst (λ (is : List Images). AreMade es ns (c.loop-id.id-index + 1) (c.loop-id.slots.items ++ c.in_ok-slot.slot ∷ []) start is) (sym (images_set g.D.Disk.image_at g.D.Disk.moment ps c.from.result r)) more);
@@ -126,7 +127,7 @@ pub returns-clause-placed : goal.returns-clause-placed
 returns-clause-placed g c = made_placed c.args.registry.now c.deref-id-items.result.now c.loop-id.id-index c.loop-id.slots.items _ _ c.loop-id.invariant.made
 
 pub returns-clause-stands : goal.returns-clause-stands
-returns-clause-stands g c =
+returns-clause-stands g c = λ tell.
     let es = c.args.registry.now in
     let ns = c.deref-id-items.result.now in
     let ss = c.loop-id.slots.items in
@@ -139,7 +140,7 @@ returns-clause-stands g c =
       fit = refl;
       counted = c.new-2.ensures ∙ sym (events-none (slot_ids ss));
       stopped = c.new-3.ensures;
-      each = made_holds es ns c.loop-id.id-index ss start now order room c.loop-id.invariant.made all;
+      each = made_holds es ns c.loop-id.id-index ss start now order room c.loop-id.invariant.made all tell;
       sits = made_sits es ns c.loop-id.id-index ss start now order room c.loop-id.invariant.made all;
     }
 
@@ -147,7 +148,7 @@ pub returns-clause-disks : goal.returns-clause-disks
 returns-clause-disks g c = leaves_ok _ _ _ c.loop-id.invariant.onward
 
 pub returns-clause-held : goal.returns-clause-held
-returns-clause-held g c = λ unpicked. held_first g.D.Disk.image_at g.D.Disk.moment g.D.Disk.faults g.D.Disk.armed g.D.Disk.picks _ c.args.pairs.now.items c.loop-id.pairs.items (returns-clause-stands g c) unpicked c.loop-id.invariant.onward
+returns-clause-held g c = λ tell unpicked. held_first g.D.Disk.image_at g.D.Disk.moment g.D.Disk.faults g.D.Disk.armed g.D.Disk.picks _ c.args.pairs.now.items c.loop-id.pairs.items (returns-clause-stands g c tell) unpicked c.loop-id.invariant.onward
 
 pub returns-in_err-ids-clause-unmade : goal.returns-in_err-ids-clause-unmade
 returns-in_err-ids-clause-unmade g c = λ unpicked.

@@ -1,12 +1,13 @@
-use Rattle.std.proofs.Common.{◌≡◌, ◌+◌, ◌∙◌, false, sym, refl, length, arith, ap}
+use Rattle.std.proofs.Common.{◌≡◌, ◌+◌, ◌∙◌, false, sym, refl, length, arith, ap, subst}
 use Rattle.spl_sched.specs.declared.line.Line.TheVariants as line
 use Rattle.spl_sched.specs.Grammar.{step_circuit}
 use Rattle.spl_model.specs.Calm.{calm}
 use Rattle.spl_projection.specs.Whole.{whole_world}
 use Rattle.spl_world.specs.Disks.{images}
-use Rattle.spl_world.specs.Views.{ids_of, seen, places_of}
+use Rattle.spl_world.specs.Lines.{starts}
+use Rattle.spl_world.specs.Views.{IsAt, ids_of, seen, places_of}
 use Rattle.spl_world.proofs.Counting.{counts_failed, at_least, failed}
-use Rattle.spl_world.proofs.Leaving.{all_itself, leaves_failed, leaves_limit, leaves_ok, limit_no_disk, disk_at, memory_no_disk}
+use Rattle.spl_world.proofs.Leaving.{all_itself, leaves_failed, leaves_limit, leaves_ok, limit_no_disk, disk_at, journal_from, memory_no_disk, no_journal}
 use Rattle.spl_world.proofs.Powering.{stands_start, stands_roll}
 use Rattle.spl_world.proofs.Results.{ok_both}
 use Rattle.spl_world.proofs.Standing.{stands_after, counted_line, over_line, step_result, calm_answered, power_answered}
@@ -227,3 +228,43 @@ returns-in_ok-roll_at-in-Roll-clause-links g c = λ place before placed stands. 
 
 pub returns-in_ok-start_at-in-Start-clause-ready : goal.returns-in_ok-start_at-in-Start-clause-ready
 returns-in_ok-start_at-in-Start-clause-ready g c = still_ready (places_of c.args.self.now) (places_of c.start_at.new.self) (link_view g.C.Carry.slots g.C.Carry.failed g.C.Carry.wire g.F.Fabric.put_on g.F.Fabric.taken_on g.F.Fabric.faults c.args.carrier.now c.args.fabric.now) c.start_at.ensures.places c.requires.ready
+
+-- ---- no journal
+
+pub returns-in_ok-add-in-Step-clause-sound : goal.returns-in_ok-add-in-Step-clause-sound
+returns-in_ok-add-in-Step-clause-sound g c = λ before slot at stands q. no_journal c.run.result c.run.ensures.sound slot at q
+
+pub returns-in_ok-add-in-Step-clause-journal : goal.returns-in_ok-add-in-Step-clause-journal
+returns-in_ok-add-in-Step-clause-journal g c = λ slot at q. absurd (no_journal c.run.result c.run.ensures.sound slot at q)
+
+pub returns-in_ok-add-in-Step-clause-own : goal.returns-in_ok-add-in-Step-clause-own
+returns-in_ok-add-in-Step-clause-own g c = λ n slot at is q. absurd (no_journal c.run.result c.run.ensures.sound slot at q)
+
+pub returns-in_err-calm-in-Calm-clause-sound : goal.returns-in_err-calm-in-Calm-clause-sound
+returns-in_err-calm-in-Calm-clause-sound g c = λ before slot at stands q.
+    no_journal (failed (Unit {0}) c.in_err-calm-in-Calm.field-0.0) c.in_err-calm-in-Calm.ensures.sound slot at (journal_from c.from_residual-in_err-calm-in-Calm.result _ c.from_residual-in_err-calm-in-Calm.ensures slot at q)
+
+pub returns-in_err-calm-in-Calm-clause-journal : goal.returns-in_err-calm-in-Calm-clause-journal
+returns-in_err-calm-in-Calm-clause-journal g c = λ slot at q.
+    absurd (no_journal (failed (Unit {0}) c.in_err-calm-in-Calm.field-0.0) c.in_err-calm-in-Calm.ensures.sound slot at (journal_from c.from_residual-in_err-calm-in-Calm.result _ c.from_residual-in_err-calm-in-Calm.ensures slot at q))
+
+pub returns-in_err-calm-in-Calm-clause-own : goal.returns-in_err-calm-in-Calm-clause-own
+returns-in_err-calm-in-Calm-clause-own g c = λ n slot at is q.
+    absurd (no_journal (failed (Unit {0}) c.in_err-calm-in-Calm.field-0.0) c.in_err-calm-in-Calm.ensures.sound slot at (journal_from c.from_residual-in_err-calm-in-Calm.result _ c.from_residual-in_err-calm-in-Calm.ensures slot at q))
+
+pub returns-in_err-start_at-in-Start-clause-sound : goal.returns-in_err-start_at-in-Start-clause-sound
+returns-in_err-start_at-in-Start-clause-sound g c = λ before slot at stands q.
+    let n = c.in-Start.node in
+    c.in_err-start_at-in-Start.ensures.sound n (whole_world (ids_of c.args.self.now) n before) slot at (stands.each n) (journal_from c.from_residual-in_err-start_at-in-Start.result _ c.from_residual-in_err-start_at-in-Start.ensures slot at q)
+
+pub returns-in_err-start_at-in-Start-clause-journal : goal.returns-in_err-start_at-in-Start-clause-journal
+returns-in_err-start_at-in-Start-clause-journal g c = λ slot at q.
+    let place = c.in_err-start_at-in-Start.ensures.journal slot at (journal_from c.from_residual-in_err-start_at-in-Start.result _ c.from_residual-in_err-start_at-in-Start.ensures slot at q) in
+    ((c.slot-slot.result, place), ap starts c.in-Start.is)
+
+pub returns-in_err-start_at-in-Start-clause-own : goal.returns-in_err-start_at-in-Start-clause-own
+returns-in_err-start_at-in-Start-clause-own g c = λ n slot at is q.
+    let place = c.in_err-start_at-in-Start.ensures.journal slot at (journal_from c.from_residual-in_err-start_at-in-Start.result _ c.from_residual-in_err-start_at-in-Start.ensures slot at q) in
+    let both : line.Start c.in-Start.node ≡ line.Start n = sym c.in-Start.is ∙ is in
+    let same : c.in-Start.node ≡ n = cc in
+    (c.slot-slot.result, subst (λ (k : CircuitId). IsAt c.args.self.now c.slot-slot.result k) same c.slot-slot.ensures.at, place)

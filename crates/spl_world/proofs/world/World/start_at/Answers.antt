@@ -2,10 +2,10 @@ use Rattle.std.proofs.Common.{◌∙◌, arith, ap, refl, sym, subst, length, So
 use Rattle.std.proofs.lemmas.Option.{slice_get_read}
 use Rattle.spl_circuit.specs.Nodes.{NodeId}
 use Rattle.spl_model.specs.Worlds.{Starts, happens}
-use Rattle.spl_world.specs.Disks.{images, images_of}
+use Rattle.spl_world.specs.Disks.{Tell, images, images_of}
 use Rattle.spl_world.specs.Kept.{NodeView}
 use Rattle.spl_world.specs.Views.{Holds, Nodes, seen, slot_id}
-use Rattle.spl_world.proofs.Handling.{pair_below, own_stands, own_view, own_sits, own_by, one_leaves}
+use Rattle.spl_world.proofs.Handling.{pair_below, own_stands, own_view, own_told, own_sits, own_by, one_leaves}
 use Rattle.spl_world.proofs.Powering.{starts}
 use Rattle.spl_world.proofs.Results.{at_ok, ok_both}
 use Rattle.spl_world.proofs.Slots.{same_at, same_ids, same_places, place_at}
@@ -61,9 +61,10 @@ returns-clause-holds g c = λ k n m at h.
     let nodes = seen g.D.Disk.image_at g.D.Disk.moment c.args.self.now ps in
     let r = images_of g.D.Disk.image_at g.D.Disk.moment c.start.new.disks in
     let same = same_at ss c.args.slot s n there at in
+    let tell = own_told g.D.Disk.image_at g.D.Disk.moment ss ps c.args.slot s c.requires.sits there c.position.result c.position.ensures c.index_mut-disks.result.now pair k m h in
     ok_both c.start.result (λ up cells. subst (λ (i : NodeId). Holds k (happens m (Starts i)) (record { slots = slice_set ss c.args.slot c.start.new.self; disks = images g.D.Disk.image_at g.D.Disk.moment (slice_set ps c.position.result c.start.new.disks) })) same
     (own_by g.D.Disk.image_at g.D.Disk.moment ss ps c.args.slot s c.requires.sits there c.position.result c.position.ensures c.index_mut-disks.result.now pair c.start.new.self c.start.new.disks (λ (xs : Nodes). Holds k (happens m (Starts (slot_id s))) xs)
-    (starts nodes c.args.slot s c.start.new.self r c.requires.sits there c.start.ensures.position c.start.ensures.id k m h up (cells k ∙ ap (λ (v : NodeView). v.cells k) (sym view)) c.start.ensures.posts)))
+    (starts nodes c.args.slot s c.start.new.self r c.requires.sits there c.start.ensures.position c.start.ensures.id (subst Tell (sym c.start.ensures.same) tell) k m h up (cells tell k ∙ ap (λ (v : NodeView). v.cells k) (sym view)) c.start.ensures.posts)))
     c.start.ensures.up c.start.ensures.cells
 
 pub returns-clause-disks : goal.returns-clause-disks
@@ -82,6 +83,23 @@ returns-clause-place g c = λ slot q.
     let s = c.index_mut-here.result.now in
     let at = place_at ss c.args.slot s (slice_get_read ss (length ss) c.args.slot s refl c.requires.below c.index_mut-here.ensures.value) in
     (c.args.slot, at ∙ ap Some (sym (c.start.ensures.failed slot q).0))
+
+pub returns-clause-sound : goal.returns-clause-sound
+returns-clause-sound g c = λ k m position at h q.
+    let ss = c.args.self.now.slots.items in
+    let ps = c.args.pairs.now.items in
+    let s = c.index_mut-here.result.now in
+    let there = slice_get_read ss (length ss) c.args.slot s refl c.requires.below c.index_mut-here.ensures.value in
+    let below = pair_below g.D.Disk.image_at g.D.Disk.moment ss ps c.args.slot s c.requires.sits there c.position.result c.position.ensures in
+    let pair = slice_get_read ps (length ps) c.position.result c.index_mut-disks.result.now refl below c.index_mut-disks.ensures.value in
+    c.start.ensures.sound (own_told g.D.Disk.image_at g.D.Disk.moment ss ps c.args.slot s c.requires.sits there c.position.result c.position.ensures c.index_mut-disks.result.now pair k m h) position at q
+
+pub returns-clause-journal : goal.returns-clause-journal
+returns-clause-journal g c = λ position at q.
+    let ss = c.args.self.now.slots.items in
+    let s = c.index_mut-here.result.now in
+    let place = place_at ss c.args.slot s (slice_get_read ss (length ss) c.args.slot s refl c.requires.below c.index_mut-here.ensures.value) in
+    place ∙ ap Some (sym (c.start.ensures.journal position at q))
 
 pub returns-clause-same : goal.returns-clause-same
 returns-clause-same g c =

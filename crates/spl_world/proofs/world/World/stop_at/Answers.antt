@@ -67,7 +67,7 @@ returns-clause-holds g c = λ k n m at h.
     let same = same_at ss c.args.slot s n there at in
     ok_both c.stop.result (λ down stopped. subst (λ (i : NodeId). Holds k (happens m (Stops i)) (record { slots = slice_set ss c.args.slot c.stop.new.self; disks = images g.D.Disk.image_at g.D.Disk.moment (slice_set ps c.position.result c.stop.new.disks) })) same
     (own_by g.D.Disk.image_at g.D.Disk.moment ss ps c.args.slot s c.requires.sits there c.position.result c.position.ensures c.index_mut-disks.result.now pair c.stop.new.self c.stop.new.disks (λ (xs : Nodes). Holds k (happens m (Stops (slot_id s))) xs)
-    (stops nodes c.args.slot s c.stop.new.self r c.requires.sits there c.stop.ensures.position c.stop.ensures.id k m h down (λ u. stopped u k ∙ ap (λ (v : NodeView). stopped_cell (v.cells k)) (sym view)) (λ d. c.stop.ensures.same d k ∙ ap (λ (v : NodeView). v.cells k) (sym view)) c.stop.ensures.posts)))
+    (stops nodes c.args.slot s c.stop.new.self r c.requires.sits there c.stop.ensures.position c.stop.ensures.id (g.met.D.StopDisk.tells c.stop.new.disks.first, g.met.D.StopDisk.tells c.stop.new.disks.second) k m h down (λ u. stopped u k ∙ ap (λ (v : NodeView). stopped_cell (v.cells k)) (sym view)) (λ d. c.stop.ensures.same d k ∙ ap (λ (v : NodeView). v.cells k) (sym view)) c.stop.ensures.posts)))
     c.stop.ensures.down c.stop.ensures.stopped
 
 pub returns-clause-picks : goal.returns-clause-picks

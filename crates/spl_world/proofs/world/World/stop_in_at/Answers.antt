@@ -86,7 +86,7 @@ returns-clause-own g c = λ m step at about is h.
     let id = same_at ss c.args.slot s _ there at in
     let kept = keeps c.args.stopping in
     ok_both c.stop_in.result (λ down stopped. own_by g.D.Disk.image_at g.D.Disk.moment ss ps c.args.slot s c.requires.sits there c.position.result c.position.ensures c.index_mut-disks.result.now pair c.stop_in.new.self c.stop_in.new.disks (λ (xs : Nodes). Holds c.args.circuit.now (happens m (Halts kept step)) xs)
-    (halt_holds nodes c.args.slot s c.stop_in.new.self r c.requires.sits there c.stop_in.ensures.position c.stop_in.ensures.id c.args.circuit.now m step kept (sym id) h (is_there_up ss c.args.slot s there c.requires.up) down
+    (halt_holds nodes c.args.slot s c.stop_in.new.self r c.requires.sits there c.stop_in.ensures.position c.stop_in.ensures.id (g.met.D.StopDisk.tells c.stop_in.new.disks.first, g.met.D.StopDisk.tells c.stop_in.new.disks.second) c.args.circuit.now m step kept (sym id) h (is_there_up ss c.args.slot s there c.requires.up) down
     (stopped c.args.circuit.now ∙ ap (λ (v : NodeView). cells_stopped (slot_id s) v.cells c.args.circuit.now (event_changes (slot_id s) v.cells c.args.circuit.now (option_copied c.args.event)) kept c.args.circuit.now) (sym view)
     ∙ halted_here nodes c.args.slot s m step c.args.circuit.now (option_copied c.args.event) h there id about is kept) c.stop_in.ensures.posts))
     c.stop_in.ensures.down c.stop_in.ensures.stopped
@@ -106,7 +106,7 @@ returns-clause-others g c = λ d n m at off h.
     let cells = (node_view s (images_of g.D.Disk.image_at g.D.Disk.moment c.index_mut-disks.result.now)).cells in
     ok_both c.stop_in.result (λ down stopped. subst (λ (i : NodeId). Holds d (happens m (Stops i)) (record { slots = slice_set ss c.args.slot c.stop_in.new.self; disks = images g.D.Disk.image_at g.D.Disk.moment (slice_set ps c.position.result c.stop_in.new.disks) })) same
     (own_by g.D.Disk.image_at g.D.Disk.moment ss ps c.args.slot s c.requires.sits there c.position.result c.position.ensures c.index_mut-disks.result.now pair c.stop_in.new.self c.stop_in.new.disks (λ (xs : Nodes). Holds d (happens m (Stops (slot_id s))) xs)
-    (stop_holds nodes c.args.slot s c.stop_in.new.self r c.requires.sits there c.stop_in.ensures.position c.stop_in.ensures.id d m h (is_there_up ss c.args.slot s there c.requires.up) down
+    (stop_holds nodes c.args.slot s c.stop_in.new.self r c.requires.sits there c.stop_in.ensures.position c.stop_in.ensures.id (g.met.D.StopDisk.tells c.stop_in.new.disks.first, g.met.D.StopDisk.tells c.stop_in.new.disks.second) d m h (is_there_up ss c.args.slot s there c.requires.up) down
     (stopped d ∙ stopped_else (slot_id s) cells c.args.circuit.now (event_changes (slot_id s) cells c.args.circuit.now (option_copied c.args.event)) (keeps c.args.stopping) d off ∙ ap (λ (v : NodeView). stopped_cell (v.cells d)) (sym view)) c.stop_in.ensures.posts)))
     c.stop_in.ensures.down c.stop_in.ensures.stopped
 

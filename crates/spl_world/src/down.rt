@@ -1,0 +1,83 @@
+//! A node that goes down without a call of its disks.
+ghost use Rattle.std.specs.Prelude.{◌≡◌, ◌++◌, ◌∷◌, [], ℕ, ◌<◌, ◌≤◌, List, length, true, false, IfErr, IfOk, OnOk, OnErr, IsErrOf};
+ghost use Rattle.spl_circuit.specs.Nodes.{NodeId as Id, has_node};
+ghost use Rattle.spl_model.specs.Answers.{answer_to};
+ghost use Rattle.spl_model.specs.Counts.{events_of, stops_of};
+ghost use Rattle.spl_model.specs.Outcomes.{by_rule};
+ghost use Rattle.spl_model.specs.Projection.{Ran};
+ghost use Rattle.spl_model.specs.Worlds.{World as CircuitWorld, Stops, happens};
+ghost use Rattle.spl_sched.specs.declared.line.Line.TheVariants as line;
+ghost use Rattle.spl_world.specs.Counts.{IsOver, is_of_limit};
+ghost use Rattle.spl_world.specs.Disks.{Images};
+ghost use Rattle.spl_world.specs.Views.{Holds, IsAt, Sits, Stands, ids_of, is_halted, over, places_of};
+
+use crate::fault::WorldFault;
+use crate::world::World;
+use spl_base::NodeId;
+use spl_model::{MOST_EVENTS, MOST_STOPS};
+use spl_wire::Answer;
+
+impl World {
+    /// Takes a node down without a call of its disks, and answers as to a line that stops it: it
+    /// forgets its open rounds, and one that is down stays so. `before` are the lines that ran so
+    /// far. `TooMany` comes exactly where the events of these lines and of this stop are more than
+    /// `MOST_EVENTS`, or, where they aren't, their stops more than `MOST_STOPS`, and there is no
+    /// other error. After an error the world is halted.
+    pub fn stop(&mut self, node: &NodeId) -> Result<Answer, WorldFault>
+        requires running { is_halted self.old ≡ false }
+        requires known { has_node (ids_of self.old) node.now ≡ true }
+        ensures ids { ids_of self.new ≡ ids_of self.old }
+        ensures places { places_of self.new ≡ places_of self.old }
+        ensures answer { (is : List Images) (before : List Ran) → Stands before self.old is → IfOk result (λ a. a ≡ answer_to (ids_of self.old) before (by_rule (line.Stop node.now))) }
+        // Whatever the disks hold, the nodes go on standing for what they hold.
+        ensures stands { (is : List Images) (before : List Ran) → Stands before self.old is → OnOk result (Stands (before ++ by_rule (line.Stop node.now) ∷ []) self.new is) }
+        ensures sits { (is : List Images) → Sits (over self.old is) → Sits (over self.new is) }
+        ensures many { (is : List Images) (before : List Ran) (which : ℕ) → Stands before self.old is → IsErrOf result (WorldFault.TooMany which) → IsOver (ids_of self.old) (before ++ by_rule (line.Stop node.now) ∷ []) which }
+        ensures few { (is : List Images) (before : List Ran) → Stands before self.old is → OnOk result (events_of (ids_of self.old) (before ++ by_rule (line.Stop node.now) ∷ []) ≤ MOST_EVENTS) }
+        ensures fewer { (is : List Images) (before : List Ran) → Stands before self.old is → OnOk result (stops_of (before ++ by_rule (line.Stop node.now) ∷ []) ≤ MOST_STOPS) }
+        ensures only { IfErr result (λ e. is_of_limit e ≡ true) }
+        ensures running { OnOk result (is_halted self.new ≡ false) }
+        ensures halted { OnErr result (is_halted self.new ≡ true) }
+    {
+        let answered = self.stop_node(node);
+        self.events.are_within();
+        self.stops.are_within();
+        let failed = answered.is_err();
+        self.halted = failed;
+        answered
+    }
+
+    // Takes a node down, whether the world is halted or not.
+    fn stop_node(&mut self, node: &NodeId) -> Result<Answer, WorldFault>
+        requires known { has_node (ids_of self.old) node.now ≡ true }
+        ensures ids { ids_of self.new ≡ ids_of self.old }
+        ensures places { places_of self.new ≡ places_of self.old }
+        ensures answer { (is : List Images) (before : List Ran) → Stands before self.old is → IfOk result (λ a. a ≡ answer_to (ids_of self.old) before (by_rule (line.Stop node.now))) }
+        ensures stands { (is : List Images) (before : List Ran) → Stands before self.old is → OnOk result (Stands (before ++ by_rule (line.Stop node.now) ∷ []) self.new is) }
+        ensures sits { (is : List Images) → Sits (over self.old is) → Sits (over self.new is) }
+        ensures many { (is : List Images) (before : List Ran) (which : ℕ) → Stands before self.old is → IsErrOf result (WorldFault.TooMany which) → IsOver (ids_of self.old) (before ++ by_rule (line.Stop node.now) ∷ []) which }
+        ensures only { IfErr result (λ e. is_of_limit e ≡ true) }
+    {
+        // The bytes of an id are such as a line may have.
+        let _ = node.bytes();
+        self.events.add(1)?;
+        self.stops.add()?;
+        let slot = self.slot(node);
+        self.go_down_at(slot);
+        Ok(Answer::Power { up: false })
+    }
+
+    // The node of this index goes down.
+    fn go_down_at(&mut self, slot: usize)
+        requires below { slot < length self.old.slots.items }
+        ensures ids { ids_of self.new ≡ ids_of self.old }
+        ensures places { places_of self.new ≡ places_of self.old }
+        ensures stops { self.new.stops ≡ self.old.stops }
+        ensures events { self.new.events ≡ self.old.events }
+        ensures holds { (is : List Images) (c n : Id) (m : CircuitWorld) → IsAt self.old slot n → Sits (over self.old is) → Holds c m (over self.old is) → Holds c (happens m (Stops n)) (over self.new is) }
+        ensures sits { (is : List Images) → Sits (over self.old is) → Sits (over self.new is) }
+    {
+        let here = &mut self.slots[slot];
+        here.go_down();
+    }
+}
