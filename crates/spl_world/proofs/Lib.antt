@@ -39,4 +39,5 @@ mod EndingLines
 mod Settles
 pub mod Linking
 mod LinkingParts
+mod LinkFaults
 mod Seating

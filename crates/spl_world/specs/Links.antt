@@ -1,5 +1,6 @@
 -- Which messages a line carries from node to node, and how a call leaves the links (docs/RULES.md, Links).
 use Rattle.std.specs.Prelude.{◌≡◌, ◌-◌, ◌<◌, ◌≤◌, ℕ, Bool, true, false, List, [], ◌∷◌, ◌++◌, if◌then◌else◌, slice_get, Option, Some, None, Result, Ok, Err, ⊤}
+use Rattle.std.specs.Prelude.{IsErrOf}
 use Rattle.std.specs.List.{list_any}
 use Rattle.std.specs.Option.{option_map_or}
 use Rattle.spl_circuit.specs.Nodes.{NodeId, CircuitId}
@@ -110,6 +111,12 @@ Delivers (Err e) sent x y = CarriesPart e sent x y
 -- so it did with those of a part of a calm
 abbrev pub PartDelivers : {A : Type 0} → Result A WorldFault → (NodeId → ℕ) → Calming → Calming → LinkView → LinkView → Type 0
 PartDelivers r place from to x y = (leads : Leads from to) × Delivers r (carried_in place from.world leads.steps) x y
+
+-- the fabric forgot no fault, and an error that blames the links has its cause
+pub record LeavesLinks {A : Type 0} (r : Result A WorldFault) (x y : LinkView) : Type 0 where
+  pub no_less : x.faults ≤ y.faults
+  pub link : IsErrOf r Link → Rose x.faults y.faults
+  pub lied : (from to : ℕ) (sent got : List ℕ) → IsErrOf r (Lied from to sent got) → LiesOf (pump.Lied sent got) y.put y.taken
 
 -- the links are at fault
 abbrev pub is_of_links : WorldFault → Bool

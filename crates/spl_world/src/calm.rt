@@ -12,6 +12,7 @@ ghost use Rattle.spl_world.specs.Counts.{Counts};
 ghost use Rattle.spl_world.specs.Disks.{Images, LeavesDisks, bench, images, is_of_journal};
 ghost use Rattle.spl_world.specs.Ended.{EventEnds, PartEnds};
 ghost use Rattle.spl_world.specs.Links.{Delivers, IsReady, PartDelivers, Places, carried_in, is_of_links, link_view};
+ghost use Rattle.spl_world.specs.Links.{LeavesLinks};
 ghost use Rattle.spl_world.specs.Views.{IsPlace, Holds, IsAt, IsUp, Moves, Sits, Spares, places_of, ids_of, over, seen};
 
 use crate::fault::WorldFault;
@@ -159,6 +160,7 @@ impl World {
         ensures ended { (z : Calming) (a b : Id) → Holds circuit z.world (seen D.image_at D.moment self.old pairs.old.items) → IsAt self.old from a → IsAt self.old to b → IfErr result (λ e. PartEnds circuit z (delivers circuit z a b (taken + 1) (all - taken)) e (seen D.image_at D.moment self.old pairs.old.items) (images D.image_at D.moment pairs.new.items)) }
         ensures ready { OnOk result (IsReady (places_of self.new) (link_view C.slots C.failed C.wire F.put_on F.taken_on F.faults carrier.new fabric.new)) }
         ensures links { (place : Id → ℕ) (z : Calming) (a b : Id) → Places place (ids_of self.old) (places_of self.old) → Holds circuit z.world (seen D.image_at D.moment self.old pairs.old.items) → IsAt self.old from a → IsAt self.old to b → PartDelivers result place z (delivers circuit z a b (taken + 1) (all - taken)) (link_view C.slots C.failed C.wire F.put_on F.taken_on F.faults carrier.old fabric.old) (link_view C.slots C.failed C.wire F.put_on F.taken_on F.faults carrier.new fabric.new) }
+        ensures faults { LeavesLinks result (link_view C.slots C.failed C.wire F.put_on F.taken_on F.faults carrier.old fabric.old) (link_view C.slots C.failed C.wire F.put_on F.taken_on F.faults carrier.new fabric.new) }
     {
         for index in taken..all {
             self.events.add(1)?;
@@ -197,6 +199,7 @@ impl World {
         ensures ended { (z : Calming) (a b : Id) → Holds circuit z.world (seen D.image_at D.moment self.old pairs.old.items) → IsAt self.old from a → IsAt self.old to b → z.taken a b ≡ taken → IfErr result (λ e. PartEnds circuit z (pair_turn circuit z a b) e (seen D.image_at D.moment self.old pairs.old.items) (images D.image_at D.moment pairs.new.items)) }
         ensures ready { OnOk result (IsReady (places_of self.new) (link_view C.slots C.failed C.wire F.put_on F.taken_on F.faults carrier.new fabric.new)) }
         ensures links { (place : Id → ℕ) (z : Calming) (a b : Id) → Places place (ids_of self.old) (places_of self.old) → Holds circuit z.world (seen D.image_at D.moment self.old pairs.old.items) → IsAt self.old from a → IsAt self.old to b → z.taken a b ≡ taken → PartDelivers result place z (pair_turn circuit z a b) (link_view C.slots C.failed C.wire F.put_on F.taken_on F.faults carrier.old fabric.old) (link_view C.slots C.failed C.wire F.put_on F.taken_on F.faults carrier.new fabric.new) }
+        ensures faults { LeavesLinks result (link_view C.slots C.failed C.wire F.put_on F.taken_on F.faults carrier.old fabric.old) (link_view C.slots C.failed C.wire F.put_on F.taken_on F.faults carrier.new fabric.new) }
     {
         if !self.is_up(to) {
             return Ok(taken);
@@ -238,6 +241,7 @@ impl World {
         ensures ended { (z : Calming) (a : Id) → Holds circuit z.world (seen D.image_at D.moment self.old pairs.old.items) → IsAt self.old from a → row.old.items ≡ row_of z.taken a (ids_of self.old) → IfErr result (λ e. PartEnds circuit z (to_all circuit z a (ids_of self.old)) e (seen D.image_at D.moment self.old pairs.old.items) (images D.image_at D.moment pairs.new.items)) }
         ensures ready { OnOk result (IsReady (places_of self.new) (link_view C.slots C.failed C.wire F.put_on F.taken_on F.faults carrier.new fabric.new)) }
         ensures links { (place : Id → ℕ) (z : Calming) (a : Id) → Places place (ids_of self.old) (places_of self.old) → Holds circuit z.world (seen D.image_at D.moment self.old pairs.old.items) → IsAt self.old from a → row.old.items ≡ row_of z.taken a (ids_of self.old) → PartDelivers result place z (to_all circuit z a (ids_of self.old)) (link_view C.slots C.failed C.wire F.put_on F.taken_on F.faults carrier.old fabric.old) (link_view C.slots C.failed C.wire F.put_on F.taken_on F.faults carrier.new fabric.new) }
+        ensures faults { LeavesLinks result (link_view C.slots C.failed C.wire F.put_on F.taken_on F.faults carrier.old fabric.old) (link_view C.slots C.failed C.wire F.put_on F.taken_on F.faults carrier.new fabric.new) }
     {
         for to in 0..self.len() {
             row[to] = self.pair_turn(alloc, pairs, carrier, fabric, circuit, from, to, row[to])?;
@@ -272,6 +276,7 @@ impl World {
         ensures ended { (z : Calming) → Holds circuit z.world (seen D.image_at D.moment self.old pairs.old.items) → AreRows z.taken (ids_of self.old) rows.old.items → IfErr result (λ e. PartEnds circuit z (from_all circuit z (ids_of self.old) (ids_of self.old)) e (seen D.image_at D.moment self.old pairs.old.items) (images D.image_at D.moment pairs.new.items)) }
         ensures ready { OnOk result (IsReady (places_of self.new) (link_view C.slots C.failed C.wire F.put_on F.taken_on F.faults carrier.new fabric.new)) }
         ensures links { (place : Id → ℕ) (z : Calming) → Places place (ids_of self.old) (places_of self.old) → Holds circuit z.world (seen D.image_at D.moment self.old pairs.old.items) → AreRows z.taken (ids_of self.old) rows.old.items → PartDelivers result place z (from_all circuit z (ids_of self.old) (ids_of self.old)) (link_view C.slots C.failed C.wire F.put_on F.taken_on F.faults carrier.old fabric.old) (link_view C.slots C.failed C.wire F.put_on F.taken_on F.faults carrier.new fabric.new) }
+        ensures faults { LeavesLinks result (link_view C.slots C.failed C.wire F.put_on F.taken_on F.faults carrier.old fabric.old) (link_view C.slots C.failed C.wire F.put_on F.taken_on F.faults carrier.new fabric.new) }
     {
         for from in 0..self.len() {
             self.to_all(
@@ -315,6 +320,7 @@ impl World {
         ensures ended { (z : Calming) → Holds circuit z.world (seen D.image_at D.moment self.old pairs.old.items) → AreRows z.taken (ids_of self.old) rows.old.items → IfErr result (λ e. PartEnds circuit z (pass circuit (ids_of self.old) z) e (seen D.image_at D.moment self.old pairs.old.items) (images D.image_at D.moment pairs.new.items)) }
         ensures ready { OnOk result (IsReady (places_of self.new) (link_view C.slots C.failed C.wire F.put_on F.taken_on F.faults carrier.new fabric.new)) }
         ensures links { (place : Id → ℕ) (z : Calming) → Places place (ids_of self.old) (places_of self.old) → Holds circuit z.world (seen D.image_at D.moment self.old pairs.old.items) → AreRows z.taken (ids_of self.old) rows.old.items → PartDelivers result place z (pass circuit (ids_of self.old) z) (link_view C.slots C.failed C.wire F.put_on F.taken_on F.faults carrier.old fabric.old) (link_view C.slots C.failed C.wire F.put_on F.taken_on F.faults carrier.new fabric.new) }
+        ensures faults { LeavesLinks result (link_view C.slots C.failed C.wire F.put_on F.taken_on F.faults carrier.old fabric.old) (link_view C.slots C.failed C.wire F.put_on F.taken_on F.faults carrier.new fabric.new) }
     {
         let moved = self.tick_all(alloc, pairs, circuit)?;
         let ticked = self.events.count();
@@ -348,6 +354,7 @@ impl World {
         ensures ended { (m : CircuitWorld) → Holds circuit m (seen D.image_at D.moment self.old pairs.old.items) → IfErr result (λ e. PartEnds circuit (calming m) (calm circuit m passes) e (seen D.image_at D.moment self.old pairs.old.items) (images D.image_at D.moment pairs.new.items)) }
         ensures ready { OnOk result (IsReady (places_of self.new) (link_view C.slots C.failed C.wire F.put_on F.taken_on F.faults carrier.new fabric.new)) }
         ensures links { (place : Id → ℕ) (m : CircuitWorld) → Places place (ids_of self.old) (places_of self.old) → Holds circuit m (seen D.image_at D.moment self.old pairs.old.items) → Delivers result (carried_in place m (calm circuit m passes).happened) (link_view C.slots C.failed C.wire F.put_on F.taken_on F.faults carrier.old fabric.old) (link_view C.slots C.failed C.wire F.put_on F.taken_on F.faults carrier.new fabric.new) }
+        ensures faults { LeavesLinks result (link_view C.slots C.failed C.wire F.put_on F.taken_on F.faults carrier.old fabric.old) (link_view C.slots C.failed C.wire F.put_on F.taken_on F.faults carrier.new fabric.new) }
     {
         let mut rows = self.rows(alloc, &circuit)?;
         for done in 0..passes {

@@ -9,6 +9,7 @@ ghost use Rattle.spl_wire.specs.Bounds.{IsSendable};
 ghost use Rattle.spl_world.specs.Disks.{Images, is_of_journal};
 ghost use Rattle.spl_world.specs.Halts.{delivery_of};
 ghost use Rattle.spl_world.specs.Links.{Delivers, IsReady, Places, carried_of, link_view};
+ghost use Rattle.spl_world.specs.Links.{LeavesLinks};
 ghost use Rattle.spl_world.specs.Views.{Holds, IsAt, ids_of, over, places_of};
 
 use crate::fault::{WorldFault, carry_fault};
@@ -39,6 +40,7 @@ fn carry<C: Carry, F: Fabric>(
     ensures going { OnOk result (C.failed carrier.new ≡ false) }
     ensures taken { OnOk result (AllTaken (F.put_on fabric.new) (F.taken_on fabric.new)) }
     ensures links { Delivers result (only from to message.now) (link_view C.slots C.failed C.wire F.put_on F.taken_on F.faults carrier.old fabric.old) (link_view C.slots C.failed C.wire F.put_on F.taken_on F.faults carrier.new fabric.new) }
+    ensures faults { LeavesLinks result (link_view C.slots C.failed C.wire F.put_on F.taken_on F.faults carrier.old fabric.old) (link_view C.slots C.failed C.wire F.put_on F.taken_on F.faults carrier.new fabric.new) }
     ensures few { (which : ℕ) → IsErrOf result (WorldFault.TooMany which) → ⊥ }
     ensures disk { (slot : ℕ) → IsErrOf result (WorldFault.Disk slot) → ⊥ }
     ensures sound { IfErr result (λ e. is_of_journal e ≡ false) }
@@ -71,6 +73,7 @@ impl World {
         ensures own { (n : Id) → IsAt self.now to n → IfOk result (λ e. IfSome e (IsFor (site_at n circuit.now))) }
         ensures ready { OnOk result (IsReady (places_of self.now) (link_view C.slots C.failed C.wire F.put_on F.taken_on F.faults carrier.new fabric.new)) }
         ensures links { (place : Id → ℕ) (is : List Images) (m : CircuitWorld) (a b : Id) → Places place (ids_of self.now) (places_of self.now) → Holds circuit.now m (over self.now is) → IsAt self.now from a → IsAt self.now to b → Delivers result (carried_of (place a) (place b) (slice_get (messages m a b) index)) (link_view C.slots C.failed C.wire F.put_on F.taken_on F.faults carrier.old fabric.old) (link_view C.slots C.failed C.wire F.put_on F.taken_on F.faults carrier.new fabric.new) }
+        ensures faults { LeavesLinks result (link_view C.slots C.failed C.wire F.put_on F.taken_on F.faults carrier.old fabric.old) (link_view C.slots C.failed C.wire F.put_on F.taken_on F.faults carrier.new fabric.new) }
         ensures few { (which : ℕ) → IsErrOf result (WorldFault.TooMany which) → ⊥ }
         ensures disk { (slot : ℕ) → IsErrOf result (WorldFault.Disk slot) → ⊥ }
         ensures sound { IfErr result (λ e. is_of_journal e ≡ false) }

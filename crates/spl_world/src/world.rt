@@ -12,6 +12,7 @@ ghost use Rattle.spl_world.specs.Disks.{Images, LeavesDisks, bench, images, is_o
 ghost use Rattle.spl_world.specs.Halts.{delivery_of};
 ghost use Rattle.spl_world.specs.Ended.{EventEnds};
 ghost use Rattle.spl_world.specs.Links.{Delivers, IsReady, Places, carried_at, is_of_links, link_view};
+ghost use Rattle.spl_world.specs.Links.{LeavesLinks};
 ghost use Rattle.spl_world.specs.Views.{IsPlace, Holds, IsAt, IsUp, Moves, Sits, has_id, places_of, ids_of, is_halted, over, seen, ups_of};
 
 use crate::events::Events;
@@ -223,6 +224,7 @@ impl World {
         ensures few { (which : ℕ) → IsErrOf result (WorldFault.TooMany which) → ⊥ }
         ensures ready { OnOk result (IsReady (places_of self.new) (link_view C.slots C.failed C.wire F.put_on F.taken_on F.faults carrier.new fabric.new)) }
         ensures links { (place : Id → ℕ) (m : CircuitWorld) (a b : Id) → Places place (ids_of self.old) (places_of self.old) → Holds circuit m (seen D.image_at D.moment self.old pairs.old.items) → IsAt self.old from a → IsAt self.old to b → Delivers result (carried_at place m (Steps (step.Deliver a b circuit (index + 1)))) (link_view C.slots C.failed C.wire F.put_on F.taken_on F.faults carrier.old fabric.old) (link_view C.slots C.failed C.wire F.put_on F.taken_on F.faults carrier.new fabric.new) }
+        ensures faults { LeavesLinks result (link_view C.slots C.failed C.wire F.put_on F.taken_on F.faults carrier.old fabric.old) (link_view C.slots C.failed C.wire F.put_on F.taken_on F.faults carrier.new fabric.new) }
     {
         let delivery = self.carried(alloc, carrier, fabric, from, to, &circuit, index)?;
         match delivery {

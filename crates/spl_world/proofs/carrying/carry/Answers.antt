@@ -2,6 +2,8 @@ use Rattle.std.proofs.Common.{ap, Err}
 use Rattle.spl_pump.specs.Wires.{only}
 use Rattle.spl_world.specs.Links.{link_view}
 use Rattle.spl_world.proofs.Linking.{fault_part, memory_part}
+use Rattle.spl_world.proofs.LinkFaults.{faults_carry, faults_off, faults_ok}
+use Rattle.spl_world.proofs.Linking.{off_memory}
 use Rattle.spl_world.proofs.carrying.carry.Goals as goal
 
 pub returns-in_err-new-in-Ok-clause-links : goal.returns-in_err-new-in-Ok-clause-links
@@ -15,3 +17,14 @@ returns-in-Err-clause-links g c =
     let x = link_view g.C.Carry.slots g.C.Carry.failed g.C.Carry.wire g.F.Fabric.put_on g.F.Fabric.taken_on g.F.Fabric.faults c.args.carrier.now c.args.fabric.now in
     let y = link_view g.C.Carry.slots g.C.Carry.failed g.C.Carry.wire g.F.Fabric.put_on g.F.Fabric.taken_on g.F.Fabric.faults c.carry.new.self c.carry.new.fabric in
     fault_part c.carry_fault.result c.in-Err.fault c.args.from c.args.to c.args.message.now x y c.carry_fault.ensures.fault c.in-Err.ensures.part c.in-Err.ensures.cause.later (λ q. c.in-Err.ensures.cause.failed (ap Err q)) c.in-Err.ensures.lied
+
+-- ---- the faults of the links
+
+pub returns-in_err-new-in-Ok-clause-faults : goal.returns-in_err-new-in-Ok-clause-faults
+returns-in_err-new-in-Ok-clause-faults g c = faults_off c.from_residual.result _ _ (off_memory c.from_residual.result c.from_residual.ensures) c.in-Ok.ensures.cause.later
+
+pub returns-in-Err-clause-faults : goal.returns-in-Err-clause-faults
+returns-in-Err-clause-faults g c = faults_carry _ c.in-Err.fault c.args.from c.args.to _ _ c.carry_fault.ensures.fault c.in-Err.ensures.cause.later (λ q. c.in-Err.ensures.cause.failed (ap Err q)) c.in-Err.ensures.lied
+
+pub returns-in_ok-new-in-Ok-clause-faults : goal.returns-in_ok-new-in-Ok-clause-faults
+returns-in_ok-new-in-Ok-clause-faults g c = faults_ok _ _ _ c.in-Ok.ensures.cause.later

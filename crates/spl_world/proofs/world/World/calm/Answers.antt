@@ -23,6 +23,8 @@ use Rattle.spl_world.proofs.Seating.{places_as}
 use Rattle.spl_world.specs.Links.{PartDelivers, carried_in, link_view}
 use Rattle.spl_world.specs.Views.{places_of}
 use Rattle.spl_world.specs.declared.fault.WorldFault.TheVariants.{NoMemory}
+use Rattle.spl_world.proofs.LinkFaults.{faults_failed, faults_off, faults_ok, faults_still, faults_then}
+use Rattle.spl_world.proofs.Linking.{off_memory}
 use Rattle.spl_world.proofs.world.World.calm.Goals as goal
 
 pub pass-requires-clause-square : goal.pass-requires-clause-square
@@ -67,6 +69,7 @@ loop-done-preserved g c =
           let one = subst (λ (ns : List NodeId). PartDelivers done place y (pass c.args.circuit ns y) q s) c.loop-done.invariant.1 (c.in_ok-pass.ensures.links place y seats so_far.0 rows) in
           part_to place done (calming m) (pass c.args.circuit ids y) (passes c.args.circuit ids (c.loop-done.done + 1) (calming m)) p s (sym (passes_next c.args.circuit ids c.loop-done.done (calming m)))
           (ok_then place done (calming m) y (pass c.args.circuit ids y) p q s carried one),
+      omega (arith, c.loop-done.invariant.12, c.in_ok-pass.ensures.faults.no_less),
     )
 
 pub returns-clause-moves : goal.returns-clause-moves
@@ -79,7 +82,7 @@ returns-clause-moves g c =
     }
 
 pub loop-done-init : goal.loop-done-init
-loop-done-init g c = (refl, refl, c.in_ok-rows.ensures.square, λ m h. (h, c.in_ok-rows.ensures.counts (images g.D.Disk.image_at g.D.Disk.moment c.args.pairs.now.items) m h), λ d m off h. h, λ m h. refl, c.requires.sits, all_itself _, refl, refl, c.requires.ready, λ place m placed h. part_same place (calming m) (link_view g.C.Carry.slots g.C.Carry.failed g.C.Carry.wire g.F.Fabric.put_on g.F.Fabric.taken_on g.F.Fabric.faults c.args.carrier.now c.args.fabric.now) (g.met.C.Carry.idle c.args.carrier.now))
+loop-done-init g c = (refl, refl, c.in_ok-rows.ensures.square, λ m h. (h, c.in_ok-rows.ensures.counts (images g.D.Disk.image_at g.D.Disk.moment c.args.pairs.now.items) m h), λ d m off h. h, λ m h. refl, c.requires.sits, all_itself _, refl, refl, c.requires.ready, λ place m placed h. part_same place (calming m) (link_view g.C.Carry.slots g.C.Carry.failed g.C.Carry.wire g.F.Fabric.put_on g.F.Fabric.taken_on g.F.Fabric.faults c.args.carrier.now c.args.fabric.now) (g.met.C.Carry.idle c.args.carrier.now), omega arith)
 
 -- ---- how many events
 
@@ -265,3 +268,19 @@ returns-clause-links g c = λ place m placed h.
     whole_part place done m (calm c.args.circuit m c.args.passes) p q
     (subst (λ (w : Calming). PartDelivers done place (calming m) w p q) (calm_is c.args.circuit m (seen g.D.Disk.image_at g.D.Disk.moment c.args.self.now c.args.pairs.now.items) c.args.passes h)
     (subst (λ (k : ℕ). PartDelivers done place (calming m) (passes c.args.circuit (ids_of c.args.self.now) k (calming m)) p q) done_all (c.loop-done.invariant.11 place m placed h)))
+
+-- ---- the faults of the links
+
+pub returns-in_err-rows-clause-faults : goal.returns-in_err-rows-clause-faults
+returns-in_err-rows-clause-faults g c = faults_still c.from_residual.result _ (off_memory c.from_residual.result c.from_residual.ensures)
+
+pub returns-in_err-pass-clause-faults : goal.returns-in_err-pass-clause-faults
+returns-in_err-pass-clause-faults g c = faults_failed c.from_residual-in_err-pass.result _ c.from_residual-in_err-pass.ensures _ _ (faults_then _ _ _ _ c.loop-done.invariant.12 c.in_err-pass.ensures.faults)
+
+pub returns-then-not-branch-clause-faults : goal.returns-then-not-branch-clause-faults
+returns-then-not-branch-clause-faults g c =
+    let q = (link_view g.C.Carry.slots g.C.Carry.failed g.C.Carry.wire g.F.Fabric.put_on g.F.Fabric.taken_on g.F.Fabric.faults c.loop-done.carrier c.loop-done.fabric) in
+    faults_then c.add.result _ q _ c.loop-done.invariant.12 (faults_off c.add.result q _ (off_limit c.add.result 1 c.add.ensures.fault) c.in_ok-pass.ensures.faults.no_less)
+
+pub returns-clause-faults : goal.returns-clause-faults
+returns-clause-faults g c = faults_ok _ _ _ c.loop-done.invariant.12

@@ -21,6 +21,7 @@ use Rattle.spl_world.proofs.Reading.{messages_as}
 use Rattle.spl_world.proofs.Seating.{carried_none, carried_some, moved_ready, ready_at}
 use Rattle.spl_world.proofs.Slots.{id_at, place_at, same_at}
 use Rattle.spl_world.proofs.world.World.carried.Given.{Over}
+use Rattle.spl_world.proofs.LinkFaults.{faults_failed, faults_ok, faults_same}
 use Rattle.spl_world.proofs.world.World.carried.Goals as goal
 
 -- ---- before it is carried
@@ -130,3 +131,14 @@ returns-in_err-message-in-Some-clause-links g c = λ place is m a b placed h at 
     delivers_as c.from_residual.result (only c.index-3.result.now.position c.index-4.result.now.position c.in-Some.message.now) (carried_of (place a) (place b) (slice_get (messages m a b) c.args.index)) x y
     (carried_some place a b c.index-3.result.now.position c.index-4.result.now.position c.in-Some.message.now (slice_get (messages m a b) c.args.index) from_place to_place found)
     (delivers_failed c.from_residual.result c.in_err-message-in-Some.field-0.0 c.from_residual.ensures (only c.index-3.result.now.position c.index-4.result.now.position c.in-Some.message.now) x y c.in_err-message-in-Some.ensures.links)
+
+-- ---- the faults of the links
+
+pub returns-in-None-clause-faults : goal.returns-in-None-clause-faults
+returns-in-None-clause-faults g c = faults_same _ _
+
+pub returns-clause-faults : goal.returns-clause-faults
+returns-clause-faults g c = faults_ok _ _ _ c.in_ok-message-in-Some.ensures.faults.no_less
+
+pub returns-in_err-message-in-Some-clause-faults : goal.returns-in_err-message-in-Some-clause-faults
+returns-in_err-message-in-Some-clause-faults g c = faults_failed c.from_residual.result _ c.from_residual.ensures _ _ c.in_err-message-in-Some.ensures.faults

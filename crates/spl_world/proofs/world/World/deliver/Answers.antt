@@ -22,6 +22,7 @@ use Rattle.spl_world.proofs.Results.{on_ok}
 use Rattle.spl_world.proofs.Seating.{carried_up, seats_differ, still_ready}
 use Rattle.spl_world.specs.Links.{carried_at, carried_of, link_view}
 use Rattle.spl_world.specs.Views.{places_of}
+use Rattle.spl_world.proofs.LinkFaults.{faults_failed, faults_off, faults_ok}
 use Rattle.spl_world.proofs.world.World.deliver.Goals as goal
 
 -- no message is there
@@ -91,3 +92,14 @@ returns-in-Some-clause-links g c = λ place m a b placed h at to.
     let y = (link_view g.C.Carry.slots g.C.Carry.failed g.C.Carry.wire g.F.Fabric.put_on g.F.Fabric.taken_on g.F.Fabric.faults c.carried.new.carrier c.carried.new.fabric) in
     delivers_as c.handle.result (carried_of (place a) (place b) (slice_get (messages m a b) c.args.index)) (carried_at place m (Steps (step.Deliver a b c.args.circuit (c.args.index + 1)))) x y (carried_up place m a b c.args.circuit c.args.index (node_up c.args.circuit m (seen g.D.Disk.image_at g.D.Disk.moment c.args.self.now c.args.pairs.now.items) c.args.to b h to c.requires.up))
     (delivers_still c.handle.result (carried_of (place a) (place b) (slice_get (messages m a b) c.args.index)) x y c.handle.ensures.unlinked (c.in_ok-delivery.ensures.links place (images g.D.Disk.image_at g.D.Disk.moment c.args.pairs.now.items) m a b placed h at to))
+
+-- ---- the faults of the links
+
+pub returns-in_err-delivery-clause-faults : goal.returns-in_err-delivery-clause-faults
+returns-in_err-delivery-clause-faults g c = faults_failed c.from_residual.result _ c.from_residual.ensures _ _ c.in_err-delivery.ensures.faults
+
+pub returns-in-None-clause-faults : goal.returns-in-None-clause-faults
+returns-in-None-clause-faults g c = faults_ok _ _ _ c.in_ok-delivery.ensures.faults.no_less
+
+pub returns-in-Some-clause-faults : goal.returns-in-Some-clause-faults
+returns-in-Some-clause-faults g c = faults_off c.handle.result _ _ c.handle.ensures.unlinked c.in_ok-delivery.ensures.faults.no_less

@@ -23,6 +23,8 @@ use Rattle.spl_world.proofs.Seating.{places_as}
 use Rattle.spl_world.proofs.Turns.{deliver_next}
 use Rattle.spl_world.specs.Links.{PartDelivers, link_view}
 use Rattle.spl_world.specs.Views.{ids_of, places_of}
+use Rattle.spl_world.proofs.LinkFaults.{faults_failed, faults_off, faults_ok, faults_then}
+use Rattle.spl_world.proofs.Linking.{off_failed}
 use Rattle.spl_world.proofs.world.World.deliver_from.Goals as goal
 
 pub deliver-requires-clause-from_below : goal.deliver-requires-clause-from_below
@@ -73,6 +75,7 @@ loop-index-preserved g c =
           let so_far = c.loop-index.invariant.12 place z a b placed h at to in
           part_to place done z (calming_step here one) next p s (deliver_next c.args.circuit z a b c.args.taken c.loop-index.index c.loop-index.invariant.3)
           (ok_then place done z here (calming_step here one) p q s so_far (part_step place done here one q s (c.in_ok-deliver.ensures.links place here.world a b seats (moves.own z.world h) first second))),
+      omega (arith, c.loop-index.invariant.13, c.in_ok-deliver.ensures.faults.no_less),
     )
 
 pub returns-clause-moves : goal.returns-clause-moves
@@ -115,6 +118,7 @@ loop-index-init g c =
       λ place z a b placed h at to.
           let p = (link_view g.C.Carry.slots g.C.Carry.failed g.C.Carry.wire g.F.Fabric.put_on g.F.Fabric.taken_on g.F.Fabric.faults c.args.carrier.now c.args.fabric.now) in
           part_to place done z z (delivers c.args.circuit z a b (c.args.taken + 1) (c.args.taken - c.args.taken)) p p (sym (ap (delivers c.args.circuit z a b (c.args.taken + 1)) none)) (part_same place z p (g.met.C.Carry.idle c.args.carrier.now)),
+      omega arith,
     )
 
 pub deliver-requires-clause-sits : goal.deliver-requires-clause-sits
@@ -212,3 +216,14 @@ returns-clause-links g c = λ place z a b placed h at to.
     let q = (link_view g.C.Carry.slots g.C.Carry.failed g.C.Carry.wire g.F.Fabric.put_on g.F.Fabric.taken_on g.F.Fabric.faults c.loop-index.carrier c.loop-index.fabric) in
     let all : c.loop-index.index - c.args.taken ≡ c.args.all - c.args.taken = omega (arith, c.loop-index.invariant.3, c.loop-index.invariant.4, c.loop-index-test.false) in
     subst (λ (k : ℕ). PartDelivers done place z (delivers c.args.circuit z a b (c.args.taken + 1) k) p q) all (c.loop-index.invariant.12 place z a b placed h at to)
+
+-- ---- the faults of the links
+
+pub returns-in_err-add-clause-faults : goal.returns-in_err-add-clause-faults
+returns-in_err-add-clause-faults g c = faults_off c.from_residual.result _ _ (off_failed c.from_residual.result _ c.from_residual.ensures (off_limit (failed (Unit {0}) c.in_err-add.field-0.0) 1 c.in_err-add.ensures.fault)) c.loop-index.invariant.13
+
+pub returns-in_err-deliver-clause-faults : goal.returns-in_err-deliver-clause-faults
+returns-in_err-deliver-clause-faults g c = faults_failed c.from_residual-in_err-deliver.result _ c.from_residual-in_err-deliver.ensures _ _ (faults_then _ _ _ _ c.loop-index.invariant.13 c.in_err-deliver.ensures.faults)
+
+pub returns-clause-faults : goal.returns-clause-faults
+returns-clause-faults g c = faults_ok _ _ _ c.loop-index.invariant.13

@@ -20,3 +20,4 @@ invariant-loop-index g l = (length l.self.slots.items ≡ length l.fn.self.slots
     × IsReady (places_of l.self) (link_view g.C.Carry.slots g.C.Carry.failed g.C.Carry.wire g.F.Fabric.put_on g.F.Fabric.taken_on g.F.Fabric.faults l.carrier l.fabric)
     × ((place : NodeId → ℕ) (z : Calming) (a b : NodeId) → Places place (ids_of l.fn.self) (places_of l.fn.self) → Holds l.circuit z.world (seen g.D.Disk.image_at g.D.Disk.moment l.fn.self l.fn.pairs.items) → IsAt l.fn.self l.from a → IsAt l.fn.self l.to b
     → PartDelivers done place z (delivers l.circuit z a b (l.taken + 1) (l.index - l.taken)) (link_view g.C.Carry.slots g.C.Carry.failed g.C.Carry.wire g.F.Fabric.put_on g.F.Fabric.taken_on g.F.Fabric.faults l.fn.carrier l.fn.fabric) (link_view g.C.Carry.slots g.C.Carry.failed g.C.Carry.wire g.F.Fabric.put_on g.F.Fabric.taken_on g.F.Fabric.faults l.carrier l.fabric))
+    × (g.F.Fabric.faults l.fn.fabric ≤ g.F.Fabric.faults l.fabric)

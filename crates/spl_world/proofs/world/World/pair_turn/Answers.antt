@@ -15,6 +15,7 @@ use Rattle.spl_world.specs.Ended.{PartEnds}
 use Rattle.spl_world.proofs.Linking.{done}
 use Rattle.spl_world.proofs.LinkingParts.{err_more, part_down, part_failed, part_own, part_turn}
 use Rattle.spl_world.specs.Links.{link_view}
+use Rattle.spl_world.proofs.LinkFaults.{faults_failed, faults_ok, faults_same}
 use Rattle.spl_world.proofs.world.World.pair_turn.Goals as goal
 
 -- the recipient is down
@@ -135,3 +136,17 @@ returns-clause-links g c = λ place z a b placed h at to e.
     let up : z.world.up b ≡ true = sym (c.is_up.ensures.world (images g.D.Disk.image_at g.D.Disk.moment c.args.pairs.now.items) c.args.circuit z.world b h to) ∙ c.if-not-is_up.false in
     let all = c.count-all.ensures (images g.D.Disk.image_at g.D.Disk.moment c.args.pairs.now.items) z.world a b h at to in
     part_turn place c.args.circuit done z a b c.args.taken c.count-all.result (link_view g.C.Carry.slots g.C.Carry.failed g.C.Carry.wire g.F.Fabric.put_on g.F.Fabric.taken_on g.F.Fabric.faults c.args.carrier.now c.args.fabric.now) (link_view g.C.Carry.slots g.C.Carry.failed g.C.Carry.wire g.F.Fabric.put_on g.F.Fabric.taken_on g.F.Fabric.faults c.deliver_from.new.carrier c.deliver_from.new.fabric) e all up (c.in_ok-deliver_from.ensures.links place z a b placed h at to)
+
+-- ---- the faults of the links
+
+pub returns-then-not-is_up-clause-faults : goal.returns-then-not-is_up-clause-faults
+returns-then-not-is_up-clause-faults g c = faults_same _ _
+
+pub returns-then-is_same-clause-faults : goal.returns-then-is_same-clause-faults
+returns-then-is_same-clause-faults g c = faults_same _ _
+
+pub returns-in_err-deliver_from-clause-faults : goal.returns-in_err-deliver_from-clause-faults
+returns-in_err-deliver_from-clause-faults g c = faults_failed c.from_residual.result _ c.from_residual.ensures _ _ c.in_err-deliver_from.ensures.faults
+
+pub returns-clause-faults : goal.returns-clause-faults
+returns-clause-faults g c = faults_ok _ _ _ c.in_ok-deliver_from.ensures.faults.no_less

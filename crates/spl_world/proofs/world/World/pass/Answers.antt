@@ -23,6 +23,8 @@ use Rattle.spl_world.proofs.EndingParts.{leads_pass}
 use Rattle.spl_world.proofs.Seating.{places_as, still_ready}
 use Rattle.spl_world.specs.Links.{PartDelivers, link_view}
 use Rattle.spl_world.specs.Views.{places_of}
+use Rattle.spl_world.proofs.LinkFaults.{faults_failed, faults_ok, faults_still}
+use Rattle.spl_world.proofs.Linking.{off_failed}
 use Rattle.spl_world.proofs.world.World.pass.Goals as goal
 
 pub from_all-requires-clause-square : goal.from_all-requires-clause-square
@@ -163,3 +165,14 @@ returns-clause-links g c = λ place z placed h rows.
     let ticked = part_ticks place c.args.circuit z (open_nodes z.world ids) p (g.met.C.Carry.idle c.args.carrier.now) in
     let part = subst (λ (ns : List NodeId). PartDelivers done place y (from_all c.args.circuit y ns ns) p q) c.tick_all.ensures.ids (c.in_ok-from_all.ensures.links place y seats ((c.in_ok-moved.ensures.moves z).own z.world h) taken) in
     ok_then place done z y whole p p q ticked part
+
+-- ---- the faults of the links
+
+pub returns-in_err-moved-clause-faults : goal.returns-in_err-moved-clause-faults
+returns-in_err-moved-clause-faults g c = faults_still c.from_residual.result _ (off_failed c.from_residual.result _ c.from_residual.ensures c.in_err-moved.ensures.unlinked)
+
+pub returns-in_err-from_all-clause-faults : goal.returns-in_err-from_all-clause-faults
+returns-in_err-from_all-clause-faults g c = faults_failed c.from_residual-in_err-from_all.result _ c.from_residual-in_err-from_all.ensures _ _ c.in_err-from_all.ensures.faults
+
+pub returns-clause-faults : goal.returns-clause-faults
+returns-clause-faults g c = faults_ok _ _ _ c.in_ok-from_all.ensures.faults.no_less

@@ -22,6 +22,7 @@ use Rattle.spl_world.proofs.Results.{on_ok}
 use Rattle.spl_world.proofs.Seating.{carried_down, still_ready}
 use Rattle.spl_world.specs.Links.{Delivers, carried_at, link_view}
 use Rattle.spl_world.specs.Views.{places_of}
+use Rattle.spl_world.proofs.LinkFaults.{faults_same, faults_still}
 use Rattle.spl_world.proofs.world.World.run.Goals as goal
 
 pub handle-requires-clause-own : goal.handle-requires-clause-own
@@ -135,3 +136,14 @@ returns-else-not-is_up-2-clause-links g c = λ place m placed h.
     let back = number_back c.in-Deliver.from c.in-Deliver.to c.in-Deliver.circuit c.in-Deliver.number (rw (c.in-Deliver.is) at c.requires.fits) in
     rw (c.in-Deliver.is) (subst (λ (k : ℕ). Delivers c.deliver.result (carried_at place m (Steps (step.Deliver c.in-Deliver.from c.in-Deliver.to c.in-Deliver.circuit k))) x y) back
     (c.deliver.ensures.links place m c.in-Deliver.from c.in-Deliver.to placed (rw (c.in-Deliver.is) at h) c.slot-sender.ensures.at c.slot-recipient.ensures.at))
+
+-- ---- the faults of the links
+
+pub returns-then-not-is_up-clause-faults : goal.returns-then-not-is_up-clause-faults
+returns-then-not-is_up-clause-faults g c = faults_same _ _
+
+pub returns-else-not-is_up-clause-faults : goal.returns-else-not-is_up-clause-faults
+returns-else-not-is_up-clause-faults g c = faults_still c.handle.result _ c.handle.ensures.unlinked
+
+pub returns-then-not-is_up-2-clause-faults : goal.returns-then-not-is_up-2-clause-faults
+returns-then-not-is_up-2-clause-faults g c = faults_same _ _

@@ -20,6 +20,8 @@ use Rattle.spl_circuit.specs.Nodes.{CircuitId}
 use Rattle.spl_world.proofs.Linking.{carries_nothing, delivers_failed, fails_early, off_limit}
 use Rattle.spl_world.proofs.Seating.{still_ready}
 use Rattle.spl_world.specs.Links.{carried_in, line_carried, link_view}
+use Rattle.spl_world.proofs.LinkFaults.{faults_failed, faults_ok, faults_same, faults_still}
+use Rattle.spl_world.proofs.Linking.{off_failed, off_memory}
 use Rattle.spl_world.proofs.world.World.run_line.Goals as goal
 
 -- ---- a step
@@ -187,6 +189,35 @@ returns-in_err-roll_at-in-Roll-clause-ended g c = λ before stands.
     let was = images g.D.Disk.image_at g.D.Disk.moment c.args.pairs.now.items in
     failed_ends c.from_residual-in_err-roll_at-in-Roll.result NoMemory c.from_residual-in_err-roll_at-in-Roll.ensures (λ e. LineEnds (λ k. whole_world (ids_of c.args.self.now) k before) c.args.line.now e (ids_of c.args.self.now) (places_of c.args.self.now) was)
     (ended_still before c.args.self.now was stands NoMemory (memory_named (places_of c.args.self.now)) c.args.line.now was refl)
+
+-- ---- the faults of the links
+
+pub returns-in_err-add-in-Step-clause-faults : goal.returns-in_err-add-in-Step-clause-faults
+returns-in_err-add-in-Step-clause-faults g c = faults_still c.from_residual.result _ (off_failed c.from_residual.result _ c.from_residual.ensures (off_limit (failed (Unit {0}) c.in_err-add-in-Step.field-0.0) 1 c.in_err-add-in-Step.ensures.fault))
+
+pub returns-in_err-add-in-Start-clause-faults : goal.returns-in_err-add-in-Start-clause-faults
+returns-in_err-add-in-Start-clause-faults g c = faults_still c.from_residual-in_err-add-in-Start.result _ (off_failed c.from_residual-in_err-add-in-Start.result _ c.from_residual-in_err-add-in-Start.ensures (off_limit (failed (Unit {0}) c.in_err-add-in-Start.field-0.0) 1 c.in_err-add-in-Start.ensures.fault))
+
+pub returns-in_err-add-in-Roll-clause-faults : goal.returns-in_err-add-in-Roll-clause-faults
+returns-in_err-add-in-Roll-clause-faults g c = faults_still c.from_residual-in_err-add-in-Roll.result _ (off_failed c.from_residual-in_err-add-in-Roll.result _ c.from_residual-in_err-add-in-Roll.ensures (off_limit (failed (Unit {0}) c.in_err-add-in-Roll.field-0.0) 1 c.in_err-add-in-Roll.ensures.fault))
+
+pub returns-in_err-start_at-in-Start-clause-faults : goal.returns-in_err-start_at-in-Start-clause-faults
+returns-in_err-start_at-in-Start-clause-faults g c = faults_still c.from_residual-in_err-start_at-in-Start.result _ (off_failed c.from_residual-in_err-start_at-in-Start.result _ c.from_residual-in_err-start_at-in-Start.ensures c.in_err-start_at-in-Start.ensures.unlinked)
+
+pub returns-in_err-roll_at-in-Roll-clause-faults : goal.returns-in_err-roll_at-in-Roll-clause-faults
+returns-in_err-roll_at-in-Roll-clause-faults g c = faults_still c.from_residual-in_err-roll_at-in-Roll.result _ (off_memory c.from_residual-in_err-roll_at-in-Roll.result c.from_residual-in_err-roll_at-in-Roll.ensures)
+
+pub returns-in_ok-calm-in-Calm-clause-faults : goal.returns-in_ok-calm-in-Calm-clause-faults
+returns-in_ok-calm-in-Calm-clause-faults g c = faults_ok _ _ _ c.in_ok-calm-in-Calm.ensures.faults.no_less
+
+pub returns-in_err-calm-in-Calm-clause-faults : goal.returns-in_err-calm-in-Calm-clause-faults
+returns-in_err-calm-in-Calm-clause-faults g c = faults_failed c.from_residual-in_err-calm-in-Calm.result _ c.from_residual-in_err-calm-in-Calm.ensures _ _ c.in_err-calm-in-Calm.ensures.faults
+
+pub returns-in_ok-start_at-in-Start-clause-faults : goal.returns-in_ok-start_at-in-Start-clause-faults
+returns-in_ok-start_at-in-Start-clause-faults g c = faults_same _ _
+
+pub returns-in_ok-roll_at-in-Roll-clause-faults : goal.returns-in_ok-roll_at-in-Roll-clause-faults
+returns-in_ok-roll_at-in-Roll-clause-faults g c = faults_same _ _
 
 -- ---- the links
 
