@@ -6,9 +6,11 @@ ghost use Rattle.spl_model.specs.Counts.{events_of, stops_of};
 ghost use Rattle.spl_model.specs.Outcomes.{by_rule};
 ghost use Rattle.spl_model.specs.Projection.{Ran};
 ghost use Rattle.spl_model.specs.Worlds.{World as CircuitWorld, Stops, happens};
+ghost use Rattle.spl_projection.specs.Whole.{whole_world};
 ghost use Rattle.spl_sched.specs.declared.line.Line.TheVariants as line;
 ghost use Rattle.spl_world.specs.Counts.{IsOver, is_of_limit};
 ghost use Rattle.spl_world.specs.Disks.{Images};
+ghost use Rattle.spl_world.specs.Ended.{LineEnds};
 ghost use Rattle.spl_world.specs.Views.{Holds, IsAt, Sits, Stands, ids_of, is_halted, over, places_of};
 
 use crate::fault::WorldFault;
@@ -36,6 +38,8 @@ impl World {
         ensures few { (is : List Images) (before : List Ran) → Stands before self.old is → OnOk result (events_of (ids_of self.old) (before ++ by_rule (line.Stop node.now) ∷ []) ≤ MOST_EVENTS) }
         ensures fewer { (is : List Images) (before : List Ran) → Stands before self.old is → OnOk result (stops_of (before ++ by_rule (line.Stop node.now) ∷ []) ≤ MOST_STOPS) }
         ensures only { IfErr result (λ e. is_of_limit e ≡ true) }
+        // Where it ends with an error, the disks of all nodes go on holding what the nodes keep.
+        ensures ended { (is : List Images) (before : List Ran) → Stands before self.old is → IfErr result (λ e. LineEnds (λ c. whole_world (ids_of self.old) c before) (line.Stop node.now) e (ids_of self.old) (places_of self.old) is) }
         ensures running { OnOk result (is_halted self.new ≡ false) }
         ensures halted { OnErr result (is_halted self.new ≡ true) }
     {

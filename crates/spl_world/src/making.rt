@@ -7,7 +7,7 @@ ghost use Rattle.spl_world.specs.Disks.{AllTell, AreBlank, LeavesDisks, bench, i
 ghost use Rattle.spl_world.specs.Held.{AllHeld, AllUnpicked};
 ghost use Rattle.spl_world.specs.Links.{is_of_links};
 ghost use Rattle.spl_world.specs.Making.{AreMadeBut};
-ghost use Rattle.spl_world.specs.Views.{ArePlaced, IsPlace, Stands, ids_of, is_halted, places_of};
+ghost use Rattle.spl_world.specs.Views.{ArePlaced, IsPlace, Sits, Stands, ids_of, is_halted, places_of, seen};
 
 use crate::events::Events;
 use crate::fault::WorldFault;
@@ -56,6 +56,8 @@ impl World {
         ensures placed { IfOk result (ArePlaced registry.now) }
         ensures below { IfOk result (λ w. (k : ℕ) → IsPlace (places_of w) k → k < length registry.now) }
         ensures running { IfOk result (λ w. is_halted w ≡ false) }
+        // Whatever the disks tell, each node stands over its own.
+        ensures sits { IfOk result (λ w. Sits (seen D.image_at D.moment w pairs.new.items)) }
         ensures stands { AllTell (length registry.now) (images D.image_at D.moment pairs.old.items) → IfOk result (λ w. Stands [] w (images D.image_at D.moment pairs.new.items)) }
         ensures held { AllTell (length registry.now) (images D.image_at D.moment pairs.old.items) → AllUnpicked (bench D.image_at D.moment D.faults D.armed D.picks pairs.old.items) → IfOk result (λ w. AllHeld (bench D.image_at D.moment D.faults D.armed D.picks pairs.old.items) [] w (bench D.image_at D.moment D.faults D.armed D.picks pairs.new.items)) }
         ensures disks { LeavesDisks result (bench D.image_at D.moment D.faults D.armed D.picks pairs.old.items) (bench D.image_at D.moment D.faults D.armed D.picks pairs.new.items) }

@@ -126,6 +126,17 @@ returns-clause-below g c = made_below c.args.registry.now c.deref-id-items.resul
 pub returns-clause-placed : goal.returns-clause-placed
 returns-clause-placed g c = made_placed c.args.registry.now c.deref-id-items.result.now c.loop-id.id-index c.loop-id.slots.items _ _ c.loop-id.invariant.made
 
+pub returns-clause-sits : goal.returns-clause-sits
+returns-clause-sits g c =
+    let es = c.args.registry.now in
+    let ns = c.deref-id-items.result.now in
+    let start = images g.D.Disk.image_at g.D.Disk.moment c.args.pairs.now.items in
+    let now = images g.D.Disk.image_at g.D.Disk.moment c.loop-id.pairs.items in
+    let order = ap ascends c.deref-id-items.ensures.value ∙ c.in_ok-ids.ensures.ordered in
+    let all = c.loop-id.invariant.made.ids ∙ take_all c.loop-id.id-index ns c.loop-id-test.false in
+    let room = subst (λ (m : ℕ). length es ≤ m) (sym (images_length g.D.Disk.image_at g.D.Disk.moment c.args.pairs.now.items)) c.requires.room in
+    made_sits es ns c.loop-id.id-index c.loop-id.slots.items start now order room c.loop-id.invariant.made all
+
 pub returns-clause-stands : goal.returns-clause-stands
 returns-clause-stands g c = λ tell.
     let es = c.args.registry.now in

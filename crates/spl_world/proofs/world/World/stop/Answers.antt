@@ -1,7 +1,17 @@
-use Rattle.std.proofs.Common.{◌++◌, ◌∷◌, []}
+use Rattle.std.proofs.Common.{◌++◌, ◌∷◌, [], ◌≡◌, ℕ, true, List, Result, Ok, Err, IfErr, refl}
 use Rattle.spl_model.specs.Outcomes.{by_rule}
+use Rattle.spl_model.specs.Projection.{Ran}
+use Rattle.spl_projection.specs.Whole.{whole_world}
+use Rattle.spl_sched.specs.declared.line.Line.{Line}
 use Rattle.spl_sched.specs.declared.line.Line.TheVariants as line
-use Rattle.spl_world.specs.Views.{ids_of}
+use Rattle.spl_world.specs.Counts.{is_of_limit}
+use Rattle.spl_world.specs.Disks.{Images}
+use Rattle.spl_world.specs.Ended.{LineEnds}
+use Rattle.spl_world.specs.declared.fault.WorldFault.{WorldFault}
+use Rattle.spl_world.specs.declared.fault.WorldFault.TheVariants.{Disk, Lied, Link, NoMemory, NotAJournal, TooMany}
+use Rattle.spl_world.specs.declared.world.World.{World}
+use Rattle.spl_world.specs.Views.{IsPlace, Stands, ids_of, places_of}
+use Rattle.spl_world.proofs.EndingLines.{ended_still}
 use Rattle.spl_world.proofs.Results.{at_ok, ok_is, err_is}
 use Rattle.spl_world.proofs.Standing.{stands_still, within_line, within_stops}
 use Rattle.spl_world.proofs.world.World.stop.Goals as goal
@@ -20,3 +30,19 @@ returns-clause-few c = λ is before stands. at_ok c.stop_node-answered.result (�
 
 pub returns-clause-fewer : goal.returns-clause-fewer
 returns-clause-fewer c = λ is before stands. at_ok c.stop_node-answered.result (λ standing. within_stops (before ++ by_rule (line.Stop c.args.node.now) ∷ []) c.stop_node-answered.new.self is standing c.are_within-2.ensures) (c.stop_node-answered.ensures.stands is before stands)
+
+-- a limit names no disk
+no_place : (ks : List ℕ) (e : WorldFault) → is_of_limit e ≡ true → (k : ℕ) → e ≡ Disk k → IsPlace ks k
+no_place ks (TooMany which) h k q = absurd cc
+no_place ks (Disk slot) h k q = absurd cc
+no_place ks (NotAJournal slot at) h k q = absurd cc
+no_place ks Link h k q = absurd cc
+no_place ks (Lied from to put got) h k q = absurd cc
+no_place ks NoMemory h k q = absurd cc
+
+limit_ends : {A : Type 0} (r : Result A WorldFault) (before : List Ran) (w : World) (is : List Images) (l : Line) → Stands before w is → IfErr r (λ e. is_of_limit e ≡ true) → IfErr r (λ e. LineEnds (λ c. whole_world (ids_of w) c before) l e (ids_of w) (places_of w) is)
+limit_ends (Ok a) before w is l stands only = tt
+limit_ends (Err e) before w is l stands only = ended_still before w is stands e (no_place (places_of w) e only) l is refl
+
+pub returns-clause-ended : goal.returns-clause-ended
+returns-clause-ended c = λ is before stands. limit_ends c.stop_node-answered.result before c.args.self.now is (line.Stop c.args.node.now) stands c.stop_node-answered.ensures.only
