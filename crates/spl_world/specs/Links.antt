@@ -112,11 +112,16 @@ Delivers (Err e) sent x y = CarriesPart e sent x y
 abbrev pub PartDelivers : {A : Type 0} → Result A WorldFault → (NodeId → ℕ) → Calming → Calming → LinkView → LinkView → Type 0
 PartDelivers r place from to x y = (leads : Leads from to) × Delivers r (carried_in place from.world leads.steps) x y
 
--- the fabric forgot no fault, and an error that blames the links has its cause
-pub record LeavesLinks {A : Type 0} (r : Result A WorldFault) (x y : LinkView) : Type 0 where
+-- links between as many nodes, of which no fault is forgotten
+pub record LinksGoOn (x y : LinkView) : Type 0 where
   pub no_less : x.faults ≤ y.faults
+  pub slots : y.slots ≡ x.slots
+
+-- a call lets the links go on, and an error with which it ends has its cause where it blames them, and names nodes of the carrier
+pub record LeavesLinks {A : Type 0} (r : Result A WorldFault) (x y : LinkView) : Type 0 where
+  pub onward : LinksGoOn x y
   pub link : IsErrOf r Link → Rose x.faults y.faults
-  pub lied : (from to : ℕ) (sent got : List ℕ) → IsErrOf r (Lied from to sent got) → LiesOf (pump.Lied sent got) y.put y.taken
+  pub lied : (from to : ℕ) (sent got : List ℕ) → IsErrOf r (Lied from to sent got) → (from < x.slots) × (to < x.slots) × LiesOf (pump.Lied sent got) y.put y.taken
 
 -- the links are at fault
 abbrev pub is_of_links : WorldFault → Bool

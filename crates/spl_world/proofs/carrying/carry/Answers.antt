@@ -21,10 +21,10 @@ returns-in-Err-clause-links g c =
 -- ---- the faults of the links
 
 pub returns-in_err-new-in-Ok-clause-faults : goal.returns-in_err-new-in-Ok-clause-faults
-returns-in_err-new-in-Ok-clause-faults g c = faults_off c.from_residual.result _ _ (off_memory c.from_residual.result c.from_residual.ensures) c.in-Ok.ensures.cause.later
+returns-in_err-new-in-Ok-clause-faults g c = faults_off c.from_residual.result _ _ (off_memory c.from_residual.result c.from_residual.ensures) (record { no_less = c.in-Ok.ensures.cause.later; slots = c.in-Ok.ensures.slots })
 
 pub returns-in-Err-clause-faults : goal.returns-in-Err-clause-faults
-returns-in-Err-clause-faults g c = faults_carry _ c.in-Err.fault c.args.from c.args.to _ _ c.carry_fault.ensures.fault c.in-Err.ensures.cause.later (λ q. c.in-Err.ensures.cause.failed (ap Err q)) c.in-Err.ensures.lied
+returns-in-Err-clause-faults g c = faults_carry _ c.in-Err.fault c.args.from c.args.to _ _ c.carry_fault.ensures.fault c.requires.from c.requires.to (record { no_less = c.in-Err.ensures.cause.later; slots = c.in-Err.ensures.slots }) (λ q. c.in-Err.ensures.cause.failed (ap Err q)) c.in-Err.ensures.lied
 
 pub returns-in_ok-new-in-Ok-clause-faults : goal.returns-in_ok-new-in-Ok-clause-faults
-returns-in_ok-new-in-Ok-clause-faults g c = faults_ok _ _ _ c.in-Ok.ensures.cause.later
+returns-in_ok-new-in-Ok-clause-faults g c = faults_ok _ _ _ (record { no_less = c.in-Ok.ensures.cause.later; slots = c.in-Ok.ensures.slots })

@@ -23,7 +23,7 @@ use Rattle.spl_world.proofs.Seating.{places_as}
 use Rattle.spl_world.specs.Links.{PartDelivers, carried_in, link_view}
 use Rattle.spl_world.specs.Views.{places_of}
 use Rattle.spl_world.specs.declared.fault.WorldFault.TheVariants.{NoMemory}
-use Rattle.spl_world.proofs.LinkFaults.{faults_failed, faults_off, faults_ok, faults_still, faults_then}
+use Rattle.spl_world.proofs.LinkFaults.{faults_failed, faults_off, faults_ok, faults_still, faults_then, links_itself, links_then}
 use Rattle.spl_world.proofs.Linking.{off_memory}
 use Rattle.spl_world.proofs.world.World.calm.Goals as goal
 
@@ -69,7 +69,7 @@ loop-done-preserved g c =
           let one = subst (λ (ns : List NodeId). PartDelivers done place y (pass c.args.circuit ns y) q s) c.loop-done.invariant.1 (c.in_ok-pass.ensures.links place y seats so_far.0 rows) in
           part_to place done (calming m) (pass c.args.circuit ids y) (passes c.args.circuit ids (c.loop-done.done + 1) (calming m)) p s (sym (passes_next c.args.circuit ids c.loop-done.done (calming m)))
           (ok_then place done (calming m) y (pass c.args.circuit ids y) p q s carried one),
-      omega (arith, c.loop-done.invariant.12, c.in_ok-pass.ensures.faults.no_less),
+      links_then _ _ _ c.loop-done.invariant.12 c.in_ok-pass.ensures.faults.onward,
     )
 
 pub returns-clause-moves : goal.returns-clause-moves
@@ -82,7 +82,7 @@ returns-clause-moves g c =
     }
 
 pub loop-done-init : goal.loop-done-init
-loop-done-init g c = (refl, refl, c.in_ok-rows.ensures.square, λ m h. (h, c.in_ok-rows.ensures.counts (images g.D.Disk.image_at g.D.Disk.moment c.args.pairs.now.items) m h), λ d m off h. h, λ m h. refl, c.requires.sits, all_itself _, refl, refl, c.requires.ready, λ place m placed h. part_same place (calming m) (link_view g.C.Carry.slots g.C.Carry.failed g.C.Carry.wire g.F.Fabric.put_on g.F.Fabric.taken_on g.F.Fabric.faults c.args.carrier.now c.args.fabric.now) (g.met.C.Carry.idle c.args.carrier.now), omega arith)
+loop-done-init g c = (refl, refl, c.in_ok-rows.ensures.square, λ m h. (h, c.in_ok-rows.ensures.counts (images g.D.Disk.image_at g.D.Disk.moment c.args.pairs.now.items) m h), λ d m off h. h, λ m h. refl, c.requires.sits, all_itself _, refl, refl, c.requires.ready, λ place m placed h. part_same place (calming m) (link_view g.C.Carry.slots g.C.Carry.failed g.C.Carry.wire g.F.Fabric.put_on g.F.Fabric.taken_on g.F.Fabric.faults c.args.carrier.now c.args.fabric.now) (g.met.C.Carry.idle c.args.carrier.now), links_itself _)
 
 -- ---- how many events
 
@@ -280,7 +280,7 @@ returns-in_err-pass-clause-faults g c = faults_failed c.from_residual-in_err-pas
 pub returns-then-not-branch-clause-faults : goal.returns-then-not-branch-clause-faults
 returns-then-not-branch-clause-faults g c =
     let q = (link_view g.C.Carry.slots g.C.Carry.failed g.C.Carry.wire g.F.Fabric.put_on g.F.Fabric.taken_on g.F.Fabric.faults c.loop-done.carrier c.loop-done.fabric) in
-    faults_then c.add.result _ q _ c.loop-done.invariant.12 (faults_off c.add.result q _ (off_limit c.add.result 1 c.add.ensures.fault) c.in_ok-pass.ensures.faults.no_less)
+    faults_then c.add.result _ q _ c.loop-done.invariant.12 (faults_off c.add.result q _ (off_limit c.add.result 1 c.add.ensures.fault) c.in_ok-pass.ensures.faults.onward)
 
 pub returns-clause-faults : goal.returns-clause-faults
 returns-clause-faults g c = faults_ok _ _ _ c.loop-done.invariant.12

@@ -138,7 +138,7 @@ pub returns-in-None-clause-faults : goal.returns-in-None-clause-faults
 returns-in-None-clause-faults g c = faults_same _ _
 
 pub returns-clause-faults : goal.returns-clause-faults
-returns-clause-faults g c = faults_ok _ _ _ c.in_ok-message-in-Some.ensures.faults.no_less
+returns-clause-faults g c = faults_ok _ _ _ c.in_ok-message-in-Some.ensures.faults.onward
 
 pub returns-in_err-message-in-Some-clause-faults : goal.returns-in_err-message-in-Some-clause-faults
 returns-in_err-message-in-Some-clause-faults g c = faults_failed c.from_residual.result _ c.from_residual.ensures _ _ c.in_err-message-in-Some.ensures.faults

@@ -99,7 +99,7 @@ pub returns-in_err-delivery-clause-faults : goal.returns-in_err-delivery-clause-
 returns-in_err-delivery-clause-faults g c = faults_failed c.from_residual.result _ c.from_residual.ensures _ _ c.in_err-delivery.ensures.faults
 
 pub returns-in-None-clause-faults : goal.returns-in-None-clause-faults
-returns-in-None-clause-faults g c = faults_ok _ _ _ c.in_ok-delivery.ensures.faults.no_less
+returns-in-None-clause-faults g c = faults_ok _ _ _ c.in_ok-delivery.ensures.faults.onward
 
 pub returns-in-Some-clause-faults : goal.returns-in-Some-clause-faults
-returns-in-Some-clause-faults g c = faults_off c.handle.result _ _ c.handle.ensures.unlinked c.in_ok-delivery.ensures.faults.no_less
+returns-in-Some-clause-faults g c = faults_off c.handle.result _ _ c.handle.ensures.unlinked c.in_ok-delivery.ensures.faults.onward

@@ -23,7 +23,7 @@ use Rattle.spl_world.proofs.Seating.{places_as}
 use Rattle.spl_world.proofs.Turns.{deliver_next}
 use Rattle.spl_world.specs.Links.{PartDelivers, link_view}
 use Rattle.spl_world.specs.Views.{ids_of, places_of}
-use Rattle.spl_world.proofs.LinkFaults.{faults_failed, faults_off, faults_ok, faults_then}
+use Rattle.spl_world.proofs.LinkFaults.{faults_failed, faults_off, faults_ok, faults_then, links_itself, links_then}
 use Rattle.spl_world.proofs.Linking.{off_failed}
 use Rattle.spl_world.proofs.world.World.deliver_from.Goals as goal
 
@@ -75,7 +75,7 @@ loop-index-preserved g c =
           let so_far = c.loop-index.invariant.12 place z a b placed h at to in
           part_to place done z (calming_step here one) next p s (deliver_next c.args.circuit z a b c.args.taken c.loop-index.index c.loop-index.invariant.3)
           (ok_then place done z here (calming_step here one) p q s so_far (part_step place done here one q s (c.in_ok-deliver.ensures.links place here.world a b seats (moves.own z.world h) first second))),
-      omega (arith, c.loop-index.invariant.13, c.in_ok-deliver.ensures.faults.no_less),
+      links_then _ _ _ c.loop-index.invariant.13 c.in_ok-deliver.ensures.faults.onward,
     )
 
 pub returns-clause-moves : goal.returns-clause-moves
@@ -118,7 +118,7 @@ loop-index-init g c =
       λ place z a b placed h at to.
           let p = (link_view g.C.Carry.slots g.C.Carry.failed g.C.Carry.wire g.F.Fabric.put_on g.F.Fabric.taken_on g.F.Fabric.faults c.args.carrier.now c.args.fabric.now) in
           part_to place done z z (delivers c.args.circuit z a b (c.args.taken + 1) (c.args.taken - c.args.taken)) p p (sym (ap (delivers c.args.circuit z a b (c.args.taken + 1)) none)) (part_same place z p (g.met.C.Carry.idle c.args.carrier.now)),
-      omega arith,
+      links_itself _,
     )
 
 pub deliver-requires-clause-sits : goal.deliver-requires-clause-sits

@@ -6,7 +6,7 @@ use Rattle.spl_world.specs.Views.{Holds, IsAt, Moves, ids_of, ups_of, Sits, plac
 use Rattle.spl_world.proofs.Turns.{delivered}
 use Rattle.std.proofs.Common.{ℕ}
 use Rattle.spl_world.proofs.Linking.{done}
-use Rattle.spl_world.specs.Links.{IsReady, PartDelivers, Places, link_view}
+use Rattle.spl_world.specs.Links.{IsReady, PartDelivers, Places, link_view, LinksGoOn}
 use Rattle.spl_world.proofs.world.World.deliver_from.Given as goal
 
 -- the messages so far are delivered
@@ -20,4 +20,4 @@ invariant-loop-index g l = (length l.self.slots.items ≡ length l.fn.self.slots
     × IsReady (places_of l.self) (link_view g.C.Carry.slots g.C.Carry.failed g.C.Carry.wire g.F.Fabric.put_on g.F.Fabric.taken_on g.F.Fabric.faults l.carrier l.fabric)
     × ((place : NodeId → ℕ) (z : Calming) (a b : NodeId) → Places place (ids_of l.fn.self) (places_of l.fn.self) → Holds l.circuit z.world (seen g.D.Disk.image_at g.D.Disk.moment l.fn.self l.fn.pairs.items) → IsAt l.fn.self l.from a → IsAt l.fn.self l.to b
     → PartDelivers done place z (delivers l.circuit z a b (l.taken + 1) (l.index - l.taken)) (link_view g.C.Carry.slots g.C.Carry.failed g.C.Carry.wire g.F.Fabric.put_on g.F.Fabric.taken_on g.F.Fabric.faults l.fn.carrier l.fn.fabric) (link_view g.C.Carry.slots g.C.Carry.failed g.C.Carry.wire g.F.Fabric.put_on g.F.Fabric.taken_on g.F.Fabric.faults l.carrier l.fabric))
-    × (g.F.Fabric.faults l.fn.fabric ≤ g.F.Fabric.faults l.fabric)
+    × LinksGoOn (link_view g.C.Carry.slots g.C.Carry.failed g.C.Carry.wire g.F.Fabric.put_on g.F.Fabric.taken_on g.F.Fabric.faults l.fn.carrier l.fn.fabric) (link_view g.C.Carry.slots g.C.Carry.failed g.C.Carry.wire g.F.Fabric.put_on g.F.Fabric.taken_on g.F.Fabric.faults l.carrier l.fabric)

@@ -149,4 +149,4 @@ pub returns-in_err-deliver_from-clause-faults : goal.returns-in_err-deliver_from
 returns-in_err-deliver_from-clause-faults g c = faults_failed c.from_residual.result _ c.from_residual.ensures _ _ c.in_err-deliver_from.ensures.faults
 
 pub returns-clause-faults : goal.returns-clause-faults
-returns-clause-faults g c = faults_ok _ _ _ c.in_ok-deliver_from.ensures.faults.no_less
+returns-clause-faults g c = faults_ok _ _ _ c.in_ok-deliver_from.ensures.faults.onward

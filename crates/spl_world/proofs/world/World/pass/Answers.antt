@@ -175,4 +175,4 @@ pub returns-in_err-from_all-clause-faults : goal.returns-in_err-from_all-clause-
 returns-in_err-from_all-clause-faults g c = faults_failed c.from_residual-in_err-from_all.result _ c.from_residual-in_err-from_all.ensures _ _ c.in_err-from_all.ensures.faults
 
 pub returns-clause-faults : goal.returns-clause-faults
-returns-clause-faults g c = faults_ok _ _ _ c.in_ok-from_all.ensures.faults.no_less
+returns-clause-faults g c = faults_ok _ _ _ c.in_ok-from_all.ensures.faults.onward

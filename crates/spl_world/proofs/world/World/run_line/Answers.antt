@@ -208,7 +208,7 @@ pub returns-in_err-roll_at-in-Roll-clause-faults : goal.returns-in_err-roll_at-i
 returns-in_err-roll_at-in-Roll-clause-faults g c = faults_still c.from_residual-in_err-roll_at-in-Roll.result _ (off_memory c.from_residual-in_err-roll_at-in-Roll.result c.from_residual-in_err-roll_at-in-Roll.ensures)
 
 pub returns-in_ok-calm-in-Calm-clause-faults : goal.returns-in_ok-calm-in-Calm-clause-faults
-returns-in_ok-calm-in-Calm-clause-faults g c = faults_ok _ _ _ c.in_ok-calm-in-Calm.ensures.faults.no_less
+returns-in_ok-calm-in-Calm-clause-faults g c = faults_ok _ _ _ c.in_ok-calm-in-Calm.ensures.faults.onward
 
 pub returns-in_err-calm-in-Calm-clause-faults : goal.returns-in_err-calm-in-Calm-clause-faults
 returns-in_err-calm-in-Calm-clause-faults g c = faults_failed c.from_residual-in_err-calm-in-Calm.result _ c.from_residual-in_err-calm-in-Calm.ensures _ _ c.in_err-calm-in-Calm.ensures.faults

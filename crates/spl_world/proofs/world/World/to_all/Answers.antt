@@ -19,7 +19,7 @@ use Rattle.spl_world.proofs.LinkingParts.{err_then, ok_then, part_failed, part_s
 use Rattle.spl_world.proofs.Seating.{places_as}
 use Rattle.spl_world.specs.Links.{PartDelivers, link_view}
 use Rattle.spl_world.specs.Views.{places_of}
-use Rattle.spl_world.proofs.LinkFaults.{faults_failed, faults_ok, faults_then}
+use Rattle.spl_world.proofs.LinkFaults.{faults_failed, faults_ok, faults_then, links_itself, links_then}
 use Rattle.spl_world.proofs.world.World.to_all.Goals as goal
 
 pub loop-to-preserved : goal.loop-to-preserved
@@ -65,7 +65,7 @@ loop-to-preserved g c =
           let carried = c.loop-to.invariant.11 place z a placed h at row in
           part_to place done z (pair_turn c.args.circuit y a recipient.0) (to_all c.args.circuit z a (take (c.loop-to.to + 1) (ids_of c.args.self.now))) p s (sym (to_all_next c.args.circuit z a (ids_of c.args.self.now) c.loop-to.to recipient.0 recipient.1))
           (ok_then place done z y (pair_turn c.args.circuit y a recipient.0) p q s carried (c.in_ok-row.ensures.links place y a recipient.0 seats so_far.0 here to taken)),
-      omega (arith, c.loop-to.invariant.12, c.in_ok-row.ensures.faults.no_less),
+      links_then _ _ _ c.loop-to.invariant.12 c.in_ok-row.ensures.faults.onward,
     )
 
 pub returns-clause-own : goal.returns-clause-own
@@ -95,7 +95,7 @@ returns-clause-counts g c = λ z a h at row.
 -- ---- the disks
 
 pub loop-to-init : goal.loop-to-init
-loop-to-init g c = (refl, refl, refl, λ z a h at row. (h, row), λ d m off h. h, λ z a h at row. refl, c.requires.sits, all_itself _, refl, refl, c.requires.ready, λ place z a placed h at row. part_same place z (link_view g.C.Carry.slots g.C.Carry.failed g.C.Carry.wire g.F.Fabric.put_on g.F.Fabric.taken_on g.F.Fabric.faults c.args.carrier.now c.args.fabric.now) (g.met.C.Carry.idle c.args.carrier.now), omega arith)
+loop-to-init g c = (refl, refl, refl, λ z a h at row. (h, row), λ d m off h. h, λ z a h at row. refl, c.requires.sits, all_itself _, refl, refl, c.requires.ready, λ place z a placed h at row. part_same place z (link_view g.C.Carry.slots g.C.Carry.failed g.C.Carry.wire g.F.Fabric.put_on g.F.Fabric.taken_on g.F.Fabric.faults c.args.carrier.now c.args.fabric.now) (g.met.C.Carry.idle c.args.carrier.now), links_itself _)
 
 pub pair_turn-requires-clause-sits : goal.pair_turn-requires-clause-sits
 pair_turn-requires-clause-sits g c = c.loop-to.invariant.6

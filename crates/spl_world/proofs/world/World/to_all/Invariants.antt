@@ -6,7 +6,7 @@ use Rattle.spl_world.specs.Disks.{AllGoOn, bench}
 use Rattle.spl_world.specs.Views.{Holds, IsAt, Spares, ids_of, Sits, places_of, seen}
 use Rattle.std.proofs.Common.{ℕ}
 use Rattle.spl_world.proofs.Linking.{done}
-use Rattle.spl_world.specs.Links.{IsReady, PartDelivers, Places, link_view}
+use Rattle.spl_world.specs.Links.{IsReady, PartDelivers, Places, link_view, LinksGoOn}
 use Rattle.std.proofs.Common.{◌≤◌}
 use Rattle.spl_world.proofs.world.World.to_all.Given as goal
 
@@ -24,4 +24,4 @@ invariant-loop-to g l = (length l.self.slots.items ≡ length l.fn.self.slots.it
     × IsReady (places_of l.self) (link_view g.C.Carry.slots g.C.Carry.failed g.C.Carry.wire g.F.Fabric.put_on g.F.Fabric.taken_on g.F.Fabric.faults l.carrier l.fabric)
     × ((place : NodeId → ℕ) (z : Calming) (a : NodeId) → Places place (ids_of l.fn.self) (places_of l.fn.self) → Holds l.circuit z.world (seen g.D.Disk.image_at g.D.Disk.moment l.fn.self l.fn.pairs.items) → IsAt l.fn.self l.from a → l.fn.row.items ≡ row_of z.taken a (ids_of l.fn.self)
     → PartDelivers done place z (to_all l.circuit z a (take l.to (ids_of l.fn.self))) (link_view g.C.Carry.slots g.C.Carry.failed g.C.Carry.wire g.F.Fabric.put_on g.F.Fabric.taken_on g.F.Fabric.faults l.fn.carrier l.fn.fabric) (link_view g.C.Carry.slots g.C.Carry.failed g.C.Carry.wire g.F.Fabric.put_on g.F.Fabric.taken_on g.F.Fabric.faults l.carrier l.fabric))
-    × (g.F.Fabric.faults l.fn.fabric ≤ g.F.Fabric.faults l.fabric)
+    × LinksGoOn (link_view g.C.Carry.slots g.C.Carry.failed g.C.Carry.wire g.F.Fabric.put_on g.F.Fabric.taken_on g.F.Fabric.faults l.fn.carrier l.fn.fabric) (link_view g.C.Carry.slots g.C.Carry.failed g.C.Carry.wire g.F.Fabric.put_on g.F.Fabric.taken_on g.F.Fabric.faults l.carrier l.fabric)
