@@ -5,7 +5,8 @@ use Rattle.spl_edge.specs.declared.bench.Pair.{Pair}
 use Rattle.spl_edge.specs.Image.{Image}
 use Rattle.spl_edge.specs.declared.disk.Armed.{Armed}
 use Rattle.spl_journal.specs.Make.{IsBlank}
-use Rattle.spl_memory.specs.MemDisks.{IsFreshDisk, armed_of, faults_of, image_of, moment_of, picked_by}
+use Rattle.spl_app.specs.Benches.{FirstFails, NoneFails}
+use Rattle.spl_memory.specs.MemDisks.{IsFreshDisk, armed_of, failing_of, faults_of, image_of, moment_of, picked_by}
 use Rattle.spl_memory.specs.declared.mem_disk.MemDisk.{MemDisk}
 use Rattle.spl_world.specs.Disks.{AreBlank, PairView, bench, disk_view, images, images_at, images_of, pair_view}
 use Rattle.spl_world.specs.Held.{AllUnpicked, AreUnpicked, IsUnpicked}
@@ -46,3 +47,26 @@ unpicked_more [] p all one zero q e = let same : told_one p ≡ q = cc in subst 
 unpicked_more [] p all one (suc i) q e = absurd cc
 unpicked_more (x ∷ ps) p all one zero q e = all 0 q e
 unpicked_more (x ∷ ps) p all one (suc i) q e = unpicked_more ps p (λ k r h. all (suc k) r h) one i q e
+
+-- ---- which calls fail by themselves
+
+-- a pair of which no call does
+pub record IsSound (p : Pair MemDisk) : Type 0 where
+  pub first : failing_of p.first ≡ []
+  pub second : failing_of p.second ≡ []
+
+none_more : (ps : List (Pair MemDisk)) (p : Pair MemDisk) → NoneFails ps → IsSound p → NoneFails (ps ++ p ∷ [])
+none_more [] p none one = (one.first, one.second, tt)
+none_more (q ∷ ps) p none one = (none.0, none.1, none_more ps p none.2 one)
+
+pub first_more : (calls : List ℕ) (ps : List (Pair MemDisk)) (p : Pair MemDisk) → 0 < length ps → FirstFails calls ps → IsSound p → FirstFails calls (ps ++ p ∷ [])
+first_more calls [] p some first one = absurd (omega (arith, some))
+first_more calls (q ∷ ps) p some first one = (first.0, first.1, none_more ps p first.2 one)
+
+pub first_none : (ps : List (Pair MemDisk)) → FirstFails [] ps → NoneFails ps
+first_none [] h = tt
+first_none (p ∷ ps) h = h
+
+pub first_one : (calls : List ℕ) (ps : List (Pair MemDisk)) (p : Pair MemDisk) → ps ≡ [] → failing_of p.first ≡ calls → failing_of p.second ≡ [] → FirstFails calls (ps ++ p ∷ [])
+first_one calls [] p none first second = (first, second, tt)
+first_one calls (q ∷ ps) p none first second = absurd cc

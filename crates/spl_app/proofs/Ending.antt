@@ -16,7 +16,7 @@ use Rattle.spl_model.specs.Projection.{Ran}
 use Rattle.spl_projection.specs.Whole.{whole_world}
 use Rattle.spl_registry.specs.Nodes.{Entry, ids_of as registered}
 use Rattle.spl_sched.specs.declared.line.Line.{Line}
-use Rattle.spl_world.specs.Disks.{AllGoOn, Images, PairView, bench, images, images_of}
+use Rattle.spl_world.specs.Disks.{AllGoOn, Images, PairView, bench, images, images_of, is_of_journal}
 use Rattle.spl_world.specs.Ended.{LineEnds}
 use Rattle.spl_world.specs.Held.{AllUnpicked, AreHeld, EachPair, HasPicked}
 use Rattle.spl_world.specs.Lines.{stops}
@@ -81,18 +81,19 @@ module _ {D : Type 0} (image_at : D → ℕ → Option Image) (moment faults : D
       failed = λ k q. none;
     }
 
-    halt_picked : (e : WorldFault) → is_of_links e ≡ false → stops l ≡ true → ((which : ℕ) → e ≡ error.TooMany which → new ≡ old) → ((k : ℕ) → e ≡ error.Disk k → ⊥) → (stops l ≡ true → e ≡ error.NoMemory → ⊥) → EachPair (HasPicked ns before) ns places start (told new)
-    halt_picked (error.TooMany which) linkless stop kept sound room = subst (λ (ps : List (Pair D)). EachPair (HasPicked ns before) ns places start (told ps)) (sym (kept which refl)) (picked_of ns places before start (told old) held)
-    halt_picked (error.Disk k) linkless stop kept sound room = absurd (sound k refl)
-    halt_picked error.NoMemory linkless stop kept sound room = absurd (room stop refl)
-    halt_picked error.Link linkless stop kept sound room = absurd cc
-    halt_picked (error.Lied from to sent got) linkless stop kept sound room = absurd cc
+    halt_picked : (e : WorldFault) → is_of_links e ≡ false → is_of_journal e ≡ false → stops l ≡ true → ((which : ℕ) → e ≡ error.TooMany which → new ≡ old) → ((k : ℕ) → e ≡ error.Disk k → ⊥) → (stops l ≡ true → e ≡ error.NoMemory → ⊥) → EachPair (HasPicked ns before) ns places start (told new)
+    halt_picked (error.TooMany which) linkless read stop kept sound room = subst (λ (ps : List (Pair D)). EachPair (HasPicked ns before) ns places start (told ps)) (sym (kept which refl)) (picked_of ns places before start (told old) held)
+    halt_picked (error.Disk k) linkless read stop kept sound room = absurd (sound k refl)
+    halt_picked error.NoMemory linkless read stop kept sound room = absurd (room stop refl)
+    halt_picked (error.NotAJournal k at) linkless read stop kept sound room = absurd cc
+    halt_picked error.Link linkless read stop kept sound room = absurd cc
+    halt_picked (error.Lied from to sent got) linkless read stop kept sound room = absurd cc
 
     -- one that stops one
-    pub halt_ends : (e : WorldFault) → is_of_links e ≡ false → stops l ≡ true → ((which : ℕ) → e ≡ error.TooMany which → new ≡ old) → ((k : ℕ) → e ≡ error.Disk k → ⊥) → LineEnds (λ c. whole_world ns c before) l e ns places (images image_at moment new) → EndsAt ns places before l e start (told new)
-    halt_ends e linkless stop kept sound ends = record {
+    pub halt_ends : (e : WorldFault) → is_of_links e ≡ false → is_of_journal e ≡ false → stops l ≡ true → ((which : ℕ) → e ≡ error.TooMany which → new ≡ old) → ((k : ℕ) → e ≡ error.Disk k → ⊥) → LineEnds (λ c. whole_world ns c before) l e ns places (images image_at moment new) → EndsAt ns places before l e start (told new)
+    halt_ends e linkless read stop kept sound ends = record {
       ends = ends_told e ends;
-      picked = halt_picked e linkless stop kept sound;
+      picked = halt_picked e linkless read stop kept sound;
       failed = λ k q. absurd (sound k q);
     }
 

@@ -1,7 +1,9 @@
 -- Where messages are handed over in memory, no link is at fault.
 use Rattle.std.proofs.Common.{◌≡◌, ◌<◌, ◌++◌, ◌∷◌, [], ℕ, List, Bool, true, false, Some, Result, Ok, Err, IfErr, refl, sym, subst, ◌∙◌, arith}
+use Rattle.std.specs.Prelude.{IsErrOf}
 use Rattle.spl_circuit.specs.Nodes.{NodeId}
 use Rattle.spl_pump.specs.Wires.{Carried, Ends}
+use Rattle.spl_world.specs.Disks.{is_of_journal}
 use Rattle.spl_world.specs.Links.{CarriesPart, Delivers, HasLinkCause, LinkView, Places, is_of_links}
 use Rattle.spl_world.specs.Views.{IsPlace, ids_of, places_of}
 use Rattle.spl_world.specs.declared.fault.WorldFault.{WorldFault}
@@ -35,8 +37,19 @@ no_cause (fault.Lied from to put got) sent x y silent (on, (differs, lengths, (a
     absurd (differs (nothing_ends p.0 put p.1 ∙ sym (nothing_ends q.0 got q.1)))
 no_cause (fault.TooMany w) sent x y silent cause = refl
 no_cause (fault.Disk s) sent x y silent cause = refl
+no_cause (fault.NotAJournal s at) sent x y silent cause = refl
 no_cause fault.NoMemory sent x y silent cause = refl
 
 pub unlinked : {A : Type 0} (r : Result A WorldFault) (sent : List Carried) (x y : LinkView) → IsSilent y → Delivers r sent x y → IfErr r (λ e. is_of_links e ≡ false)
 unlinked (Ok a) sent x y silent all = tt
 unlinked (Err e) sent x y silent part = no_cause e sent x y silent part.cause
+
+-- over disks that tell, none holds what is no journal
+pub all_journals : {A : Type 0} (r : Result A WorldFault) → ((slot at : ℕ) → IsErrOf r (fault.NotAJournal slot at) → ⊥) → IfErr r (λ e. is_of_journal e ≡ false)
+all_journals (Ok a) never = tt
+all_journals (Err (fault.NotAJournal slot at)) never = absurd (never slot at refl)
+all_journals (Err (fault.TooMany which)) never = refl
+all_journals (Err (fault.Disk slot)) never = refl
+all_journals (Err fault.Link) never = refl
+all_journals (Err (fault.Lied from to sent got)) never = refl
+all_journals (Err fault.NoMemory) never = refl

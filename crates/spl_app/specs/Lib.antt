@@ -8,3 +8,4 @@ pub mod Statuses
 pub mod Command
 pub mod Generated
 pub mod Ends
+pub mod Benches

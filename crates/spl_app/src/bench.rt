@@ -1,18 +1,20 @@
 //! Disks in memory for a run.
 ghost use Rattle.std.specs.Prelude.{◌≡◌, ◌<◌, ◌++◌, ◌∷◌, ℕ, [], length, IfOk, OnOk};
-ghost use Rattle.spl_memory.specs.MemDisks.{IsFreshDisk, armed_of, faults_of, image_of, moment_of, picked_by};
+ghost use Rattle.spl_memory.specs.MemDisks.{IsFreshDisk, armed_of, failing_of, faults_of, image_of, moment_of, picked_by};
+ghost use Rattle.spl_app.specs.Benches.{FirstFails, NoneFails};
 ghost use Rattle.spl_world.specs.Disks.{AreBlank, bench, images, images_at};
 ghost use Rattle.spl_world.specs.Held.{AllUnpicked};
 
 use spl_edge::{Bench, Pair};
 use spl_memory::MemDisk;
 use std::alloc::{AllocError, Global};
-use std::mem;
 
 // Two blank disks, of which the first fails at the calls of these numbers.
 fn blank_pair(alloc: Global, failing: Vec<u64>) -> Pair<MemDisk>
     ensures first { IsFreshDisk result.first }
     ensures second { IsFreshDisk result.second }
+    ensures first_calls { failing_of result.first ≡ failing.items }
+    ensures second_calls { failing_of result.second ≡ [] }
 {
     Pair {
         first: MemDisk::new(alloc, failing),
@@ -28,11 +30,12 @@ fn join(pairs: &mut Vec<Pair<MemDisk>>, pair: Pair<MemDisk>) -> Result<(), Alloc
     Ok(())
 }
 
-/// Sixteen pairs of blank disks in memory.
+/// Sixteen pairs of blank disks in memory, none of which fails by itself.
 pub fn blank_bench(alloc: Global) -> Result<Bench<MemDisk>, AllocError>
     ensures pairs { IfOk result (λ b. length b.pairs.items ≡ 16) }
     ensures blank { IfOk result (λ b. (i : ℕ) → i < 16 → AreBlank (images_at (images image_of moment_of b.pairs.items) i)) }
     ensures unpicked { IfOk result (λ b. AllUnpicked (bench image_of moment_of faults_of armed_of picked_by b.pairs.items)) }
+    ensures sound { IfOk result (λ b. NoneFails b.pairs.items) }
 {
     failing_bench(alloc, Vec::new(alloc))
 }
@@ -43,13 +46,12 @@ pub fn failing_bench(alloc: Global, failing: Vec<u64>) -> Result<Bench<MemDisk>,
     ensures pairs { IfOk result (λ b. length b.pairs.items ≡ 16) }
     ensures blank { IfOk result (λ b. (i : ℕ) → i < 16 → AreBlank (images_at (images image_of moment_of b.pairs.items) i)) }
     ensures unpicked { IfOk result (λ b. AllUnpicked (bench image_of moment_of faults_of armed_of picked_by b.pairs.items)) }
+    ensures calls { IfOk result (λ b. FirstFails failing.items b.pairs.items) }
 {
     let mut pairs = Vec::new(alloc);
-    let mut failing = failing;
+    join(&mut pairs, blank_pair(alloc, failing))?;
     'pairs: while pairs.len() < 16 {
-        // The first pair takes them all.
-        let calls = mem::replace(&mut failing, Vec::new(alloc));
-        join(&mut pairs, blank_pair(alloc, calls))?;
+        join(&mut pairs, blank_pair(alloc, Vec::new(alloc)))?;
     }
     Ok(Bench { pairs })
 }

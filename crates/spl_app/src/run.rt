@@ -19,7 +19,7 @@ ghost use Rattle.spl_model.specs.Projection.{Ran};
 ghost use Rattle.spl_model.specs.Outcomes.{by_rule};
 ghost use Rattle.spl_model.specs.Answers.{answer_to};
 ghost use Rattle.spl_world.specs.Counts.{IsOver};
-ghost use Rattle.spl_world.specs.Disks.{AllUnarmed, AreBlank, NoneForgotten, PairView, bench, images, images_at};
+ghost use Rattle.spl_world.specs.Disks.{AllUnarmed, AreBlank, NoneForgotten, PairView, bench, images, images_at, is_of_journal};
 ghost use Rattle.spl_world.specs.Held.{AllHeld, AllUnpicked, AreHeld, FailedSince};
 ghost use Rattle.spl_world.specs.Links.{is_of_links};
 ghost use Rattle.spl_world.specs.Making.{AreMadeBut};
@@ -108,6 +108,7 @@ impl Run {
         ensures failed { (start : List PairView) (before : List Ran) (slot : ℕ) → IsErrOf result (WorldFault.Disk slot) → AllHeld start before self.old.world (bench D.image_at D.moment D.faults D.armed D.picks pairs.old.items) → FailedSince slot start (bench D.image_at D.moment D.faults D.armed D.picks pairs.new.items) }
         ensures places { places_of self.new.world ≡ places_of self.old.world }
         ensures held { (start : List PairView) (before : List Ran) → Stands before self.old.world (images D.image_at D.moment pairs.old.items) → AllHeld start before self.old.world (bench D.image_at D.moment D.faults D.armed D.picks pairs.old.items) → OnOk result (AllHeld start (before ++ by_rule said.now ∷ []) self.new.world (bench D.image_at D.moment D.faults D.armed D.picks pairs.new.items)) }
+        ensures sound { IfErr result (λ e. is_of_journal e ≡ false) }
         ensures unlinked { IfErr result (λ e. is_of_links e ≡ false) }
         ensures place { (slot : ℕ) → IsErrOf result (WorldFault.Disk slot) → IsPlace (places_of self.old.world) slot }
         ensures ended { (start : List PairView) (before : List Ran) → Stands before self.old.world (images D.image_at D.moment pairs.old.items) → AllHeld start before self.old.world (bench D.image_at D.moment D.faults D.armed D.picks pairs.old.items) → IfErr result (λ e. EndsAt self.old.nodes.items (places_of self.old.world) before said.now e start (bench D.image_at D.moment D.faults D.armed D.picks pairs.new.items) ⊎ ((e ≡ WorldFault.NoMemory) × RanOn self.old.nodes.items (places_of self.old.world) before said.now start (bench D.image_at D.moment D.faults D.armed D.picks pairs.new.items))) }
@@ -166,7 +167,9 @@ impl Run {
             }
             Err(WorldFault::Disk { slot }) => return Err(RunFault::Disk(slot)),
             Err(WorldFault::NoMemory) => return Err(RunFault::NoMemory),
-            Err(WorldFault::Link | WorldFault::Lied { .. }) => unreachable!(),
+            Err(
+                WorldFault::Link | WorldFault::Lied { .. } | WorldFault::NotAJournal { .. },
+            ) => unreachable!(),
         }
         self.output.put_behind(out, self.skip, number, &self.text)?;
         Ok(())

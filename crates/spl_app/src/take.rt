@@ -7,7 +7,7 @@ ghost use Rattle.spl_model.specs.Answers.{answer_to};
 ghost use Rattle.spl_model.specs.Outcomes.{by_rule};
 ghost use Rattle.spl_model.specs.Projection.{Ran};
 ghost use Rattle.spl_world.specs.Counts.{IsOver};
-ghost use Rattle.spl_world.specs.Disks.{AllUnarmed, NoneForgotten, PairView, bench, images};
+ghost use Rattle.spl_world.specs.Disks.{AllUnarmed, NoneForgotten, PairView, bench, images, is_of_journal};
 ghost use Rattle.spl_world.specs.Held.{AllHeld, FailedSince};
 ghost use Rattle.spl_world.specs.Links.{is_of_links};
 ghost use Rattle.spl_world.specs.Views.{IsPlace, Stands, ids_of, is_halted, places_of};
@@ -43,6 +43,7 @@ pub fn take_line<D: StopDisk>(
     ensures failed { (start : List PairView) (before : List Ran) (slot : ℕ) → IsErrOf result (WorldFault.Disk slot) → AllHeld start before world.old (bench D.image_at D.moment D.faults D.armed D.picks pairs.old.items) → FailedSince slot start (bench D.image_at D.moment D.faults D.armed D.picks pairs.new.items) }
     ensures place { (slot : ℕ) → IsErrOf result (WorldFault.Disk slot) → IsPlace (places_of world.old) slot }
     ensures unlinked { IfErr result (λ e. is_of_links e ≡ false) }
+    ensures sound { IfErr result (λ e. is_of_journal e ≡ false) }
     ensures ended { (start : List PairView) (before : List Ran) → Stands before world.old (images D.image_at D.moment pairs.old.items) → AllHeld start before world.old (bench D.image_at D.moment D.faults D.armed D.picks pairs.old.items) → IfErr result (λ e. EndsAt (ids_of world.old) (places_of world.old) before line.now e start (bench D.image_at D.moment D.faults D.armed D.picks pairs.new.items)) }
 
     // Whatever the answer.

@@ -2,7 +2,7 @@ use Rattle.std.proofs.Common.{◌≡◌, Err, IfErr, false, inl, ap, subst, refl
 use Rattle.spl_edge.specs.declared.bench.Pair.{Pair}
 use Rattle.std.specs.Global.{Vec}
 use Rattle.spl_projection.specs.Whole.{whole_world}
-use Rattle.spl_world.specs.Disks.{images}
+use Rattle.spl_world.specs.Disks.{images, is_of_journal}
 use Rattle.spl_world.specs.Ended.{LineEnds}
 use Rattle.spl_world.specs.Links.{is_of_links}
 use Rattle.spl_world.specs.Views.{ids_of, places_of}
@@ -11,7 +11,7 @@ use Rattle.spl_lines.proofs.Results.{ok_then}
 use Rattle.spl_app.proofs.Benches.{none_on, unarmed_on}
 use Rattle.spl_app.proofs.Ending.{err_then, halt_ends, step_ends}
 use Rattle.spl_app.proofs.Halts.{stays_within}
-use Rattle.spl_app.proofs.Unlinked.{unlinked}
+use Rattle.spl_app.proofs.Unlinked.{all_journals, unlinked}
 use Rattle.spl_app.proofs.take.take_line.Goals as goal
 
 pub returns-else-stops_node-clause-few : goal.returns-else-stops_node-clause-few
@@ -37,7 +37,7 @@ returns-then-stops_node-clause-ended g c = λ start before stands held.
     let ns = ids_of c.args.world.now in
     let places = places_of c.args.world.now in
     err_then c.halt.result (λ e. LineEnds (λ c'. whole_world ns c' before) c.args.line.now e ns places (images g.D.Disk.image_at g.D.Disk.moment c.halt.new.pairs.items)) _ (c.halt.ensures.ended before stands) (λ e is ends.
-    halt_ends g.D.Disk.image_at g.D.Disk.moment g.D.Disk.faults g.D.Disk.armed g.D.Disk.picks ns places before c.args.line.now start c.args.pairs.now.items c.halt.new.pairs.items held e (subst (λ r. IfErr r (λ e. is_of_links e ≡ false)) is c.halt.ensures.unlinked) (cc)
+    halt_ends g.D.Disk.image_at g.D.Disk.moment g.D.Disk.faults g.D.Disk.armed g.D.Disk.picks ns places before c.args.line.now start c.args.pairs.now.items c.halt.new.pairs.items held e (subst (λ r. IfErr r (λ e. is_of_links e ≡ false)) is c.halt.ensures.unlinked) (subst (λ r. IfErr r (λ e. is_of_journal e ≡ false)) is c.halt.ensures.sound) (cc)
     (λ which q. ap (λ (ps : Vec (Pair _)). ps.items) (c.halt.ensures.kept which (is ∙ ap (λ (f : WorldFault). Err f) q)))
     (λ k q. c.halt.ensures.disk k (is ∙ ap (λ (f : WorldFault). Err f) q)) ends)
 
@@ -56,3 +56,6 @@ returns-else-stops_node-clause-unlinked g c =
     let able = c.requires.able in
     unlinked c.step.result _ _ _ (record { put = λ a b. refl; taken = λ a b. refl; faults = refl })
     (c.step.ensures.links able.seats.place able.before able.seats.placed able.stands)
+
+pub returns-else-stops_node-clause-sound : goal.returns-else-stops_node-clause-sound
+returns-else-stops_node-clause-sound g c = all_journals c.step.result (λ slot at. c.step.ensures.sound c.requires.able.before slot at c.requires.able.stands)
