@@ -4,10 +4,8 @@
 ghost use Rattle.std.specs.Prelude.{◌≡◌, ◌≢◌};
 ghost use Rattle.std.specs.IoError.{error_kind};
 
-mod adapters;
-
-use adapters::{FileSource, StdSink};
 use spl_app::{Status, blank_bench, splinter};
+use spl_device::{FileSource, StdSink};
 use std::fs::File;
 use std::io::{ErrorKind, Write};
 use std::process::ExitCode;

@@ -1,10 +1,9 @@
-//! A file as a source, and standard output as a sink. Neither tells what it holds. What they say of the outside is
-//! trusted.
+//! A file as a source, which doesn't tell what it holds.
 ghost use Rattle.std.specs.Prelude.{◌≡◌, [], None};
 
-use spl_edge::{DeviceError, Sink, Source, count_fault};
+use spl_edge::{DeviceError, Source, count_fault};
 use std::alloc::Global;
-use std::io::{Read, Write};
+use std::io::Read;
 
 /// A file that is read, or one that couldn't be opened, whose reads all fail. It keeps the bytes that it gave.
 #[derive(Drop)]
@@ -47,36 +46,6 @@ impl<R: Read + Drop> Source for FileSource<R> {
                 Ok(count)
             }
             Err(_) => Err(count_fault(&mut self.faults)),
-        }
-    }
-}
-
-/// Where answers go. To take nothing of a piece that isn't empty is a fault.
-#[derive(Drop)]
-pub struct StdSink<W: Write + Drop> {
-    out: W,
-    faults: u64,
-}
-
-impl<W: Write + Drop> StdSink<W> {
-    /// A sink that has no fault.
-    pub fn new(out: W) -> Self
-        ensures out { result.out ≡ out }
-        ensures faults { result.faults ≡ 0 }
-    {
-        StdSink { out, faults: 0 }
-    }
-}
-
-impl<W: Write + Drop> Sink for StdSink<W> {
-    ghost written = { λ _. None };
-
-    ghost faults = { λ s. s.faults };
-
-    fn write(&mut self, piece: &[u8]) -> Result<usize, DeviceError> {
-        match self.out.write(piece) {
-            Ok(count) if count > 0 || piece.is_empty() => Ok(count),
-            _ => Err(count_fault(&mut self.faults)),
         }
     }
 }

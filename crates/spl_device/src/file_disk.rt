@@ -1,0 +1,144 @@
+//! A file as a disk, which doesn't tell what it holds.
+ghost use Rattle.std.specs.Prelude.{◌≡◌, ◌<◌, ◌≤◌, ◌+◌, ◌^◌, None, Some, length, IfOk, IfSome, OnSome};
+ghost use Rattle.spl_edge.specs.Calls.{Passes, armed_with};
+ghost use Rattle.spl_edge.specs.declared.disk.Arming.TheVariants.{Off};
+
+use spl_edge::{DeviceError, Disk, count_fault};
+use std::fs::OpenFile;
+use std::io;
+use std::io::ErrorKind;
+use std::os::unix::fs::FileExt;
+
+/// The greatest length of a file.
+const MOST: u64 = i64::MAX as u64;
+
+/// A file that is read and written at offsets, or none, where each call fails. It tells nothing of what it holds, counts
+/// its calls, and counts a fault at each call that the system refuses. That a read gives what was written last, and that
+/// a stop leaves what stood at a sync that succeeded, is trusted.
+#[derive(Drop)]
+pub struct FileDisk<F: FileExt + OpenFile + Drop> {
+    file: Option<F>,
+    moment: u64,
+    faults: u64,
+}
+
+impl<F: FileExt + OpenFile + Drop> FileDisk<F> {
+    /// A disk that was never called, and has no fault.
+    pub fn new(file: Option<F>) -> Self
+        ensures file { result.file ≡ file }
+        ensures moment { result.moment ≡ 0 }
+        ensures faults { result.faults ≡ 0 }
+    {
+        FileDisk {
+            file,
+            moment: 0,
+            faults: 0,
+        }
+    }
+
+    /// Counts a call, and a fault where the call has nothing to answer.
+    fn count<T: Drop>(&mut self, answer: Option<T>) -> Result<T, DeviceError>
+        ensures call { Passes self.old.moment self.new.moment self.old.faults self.new.faults (armed_with Off 0) result }
+        ensures answer { IfOk result (λ value. answer ≡ Some value) }
+    {
+        match (self.moment.checked_add(1), answer) {
+            (Some(moment), Some(value)) => {
+                self.moment = moment;
+                Ok(value)
+            }
+            (moment, _) => {
+                self.moment = moment.unwrap_or(u64::MAX);
+                Err(count_fault(&mut self.faults))
+            }
+        }
+    }
+}
+
+/// How many bytes a file has.
+fn len_of<F: OpenFile>(file: &F) -> Option<u64>
+    ensures { IfSome result (λ n. n < 2 ^ 63) }
+{
+    let len = file.metadata().ok()?.len();
+    if len > MOST {
+        return None;
+    }
+    Some(len)
+}
+
+/// Fills the buffer from an offset on, and tells how many bytes came before the file's end.
+fn read_from<F: FileExt>(file: &F, at: u64, buf: &mut [u8]) -> io::Result<usize>
+    ensures { IfOk result (λ n. n ≤ length buf.new) }
+{
+    let mut filled = 0;
+    for _ in 0..u64::MAX {
+        if filled == buf.len() {
+            return Ok(filled);
+        }
+        match file.read_at(&mut buf[filled..], at.saturating_add(filled as u64)) {
+            Ok(0) => return Ok(filled),
+            Ok(count) => filled += count,
+            Err(error) if error.kind() == ErrorKind::Interrupted => {}
+            Err(error) => return Err(error),
+        }
+    }
+    Err(ErrorKind::TimedOut.into())
+}
+
+/// Writes all bytes, the first at an offset.
+fn write_to<F: FileExt>(file: &F, at: u64, bytes: &[u8]) -> Option<()>
+    ensures { OnSome result (at + length bytes.now < 2 ^ 63) }
+{
+    let end = at.checked_add(bytes.len() as u64)?;
+    if end > MOST {
+        return None;
+    }
+    file.write_all_at(bytes, at).ok()
+}
+
+impl<F: FileExt + OpenFile + Drop> Disk for FileDisk<F> {
+    ghost image_at = { λ _ _. None };
+
+    ghost moment = { λ d. d.moment };
+
+    ghost faults = { λ d. d.faults };
+
+    fn len(&mut self) -> Result<u64, DeviceError> {
+        let found = match &self.file {
+            Some(file) => len_of(file),
+            None => None,
+        };
+        self.count(found)
+    }
+
+    fn read(&mut self, at: u64, buf: &mut [u8]) -> Result<usize, DeviceError> {
+        let filled = match &self.file {
+            Some(file) => read_from(file, at, buf).ok(),
+            None => None,
+        };
+        self.count(filled)
+    }
+
+    fn write_at(&mut self, at: u64, bytes: &[u8]) -> Result<(), DeviceError> {
+        let written = match &self.file {
+            Some(file) => write_to(file, at, bytes),
+            None => None,
+        };
+        self.count(written)
+    }
+
+    fn cut(&mut self, len: u64) -> Result<(), DeviceError> {
+        let cut = match &self.file {
+            Some(file) => file.set_len(len).ok(),
+            None => None,
+        };
+        self.count(cut)
+    }
+
+    fn sync(&mut self) -> Result<(), DeviceError> {
+        let synced = match &self.file {
+            Some(file) => file.sync_data().ok(),
+            None => None,
+        };
+        self.count(synced)
+    }
+}

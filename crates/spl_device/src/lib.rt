@@ -1,0 +1,20 @@
+//! The devices of the system: files that are read, files as disks, standard output, and streams between nodes over TCP.
+//! What they say of the outside is trusted.
+#![tactic(auto)]
+
+mod endpoints;
+mod file_disk;
+mod file_source;
+mod folder;
+mod link;
+mod std_sink;
+mod tcp_fabric;
+#[cfg(test)]
+mod tests;
+
+pub use endpoints::fabric;
+pub use file_disk::FileDisk;
+pub use file_source::FileSource;
+pub use folder::shelf;
+pub use std_sink::StdSink;
+pub use tcp_fabric::TcpFabric;
