@@ -1,0 +1,11 @@
+mod Behinds
+mod Causes
+mod Ending
+mod Schedules
+mod Making
+mod Results
+mod Running
+mod Stopping
+mod Tasks
+mod Whole
+mod Wiring

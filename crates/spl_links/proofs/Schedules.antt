@@ -1,0 +1,65 @@
+-- The lines so far, and the next.
+use Rattle.std.proofs.Common.{◌≡◌, ◌⊎◌, inr, ℕ, ◌+◌, ◌-◌, List, [], ◌∷◌, ◌++◌, Option, length, take, drop, refl, sym, ◌∙◌, ap, subst, arith, append_assoc}
+use Rattle.std.proofs.Math.Seq.{take-append_seam}
+use Rattle.std.proofs.lemmas.List.{drop_at, take_all}
+use Rattle.spl_circuit.specs.Nodes.{Node}
+use Rattle.spl_lines.specs.Given.{IsOverlong, IsUnfinished, run_of}
+use Rattle.spl_lines.specs.Written.{said}
+use Rattle.spl_registry.specs.Nodes.{Entry}
+use Rattle.spl_links.specs.Behind.{EndsFor}
+use Rattle.spl_links.specs.Outside.{Outside}
+use Rattle.spl_links.specs.Schedule.{AreTaken, IsBadAt, IsFirstBad}
+use Rattle.spl_links.specs.Tasks.{IsTaken, Task, tasks, tasks_of}
+use Rattle.spl_links.specs.declared.fault.LinkedFault.{LinkedFault}
+use Rattle.spl_links.proofs.Ending.{ends_more}
+use Rattle.spl_links.proofs.Tasks.{tasks_more, tasks_then}
+
+pub all-push : (ns : List Node) (xs : List (List ℕ)) (x : List ℕ) → AreTaken ns xs → IsTaken ns x → AreTaken ns (xs ++ x ∷ [])
+all-push ns [] x all good = (good, tt)
+all-push ns (y ∷ xs) x all good = (all.0, all-push ns xs x all.1 good)
+
+-- a line more, and what stands behind it
+module _ (front : List (List ℕ)) (line : List ℕ) (rest all : List (List ℕ)) (is : all ≡ (front ++ line ∷ []) ++ rest) where
+  whole : all ≡ front ++ line ∷ rest
+  whole = is ∙ append_assoc front (line ∷ []) rest
+
+  first : take (length front) all ≡ front
+  first = ap (λ (ls : List (List ℕ)). take (length front) ls) whole ∙ take-append_seam front (line ∷ rest)
+
+  module _ (number : ℕ) (counted : number ≡ length front + 1) where
+    -- the lines before the one with this number
+    pub before_it : take (number - 1) all ≡ front
+    before_it =
+        let same : number - 1 ≡ length front = omega arith in
+        rw same first
+
+    pub first_bad : (ns : List Node) → AreTaken ns front → (IsTaken ns line → ⊥) → IsFirstBad ns all number
+    first_bad ns good bad =
+        let same : number - 1 ≡ length front = omega arith in
+        record {
+          line = line;
+          behind = rest;
+          counted = omega arith;
+          before = subst (AreTaken ns) (sym before_it) good;
+          place = rw same (ap (λ (ls : List (List ℕ)). drop (length front) ls) whole ∙ drop_at front (line ∷ rest) (length front) refl);
+          bad = bad;
+        }
+
+    -- a run that ended at the line ended at it of all
+    pub ends_all : (f : LinkedFault) (es : List Entry) (waiting : List ℕ) (s o : Outside) → EndsFor f es (tasks 1 front ++ tasks_of number (said line)) waiting s o → EndsFor f es (tasks 1 all) waiting s o
+    ends_all f es waiting s o ended =
+        let more = tasks_more (front ++ line ∷ []) rest in
+        let same : tasks 1 all ≡ (tasks 1 front ++ tasks_of number (said line)) ++ more.0 = ap (tasks 1) is ∙ more.1 ∙ ap (λ (ts : List Task). ts ++ more.0) (tasks_then front line number counted) in
+        subst (λ (ts : List Task). EndsFor f es ts waiting s o) (sym same) (ends_more es (tasks 1 front ++ tasks_of number (said line)) more.0 waiting s o f ended)
+
+-- the line behind those given is bad
+pub bad_rest : (ns : List Node) (lines : List (List ℕ)) (given : List ℕ) (left : Option (List ℕ)) (number : ℕ) → run_of given ≡ lines → AreTaken ns lines → number ≡ length lines + 1 → IsUnfinished given left ⊎ IsOverlong given → IsBadAt ns given left number
+bad_rest ns lines given left number all good counted bad = inr (record {
+  lines = subst (AreTaken ns) (sym all) good;
+  behind = omega (arith, ap length all);
+  bad = bad;
+})
+
+-- and those are all before it
+pub all_before : (lines all : List (List ℕ)) (number : ℕ) → all ≡ lines → number ≡ length lines + 1 → take (number - 1) all ≡ lines
+all_before lines all number same counted = ap (λ (ls : List (List ℕ)). take (number - 1) ls) same ∙ take_all (number - 1) lines (omega arith)

@@ -1,0 +1,99 @@
+-- What a run over links runs of a schedule, and what comes of it (docs/RULES.md, Links).
+use Rattle.std.specs.Prelude.{◌≡◌, ◌+◌, ℕ, Bool, true, false, List, [], ◌∷◌, ◌++◌, Option, Some, None, IfSome, map}
+use Rattle.spl_circuit.specs.Nodes.{CircuitId, Node, sorted}
+use Rattle.spl_answer.specs.Texts.{text}
+use Rattle.spl_lines.specs.Written.{IsLine, printed, said}
+use Rattle.spl_model.specs.Answers.{answer_to}
+use Rattle.spl_model.specs.Outcomes.{by_rule}
+use Rattle.spl_model.specs.Projection.{Ran}
+use Rattle.spl_projection.specs.Whole.{whole_world}
+use Rattle.spl_pump.specs.Wires.{Carried}
+use Rattle.spl_registry.specs.Nodes.{Entry, ids_of}
+use Rattle.spl_sched.specs.Grammar.{circuit_of}
+use Rattle.spl_sched.specs.declared.line.Line.{Line}
+use Rattle.spl_sched.specs.declared.line.Line.TheVariants as line
+use Rattle.spl_sched.specs.declared.line.Step.TheVariants as step
+use Rattle.spl_wire.specs.declared.event.Event.TheVariants as event
+use Rattle.spl_world.specs.Links.{line_carried, seat_of}
+
+-- ---- lines
+
+-- lines that such a run takes: all but ticks, ends of rounds and deliveries, which it brings about itself, and stops in an event
+abbrev pub is_taken : Line → Bool
+is_taken (line.Step (step.At n c event.Tick)) = false
+is_taken (line.Step (step.At n c event.Expire)) = false
+is_taken (line.Step (step.At n c e)) = true
+is_taken (line.Stop n) = true
+is_taken (line.Start n) = true
+is_taken (line.Roll n) = true
+is_taken _ = false
+
+-- what is run: a line that is taken, or a calm
+abbrev pub is_run : Line → Bool
+is_run (line.Calm c k) = true
+is_run l = is_taken l
+
+-- a line that a schedule over these nodes may have there
+pub record IsTaken (ns : List Node) (bytes : List ℕ) : Type 0 where
+  pub good : IsLine ns bytes
+  pub taken : IfSome (said bytes) (λ l. is_taken l ≡ true)
+
+-- ---- tasks
+
+-- a line that is run, and the number with which its answer is written, where it is
+pub record Task : Type 0 where
+  pub number : Option ℕ
+  pub line : Line
+
+-- the passes of the calm behind a line
+abbrev pub calm_passes : ℕ
+calm_passes = 8
+
+-- a calm of the circuit that a line names, where it names one
+abbrev pub calm_in : Option CircuitId → List Task
+calm_in None = []
+calm_in (Some c) = record { number = None; line = line.Calm c calm_passes } ∷ []
+
+abbrev pub calm_behind : Line → List Task
+calm_behind l = calm_in (circuit_of l)
+
+abbrev pub tasks_of : ℕ → Option Line → List Task
+tasks_of n None = []
+tasks_of n (Some l) = record { number = Some n; line = l } ∷ calm_behind l
+
+-- what is run of lines whose numbers count from n
+abbrev pub tasks : ℕ → List (List ℕ) → List Task
+tasks n [] = []
+tasks n (bytes ∷ lines) = tasks_of n (said bytes) ++ tasks (n + 1) lines
+
+-- the lines that ran
+abbrev pub ran_by : List Task → List Ran
+ran_by ts = map (λ t. by_rule t.line) ts
+
+-- ---- what comes of them
+
+-- an answer, with its number, where it has one
+abbrev pub shown : Option ℕ → List ℕ → List ℕ
+shown None answer = []
+shown (Some n) answer = printed n answer
+
+-- the answers to tasks behind these lines
+abbrev pub answers_behind : List Node → List Ran → List Task → List ℕ
+answers_behind ns before [] = []
+answers_behind ns before (t ∷ ts) = shown t.number (text (answer_to ns before (by_rule t.line))) ++ answers_behind ns (before ++ by_rule t.line ∷ []) ts
+
+-- what a run of these tasks over these nodes writes
+abbrev pub answers : List Node → List Task → List ℕ
+answers ns ts = answers_behind ns [] ts
+
+-- the nodes of a registry, in the order of their ids
+abbrev pub nodes_in : List Entry → List Node
+nodes_in es = sorted (ids_of es)
+
+-- the messages that tasks behind these lines carry between the nodes of a registry, in order
+abbrev pub carried_behind : List Entry → List Ran → List Task → List Carried
+carried_behind es before [] = []
+carried_behind es before (t ∷ ts) = line_carried (seat_of es) (λ c. whole_world (nodes_in es) c before) t.line ++ carried_behind es (before ++ by_rule t.line ∷ []) ts
+
+abbrev pub carried : List Entry → List Task → List Carried
+carried es ts = carried_behind es [] ts
