@@ -26,10 +26,10 @@ front-behind ns before (r ∷ xs) ys =
     omega (arith, rest)
 
 -- it has no more than all of them
-stops_front : (xs ys : List Ran) → stops_of xs ≤ stops_of (xs ++ ys)
+pub stops_front : (xs ys : List Ran) → stops_of xs ≤ stops_of (xs ++ ys)
 stops_front xs ys = omega (arith, stops-append xs ys)
 
-events_front : (ns : List NodeId) (xs ys : List Ran) → events_of ns xs ≤ events_of ns (xs ++ ys)
+pub events_front : (ns : List NodeId) (xs ys : List Ran) → events_of ns xs ≤ events_of ns (xs ++ ys)
 unfolding events_of
 events_front ns xs ys = front-behind ns [] xs ys
 
@@ -57,7 +57,7 @@ pub no_bad : (ns : List NodeId) (lines : List (List ℕ)) (number : ℕ) → All
 no_bad ns lines number all found = found.stops (all_at ns lines (number - 1) found.line found.behind found.place all)
 
 -- lines within their limits pass none
-not_over : (ns : List NodeId) (rs : List Ran) (which : ℕ) → IsWithin ns rs → IsOver ns rs which → ⊥
+pub not_over : (ns : List NodeId) (rs : List Ran) (which : ℕ) → IsWithin ns rs → IsOver ns rs which → ⊥
 not_over ns rs which few (inl over) = omega (arith, few.0, over.1)
 not_over ns rs which few (inr over) = omega (arith, few.1, over.2)
 

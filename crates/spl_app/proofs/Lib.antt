@@ -1,7 +1,11 @@
+mod Agreed
 mod Behinds
+mod Complete
 mod Benches
 mod Blanks
 mod Ends
+mod Emptied
+mod Linked
 mod Ending
 mod Events
 mod Given

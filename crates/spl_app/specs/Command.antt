@@ -10,5 +10,9 @@ pub record IsGen (words : List (List ℕ)) (n seed : ℕ) : Type 0 where
   pub few : n ≤ MOST_BATCHES
   pub fits : seed < 2 ^ 64
 
+-- links REGISTRY SCHEDULE DIR
+abbrev pub IsLinks : List (List ℕ) → Type 0
+IsLinks words = (registry : List ℕ) × (schedule : List ℕ) × (folder : List ℕ) × (words ≡ codes "links" ∷ registry ∷ schedule ∷ folder ∷ [])
+
 abbrev pub IsCommand : List (List ℕ) → Type 0
-IsCommand words = IsReplay words ⊎ ((n : ℕ) × (seed : ℕ) × IsGen words n seed)
+IsCommand words = IsReplay words ⊎ (IsLinks words ⊎ ((n : ℕ) × (seed : ℕ) × IsGen words n seed))

@@ -9,3 +9,5 @@ pub mod Command
 pub mod Generated
 pub mod Ends
 pub mod Benches
+pub mod Blank
+pub mod Links

@@ -15,8 +15,12 @@ code_of (status.TooMany which) = 4
 code_of status.ReadFault = 5
 code_of status.WriteFault = 6
 code_of (status.DiskFault node) = 7
+code_of status.LinkFault = 8
+code_of (status.Lied from to sent got) = 9
+code_of (status.NotBlank node) = 10
 code_of status.TooLong = 11
 code_of status.NoMemory = 12
+code_of (status.NotAJournal node at) = 13
 
 -- what is said of a registry's fault
 abbrev pub fault_text : RegistryFault → List ℕ
@@ -36,5 +40,9 @@ text_of (status.TooMany which) = if which == 1 then codes "too many events" else
 text_of status.ReadFault = codes "read failed"
 text_of status.WriteFault = codes "write failed"
 text_of (status.DiskFault node) = codes "disk of " ++ node ++ codes " failed"
+text_of status.LinkFault = codes "link failed"
+text_of (status.Lied from to sent got) = codes "link from " ++ from ++ codes " to " ++ to ++ codes " lied"
+text_of (status.NotBlank node) = codes "disk of " ++ node ++ codes " not blank"
 text_of status.TooLong = codes "input too long"
 text_of status.NoMemory = codes "out of memory"
+text_of (status.NotAJournal node at) = codes "disk of " ++ node ++ codes " is not a journal at " ++ decimal at

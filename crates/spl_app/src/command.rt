@@ -1,6 +1,6 @@
 //! The words of a command line.
 ghost use Rattle.std.specs.Prelude.{◌≡◌, ◌<◌, ◌^◌, ◌↔◌, ℕ, Some, IfSome, IsTrue, decimal, map, string_bytes};
-ghost use Rattle.spl_app.specs.Command.{IsGen};
+ghost use Rattle.spl_app.specs.Command.{IsGen, IsLinks};
 ghost use Rattle.spl_app.specs.Schedule.{IsReplay};
 
 use itoa::Buffer;
@@ -43,6 +43,16 @@ pub fn is_replay(words: &[String]) -> bool
 {
     match words {
         [first, _, _] => first.as_str() == "replay",
+        _ => false,
+    }
+}
+
+/// Whether the words are `links` and three more.
+pub fn is_links(words: &[String]) -> bool
+    ensures { IsTrue result ↔ IsLinks (map string_bytes words.now) }
+{
+    match words {
+        [first, _, _, _] => first.as_str() == "links",
         _ => false,
     }
 }

@@ -13,6 +13,7 @@ ghost use Rattle.spl_world.specs.declared.fault.WorldFault.TheVariants.{NoMemory
 ghost use Rattle.spl_lines.specs.Written.{ran};
 ghost use Rattle.spl_app.specs.Ends.{EndsAtNode, EndsPast, EndsShort, EndsSomewhere};
 ghost use Rattle.spl_app.specs.Generated.{generated_lines, is_of_reading, last_answers};
+ghost use Rattle.spl_app.specs.Links.{is_of_links};
 ghost use Rattle.spl_app.specs.Registered.{HasFailedAt, SomeFailed};
 ghost use Rattle.spl_app.specs.Run.{HasFront, IsRun, Past, StopsAt};
 
@@ -78,6 +79,7 @@ pub fn run_generated<W: Sink, D: StopDisk>(
     requires unpicked { AllUnpicked (bench D.image_at D.moment D.faults D.armed D.picks pairs.old.items) }
     ensures words { result ≡ Status.Usage → ⊥ }
     ensures status { is_of_reading result ≡ false }
+    ensures unlinked { is_of_links result ≡ false }
     ensures ok { result ≡ Status.Ok → IsRun nodes (generated_lines n seed) × Appends (W.written out.old) (W.written out.new) (last_answers n seed (generated_lines n seed)) }
     ensures many { (which : ℕ) → result ≡ Status.TooMany which → (number : ℕ) × StopsAt nodes (Past which) (generated_lines n seed) number
         × Appends (W.written out.old) (W.written out.new) (last_answers n seed (take (number - 1) (generated_lines n seed))) }

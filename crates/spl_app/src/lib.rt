@@ -4,11 +4,15 @@
 
 mod agree;
 mod bench;
+mod blank;
 mod command;
 mod fabric;
 mod fault;
 mod generated;
 mod generating;
+mod linking;
+mod links;
+mod memory;
 mod registered;
 mod replay;
 mod run;
@@ -18,5 +22,6 @@ mod text;
 mod top;
 
 pub use bench::{blank_bench, failing_bench};
+pub use memory::{blank_fabric, blank_shelf};
 pub use status::Status;
 pub use top::splinter;

@@ -1,5 +1,5 @@
 //! Reads a schedule and runs its lines.
-ghost use Rattle.std.specs.Prelude.{◌≡◌, ◌<◌, ◌≤◌, ◌⊎◌, ◌-◌, ℕ, take, length};
+ghost use Rattle.std.specs.Prelude.{◌≡◌, ◌<◌, ◌≤◌, ◌⊎◌, ◌-◌, ℕ, false, take, length};
 ghost use Rattle.std.specs.Io.{appended_bytes};
 ghost use Rattle.std.specs.Io.KnownBytes.{Appends, Consumes, IsAtEnd};
 ghost use Rattle.spl_edge.specs.Causes.{Rose, AppendsPart};
@@ -12,6 +12,7 @@ ghost use Rattle.spl_world.specs.declared.fault.WorldFault.TheVariants.{NoMemory
 ghost use Rattle.spl_lines.specs.Lines.{lines_of, rest_of, longest_line, limit};
 ghost use Rattle.spl_lines.specs.Written.{ran, answers};
 ghost use Rattle.spl_lines.specs.Given.{had, run_of};
+ghost use Rattle.spl_app.specs.Links.{is_of_links};
 ghost use Rattle.spl_app.specs.Ends.{EndsAtNode, EndsPast, EndsShort, EndsSomewhere};
 ghost use Rattle.spl_app.specs.Registered.{HasFailedAt, SomeFailed};
 ghost use Rattle.spl_app.specs.Run.{HasFront, IsRun};
@@ -37,6 +38,7 @@ pub fn replay<S: Source, W: Sink, D: StopDisk>(
     requires blank { (i : ℕ) → i < length registry.now → AreBlank (images_at (images D.image_at D.moment pairs.old.items) i) }
     requires unpicked { AllUnpicked (bench D.image_at D.moment D.faults D.armed D.picks pairs.old.items) }
     ensures words { result ≡ Status.Usage → ⊥ }
+    ensures unlinked { is_of_links result ≡ false }
     ensures registry { (fault : RegistryFault) → result ≡ Status.BadRegistry fault → ⊥ }
     ensures ok { result ≡ Status.Ok → let given = appended_bytes (S.taken schedule.old) (S.taken schedule.new) in
         IsSchedule (sorted (ids_of registry.now)) given × IsAtEnd (S.left schedule.new)

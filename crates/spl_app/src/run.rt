@@ -167,9 +167,8 @@ impl Run {
             }
             Err(WorldFault::Disk { slot }) => return Err(RunFault::Disk(slot)),
             Err(WorldFault::NoMemory) => return Err(RunFault::NoMemory),
-            Err(
-                WorldFault::Link | WorldFault::Lied { .. } | WorldFault::NotAJournal { .. },
-            ) => unreachable!(),
+            Err(WorldFault::Link | WorldFault::Lied { .. } | WorldFault::NotAJournal { .. }) =>
+                unreachable!(),
         }
         self.output.put_behind(out, self.skip, number, &self.text)?;
         Ok(())

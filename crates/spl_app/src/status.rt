@@ -1,5 +1,5 @@
 //! How a run ends.
-ghost use Rattle.std.specs.Prelude.{◌≡◌, ◌++◌, codes, IfOk};
+ghost use Rattle.std.specs.Prelude.{◌≡◌, ◌++◌, codes, decimal, IfOk};
 ghost use Rattle.spl_app.specs.Statuses.{fault_text};
 
 use spl_base::{NodeId, Piece};
@@ -7,7 +7,7 @@ use spl_registry::RegistryFault;
 use std::alloc::{AllocError, Global};
 
 /// How a run ended (docs/RULES.md, Statuses).
-#[derive(Clone, Copy, Debug, PartialEq, Eq)]
+#[derive(Debug, Drop)]
 pub enum Status {
     /// Registry and schedule were read to their ends, and every answer was written.
     Ok,
@@ -16,20 +16,44 @@ pub enum Status {
     /// The registry's bytes have this fault. Want of memory is none of them.
     BadRegistry(RegistryFault),
     /// This is the first line that a schedule may not have.
-    BadSchedule { line: u32 },
+    BadSchedule {
+        line: u32,
+    },
     /// With a line the run would have more than the limit of this number allows: 1 is events, 2 is
     /// stops.
-    TooMany { which: u8 },
+    TooMany {
+        which: u8,
+    },
     /// The registry or the schedule could not be read.
     ReadFault,
     /// The answers could not be written.
     WriteFault,
     /// A disk of this node failed.
-    DiskFault { node: NodeId },
+    DiskFault {
+        node: NodeId,
+    },
+    /// A link between nodes failed.
+    LinkFault,
+    /// Where a message was to go from one of these nodes to the other, these bytes were sent and others came.
+    Lied {
+        from: NodeId,
+        to: NodeId,
+        sent: Piece,
+        got: Piece,
+    },
+    /// A disk of this node holds bytes, where a run over links begins.
+    NotBlank {
+        node: NodeId,
+    },
     /// The registry or the schedule has too many bytes.
     TooLong,
     /// Memory ran out.
     NoMemory,
+    /// The bytes of a disk of this node, with which it was to come up, are no journal from this place on.
+    NotAJournal {
+        node: NodeId,
+        at: u64,
+    },
 }
 
 // The line for a registry that has this fault.
@@ -46,14 +70,35 @@ fn fault_text(alloc: Global, fault: &RegistryFault) -> Result<Piece, AllocError>
     Piece::from(alloc, text.as_bytes())
 }
 
-// The line for a disk of this node that failed.
-fn disk_text(alloc: Global, node: &NodeId) -> Result<Piece, AllocError>
-    ensures { IfOk result (λ p. p ≡ codes "disk of " ++ node.now ++ codes " failed") }
+// The line that says this of the disks of a node.
+fn disk_text(alloc: Global, node: &NodeId, said: &[u8]) -> Result<Piece, AllocError>
+    ensures { IfOk result (λ p. p ≡ codes "disk of " ++ node.now ++ said.now) }
 {
     let mut text = Vec::new(alloc);
     text.extend_from_slice(b"disk of ")?;
     text.extend_from_slice(node.bytes())?;
-    text.extend_from_slice(b" failed")?;
+    text.extend_from_slice(said)?;
+    Piece::from(alloc, &text)
+}
+
+// The line for a disk of this node that is no journal from this place on.
+fn journal_text(alloc: Global, node: &NodeId, at: u64) -> Result<Piece, AllocError>
+    ensures { IfOk result (λ p. p ≡ codes "disk of " ++ node.now ++ codes " is not a journal at " ++ decimal at) }
+{
+    let place = format!(in alloc; " is not a journal at {at}")?;
+    disk_text(alloc, node, place.as_bytes())
+}
+
+// The line for a link that lied between these nodes.
+fn lie_text(alloc: Global, from: &NodeId, to: &NodeId) -> Result<Piece, AllocError>
+    ensures { IfOk result (λ p. p ≡ codes "link from " ++ from.now ++ codes " to " ++ to.now ++ codes " lied") }
+{
+    let mut text = Vec::new(alloc);
+    text.extend_from_slice(b"link from ")?;
+    text.extend_from_slice(from.bytes())?;
+    text.extend_from_slice(b" to ")?;
+    text.extend_from_slice(to.bytes())?;
+    text.extend_from_slice(b" lied")?;
     Piece::from(alloc, &text)
 }
 
@@ -73,8 +118,12 @@ impl Status {
             Status::ReadFault => 5,
             Status::WriteFault => 6,
             Status::DiskFault { .. } => 7,
+            Status::LinkFault => 8,
+            Status::Lied { .. } => 9,
+            Status::NotBlank { .. } => 10,
             Status::TooLong => 11,
             Status::NoMemory => 12,
+            Status::NotAJournal { .. } => 13,
         }
     }
 
@@ -97,9 +146,13 @@ impl Status {
             Status::TooMany { .. } => Piece::from(alloc, b"too many stops"),
             Status::ReadFault => Piece::from(alloc, b"read failed"),
             Status::WriteFault => Piece::from(alloc, b"write failed"),
-            Status::DiskFault { node } => disk_text(alloc, node),
+            Status::DiskFault { node } => disk_text(alloc, node, b" failed"),
+            Status::LinkFault => Piece::from(alloc, b"link failed"),
+            Status::Lied { from, to, .. } => lie_text(alloc, from, to),
+            Status::NotBlank { node } => disk_text(alloc, node, b" not blank"),
             Status::TooLong => Piece::from(alloc, b"input too long"),
             Status::NoMemory => Piece::from(alloc, b"out of memory"),
+            Status::NotAJournal { node, at } => journal_text(alloc, node, *at),
         }
     }
 }

@@ -1,8 +1,9 @@
 //! The call that does all that the program does.
-ghost use Rattle.std.specs.Prelude.{◌≡◌, ◌<◌, ◌≤◌, ◌↔◌, ◌⊎◌, ◌-◌, ℕ, [], false, Err, take, length, map, string_bytes};
+ghost use Rattle.std.specs.Prelude.{◌≡◌, ◌<◌, ◌≤◌, ◌↔◌, ◌⊎◌, ◌-◌, ℕ, [], true, false, Err, take, length, map, string_bytes};
 ghost use Rattle.std.specs.Io.{appended_bytes};
 ghost use Rattle.std.specs.Io.KnownBytes.{Appends, Consumes, IsAtEnd};
 ghost use Rattle.spl_edge.specs.Causes.{Rose, AppendsPart};
+ghost use Rattle.spl_edge.specs.Fabrics.{IsHonest};
 ghost use Rattle.spl_agreement.specs.Agreement.{Agree};
 ghost use Rattle.spl_agreement.specs.OneList.{TellOneList};
 ghost use Rattle.spl_registry.specs.declared.fault.RegistryFault.{RegistryFault};
@@ -10,13 +11,17 @@ ghost use Rattle.spl_registry.specs.Nodes.{made};
 ghost use Rattle.spl_registry.specs.Tree.{registry_of};
 ghost use Rattle.spl_circuit.specs.Nodes.{Node};
 ghost use Rattle.spl_gen.specs.Circuits.{nodes as gen_nodes};
-ghost use Rattle.spl_world.specs.Disks.{AllUnarmed, AreBlank, NoneForgotten, bench as bench_of, images, images_at};
+ghost use Rattle.spl_world.specs.Disks.{AllGoOn, AllTell, AllUnarmed, AreBlank, NoneForgotten, RoseAt, bench as bench_of, images, images_at};
 ghost use Rattle.spl_world.specs.Held.{AllUnpicked, AreHeld};
 ghost use Rattle.spl_world.specs.declared.fault.WorldFault.TheVariants.{NoMemory as NoRoom};
 ghost use Rattle.spl_lines.specs.Lines.{lines_of, rest_of, longest_line, limit};
 ghost use Rattle.spl_lines.specs.Written.{ran, answers};
 ghost use Rattle.spl_lines.specs.Given.{had, run_of};
-ghost use Rattle.spl_app.specs.Command.{IsCommand, IsGen};
+ghost use Rattle.spl_app.specs.Blank.{AllEmpty, AreSettled};
+ghost use Rattle.spl_app.specs.Command.{IsCommand, IsGen, IsLinks};
+ghost use Rattle.spl_app.specs.Links.{EndsReading, Gives, IsLinkedSchedule, is_behind_blank, is_of_links, run_view};
+ghost use Rattle.spl_links.specs.Tasks.{ran_by, tasks};
+ghost use Rattle.spl_pump.specs.Wires.{AllTaken, AreTold};
 ghost use Rattle.spl_app.specs.Generated.{generated_lines, is_of_reading, last_answers};
 ghost use Rattle.spl_app.specs.Run.{HasFront, IsRun, Past, StopsAt};
 ghost use Rattle.spl_app.specs.Ends.{EndsAtNode, EndsPast, EndsShort, EndsSomewhere};
@@ -25,45 +30,60 @@ ghost use Rattle.spl_app.specs.Schedule.{IsReplay, IsSchedule, IsBadAt, HasTooMa
 
 use crate::Status;
 use crate::agree::runs_agree;
-use crate::command::{is_replay, read_gen};
+use crate::command::{is_links, is_replay, read_gen};
 use crate::fault::NodesFault;
 use crate::generating::run_generated;
+use crate::linking::run_links;
 use crate::registered::read_registry;
 use crate::replay::replay;
-use spl_edge::{Bench, Sink, Source, StopDisk};
+use spl_edge::{Bench, Disk, Fabric, Shelf, Sink, Source, StopDisk};
 use std::alloc::Global;
 
 /// Does what the words ask for: `replay REGISTRY SCHEDULE` reads the registry, runs the schedule line
 /// by line over its nodes, and writes each answer with the number of its line. The names are for the
 /// caller, who opens them. `gen N SEED` runs the schedule of N batches that is made from the seed, and
-/// writes the answers to its last nine lines alone. Want of memory can end any run; then a front of the
-/// answers is written.
-pub fn splinter<S: Source, W: Sink, D: StopDisk>(
+/// writes the answers to its last nine lines alone. `links REGISTRY SCHEDULE DIR` runs as `replay` does, but
+/// over the disks of the shelf, which have to be blank, and with messages over the fabric; it takes fewer
+/// kinds of lines, and settles the circuit that a line names behind it. Want of memory can end any run; then
+/// a front of the answers is written.
+pub fn splinter<S: Source, W: Sink, D: StopDisk, E: Disk, F: Fabric>(
     alloc: Global,
     words: &[String],
     registry: &mut S,
     schedule: &mut S,
     out: &mut W,
     bench: &mut Bench<D>,
+    shelf: &mut Shelf<E>,
+    fabric: &mut F,
 ) -> Status
     requires pairs { length bench.old.pairs.items ≡ 16 }
     requires blank { (i : ℕ) → i < 16 → AreBlank (images_at (images D.image_at D.moment bench.old.pairs.items) i) }
     requires unpicked { AllUnpicked (bench_of D.image_at D.moment D.faults D.armed D.picks bench.old.pairs.items) }
+    requires shelf { length shelf.old.pairs.items ≡ 16 }
+    requires settled { (i : ℕ) → i < 16 → AreSettled (images_at (images E.image_at E.moment shelf.old.pairs.items) i) }
+    requires untouched { AllUnpicked (bench_of E.image_at E.moment E.faults E.armed E.picks shelf.old.pairs.items) }
+    requires links { AllTaken (F.put_on fabric.old) (F.taken_on fabric.old) }
 
     // Exactly where the words are no command. Nothing is read or written, and no disk is called.
     ensures usage { (result ≡ Status.Usage) ↔ (IsCommand (map string_bytes words.now) → ⊥) }
     ensures nothing { result ≡ Status.Usage → Appends (W.written out.old) (W.written out.new) []
-        × (registry.new ≡ registry.old) × (schedule.new ≡ schedule.old) × (bench.new ≡ bench.old) }
+        × (registry.new ≡ registry.old) × (schedule.new ≡ schedule.old) × (bench.new ≡ bench.old) × (shelf.new ≡ shelf.old) × (fabric.new ≡ fabric.old) }
+
+    // Only `links` uses the shelf and the fabric, and only it ends with what these bring about. It
+    // leaves the bench alone.
+    ensures apart { (IsLinks (map string_bytes words.now) → ⊥) → (shelf.new ≡ shelf.old) × (fabric.new ≡ fabric.old) }
+    ensures alone { is_of_links result ≡ true → IsLinks (map string_bytes words.now) }
+    ensures links_apart { IsLinks (map string_bytes words.now) → bench.new ≡ bench.old }
 
     // The registry was read to its end, and its bytes have this fault. Nothing is written, the schedule
-    // isn't read, and no disk is called.
+    // isn't read, no disk is called, and nothing put on the fabric.
     ensures registry { (fault : RegistryFault) → result ≡ Status.BadRegistry fault
         → (registry_of (appended_bytes (S.taken registry.old) (S.taken registry.new)) ≡ Err fault) × IsAtEnd (S.left registry.new)
-        × Appends (W.written out.old) (W.written out.new) [] × (schedule.new ≡ schedule.old) × (bench.new ≡ bench.old) }
+        × Appends (W.written out.old) (W.written out.new) [] × (schedule.new ≡ schedule.old) × (bench.new ≡ bench.old) × (shelf.new ≡ shelf.old) × (fabric.new ≡ fabric.old) }
 
     // Where the bytes given have a fault, and the source has none, that is told.
     ensures faulty { (fault : RegistryFault) → let text = appended_bytes (S.taken registry.old) (S.taken registry.new) in
-        IsReplay (map string_bytes words.now) → (Rose (S.faults registry.old) (S.faults registry.new) → ⊥)
+        IsReplay (map string_bytes words.now) ⊎ IsLinks (map string_bytes words.now) → (Rose (S.faults registry.old) (S.faults registry.new) → ⊥)
         → registry_of text ≡ Err fault → length text ≤ limit
         → (result ≡ Status.BadRegistry fault) ⊎ (result ≡ Status.NoMemory) }
 
@@ -76,7 +96,7 @@ pub fn splinter<S: Source, W: Sink, D: StopDisk>(
 
     // This is the first line that a schedule may not have, also for want of its line feed at the
     // end of the source. The answers to the lines before it are written.
-    ensures bad { (line : ℕ) → result ≡ Status.BadSchedule line → let text = appended_bytes (S.taken registry.old) (S.taken registry.new) in
+    ensures bad { (line : ℕ) → IsReplay (map string_bytes words.now) → result ≡ Status.BadSchedule line → let text = appended_bytes (S.taken registry.old) (S.taken registry.new) in
         let given = appended_bytes (S.taken schedule.old) (S.taken schedule.new) in
         IsRegistryText text × IsBadAt (nodes_of text) given (S.left schedule.new) line
         × Appends (W.written out.old) (W.written out.new) (answers (nodes_of text) (take (line - 1) (run_of given))) }
@@ -89,7 +109,7 @@ pub fn splinter<S: Source, W: Sink, D: StopDisk>(
 
     // A source failed: that of the registry, and nothing is written and the schedule isn't read, or that
     // of the schedule, within its limit, and the answers to all lines that it gave are written.
-    ensures read { result ≡ Status.ReadFault → let text = appended_bytes (S.taken registry.old) (S.taken registry.new) in
+    ensures read { IsReplay (map string_bytes words.now) → result ≡ Status.ReadFault → let text = appended_bytes (S.taken registry.old) (S.taken registry.new) in
         let given = appended_bytes (S.taken schedule.old) (S.taken schedule.new) in
         (Rose (S.faults registry.old) (S.faults registry.new) × Appends (W.written out.old) (W.written out.new) [] × (schedule.new ≡ schedule.old))
         ⊎ (Rose (S.faults schedule.old) (S.faults schedule.new) × (length given ≤ limit) × IsRegistryText text × IsRun (nodes_of text) (lines_of given)
@@ -108,7 +128,7 @@ pub fn splinter<S: Source, W: Sink, D: StopDisk>(
     // A source gave more bytes than it may: that of the registry, and nothing is written, the schedule
     // isn't read and no disk is called, or that of the schedule, and the line that the limit cuts may go
     // on. Then the answers to the lines up to the limit are written.
-    ensures long { result ≡ Status.TooLong → let text = appended_bytes (S.taken registry.old) (S.taken registry.new) in
+    ensures long { IsReplay (map string_bytes words.now) → result ≡ Status.TooLong → let text = appended_bytes (S.taken registry.old) (S.taken registry.new) in
         let given = appended_bytes (S.taken schedule.old) (S.taken schedule.new) in
         ((limit < length text) × Appends (W.written out.old) (W.written out.new) [] × (schedule.new ≡ schedule.old) × (bench.new ≡ bench.old))
         ⊎ ((limit < length given) × IsRegistryText text × IsRun (nodes_of text) (run_of given) × (length (rest_of (take limit given)) ≤ longest_line)
@@ -147,13 +167,13 @@ pub fn splinter<S: Source, W: Sink, D: StopDisk>(
     ensures held_ok { IsReplay (map string_bytes words.now) → result ≡ Status.Ok → let text = appended_bytes (S.taken registry.old) (S.taken registry.new) in
         let given = appended_bytes (S.taken schedule.old) (S.taken schedule.new) in
         Hold text (lines_of given) (bench_of D.image_at D.moment D.faults D.armed D.picks bench.old.pairs.items) (bench_of D.image_at D.moment D.faults D.armed D.picks bench.new.pairs.items) }
-    ensures held_bad { (line : ℕ) → result ≡ Status.BadSchedule line → let text = appended_bytes (S.taken registry.old) (S.taken registry.new) in
+    ensures held_bad { (line : ℕ) → IsReplay (map string_bytes words.now) → result ≡ Status.BadSchedule line → let text = appended_bytes (S.taken registry.old) (S.taken registry.new) in
         let given = appended_bytes (S.taken schedule.old) (S.taken schedule.new) in
         Hold text (take (line - 1) (run_of given)) (bench_of D.image_at D.moment D.faults D.armed D.picks bench.old.pairs.items) (bench_of D.image_at D.moment D.faults D.armed D.picks bench.new.pairs.items) }
-    ensures held_read { result ≡ Status.ReadFault → let text = appended_bytes (S.taken registry.old) (S.taken registry.new) in
+    ensures held_read { IsReplay (map string_bytes words.now) → result ≡ Status.ReadFault → let text = appended_bytes (S.taken registry.old) (S.taken registry.new) in
         let given = appended_bytes (S.taken schedule.old) (S.taken schedule.new) in
         (Rose (S.faults registry.old) (S.faults registry.new) × (schedule.new ≡ schedule.old) × (bench.new ≡ bench.old)) ⊎ Hold text (lines_of given) (bench_of D.image_at D.moment D.faults D.armed D.picks bench.old.pairs.items) (bench_of D.image_at D.moment D.faults D.armed D.picks bench.new.pairs.items) }
-    ensures held_long { result ≡ Status.TooLong → let text = appended_bytes (S.taken registry.old) (S.taken registry.new) in
+    ensures held_long { IsReplay (map string_bytes words.now) → result ≡ Status.TooLong → let text = appended_bytes (S.taken registry.old) (S.taken registry.new) in
         let given = appended_bytes (S.taken schedule.old) (S.taken schedule.new) in
         (limit < length text) ⊎ Hold text (run_of given) (bench_of D.image_at D.moment D.faults D.armed D.picks bench.old.pairs.items) (bench_of D.image_at D.moment D.faults D.armed D.picks bench.new.pairs.items) }
 
@@ -196,6 +216,40 @@ pub fn splinter<S: Source, W: Sink, D: StopDisk>(
         → let text = had (S.left registry.old) (appended_bytes (S.taken registry.old) (S.taken registry.new)) in
         let given = had (S.left schedule.old) (appended_bytes (S.taken schedule.old) (S.taken schedule.new)) in
         (SomeFailed (bench_of D.image_at D.moment D.faults D.armed D.picks bench.old.pairs.items) (bench_of D.image_at D.moment D.faults D.armed D.picks bench.new.pairs.items) → ⊥) → IsRegistryText text → IsSchedule (nodes_of text) given → (result ≡ Status.Ok) ⊎ (result ≡ Status.NoMemory) }
+
+    // What `links` gives. Each line that names a circuit is followed by a calm of it, of which nothing
+    // is written; messages go over the fabric. The registry's reading ended the run, and nothing was
+    // done; or the bytes given spell one, and `Gives` says for each status what came of the schedule.
+    ensures links { IsLinks (map string_bytes words.now) → let text = appended_bytes (S.taken registry.old) (S.taken registry.new) in
+        (EndsReading result text (S.left registry.new) (S.faults registry.old) (S.faults registry.new)
+        × Appends (W.written out.old) (W.written out.new) [] × (schedule.new ≡ schedule.old) × (shelf.new ≡ shelf.old) × (fabric.new ≡ fabric.old))
+        ⊎ (IsRegistryText text × IsAtEnd (S.left registry.new) × OfRegistry text (λ es. Gives result es (run_view S.taken S.left S.faults W.written W.faults F.put_on F.taken_on F.faults E.image_at E.moment E.faults E.armed E.picks
+        schedule.old schedule.new out.old out.new fabric.old fabric.new shelf.old.pairs.items shelf.new.pairs.items))) }
+
+    // The members of each circuit agree as above, the calms among the lines, and tell one list.
+    ensures links_agreed { Agree (nodes_of (appended_bytes (S.taken registry.old) (S.taken registry.new)))
+        (ran_by (tasks 1 (run_of (appended_bytes (S.taken schedule.old) (S.taken schedule.new))))) }
+    ensures links_told { TellOneList (nodes_of (appended_bytes (S.taken registry.old) (S.taken registry.new)))
+        (ran_by (tasks 1 (run_of (appended_bytes (S.taken schedule.old) (S.taken schedule.new))))) }
+
+    // A run that began did so over disks that hold no bytes, where that is told.
+    ensures links_empty { IsLinks (map string_bytes words.now) → is_behind_blank result ≡ true → OfRegistry (appended_bytes (S.taken registry.old) (S.taken registry.new))
+        (λ es. AllEmpty (length es) (images E.image_at E.moment shelf.old.pairs.items)) }
+    ensures links_onward { AllGoOn (bench_of E.image_at E.moment E.faults E.armed E.picks shelf.old.pairs.items) (bench_of E.image_at E.moment E.faults E.armed E.picks shelf.new.pairs.items) }
+
+    // Where the sources had a registry and a schedule of such a run, the disks of all nodes tell what they
+    // hold, which is nothing, the fabric tells and hands out what was put on it, and none of them failed,
+    // it doesn't give up by itself.
+    ensures links_complete { IsLinks (map string_bytes words.now)
+        → (Rose (S.faults registry.old) (S.faults registry.new) → ⊥) → (Rose (S.faults schedule.old) (S.faults schedule.new) → ⊥)
+        → (Rose (W.faults out.old) (W.faults out.new) → ⊥) → (Rose (F.faults fabric.old) (F.faults fabric.new) → ⊥)
+        → ((position : ℕ) → RoseAt position (bench_of E.image_at E.moment E.faults E.armed E.picks shelf.old.pairs.items) (bench_of E.image_at E.moment E.faults E.armed E.picks shelf.new.pairs.items) → ⊥)
+        → AreTold (F.put_on fabric.new) (F.taken_on fabric.new) → IsHonest (F.put_on fabric.new) (F.taken_on fabric.new)
+        → let text = had (S.left registry.old) (appended_bytes (S.taken registry.old) (S.taken registry.new)) in
+        let given = had (S.left schedule.old) (appended_bytes (S.taken schedule.old) (S.taken schedule.new)) in
+        IsRegistryText text → OfRegistry text (λ es. AllTell (length es) (images E.image_at E.moment shelf.old.pairs.items) × AllEmpty (length es) (images E.image_at E.moment shelf.old.pairs.items) × IsLinkedSchedule es given)
+        → (result ≡ Status.Ok) ⊎ (result ≡ Status.NoMemory) }
+
     // A generated schedule reads neither source, so no status comes that blames one.
     ensures gen_unread { (n seed : ℕ) → IsGen (map string_bytes words.now) n seed → (registry.new ≡ registry.old) × (schedule.new ≡ schedule.old) }
     ensures gen_status { (n seed : ℕ) → IsGen (map string_bytes words.now) n seed → is_of_reading result ≡ false }
@@ -241,6 +295,9 @@ pub fn splinter<S: Source, W: Sink, D: StopDisk>(
     runs_agree();
     if let Some((n, seed)) = read_gen(words) {
         return run_generated(alloc, n, seed, out, &mut bench.pairs);
+    }
+    if is_links(words) {
+        return run_links(alloc, registry, schedule, out, shelf, fabric);
     }
     if !is_replay(words) {
         return Status::Usage;

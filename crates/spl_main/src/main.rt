@@ -5,7 +5,7 @@ ghost use Rattle.std.specs.Prelude.{◌≡◌, ◌≢◌};
 ghost use Rattle.std.specs.IoError.{error_kind};
 
 use spl_app::{Status, blank_bench, splinter};
-use spl_device::{FileSource, StdSink};
+use spl_device::{FileSource, StdSink, fabric, shelf};
 use std::fs::File;
 use std::io::{ErrorKind, Write};
 use std::process::ExitCode;
@@ -40,6 +40,14 @@ fn source(rt: &HostRuntime, name: Option<&String>) -> FileSource<File> {
     FileSource::new(rt.alloc(), file)
 }
 
+// The names of the registry and of the folder, where the words ask for a run over links.
+fn linked(words: &[String]) -> (Option<&String>, Option<&String>) {
+    match words {
+        [first, registry, _, folder] if first.as_str() == "links" => (Some(registry), Some(folder)),
+        _ => (None, None),
+    }
+}
+
 fn run(rt: &HostRuntime) -> Status {
     let words = match words_of(rt) {
         Ok(words) => words,
@@ -52,6 +60,15 @@ fn run(rt: &HostRuntime) -> Status {
         Ok(bench) => bench,
         Err(_) => return Status::NoMemory,
     };
+    let (network, folder) = linked(&words);
+    let mut shelf = match shelf(rt, folder) {
+        Ok(shelf) => shelf,
+        Err(_) => return Status::NoMemory,
+    };
+    let mut fabric = match fabric(rt, network) {
+        Ok(fabric) => fabric,
+        Err(_) => return Status::NoMemory,
+    };
     splinter(
         rt.alloc(),
         &words,
@@ -59,13 +76,15 @@ fn run(rt: &HostRuntime) -> Status {
         &mut schedule,
         &mut out,
         &mut bench,
+        &mut shelf,
+        &mut fabric,
     )
 }
 
 // One line on standard error.
-fn report(rt: &HostRuntime, status: Status) -> io::Result<()> {
+fn report(rt: &HostRuntime, status: &Status) -> io::Result<()> {
     let mut error = rt.stderr();
-    if status == Status::NoMemory {
+    if matches!(status, Status::NoMemory) {
         // It may lack the memory for its text, too.
         return error.write_all(b"out of memory\n");
     }
@@ -76,8 +95,8 @@ fn report(rt: &HostRuntime, status: Status) -> io::Result<()> {
 
 fn main(rt: HostRuntime) -> ExitCode {
     let status = run(&rt);
-    if status != Status::Ok {
-        let _ = report(&rt, status);
+    if !matches!(status, Status::Ok) {
+        let _ = report(&rt, &status);
     }
     ExitCode::from(status.code())
 }

@@ -1,4 +1,8 @@
-use spl_app::{Status, blank_bench, failing_bench, splinter};
+ghost use Rattle.std.specs.Prelude.{IsTrue};
+ghost use Rattle.spl_base.specs.Ids.{is_node_id};
+
+use spl_app::{Status, blank_bench, blank_fabric, blank_shelf, failing_bench, splinter};
+use spl_base::{NodeId, Piece};
 use spl_edge::{DeviceError, MemSink, MemSource, Sink};
 use spl_registry::RegistryFault;
 use std::alloc::{AllocError, Global};
@@ -8,15 +12,15 @@ use std::test::Fail;
 const REGISTRY: &str =
     "[[node]]\nidentity = \"alpha\"\ndisplay_name = \"Alpha\"\nendpoints = [\"127.0.0.1:0\"]\n";
 
-// A run: the schedule, the calls of the two sources and of the sink that fail, how it ends and what
-// it writes.
+// A run: the schedule, the calls of the two sources and of the sink that fail, the exit status and
+// what it writes.
 #[derive(Clone, Copy)]
 struct Row<'a> {
     schedule: &'a str,
     registry_reads: &'a [u64],
     reads: &'a [u64],
     writes: &'a [u64],
-    status: Status,
+    status: u8,
     written: &'a str,
 }
 
@@ -34,7 +38,7 @@ fn run(
     mut registry: MemSource,
     mut schedule: MemSource,
     writes: &[u64],
-) -> Result<(Status, Vec<u8>), Fail> {
+) -> Result<(u8, Vec<u8>), Fail> {
     let words = words(alloc, &["replay", "registry", "schedule"])?;
     let mut out = MemSink::new(alloc, writes.to_vec(alloc)?);
     let mut bench = blank_bench(alloc)?;
@@ -45,8 +49,10 @@ fn run(
         &mut schedule,
         &mut out,
         &mut bench,
+        &mut blank_shelf(alloc)?,
+        &mut blank_fabric(alloc, Vec::new(alloc)),
     );
-    Ok((status, out.bytes().to_vec(alloc)?))
+    Ok((status.code(), out.bytes().to_vec(alloc)?))
 }
 
 // A registry of alpha, of which these reads fail.
@@ -55,7 +61,7 @@ fn registry(alloc: Global, reads: &[u64]) -> Result<MemSource, AllocError> {
 }
 
 // How a run of this schedule over alpha ends, and what it writes.
-fn ran(alloc: Global, schedule: Vec<u8>, writes: &[u64]) -> Result<(Status, Vec<u8>), Fail> {
+fn ran(alloc: Global, schedule: Vec<u8>, writes: &[u64]) -> Result<(u8, Vec<u8>), Fail> {
     let schedule = MemSource::new(schedule, Vec::new(alloc));
     run(alloc, registry(alloc, &[])?, schedule, writes)
 }
@@ -92,7 +98,7 @@ fn faults_are_told(rt: HostRuntime) -> Result<(), Fail> {
                 registry_reads: &[1],
                 reads: &[],
                 writes: &[],
-                status: Status::ReadFault,
+                status: 5,
                 written: "",
             },
             // Also where the whole registry was given before.
@@ -101,7 +107,7 @@ fn faults_are_told(rt: HostRuntime) -> Result<(), Fail> {
                 registry_reads: &[2],
                 reads: &[],
                 writes: &[],
-                status: Status::ReadFault,
+                status: 5,
                 written: "",
             },
             Row {
@@ -109,7 +115,7 @@ fn faults_are_told(rt: HostRuntime) -> Result<(), Fail> {
                 registry_reads: &[],
                 reads: &[1],
                 writes: &[],
-                status: Status::ReadFault,
+                status: 5,
                 written: "",
             },
             Row {
@@ -117,7 +123,7 @@ fn faults_are_told(rt: HostRuntime) -> Result<(), Fail> {
                 registry_reads: &[],
                 reads: &[2],
                 writes: &[],
-                status: Status::ReadFault,
+                status: 5,
                 written: "1 refused 2\n",
             },
             // In mid-line too it is the read that failed, and not a line without its line feed.
@@ -126,7 +132,7 @@ fn faults_are_told(rt: HostRuntime) -> Result<(), Fail> {
                 registry_reads: &[],
                 reads: &[2],
                 writes: &[],
-                status: Status::ReadFault,
+                status: 5,
                 written: "1 refused 2\n",
             },
             Row {
@@ -134,7 +140,7 @@ fn faults_are_told(rt: HostRuntime) -> Result<(), Fail> {
                 registry_reads: &[],
                 reads: &[],
                 writes: &[1],
-                status: Status::WriteFault,
+                status: 6,
                 written: "",
             },
         ],
@@ -151,9 +157,9 @@ fn comment(alloc: Global, length: usize) -> Result<Vec<u8>, AllocError> {
 fn long_input(rt: HostRuntime) -> Result<(), Fail> {
     let alloc = rt.alloc();
     let (status, _) = ran(alloc, comment(alloc, 2048)?, &[])?;
-    assert_eq!(rt; status, Status::Ok);
+    assert_eq!(rt; status, 0);
     let (status, _) = ran(alloc, comment(alloc, 2049)?, &[])?;
-    assert_eq!(rt; status, Status::BadSchedule { line: 1 });
+    assert_eq!(rt; status, 3);
     // One line more than a schedule may have.
     let line = comment(alloc, 2047)?;
     let mut schedule = Vec::new(alloc);
@@ -161,7 +167,7 @@ fn long_input(rt: HostRuntime) -> Result<(), Fail> {
         schedule.extend_from_slice(&line)?;
     }
     let (status, written) = ran(alloc, schedule, &[])?;
-    assert_eq!(rt; status, Status::TooLong);
+    assert_eq!(rt; status, 11);
     assert_eq!(rt; written.len(), 0);
     // The limit cuts a last line that is too long already.
     let mut schedule = Vec::new(alloc);
@@ -171,12 +177,12 @@ fn long_input(rt: HostRuntime) -> Result<(), Fail> {
     schedule.extend_from_slice(&comment(alloc, 2046)?)?;
     schedule.extend_from_slice(&comment(alloc, 2049)?)?;
     let (status, _) = ran(alloc, schedule, &[])?;
-    assert_eq!(rt; status, Status::BadSchedule { line: 32_768 });
+    assert_eq!(rt; status, 3);
     // A registry has no more bytes either.
     let long = MemSource::new(comment(alloc, 67_108_864)?, Vec::new(alloc));
     let schedule = MemSource::new(b"show alpha Ab3dE-00001\n".to_vec(alloc)?, Vec::new(alloc));
     let (status, written) = run(alloc, long, schedule, &[])?;
-    assert_eq!(rt; status, Status::TooLong);
+    assert_eq!(rt; status, 11);
     assert_eq!(rt; written.len(), 0);
     Ok(())
 }
@@ -190,10 +196,10 @@ fn answers_go_out_in_pieces(rt: HostRuntime) -> Result<(), Fail> {
         schedule.extend_from_slice(b"show alpha Ab3dE-00001\n")?;
     }
     let (status, all) = ran(alloc, schedule.as_slice().to_vec(alloc)?, &[])?;
-    assert_eq!(rt; status, Status::Ok);
+    assert_eq!(rt; status, 0);
     assert_eq!(rt; all.len(), 9 * 12 + 90 * 13 + 401 * 14);
     let (status, first) = ran(alloc, schedule, &[2])?;
-    assert_eq!(rt; status, Status::WriteFault);
+    assert_eq!(rt; status, 6);
     assert_eq!(rt; first.len(), 9 * 12 + 90 * 13 + 201 * 14);
     assert_eq!(rt; all.starts_with(&first), true);
     Ok(())
@@ -215,6 +221,13 @@ impl Sink for FullSink {
     }
 }
 
+// The id of this name.
+fn node(name: &[u8]) -> NodeId
+    requires { IsTrue (is_node_id name.now) }
+{
+    NodeId::read(name).unwrap()
+}
+
 #[test]
 fn statuses(rt: HostRuntime) -> Result<(), Fail> {
     let alloc = rt.alloc();
@@ -233,8 +246,10 @@ fn statuses(rt: HostRuntime) -> Result<(), Fail> {
             &mut source,
             &mut out,
             &mut blank_bench(alloc)?,
+            &mut blank_shelf(alloc)?,
+            &mut blank_fabric(alloc, Vec::new(alloc)),
         );
-        assert_eq!(rt; status, Status::Usage);
+        assert_eq!(rt; status.code(), 1);
     }
     let mut nodes = registry(alloc, &[])?;
     let mut source = MemSource::new(b"show alpha Ab3dE-00001\n".to_vec(alloc)?, Vec::new(alloc));
@@ -247,8 +262,10 @@ fn statuses(rt: HostRuntime) -> Result<(), Fail> {
         &mut source,
         &mut FullSink,
         &mut bench,
+        &mut blank_shelf(alloc)?,
+        &mut blank_fabric(alloc, Vec::new(alloc)),
     );
-    assert_eq!(rt; status, Status::NoMemory);
+    assert_eq!(rt; status.code(), 12);
     let lines = [
         (Status::Ok, 0, ""),
         (
@@ -281,8 +298,34 @@ fn statuses(rt: HostRuntime) -> Result<(), Fail> {
         (Status::TooMany { which: 2 }, 4, "too many stops"),
         (Status::ReadFault, 5, "read failed"),
         (Status::WriteFault, 6, "write failed"),
+        (Status::LinkFault, 8, "link failed"),
+        (
+            Status::Lied {
+                from: node(b"alpha"),
+                to: node(b"beta"),
+                sent: Piece::from(alloc, b"a")?,
+                got: Piece::from(alloc, b"b")?,
+            },
+            9,
+            "link from alpha to beta lied",
+        ),
+        (
+            Status::NotBlank {
+                node: node(b"beta"),
+            },
+            10,
+            "disk of beta not blank",
+        ),
         (Status::TooLong, 11, "input too long"),
         (Status::NoMemory, 12, "out of memory"),
+        (
+            Status::NotAJournal {
+                node: node(b"beta"),
+                at: 16,
+            },
+            13,
+            "disk of beta is not a journal at 16",
+        ),
     ];
     for (status, code, text) in lines {
         assert_eq!(rt; status.code(), code);
@@ -319,6 +362,8 @@ fn over_a_failing_disk(
         &mut schedule,
         &mut out,
         &mut bench,
+        &mut blank_shelf(alloc)?,
+        &mut blank_fabric(alloc, Vec::new(alloc)),
     );
     Ok((status, out.bytes().to_vec(alloc)?))
 }
@@ -354,10 +399,53 @@ fn a_disk_fails(rt: HostRuntime) -> Result<(), Fail> {
         assert_eq!(rt; written.as_slice(), answers.as_bytes(), "at {call}");
     }
     let (status, written) = over_a_failing_disk(alloc, 13, &lines)?;
-    assert_eq!(rt; status, Status::Ok);
+    assert_eq!(rt; status.code(), 0);
     assert_eq!(rt;
         written.as_slice(),
         b"1 ok queued\n2 refused 2\n3 ok queued\n4 refused 2\n".as_slice()
     );
+    Ok(())
+}
+
+// How a run over links between alpha and beta ends, and what it writes, where these calls of the fabric fail.
+fn over_links(alloc: Global, failing: Vec<u64>, lines: &[&str]) -> Result<(u8, Vec<u8>), Fail> {
+    let mut nodes = REGISTRY.as_bytes().to_vec(alloc)?;
+    nodes.extend_from_slice(BETA.as_bytes())?;
+    let mut schedule = Vec::new(alloc);
+    for line in lines {
+        schedule.extend_from_slice(line.as_bytes())?;
+        schedule.push(b'\n')?;
+    }
+    let mut registry = MemSource::new(nodes, Vec::new(alloc));
+    let mut schedule = MemSource::new(schedule, Vec::new(alloc));
+    let mut out = MemSink::new(alloc, Vec::new(alloc));
+    let words = words(alloc, &["links", "registry", "schedule", "folder"])?;
+    let status = splinter(
+        alloc,
+        &words,
+        &mut registry,
+        &mut schedule,
+        &mut out,
+        &mut blank_bench(alloc)?,
+        &mut blank_shelf(alloc)?,
+        &mut blank_fabric(alloc, failing),
+    );
+    Ok((status.code(), out.bytes().to_vec(alloc)?))
+}
+
+// The calm behind the first line brings the act to beta, and its vote back.
+#[test]
+fn links_are_settled(rt: HostRuntime) -> Result<(), Fail> {
+    let alloc = rt.alloc();
+    let (status, written) = over_links(alloc, Vec::new(alloc), &[FIRST, SHOW])?;
+    assert_eq!(rt; status, 0);
+    assert_eq!(rt; written.starts_with(b"1 ok queued\n2 ok "), true);
+    let (status, written) = over_links(alloc, vec![in alloc; 1]?, &[FIRST, SHOW])?;
+    assert_eq!(rt; status, 8);
+    assert_eq!(rt; written.as_slice(), b"1 ok queued\n".as_slice());
+    // A line that such a run doesn't take.
+    let (status, written) = over_links(alloc, Vec::new(alloc), &["calm Ab3dE-00001 8"])?;
+    assert_eq!(rt; status, 3);
+    assert_eq!(rt; written.len(), 0);
     Ok(())
 }

@@ -1,0 +1,62 @@
+-- What a run over links runs is within the bounds of lines.
+use Rattle.std.proofs.Common.{◌≡◌, ℕ, ◌+◌, Bool, true, false, ◌&&◌, List, [], ◌∷◌, ◌++◌, Option, Some, None, IsTrue, if◌then◌else◌, refl, subst}
+use Rattle.spl_base.specs.FormLaws.{and_true}
+use Rattle.spl_base.specs.Ids.{is_circuit_id, is_node_id}
+use Rattle.spl_circuit.specs.Nodes.{CircuitId}
+use Rattle.spl_lines.specs.Lines.{is_silent}
+use Rattle.spl_lines.specs.Written.{said}
+use Rattle.spl_links.specs.Tasks.{Task, calm_in, calm_passes, ran_by, tasks, tasks_of}
+use Rattle.spl_model.specs.Projection.{lines_fit}
+use Rattle.spl_sched.specs.Grammar.{circuit_of, is_line, is_step, line_of, spelling, step_circuit}
+use Rattle.spl_sched.specs.declared.line.Line.{Line}
+use Rattle.spl_sched.specs.declared.line.Line.TheVariants as line
+use Rattle.spl_sched.specs.declared.line.Step.{Step}
+use Rattle.spl_sched.specs.declared.line.Step.TheVariants as step
+
+-- ---- the circuit of a line that fits
+
+first_part : (a b : Bool) → IsTrue (a && b) → IsTrue a
+first_part true b h = refl
+first_part false b h = h
+
+last_part : (a b : Bool) → IsTrue (a && b) → IsTrue b
+last_part true b h = h
+last_part false b h = absurd cc
+
+step_id : (s : Step) → IsTrue (is_step s) → IsTrue (is_circuit_id (step_circuit s))
+step_id (step.At n c e) fits = last_part (is_node_id n) (is_circuit_id c) (first_part (is_node_id n && is_circuit_id c) _ fits)
+step_id (step.Deliver from to c k) fits = last_part (is_node_id from && is_node_id to) (is_circuit_id c) (first_part ((is_node_id from && is_node_id to) && is_circuit_id c) _ (first_part _ _ fits))
+
+line_id : (l : Line) (c : CircuitId) → circuit_of l ≡ Some c → IsTrue (is_line l) → IsTrue (is_circuit_id c)
+line_id (line.Step s) c about fits = let same : step_circuit s ≡ c = cc in subst (λ (d : CircuitId). IsTrue (is_circuit_id d)) same (step_id s fits)
+line_id (line.Calm id passes) c about fits = let same : id ≡ c = cc in subst (λ (d : CircuitId). IsTrue (is_circuit_id d)) same (first_part (is_circuit_id id) _ fits)
+line_id (line.Stop n) c about fits = absurd cc
+line_id (line.Start n) c about fits = absurd cc
+line_id (line.Roll n) c about fits = absurd cc
+line_id (line.Cut calls fill s) c about fits = let same : step_circuit s ≡ c = cc in subst (λ (d : CircuitId). IsTrue (is_circuit_id d)) same (step_id s (last_part _ (is_step s) fits))
+line_id (line.Fail call s) c about fits = let same : step_circuit s ≡ c = cc in subst (λ (d : CircuitId). IsTrue (is_circuit_id d)) same (step_id s (last_part _ (is_step s) fits))
+
+calm_fits : (c : CircuitId) → IsTrue (is_circuit_id c) → is_line (line.Calm c calm_passes) ≡ true
+calm_fits c id = and_true (is_circuit_id c) true id refl
+
+-- ---- tasks
+
+spelled : (b : Bool) (o : Option Line) (l : Line) → (if b then None else o) ≡ Some l → o ≡ Some l
+spelled true o l e = absurd cc
+spelled false o l e = e
+
+module _ (law : (bytes : List ℕ) (l : Line) → line_of bytes ≡ Some l → (bytes ≡ spelling l) × IsTrue (is_line l)) where
+  said_fits : (bytes : List ℕ) (l : Line) → said bytes ≡ Some l → is_line l ≡ true
+  said_fits bytes l e = (law bytes l (spelled (is_silent bytes) (line_of bytes) l e)).1
+
+  fits_behind : (l : Line) (c : Option CircuitId) (rest : List Task) → is_line l ≡ true → circuit_of l ≡ c → lines_fit (ran_by rest) ≡ true → lines_fit (ran_by (calm_in c ++ rest)) ≡ true
+  fits_behind l None rest fits about h = h
+  fits_behind l (Some c) rest fits about h = and_true (is_line (line.Calm c calm_passes)) _ (calm_fits c (line_id l c about fits)) h
+
+  fits_of : (n : ℕ) (bytes : List ℕ) (o : Option Line) (rest : List Task) → said bytes ≡ o → lines_fit (ran_by rest) ≡ true → lines_fit (ran_by (tasks_of n o ++ rest)) ≡ true
+  fits_of n bytes None rest e h = h
+  fits_of n bytes (Some l) rest e h = let fits = said_fits bytes l e in and_true (is_line l) _ fits (fits_behind l (circuit_of l) rest fits refl h)
+
+  pub tasks_fit : (n : ℕ) (lines : List (List ℕ)) → lines_fit (ran_by (tasks n lines)) ≡ true
+  tasks_fit n [] = refl
+  tasks_fit n (bytes ∷ lines) = fits_of n bytes (said bytes) (tasks (n + 1) lines) refl (tasks_fit (n + 1) lines)

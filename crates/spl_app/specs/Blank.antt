@@ -1,0 +1,28 @@
+-- Disks that hold no bytes (docs/RULES.md, Links).
+use Rattle.std.specs.Prelude.{◌≡◌, ◌≢◌, ◌⊎◌, ◌<◌, ℕ, List, [], IfSome}
+use Rattle.spl_edge.specs.Image.{IsSettled}
+use Rattle.spl_snapshot.specs.Counting.{IfBoth}
+use Rattle.spl_world.specs.Disks.{Images, images_at}
+
+-- neither of two disks holds bytes, where it tells
+pub record AreEmpty (is : Images) : Type 0 where
+  pub first : IfSome is.0 (λ i. i.bytes ≡ [])
+  pub second : IfSome is.1 (λ i. i.bytes ≡ [])
+
+-- one of the two does, where both tell
+abbrev pub HaveBytes : Images → Type 0
+HaveBytes is = IfBoth is.0 is.1 (λ i j. (i.bytes ≢ []) ⊎ (j.bytes ≢ []))
+
+-- none of the first n pairs holds bytes
+abbrev pub AllEmpty : ℕ → List Images → Type 0
+AllEmpty n is = (k : ℕ) → k < n → AreEmpty (images_at is k)
+
+-- the pair at this position is the first that does
+pub record IsFirstWithBytes (slot : ℕ) (is : List Images) : Type 0 where
+  pub here : HaveBytes (images_at is slot)
+  pub before : AllEmpty slot is
+
+-- nothing is pending on two disks, where they tell
+pub record AreSettled (is : Images) : Type 0 where
+  pub first : IfSome is.0 IsSettled
+  pub second : IfSome is.1 IsSettled

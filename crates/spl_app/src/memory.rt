@@ -1,0 +1,30 @@
+//! A shelf and a fabric in memory for a run.
+ghost use Rattle.std.specs.Prelude.{◌≡◌, ◌<◌, ℕ, Some, length, IfOk};
+ghost use Rattle.spl_memory.specs.MemDisks.{armed_of, faults_of, image_of, moment_of, picked_by};
+ghost use Rattle.spl_memory.specs.Fabrics.{put_of, taken_of};
+ghost use Rattle.spl_pump.specs.Wires.{AllTaken};
+ghost use Rattle.spl_world.specs.Disks.{bench, images, images_at};
+ghost use Rattle.spl_world.specs.Held.{AllUnpicked};
+ghost use Rattle.spl_app.specs.Blank.{AreSettled};
+
+use crate::bench::blank_bench;
+use spl_edge::Shelf;
+use spl_memory::{MemDisk, MemFabric};
+use std::alloc::{AllocError, Global};
+
+/// Sixteen pairs of blank disks in memory.
+pub fn blank_shelf(alloc: Global) -> Result<Shelf<MemDisk>, AllocError>
+    ensures pairs { IfOk result (λ b. length b.pairs.items ≡ 16) }
+    ensures settled { IfOk result (λ b. (i : ℕ) → i < 16 → AreSettled (images_at (images image_of moment_of b.pairs.items) i)) }
+    ensures unpicked { IfOk result (λ b. AllUnpicked (bench image_of moment_of faults_of armed_of picked_by b.pairs.items)) }
+{
+    let bench = blank_bench(alloc)?;
+    Ok(Shelf { pairs: bench.pairs })
+}
+
+/// A fabric in memory on which nothing was put, and that fails at the calls of these numbers, counted from 1.
+pub fn blank_fabric(alloc: Global, failing: Vec<u64>) -> MemFabric
+    ensures { AllTaken (λ a b. Some (put_of result a b)) (λ a b. Some (taken_of result a b)) }
+{
+    MemFabric::new(alloc, failing)
+}
