@@ -2,7 +2,7 @@
 and mostly start soon, so that runs go on; a few broken lines, broken registries, and runs that pass a limit."""
 import random
 
-from schedules import BadLine, TooMany, World
+from schedules import UNTAKEN, BadLine, TooMany, World
 
 NAMES = ["alpha", "beta", "gamma", "a", "a-1", "b", "omega", "0", "alphabet"]
 CIRCUITS = ["Ab3dE-00001", "Ab3dE-00002", "Zz9zZ-00000"]
@@ -206,6 +206,17 @@ def drawn(seed):
     draw = Draw(seed)
     lines = draw.lines()
     return draw.registry().encode(), "".join(line + "\n" for line in lines).encode()
+
+
+def drawn_for_links(seed):
+    """The same for a run over links, whose nodes listen on any free port: without the lines that such a run doesn't take,
+    but in each twentieth seed."""
+    draw = Draw(seed)
+    lines = draw.lines()
+    if seed % 20 != 19:
+        lines = [line for line in lines if line.split(" ")[0] not in UNTAKEN]
+    nodes = draw.random.sample(draw.world.nodes, len(draw.world.nodes))
+    return "".join(map(table, nodes)).encode(), "".join(line + "\n" for line in lines).encode()
 
 
 def drawn_numbers(seed):

@@ -2,6 +2,7 @@
 import re
 
 import generated
+from links import links
 from schedules import MOST_BYTES, replay, run
 
 USAGE = "usage: splinter replay REGISTRY SCHEDULE or links REGISTRY SCHEDULE DIR or gen N SEED\n"
@@ -33,6 +34,8 @@ def ended(words):
     match words:
         case ["replay", registry, schedule]:
             return replay(content(registry), content(schedule))
+        case ["links", registry, schedule, folder]:
+            return links(content(registry), content(schedule), folder)
         case ["gen", batches, seed] if is_number(batches, 1, 400) and is_number(seed, 0, 2**64 - 1):
             return generate(int(batches), int(seed))
     return "", 1, USAGE

@@ -12,6 +12,8 @@ LONGEST_LINE = 2048
 MOST_BYTES = 67108864
 MOST_EVENTS = 32768
 MOST_STOPS = 64
+# The lines that a run over links doesn't take.
+UNTAKEN = ("deliver", "tick", "expire", "calm", "cut", "fail")
 # An event writes its record by calls 1 to 4; the third opens the gate, which the fourth makes last.
 CALLS_OF_A_RECORD = 4
 NODE = "[a-z0-9-]{1,32}"
