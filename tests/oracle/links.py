@@ -3,8 +3,7 @@ import os
 
 from disks import Disk, make
 from records import changes_of, copied, packed, record_of
-from registries import BadRegistry, nodes_of
-from schedules import LONGEST_LINE, MOST_BYTES, UNTAKEN, BadLine, TooMany, World
+from schedules import LONGEST_LINE, MOST_BYTES, UNTAKEN, BadLine, TooMany, World, over_nodes
 
 PASSES = 8
 NAMES_NO_CIRCUIT = ("stop", "start", "roll")
@@ -94,14 +93,10 @@ def run(nodes, schedule):
 
 def links(registry, schedule, folder):
     """What a run over links writes, its status, and what it says of that; the files are written."""
-    if registry is None:
-        return "", 5, "read failed\n"
-    if len(registry) > MOST_BYTES:
-        return "", 11, "input too long\n"
-    try:
-        nodes = nodes_of(registry)
-    except BadRegistry as why:
-        return "", 2, f"bad registry: {why}\n"
+    return over_nodes(registry, lambda nodes: over_files(nodes, schedule, folder))
+
+
+def over_files(nodes, schedule, folder):
     for i, node in enumerate(nodes):
         if any(size_of(os.path.join(folder, f"d{i:02}{letter}")) for letter in "ab"):
             return "", 10, f"disk of {node} not blank\n"

@@ -381,8 +381,9 @@ def run(nodes, schedule):
     return "".join(written), 0, ""
 
 
-def replay(registry, schedule):
-    """What a run over a registry writes, its status, and what it says of that. A file that can't be read is None."""
+def over_nodes(registry, runs):
+    """What a run writes, its status, and what it says of that, by the nodes of a registry. A file that can't be read is
+    None."""
     if registry is None:
         return "", 5, "read failed\n"
     if len(registry) > MOST_BYTES:
@@ -391,4 +392,9 @@ def replay(registry, schedule):
         nodes = nodes_of(registry)
     except BadRegistry as why:
         return "", 2, f"bad registry: {why}\n"
-    return ("", 5, "read failed\n") if schedule is None else run(nodes, schedule)
+    return runs(nodes)
+
+
+def replay(registry, schedule):
+    """What a run over a registry writes, its status, and what it says of that."""
+    return over_nodes(registry, lambda nodes: ("", 5, "read failed\n") if schedule is None else run(nodes, schedule))
