@@ -1,5 +1,6 @@
 //! What carries messages between nodes.
-ghost use Rattle.std.specs.Prelude.{◌≡◌, ◌≢◌, ◌<◌, ℕ, Bool, true, false, List, [], IfOk, IfErr, OnOk, OnErr};
+ghost use Rattle.std.specs.Prelude.{◌≡◌, ◌≢◌, ◌<◌, ◌++◌, ℕ, Bool, true, false, List, [], IfOk, IfErr, OnOk, OnErr};
+ghost use Rattle.spl_agree.specs.World.{IsPrefixOf};
 ghost use Rattle.spl_wire.specs.Bounds.{IsSendable};
 ghost use Rattle.spl_pump.specs.Moves.{HasCause};
 ghost use Rattle.spl_pump.specs.Wires.{AllTaken, Carried, GoesOn, only};
@@ -52,4 +53,7 @@ pub trait Carry {
 
     /// Where no message is carried, nothing is put.
     ghost idle: { (carrier : Self) (a b : ℕ) → wire carrier [] a b ≡ [] };
+
+    /// What some messages put begins what they and later ones put.
+    ghost front: { (carrier : Self) (sent later : List Carried) (a b : ℕ) → IsPrefixOf (wire carrier sent a b) (wire carrier (sent ++ later) a b) };
 }

@@ -260,6 +260,7 @@ impl Carry for Pump {
     ghost use Rattle.std.specs.Prelude.{length};
     ghost use Rattle.spl_pump.specs.Wires.{wire_from};
     ghost use Rattle.spl_pump.specs.Idle.{idle_wire};
+    ghost use Rattle.spl_pump.specs.Fronts.{wire_front};
 
     ghost slots = { λ p. length p.entries };
 
@@ -268,6 +269,8 @@ impl Carry for Pump {
     ghost wire = { λ p. wire_from p.entries p.met };
 
     ghost idle = { λ p. idle_wire p.entries p.met };
+
+    ghost front = { λ p. wire_front p.entries p.met };
 
     fn carry<F: Fabric>(
         &mut self,
