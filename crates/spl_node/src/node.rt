@@ -1,5 +1,5 @@
 //! A node over its two disks.
-ghost use Rattle.std.specs.Prelude.{◌≡◌, ◌≢◌, ◌⊎◌, ◌<◌, ◌+◌, ◌-◌, ◌*◌, ◌^◌, [], ℕ, true, false, not, ⊤, length, IsTrue, OnOk, OnErr, IfOk, IfSome, IsOk, IsErrOf};
+ghost use Rattle.std.specs.Prelude.{◌≡◌, ◌≢◌, ◌⊎◌, ◌<◌, ◌≤◌, ◌+◌, ◌-◌, ◌*◌, ◌^◌, [], ℕ, true, false, not, ⊤, length, IsTrue, OnOk, OnErr, IfOk, IfSome, IsOk, IsErrOf};
 ghost use Rattle.std.specs.List.{list_any};
 ghost use Rattle.std.specs.List.Sorted.{IsStrictlySortedBy};
 ghost use Rattle.std.specs.Ordering.{nat_cmp};
@@ -162,6 +162,10 @@ impl Node {
         ensures turned { OnOk result ((plan_of (site_at (here_of self.old) circuit.now) (cell_of self.old circuit.now) event.now).changes ≢ [] → 2 * base_of (journal_in self.old.pairing) + 65536 < len_of (journal_in self.old.pairing) + 5 + length (record_bytes (record_of circuit.now (plan_of (site_at (here_of self.old) circuit.now) (cell_of self.old circuit.now) event.now).changes)) → epoch_of (journal_in self.old.pairing) < 2 ^ 64 - 1
             → is_second self.new.pairing ≡ not (is_second self.old.pairing)) }
         ensures passed { OnOk result ((is_second self.new.pairing ≡ is_second self.old.pairing) ⊎ ((n : ℕ) → n < 8 → IsTrue (fails_at (D.armed (chosen (is_second self.old.pairing) disks.old.second disks.old.first)) (D.moment (chosen (is_second self.old.pairing) disks.old.second disks.old.first) + n)) → ⊥)) }
+
+        // Where it leaves room no checkpoint is made: the other disk is as it was, and doesn't count.
+        ensures no_checkpoint { (plan_of (site_at (here_of self.old) circuit.now) (cell_of self.old circuit.now) event.now).changes ≢ [] → len_of (journal_in self.old.pairing) + 5 + length (record_bytes (record_of circuit.now (plan_of (site_at (here_of self.old) circuit.now) (cell_of self.old circuit.now) event.now).changes)) ≤ 2 * base_of (journal_in self.old.pairing) + 65536
+            → (chosen (is_second self.old.pairing) disks.new.second disks.new.first ≡ chosen (is_second self.old.pairing) disks.old.second disks.old.first) × (is_second self.new.pairing ≡ is_second self.old.pairing) }
 
         // Where it leaves no room, the disk that counts is armed for none of its four calls, and the other for one of its eight, the other has failed, unless memory was wanting.
         ensures risen { (plan_of (site_at (here_of self.old) circuit.now) (cell_of self.old circuit.now) event.now).changes ≢ [] → IsFilledBy (length (record_bytes (record_of circuit.now (plan_of (site_at (here_of self.old) circuit.now) (cell_of self.old circuit.now) event.now).changes))) (journal_in self.old.pairing) → IsArmed (D.armed (chosen (is_second self.old.pairing) disks.old.first disks.old.second)) → (NamesOne (D.armed (chosen (is_second self.old.pairing) disks.old.first disks.old.second)) (D.moment (chosen (is_second self.old.pairing) disks.old.first disks.old.second)) 4 → ⊥) → NamesOne (D.armed (chosen (is_second self.old.pairing) disks.old.second disks.old.first)) (D.moment (chosen (is_second self.old.pairing) disks.old.second disks.old.first)) 8

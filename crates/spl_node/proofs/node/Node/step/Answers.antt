@@ -78,6 +78,15 @@ returns-clause-by_calls g c = λ some. rw (← (bytes_are_of (here_of c.args.sel
 pub returns-clause-turned : goal.returns-clause-turned
 returns-clause-turned g c = λ some. rw (← (bytes_are_of (here_of c.args.self.now) c.args.circuit.now (cell_of c.args.self.now) c.args.event.now c.in-Ok.done c.in-Ok.ensures.given c.bytes-2.result.now (c.in-Some.is ∙ ap (λ (x : List ℕ). Some x) (sym c.bytes-2.ensures)))) c.in_default-keep.ensures.turned
 
+pub returns-in_default-clause-no_checkpoint : goal.returns-in_default-clause-no_checkpoint
+returns-in_default-clause-no_checkpoint g c = λ some. absurd (some (none_changed (here_of c.args.self.now) c.args.circuit.now (cell_of c.args.self.now) c.args.event.now c.in-Ok.done c.in-Ok.ensures.given c.in_default.is))
+
+pub returns-in-Err-keep-clause-no_checkpoint : goal.returns-in-Err-keep-clause-no_checkpoint
+returns-in-Err-keep-clause-no_checkpoint g c = λ some. rw (← (bytes_are_of (here_of c.args.self.now) c.args.circuit.now (cell_of c.args.self.now) c.args.event.now c.in-Ok.done c.in-Ok.ensures.given c.bytes-2.result.now (c.in-Some.is ∙ ap (λ (x : List ℕ). Some x) (sym c.bytes-2.ensures)))) c.in-Err-keep.ensures.no_checkpoint
+
+pub returns-clause-no_checkpoint : goal.returns-clause-no_checkpoint
+returns-clause-no_checkpoint g c = λ some. rw (← (bytes_are_of (here_of c.args.self.now) c.args.circuit.now (cell_of c.args.self.now) c.args.event.now c.in-Ok.done c.in-Ok.ensures.given c.bytes-2.result.now (c.in-Some.is ∙ ap (λ (x : List ℕ). Some x) (sym c.bytes-2.ensures)))) c.in_default-keep.ensures.no_checkpoint
+
 pub returns-in_default-clause-risen : goal.returns-in_default-clause-risen
 returns-in_default-clause-risen g c = λ some. absurd (some (none_changed (here_of c.args.self.now) c.args.circuit.now (cell_of c.args.self.now) c.args.event.now c.in-Ok.done c.in-Ok.ensures.given c.in_default.is))
 
