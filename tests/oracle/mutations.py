@@ -1,6 +1,10 @@
-"""Registries and schedules that are broken, drawn from a seed: those of examples and cases, with a few of their bytes,
-words and lines changed, cut off, repeated or exchanged."""
+"""Registries, schedules and files of journals that are broken, drawn from a seed: those of examples and cases, and of
+drawn runs over links, with a few of their bytes, words and lines changed, cut off, repeated or exchanged."""
 import random
+
+from draws import drawn_for_links
+from links import run
+from registries import BadRegistry, nodes_of
 
 LONGEST = 20000
 BYTES = [b"\0", b"\t", b"\n", b"\r", b" ", b"  ", b"\x7f", b"\x80", b"\xff", b"\xc3\xa9", b"\xe2\x82"]
@@ -104,3 +108,26 @@ def broken(seed, pairs):
     if which > 0.2:
         schedule = breaker.broken(schedule)
     return registry, schedule
+
+
+def journals(registry, schedule):
+    """What the files hold that a run over links leaves; none where the registry is broken already."""
+    try:
+        *_, world = run(nodes_of(registry), schedule)
+    except BadRegistry:
+        return {}
+    return world.disks()
+
+
+def broken_for_links(seed, pairs):
+    """The bytes of a registry, which isn't broken, of a schedule for a run over links, and of the files of its folder by
+    their names: each third time what a run left, with bytes changed, else none."""
+    breaker = Breaker(seed, pairs)
+    registry, schedule = drawn_for_links(seed)
+    left = {}
+    if breaker.random.random() < 1 / 3:
+        for name, content in journals(registry, schedule).items():
+            changed = breaker.random.choice([breaker.broken(content), breaker.broken(content), content, b"", None])
+            if changed is not None:
+                left[name] = changed
+    return registry, breaker.broken(schedule), left
