@@ -2,6 +2,7 @@
 use Rattle.std.proofs.Common.{◌≡◌, ◌<◌, ◌⊎◌, inl, inr, ℕ, Bool, true, false, ◌&&◌, eqb, cond, List, [], ◌++◌, Option, Some, None, append_assoc, append-nil, refl, sym, ap, ◌∙◌}
 use Rattle.std.specs.Io.KnownBytes.{append_known}
 use Rattle.std.proofs.lemmas.Bool.{eqb-true, eqb-false, eq-eqb}
+use Rattle.spl_agree.specs.World.{IsPrefixOf}
 use Rattle.spl_edge.specs.Fabrics.{AreTaken, IsOtherPair}
 use Rattle.spl_registry.specs.Nodes.{Entry}
 use Rattle.spl_pump.specs.Moves.{Streams, Grows, GrowsPart, IsLie}
@@ -64,6 +65,10 @@ puts_then_part f h a b c first second = λ x y p q. let (done, more, is, grows) 
 
 pub part_no_more : (f h : ℕ → ℕ → List ℕ) (a b : Streams) → PutsPart f a b → PutsPart (λ x y. f x y ++ h x y) a b
 part_no_more f h a b first = λ x y p q. let (done, more, is, grows) = first x y p q in (done, more ++ h x y, ap (λ (l : List ℕ). l ++ h x y) is ∙ append_assoc done more (h x y), grows)
+
+-- a front of what begins other bytes is one of those
+pub part_of_more : (f h : ℕ → ℕ → List ℕ) (a b : Streams) → ((x y : ℕ) → IsPrefixOf (f x y) (h x y)) → PutsPart f a b → PutsPart h a b
+part_of_more f h a b front part = λ x y p q. let (done, more, is, grows) = part x y p q in let (rest, all) = front x y in (done, more ++ rest, sym all ∙ ap (λ (l : List ℕ). l ++ rest) is ∙ append_assoc done more rest, grows)
 
 pub puts_part : (f : ℕ → ℕ → List ℕ) (a b : Streams) → Puts f a b → PutsPart f a b
 puts_part f a b all = λ x y p q. (f x y, [], sym (append-nil (f x y)), all x y p q)
