@@ -8,14 +8,15 @@ use Rattle.spl_agree.proofs.Tests.{bool_cases}
 use Rattle.spl_circuit.specs.Nodes.{NodeId, CircuitId}
 use Rattle.spl_wire.specs.declared.change.Change.{Change}
 use Rattle.spl_wire.specs.declared.event.Event.{Event}
+use Rattle.spl_wire.specs.declared.plan.Plan.{Plan}
 use Rattle.spl_cell.specs.States.{IsStill}
 use Rattle.spl_cell.specs.Views.{CellView}
 use Rattle.spl_rules.specs.Cells.{Cell, Empty, Site, is_empty_cell, Held, Purged}
 use Rattle.spl_rules.specs.Changes.{applied, after_plan}
 use Rattle.spl_rules.specs.Plans.{plan_of}
 use Rattle.spl_node.specs.declared.done.Done.{Done}
-use Rattle.spl_node.specs.Done.{IsGiven}
-use Rattle.spl_node.specs.Kept.{Entries, IsOwn, AreOwn, IsSound, cell_at, state_or_empty}
+use Rattle.spl_node.specs.Done.{IsGiven, no_circuit}
+use Rattle.spl_node.specs.Kept.{Entries, IsOwn, AreOwn, IsSound, cell_at, cells_after, state_or_empty}
 use Rattle.spl_node.specs.Records.{site_at}
 use Rattle.spl_node.proofs.Carrying.{changed_at}
 use Rattle.spl_node.proofs.Maps.{order, set_own, insert_own, found_own, lookup_set_same, lookup_set_other, lookup_insert_same, lookup_insert_other}
@@ -45,20 +46,20 @@ written_own here c old new v w own found is same sound =
     subst (AreOwn here) (sym is) (set_own here c old w own (record { site_is = same ∙ mine.site_is; sound = sound }))
 
 -- or joins
-pub joined_cells : (c : CircuitId) (old new : Entries) (w : CellView) (f : Cell → Cell) → lookup (is_at (order c)) old ≡ None → new ≡ insert_entry order old c w → w.state ≡ f Empty
+pub joined_cells : (c : CircuitId) (old new : Entries) (w : CellView) (f : Cell → Cell) → cell_at old c ≡ Empty → new ≡ insert_entry order old c w → w.state ≡ f Empty
     → (d : CircuitId) → cell_at new d ≡ (if bytes_eq c d then f (cell_at old c) else cell_at old d)
-joined_cells c old new w f none is state = changed_at f c old new
-    (ap (λ (es : Entries). cell_at es c) is ∙ (ap state_or_empty (lookup_insert_same c old w) ∙ (state ∙ ap f (sym (missing_state c old none)))))
+joined_cells c old new w f empty is state = changed_at f c old new
+    (ap (λ (es : Entries). cell_at es c) is ∙ (ap state_or_empty (lookup_insert_same c old w) ∙ (state ∙ ap f (sym empty))))
     (λ d apart. ap (λ (es : Entries). lookup (is_at (order d)) es) is ∙ lookup_insert_other c d old w apart)
 
 pub joined_own : (here : NodeId) (c : CircuitId) (old new : Entries) (w : CellView) → AreOwn here old → new ≡ insert_entry order old c w → IsOwn here c w → AreOwn here new
 joined_own here c old new w own is mine = subst (AreOwn here) (sym is) (insert_own here c old w own mine)
 
 -- or stays empty
-pub empty_cells : (c : CircuitId) (old new : Entries) (w : CellView) (f : Cell → Cell) → lookup (is_at (order c)) old ≡ None → new ≡ old → w.state ≡ Empty → w.state ≡ f Empty
+pub empty_cells : (c : CircuitId) (old new : Entries) (f : Cell → Cell) → cell_at old c ≡ Empty → new ≡ old → f Empty ≡ Empty
     → (d : CircuitId) → cell_at new d ≡ (if bytes_eq c d then f (cell_at old c) else cell_at old d)
-empty_cells c old new w f none is empty state = changed_at f c old new
-    (ap (λ (es : Entries). cell_at es c) is ∙ (missing_state c old none ∙ (sym empty ∙ (state ∙ ap f (sym (missing_state c old none))))))
+empty_cells c old new f empty is stays = changed_at f c old new
+    (ap (λ (es : Entries). cell_at es c) is ∙ (empty ∙ (sym stays ∙ ap f (sym empty))))
     (λ d apart. ap (λ (es : Entries). lookup (is_at (order d)) es) is)
 
 -- a sound cell where another stood
@@ -110,5 +111,13 @@ own_given here c v k e d own given = subst (λ (s : Site). IsGiven s k (plan_of 
 pub given_found : (here : NodeId) (c : CircuitId) (es : Entries) (v : CellView) (e : Event) (d : Done) → IsOwn here c v → lookup (is_at (order c)) es ≡ Some v → IsGiven v.site v.state (plan_of v.site v.state e) d → IsGiven (site_at here c) (cell_at es c) (plan_of (site_at here c) (cell_at es c) e) d
 given_found here c es v e d own found given = subst (λ (k : Cell). IsGiven (site_at here c) k (plan_of (site_at here c) k e) d) (sym (found_state c es v found)) (own_given here c v v.state e d own given)
 
-pub given_fresh : (here : NodeId) (c : CircuitId) (es : Entries) (v : CellView) (e : Event) (d : Done) → IsOwn here c v → v.state ≡ Empty → lookup (is_at (order c)) es ≡ None → IsGiven v.site v.state (plan_of v.site v.state e) d → IsGiven (site_at here c) (cell_at es c) (plan_of (site_at here c) (cell_at es c) e) d
-given_fresh here c es v e d own empty none given = subst (λ (k : Cell). IsGiven (site_at here c) k (plan_of (site_at here c) k e) d) (empty ∙ sym (missing_state c es none)) (own_given here c v v.state e d own given)
+pub given_fresh : (here : NodeId) (c : CircuitId) (es : Entries) (v : CellView) (e : Event) (d : Done) → IsOwn here c v → v.state ≡ Empty → cell_at es c ≡ Empty → IsGiven v.site v.state (plan_of v.site v.state e) d → IsGiven (site_at here c) (cell_at es c) (plan_of (site_at here c) (cell_at es c) e) d
+given_fresh here c es v e d own fresh empty given = subst (λ (k : Cell). IsGiven (site_at here c) k (plan_of (site_at here c) k e) d) (fresh ∙ sym empty) (own_given here c v v.state e d own given)
+
+-- ---- an event that needs a circuit, where none is kept
+
+pub refused_cells : (here : NodeId) (c : CircuitId) (old new : Entries) (e : Event) → cell_at old c ≡ Empty → new ≡ old → plan_of (site_at here c) Empty e ≡ no_circuit → (d : CircuitId) → cell_at new d ≡ cells_after here (cell_at old) c e d
+refused_cells here c old new e empty is refused = empty_cells c old new (λ (k : Cell). after_plan here k (plan_of (site_at here c) k e)) empty is (ap (λ (p : Plan). after_plan here Empty p) refused)
+
+pub given_refused : (here : NodeId) (c : CircuitId) (es : Entries) (e : Event) (d : Done) → cell_at es c ≡ Empty → plan_of (site_at here c) Empty e ≡ no_circuit → IsGiven (site_at here c) Empty no_circuit d → IsGiven (site_at here c) (cell_at es c) (plan_of (site_at here c) (cell_at es c) e) d
+given_refused here c es e d empty refused given = subst (λ (k : Cell). IsGiven (site_at here c) k (plan_of (site_at here c) k e) d) (sym empty) (subst (λ (p : Plan). IsGiven (site_at here c) Empty p d) (sym refused) given)

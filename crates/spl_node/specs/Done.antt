@@ -3,11 +3,14 @@ use Rattle.std.specs.Prelude.{◌≡◌, true, List, [], ◌∷◌, Option, Some
 use Rattle.spl_circuit.specs.Nodes.{CircuitId}
 use Rattle.spl_journal.specs.Records.{IsGood}
 use Rattle.spl_wire.specs.declared.change.Change.{Change}
+use Rattle.spl_wire.specs.declared.answer.Refusal.TheVariants as refusal
+use Rattle.spl_wire.specs.declared.answer.Answer.TheVariants as answer
 use Rattle.spl_wire.specs.declared.plan.Plan.{Plan}
 use Rattle.spl_wire.specs.Bounds.{AllSendable}
 use Rattle.spl_wire.specs.Grouping.{record_of}
 use Rattle.spl_rules.specs.Cells.{Cell, Site}
 use Rattle.spl_rules.specs.Changes.{applied, made}
+use Rattle.spl_rules.specs.Plans.{tells_only}
 use Rattle.spl_rules.specs.Valid.{are_legal}
 use Rattle.spl_node.specs.Records.{is_record, record_in, record_bytes}
 use Rattle.spl_node.specs.declared.done.Done.{Done}
@@ -16,6 +19,10 @@ use Rattle.spl_node.specs.declared.done.Done.{Done}
 abbrev pub record_of_changes : CircuitId → List Change → Option (List ℕ)
 record_of_changes c [] = None
 record_of_changes c (x ∷ xs) = Some (record_bytes (record_of c (x ∷ xs)))
+
+-- an event is refused for want of a circuit
+abbrev pub no_circuit : Plan
+no_circuit = tells_only (answer.Refused refusal.NoCircuit)
 
 -- a plan at a cell of this state was carried out
 pub record IsGiven (site : Site) (k : Cell) (p : Plan) (d : Done) : Type 0 where

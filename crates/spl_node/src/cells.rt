@@ -1,5 +1,5 @@
 //! The cells of a node.
-ghost use Rattle.std.specs.Prelude.{◌≡◌, IsTrue, [], Some, IfOk, OnOk, OnErr};
+ghost use Rattle.std.specs.Prelude.{◌≡◌, true, IsTrue, [], Some, IfOk, OnOk, OnErr};
 ghost use Rattle.std.specs.Ordering.{nat_cmp};
 ghost use Rattle.std.specs.Cmp.Lexicographic.{slice_cmp};
 ghost use Rattle.std.specs.BTreeMap.{insert_entry};
@@ -7,15 +7,15 @@ ghost use Rattle.std.specs.List.Sorted.{IsStrictlySortedBy};
 ghost use Rattle.std.specs.Map.{keys_of};
 ghost use Rattle.spl_circuit.specs.Nodes.{NodeId, CircuitId};
 ghost use Rattle.spl_wire.specs.Forms.{record_form};
-ghost use Rattle.spl_rules.specs.Cells.{Empty, is_open_cell};
+ghost use Rattle.spl_rules.specs.Cells.{Empty, Site, is_open_cell};
 ghost use Rattle.spl_rules.specs.Plans.{plan_of};
 ghost use Rattle.spl_rules.specs.Valid.{IsFor};
 ghost use Rattle.spl_cell.specs.States.{IsStill};
-ghost use Rattle.spl_node.specs.Done.{IsGiven};
+ghost use Rattle.spl_node.specs.Done.{IsGiven, no_circuit};
 ghost use Rattle.spl_node.specs.Kept.{cell_at, cells_after, cells_with, AreOwn, IsOwn};
 ghost use Rattle.spl_node.specs.Records.{site_at};
 
-use crate::done::{Done, handled, replayed};
+use crate::done::{Done, handled, no_circuit, replayed};
 use spl_base::{CircuitId, NodeId};
 use spl_cell::Cell;
 use spl_rules::records_are_formed;
@@ -67,6 +67,16 @@ fn fresh(here: NodeId, circuit: CircuitId) -> Cell
     Cell::empty(here, circuit)
 }
 
+/// Whether an event is refused with `NoCircuit` where nothing is kept of the circuit.
+fn needs_circuit(event: &Event) -> bool
+    ensures { result ≡ true → (site : Site) → plan_of site Empty event.now ≡ no_circuit }
+{
+    !matches!(
+        event,
+        Event::Propose(_) | Event::Route { .. } | Event::Deliver { .. }
+    )
+}
+
 impl Cells {
     /// No cell is kept; nothing is allocated.
     pub fn new(alloc: Global, here: NodeId) -> Cells
@@ -113,6 +123,27 @@ impl Cells {
         if let Some(cell) = self.map.get_mut(&circuit) {
             return handled(cell, alloc, event);
         }
+        if needs_circuit(event) {
+            return Ok(no_circuit(alloc));
+        }
+        self.handle_first(alloc, circuit, event)
+    }
+
+    /// The same where nothing is kept of the circuit. It isn't inlined, so that room for a cell is
+    /// made only here.
+    #[inline(never)]
+    fn handle_first(
+        &mut self,
+        alloc: Global,
+        circuit: CircuitId,
+        event: &Event,
+    ) -> Result<Done, AllocError>
+        requires own { IsFor (site_at self.old.here circuit) event.now }
+        requires empty { cell_at self.old.entries circuit ≡ Empty }
+        ensures here { self.new.here ≡ self.old.here }
+        ensures cells { OnOk result ((c : CircuitId) → cell_at self.new.entries c ≡ cells_after self.old.here (cell_at self.old.entries) circuit event.now c) }
+        ensures given { IfOk result (λ done. IsGiven (site_at self.old.here circuit) (cell_at self.old.entries circuit) (plan_of (site_at self.old.here circuit) (cell_at self.old.entries circuit) event.now) done) }
+    {
         let mut cell = fresh(self.here, circuit);
         let done = handled(&mut cell, alloc, event)?;
         if cell.is_empty() {

@@ -5,17 +5,18 @@ ghost use Rattle.spl_journal.specs.Records.{IsGood};
 ghost use Rattle.spl_wire.specs.Bounds.{IsWritable};
 ghost use Rattle.spl_wire.specs.Changes.{change_form};
 ghost use Rattle.spl_wire.specs.Grouping.{record_of};
+ghost use Rattle.spl_rules.specs.Cells.{Empty, Site};
 ghost use Rattle.spl_rules.specs.Changes.{applied, after_plan};
 ghost use Rattle.spl_rules.specs.Plans.{plan_of};
 ghost use Rattle.spl_rules.specs.Valid.{IsFor, are_formed};
 ghost use Rattle.spl_cell.specs.States.{IsStill};
-ghost use Rattle.spl_node.specs.Done.{IsGiven, record_of_changes};
+ghost use Rattle.spl_node.specs.Done.{IsGiven, no_circuit, record_of_changes};
 ghost use Rattle.spl_node.specs.Kept.{IsSound};
 ghost use Rattle.spl_node.specs.Records.{is_record, record_in};
 
 use spl_base::{CircuitId, Piece};
 use spl_cell::Cell;
-use spl_wire::{Answer, ChangeList, Event, Plan, Record, SendList};
+use spl_wire::{Answer, ChangeList, Event, Plan, Record, Refusal, SendList};
 use std::alloc::{AllocError, Global};
 
 /// What an event gave at a cell: an answer, the bytes of the record of its changes, where there are
@@ -25,6 +26,17 @@ pub struct Done {
     pub answer: Answer,
     pub bytes: Option<Piece>,
     pub sends: SendList,
+}
+
+/// What an event gives that is refused with `NoCircuit`.
+pub(crate) fn no_circuit(alloc: Global) -> Done
+    ensures { (site : Site) → IsGiven site Empty no_circuit result }
+{
+    Done {
+        answer: Answer::Refused(Refusal::NoCircuit),
+        bytes: None,
+        sends: SendList::new(alloc),
+    }
 }
 
 /// The bytes of the record of changes, where there are any. An error comes for want of memory alone.
