@@ -143,7 +143,7 @@ module _ (text : List ℕ) (had_left left : Option (List ℕ)) (before behind : 
     (told : AreTold r.behind.links.put r.behind.links.taken) (honest : IsHonest r.behind.links.put r.behind.links.taken) (spells : IsRegistryText (had had_left text)) (all : Had (had had_left text) (had old r.given) r.before.disks) where
   read_ends : (s : Status) → EndsReading s text left before behind → (s ≡ status.Ok) ⊎ (s ≡ status.NoMemory)
   read_ends status.NoMemory h = inr refl
-  read_ends status.ReadFault h = absurd (sound h)
+  read_ends status.ReadFault h = absurd (sound h.0)
   read_ends status.TooLong h = absurd (had_not_long had_left left text registry spells h)
   read_ends (status.BadRegistry fault) h = absurd (had_no_fault had_left left text registry fault h.1 spells h.0)
   read_ends status.Ok h = absurd h

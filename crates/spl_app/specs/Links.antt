@@ -113,10 +113,10 @@ pub record IsLinkedSchedule (es : List Entry) (text : List ℕ) : Type 0 where
 
 -- ---- statuses
 
--- the reading of the registry ended the run: its bytes have this fault or are too many, its source failed, or memory ran out
+-- the reading of the registry ended the run: its bytes have this fault or are too many, its source failed within the limit, or memory ran out
 abbrev pub EndsReading : Status → List ℕ → Option (List ℕ) → ℕ → ℕ → Type 0
-EndsReading (status.BadRegistry fault) text left before behind = (registry_of text ≡ Err fault) × IsAtEnd left
-EndsReading status.ReadFault text left before behind = Rose before behind
+EndsReading (status.BadRegistry fault) text left before behind = (registry_of text ≡ Err fault) × IsAtEnd left × (length text ≤ limit)
+EndsReading status.ReadFault text left before behind = Rose before behind × (length text ≤ limit)
 EndsReading status.TooLong text left before behind = limit < length text
 EndsReading status.NoMemory text left before behind = ⊤
 EndsReading result text left before behind = ⊥

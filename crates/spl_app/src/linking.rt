@@ -37,7 +37,7 @@ pub fn run_links<S: Source, W: Sink, E: Disk, F: Fabric>(
     ensures words { result ≡ Status.Usage → ⊥ }
     ensures registry { (fault : RegistryFault) → result ≡ Status.BadRegistry fault
         → (registry_of (appended_bytes (S.taken registry.old) (S.taken registry.new)) ≡ Err fault) × IsAtEnd (S.left registry.new)
-        × Appends (W.written out.old) (W.written out.new) [] × (schedule.new ≡ schedule.old) × (shelf.new ≡ shelf.old) × (fabric.new ≡ fabric.old) }
+        × (length (appended_bytes (S.taken registry.old) (S.taken registry.new)) ≤ limit) × Appends (W.written out.old) (W.written out.new) [] × (schedule.new ≡ schedule.old) × (shelf.new ≡ shelf.old) × (fabric.new ≡ fabric.old) }
     ensures write { result ≡ Status.WriteFault → Rose (W.faults out.old) (W.faults out.new) }
     ensures faulty { (fault : RegistryFault) → let text = (appended_bytes (S.taken registry.old) (S.taken registry.new)) in
         (Rose (S.faults registry.old) (S.faults registry.new) → ⊥) → registry_of text ≡ Err fault → length text ≤ limit

@@ -41,8 +41,8 @@ pub fn read_registry<S: Source>(alloc: Global, registry: &mut S) -> Result<Regis
     ensures text { OnOk result (IsRegistryText (appended_bytes (S.taken registry.old) (S.taken registry.new))) }
     ensures entries { IfOk result (λ r. registry_of (appended_bytes (S.taken registry.old) (S.taken registry.new)) ≡ Ok r) }
     ensures bad { (fault : Fault) → IsErrOf result (NodesFault.Bad fault) → (registry_of (appended_bytes (S.taken registry.old) (S.taken registry.new)) ≡ Err fault)
-        × IsAtEnd (S.left registry.new) }
-    ensures read { IsErrOf result NodesFault.Read → Rose (S.faults registry.old) (S.faults registry.new) }
+        × IsAtEnd (S.left registry.new) × (length (appended_bytes (S.taken registry.old) (S.taken registry.new)) ≤ limit) }
+    ensures read { IsErrOf result NodesFault.Read → Rose (S.faults registry.old) (S.faults registry.new) × (length (appended_bytes (S.taken registry.old) (S.taken registry.new)) ≤ limit) }
     ensures long { IsErrOf result NodesFault.TooLong → limit < length (appended_bytes (S.taken registry.old) (S.taken registry.new)) }
     ensures taken { Consumes (S.left registry.old) (S.left registry.new) (appended_bytes (S.taken registry.old) (S.taken registry.new)) }
 {

@@ -75,11 +75,11 @@ pub fn splinter<S: Source, W: Sink, D: StopDisk, E: Disk, F: Fabric>(
     ensures alone { is_of_links result ≡ true → IsLinks (map string_bytes words.now) }
     ensures links_apart { IsLinks (map string_bytes words.now) → bench.new ≡ bench.old }
 
-    // The registry was read to its end, and its bytes have this fault. Nothing is written, the schedule
-    // isn't read, no disk is called, and nothing put on the fabric.
+    // The registry was read to its end, within its limit, and its bytes have this fault. Nothing is
+    // written, the schedule isn't read, no disk is called, and nothing put on the fabric.
     ensures registry { (fault : RegistryFault) → result ≡ Status.BadRegistry fault
         → (registry_of (appended_bytes (S.taken registry.old) (S.taken registry.new)) ≡ Err fault) × IsAtEnd (S.left registry.new)
-        × Appends (W.written out.old) (W.written out.new) [] × (schedule.new ≡ schedule.old) × (bench.new ≡ bench.old) × (shelf.new ≡ shelf.old) × (fabric.new ≡ fabric.old) }
+        × (length (appended_bytes (S.taken registry.old) (S.taken registry.new)) ≤ limit) × Appends (W.written out.old) (W.written out.new) [] × (schedule.new ≡ schedule.old) × (bench.new ≡ bench.old) × (shelf.new ≡ shelf.old) × (fabric.new ≡ fabric.old) }
 
     // Where the bytes given have a fault, and the source has none, that is told.
     ensures faulty { (fault : RegistryFault) → let text = appended_bytes (S.taken registry.old) (S.taken registry.new) in
@@ -107,11 +107,11 @@ pub fn splinter<S: Source, W: Sink, D: StopDisk, E: Disk, F: Fabric>(
         let given = appended_bytes (S.taken schedule.old) (S.taken schedule.new) in
         IsRegistryText text × HasTooMany (nodes_of text) given (W.written out.old) (W.written out.new) which }
 
-    // A source failed: that of the registry, and nothing is written and the schedule isn't read, or that
-    // of the schedule, within its limit, and the answers to all lines that it gave are written.
+    // A source failed, within its limit: that of the registry, and nothing is written and the schedule
+    // isn't read, or that of the schedule, and the answers to all lines that it gave are written.
     ensures read { IsReplay (map string_bytes words.now) → result ≡ Status.ReadFault → let text = appended_bytes (S.taken registry.old) (S.taken registry.new) in
         let given = appended_bytes (S.taken schedule.old) (S.taken schedule.new) in
-        (Rose (S.faults registry.old) (S.faults registry.new) × Appends (W.written out.old) (W.written out.new) [] × (schedule.new ≡ schedule.old))
+        (Rose (S.faults registry.old) (S.faults registry.new) × (length text ≤ limit) × Appends (W.written out.old) (W.written out.new) [] × (schedule.new ≡ schedule.old))
         ⊎ (Rose (S.faults schedule.old) (S.faults schedule.new) × (length given ≤ limit) × IsRegistryText text × IsRun (nodes_of text) (lines_of given)
         × Appends (W.written out.old) (W.written out.new) (answers (nodes_of text) (lines_of given))) }
 

@@ -238,7 +238,7 @@ pub returns-then-is_links-clause-alone : goal.returns-then-is_links-clause-alone
 returns-then-is_links-clause-alone g c = λ of. (c.is_links.ensures.0 (search rules))
 
 pub returns-then-is_links-clause-registry : goal.returns-then-is_links-clause-registry
-returns-then-is_links-clause-registry g c = λ fault is. let found = c.run_links.ensures.registry fault is in (found.0, found.1, found.2, found.3, refl, found.4, found.5)
+returns-then-is_links-clause-registry g c = λ fault is. let found = c.run_links.ensures.registry fault is in (found.0, found.1, found.2, found.3, found.4, refl, found.5, found.6)
 
 pub returns-then-is_links-clause-faulty : goal.returns-then-is_links-clause-faulty
 returns-then-is_links-clause-faulty g c = λ fault form sound bad short. c.run_links.ensures.faulty fault sound bad short
