@@ -12,29 +12,22 @@ use Rattle.spl_sched.specs.declared.line.Line.{Line}
 use Rattle.spl_sched.specs.declared.line.Line.TheVariants as line
 use Rattle.spl_sched.specs.declared.line.Step.{Step}
 use Rattle.spl_sched.specs.declared.line.Step.TheVariants as step
+use Rattle.spl_agree.proofs.Booleans.{and_left, and_right}
 
 -- ---- the circuit of a line that fits
 
-first_part : (a b : Bool) → IsTrue (a && b) → IsTrue a
-first_part true b h = refl
-first_part false b h = h
-
-last_part : (a b : Bool) → IsTrue (a && b) → IsTrue b
-last_part true b h = h
-last_part false b h = absurd cc
-
 step_id : (s : Step) → IsTrue (is_step s) → IsTrue (is_circuit_id (step_circuit s))
-step_id (step.At n c e) fits = last_part (is_node_id n) (is_circuit_id c) (first_part (is_node_id n && is_circuit_id c) _ fits)
-step_id (step.Deliver from to c k) fits = last_part (is_node_id from && is_node_id to) (is_circuit_id c) (first_part ((is_node_id from && is_node_id to) && is_circuit_id c) _ (first_part _ _ fits))
+step_id (step.At n c e) fits = and_right (is_node_id n) (is_circuit_id c) (and_left (is_node_id n && is_circuit_id c) _ fits)
+step_id (step.Deliver from to c k) fits = and_right (is_node_id from && is_node_id to) (is_circuit_id c) (and_left ((is_node_id from && is_node_id to) && is_circuit_id c) _ (and_left _ _ fits))
 
 line_id : (l : Line) (c : CircuitId) → circuit_of l ≡ Some c → IsTrue (is_line l) → IsTrue (is_circuit_id c)
 line_id (line.Step s) c about fits = let same : step_circuit s ≡ c = cc in subst (λ (d : CircuitId). IsTrue (is_circuit_id d)) same (step_id s fits)
-line_id (line.Calm id passes) c about fits = let same : id ≡ c = cc in subst (λ (d : CircuitId). IsTrue (is_circuit_id d)) same (first_part (is_circuit_id id) _ fits)
+line_id (line.Calm id passes) c about fits = let same : id ≡ c = cc in subst (λ (d : CircuitId). IsTrue (is_circuit_id d)) same (and_left (is_circuit_id id) _ fits)
 line_id (line.Stop n) c about fits = absurd cc
 line_id (line.Start n) c about fits = absurd cc
 line_id (line.Roll n) c about fits = absurd cc
-line_id (line.Cut calls fill s) c about fits = let same : step_circuit s ≡ c = cc in subst (λ (d : CircuitId). IsTrue (is_circuit_id d)) same (step_id s (last_part _ (is_step s) fits))
-line_id (line.Fail call s) c about fits = let same : step_circuit s ≡ c = cc in subst (λ (d : CircuitId). IsTrue (is_circuit_id d)) same (step_id s (last_part _ (is_step s) fits))
+line_id (line.Cut calls fill s) c about fits = let same : step_circuit s ≡ c = cc in subst (λ (d : CircuitId). IsTrue (is_circuit_id d)) same (step_id s (and_right _ (is_step s) fits))
+line_id (line.Fail call s) c about fits = let same : step_circuit s ≡ c = cc in subst (λ (d : CircuitId). IsTrue (is_circuit_id d)) same (step_id s (and_right _ (is_step s) fits))
 
 calm_fits : (c : CircuitId) → IsTrue (is_circuit_id c) → is_line (line.Calm c calm_passes) ≡ true
 calm_fits c id = and_true (is_circuit_id c) true id refl

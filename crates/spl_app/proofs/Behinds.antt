@@ -17,9 +17,9 @@ use Rattle.spl_app.proofs.Unlinked.{places_kept}
 use Rattle.spl_app.specs.declared.run.Run.{Run}
 use Rattle.spl_app.specs.Behind.{IsBehind}
 
--- over the same nodes, behind the same lines
-pub both : (P : List Node → ℕ → Type 0) {ms ns : List Node} {k n : ℕ} → ms ≡ ns → k ≡ n → P ms k → P ns n
-both P {ms} {ns} {k} {n} nodes skips h = subst (P ns) skips (subst (λ (l : List Node). P l k) nodes h)
+-- over the same nodes, behind the same lines or at the same places
+pub both : {A B : Type 0} (P : A → B → Type 0) {a b : A} {x y : B} → a ≡ b → x ≡ y → P a x → P b y
+both {A} P {a} {b} {x} {y} first second h = subst (P b) second (subst (λ (c : A). P c x) first h)
 
 -- a run is over its own nodes
 pub at_own : (ns : List Node) (skip : ℕ) (lines : List (List ℕ)) (run : Run) (is : List Images) (a b : Option (List ℕ)) → IsBehind ns skip lines run is a b → IsBehind run.nodes.items run.skip lines run is a b

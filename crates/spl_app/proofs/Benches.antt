@@ -1,52 +1,30 @@
 -- Disks that go on, and those that fail.
-use Rattle.std.proofs.Common.{◌≡◌, ◌<◌, ◌≤◌, inl, inr, ℕ, zero, suc, List, [], ◌∷◌, length, get_or, slice_get, Some, Result, Ok, Err, arith, refl, sym, ap, subst, ◌∙◌}
-use Rattle.std.proofs.lemmas.Option.{slice_get_within, slice_get-get_or}
+use Rattle.std.proofs.Common.{◌≡◌, ◌<◌, inl, inr, ℕ, List, length, get_or, Result, Ok, Err, arith, sym, ap, subst, ◌∙◌}
 use Rattle.std.specs.Prelude.{IsErr, IsErrOf}
 use Rattle.std.specs.Result.{IsErrAnd}
-use Rattle.spl_circuit.specs.Nodes.{NodeId}
 use Rattle.spl_edge.specs.Picks.{Picked}
 use Rattle.spl_edge.specs.declared.disk.Armed.{Armed}
-use Rattle.spl_registry.specs.Nodes.{Entry, node_at}
+use Rattle.spl_registry.specs.Nodes.{Entry}
 use Rattle.spl_world.specs.declared.fault.WorldFault.{WorldFault}
 use Rattle.spl_world.specs.Disks.{AllGoOn, AllUnarmed, DiskView, GoesOn, HasRisen, IsUnarmed, NoneForgotten, PairGoesOn, PairView, RoseAt}
 use Rattle.spl_world.specs.Held.{AllUnpicked, AreUnpicked, FailedSince, HasFailedSince, IsUnpicked, last_count}
-use Rattle.spl_world.specs.Views.{ArePlaced, IsPlace, places_of, slot_ids, slot_id, slot_places}
-use Rattle.spl_world.specs.declared.slot.Slot.{Slot}
+use Rattle.spl_world.specs.Views.{ArePlaced, IsPlace, places_of}
 use Rattle.spl_world.specs.declared.world.World.{World}
+use Rattle.spl_world.proofs.Holding.{id_there, old_there}
+use Rattle.spl_world.proofs.HoldingSeats.{node_below}
 
 -- a call that fails as the call in it does
-pub err_same : {A : Type 0} (r : Result A WorldFault) (f d : WorldFault) → IsErr r × IsErrAnd r (λ y. y ≡ f) → IsErrOf r d → f ≡ d
-err_same (Ok a) f d e q = absurd e.1
-err_same (Err y) f d e q = let is : y ≡ f = e.1 in cc
-
 pub err_back : {A : Type 0} (r : Result A WorldFault) (f d : WorldFault) → IsErr r × IsErrAnd r (λ y. y ≡ f) → f ≡ d → IsErrOf r d
 err_back (Ok a) f d e same = absurd e.1
 err_back (Err y) f d e same = let is : y ≡ f = e.1 in ap (λ (z : WorldFault). Err z) (is ∙ same)
 
 -- ---- no fault is forgotten
 
-pub none_itself : (xs : List PairView) → NoneForgotten xs xs
-none_itself xs = record {
-  as_many = refl;
-  first = λ i p q e f. let is = there i p q e f in subst (λ (z : PairView). p.first.faults ≤ z.first.faults) is (omega arith);
-  second = λ i p q e f. let is = there i p q e f in subst (λ (z : PairView). p.second.faults ≤ z.second.faults) is (omega arith);
-}
-  where
-    there : (i : ℕ) (p q : PairView) → slice_get xs i ≡ Some p → slice_get xs i ≡ Some q → p ≡ q
-    there i p q e f = let same : Some p ≡ Some q = sym e ∙ f in cc
-
--- the pair that stood there before
-pair_there : (xs ys : List PairView) (i : ℕ) (q : PairView) → length ys ≡ length xs → slice_get ys i ≡ Some q → slice_get xs i ≡ Some (get_or xs i q)
-pair_there xs ys i q same e =
-    let within : i < length ys = slice_get_within ys i q e in
-    let below : i < length xs = omega (arith, within, same) in
-    slice_get-get_or xs i q below
-
 pub none_then : (xs ys zs : List PairView) → NoneForgotten xs ys → NoneForgotten ys zs → NoneForgotten xs zs
 none_then xs ys zs a b = record {
   as_many = b.as_many ∙ a.as_many;
-  first = λ i p q e f. let one = a.first i p (get_or ys i q) e (pair_there ys zs i q b.as_many f) in let other = b.first i (get_or ys i q) q (pair_there ys zs i q b.as_many f) f in omega (arith, one, other);
-  second = λ i p q e f. let one = a.second i p (get_or ys i q) e (pair_there ys zs i q b.as_many f) in let other = b.second i (get_or ys i q) q (pair_there ys zs i q b.as_many f) f in omega (arith, one, other);
+  first = λ i p q e f. let one = a.first i p (get_or ys i q) e (old_there ys zs i q b.as_many f) in let other = b.first i (get_or ys i q) q (old_there ys zs i q b.as_many f) f in omega (arith, one, other);
+  second = λ i p q e f. let one = a.second i p (get_or ys i q) e (old_there ys zs i q b.as_many f) in let other = b.second i (get_or ys i q) q (old_there ys zs i q b.as_many f) f in omega (arith, one, other);
 }
 
 pub none_on : (xs ys : List PairView) → AllGoOn xs ys → NoneForgotten xs ys
@@ -63,7 +41,7 @@ unarmed_one x y on off = ap (λ (a : Armed). a.arming) on.armed ∙ off
 
 pub unarmed_on : (xs ys : List PairView) → AllGoOn xs ys → AllUnarmed xs → AllUnarmed ys
 unarmed_on xs ys on off = λ i q f.
-    let e = pair_there xs ys i q on.as_many f in
+    let e = old_there xs ys i q on.as_many f in
     let both = on.each i (get_or xs i q) q e f in
     let was = off i (get_or xs i q) e in
     (unarmed_one (get_or xs i q).first q.first both.first was.0, unarmed_one (get_or xs i q).second q.second both.second was.1)
@@ -89,16 +67,6 @@ rose_failed slot xs ys h on rose = record {
 
 -- ---- the positions of nodes
 
-place_has_id : (ss : List Slot) (i p : ℕ) → slice_get (slot_places ss) i ≡ Some p → (n : NodeId) × (slice_get (slot_ids ss) i ≡ Some n)
-place_has_id [] i p e = absurd cc
-place_has_id (s ∷ ss) zero p e = (slot_id s, refl)
-place_has_id (s ∷ ss) (suc i) p e = place_has_id ss i p e
-
-node_within : (es : List Entry) (p : ℕ) (n : NodeId) → node_at es p ≡ Some n → p < length es
-node_within [] p n e = absurd cc
-node_within (x ∷ es) zero n e = omega arith
-node_within (x ∷ es) (suc p) n e = let rest : p < length es = node_within es p n e in omega (arith, rest)
-
 -- the position of a node is one of the registry
 pub place_below : (es : List Entry) (w : World) (slot : ℕ) → ArePlaced es w → IsPlace (places_of w) slot → slot < length es
-place_below es w slot placed (i, e) = let (n, q) = place_has_id w.slots.items i slot e in node_within es slot n (placed i n slot q e)
+place_below es w slot placed (i, e) = let (n, q) = id_there w.slots.items i slot e in node_below es slot n (placed i n slot q e)

@@ -1,32 +1,31 @@
 -- Where nothing failed, a run over links doesn't give up by itself.
-use Rattle.std.proofs.Common.{◌≡◌, ◌≢◌, ◌⊎◌, inl, inr, ⊎_elim, ◌+◌, ◌-◌, ◌<◌, ◌≤◌, ℕ, zero, suc, List, [], ◌∷◌, ◌++◌, length, drop, Option, Some, None, refl, ap, sym, subst, ◌∙◌, arith, append_assoc, append-nil}
-use Rattle.std.specs.Prelude.{IfSome}
-use Rattle.std.specs.Option.{IsSome}
-use Rattle.std.specs.List.{AllByRecursion}
+use Rattle.std.proofs.Common.{◌≡◌, ◌⊎◌, inl, inr, ⊎_elim, ◌+◌, ◌-◌, ◌≤◌, ℕ, List, [], ◌∷◌, ◌++◌, length, Option, Some, None, refl, ap, sym, subst, ◌∙◌, arith, append_assoc, append-nil}
 use Rattle.std.specs.Io.KnownBytes.{Consumes, IsAtEnd}
 use Rattle.std.proofs.lemmas.List.{map-append}
 use Rattle.spl_circuit.specs.Nodes.{Node}
 use Rattle.spl_edge.specs.Causes.{Rose}
 use Rattle.spl_edge.specs.Fabrics.{IsHonest}
-use Rattle.spl_edge.specs.Image.{Image}
 use Rattle.spl_lines.specs.Given.{IsOverlong, IsUnfinished, had, run_of}
 use Rattle.spl_lines.specs.Lines.{limit, lines_of, rest_of}
-use Rattle.spl_lines.specs.Written.{IsWithin, said}
+use Rattle.spl_lines.specs.Written.{IsWithin}
 use Rattle.spl_lines.proofs.Fed.{overlong_had}
 use Rattle.spl_lines.proofs.Feeds.{all_front, lines_front}
 use Rattle.spl_lines.proofs.Given.{all_had, had_more, run_given}
 use Rattle.spl_links.specs.Ends.{EndsBy}
 use Rattle.spl_links.specs.Schedule.{AreTaken, IsBadAt}
-use Rattle.spl_links.specs.Tasks.{IsTaken, Task, nodes_in, ran_by, tasks, tasks_of}
+use Rattle.spl_links.specs.Tasks.{IsTaken, Task, nodes_in, ran_by, tasks}
+use Rattle.spl_links.proofs.Schedules.{all_at}
+use Rattle.spl_links.proofs.Tasks.{tasks-append}
 use Rattle.spl_model.specs.Counts.{events_of, stops_of}
 use Rattle.spl_model.specs.Outcomes.{by_rule}
 use Rattle.spl_model.specs.Projection.{Ran}
 use Rattle.spl_pump.specs.Wires.{AreTold}
 use Rattle.spl_pump.specs.declared.fault.PumpFault.TheVariants as pump
 use Rattle.spl_pump.proofs.Honest.{never_lies}
-use Rattle.spl_registry.specs.Nodes.{Entry, node_at}
+use Rattle.spl_registry.specs.Nodes.{Entry}
 use Rattle.spl_world.specs.Disks.{AllTell, Images, RoseAt, Tell, images_at}
 use Rattle.spl_world.specs.declared.fault.WorldFault.TheVariants as error
+use Rattle.spl_world.proofs.HoldingSeats.{node_below}
 use Rattle.spl_app.specs.Blank.{AllEmpty, AreEmpty, HaveBytes}
 use Rattle.spl_app.specs.Links.{EndsReading, Gives, IsLinkedSchedule, RunView}
 use Rattle.spl_app.specs.Registered.{IsRegistryText, OfRegistry}
@@ -38,13 +37,6 @@ use Rattle.spl_app.specs.declared.status.Status.TheVariants as status
 use Rattle.spl_app.proofs.Events.{events_front, not_over, stops_front}
 
 -- ---- the lines that a source gave
-
--- the first of a list have what all have
-taken_at : (ns : List Node) (lines : List (List ℕ)) (n : ℕ) (line : List ℕ) (behind : List (List ℕ)) → drop n lines ≡ line ∷ behind → AreTaken ns lines → IsTaken ns line
-taken_at ns [] zero line behind place good = absurd (cc)
-taken_at ns [] (suc n) line behind place good = absurd (cc)
-taken_at ns (l ∷ lines) zero line behind place good = let same : l ≡ line = cc in subst (IsTaken ns) same good.0
-taken_at ns (l ∷ lines) (suc n) line behind place good = taken_at ns lines n line behind place good.1
 
 -- all that it had is the bytes given and others
 behind_given : (old new : Option (List ℕ)) (given : List ℕ) → Consumes old new given → (rest : List ℕ) × (had old given ≡ given ++ rest)
@@ -66,20 +58,13 @@ module _ (es : List Entry) (old new : Option (List ℕ)) (given : List ℕ) (con
   all_taken = all_front (IsTaken (nodes_in es)) (run_of given) more_lines.0 (subst (AreTaken (nodes_in es)) more_lines.1 schedule.lines)
 
   pub never_bad : (line : ℕ) → IsBadAt (nodes_in es) given new line → ⊥
-  never_bad line (inl found) = found.bad (taken_at (nodes_in es) (run_of given) (line - 1) found.line found.behind found.place all_taken)
+  never_bad line (inl found) = found.bad (all_at (IsTaken (nodes_in es)) (run_of given) (line - 1) found.line found.behind found.place all_taken)
   never_bad line (inr rest) = ⊎_elim
       (λ (cut : IsUnfinished given new). cut.more (ap rest_of (sym (all_had old new given consumed cut.ended)) ∙ schedule.whole))
       (λ (long : IsOverlong given). overlong_had (IsTaken (nodes_in es)) (λ line good. good.good.0) old new given consumed long schedule.short schedule.whole schedule.lines)
       rest.bad
 
 -- ---- what is run of them
-
-tasks-append : (n : ℕ) (xs ys : List (List ℕ)) → tasks n (xs ++ ys) ≡ tasks n xs ++ tasks (n + length xs) ys
-tasks-append n [] ys = let same : n ≡ n + 0 = omega arith in ap (λ (k : ℕ). tasks k ys) same
-tasks-append n (x ∷ xs) ys =
-    let same : n + 1 + length xs ≡ n + suc (length xs) = omega arith in
-    ap (λ (l : List Task). tasks_of n (said x) ++ l) (tasks-append (n + 1) xs ys ∙ ap (λ (k : ℕ). tasks (n + 1) xs ++ tasks k ys) same)
-    ∙ sym (append_assoc (tasks_of n (said x)) (tasks (n + 1) xs) (tasks (n + suc (length xs)) ys))
 
 -- a front of tasks is within the limits of all
 within_front : (ns : List Node) (xs ys all : List Task) → all ≡ xs ++ ys → IsWithin ns (ran_by all) → IsWithin ns (ran_by xs)
@@ -109,11 +94,6 @@ module _ (es : List Entry) (r : RunView) (old : Option (List ℕ)) (consumed : C
   no_bytes (None, second) told empty bytes = let no = told.0 in cc
   no_bytes (Some i, None) told empty bytes = let no = told.1 in cc
 
-  below : (ms : List Entry) (k : ℕ) (n : Node) → node_at ms k ≡ Some n → k < length ms
-  below [] k n e = absurd cc
-  below (x ∷ ms) zero n e = omega arith
-  below (x ∷ ms) (suc k) n e = let rest : k < length ms = below ms k n e in omega (arith, rest)
-
   module _ (read : Rose r.unread.0 r.unread.1 → ⊥) (wrote : Rose r.unwritten.0 r.unwritten.1 → ⊥) (disks : (slot : ℕ) → RoseAt slot r.start r.now → ⊥) (links : Rose r.before.links.faults r.behind.links.faults → ⊥)
       (told : AreTold r.behind.links.put r.behind.links.taken) (honest : IsHonest r.behind.links.put r.behind.links.taken) (tell : AllTell (length es) r.before.disks) (empty : AllEmpty (length es) r.before.disks) where
     pub complete_of : (s : Status) → Gives s es r → (s ≡ status.Ok) ⊎ (s ≡ status.NoMemory)
@@ -128,7 +108,7 @@ module _ (es : List Entry) (r : RunView) (old : Option (List ℕ)) (consumed : C
     complete_of (status.Lied a b sent got) (from, to, first, second, lies, ends) = absurd (never_lies r.behind.links.put r.behind.links.taken (pump.Lied sent got) told honest lies)
     complete_of (status.NotAJournal node at) (slot, there, never) = absurd (never tell)
     complete_of status.WriteFault h = absurd (wrote h.0)
-    complete_of (status.NotBlank node) (slot, at, first, same, none) = let under = below es slot node at in absurd (no_bytes (images_at r.before.disks slot) (tell slot under) (empty slot under) first.here)
+    complete_of (status.NotBlank node) (slot, at, first, same, none) = let under = node_below es slot node at in absurd (no_bytes (images_at r.before.disks slot) (tell slot under) (empty slot under) first.here)
     complete_of status.Usage h = absurd h
     complete_of (status.BadRegistry fault) h = absurd h
 

@@ -1,10 +1,9 @@
 -- Where a run ended, one line further.
-use Rattle.std.proofs.Common.{◌≡◌, ◌⊎◌, inl, inr, ⊎_elim, ℕ, suc, true, false, List, [], ◌∷◌, ◌++◌, length, map, slice_get, take, drop, Option, Some, Result, Ok, Err, refl, ap, sym, subst, ◌∙◌, append_assoc, append-nil, take-append-drop}
+use Rattle.std.proofs.Common.{◌≡◌, ◌⊎◌, inl, inr, ⊎_elim, ℕ, true, false, List, [], ◌∷◌, ◌++◌, length, slice_get, take, drop, Option, Some, Result, Ok, Err, refl, ap, sym, subst, ◌∙◌, append_assoc, append-nil, take-append-drop}
 use Rattle.std.proofs.Math.Seq.{take-append_seam}
-use Rattle.std.specs.Prelude.{IfErr, IsErr, IsErrOf}
+use Rattle.std.specs.Prelude.{IfErr, IsErrOf}
 use Rattle.std.specs.List.{AllPairs}
 use Rattle.std.specs.Prelude.{◌≢◌}
-use Rattle.std.specs.Result.{IsErrAnd}
 use Rattle.spl_circuit.specs.Nodes.{Node, sorted}
 use Rattle.spl_edge.specs.Image.{Image}
 use Rattle.spl_edge.specs.Picks.{Picked}
@@ -18,18 +17,16 @@ use Rattle.spl_registry.specs.Nodes.{Entry, ids_of as registered}
 use Rattle.spl_sched.specs.declared.line.Line.{Line}
 use Rattle.spl_world.specs.Disks.{AllGoOn, Images, PairView, bench, images, images_of, is_of_journal}
 use Rattle.spl_world.specs.Ended.{LineEnds}
-use Rattle.spl_world.specs.Held.{AllUnpicked, AreHeld, EachPair, HasPicked}
+use Rattle.spl_world.specs.Held.{AreHeld, EachPair, HasPicked}
 use Rattle.spl_world.specs.Lines.{stops}
-use Rattle.spl_world.specs.Making.{AreMadeBut, images_now}
+use Rattle.spl_world.specs.Making.{AreMadeBut}
 use Rattle.spl_world.specs.Links.{is_of_links}
-use Rattle.spl_world.specs.Views.{ArePlaced, ids_of, places_of, slot_ids, slot_places}
+use Rattle.spl_world.specs.Views.{ArePlaced, ids_of, places_of}
 use Rattle.spl_world.specs.declared.fault.WorldFault.{WorldFault}
 use Rattle.spl_world.specs.declared.fault.WorldFault.TheVariants as error
-use Rattle.spl_world.specs.declared.slot.Slot.{Slot}
 use Rattle.spl_world.specs.declared.world.World.{World}
-use Rattle.spl_world.proofs.Holding.{all_picked_still, pair_unpicked}
+use Rattle.spl_world.proofs.Holding.{all_picked_still, as_many_places}
 use Rattle.spl_world.proofs.HoldingSeats.{seats_held}
-use Rattle.spl_world.proofs.Leaving.{all_itself, same_there}
 use Rattle.spl_lines.specs.Written.{IsLine, IsWithin, ran, said}
 use Rattle.spl_lines.proofs.Outputs.{ran_said}
 use Rattle.spl_app.specs.declared.fault.RunEnd.{RunEnd}
@@ -38,7 +35,7 @@ use Rattle.spl_app.specs.declared.fault.RunFault.TheVariants as fault
 use Rattle.spl_app.specs.Ends.{AreSeats, EndsAt, EndsBehind, EndsIn, EndsSomewhere, FaultEnds, HeldAt, HeldOrEnds, RanOn, all_images}
 use Rattle.spl_app.specs.Faults.{fault_of}
 use Rattle.spl_app.specs.Run.{HasFront, IsRun}
-use Rattle.spl_app.proofs.Runs.{all-push}
+use Rattle.spl_links.proofs.Schedules.{all-push}
 
 -- ---- results
 
@@ -46,15 +43,6 @@ use Rattle.spl_app.proofs.Runs.{all-push}
 pub err_then : {T E : Type 0} (r : Result T E) (P Q : E → Type 0) → IfErr r P → ((e : E) → r ≡ Err e → P e → Q e) → IfErr r Q
 err_then (Ok x) P Q h f = tt
 err_then (Err e) P Q h f = f e refl h
-
--- a call that fails as one in it does
-pub err_from : {T E : Type 0} (r : Result T E) (e : E) (P : E → Type 0) → IsErr r × IsErrAnd r (λ y. y ≡ e) → P e → IfErr r P
-err_from (Ok x) e P h p = tt
-err_from (Err y) e P h p = subst P (sym h.1) p
-
--- the same nodes at the same places
-pub as_seats : (P : List Node → List ℕ → Type 0) {ms ns : List Node} {ks ls : List ℕ} → ms ≡ ns → ks ≡ ls → P ms ks → P ns ls
-as_seats P {ms} {ns} {ks} {ls} nodes places h = subst (P ns) places (subst (λ (xs : List Node). P xs ks) nodes h)
 
 -- ---- a line in the world
 
@@ -168,7 +156,7 @@ module _ (ns : List Node) (places : List ℕ) (lines : List (List ℕ)) (line : 
     -- it runs
     front_on : RanOn ns places (ran lines) l start now → HasFront ns (lines ++ line ∷ []) (λ ls. HeldAt ns places (ran ls) start now)
     front_on h = front_whole ns (λ ls. HeldAt ns places (ran ls) start now) (lines ++ line ∷ []) (lines ++ line ∷ []) refl
-        (record { lines = all-push ns lines line run.lines good; few = subst (IsWithin ns) (sym (ran_said lines line l is)) (h.few run.few) })
+        (record { lines = all-push (IsLine ns) lines line run.lines good; few = subst (IsWithin ns) (sym (ran_said lines line l is)) (h.few run.few) })
         (subst (λ (rs : List Ran). HeldAt ns places rs start now) (sym (ran_said lines line l is)) h.held)
 
     -- or ends with an error
@@ -206,19 +194,6 @@ module _ (ns : List Node) (places : List ℕ) (lines : List (List ℕ)) (line : 
 
 -- ---- the nodes of a registry
 
-same_many : (ss : List Slot) → length (slot_places ss) ≡ length (slot_ids ss)
-same_many [] = refl
-same_many (s ∷ ss) = ap suc (same_many ss)
-
--- nothing was begun
-pub made_none : (ns : List Node) (es : List Entry) (e : WorldFault) (start : List PairView) → AllUnpicked start → ((k : ℕ) → e ≡ error.Disk k → ⊥) → AreMadeBut ns es e start start
-made_none ns es e start unpicked other = record {
-  picked = λ k n s p at was there. pair_unpicked ns n s p (unpicked k s was) ((all_itself start).each k s p was there);
-  one = 0;
-  named = λ k q. absurd (other k q);
-  others = λ k n s p at was there off. inl (ap images_now (same_there start k p s there was));
-}
-
 -- want of memory names no disk
 pub made_short : (ns : List Node) (es : List Entry) (e : WorldFault) (start now : List PairView) → AreMadeBut ns es e start now → AreMadeBut ns es error.NoMemory start now
 made_short ns es e start now h = record { picked = h.picked; one = h.one; named = λ k q. cc; others = h.others }
@@ -226,7 +201,7 @@ made_short ns es e start now h = record { picked = h.picked; one = h.one; named 
 module _ (es : List Entry) (w : World) (differ : AllPairs (λ x y. x ≢ y) (registered es)) (ids : ids_of w ≡ sorted (registered es)) (placed : ArePlaced es w) where
   seats_of : AreSeats es (sorted (registered es)) (places_of w)
   seats_of = record {
-    as_many = same_many w.slots.items ∙ ap length ids;
+    as_many = as_many_places w.slots.items ∙ ap length ids;
     each = λ i n k at place. placed i n k (ap (λ (ns : List Node). slice_get ns i) ids ∙ at) place;
   }
 

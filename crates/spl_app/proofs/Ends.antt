@@ -1,6 +1,5 @@
 -- What the end of a feed says of the bytes that the source gave.
-use Rattle.std.proofs.Common.{◌≡◌, ◌⊎◌, inl, inr, ⊎_elim, false, ℕ, ◌+◌, ◌-◌, ◌≤◌, List, [], Option, length, take, sym, ◌∙◌, ap, subst, arith}
-use Rattle.std.proofs.lemmas.List.{take_all}
+use Rattle.std.proofs.Common.{◌≡◌, ◌⊎◌, inl, inr, ⊎_elim, false, ℕ, ◌+◌, ◌≤◌, List, [], Option, length, sym, ◌∙◌, ap, subst, arith}
 use Rattle.std.specs.Io.{appended_bytes}
 use Rattle.std.specs.Io.KnownBytes.{Consumes}
 use Rattle.spl_circuit.specs.Nodes.{Node}
@@ -43,7 +42,3 @@ bad_rest ns lines given left number all run counted bad = inr (record {
   behind = omega (arith, ap length all);
   bad = bad;
 })
-
--- and those are all before it
-pub all_before : (lines all : List (List ℕ)) (number : ℕ) → all ≡ lines → number ≡ length lines + 1 → take (number - 1) all ≡ lines
-all_before lines all number same counted = ap (λ (ls : List (List ℕ)). take (number - 1) ls) same ∙ take_all (number - 1) lines (omega arith)

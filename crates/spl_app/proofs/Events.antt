@@ -1,23 +1,16 @@
 -- The events and the stops of a front of some lines.
-use Rattle.std.proofs.Common.{◌≡◌, ◌≤◌, ◌-◌, inl, inr, ℕ, zero, suc, List, [], ◌∷◌, ◌++◌, take, drop, sym, ◌∙◌, ap, subst, arith, append_assoc, take-append-drop}
+use Rattle.std.proofs.Common.{◌≡◌, ◌≤◌, ◌-◌, inl, inr, ℕ, List, [], ◌∷◌, ◌++◌, take, sym, ◌∙◌, ap, subst, arith, append_assoc, take-append-drop, ◌+◌}
 use Rattle.std.specs.List.{AllByRecursion}
 use Rattle.spl_circuit.specs.Nodes.{NodeId}
 use Rattle.spl_model.specs.Projection.{Ran}
 use Rattle.spl_model.specs.Counts.{events_behind, events_of, stops_of}
-use Rattle.spl_projection.proofs.Counts.{events-none}
 use Rattle.spl_world.specs.Counts.{IsOver}
 use Rattle.spl_lines.specs.Lines.{lines_of}
 use Rattle.spl_lines.specs.Written.{IsLine, IsWithin, ran}
 use Rattle.spl_lines.proofs.Feeds.{lines_front, all_front}
 use Rattle.spl_lines.proofs.Outputs.{ran-append}
 use Rattle.spl_app.specs.Run.{IsRun, Reason, Bad, Past, StopsAt}
-use Rattle.spl_app.proofs.Halts.{stops-append}
-
--- where no line ran they are within their limits
-pub none_within : (ns : List NodeId) → IsWithin ns []
-none_within ns =
-    let none : events_of ns [] ≡ 0 = events-none ns in
-    (omega (arith, none), omega arith)
+use Rattle.spl_links.proofs.Schedules.{all_at}
 
 front-behind : (ns : List NodeId) (before xs ys : List Ran) → events_behind ns before xs ≤ events_behind ns before (xs ++ ys)
 front-behind ns before [] ys = omega arith
@@ -25,7 +18,11 @@ front-behind ns before (r ∷ xs) ys =
     let rest = front-behind ns (before ++ r ∷ []) xs ys in
     omega (arith, rest)
 
--- it has no more than all of them
+stops-append : (xs ys : List Ran) → stops_of (xs ++ ys) ≡ stops_of xs + stops_of ys
+stops-append [] ys = omega arith
+stops-append (x ∷ xs) ys = let rest = stops-append xs ys in omega (arith, rest)
+
+-- a front of lines has no more than all of them
 pub stops_front : (xs ys : List Ran) → stops_of xs ≤ stops_of (xs ++ ys)
 stops_front xs ys = omega (arith, stops-append xs ys)
 
@@ -46,15 +43,9 @@ run_front ns xs ys run =
 pub run_text_front : (ns : List NodeId) (a b : List ℕ) → IsRun ns (lines_of (a ++ b)) → IsRun ns (lines_of a)
 run_text_front ns a b run = let (rest, same) = lines_front a b in run_front ns (lines_of a) rest (subst (IsRun ns) same run)
 
-all_at : (ns : List NodeId) (lines : List (List ℕ)) (n : ℕ) (line : List ℕ) (behind : List (List ℕ)) → drop n lines ≡ line ∷ behind → AllByRecursion (IsLine ns) lines → IsLine ns line
-all_at ns [] zero line behind place good = absurd (cc)
-all_at ns [] (suc n) line behind place good = absurd (cc)
-all_at ns (l ∷ lines) zero line behind place good = let same : l ≡ line = cc in subst (IsLine ns) same good.0
-all_at ns (l ∷ lines) (suc n) line behind place good = all_at ns lines n line behind place good.1
-
 -- none of these is bad
 pub no_bad : (ns : List NodeId) (lines : List (List ℕ)) (number : ℕ) → AllByRecursion (IsLine ns) lines → StopsAt ns Bad lines number → ⊥
-no_bad ns lines number all found = found.stops (all_at ns lines (number - 1) found.line found.behind found.place all)
+no_bad ns lines number all found = found.stops (all_at (IsLine ns) lines (number - 1) found.line found.behind found.place all)
 
 -- lines within their limits pass none
 pub not_over : (ns : List NodeId) (rs : List Ran) (which : ℕ) → IsWithin ns rs → IsOver ns rs which → ⊥

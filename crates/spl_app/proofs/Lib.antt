@@ -9,7 +9,6 @@ mod Linked
 mod Ending
 mod Events
 mod Given
-mod Halts
 mod Holds
 mod Pieces
 mod Registries

@@ -1,40 +1,39 @@
 -- What a run over links gives, from what the run tells of its carrier and its blank disks.
-use Rattle.std.proofs.Common.{◌≡◌, ◌≢◌, ◌⊎◌, inl, inr, ◌<◌, ◌≤◌, ◌-◌, ◌++◌, ◌∷◌, ℕ, zero, suc, Bool, true, false, List, [], length, slice_get, take, Option, Some, None, refl, ap, sym, subst, ◌∙◌, arith, append_assoc, append-nil}
+use Rattle.std.proofs.Common.{◌≡◌, ◌⊎◌, inl, inr, ◌<◌, ◌≤◌, ◌∷◌, ℕ, suc, true, false, List, [], length, Option, Some, None, refl, ap, sym, subst, ◌∙◌, arith}
 use Rattle.std.specs.Io.{appended_bytes}
 use Rattle.std.specs.Prelude.{IfSome}
 use Rattle.std.proofs.lemmas.List.{drop_all}
+use Rattle.std.proofs.lemmas.Option.{slice_get_within}
 use Rattle.spl_circuit.specs.Nodes.{Node}
-use Rattle.spl_edge.specs.Causes.{AppendsPart, Rose}
+use Rattle.spl_edge.specs.Causes.{Rose}
 use Rattle.spl_edge.specs.Image.{Image, IsSettled}
 use Rattle.spl_edge.specs.Picks.{Picked}
 use Rattle.spl_edge.specs.declared.bench.Pair.{Pair}
 use Rattle.spl_edge.specs.declared.disk.Armed.{Armed}
 use Rattle.spl_journal.specs.Make.{IsBlank}
 use Rattle.spl_lines.specs.Given.{run_of}
-use Rattle.spl_links.specs.Ends.{EndsAt, EndsBy, EndsShort, HasFront, HasNext, HaveRun, IsUnmade, IsWhole, RanSome, is_of_making}
+use Rattle.spl_links.specs.Ends.{EndsAt, EndsBy, EndsShort, HaveRun, IsUnmade, IsWhole, RanSome, is_of_making}
 use Rattle.spl_links.specs.Outside.{Outside, outside}
-use Rattle.spl_links.specs.Tasks.{Task, answers, answers_behind, nodes_in, ran_by, shown, tasks}
-use Rattle.spl_answer.specs.Texts.{text}
-use Rattle.spl_model.specs.Answers.{answer_to}
-use Rattle.spl_model.specs.Outcomes.{by_rule}
-use Rattle.spl_model.specs.Projection.{Ran}
+use Rattle.spl_links.specs.Tasks.{Task, answers, answers_behind, nodes_in, ran_by, tasks}
+use Rattle.spl_links.proofs.Tasks.{answers_then}
 use Rattle.spl_pump.specs.Moves.{Streams}
-use Rattle.spl_pump.specs.Wires.{LiesOf, Puts, PutsPart, wire_of}
+use Rattle.spl_pump.specs.Wires.{LiesOf, Puts, PutsPart}
 use Rattle.spl_pump.specs.declared.fault.PumpFault.TheVariants as pump
-use Rattle.spl_registry.specs.Nodes.{Entry, node_at}
+use Rattle.spl_registry.specs.Nodes.{Entry}
 use Rattle.spl_registry.specs.declared.fault.RegistryFault.{RegistryFault}
-use Rattle.spl_world.specs.Disks.{AllGoOn, AllTell, AreBlank, DiskView, GoesOn, Images, PairGoesOn, PairView, RoseAt, bench, images, images_at, pair_view}
-use Rattle.spl_world.specs.Held.{AllUnpicked, AreUnpicked, IsUnpicked}
+use Rattle.spl_world.specs.Disks.{AllGoOn, AreBlank, DiskView, GoesOn, Images, PairView, RoseAt, bench, images, images_at, pair_view}
+use Rattle.spl_world.specs.Held.{AllUnpicked, IsUnpicked}
 use Rattle.spl_world.specs.Links.{LinkView}
 use Rattle.spl_world.specs.Making.{HoldNothing, images_now}
 use Rattle.spl_world.specs.declared.fault.WorldFault.{WorldFault}
 use Rattle.spl_world.specs.declared.fault.WorldFault.TheVariants as error
-use Rattle.spl_world.proofs.Leaving.{bench_here, get_below}
-use Rattle.spl_app.specs.Blank.{AllEmpty, AreEmpty, AreSettled}
-use Rattle.spl_app.specs.Links.{AllRan, Gives, IfTold, IsUnbegun, RunView, Stopped, Tells, fabric_view, is_behind_blank}
+use Rattle.spl_world.proofs.Leaving.{bench_here, rose_behind, some_at}
+use Rattle.spl_world.proofs.Pairing.{own_images}
+use Rattle.spl_world.proofs.HoldingSeats.{node_below}
+use Rattle.spl_app.specs.Blank.{AreEmpty, AreSettled}
+use Rattle.spl_app.specs.Links.{Gives, IfTold, IsUnbegun, RunView, Stopped, Tells, fabric_view}
 use Rattle.spl_app.specs.declared.status.Status.{Status}
 use Rattle.spl_app.specs.declared.status.Status.TheVariants as status
-use Rattle.spl_app.proofs.Emptied.{own_images, rose_behind}
 
 -- ---- without the carrier
 
@@ -70,15 +69,6 @@ module _ (es : List Entry) (ts : List Task) (x y : Outside) (l m : LinkView) whe
   pub short_as : (E : WorldFault → Type 0) → EndsShort E es ts x y → l.put ≡ x.links.put → m.put ≡ y.links.put → EndsShort E es ts (outside x.written l x.disks) (outside y.written m y.disks)
   short_as E h put puts = record { ran = some_as es x.links y.links l m put puts E ts y.disks h.ran; written = h.written }
 
--- the answers to the first tasks come first
-answers_from : (ns : List Node) (before : List Ran) (a b : List Task) → answers_behind ns before (a ++ b) ≡ answers_behind ns before a ++ answers_behind ns (before ++ ran_by a) b
-answers_from ns before [] b = ap (λ (rs : List Ran). answers_behind ns rs b) (sym (append-nil before))
-answers_from ns before (t ∷ a) b =
-    let first = shown t.number (text (answer_to ns before (by_rule t.line))) in
-    let behind = before ++ by_rule t.line ∷ [] in
-    ap (λ (l : List ℕ). first ++ l) (answers_from ns behind a b ∙ ap (λ (rs : List Ran). answers_behind ns behind a ++ answers_behind ns rs b) (append_assoc before (by_rule t.line ∷ []) (ran_by a)))
-    ∙ sym (append_assoc first (answers_behind ns behind a) (answers_behind ns (before ++ by_rule t.line ∷ ran_by a) b))
-
 -- those to the tasks before the one that ended are a front of all
 pub by_short : (e : WorldFault) (es : List Entry) (ts : List Task) (x y : Outside) → EndsBy e es ts x y → EndsShort (λ f. Unit {0}) es ts x y
 by_short e es ts x y h = record {
@@ -86,22 +76,12 @@ by_short e es ts x y h = record {
   written = (
     answers (nodes_in es) h.front,
     answers_behind (nodes_in es) (ran_by h.front) (h.next ∷ h.more),
-    ap (answers (nodes_in es)) h.all ∙ answers_from (nodes_in es) [] h.front (h.next ∷ h.more),
+    ap (answers (nodes_in es)) h.all ∙ answers_then (nodes_in es) h.front (h.next ∷ h.more),
     h.holds.0,
   );
 }
 
 -- ---- a run that didn't begin
-
-node_below : (es : List Entry) (k : ℕ) (n : Node) → node_at es k ≡ Some n → k < length es
-node_below [] k n e = absurd cc
-node_below (x ∷ es) zero n e = omega arith
-node_below (x ∷ es) (suc k) n e = let rest : k < length es = node_below es k n e in omega (arith, rest)
-
-some_at : {X : Type 0} (xs : List X) (i : ℕ) → i < length xs → (x : X) × (slice_get xs i ≡ Some x)
-some_at [] i h = absurd (omega (arith, h))
-some_at (x ∷ xs) zero h = (x, refl)
-some_at (x ∷ xs) (suc i) h = let r : i < length xs = omega (arith, h) in some_at xs i r
 
 module _ {D : Type 0} (image_at : D → ℕ → Option Image) (moment faults : D → ℕ) (armed : D → Armed) (picks : D → List Picked) where
   abbrev told : List (Pair D) → List PairView
@@ -146,7 +126,7 @@ module _ {D : Type 0} (image_at : D → ℕ → Option Image) (moment faults : D
             let under = node_below es k n at in
             let p = some_at ps k (omega (arith, under, few)) in
             let q = some_at qs k (omega (arith, under, few, as_long)) in
-            as_held k n p.0 q.0 (own_images image_at moment ps k p.0 p.0 p.1 k refl) (own_images image_at moment qs k q.0 q.0 q.1 k refl)
+            as_held k n p.0 q.0 (own_images image_at moment ps k p.0 p.1 k refl) (own_images image_at moment qs k q.0 q.1 k refl)
             (h.disks.others k n (pair_of p.0) (pair_of q.0) at (bench_here image_at moment faults armed picks ps k p.0 p.1) (bench_here image_at moment faults armed picks qs k q.0 q.1) off);
       }
 
@@ -228,7 +208,7 @@ restarted (status.BadSchedule line) es r start on behind h = h
 restarted status.ReadFault es r start on behind h = h
 restarted status.TooLong es r start on behind h = h
 restarted (status.TooMany which) es r start on behind h = h
-restarted (status.DiskFault node) es r start on behind (slot, at, rose, ends) = (slot, at, rose_behind start r.start r.now slot on behind rose, ends)
+restarted (status.DiskFault node) es r start on behind (slot, at, rose, ends) = (slot, at, rose_behind slot start r.start r.now on rose, ends)
 restarted status.LinkFault es r start on behind h = h
 restarted (status.Lied a b sent got) es r start on behind h = h
 restarted (status.NotAJournal node at) es r start on behind h = h
@@ -263,7 +243,7 @@ unpicked_one x y on u = record { picks = on.picks ∙ u.picks; off = ap (λ (a :
 -- disks that went on picked nothing
 pub unpicked_on : (xs ys : List PairView) → AllGoOn xs ys → AllUnpicked xs → AllUnpicked ys
 unpicked_on xs ys on h = λ i q e.
-    let under : i < length xs = subst (λ (n : ℕ). i < n) on.as_many (get_below ys i q e) in
+    let under : i < length xs = subst (λ (n : ℕ). i < n) on.as_many (slice_get_within ys i q e) in
     let p = some_at xs i under in
     let both = on.each i p.0 q p.1 e in
     let was = h i p.0 p.1 in

@@ -1,32 +1,18 @@
 //! The nodes of a run: those of the registry that a source gives.
-ghost use Rattle.std.specs.Prelude.{◌≡◌, ◌≢◌, ◌<◌, ◌≤◌, Ok, Err, length, IfOk, OnOk, IsErrOf};
+ghost use Rattle.std.specs.Prelude.{◌≡◌, ◌<◌, ◌≤◌, Ok, Err, length, IfOk, OnOk, IsErrOf};
 ghost use Rattle.std.specs.Io.{appended_bytes};
-ghost use Rattle.std.specs.List.{AllPairs};
 ghost use Rattle.std.specs.Io.KnownBytes.{Consumes, IsAtEnd};
 ghost use Rattle.spl_edge.specs.Causes.{Rose};
-ghost use Rattle.spl_circuit.specs.Nodes.{sorted};
-ghost use Rattle.spl_registry.specs.Nodes.{ids_of};
 ghost use Rattle.spl_registry.specs.declared.fault.RegistryFault.{RegistryFault as Fault};
 ghost use Rattle.spl_registry.specs.Tree.{registry_of};
 ghost use Rattle.spl_lines.specs.Lines.{limit};
 ghost use Rattle.spl_app.specs.Registered.{IsRegistryText};
 
 use crate::fault::NodesFault;
-use spl_base::NodeId;
 use spl_edge::{ReadEnd, Source, read_all};
 use spl_lines::MOST_BYTES;
 use spl_registry::{Registry, RegistryFault};
-use std::alloc::{AllocError, Global};
-
-/// The ids of the nodes of a registry, in order.
-pub fn sorted_ids(alloc: Global, registry: &Registry) -> Result<Vec<NodeId>, AllocError>
-    ensures ids { IfOk result (λ v. v.items ≡ sorted (ids_of registry.now)) }
-    ensures apart { OnOk result (AllPairs (λ a b. a ≢ b) (ids_of registry.now)) }
-{
-    let mut ids = registry.ids(alloc)?;
-    ids.sort_unstable();
-    Ok(ids)
-}
+use std::alloc::Global;
 
 /// A registry has at most sixteen nodes.
 pub fn registries_are_small(registry: &Registry)

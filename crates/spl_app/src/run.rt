@@ -26,7 +26,7 @@ ghost use Rattle.spl_world.specs.Making.{AreMadeBut};
 ghost use Rattle.spl_world.specs.Views.{ArePlaced, IsPlace, Stands, ids_of, is_halted, places_of};
 
 use crate::fault::{RunEnd, RunFault};
-use crate::registered::{registries_are_small, sorted_ids};
+use crate::registered::registries_are_small;
 use crate::take::take_line;
 use spl_answer::append_text;
 use spl_base::NodeId;
@@ -34,7 +34,7 @@ use spl_edge::{Pair, Sink, Source, StopDisk};
 use spl_lines::{Feed, FeedFault, Output, read_admitted};
 use spl_registry::Registry;
 use spl_sched::{Line, LineFault};
-use spl_world::{World, WorldFault};
+use spl_world::{World, WorldFault, sorted_ids};
 use std::alloc::Global;
 
 /// A run: its nodes, the text of the last answer, and the answers that wait. Those to the first

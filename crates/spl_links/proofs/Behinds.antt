@@ -23,7 +23,8 @@ use Rattle.spl_links.specs.Outside.{Outside, outside}
 use Rattle.spl_links.specs.Tasks.{Task, answers, nodes_in, ran_by}
 use Rattle.spl_links.proofs.Tasks.{answers_one}
 
-none_within : (ns : List Node) → IsWithin ns []
+-- where no line ran the lines are within their limits
+pub none_within : (ns : List Node) → IsWithin ns []
 none_within ns =
     let none : events_of ns [] ≡ 0 = events-none ns in
     (omega (arith, none), omega arith)

@@ -1,20 +1,16 @@
 -- Causes of errors, of one call behind another.
-use Rattle.std.proofs.Common.{◌≡◌, ◌≤◌, ◌<◌, ℕ, false, List, Result, Ok, Err, IfErr, refl, subst, arith, ◌∙◌}
+use Rattle.std.proofs.Common.{◌≡◌, ◌<◌, ℕ, false, List, Result, IfErr, refl, subst, arith, ◌∙◌}
 use Rattle.std.specs.Prelude.{IsErr, IsErrOf}
 use Rattle.std.specs.Result.{IsErrAnd}
-use Rattle.spl_world.specs.Disks.{AllGoOn, LeavesDisks, PairView, RoseAt, is_of_journal}
+use Rattle.spl_world.specs.Disks.{AllGoOn, LeavesDisks, PairView, is_of_journal}
 use Rattle.spl_world.specs.Links.{LinkView, is_of_links, LinksGoOn}
 use Rattle.spl_world.specs.declared.fault.WorldFault.{WorldFault}
 use Rattle.spl_world.specs.declared.fault.WorldFault.TheVariants.{Disk, Lied, Link, NoMemory, NotAJournal}
-use Rattle.spl_world.proofs.Leaving.{all_itself, all_then, leaves_then}
+use Rattle.spl_world.proofs.Leaving.{all_itself, all_then, rose_behind}
+use Rattle.spl_world.proofs.Results.{err_same}
+use Rattle.spl_world.proofs.Counting.{failed}
 use Rattle.spl_links.specs.Ends.{HaveCauses}
-use Rattle.spl_links.proofs.Results.{err_at, err_same, failed}
-
-rose_behind : (slot : ℕ) (xs ys zs : List PairView) → AllGoOn xs ys → AllGoOn ys zs → RoseAt slot ys zs → RoseAt slot xs zs
-rose_behind slot xs ys zs first then' rose = (leaves_then (failed ℕ (Disk slot)) xs ys zs first one).failed slot refl
-  where
-    one : LeavesDisks (failed ℕ (Disk slot)) ys zs
-    one = record { onward = then'; failed = λ k q. let same : slot ≡ k = cc in subst (λ (j : ℕ). RoseAt j ys zs) same rose }
+use Rattle.spl_links.proofs.Results.{err_at}
 
 -- a call that ends as one in it does
 pub causes_as : (P Q : WorldFault → Type 0) (Seat Place : ℕ → Type 0) (xs ys : List PairView) (x y : LinkView) → ((e : WorldFault) → Q e → P e) → ((k : ℕ) → Seat k → Place k) → HaveCauses P Seat xs ys x y → HaveCauses Q Place xs ys x y
@@ -35,7 +31,7 @@ pub causes_behind : (P : WorldFault → Type 0) (Seat : ℕ → Type 0) (xs ys z
 causes_behind P Seat xs ys zs x y z onward links h = record {
   onward = all_then xs ys zs onward h.onward;
   links = record { no_less = omega (arith, links.no_less, h.links.no_less); slots = h.links.slots ∙ links.slots };
-  disk = λ slot q. let d = h.disk slot q in (d.0, rose_behind slot xs ys zs onward h.onward d.1);
+  disk = λ slot q. let d = h.disk slot q in (d.0, rose_behind slot xs ys zs onward d.1);
   journal = h.journal;
   link = λ q. let rose = h.link q in omega (arith, links.no_less, rose);
   lied = λ from to sent got q. let d = h.lied from to sent got q in (subst (λ (n : ℕ). from < n) links.slots d.0, subst (λ (n : ℕ). to < n) links.slots d.1, d.2);

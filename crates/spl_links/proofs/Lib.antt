@@ -1,11 +1,11 @@
-mod Behinds
+pub mod Behinds
 mod Causes
 mod Ending
-mod Schedules
+pub mod Schedules
 mod Making
 mod Results
 mod Running
-mod Stopping
-mod Tasks
+pub mod Stopping
+pub mod Tasks
 mod Whole
 mod Wiring

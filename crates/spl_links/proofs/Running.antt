@@ -1,5 +1,5 @@
 -- A run of tasks, one task further.
-use Rattle.std.proofs.Common.{◌≡◌, ◌≤◌, ℕ, suc, false, List, [], ◌∷◌, ◌++◌, length, slice_get, Option, Result, Ok, Err, IfErr, OnOk, refl, sym, ◌∙◌, ap, subst}
+use Rattle.std.proofs.Common.{◌≡◌, ◌≤◌, ℕ, false, List, [], ◌∷◌, ◌++◌, length, slice_get, Option, Result, Ok, Err, IfErr, OnOk, refl, sym, ◌∙◌, ap, subst}
 use Rattle.std.specs.Prelude.{IsErrOf}
 use Rattle.spl_circuit.specs.Nodes.{Node}
 use Rattle.spl_lines.specs.Written.{IsWithin}
@@ -19,7 +19,7 @@ use Rattle.spl_world.specs.Disks.{Images, images_at, is_of_journal}
 use Rattle.spl_world.specs.Ended.{LineEnds}
 use Rattle.spl_world.specs.Held.{cells_behind}
 use Rattle.spl_world.specs.Links.{Carries, CarriesPart, Delivers, IsReady, LinkView, Places, line_carried, seat_of}
-use Rattle.spl_world.specs.Views.{ArePlaced, Sits, Stands, ids_of, is_halted, over, places_of, slot_id, slot_ids, slot_places}
+use Rattle.spl_world.specs.Views.{ArePlaced, Sits, Stands, ids_of, is_halted, over, places_of, slot_id}
 use Rattle.spl_world.specs.declared.fault.WorldFault.{WorldFault}
 use Rattle.spl_world.specs.declared.fault.WorldFault.TheVariants.{Disk, Lied, Link, NoMemory, NotAJournal, TooMany}
 use Rattle.spl_world.specs.declared.slot.Slot.{Slot}
@@ -27,18 +27,15 @@ use Rattle.spl_world.specs.declared.world.World.{World}
 use Rattle.spl_world.proofs.HoldingNow.{IsSlot, slot_held, slot_there}
 use Rattle.spl_world.proofs.HoldingSeats.{is_seated, seats_placed}
 use Rattle.spl_world.proofs.Linking.{carries_then, part_behind}
+use Rattle.spl_world.proofs.Counting.{failed}
+use Rattle.spl_world.proofs.Holding.{as_many_places}
 use Rattle.spl_links.specs.Behind.{AreRun, MayGo}
 use Rattle.spl_links.specs.Ends.{AreSeats, EndsAt, HaveRun, HoldBehind}
 use Rattle.spl_links.specs.Tasks.{Task, carried, nodes_in, ran_by}
 use Rattle.spl_links.proofs.Tasks.{carried_one, ran-append}
 use Rattle.spl_links.proofs.Wiring.{part_of_all}
-use Rattle.spl_links.proofs.Results.{failed}
 
 -- ---- the places of nodes
-
-as_many_places : (ss : List Slot) → length (slot_places ss) ≡ length (slot_ids ss)
-as_many_places [] = refl
-as_many_places (s ∷ ss) = ap suc (as_many_places ss)
 
 placed_as : (es : List Entry) (w v : World) → ids_of v ≡ ids_of w → places_of v ≡ places_of w → ArePlaced es w → ArePlaced es v
 placed_as es w v ids places placed = λ i n p at there.

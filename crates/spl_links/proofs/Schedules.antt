@@ -1,7 +1,8 @@
 -- The lines so far, and the next.
-use Rattle.std.proofs.Common.{◌≡◌, ◌⊎◌, inr, ℕ, ◌+◌, ◌-◌, List, [], ◌∷◌, ◌++◌, Option, length, take, drop, refl, sym, ◌∙◌, ap, subst, arith, append_assoc}
+use Rattle.std.proofs.Common.{◌≡◌, ◌⊎◌, inr, ℕ, zero, suc, ◌+◌, ◌-◌, List, [], ◌∷◌, ◌++◌, Option, length, take, drop, refl, sym, ◌∙◌, ap, subst, arith, append_assoc}
 use Rattle.std.proofs.Math.Seq.{take-append_seam}
 use Rattle.std.proofs.lemmas.List.{drop_at, take_all}
+use Rattle.std.specs.List.{AllByRecursion}
 use Rattle.spl_circuit.specs.Nodes.{Node}
 use Rattle.spl_lines.specs.Given.{IsOverlong, IsUnfinished, run_of}
 use Rattle.spl_lines.specs.Written.{said}
@@ -14,16 +15,24 @@ use Rattle.spl_links.specs.declared.fault.LinkedFault.{LinkedFault}
 use Rattle.spl_links.proofs.Ending.{ends_more}
 use Rattle.spl_links.proofs.Tasks.{tasks_more, tasks_then}
 
-pub all-push : (ns : List Node) (xs : List (List ℕ)) (x : List ℕ) → AreTaken ns xs → IsTaken ns x → AreTaken ns (xs ++ x ∷ [])
-all-push ns [] x all good = (good, tt)
-all-push ns (y ∷ xs) x all good = (all.0, all-push ns xs x all.1 good)
+-- what holds of all lines and of the next
+pub all-push : (P : List ℕ → Type 0) (xs : List (List ℕ)) (x : List ℕ) → AllByRecursion P xs → P x → AllByRecursion P (xs ++ x ∷ [])
+all-push P [] x all good = (good, tt)
+all-push P (y ∷ xs) x all good = (all.0, all-push P xs x all.1 good)
+
+-- what holds of all holds of the one at a place
+pub all_at : (P : List ℕ → Type 0) (lines : List (List ℕ)) (n : ℕ) (line : List ℕ) (behind : List (List ℕ)) → drop n lines ≡ line ∷ behind → AllByRecursion P lines → P line
+all_at P [] zero line behind place good = absurd cc
+all_at P [] (suc n) line behind place good = absurd cc
+all_at P (l ∷ lines) zero line behind place good = let same : l ≡ line = cc in subst P same good.0
+all_at P (l ∷ lines) (suc n) line behind place good = all_at P lines n line behind place good.1
 
 -- a line more, and what stands behind it
 module _ (front : List (List ℕ)) (line : List ℕ) (rest all : List (List ℕ)) (is : all ≡ (front ++ line ∷ []) ++ rest) where
-  whole : all ≡ front ++ line ∷ rest
+  pub whole : all ≡ front ++ line ∷ rest
   whole = is ∙ append_assoc front (line ∷ []) rest
 
-  first : take (length front) all ≡ front
+  pub first : take (length front) all ≡ front
   first = ap (λ (ls : List (List ℕ)). take (length front) ls) whole ∙ take-append_seam front (line ∷ rest)
 
   module _ (number : ℕ) (counted : number ≡ length front + 1) where

@@ -3,7 +3,7 @@ use Rattle.std.proofs.Common.{◌≡◌, ◌≤◌, ◌+◌, ℕ, true, false, L
 use Rattle.std.specs.Prelude.{IsErrOf}
 use Rattle.spl_circuit.specs.Nodes.{Node}
 use Rattle.spl_lines.specs.Written.{IsWithin}
-use Rattle.spl_model.specs.Counts.{line_stops, stops_of}
+use Rattle.spl_model.specs.Counts.{stops_of}
 use Rattle.spl_model.specs.Outcomes.{by_rule}
 use Rattle.spl_model.specs.Projection.{Ran}
 use Rattle.spl_model.specs.declared.TheConstants.{MOST_STOPS}
@@ -15,28 +15,16 @@ use Rattle.spl_world.specs.Links.{is_of_links}
 use Rattle.spl_world.specs.declared.fault.WorldFault.{WorldFault}
 use Rattle.spl_world.specs.declared.fault.WorldFault.TheVariants.{Disk, Lied, Link, NoMemory, NotAJournal, TooMany}
 use Rattle.spl_world.proofs.Linking.{IsOff}
+use Rattle.spl_world.proofs.Standing.{none_counted, stops_after}
 use Rattle.spl_links.specs.Tasks.{is_run}
 
 -- ---- how many
-
-stops-append : (xs ys : List Ran) → stops_of (xs ++ ys) ≡ stops_of xs + stops_of ys
-stops-append [] ys = omega arith
-stops-append (x ∷ xs) ys = let rest = stops-append xs ys in omega (arith, rest)
-
-none_counted : (l : Line) → stops l ≡ false → line_stops l ≡ 0
-none_counted (line.Step s) h = refl
-none_counted (line.Calm id passes) h = refl
-none_counted (line.Stop n) h = absurd cc
-none_counted (line.Start n) h = refl
-none_counted (line.Roll n) h = refl
-none_counted (line.Cut calls fill s) h = absurd cc
-none_counted (line.Fail call s) h = absurd cc
 
 -- a line that stops no node leaves the stops within their limit
 pub stays_within : (ns : List Node) (before : List Ran) (l : Line) → stops l ≡ false → IsWithin ns before → stops_of (before ++ by_rule l ∷ []) ≤ MOST_STOPS
 stays_within ns before l other few =
     let none = none_counted l other in
-    let all = stops-append before (by_rule l ∷ []) in
+    let all = stops_after before (by_rule l) in
     omega (arith, none, all, few.1)
 
 -- what is run and takes no node down stops none

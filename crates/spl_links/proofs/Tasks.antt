@@ -15,7 +15,7 @@ use Rattle.spl_links.specs.Tasks.{Task, answers, answers_behind, carried, carrie
 
 -- ---- lines
 
-tasks-append : (n : ℕ) (xs ys : List (List ℕ)) → tasks n (xs ++ ys) ≡ tasks n xs ++ tasks (n + length xs) ys
+pub tasks-append : (n : ℕ) (xs ys : List (List ℕ)) → tasks n (xs ++ ys) ≡ tasks n xs ++ tasks (n + length xs) ys
 tasks-append n [] ys = let same : n ≡ n + 0 = omega arith in ap (λ (k : ℕ). tasks k ys) same
 tasks-append n (x ∷ xs) ys =
     let same : n + 1 + length xs ≡ n + suc (length xs) = omega arith in

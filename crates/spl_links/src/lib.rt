@@ -5,7 +5,6 @@
 mod fault;
 mod lines;
 mod linked;
-mod registered;
 mod run;
 
 pub use fault::{LinkedEnd, LinkedFault};

@@ -22,7 +22,6 @@ ghost use Rattle.spl_links.specs.Tasks.{IsTaken, Task, calm_behind, is_run, is_t
 
 use crate::fault::{LinkedEnd, LinkedFault};
 use crate::lines::is_taken;
-use crate::registered::sorted_ids;
 use spl_answer::append_text;
 use spl_base::NodeId;
 use spl_edge::{DeviceError, Disk, Fabric, Pair, Sink, Source};
@@ -31,7 +30,7 @@ use spl_pump::Carry;
 use spl_registry::Registry;
 use spl_sched::{Line, LineFault};
 use spl_wire::Answer;
-use spl_world::{World, WorldFault};
+use spl_world::{World, WorldFault, sorted_ids};
 use std::alloc::Global;
 
 /// The passes of the calm behind a line that names a circuit.

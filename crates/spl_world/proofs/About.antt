@@ -1,9 +1,9 @@
 -- Whatever is sent about a circuit bears its id.
-use Rattle.std.proofs.Common.{◌≡◌, ℕ, Bool, true, false, not, ◌&&◌, ◌==◌, nat_lt, List, [], ◌∷◌, ◌++◌, Option, Some, None, refl, sym, if◌then◌else◌, slice_get, zero, suc, subst, take, length, is_some, Ok, Err}
+use Rattle.std.proofs.Common.{◌≡◌, ℕ, Bool, true, false, not, ◌&&◌, ◌==◌, nat_lt, List, [], ◌∷◌, ◌++◌, Option, Some, None, refl, sym, if◌then◌else◌, slice_get, zero, suc, subst, take, length, is_some, Ok, Err, IfSome}
 use Rattle.std.specs.List.{list_all}
 use Rattle.std.specs.Str.{bytes_eq}
-use Rattle.std.proofs.lemmas.Slice.Eq.{bytes_eq-Decides}
 use Rattle.spl_base.specs.FormLaws.{both_true, and_true}
+use Rattle.spl_base.specs.Booleans.{bytes_same}
 use Rattle.spl_agree.specs.declared.message.CommitMsg.{CommitMsg}
 use Rattle.spl_agree.specs.declared.message.CommitMsg.TheVariants as msg
 use Rattle.spl_agree.specs.declared.event.GroupEvent.{GroupEvent}
@@ -43,9 +43,6 @@ use Rattle.spl_rules.specs.Plans.{Lane, admin_lane, service_lane, group_row, gro
 use Rattle.spl_rules.specs.Valid.{is_legal, are_legal}
 use Rattle.spl_world.specs.Kept.{belongs, send_belongs, SendsBelong, AllBelong, sends_to}
 
-pub same_itself : (x : List ℕ) → bytes_eq x x ≡ true
-same_itself x = (bytes_eq-Decides x x).1 refl
-
 -- a message names the circuit
 abbrev names_it : CircuitId → Message → Bool
 names_it c m = bytes_eq (circuit_of m) c
@@ -81,11 +78,11 @@ module _ (site : Site) where
       at_member _ = tt
 
   asked_about : (k : Cell) (from : NodeId) (gen r place : ℕ) (v : Act) (x : ActKind) → IsAbout (asked_first site k from gen r place v x)
-  asked_about k from gen r place v (kind.Propose d) = either site.circuit (place == 0 && (can_bind site k gen d && bytes_eq (admin d) from)) (Binds Delivered d from (group.From (position d.members from) (msg.VoteRequest gen r place v))) (declines site from gen r) tt (same_itself site.circuit)
-  asked_about k from gen r place v _ = same_itself site.circuit
+  asked_about k from gen r place v (kind.Propose d) = either site.circuit (place == 0 && (can_bind site k gen d && bytes_eq (admin d) from)) (Binds Delivered d from (group.From (position d.members from) (msg.VoteRequest gen r place v))) (declines site from gen r) tt (bytes_same site.circuit)
+  asked_about k from gen r place v _ = bytes_same site.circuit
 
   forwarded_about : (k : Cell) (from : NodeId) (gen : ℕ) (v : Act) (x : ActKind) → IsAbout (forwarded_first site k from gen v x)
-  forwarded_about k from gen v (kind.Propose d) = either site.circuit (can_bind site k gen d && (bytes_eq (admin d) site.here && (bytes_eq v.node from && (is_member d from && not (bytes_eq from site.here))))) (Binds Delivered d from (group.Submit v)) (returns_unbound site from gen v) tt (same_itself site.circuit)
+  forwarded_about k from gen v (kind.Propose d) = either site.circuit (can_bind site k gen d && (bytes_eq (admin d) site.here && (bytes_eq v.node from && (is_member d from && not (bytes_eq from site.here))))) (Binds Delivered d from (group.Submit v)) (returns_unbound site from gen v) tt (bytes_same site.circuit)
   forwarded_about k from gen v _ = tt
 
   hears_first_about : (k : Cell) (from : NodeId) (x : CommitMsg Act) → IsAbout (hears_first site k from x)
@@ -148,7 +145,7 @@ module _ (site : Site) where
   routed_about (Err f) x h = tt
 
   serves_other_about : (from : NodeId) (s t : ServiceId) (x : CommitMsg Batch) → IsAbout (serves_other site from s t x)
-  serves_other_about from s t (msg.VoteRequest gen r place v) = same_itself site.circuit
+  serves_other_about from s t (msg.VoteRequest gen r place v) = bytes_same site.circuit
   serves_other_about from s t _ = tt
 
   -- ---- any event
@@ -198,10 +195,10 @@ group_about c lane back [] f = refl
 group_about c lane back (x ∷ xs) f = and_true (send_names c (outgoing lane back x)) _ (f (node_or lane.members back x.0) x.1) (group_about c lane back xs f)
 
 acts_about : (site : Site) (d : Definition) (back : NodeId) (xs : List (ℕ × CommitMsg Act)) → SendsName site.circuit (group_sends (admin_lane site d) back xs)
-acts_about site d back xs = group_about site.circuit (admin_lane site d) back xs (λ to x. same_itself site.circuit)
+acts_about site d back xs = group_about site.circuit (admin_lane site d) back xs (λ to x. bytes_same site.circuit)
 
 batches_about : (site : Site) (d : Definition) (back : NodeId) (xs : List (ℕ × CommitMsg Batch)) → SendsName site.circuit (group_sends (service_lane site d) back xs)
-batches_about site d back xs = group_about site.circuit (service_lane site d) back xs (λ to x. same_itself site.circuit)
+batches_about site d back xs = group_about site.circuit (service_lane site d) back xs (λ to x. bytes_same site.circuit)
 
 names_append : (c : CircuitId) (xs ys : List Outgoing) → SendsName c xs → SendsName c ys → SendsName c (xs ++ ys)
 names_append c [] ys h k = k
@@ -246,6 +243,10 @@ pub about_at : (c : CircuitId) (xs : List Message) (i : ℕ) (m : Message) → A
 about_at c [] i m h e = absurd cc
 about_at c (x ∷ xs) zero m h e = let same : x ≡ m = cc in subst (λ (y : Message). belongs c y ≡ true) same (both_true (belongs c x) (list_all (belongs c) xs) h).0
 about_at c (x ∷ xs) (suc i) m h e = about_at c xs i m (both_true (belongs c x) (list_all (belongs c) xs) h).1 e
+
+pub about_if : (c : CircuitId) (xs : List Message) (i : ℕ) (o : Option Message) → AllBelong c xs → o ≡ slice_get xs i → IfSome o (λ m. belongs c m ≡ true)
+about_if c xs i None h e = tt
+about_if c xs i (Some m) h e = about_at c xs i m h (sym e)
 
 pub sends_about_take : (c : CircuitId) (os : List Outgoing) (i : ℕ) → SendsBelong c os → SendsBelong c (take i os)
 sends_about_take c os zero h = refl

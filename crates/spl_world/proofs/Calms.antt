@@ -3,6 +3,7 @@ use Rattle.std.proofs.Common.{◌≡◌, ℕ, zero, suc, ◌+◌, ◌-◌, ◌�
 use Rattle.std.proofs.lemmas.List.{take-append-drop}
 use Rattle.std.specs.Str.{bytes_eq}
 use Rattle.spl_base.specs.FormLaws.{both_true}
+use Rattle.spl_base.specs.Booleans.{bytes_are}
 use Rattle.spl_circuit.specs.Nodes.{NodeId, CircuitId, has_node, is_below, inserted, sorted}
 use Rattle.spl_circuit.specs.Rules.{ascends, ascends_after}
 use Rattle.spl_circuit.proofs.Order.{below_turned}
@@ -13,7 +14,8 @@ use Rattle.spl_model.specs.Worlds.{step_plan}
 use Rattle.spl_model.specs.Calm.{Calming, calming_step, open_nodes, ticks, delivers, pair_turn, to_all, from_all, pass, passes}
 use Rattle.spl_model.specs.Puts.{put_at-other}
 use Rattle.spl_model.proofs.Quiet.{to_all-grows, from_all-grows, passes-grow, ticks-length}
-use Rattle.spl_world.proofs.Sends.{bool_cases, bytes_are}
+use Rattle.spl_world.proofs.Sends.{bool_cases}
+use Rattle.spl_world.proofs.Slots.{plus_one}
 
 -- ---- one more of each
 
@@ -83,11 +85,8 @@ passes_more : (c : CircuitId) (ns : List NodeId) (k : ℕ) (z : Calming) → pas
 passes_more c ns zero z = refl
 passes_more c ns (suc k) z = passes_more c ns k (pass c ns z)
 
-next : (k : ℕ) → k + 1 ≡ suc k
-next k = omega arith
-
 pub passes_next : (c : CircuitId) (ns : List NodeId) (k : ℕ) (z : Calming) → passes c ns (k + 1) z ≡ pass c ns (passes c ns k z)
-passes_next c ns k z = ap (λ (i : ℕ). passes c ns i z) (next k) ∙ passes_more c ns k z
+passes_next c ns k z = ap (λ (i : ℕ). passes c ns i z) (plus_one k) ∙ passes_more c ns k z
 
 -- ---- what ticks leave as it was
 

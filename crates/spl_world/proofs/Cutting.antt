@@ -1,10 +1,9 @@
 -- A node that stops in an event.
-use Rattle.std.proofs.Common.{◌≡◌, ℕ, zero, suc, ◌-◌, ◌≤◌, ◌⊎◌, inl, inr, Bool, true, false, ◌&&◌, ◌||◌, nat_le, nat_lt, ◌^◌, List, [], ◌∷◌, slice_get, Option, Some, None, if◌then◌else◌, refl, ap, sym, subst, ◌∙◌, arith}
-use Rattle.std.proofs.lemmas.Bool.Decides.{nat_tests}
+use Rattle.std.proofs.Common.{◌≡◌, ℕ, zero, suc, ◌-◌, ◌≤◌, ◌⊎◌, inl, inr, Bool, true, false, ◌&&◌, ◌||◌, nat_le, List, [], ◌∷◌, slice_get, Option, Some, None, if◌then◌else◌, refl, ap, sym, subst, ◌∙◌, arith}
 use Rattle.std.specs.Prelude.{◌==◌, is_some}
 use Rattle.std.specs.Str.{bytes_eq}
 use Rattle.spl_agree.proofs.Tests.{if_true, if_false}
-use Rattle.spl_base.specs.FormLaws.{both_true}
+use Rattle.spl_base.specs.Booleans.{bytes_are, bytes_same}
 use Rattle.spl_circuit.specs.Nodes.{NodeId, CircuitId}
 use Rattle.spl_edge.specs.declared.fill.Fill.{Fill}
 use Rattle.spl_edge.specs.declared.fill.Fill.TheVariants as fill
@@ -20,11 +19,12 @@ use Rattle.spl_node.specs.declared.host.Host.{Host}
 use Rattle.spl_node.specs.declared.node.Node.{Node}
 use Rattle.spl_node.specs.declared.stopping.Stopping.{Stopping}
 use Rattle.spl_node.specs.declared.stopping.Stopping.TheVariants as stopping
+use Rattle.spl_node.proofs.Booleans.{le_is}
 use Rattle.spl_wire.specs.declared.plan.Plan.{Plan}
 use Rattle.spl_rules.specs.Cells.{Cell}
 use Rattle.spl_rules.specs.Changes.{made, stopped_cell}
 use Rattle.spl_rules.specs.Plans.{plan_of}
-use Rattle.spl_sched.specs.Grammar.{is_fill, is_line, is_step, step_circuit, step_node}
+use Rattle.spl_sched.specs.Grammar.{is_line, step_circuit, step_node}
 use Rattle.spl_sched.specs.declared.line.Line.TheVariants as line
 use Rattle.spl_sched.specs.declared.line.Step.{Step}
 use Rattle.spl_wire.specs.declared.answer.Answer.{Answer}
@@ -36,14 +36,10 @@ use Rattle.spl_world.specs.Halts.{IsEventOf, bit_in, said}
 use Rattle.spl_world.specs.Held.{IsTornBy}
 use Rattle.spl_world.specs.Views.{Holds, Nodes, slot_id, slot_ids, slot_up, slot_ups, view_in}
 use Rattle.spl_world.specs.declared.slot.Slot.{Slot}
-use Rattle.spl_world.proofs.About.{same_itself}
 use Rattle.spl_world.proofs.Up.{step_down, up_at}
-use Rattle.spl_world.proofs.Sends.{bool_cases, bytes_are}
+use Rattle.spl_world.proofs.Sends.{bool_cases}
 
 -- ---- which record is kept
-
-le_is : (a b : ℕ) → a ≤ b → nat_le a b ≡ true
-le_is a b h = grind (arith, nat_tests)
 
 pub opens_same : (f : Fill) → leaves_open f ≡ opens f
 opens_same fill.Old = refl
@@ -82,13 +78,6 @@ pub fail_from_one : (call : ℕ) (s : Step) → is_line (line.Fail call s) ≡ t
 fail_from_one zero s h = absurd cc
 fail_from_one (suc n) s h = omega arith
 
--- the step of a line is within its bounds
-pub cut_step : (calls : ℕ) (f : Fill) (s : Step) → is_line (line.Cut calls f s) ≡ true → is_step s ≡ true
-cut_step calls f s h = (both_true (nat_lt calls (2 ^ 8) && is_fill f) (is_step s) h).1
-
-pub fail_step : (call : ℕ) (s : Step) → is_line (line.Fail call s) ≡ true → is_step s ≡ true
-fail_step call s h = (both_true (nat_le 1 call && nat_lt call (2 ^ 8)) (is_step s) h).1
-
 -- ---- the node
 
 -- an event changes what it does by the cell where it comes
@@ -111,7 +100,7 @@ module _ (xs : Nodes) (i : ℕ) (x : Slot) (m : CircuitWorld) (s : Step) (c : Ci
   halted_here kept =
       let cells = (view_in xs x).cells in
       let ys = event_changes (slot_id x) cells c e in
-      ap (λ (b : Bool). if b then stopped_cell (if kept then made (slot_id x) (cells c) ys else cells c) else stopped_cell (cells c)) (same_itself c)
+      ap (λ (b : Bool). if b then stopped_cell (if kept then made (slot_id x) (cells c) ys else cells c) else stopped_cell (cells c)) (bytes_same c)
       ∙ ap (λ (k : Cell). stopped_cell (if kept then made (slot_id x) k ys else k)) cell_is
       ∙ ap (λ (zs : List Change). stopped_cell (if kept then made (slot_id x) (m.at (slot_id x)) zs else m.at (slot_id x))) changes_here
 
@@ -130,14 +119,14 @@ module _ (xs : Nodes) (i : ℕ) (x : Slot) (m : CircuitWorld) (s : Step) (c : Ci
   halted_cell : behind.at (slot_id x) ≡ stopped_cell (made (slot_id x) (m.at (slot_id x)) (step_plan m s).changes)
   halted_cell = subst (λ (n : NodeId). (if m.up n then halted m n true (step_plan m s) else m).at (slot_id x) ≡ stopped_cell (made (slot_id x) (m.at (slot_id x)) (step_plan m s).changes)) id
       (ap (λ (b : Bool). (if b then halted m (slot_id x) true (step_plan m s) else m).at (slot_id x)) (sym (h.each i x there).up ∙ up)
-      ∙ put_at-here m.at (slot_id x) (slot_id x) (stopped_cell (made (slot_id x) (m.at (slot_id x)) (step_plan m s).changes)) (same_itself (slot_id x)))
+      ∙ put_at-here m.at (slot_id x) (slot_id x) (stopped_cell (made (slot_id x) (m.at (slot_id x)) (step_plan m s).changes)) (bytes_same (slot_id x)))
 
   pub behind_halt : (d : CircuitId) → stopped_cell (cells_stopped (slot_id x) cells c (event_changes (slot_id x) cells c e) true d) ≡ stopped_cell (cells_in c behind (slot_id x) cells d)
   behind_halt d = go (bool_cases (bytes_eq c d))
     where
       go : (bytes_eq c d ≡ true) ⊎ (bytes_eq c d ≡ false) → stopped_cell (cells_stopped (slot_id x) cells c (event_changes (slot_id x) cells c e) true d) ≡ stopped_cell (cells_in c behind (slot_id x) cells d)
       go (inl q) = subst (λ (k : CircuitId). stopped_cell (cells_stopped (slot_id x) cells c (event_changes (slot_id x) cells c e) true k) ≡ stopped_cell (cells_in c behind (slot_id x) cells k)) (bytes_are c d q)
-          (ap stopped_cell (halted_here xs i x m s c e h there id about is true ∙ sym halted_cell ∙ ap (λ (b : Bool). if b then behind.at (slot_id x) else cells c) (sym (same_itself c))))
+          (ap stopped_cell (halted_here xs i x m s c e h there id about is true ∙ sym halted_cell ∙ ap (λ (b : Bool). if b then behind.at (slot_id x) else cells c) (sym (bytes_same c))))
       go (inr q) = ap stopped_cell (stopped_else (slot_id x) cells c (event_changes (slot_id x) cells c e) true d q) ∙ sym (still_stopped (cells d)) ∙ ap (λ (b : Bool). stopped_cell (if b then behind.at (slot_id x) else cells d)) (sym q)
 
 -- ---- slots

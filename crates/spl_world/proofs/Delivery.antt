@@ -1,5 +1,5 @@
 -- A delivery in the world of its circuit.
-use Rattle.std.proofs.Common.{◌≡◌, ℕ, ◌+◌, ◌-◌, ◌⊎◌, inl, inr, true, false, List, [], ◌∷◌, ◌++◌, Option, Some, None, slice_get, refl, ap, sym, ◌∙◌, subst, arith}
+use Rattle.std.proofs.Common.{◌≡◌, ℕ, ◌+◌, ◌-◌, ◌⊎◌, inl, inr, true, false, Option, Some, None, slice_get, refl, ap, sym, ◌∙◌, subst, arith, append-nil}
 use Rattle.std.specs.Str.{bytes_eq}
 use Rattle.spl_circuit.specs.Nodes.{NodeId, CircuitId}
 use Rattle.spl_wire.specs.declared.message.Message.{Message}
@@ -9,20 +9,25 @@ use Rattle.spl_wire.specs.declared.plan.Plan.{Plan}
 use Rattle.spl_wire.specs.declared.answer.Answer.{Answer}
 use Rattle.spl_wire.specs.declared.answer.Answer.TheVariants as answer
 use Rattle.spl_wire.specs.declared.answer.Refusal.TheVariants as refusal
+use Rattle.spl_wire.specs.Messages.{circuit_of}
 use Rattle.spl_sched.specs.declared.line.Step.{Step}
 use Rattle.spl_sched.specs.declared.line.Step.TheVariants as step
 use Rattle.spl_sched.specs.Grammar.{step_node}
 use Rattle.spl_rules.specs.Cells.{Cell, Held}
 use Rattle.spl_rules.specs.Plans.{plan_of, tells_only}
 use Rattle.spl_rules.specs.Changes.{after_plan}
-use Rattle.spl_model.specs.Worlds.{site_at, World as CircuitWorld, Sent, messages, delivery, on_pair, put_at, carried_out, step_plan, step_world}
+use Rattle.spl_rules.specs.Valid.{IsFor, is_legal}
+use Rattle.spl_model.specs.Worlds.{site_at, World as CircuitWorld, messages, delivery, on_pair, put_at, carried_out, step_plan, step_world}
 use Rattle.spl_model.specs.Puts.{put_at-here, put_at-other}
 use Rattle.spl_world.specs.Halts.{IsEventOf, delivery_of}
 use Rattle.spl_world.specs.Views.{Nodes, Holds, Moves, slot_id}
 use Rattle.spl_world.proofs.Up.{step_up, world_down}
-use Rattle.spl_world.proofs.Sends.{bool_cases, bytes_are}
+use Rattle.spl_world.proofs.Sends.{bool_cases}
+use Rattle.spl_world.specs.Kept.{belongs}
+use Rattle.spl_base.specs.FormLaws.{both_true}
+use Rattle.spl_base.specs.Booleans.{bytes_are}
 
-number : (index : ℕ) → (index + 1) - 1 ≡ index
+pub number : (index : ℕ) → (index + 1) - 1 ≡ index
 number index = omega arith
 
 pub delivery_is : (m : CircuitWorld) (c : CircuitId) (a b : NodeId) (index : ℕ) (x : Message) → slice_get (messages m a b) index ≡ Some x → m.up b ≡ true → plan_of (site_at b c) (m.at b) (event.Deliver a x) ≡ step_plan m (step.Deliver a b c (index + 1))
@@ -42,6 +47,14 @@ delivered_as m c a b index e is up = delivery_by m c a b index e (slice_get (mes
 pub none_delivered : (a : NodeId) (o : Option Message) → None ≡ delivery_of a o → o ≡ None
 none_delivered a None is = refl
 none_delivered a (Some x) is = cc
+
+-- the event of a message that was found
+pub found_delivery : (a i : NodeId) (x y : Message) (o : Option Message) → i ≡ a → y ≡ x → Some x ≡ o → Some (event.Deliver i y) ≡ delivery_of a o
+found_delivery a i x y o from same is = ap (λ (n : NodeId). Some (event.Deliver n y)) from ∙ ap (λ (z : Message). Some (event.Deliver a z)) same ∙ ap (delivery_of a) is
+
+-- it is one for a node that didn't send it
+pub is_for : (n i : NodeId) (c : CircuitId) (x : Message) → bytes_eq i n ≡ false → belongs c x ≡ true → IsFor (site_at n c) (event.Deliver i x)
+is_for n i c x off about = let both = both_true (bytes_eq (circuit_of x) c) (is_legal x) about in (both.0, off, both.1)
 
 -- so where a node stops in it
 pub event_at : (m : CircuitWorld) (n : NodeId) (c : CircuitId) (e : Event) → m.up n ≡ true → IsEventOf (Some e) m (step.At n c e)
@@ -64,10 +77,6 @@ quiet : (here : NodeId) (k : Cell) (a : Answer) → after_plan here k (tells_onl
 quiet here (Held h) a = refl
 quiet here _ a = refl
 
-append_nothing : (xs : List Sent) → xs ++ [] ≡ xs
-append_nothing [] = refl
-append_nothing (x ∷ xs) = ap (λ ys. x ∷ ys) (append_nothing xs)
-
 quiet_at : (m : CircuitWorld) (n z : NodeId) (a : Answer) → put_at m.at n (after_plan n (m.at n) (tells_only a)) z ≡ m.at z
 quiet_at m n z a = go (bool_cases (bytes_eq z n))
   where
@@ -82,7 +91,7 @@ quiet_holds c n m a xs h = record {
   each = λ i x there. let stood = h.each i x there in record {
     up = stood.up;
     state = stood.state ∙ sym (quiet_at m n (slot_id x) a);
-    sent = λ b known. stood.sent b known ∙ ap (on_pair (slot_id x) b) (sym (append_nothing m.sent));
+    sent = λ b known. stood.sent b known ∙ ap (on_pair (slot_id x) b) (sym (append-nil m.sent));
   };
   told = h.told;
 }

@@ -1,7 +1,6 @@
 -- What a stop leaves of disks where an event ended with an error.
 use Rattle.std.proofs.Common.{◌≡◌, ◌⊎◌, inl, inr, ℕ, ◌≤◌, Bool, true, false, List, slice_get, slice_set, Option, Some, None, IfSome, Result, Ok, Err, refl, ap, sym, subst, ◌∙◌, arith}
-use Rattle.std.specs.Prelude.{IsErr, IsErrOf, IsSome, IfErr, if◌then◌else◌}
-use Rattle.std.specs.Result.{IsErrAnd}
+use Rattle.std.specs.Prelude.{IsErrOf, IsSome, IfErr, if◌then◌else◌}
 use Rattle.std.specs.Str.{bytes_eq}
 use Rattle.spl_circuit.specs.Nodes.{NodeId, CircuitId}
 use Rattle.spl_edge.specs.Image.{Image, IsSettled}
@@ -34,13 +33,13 @@ use Rattle.spl_world.specs.Views.{Holds, Nodes, Sits, node_view, slot_id, slot_i
 use Rattle.spl_world.specs.declared.fault.WorldFault.{WorldFault}
 use Rattle.spl_world.specs.declared.fault.WorldFault.TheVariants.{Disk, NoMemory, TooMany}
 use Rattle.spl_world.specs.declared.slot.Slot.{Slot}
-use Rattle.spl_world.proofs.About.{same_itself}
 use Rattle.spl_world.proofs.Counting.{failed}
 use Rattle.spl_world.proofs.Cutting.{behind_halt}
 use Rattle.spl_world.proofs.Handling.{disks_are, own_view}
 use Rattle.spl_world.proofs.Pairing.{images_here, images_set, pair_here}
-use Rattle.spl_world.proofs.Sends.{bool_cases, bytes_are}
+use Rattle.spl_world.proofs.Sends.{bool_cases}
 use Rattle.spl_world.proofs.Slots.{same_at, set_else, set_here, set_same}
+use Rattle.spl_base.specs.Booleans.{bytes_are, bytes_same}
 
 -- ---- two disks
 
@@ -120,11 +119,6 @@ left_either n f is h = safe_map (StandFor n f) (λ x y. StandFor n f x y ⊎ Sta
 
 -- ---- results
 
--- a call that failed as the call in it did
-pub failed_ends : {B : Type 0} (r : Result B WorldFault) (f : WorldFault) → IsErr r × IsErrAnd r (λ y. y ≡ f) → (P : WorldFault → Type 0) → P f → IfErr r P
-failed_ends (Ok b) f e P h = tt
-failed_ends (Err y) f e P h = subst P (sym e.1) h
-
 pub at_fault : {A : Type 0} (r : Result A WorldFault) (P Q : WorldFault → Type 0) → ((e : WorldFault) → P e → Q e) → IfErr r P → IfErr r Q
 at_fault (Ok a) P Q f h = tt
 at_fault (Err e) P Q f h = f e h
@@ -200,7 +194,7 @@ module _ {D : Type 0} (image_at : D → ℕ → Option Image) (moment : D → �
           let here : slot_id s ≡ n = same_at ss i s n there at in
           ap (λ (x : Cell). after_plan (slot_id s) x (plan_of (site_at (slot_id s) c) x e)) (h.each i s there).state
           ∙ ap (λ (j : NodeId). after_plan j (m.at j) (plan_of (site_at j c) (m.at j) e)) here
-          ∙ sym (put_at-here m.at n (slot_id s) (after_plan n (m.at n) (plan_of (site_at n c) (m.at n) e)) (ap (λ (j : NodeId). bytes_eq j n) here ∙ same_itself n))
+          ∙ sym (put_at-here m.at n (slot_id s) (after_plan n (m.at n) (plan_of (site_at n c) (m.at n) e)) (ap (λ (j : NodeId). bytes_eq j n) here ∙ bytes_same n))
 
       cells_behind : (d : CircuitId) → cells_after (slot_id s) old_cells c e d ≡ cells_in c behind (slot_id s) old_cells d
       cells_behind d = ap (λ (x : Cell). if bytes_eq c d then x else old_cells d) own_cell

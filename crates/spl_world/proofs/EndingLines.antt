@@ -26,8 +26,9 @@ use Rattle.spl_world.proofs.Counting.{failed}
 use Rattle.spl_world.proofs.Ending.{either_as, hold_as, hold_either, stands_hold}
 use Rattle.spl_world.proofs.EndingParts.{leads_then}
 use Rattle.spl_world.proofs.HoldingNow.{IsSlot, slot_there}
-use Rattle.spl_world.proofs.Sends.{bool_cases, bytes_are}
+use Rattle.spl_world.proofs.Sends.{bool_cases}
 use Rattle.spl_world.proofs.Slots.{place_at}
+use Rattle.spl_base.specs.Booleans.{bytes_are}
 
 -- ---- moments
 

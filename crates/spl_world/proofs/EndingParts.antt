@@ -84,7 +84,7 @@ module _ (c : CircuitId) where
   pub leads_pass : (ns : List NodeId) (z : Calming) → Leads z (pass c ns z)
   leads_pass ns z = let y = ticks c z (open_nodes z.world ns) in leads_then z y (pass c ns z) (leads_ticks z (open_nodes z.world ns)) (leads_from_all y ns ns)
 
-  leads_passes : (ns : List NodeId) (k : ℕ) (z : Calming) → Leads z (passes c ns k z)
+  pub leads_passes : (ns : List NodeId) (k : ℕ) (z : Calming) → Leads z (passes c ns k z)
   leads_passes ns zero z = leads_same z
   leads_passes ns (suc k) z = leads_then z (pass c ns z) (passes c ns k (pass c ns z)) (leads_pass ns z) (leads_passes ns k (pass c ns z))
 
@@ -140,9 +140,6 @@ module _ (c : CircuitId) where
   -- behind one more pass
   pub next_pass_leads : (ns : List NodeId) (i k : ℕ) (z : Calming) → i + 1 ≤ k → Leads (pass c ns (passes c ns i z)) (passes c ns k z)
   next_pass_leads ns i k z h = subst (λ (y : Calming). Leads y (passes c ns k z)) (passes_next c ns i z) (passes_leads ns (i + 1) k z h)
-
-  pub passes_so_far : (ns : List NodeId) (k : ℕ) (z : Calming) → Leads z (passes c ns k z)
-  passes_so_far ns k z = leads_passes ns k z
 
   -- ---- parts
 

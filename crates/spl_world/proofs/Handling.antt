@@ -19,7 +19,7 @@ use Rattle.spl_world.specs.Views.{Holds, Moves, Nodes, Sits, node_view, slot_id,
 use Rattle.spl_world.specs.declared.slot.Slot.{Slot}
 use Rattle.spl_world.proofs.Leaving.{all_one, bench_here, bench_set, leaves_one}
 use Rattle.spl_world.proofs.Moving.{event_moves}
-use Rattle.spl_world.proofs.Pairing.{images_here, images_length, images_set, pair_here, sits_changed, changed}
+use Rattle.spl_world.proofs.Pairing.{changed, images_length, images_set, own_images, sits_changed}
 
 module _ {D : Type 0} (image_at : D → ℕ → Option Image) (moment : D → ℕ) (ss : List Slot) (ps : List (Pair D)) (i : ℕ) (s : Slot) (sits : Sits (record { slots = ss; disks = images image_at moment ps })) (there : slice_get ss i ≡ Some s) where
   abbrev nodes : Nodes
@@ -30,19 +30,19 @@ module _ {D : Type 0} (image_at : D → ℕ → Option Image) (moment : D → �
   pair_below k place = subst (λ (n : ℕ). n < length ps) (sym place) (subst (λ (n : ℕ). s.position < n) (images_length image_at moment ps) (sits.below i s there))
 
   module _ (k : ℕ) (place : k ≡ s.position) (p : Pair D) (pair : slice_get ps k ≡ Some p) where
-    own_images : images_at (images image_at moment ps) s.position ≡ images_of image_at moment p
-    own_images = ap (images_at (images image_at moment ps)) (sym place) ∙ pair_here (images image_at moment ps) k (images_of image_at moment p) (images_here image_at moment ps k p pair)
+    own_are : images_at (images image_at moment ps) s.position ≡ images_of image_at moment p
+    own_are = own_images image_at moment ps k p pair s.position place
 
     -- the host stands over it
     pub own_stands : HostStands s.host (images_of image_at moment p).0 (images_of image_at moment p).1
-    own_stands = subst (λ (q : Images). HostStands s.host q.0 q.1) own_images (sits.each i s there)
+    own_stands = subst (λ (q : Images). HostStands s.host q.0 q.1) own_are (sits.each i s there)
 
     -- and tells where the nodes stand for a world
     pub own_told : (c : CircuitId) (m : CircuitWorld) → Holds c m nodes → Tell (images_of image_at moment p)
-    own_told c m h = subst Tell own_images (h.told i s there)
+    own_told c m h = subst Tell own_are (h.told i s there)
 
     pub own_view : view_in nodes s ≡ node_view s (images_of image_at moment p)
-    own_view = ap (node_view s) own_images
+    own_view = ap (node_view s) own_are
 
     -- what is written there is one node and its pair
     module _ (t : Slot) (r : Pair D) where
@@ -62,7 +62,7 @@ module _ {D : Type 0} (image_at : D → ℕ → Option Image) (moment : D → �
           → Moves c (λ m. carried_out m n (plan_of (site_at n c) (m.at n) e)) nodes (record { slots = slice_set ss i t; disks = images image_at moment (slice_set ps k r) })
       own_moves c n e same id up at tells done others =
           subst (λ (is : List Images). Moves c (λ (m : CircuitWorld). carried_out m n (plan_of (site_at n c) (m.at n) e)) nodes (record { slots = slice_set ss i t; disks = is })) disks_are
-          (event_moves nodes i s t (images_of image_at moment r) c n e sits there same id up at (subst (λ (q : Images). TellAs q (images_of image_at moment r)) (sym own_images) tells)
+          (event_moves nodes i s t (images_of image_at moment r) c n e sits there same id up at (subst (λ (q : Images). TellAs q (images_of image_at moment r)) (sym own_are) tells)
           (subst (λ (v : NodeView). IsDone (slot_id s) (plan_of (site_at (slot_id s) c) (v.cells c) e) (place_of v c) (place_of (node_view t (images_of image_at moment r)) c)) (sym own_view) done)
           (λ d off. subst (λ (v : NodeView). place_of (node_view t (images_of image_at moment r)) d ≡ place_of v d) (sym own_view) (others d off)))
 

@@ -15,10 +15,14 @@ use Rattle.spl_world.specs.declared.world.World.{World}
 use Rattle.spl_world.proofs.Sends.{bool_cases}
 
 -- a place is that of a node
-id_there : (ss : List Slot) (i k : ℕ) → slice_get (slot_places ss) i ≡ Some k → (n : NodeId) × (slice_get (slot_ids ss) i ≡ Some n)
+pub id_there : (ss : List Slot) (i k : ℕ) → slice_get (slot_places ss) i ≡ Some k → (n : NodeId) × (slice_get (slot_ids ss) i ≡ Some n)
 id_there [] i k e = absurd cc
 id_there (s ∷ ss) zero k e = (slot_id s, refl)
 id_there (s ∷ ss) (suc i) k e = id_there ss i k e
+
+pub as_many_places : (ss : List Slot) → length (slot_places ss) ≡ length (slot_ids ss)
+as_many_places [] = refl
+as_many_places (s ∷ ss) = ap suc (as_many_places ss)
 
 -- ---- points
 

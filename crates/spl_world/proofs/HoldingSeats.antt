@@ -17,7 +17,8 @@ use Rattle.spl_world.specs.declared.slot.Slot.{Slot}
 use Rattle.spl_world.specs.declared.world.World.{World}
 use Rattle.spl_world.proofs.Made.{entry_at, found_known}
 use Rattle.spl_world.proofs.Reading.{has_at}
-use Rattle.spl_world.proofs.Sends.{bool_cases, bytes_are}
+use Rattle.spl_world.proofs.Sends.{bool_cases}
+use Rattle.spl_base.specs.Booleans.{bytes_are}
 
 -- a node that is known has an index
 pub node_index : (ns : List NodeId) (n : NodeId) → has_node ns n ≡ true → (i : ℕ) × (slice_get ns i ≡ Some n)
@@ -60,6 +61,12 @@ some_is (Some k) h = (k, refl)
 -- the id at a position of a registry
 id_there : (es : List Entry) (k : ℕ) (n : NodeId) → node_at es k ≡ Some n → slice_get (registered es) k ≡ Some n
 id_there es k n at = slice_get-map (λ (e : Entry). e.identity) es k ∙ at
+
+-- a position of a node is one of its registry
+pub node_below : (es : List Entry) (k : ℕ) (n : NodeId) → node_at es k ≡ Some n → k < length es
+node_below [] k n e = absurd cc
+node_below (x ∷ es) zero n e = omega arith
+node_below (x ∷ es) (suc k) n e = let rest : k < length es = node_below es k n e in omega (arith, rest)
 
 module _ (es : List Entry) (w : World) (differ : AllPairs (λ x y. x ≢ y) (registered es)) (ids : ids_of w ≡ sorted (registered es)) (placed : ArePlaced es w) where
   -- each node of the registry is a node of the world, with the pair at its position

@@ -21,13 +21,13 @@ use Rattle.spl_world.specs.Held.{AllPicked, FailsIn, HavePicked, HigherAt, IsInC
 use Rattle.spl_world.specs.Views.{Stands, ids_of, over, places_of, slot_id, slot_ids, slot_up}
 use Rattle.spl_world.specs.declared.slot.Slot.{Slot}
 use Rattle.spl_world.specs.declared.world.World.{World}
-use Rattle.spl_world.proofs.About.{same_itself}
 use Rattle.spl_world.proofs.Holding.{all_picked_by, all_picked_on, old_there}
 use Rattle.spl_world.proofs.HoldingNow.{IsSlot, pair_held, slot_there}
 use Rattle.spl_world.proofs.Leaving.{all_itself}
 use Rattle.spl_world.proofs.Made.{once}
-use Rattle.spl_world.proofs.Sends.{bool_cases, bytes_are}
+use Rattle.spl_world.proofs.Sends.{bool_cases}
 use Rattle.spl_world.proofs.Slots.{apart, id_at, place_at}
+use Rattle.spl_base.specs.Booleans.{bytes_are, bytes_same}
 
 images_are : (o p : Option Image) (a b : Image) (P : Image → Image → Type 0) → o ≡ Some a → p ≡ Some b → IfBoth o p P → P a b
 images_are o p a b P e f h = subst (λ (y : Option Image). IfBoth (Some a) y P) f (subst (λ (x : Option Image). IfBoth x p P) e h)
@@ -164,7 +164,7 @@ module _ {D : Type 0} (image_at : D → ℕ → Option Image) (moment faults : D
 
     module _ (up : slot_up x ≡ true) where
       picks_here : picks_at (slot_id x) before r ≡ true
-      picks_here = ap (λ (b : Bool). b && is_up (slot_id x) before) (at_x (slot_id x) ∙ same_itself (slot_id x)) ∙ up_is ∙ up
+      picks_here = ap (λ (b : Bool). b && is_up (slot_id x) before) (at_x (slot_id x) ∙ bytes_same (slot_id x)) ∙ up_is ∙ up
 
       -- its own pair
       by_own : (p q : PairView) → slice_get (told old) x.position ≡ Some p → slice_get (told new) x.position ≡ Some q → IsPairUnarmed p → PicksBy (ids_of w) before r (slot_id x) p q

@@ -2,6 +2,7 @@
 use Rattle.std.proofs.Common.{◌≡◌, ◌⊎◌, inl, inr, ℕ, zero, suc, ◌<◌, ◌≤◌, false, true≢false, List, [], ◌∷◌, length, slice_get, slice_set, Option, Some, Result, Ok, Err, OnErr, refl, ap, sym, subst, ◌∙◌, arith}
 use Rattle.std.specs.Prelude.{IfErr, IsErr, IsErrOf}
 use Rattle.std.specs.Result.{IsErrAnd}
+use Rattle.std.proofs.lemmas.Option.{slice_get_within}
 use Rattle.spl_edge.specs.Image.{Image}
 use Rattle.spl_edge.specs.Picks.{Picked}
 use Rattle.spl_edge.specs.declared.bench.Pair.{Pair}
@@ -33,15 +34,10 @@ on_then x y z a b = record {
 pub pair_then : (p q r : PairView) → PairGoesOn p q → PairGoesOn q r → PairGoesOn p r
 pair_then p q r a b = record { first = on_then p.first q.first r.first a.first b.first; second = on_then p.second q.second r.second a.second b.second }
 
-some_at : {X : Type 0} (xs : List X) (i : ℕ) → i < length xs → (x : X) × (slice_get xs i ≡ Some x)
+pub some_at : {X : Type 0} (xs : List X) (i : ℕ) → i < length xs → (x : X) × (slice_get xs i ≡ Some x)
 some_at [] i h = absurd (omega (arith, h))
 some_at (x ∷ xs) zero h = (x, refl)
 some_at (x ∷ xs) (suc i) h = let r : i < length xs = omega (arith, h) in some_at xs i r
-
-pub get_below : {X : Type 0} (xs : List X) (i : ℕ) (x : X) → slice_get xs i ≡ Some x → i < length xs
-get_below [] i x h = absurd cc
-get_below (y ∷ xs) zero x h = omega arith
-get_below (y ∷ xs) (suc i) x h = let r : i < length xs = get_below xs i x h in omega (arith, r)
 
 pub same_there : {X : Type 0} (xs : List X) (i : ℕ) (x y : X) → slice_get xs i ≡ Some x → slice_get xs i ≡ Some y → x ≡ y
 same_there xs i x y e f = let q : Some x ≡ Some y = sym e ∙ f in cc
@@ -51,7 +47,7 @@ all_itself xs = record { as_many = refl; each = λ i p q e f. subst (PairGoesOn 
 
 -- the pair between
 between : (xs ys : List PairView) (i : ℕ) (p : PairView) → AllGoOn xs ys → slice_get xs i ≡ Some p → (m : PairView) × (slice_get ys i ≡ Some m)
-between xs ys i p a e = some_at ys i (subst (λ (n : ℕ). i < n) (sym a.as_many) (get_below xs i p e))
+between xs ys i p a e = some_at ys i (subst (λ (n : ℕ). i < n) (sym a.as_many) (slice_get_within xs i p e))
 
 pub all_then : (xs ys zs : List PairView) → AllGoOn xs ys → AllGoOn ys zs → AllGoOn xs zs
 all_then xs ys zs a b = record {
@@ -71,14 +67,18 @@ leaves_ok a xs ys on = record { onward = on; failed = λ slot q. absurd cc }
 pub leaves_same : {A : Type 0} (a : A) (xs : List PairView) → LeavesDisks (Ok a) xs xs
 leaves_same a xs = leaves_ok a xs xs (all_itself xs)
 
+-- a disk that failed, behind calls that let all go on
+pub rose_behind : (slot : ℕ) (xs ys zs : List PairView) → AllGoOn xs ys → RoseAt slot ys zs → RoseAt slot xs zs
+rose_behind slot xs ys zs on rose = record {
+  below = subst (λ (n : ℕ). slot < n) on.as_many rose.below;
+  rose = λ p z e f. let m = between xs ys slot p on e in rose_then p m.0 z (on.each slot p m.0 e m.1) (rose.rose m.0 z m.1 f);
+}
+
 -- a call behind another
 pub leaves_then : {A : Type 0} (r : Result A WorldFault) (xs ys zs : List PairView) → AllGoOn xs ys → LeavesDisks r ys zs → LeavesDisks r xs zs
 leaves_then r xs ys zs on k = record {
   onward = all_then xs ys zs on k.onward;
-  failed = λ slot q. let rose = k.failed slot q in record {
-    below = subst (λ (n : ℕ). slot < n) on.as_many rose.below;
-    rose = λ p z e f. let m = between xs ys slot p on e in rose_then p m.0 z (on.each slot p m.0 e m.1) (rose.rose m.0 z m.1 f);
-  };
+  failed = λ slot q. rose_behind slot xs ys zs on (k.failed slot q);
 }
 
 -- one that fails as the call in it does
@@ -177,7 +177,7 @@ rose_one xs k x y there rose p q e (inl c) = subst (λ (z : PairView). HasRisen 
 rose_one xs k x y there rose p q e (inr c) = absurd (c.0 refl)
 
 pub rose_at : (xs : List PairView) (k : ℕ) (x y : PairView) → slice_get xs k ≡ Some x → HasRisen x y → RoseAt k xs (slice_set xs k y)
-rose_at xs k x y there rose = record { below = get_below xs k x there; rose = λ p z e h. rose_one xs k x y there rose p z e (set_cases xs k k y z h) }
+rose_at xs k x y there rose = record { below = slice_get_within xs k x there; rose = λ p z e h. rose_one xs k x y there rose p z e (set_cases xs k k y z h) }
 
 -- a call of one pair
 pub leaves_one : {A : Type 0} (r : Result A WorldFault) (xs : List PairView) (k : ℕ) (x y : PairView) → slice_get xs k ≡ Some x → PairGoesOn x y → ((slot : ℕ) → IsErrOf r (Disk slot) → (slot ≡ k) × HasRisen x y) → LeavesDisks r xs (slice_set xs k y)

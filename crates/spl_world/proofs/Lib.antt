@@ -1,23 +1,23 @@
 mod About
 mod Calms
 mod Composed
-mod Counting
+pub mod Counting
 mod Delivery
 mod Entries
 mod Made
-mod Unmade
+pub mod Unmade
 mod Moving
-mod Handling
+pub mod Handling
 pub mod Leaving
-mod Pairing
+pub mod Pairing
 mod Posting
 mod Quieting
 mod Reading
-mod Results
+pub mod Results
 mod Rolling
 mod Sends
-mod Slots
-mod Standing
+pub mod Slots
+pub mod Standing
 mod Staying
 mod Defined
 mod Steps

@@ -1,5 +1,5 @@
 -- How calls leave the links, one behind the other.
-use Rattle.std.proofs.Common.{◌≡◌, ℕ, ◌≤◌, Bool, true, false, ◌||◌, List, [], ◌++◌, append-nil, append_assoc, Result, Ok, Err, OnErr, refl, sym, ap, subst, ◌∙◌, arith}
+use Rattle.std.proofs.Common.{◌≡◌, ℕ, ◌≤◌, Bool, true, false, List, [], ◌++◌, append-nil, append_assoc, Result, Ok, Err, OnErr, refl, sym, ap, subst, ◌∙◌, arith}
 use Rattle.std.specs.Prelude.{IfErr, IsErr, IsErrOf}
 use Rattle.std.specs.List.{list_any}
 use Rattle.std.specs.Result.{IsErrAnd}
@@ -7,7 +7,7 @@ use Rattle.std.proofs.lemmas.List.Folds.{list_any-append}
 use Rattle.spl_pump.proofs.Carrying.{goes_on_none, goes_on_more, puts_on, puts_on_part, same_puts}
 use Rattle.spl_pump.proofs.Wires.{puts_nothing, puts_part}
 use Rattle.spl_pump.specs.Moves.{Streams}
-use Rattle.std.proofs.lemmas.Bool.{eq-eqb}
+use Rattle.std.proofs.lemmas.Bool.{eq-eqb, or_left, or_right}
 use Rattle.spl_edge.specs.Causes.{Rose}
 use Rattle.spl_pump.specs.Wires.{Carried, LiesOf, Puts, PutsPart, is_on, only}
 use Rattle.spl_pump.specs.declared.fault.PumpFault.{PumpFault}
@@ -45,14 +45,6 @@ carries_then xs ys x y z a b = record {
 }
 
 -- ---- a part of them
-
-or_left : (a b : Bool) → a ≡ true → (a || b) ≡ true
-or_left true b e = refl
-or_left false b e = absurd cc
-
-or_right : (a b : Bool) → b ≡ true → (a || b) ≡ true
-or_right true b e = refl
-or_right false b e = e
 
 any_front : (p : Carried → Bool) (xs ys : List Carried) → list_any p xs ≡ true → list_any p (xs ++ ys) ≡ true
 any_front p xs ys h = list_any-append p xs ys ∙ or_left (list_any p xs) (list_any p ys) h

@@ -20,7 +20,7 @@ use Rattle.spl_world.proofs.Counting.{failed}
 use Rattle.spl_world.proofs.Linking.{IsIdle, IsOff, done, carries_nothing, delivers_as, delivers_failed, delivers_still, delivers_then, part_more}
 use Rattle.spl_world.proofs.Calms.{passes_split}
 use Rattle.spl_world.proofs.Reading.{no_messages}
-use Rattle.spl_world.proofs.Turns.{turn_none}
+use Rattle.spl_world.proofs.Turns.{nothing_less, turn_none}
 
 module _ (place : NodeId → ℕ) where
   -- it ended with this error
@@ -112,9 +112,6 @@ module _ (place : NodeId → ℕ) where
         let is = subst (λ (t : ℕ). PartDelivers r place z (delivers c z a b (t + 1) (length (messages z.world a b) - t)) p q) (sym e) all_is in
         let there : Calming = delivers c z a b (z.taken a b + 1) (length (messages z.world a b) - z.taken a b) in
         part_to r z (takes there a b (length (messages z.world a b))) (pair_turn c z a b) p q (turn_up z a b up) (part_takes r z there a b (length (messages z.world a b)) p q is)
-
-    nothing_less : (t : ℕ) → 0 - t ≡ 0
-    nothing_less t = omega arith
 
     -- a node has no turn with itself
     pub part_own : (z : Calming) (a b : NodeId) (x : LinkView) → bytes_eq a b ≡ true → z.world.up b ≡ true → IsIdle x → PartDelivers done place z (pair_turn c z a b) x x

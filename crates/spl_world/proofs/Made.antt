@@ -2,6 +2,7 @@
 use Rattle.std.proofs.Common.{◌≡◌, ◌⊎◌, inl, inr, ℕ, zero, suc, ◌+◌, ◌<◌, ◌≤◌, true, false, true≢false, List, [], ◌∷◌, ◌++◌, length, take, option_map, Some, IsSome, slice_get, slice_set, refl, ap, sym, ◌∙◌, subst, arith}
 use Rattle.std.proofs.lemmas.Bool.{cases_eq}
 use Rattle.std.specs.List.{position_from}
+use Rattle.std.proofs.lemmas.Option.{slice_get_within}
 use Rattle.spl_circuit.specs.Nodes.{NodeId, CircuitId, has_node, is_below, sorted}
 use Rattle.spl_circuit.specs.Rules.{ascends}
 use Rattle.spl_circuit.proofs.Order.{not_below_itself}
@@ -15,10 +16,11 @@ use Rattle.spl_world.specs.Views.{Holds, IsFresh, IsPlace, Sits, slot_id, slot_i
 use Rattle.spl_world.specs.declared.slot.Slot.{Slot}
 use Rattle.spl_world.proofs.Pairing.{pair_here}
 use Rattle.spl_world.proofs.Reading.{has_at}
-use Rattle.spl_world.proofs.Sends.{bool_cases, bytes_are}
+use Rattle.spl_world.proofs.Sends.{bool_cases}
 use Rattle.spl_world.proofs.Slots.{below_after, id_at, not_before, set_else, set_here, set_length, tail_ascends, take_one}
 use Rattle.spl_world.proofs.Telling.{told_as}
 use Rattle.spl_world.proofs.Turns.{append_cases}
+use Rattle.spl_base.specs.Booleans.{bytes_are}
 
 -- ---- positions in a registry
 
@@ -57,12 +59,7 @@ one_id : (es : List Entry) (k : ℕ) (a b : NodeId) → IsEntry es k a → IsEnt
 one_id es k a b p q = let e : Some p.entry ≡ Some q.entry = sym p.there ∙ q.there in let same : p.entry ≡ q.entry = cc in sym p.id_is ∙ ap (λ (x : Entry). x.identity) same ∙ q.id_is
 
 pub entry_below : (es : List Entry) (k : ℕ) (n : NodeId) → IsEntry es k n → k < length es
-entry_below es k n p = within es k p.entry p.there
-  where
-    within : (xs : List Entry) (i : ℕ) (x : Entry) → slice_get xs i ≡ Some x → i < length xs
-    within [] i x h = absurd cc
-    within (y ∷ xs) zero x h = omega arith
-    within (y ∷ xs) (suc i) x h = let r : i < length xs = within xs i x h in omega (arith, r)
+entry_below es k n p = slice_get_within es k p.entry p.there
 
 -- ids that ascend stand once
 pub once : (ns : List NodeId) (i j : ℕ) (n : NodeId) → ascends ns ≡ true → slice_get ns i ≡ Some n → slice_get ns j ≡ Some n → j ≡ i

@@ -1,44 +1,36 @@
 -- An event at one node moves the world of its circuit, and no other.
-use Rattle.std.proofs.Common.{◌≡◌, ℕ, ◌⊎◌, inl, inr, true, false, true≢false, ◌&&◌, List, [], ◌∷◌, ◌++◌, Some, slice_get, slice_set, refl, ap, sym, ◌∙◌, subst}
+use Rattle.std.proofs.Common.{◌≡◌, ℕ, ◌⊎◌, inl, inr, true, false, true≢false, List, [], ◌∷◌, ◌++◌, Some, slice_get, slice_set, refl, ap, sym, ◌∙◌, subst, append-nil}
 use Rattle.std.specs.Str.{bytes_eq}
 use Rattle.spl_circuit.specs.Nodes.{NodeId, CircuitId, has_node}
 use Rattle.spl_circuit.specs.Rules.{ascends}
-use Rattle.spl_wire.specs.declared.message.Message.{Message}
 use Rattle.spl_wire.specs.declared.event.Event.{Event}
 use Rattle.spl_wire.specs.declared.plan.Outgoing.{Outgoing}
 use Rattle.spl_wire.specs.declared.plan.Plan.{Plan}
 use Rattle.spl_rules.specs.Cells.{Cell}
 use Rattle.spl_rules.specs.Plans.{plan_of}
 use Rattle.spl_rules.specs.Changes.{after_plan}
-use Rattle.spl_model.specs.Worlds.{site_at, World as CircuitWorld, Sent, on_pair, posted, carried_out}
+use Rattle.spl_model.specs.Worlds.{site_at, World as CircuitWorld, on_pair, posted, carried_out}
 use Rattle.spl_model.specs.Puts.{put_at-here, put_at-other}
 use Rattle.spl_world.specs.Kept.{NodeView, PlaceView, IsDone, place_of, sent_to, sends_to}
 use Rattle.spl_world.specs.Disks.{Images, Tell, TellAs, images_at}
 use Rattle.spl_world.specs.Views.{Nodes, Holds, IsAs, Moves, Sits, node_view, slot_id, slot_ids, slot_up, view_in}
 use Rattle.spl_world.specs.declared.slot.Slot.{Slot}
-use Rattle.spl_world.proofs.About.{same_itself}
-use Rattle.spl_world.proofs.Sends.{bool_cases, bytes_are}
+use Rattle.spl_world.proofs.Sends.{bool_cases}
 use Rattle.spl_world.proofs.Pairing.{changed, told_changed, view_else, view_here}
 use Rattle.spl_world.proofs.Slots.{same_at, id_at, same_ids, set_cases, apart}
 use Rattle.spl_world.proofs.Telling.{told_as}
+use Rattle.spl_calm.proofs.Pairs.{on_pair-append}
+use Rattle.spl_base.specs.Booleans.{bytes_are, bytes_same}
 
 -- ---- what is posted
-
-on_pair_append : (a b : NodeId) (xs ys : List Sent) → on_pair a b (xs ++ ys) ≡ on_pair a b xs ++ on_pair a b ys
-on_pair_append a b [] ys = refl
-on_pair_append a b (x ∷ xs) ys = go (bool_cases (bytes_eq x.from a && bytes_eq x.to b)) (on_pair_append a b xs ys)
-  where
-    go : ((bytes_eq x.from a && bytes_eq x.to b) ≡ true) ⊎ ((bytes_eq x.from a && bytes_eq x.to b) ≡ false) → on_pair a b (xs ++ ys) ≡ on_pair a b xs ++ on_pair a b ys → on_pair a b (x ∷ xs ++ ys) ≡ on_pair a b (x ∷ xs) ++ on_pair a b ys
-    go (inl q) e = rw q (ap (λ ms. x.message ∷ ms) e)
-    go (inr q) e = rw q e
 
 posted_here : (ns : List NodeId) (n b : NodeId) (os : List Outgoing) → has_node ns b ≡ true → on_pair n b (posted ns n os) ≡ sends_to b os
 posted_here ns n b [] h = refl
 posted_here ns n b (o ∷ os) h = go (bool_cases (has_node ns o.to)) (bool_cases (bytes_eq o.to b)) (posted_here ns n b os h)
   where
     go : (has_node ns o.to ≡ true) ⊎ (has_node ns o.to ≡ false) → (bytes_eq o.to b ≡ true) ⊎ (bytes_eq o.to b ≡ false) → on_pair n b (posted ns n os) ≡ sends_to b os → on_pair n b (posted ns n (o ∷ os)) ≡ sends_to b (o ∷ os)
-    go (inl r) (inl q) e = rw (r, same_itself n, q) (ap (λ ms. o.message ∷ ms) e)
-    go (inl r) (inr q) e = rw (r, same_itself n, q) e
+    go (inl r) (inl q) e = rw (r, bytes_same n, q) (ap (λ ms. o.message ∷ ms) e)
+    go (inl r) (inr q) e = rw (r, bytes_same n, q) e
     go (inr r) (inl q) e = absurd (true≢false (sym h ∙ ap (has_node ns) (sym (bytes_are o.to b q)) ∙ r))
     go (inr r) (inr q) e = rw (r, q) e
 
@@ -50,10 +42,6 @@ posted_else ns n a b (o ∷ os) h = go (bool_cases (has_node ns o.to)) (posted_e
     go (inl r) e = rw (r, h) e
     go (inr r) e = rw r e
 
-append_nothing : (xs : List Message) → xs ++ [] ≡ xs
-append_nothing [] = refl
-append_nothing (x ∷ xs) = ap (λ ys. x ∷ ys) (append_nothing xs)
-
 -- ---- one node
 
 -- the node where a plan is carried out
@@ -61,9 +49,9 @@ own_as : (c : CircuitId) (m : CircuitWorld) (x y : NodeView) (n : NodeId) (p : P
 own_as c m x y n p here same ups stood done = record {
   up = ups ∙ stood.up ∙ ap m.up (sym same);
   state = done.state ∙ ap (λ (k : Cell). after_plan n k p) (stood.state ∙ ap m.at here)
-      ∙ sym (put_at-here m.at n y.id (after_plan n (m.at n) p) (ap (λ (i : NodeId). bytes_eq i n) (same ∙ here) ∙ same_itself n));
+      ∙ sym (put_at-here m.at n y.id (after_plan n (m.at n) p) (ap (λ (i : NodeId). bytes_eq i n) (same ∙ here) ∙ bytes_same n));
   sent = λ b known. done.sent b ∙ ap (λ ms. ms ++ sends_to b p.sends) (stood.sent b known ∙ ap (λ (i : NodeId). on_pair i b m.sent) here)
-      ∙ ap (λ ms. on_pair n b m.sent ++ ms) (sym (posted_here m.nodes n b p.sends known)) ∙ sym (on_pair_append n b m.sent (posted m.nodes n p.sends))
+      ∙ ap (λ ms. on_pair n b m.sent ++ ms) (sym (posted_here m.nodes n b p.sends known)) ∙ sym (on_pair-append n b m.sent (posted m.nodes n p.sends))
       ∙ ap (λ (i : NodeId). on_pair i b (m.sent ++ posted m.nodes n p.sends)) (sym (same ∙ here));
 }
 
@@ -72,7 +60,7 @@ else_as : (c : CircuitId) (m : CircuitWorld) (z : NodeView) (n : NodeId) (p : Pl
 else_as c m z n p off back stood = record {
   up = stood.up;
   state = stood.state ∙ sym (put_at-other m.at n z.id (after_plan n (m.at n) p) off);
-  sent = λ b known. stood.sent b known ∙ sym (append_nothing (on_pair z.id b m.sent)) ∙ ap (λ ms. on_pair z.id b m.sent ++ ms) (sym (posted_else m.nodes n z.id b p.sends back)) ∙ sym (on_pair_append z.id b m.sent (posted m.nodes n p.sends));
+  sent = λ b known. stood.sent b known ∙ sym (append-nil (on_pair z.id b m.sent)) ∙ ap (λ ms. on_pair z.id b m.sent ++ ms) (sym (posted_else m.nodes n z.id b p.sends back)) ∙ sym (on_pair-append z.id b m.sent (posted m.nodes n p.sends));
 }
 
 same_as : (d : CircuitId) (m : CircuitWorld) (x y : NodeView) → y.id ≡ x.id → y.up ≡ x.up → place_of y d ≡ place_of x d → IsAs d m x → IsAs d m y

@@ -28,6 +28,10 @@ images_length image_at moment (r ∷ ps) = ap suc (images_length image_at moment
 pub pair_here : (is : List Images) (k : ℕ) (q : Images) → slice_get is k ≡ Some q → images_at is k ≡ q
 pair_here is k q e = ap images_or_none e
 
+-- so the images of its disks
+pub own_images : {D : Type 0} (image_at : D → ℕ → Option Image) (moment : D → ℕ) (ps : List (Pair D)) (k : ℕ) (p : Pair D) → slice_get ps k ≡ Some p → (slot : ℕ) → k ≡ slot → images_at (images image_at moment ps) slot ≡ images_of image_at moment p
+own_images image_at moment ps k p pair slot place = ap (images_at (images image_at moment ps)) (sym place) ∙ pair_here (images image_at moment ps) k (images_of image_at moment p) (images_here image_at moment ps k p pair)
+
 pub pair_there : (is : List Images) (k : ℕ) → k < length is → slice_get is k ≡ Some (images_at is k)
 pair_there [] k below = absurd (omega (arith, below))
 pair_there (q ∷ is) zero below = refl

@@ -1,5 +1,6 @@
 -- Disks of one node that are picked from.
 use Rattle.std.proofs.Common.{◌≡◌, ℕ, ◌<◌, ◌≤◌, ◌⊎◌, inl, inr, Bool, true, false, true≢false, List, [], ◌∷◌, ◌++◌, slice_get, slice_set, Option, Some, None, refl, ap, sym, subst, ◌∙◌, arith}
+use Rattle.std.proofs.lemmas.Option.{slice_get_within}
 use Rattle.spl_edge.specs.Image.{Image}
 use Rattle.spl_edge.specs.Picks.{Picked}
 use Rattle.spl_edge.specs.declared.bench.Pair.{Pair}
@@ -12,7 +13,7 @@ use Rattle.spl_node.specs.Hosts.{PicksOld}
 use Rattle.spl_snapshot.specs.Counting.{IfBoth, chosen, second_counts}
 use Rattle.spl_world.specs.Disks.{DiskView, HasRisen, IsPairUnarmed, IsUnarmed, NoneForgotten, PairView, RoseAt, bench, pair_view}
 use Rattle.spl_world.specs.Held.{HasArmedPick, HavePicked, HigherAt, OtherPicksHigher, PicksHigher, StopsAt, image_now}
-use Rattle.spl_world.proofs.Leaving.{bench_here, bench_set, get_below, rose_at, same_there}
+use Rattle.spl_world.proofs.Leaving.{bench_here, bench_set, rose_at, same_there}
 use Rattle.spl_world.proofs.Slots.{set_cases, set_else, set_here, set_length, set_same}
 
 -- ---- a plain stop
@@ -77,7 +78,7 @@ module _ (xs : List PairView) (k : ℕ) (x y : PairView) (there : slice_get xs k
     others = λ i off. set_else xs k i y (λ e. off (sym e));
     picks = λ u p q e f.
         let was : x ≡ p = same_there xs k x p there e in
-        let at : Some y ≡ Some q = sym (set_here xs k y (get_below xs k x there)) ∙ f in
+        let at : Some y ≡ Some q = sym (set_here xs k y (slice_get_within xs k x there)) ∙ f in
         let now : y ≡ q = cc in
         subst (λ (z : PairView). P z q) was (subst (P x) now (picked u));
     none = none;

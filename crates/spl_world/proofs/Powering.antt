@@ -22,11 +22,11 @@ use Rattle.spl_world.specs.Kept.{NodeView, Posted, lists_about, sent_to}
 use Rattle.spl_world.specs.Views.{Nodes, Holds, IsAs, Sits, Stands, ids_of, node_view, over, slot_id, slot_ids, slot_up, view_in}
 use Rattle.spl_world.specs.declared.slot.Slot.{Slot}
 use Rattle.spl_world.specs.declared.world.World.{World}
-use Rattle.spl_world.proofs.About.{same_itself}
 use Rattle.spl_world.proofs.Sends.{bool_cases}
 use Rattle.spl_world.proofs.Pairing.{changed, told_changed, view_else, view_here}
 use Rattle.spl_world.proofs.Standing.{stops_after}
 use Rattle.spl_world.proofs.Slots.{id_at, same_ids, set_cases, apart}
+use Rattle.spl_base.specs.Booleans.{bytes_same}
 
 -- two worlds that are the same but at one node
 pub record IsSameBut (n : NodeId) (m m2 : CircuitWorld) : Type 0 where
@@ -79,22 +79,22 @@ module _ (xs : Nodes) (i : ℕ) (x y : Slot) (q : Images) (sits : Sits xs) (ther
   pub stop_holds : (c : CircuitId) (m : CircuitWorld) → Holds c m xs → slot_up x ≡ true → slot_up y ≡ false → is_at c ≡ stopped_cell (was_at c) → y.posts ≡ x.posts → Holds c (happens m (Stops (slot_id x))) (changed xs i x y q)
   stop_holds c m h was up state sent = if_true (λ (w : CircuitWorld). Holds c w (changed xs i x y q)) (m.up (slot_id x)) (stopped m (slot_id x)) m (sym (h.each i x there).up ∙ was)
       (but_holds c m (stopped m (slot_id x)) h (record { nodes = refl; sent = refl; up = λ k off. put_at-other m.up (slot_id x) k false off; at = λ k off. put_at-other m.at (slot_id x) k (stopped_cell (m.at (slot_id x))) off })
-      (up ∙ sym (put_at-here m.up (slot_id x) (slot_id x) false (same_itself (slot_id x))))
-      (state ∙ ap stopped_cell (h.each i x there).state ∙ sym (put_at-here m.at (slot_id x) (slot_id x) (stopped_cell (m.at (slot_id x))) (same_itself (slot_id x)))) sent)
+      (up ∙ sym (put_at-here m.up (slot_id x) (slot_id x) false (bytes_same (slot_id x))))
+      (state ∙ ap stopped_cell (h.each i x there).state ∙ sym (put_at-here m.at (slot_id x) (slot_id x) (stopped_cell (m.at (slot_id x))) (bytes_same (slot_id x)))) sent)
 
   -- in an event of this circuit
   pub halt_holds : (c : CircuitId) (m : CircuitWorld) (s : Step) (kept : Bool) → step_node s ≡ slot_id x → Holds c m xs → slot_up x ≡ true → slot_up y ≡ false → is_at c ≡ stopped_cell (if kept then made (slot_id x) (m.at (slot_id x)) (step_plan m s).changes else m.at (slot_id x)) → y.posts ≡ x.posts → Holds c (happens m (Halts kept s)) (changed xs i x y q)
   halt_holds c m s kept at h was up state sent = subst (λ (n : NodeId). Holds c (if m.up n then halted m n kept (step_plan m s) else m) (changed xs i x y q)) (sym at)
       (if_true (λ (w : CircuitWorld). Holds c w (changed xs i x y q)) (m.up (slot_id x)) (halted m (slot_id x) kept (step_plan m s)) m (sym (h.each i x there).up ∙ was)
       (but_holds c m (halted m (slot_id x) kept (step_plan m s)) h (record { nodes = refl; sent = refl; up = λ k off. put_at-other m.up (slot_id x) k false off; at = λ k off. put_at-other m.at (slot_id x) k _ off })
-      (up ∙ sym (put_at-here m.up (slot_id x) (slot_id x) false (same_itself (slot_id x))))
-      (state ∙ sym (put_at-here m.at (slot_id x) (slot_id x) _ (same_itself (slot_id x)))) sent))
+      (up ∙ sym (put_at-here m.up (slot_id x) (slot_id x) false (bytes_same (slot_id x))))
+      (state ∙ sym (put_at-here m.at (slot_id x) (slot_id x) _ (bytes_same (slot_id x)))) sent))
 
   -- a node that was down comes up, with the cells that it had
   pub start_holds : (c : CircuitId) (m : CircuitWorld) → Holds c m xs → slot_up x ≡ false → slot_up y ≡ true → is_at c ≡ was_at c → y.posts ≡ x.posts → Holds c (happens m (Starts (slot_id x))) (changed xs i x y q)
   start_holds c m h was up state sent = if_false (λ (w : CircuitWorld). Holds c w (changed xs i x y q)) (m.up (slot_id x)) m (started m (slot_id x)) (sym (h.each i x there).up ∙ was)
       (but_holds c m (started m (slot_id x)) h (record { nodes = refl; sent = refl; up = λ k off. put_at-other m.up (slot_id x) k true off; at = λ k off. refl })
-      (up ∙ sym (put_at-here m.up (slot_id x) (slot_id x) true (same_itself (slot_id x))))
+      (up ∙ sym (put_at-here m.up (slot_id x) (slot_id x) true (bytes_same (slot_id x))))
       (state ∙ (h.each i x there).state) sent)
 
   -- whether it was up before or not

@@ -1,25 +1,22 @@
 -- What the nodes tell of the world that they stand for.
-use Rattle.std.proofs.Common.{◌≡◌, ℕ, zero, suc, Bool, true, false, ◌||◌, List, [], ◌∷◌, Some, slice_get, refl, ap, sym, ◌∙◌, subst}
+use Rattle.std.proofs.Common.{◌≡◌, ℕ, zero, suc, true, false, ◌||◌, List, [], ◌∷◌, Some, slice_get, refl, ap, sym, ◌∙◌, subst}
 use Rattle.std.specs.Str.{bytes_eq}
+use Rattle.std.proofs.lemmas.Bool.{or_right}
 use Rattle.spl_circuit.specs.Nodes.{NodeId, CircuitId, has_node}
 use Rattle.spl_rules.specs.Cells.{is_open_cell}
 use Rattle.spl_model.specs.Worlds.{World as CircuitWorld, messages, on_pair}
 use Rattle.spl_world.specs.Kept.{lists_about, sent_to}
 use Rattle.spl_world.specs.Views.{Nodes, Holds, slot_id, slot_ids, view_in}
 use Rattle.spl_world.specs.declared.slot.Slot.{Slot}
-use Rattle.spl_world.proofs.About.{same_itself}
 use Rattle.spl_world.proofs.Slots.{same_at}
+use Rattle.spl_base.specs.Booleans.{bytes_same}
 
 pub open_as : (xs : Nodes) (i : ℕ) (x : Slot) (c : CircuitId) (n : NodeId) (m : CircuitWorld) → slice_get xs.slots i ≡ Some x → slice_get (slot_ids xs.slots) i ≡ Some n → Holds c m xs → is_open_cell ((view_in xs x).cells c) ≡ is_open_cell (m.at n)
 open_as xs i x c n m there at h = ap is_open_cell ((h.each i x there).state ∙ ap m.at (same_at xs.slots i x n there at))
 
-or_right : (a b : Bool) → b ≡ true → (a || b) ≡ true
-or_right true b e = refl
-or_right false b e = e
-
 pub has_at : (ns : List NodeId) (j : ℕ) (b : NodeId) → slice_get ns j ≡ Some b → has_node ns b ≡ true
 has_at [] j b e = absurd cc
-has_at (n ∷ ns) zero b e = let same : n ≡ b = cc in subst (λ (k : NodeId). (bytes_eq k b || has_node ns b) ≡ true) (sym same) (ap (λ t. t || has_node ns b) (same_itself b))
+has_at (n ∷ ns) zero b e = let same : n ≡ b = cc in subst (λ (k : NodeId). (bytes_eq k b || has_node ns b) ≡ true) (sym same) (ap (λ t. t || has_node ns b) (bytes_same b))
 has_at (n ∷ ns) (suc j) b e = or_right (bytes_eq n b) (has_node ns b) (has_at ns j b e)
 
 pub messages_as : (xs : Nodes) (i j : ℕ) (x y : Slot) (c : CircuitId) (a b : NodeId) (m : CircuitWorld) → slice_get xs.slots i ≡ Some x → slice_get xs.slots j ≡ Some y → slice_get (slot_ids xs.slots) i ≡ Some a → slice_get (slot_ids xs.slots) j ≡ Some b → Holds c m xs → bytes_eq a b ≡ false

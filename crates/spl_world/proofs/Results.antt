@@ -1,6 +1,7 @@
--- What follows where a call succeeded.
-use Rattle.std.proofs.Common.{◌≡◌, Bool, true, false, Result, Ok, Err, OnOk, OnErr, IfOk}
-use Rattle.std.specs.Prelude.{is_err}
+-- What follows where a call succeeded, and where it failed.
+use Rattle.std.proofs.Common.{◌≡◌, Bool, true, false, Result, Ok, Err, OnOk, OnErr, IfOk, sym, subst}
+use Rattle.std.specs.Prelude.{IfErr, IsErr, IsErrOf, is_err}
+use Rattle.std.specs.Result.{IsErrAnd}
 
 pub at_ok : {A E : Type 0} {P Q : Type 0} (r : Result A E) → (P → Q) → OnOk r P → OnOk r Q
 at_ok (Ok a) f p = f p
@@ -46,3 +47,12 @@ ok_is (Err x) b e = tt
 pub err_is : {A E : Type 0} (r : Result A E) (b : Bool) → b ≡ is_err r → OnErr r (b ≡ true)
 err_is (Ok a) b e = tt
 err_is (Err x) b e = e
+
+-- a call that fails as one in it does
+pub err_from : {T E : Type 0} (r : Result T E) (e : E) (P : E → Type 0) → IsErr r × IsErrAnd r (λ y. y ≡ e) → P e → IfErr r P
+err_from (Ok x) e P h p = tt
+err_from (Err y) e P h p = subst P (sym h.1) p
+
+pub err_same : {T E : Type 0} (r : Result T E) (f d : E) → IsErr r × IsErrAnd r (λ y. y ≡ f) → IsErrOf r d → f ≡ d
+err_same (Ok a) f d e q = absurd e.1
+err_same (Err y) f d e q = let is : y ≡ f = e.1 in cc

@@ -7,6 +7,7 @@ use Rattle.std.specs.Ordering.{nat_cmp, is_lt}
 use Rattle.std.specs.Cmp.Lexicographic.{slice_cmp}
 use Rattle.std.specs.Str.{bytes_eq}
 use Rattle.spl_base.specs.FormLaws.{and_true}
+use Rattle.spl_base.specs.Booleans.{bytes_are, bytes_same}
 use Rattle.spl_circuit.specs.Nodes.{NodeId, CircuitId, has_node, is_below}
 use Rattle.spl_circuit.specs.Rules.{ascends, ascends_after}
 use Rattle.spl_rules.specs.Cells.{Cell, is_bound}
@@ -20,9 +21,8 @@ use Rattle.spl_projection.specs.Apart.{moves-beside}
 use Rattle.spl_projection.specs.Whole.{whole_world}
 use Rattle.spl_projection.proofs.Rolls.{bound-is}
 use Rattle.spl_projection.proofs.Ups.{whole-up}
-use Rattle.spl_world.proofs.About.{same_itself}
 use Rattle.spl_world.proofs.Standing.{fits_after}
-use Rattle.spl_world.proofs.Sends.{bool_cases, bytes_are}
+use Rattle.spl_world.proofs.Sends.{bool_cases}
 
 rises : (x : CircuitId) (ys : List CircuitId) → AllByRecursion (λ (y : CircuitId). slice_cmp nat_cmp x y ≡ Less) ys → IsStrictlySortedBy (slice_cmp nat_cmp) ys → ascends_after x ys ≡ true
 unfolding IsStrictlySortedBy
@@ -38,7 +38,7 @@ turned : (a b : CircuitId) → bytes_eq a b ≡ bytes_eq b a
 turned a b = go (bool_cases (bytes_eq a b)) (bool_cases (bytes_eq b a))
   where
     flip : (x y : CircuitId) → bytes_eq x y ≡ true → bytes_eq y x ≡ true
-    flip x y q = subst (λ (z : CircuitId). bytes_eq z x ≡ true) (bytes_are x y q) (same_itself x)
+    flip x y q = subst (λ (z : CircuitId). bytes_eq z x ≡ true) (bytes_are x y q) (bytes_same x)
 
     go : (bytes_eq a b ≡ true) ⊎ (bytes_eq a b ≡ false) → (bytes_eq b a ≡ true) ⊎ (bytes_eq b a ≡ false) → bytes_eq a b ≡ bytes_eq b a
     go (inl p) (inl q) = p ∙ sym q

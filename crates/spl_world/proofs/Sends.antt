@@ -1,17 +1,14 @@
 -- What a plan sends to one node.
 use Rattle.std.proofs.Common.{◌≡◌, ◌⊎◌, inl, inr, Bool, true, false, List, [], ◌∷◌, ◌++◌, refl, ap, sym, ◌∙◌, subst, append_assoc}
 use Rattle.std.specs.Str.{bytes_eq}
-use Rattle.std.proofs.lemmas.Slice.Eq.{bytes_eq-Decides}
 use Rattle.spl_circuit.specs.Nodes.{NodeId}
 use Rattle.spl_wire.specs.declared.plan.Outgoing.{Outgoing}
 use Rattle.spl_world.specs.Kept.{Lists, sent_to, sends_to}
+use Rattle.spl_base.specs.Booleans.{bytes_are}
 
 pub bool_cases : (b : Bool) → (b ≡ true) ⊎ (b ≡ false)
 bool_cases true = inl refl
 bool_cases false = inr refl
-
-pub bytes_are : (a b : List _) → bytes_eq a b ≡ true → a ≡ b
-bytes_are a b = (bytes_eq-Decides a b).0
 
 sends_one : (b : NodeId) (os : List Outgoing) (o : Outgoing) → bytes_eq o.to b ≡ true → sends_to b (os ++ o ∷ []) ≡ sends_to b os ++ o.message ∷ []
 sends_one b [] o h = rw h refl

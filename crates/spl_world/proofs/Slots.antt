@@ -3,12 +3,13 @@ use Rattle.std.proofs.Common.{◌≡◌, ℕ, zero, suc, ◌+◌, ◌<◌, ◌�
 use Rattle.std.specs.List.{position_from}
 use Rattle.std.specs.Str.{bytes_eq}
 use Rattle.spl_base.specs.FormLaws.{both_true}
+use Rattle.spl_base.specs.Booleans.{bytes_are}
 use Rattle.spl_circuit.specs.Nodes.{NodeId, has_node, is_below}
 use Rattle.spl_circuit.specs.Rules.{ascends, ascends_after}
 use Rattle.spl_circuit.proofs.Order.{below_trans, not_below_itself}
 use Rattle.spl_world.specs.Views.{slot_id, slot_ids, slot_places, has_id}
 use Rattle.spl_world.specs.declared.slot.Slot.{Slot}
-use Rattle.spl_world.proofs.Sends.{bool_cases, bytes_are}
+use Rattle.spl_world.proofs.Sends.{bool_cases}
 
 pub known_is_found : (xs : List Slot) (n : NodeId) (k : ℕ) → has_node (slot_ids xs) n ≡ true → IsSome (position_from (has_id n) k xs)
 known_is_found [] n k h = cc
@@ -113,7 +114,7 @@ take_suc [] i x e = absurd cc
 take_suc (y ∷ ys) zero x e = let same : y ≡ x = cc in ap (λ z. z ∷ []) same
 take_suc (y ∷ ys) (suc i) x e = ap (λ zs. y ∷ zs) (take_suc ys i x e)
 
-plus_one : (i : ℕ) → i + 1 ≡ suc i
+pub plus_one : (i : ℕ) → i + 1 ≡ suc i
 plus_one i = omega arith
 
 pub take_one : {X : Type 0} (xs : List X) (i : ℕ) (x : X) → slice_get xs i ≡ Some x → take (i + 1) xs ≡ take i xs ++ x ∷ []

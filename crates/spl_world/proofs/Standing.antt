@@ -30,7 +30,8 @@ use Rattle.spl_world.specs.Lines.{stops}
 use Rattle.spl_world.specs.Views.{Holds, Moves, Sits, Stands, ids_of, over}
 use Rattle.spl_world.specs.declared.world.World.{World}
 use Rattle.spl_world.proofs.Results.{when_ok}
-use Rattle.spl_world.proofs.Sends.{bool_cases, bytes_are}
+use Rattle.spl_world.proofs.Sends.{bool_cases}
+use Rattle.spl_base.specs.Booleans.{bytes_are}
 
 -- lines within their bounds, and one more
 pub fits_after : (before : List Ran) (l : Line) → lines_fit before ≡ true → is_line l ≡ true → lines_fit (before ++ by_rule l ∷ []) ≡ true
@@ -108,6 +109,15 @@ one_stop (line.Stop n) h = refl
 one_stop (line.Cut calls f s) h = refl
 one_stop (line.Fail call s) h = refl
 one_stop _ h = absurd (true≢false (sym h))
+
+pub none_counted : (l : Line) → stops l ≡ false → line_stops l ≡ 0
+none_counted (line.Step s) h = refl
+none_counted (line.Calm id passes) h = refl
+none_counted (line.Stop n) h = absurd cc
+none_counted (line.Start n) h = refl
+none_counted (line.Roll n) h = refl
+none_counted (line.Cut calls fill s) h = absurd cc
+none_counted (line.Fail call s) h = absurd cc
 
 -- the limit that a call names, where it is that of the call in it
 pub limit_is : {A B : Type 0} (r : Result B WorldFault) (f : WorldFault) (n which : ℕ) → IsErr r × IsErrAnd r (λ y. y ≡ f) → IsErrOf (failed A f) (TooMany n) → IsErrOf r (TooMany which) → which ≡ n

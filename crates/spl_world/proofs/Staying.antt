@@ -10,7 +10,8 @@ use Rattle.spl_model.specs.Worlds.{Sent, World as CircuitWorld, IsUnmoved, on_pa
 use Rattle.spl_model.proofs.Unmoved.{unmoved-step}
 use Rattle.spl_world.specs.Kept.{NodeView}
 use Rattle.spl_world.specs.Views.{Nodes, IsAs, Holds, Moves, Stays, view_in}
-use Rattle.spl_world.proofs.Sends.{bool_cases, bytes_are}
+use Rattle.spl_world.proofs.Sends.{bool_cases}
+use Rattle.spl_base.specs.Booleans.{bytes_are}
 
 -- nodes that stand for a world stand for what it was before it stayed
 holds_unmoved : (c : CircuitId) (m n : CircuitWorld) (xs : Nodes) → IsUnmoved m n → Holds c n xs → Holds c m xs

@@ -1,5 +1,5 @@
 -- The ticks of a pass, one node more.
-use Rattle.std.proofs.Common.{◌≡◌, ℕ, ◌+◌, ◌⊎◌, inl, inr, Bool, true, false, true≢false, not, ◌&&◌, ◌||◌, List, [], ◌∷◌, ◌++◌, take, drop, ◌≤◌, length, length-append, Some, slice_get, refl, ap, sym, subst, ◌∙◌, if◌then◌else◌, arith}
+use Rattle.std.proofs.Common.{◌≡◌, ℕ, ◌+◌, ◌⊎◌, inl, inr, Bool, true, false, true≢false, not, ◌&&◌, ◌||◌, List, [], ◌∷◌, ◌++◌, take, drop, ◌≤◌, length, length-append, Some, slice_get, refl, ap, sym, subst, ◌∙◌, if◌then◌else◌, arith, append-nil}
 use Rattle.std.specs.List.{filter, AllByRecursion}
 use Rattle.std.proofs.lemmas.List.{take-append-drop}
 use Rattle.std.proofs.lemmas.List.Elements.{filter-append}
@@ -35,10 +35,6 @@ ticked c z ns m = (ticks c (record z { world = m }) (open_nodes m ns)).world
 all_append : (P : NodeId → Type 0) (xs ys : List NodeId) → AllByRecursion P xs → AllByRecursion P ys → AllByRecursion P (xs ++ ys)
 all_append P [] ys h k = k
 all_append P (x ∷ xs) ys h k = (h.0, all_append P xs ys h.1 k)
-
-append_nothing : (xs : List NodeId) → xs ++ [] ≡ xs
-append_nothing [] = refl
-append_nothing (x ∷ xs) = ap (λ ys. x ∷ ys) (append_nothing xs)
 
 without : (p : NodeId → Bool) (xs : List NodeId) (n : NodeId) → has_node xs n ≡ false → has_node (filter p xs) n ≡ false
 without p [] n h = refl
@@ -80,7 +76,7 @@ module _ (c : CircuitId) (z : Calming) (ids : List NodeId) (i : ℕ) (n : NodeId
   closed_more h closed =
       let here : is_ticked n ≡ false = sym (now h) ∙ closed in
       let none : filter is_ticked (n ∷ []) ≡ [] = rw here refl in
-      sym (ap (λ ns. (ticks c (record z { world = m }) ns).world) (more ∙ ap (λ ns. open_nodes m (take i ids) ++ ns) none ∙ append_nothing (open_nodes m (take i ids))))
+      sym (ap (λ ns. (ticks c (record z { world = m }) ns).world) (more ∙ ap (λ ns. open_nodes m (take i ids) ++ ns) none ∙ append-nil (open_nodes m (take i ids))))
 
   -- how many ticks that is
   pub count_more : has_node (take i ids) n ≡ false → length (open_nodes m (take (i + 1) ids)) ≡ length (open_nodes m (take i ids)) + tick_count (ticked c z (take i ids) m) n
@@ -128,7 +124,3 @@ idle_told c n m a ready told idle = ap (λ (p : Plan). is_idle p.answer) (step_u
 pub not_false : (b : Bool) → not b ≡ false → b ≡ true
 not_false true h = refl
 not_false false h = cc
-
-pub or_false : (a b : Bool) → (a || b) ≡ false → (a ≡ false) × (b ≡ false)
-or_false true b h = cc
-or_false false b h = (refl, h)

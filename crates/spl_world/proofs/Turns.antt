@@ -11,11 +11,11 @@ use Rattle.spl_model.specs.Calm.{Calming, calming_step, delivers, ticks, pair_tu
 use Rattle.spl_model.proofs.Quiet.{turn-length}
 use Rattle.spl_world.specs.Views.{Nodes, Holds, Moves}
 use Rattle.spl_world.specs.Calms.{AreRows, IsSquare, row_of, sent_count}
-use Rattle.spl_world.proofs.About.{same_itself}
 use Rattle.spl_world.proofs.Calms.{delivers_more, to_all_more, from_all_more}
 use Rattle.spl_world.proofs.Reading.{no_messages}
 use Rattle.spl_agree.proofs.Tests.{if_holds}
 use Rattle.spl_world.proofs.Slots.{apart, take_one, set_cases, differ, differ_back, below_after, tail_ascends}
+use Rattle.spl_base.specs.Booleans.{bytes_same}
 
 -- the world behind so many deliveries, from this number on
 abbrev pub delivered : CircuitId → Calming → NodeId → NodeId → ℕ → ℕ → CircuitWorld → CircuitWorld
@@ -39,7 +39,7 @@ deliver_next c z a b taken index h = sym (
     ∙ delivers_more c z a b (taken + 1) (index - taken)
     ∙ ap (λ (k : ℕ). calming_step (delivers c z a b (taken + 1) (index - taken)) (step.Deliver a b c k)) (numbers taken index h))
 
-nothing_less : (t : ℕ) → 0 - t ≡ 0
+pub nothing_less : (t : ℕ) → 0 - t ≡ 0
 nothing_less t = omega arith
 
 -- a node has no turn with itself
@@ -74,7 +74,7 @@ ticks_taken c z [] x y = refl
 ticks_taken c z (n ∷ ns) x y = ticks_taken c (calming_step z (step.At n c event.Tick)) ns x y
 
 both_same : (a b : NodeId) → (bytes_eq a a && bytes_eq b b) ≡ true
-both_same a b = rw (same_itself a, same_itself b) refl
+both_same a b = rw (bytes_same a, bytes_same b) refl
 
 pub turn_taken : (c : CircuitId) (z : Calming) (a b : NodeId) → z.world.up b ≡ true → (pair_turn c z a b).taken a b ≡ sent_count z.world a b
 turn_taken c z a b up = rw (up, both_same a b) refl

@@ -11,7 +11,7 @@ use Rattle.spl_registry.specs.Nodes.{Entry, node_at}
 use Rattle.spl_rules.specs.Cells.{Empty}
 use Rattle.spl_world.specs.Disks.{AllGoOn, Images, PairView, bench, images, images_at, images_of, images_or_none}
 use Rattle.spl_world.specs.Held.{AllUnpicked}
-use Rattle.spl_world.specs.Making.{AreMadeBut, HoldNothing}
+use Rattle.spl_world.specs.Making.{AreMadeBut, HoldNothing, images_now}
 use Rattle.spl_world.specs.Views.{node_view, slot_id}
 use Rattle.spl_world.specs.declared.fault.WorldFault.{WorldFault}
 use Rattle.spl_world.specs.declared.fault.WorldFault.TheVariants.{Disk}
@@ -22,6 +22,7 @@ use Rattle.spl_world.proofs.HoldingNow.{stand_as, told_images}
 use Rattle.spl_world.proofs.Made.{AreMade, IsEntry}
 use Rattle.spl_world.proofs.Pairing.{images_set}
 use Rattle.spl_world.proofs.Slots.{set_else}
+use Rattle.spl_world.proofs.Leaving.{all_itself, same_there}
 
 -- ---- the node at a place
 
@@ -98,3 +99,12 @@ module _ {D : Type 0} (image_at : D → ℕ → Option Image) (moment faults : D
         (λ nothing. inr (subst (HoldNothing n) (sym (still k off) ∙ behind) nothing))
         (made_or_still es ns m ss (kept old) (kept ps) made k n at);
   }
+
+-- nothing was begun
+pub made_none : (ns : List NodeId) (es : List Entry) (e : WorldFault) (start : List PairView) → AllUnpicked start → ((k : ℕ) → e ≡ Disk k → ⊥) → AreMadeBut ns es e start start
+made_none ns es e start unpicked other = record {
+  picked = λ k n s p at was there. pair_unpicked ns n s p (unpicked k s was) ((all_itself start).each k s p was there);
+  one = 0;
+  named = λ k q. absurd (other k q);
+  others = λ k n s p at was there off. inl (ap images_now (same_there start k p s there was));
+}

@@ -79,9 +79,8 @@ impl World {
         ensures sound { IfErr result (λ e. is_of_journal e ≡ false) }
     {
         let sender = self.slots[from].id();
-        let recipient = self.slots[to].id();
         let (here, there) = (self.slots[from].position, self.slots[to].position);
-        let message = match self.slots[from].message(circuit, &recipient, index) {
+        let message = match self.message(from, to, circuit, index) {
             Some(message) => carry(alloc, carrier, fabric, here, there, message)?,
             None => return Ok(None),
         };

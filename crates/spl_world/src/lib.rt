@@ -21,4 +21,5 @@ mod world;
 
 pub use fault::WorldFault;
 pub use lines::stops_node;
+pub use making::sorted_ids;
 pub use world::World;

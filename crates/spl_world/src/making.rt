@@ -1,5 +1,6 @@
 //! The nodes of a registry, where nothing happened yet.
-ghost use Rattle.std.specs.Prelude.{◌≡◌, ◌≤◌, ◌<◌, ◌++◌, ◌∷◌, ℕ, [], length, true, false, IfErr, IfOk, OnOk, IsErrOf};
+ghost use Rattle.std.specs.Prelude.{◌≡◌, ◌≢◌, ◌≤◌, ◌<◌, ◌++◌, ◌∷◌, ℕ, [], length, true, false, IfErr, IfOk, OnOk, IsErrOf};
+ghost use Rattle.std.specs.List.{AllPairs};
 ghost use Rattle.spl_circuit.specs.Nodes.{sorted};
 ghost use Rattle.spl_circuit.specs.Rules.{ascends};
 ghost use Rattle.spl_registry.specs.Nodes.{ids_of as registered};
@@ -19,9 +20,10 @@ use spl_edge::{Disk, Pair};
 use spl_registry::Registry;
 use std::alloc::{AllocError, Global};
 
-// The ids of the nodes of a registry, in order.
-fn sorted_ids(alloc: Global, registry: &Registry) -> Result<Vec<NodeId>, AllocError>
+/// The ids of the nodes of a registry, in order. It fails for want of memory alone.
+pub fn sorted_ids(alloc: Global, registry: &Registry) -> Result<Vec<NodeId>, AllocError>
     ensures ids { IfOk result (λ v. v.items ≡ sorted (registered registry.now)) }
+    ensures apart { OnOk result (AllPairs (λ a b. a ≢ b) (registered registry.now)) }
     ensures ordered { IfOk result (λ v. ascends v.items ≡ true) }
 {
     let mut ids = registry.ids(alloc)?;

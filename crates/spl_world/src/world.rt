@@ -1,6 +1,7 @@
 //! All nodes of a run, and what happens at one of them.
 ghost use Rattle.std.specs.Prelude.{◌≡◌, ◌+◌, ◌<◌, ◌&&◌, ℕ, List, Some, length, slice_get, true, false, IfOk, IfSome, OnOk, IsErrOf, IfErr};
 ghost use Rattle.std.specs.List.{position_from};
+ghost use Rattle.std.specs.Option.{option_copied};
 ghost use Rattle.std.specs.Str.{bytes_eq};
 ghost use Rattle.spl_circuit.specs.Nodes.{NodeId as Id, has_node};
 ghost use Rattle.spl_sched.specs.declared.line.Step.TheVariants as step;
@@ -11,6 +12,7 @@ ghost use Rattle.spl_model.specs.Worlds.{site_at, World as CircuitWorld, Steps, 
 ghost use Rattle.spl_world.specs.Disks.{Images, LeavesDisks, bench, images, is_of_journal};
 ghost use Rattle.spl_world.specs.Halts.{delivery_of};
 ghost use Rattle.spl_world.specs.Ended.{EventEnds};
+ghost use Rattle.spl_world.specs.Kept.{belongs};
 ghost use Rattle.spl_world.specs.Links.{Delivers, IsReady, Places, carried_at, is_of_links, link_view};
 ghost use Rattle.spl_world.specs.Links.{LeavesLinks};
 ghost use Rattle.spl_world.specs.Views.{IsPlace, Holds, IsAt, IsUp, Moves, Sits, has_id, places_of, ids_of, is_halted, over, seen, ups_of};
@@ -162,6 +164,25 @@ impl World {
         self.slots[from].count(circuit, &recipient)
     }
 
+    // The message of this index, from 0, of those about a circuit that one node sent to another; None
+    // exactly where there are fewer.
+    pub(crate) fn message(
+        &self,
+        from: usize,
+        to: usize,
+        circuit: &CircuitId,
+        index: usize,
+    ) -> Option<&Message>
+        requires from_below { from < length self.now.slots.items }
+        requires to_below { to < length self.now.slots.items }
+        requires apart { (a b : Id) → IsAt self.now from a → IsAt self.now to b → bytes_eq a b ≡ false }
+        ensures value { (is : List Images) (m : CircuitWorld) (a b : Id) → Holds circuit.now m (over self.now is) → IsAt self.now from a → IsAt self.now to b → option_copied result ≡ slice_get (messages m a b) index }
+        ensures belongs { IfSome (option_copied result) (λ x. belongs circuit.now x ≡ true) }
+    {
+        let recipient = self.slots[to].id();
+        self.slots[from].message(circuit, &recipient, index)
+    }
+
     // The delivery of the message of this index, from 0, of those about a circuit that one node sent
     // to another; None exactly where there are fewer.
     pub(crate) fn delivery(
@@ -179,8 +200,7 @@ impl World {
         ensures own { (n : Id) → IsAt self.now to n → IfOk result (λ e. IfSome e (IsFor (site_at n circuit.now))) }
     {
         let sender = self.slots[from].id();
-        let recipient = self.slots[to].id();
-        let message = match self.slots[from].message(circuit, &recipient, index) {
+        let message = match self.message(from, to, circuit, index) {
             Some(message) => boxed(alloc, message)?,
             None => return Ok(None),
         };

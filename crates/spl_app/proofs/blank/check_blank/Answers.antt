@@ -1,8 +1,8 @@
-use Rattle.std.proofs.Common.{◌≡◌, ℕ, List, rules, sym, subst, ◌∙◌, arith}
+use Rattle.std.proofs.Common.{◌≡◌, ℕ, List, rules, subst, ◌∙◌, arith}
 use Rattle.spl_world.specs.Disks.{Images, RoseAt, bench, images, images_at}
-use Rattle.spl_world.proofs.Leaving.{all_then}
+use Rattle.spl_world.proofs.Leaving.{all_then, rose_behind}
 use Rattle.spl_app.specs.Blank.{AreEmpty}
-use Rattle.spl_app.proofs.Emptied.{as_many, one_more, rose_behind}
+use Rattle.spl_app.proofs.Emptied.{as_many, one_more}
 use Rattle.spl_app.proofs.blank.check_blank.Goals as goal
 
 pub are_empty_at-requires : goal.are_empty_at-requires
@@ -17,7 +17,7 @@ returns-in-Err-Failed-clause-failed g c = λ slot is.
     let rose = c.in-Err-Failed.ensures.failed (search rules) in (
       omega (arith, same, c.slots-test.true),
       subst (λ (k : ℕ). RoseAt k (bench g.E.Disk.image_at g.E.Disk.moment g.E.Disk.faults g.E.Disk.armed g.E.Disk.picks c.args.pairs.now.items) (bench g.E.Disk.image_at g.E.Disk.moment g.E.Disk.faults g.E.Disk.armed g.E.Disk.picks c.are_empty_at.new.pairs.items)) same
-          (rose_behind (bench g.E.Disk.image_at g.E.Disk.moment g.E.Disk.faults g.E.Disk.armed g.E.Disk.picks c.args.pairs.now.items) (bench g.E.Disk.image_at g.E.Disk.moment g.E.Disk.faults g.E.Disk.armed g.E.Disk.picks c.slots.pairs.items) (bench g.E.Disk.image_at g.E.Disk.moment g.E.Disk.faults g.E.Disk.armed g.E.Disk.picks c.are_empty_at.new.pairs.items) c.slots.slot c.slots.invariant.onward c.are_empty_at.ensures.onward rose),
+          (rose_behind c.slots.slot _ _ _ c.slots.invariant.onward rose),
     )
 
 pub returns-in-Err-Failed-clause-onward : goal.returns-in-Err-Failed-clause-onward

@@ -10,6 +10,7 @@ use Rattle.spl_registry.specs.Nodes.{Entry, made}
 use Rattle.spl_world.specs.Disks.{bench}
 use Rattle.spl_world.specs.Held.{AreHeld}
 use Rattle.spl_world.specs.declared.fault.WorldFault.TheVariants.{NoMemory as NoRoom}
+use Rattle.spl_world.proofs.Unmade.{made_none}
 use Rattle.spl_lines.specs.Lines.{lines_of}
 use Rattle.spl_lines.specs.Written.{answers_behind, ran}
 use Rattle.spl_lines.specs.Given.{run_of}
@@ -21,7 +22,6 @@ use Rattle.spl_app.specs.Schedule.{IsBadAt}
 use Rattle.spl_app.proofs.Behinds.{both}
 use Rattle.spl_app.proofs.Events.{no_stop}
 use Rattle.spl_app.proofs.Wholes.{all_run, few, front_in, never_bad, given_of, part_in, same_before, sorted_nodes, stops_in}
-use Rattle.spl_app.proofs.Ending.{made_none}
 use Rattle.spl_app.proofs.WholeEnds.{failed_whole, past_whole, short_whole, somewhere_whole}
 use Rattle.spl_app.proofs.generating.run_generated.Goals as goal
 

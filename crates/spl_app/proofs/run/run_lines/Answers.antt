@@ -24,9 +24,9 @@ use Rattle.std.proofs.KnownBytes.{Appends-nil}
 use Rattle.spl_app.specs.Run.{Past, HasFront, StopsAt}
 use Rattle.spl_app.proofs.Benches.{none_then, place_below}
 use Rattle.spl_app.proofs.Ending.{ends_in, made_short, somewhere}
-use Rattle.spl_app.proofs.Events.{none_within}
 use Rattle.spl_app.proofs.Behinds.{at_own, both}
 use Rattle.spl_world.proofs.HoldingSeats.{seats_held}
+use Rattle.spl_links.proofs.Behinds.{none_within}
 use Rattle.spl_app.proofs.run.run_lines.Goals as goal
 
 pub lines-ended-requires : goal.lines-ended-requires

@@ -10,8 +10,8 @@ use Rattle.spl_world.specs.declared.fault.WorldFault.{WorldFault}
 use Rattle.spl_lines.proofs.Results.{ok_then}
 use Rattle.spl_app.proofs.Benches.{none_on, unarmed_on}
 use Rattle.spl_app.proofs.Ending.{err_then, halt_ends, step_ends}
-use Rattle.spl_app.proofs.Halts.{stays_within}
 use Rattle.spl_app.proofs.Unlinked.{all_journals, unlinked}
+use Rattle.spl_links.proofs.Stopping.{stays_within}
 use Rattle.spl_app.proofs.take.take_line.Goals as goal
 
 pub returns-else-stops_node-clause-few : goal.returns-else-stops_node-clause-few

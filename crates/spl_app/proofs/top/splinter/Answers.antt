@@ -19,12 +19,13 @@ use Rattle.spl_world.specs.declared.fault.WorldFault.TheVariants.{NoMemory as No
 use Rattle.spl_app.specs.Run.{HasFront, IsRun, Past, StopsAt}
 use Rattle.spl_app.specs.Schedule.{IsSchedule, IsBadAt, HasTooMany}
 use Rattle.spl_app.specs.Registered.{HasFailedAt, nodes_in, nodes_of}
-use Rattle.spl_app.proofs.Benches.{none_itself, unpicked_unarmed}
+use Rattle.spl_app.proofs.Benches.{unpicked_unarmed}
 use Rattle.spl_app.proofs.Registries.{no_fault, had_no_fault, had_not_long}
 use Rattle.spl_app.specs.Links.{run_view}
 use Rattle.spl_app.proofs.Complete.{linked_complete}
 use Rattle.spl_app.proofs.Words.{no_links_gen, no_links_replay, not_so, only_gen}
 use Rattle.spl_world.proofs.Leaving.{all_itself}
+use Rattle.spl_world.proofs.Picking.{forgets_none}
 use Rattle.spl_app.proofs.top.splinter.Goals as goal
 
 pub returns-then-not-is_replay-clause-part : goal.returns-then-not-is_replay-clause-part
@@ -103,19 +104,19 @@ returns-in-Err-TooLong-clause-complete g c = λ form sound read wrote calm text 
     absurd (had_not_long _ _ _ c.read_registry.ensures.taken text (c.in-Err-TooLong.ensures.long (search rules)))
 
 pub returns-then-not-is_replay-clause-onward : goal.returns-then-not-is_replay-clause-onward
-returns-then-not-is_replay-clause-onward g c = none_itself _
+returns-then-not-is_replay-clause-onward g c = forgets_none _
 
 pub returns-in-Err-Bad-clause-onward : goal.returns-in-Err-Bad-clause-onward
-returns-in-Err-Bad-clause-onward g c = none_itself _
+returns-in-Err-Bad-clause-onward g c = forgets_none _
 
 pub returns-in-Err-Read-clause-onward : goal.returns-in-Err-Read-clause-onward
-returns-in-Err-Read-clause-onward g c = none_itself _
+returns-in-Err-Read-clause-onward g c = forgets_none _
 
 pub returns-in-Err-TooLong-clause-onward : goal.returns-in-Err-TooLong-clause-onward
-returns-in-Err-TooLong-clause-onward g c = none_itself _
+returns-in-Err-TooLong-clause-onward g c = forgets_none _
 
 pub returns-in-Err-NoMemory-clause-onward : goal.returns-in-Err-NoMemory-clause-onward
-returns-in-Err-NoMemory-clause-onward g c = none_itself _
+returns-in-Err-NoMemory-clause-onward g c = forgets_none _
 
 pub returns-in-Ok-clause-disk : goal.returns-in-Ok-clause-disk
 returns-in-Ok-clause-disk g c = λ node form is.
@@ -295,7 +296,7 @@ pub returns-then-is_links-clause-complete : goal.returns-then-is_links-clause-co
 returns-then-is_links-clause-complete g c = λ form sound read wrote calm text schedule. absurd (no_links_replay (map string_bytes c.args.words.now) form (c.is_links.ensures.0 (search rules)))
 
 pub returns-then-is_links-clause-onward : goal.returns-then-is_links-clause-onward
-returns-then-is_links-clause-onward g c = none_itself _
+returns-then-is_links-clause-onward g c = forgets_none _
 
 pub returns-then-is_links-clause-unarmed : goal.returns-then-is_links-clause-unarmed
 returns-then-is_links-clause-unarmed g c = λ room. unpicked_unarmed _ c.requires.unpicked

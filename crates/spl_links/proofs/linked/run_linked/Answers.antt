@@ -10,6 +10,8 @@ use Rattle.spl_world.specs.Views.{IsPlace, places_of}
 use Rattle.spl_world.specs.declared.fault.WorldFault.{WorldFault}
 use Rattle.spl_world.specs.declared.fault.WorldFault.TheVariants.{NoMemory as NoRoom}
 use Rattle.spl_world.proofs.Leaving.{all_then}
+use Rattle.spl_world.proofs.Results.{err_same}
+use Rattle.spl_world.proofs.Counting.{failed}
 use Rattle.spl_links.specs.Behind.{EndsFor}
 use Rattle.spl_links.specs.Ends.{is_of_making}
 use Rattle.spl_links.specs.Faults.{fault_of, world_fault}
@@ -19,7 +21,7 @@ use Rattle.spl_links.specs.declared.fault.LinkedFault.TheVariants.{World}
 use Rattle.spl_links.specs.declared.run.LinkedRun.{LinkedRun}
 use Rattle.spl_links.proofs.Causes.{causes_as, causes_behind, causes_if, no_causes}
 use Rattle.spl_links.proofs.Ending.{sink_world, world_same}
-use Rattle.spl_links.proofs.Results.{err_at, err_same, failed}
+use Rattle.spl_links.proofs.Results.{err_at}
 use Rattle.spl_links.proofs.Whole.{ended_by, reached, reached_any, short, whole}
 use Rattle.spl_links.proofs.linked.run_linked.Goals as goal
 

@@ -4,6 +4,9 @@ use Rattle.spl_circuit.specs.Nodes.{Node, sorted}
 use Rattle.spl_circuit.proofs.Sorting.{sort_is_sorted}
 use Rattle.spl_world.proofs.making.sorted_ids.Goals as goal
 
+pub returns-clause-apart : goal.returns-clause-apart
+returns-clause-apart c = c.in_ok-ids.ensures.apart
+
 pub returns-clause-ids : goal.returns-clause-ids
 returns-clause-ids c =
     let apart = subst (AllPairs (λ (a b : Node). a ≢ b)) (sym c.in_ok-ids.ensures.ids) c.in_ok-ids.ensures.apart in

@@ -12,7 +12,9 @@ use Rattle.spl_world.specs.Disks.{bench}
 use Rattle.spl_world.specs.Views.{places_of}
 use Rattle.spl_world.specs.declared.fault.WorldFault.{WorldFault}
 use Rattle.spl_world.specs.declared.fault.WorldFault.TheVariants.{Disk, NoMemory, TooMany}
-use Rattle.spl_app.proofs.Ending.{as_seats, ends_or_ran, err_from, only_ends, sink_ends}
+use Rattle.spl_world.proofs.Results.{err_from}
+use Rattle.spl_app.proofs.Ending.{ends_or_ran, only_ends, sink_ends}
+use Rattle.spl_app.proofs.Behinds.{both}
 use Rattle.spl_app.proofs.run.Run.answer.Goals as goal
 
 pub returns-in-Err-TooMany-clause-part : goal.returns-in-Err-TooMany-clause-part
@@ -91,6 +93,6 @@ returns-in_err-put_behind-clause-ended g c = λ start before stands held.
     let now = (bench g.D.Disk.image_at g.D.Disk.moment g.D.Disk.faults g.D.Disk.armed g.D.Disk.picks c.ask.new.pairs.items) in
     err_from c.from_residual.result (fault_of c.in_err-put_behind.field-0.0) _ c.from_residual.ensures
     (sink_ends (λ e. (EndsAt c.args.self.now.nodes.items (places_of c.args.self.now.world) before c.args.said.now e start now)) (RanOn c.args.self.now.nodes.items (places_of c.args.self.now.world) before c.args.said.now start now) c.in_err-put_behind.field-0.0 (record {
-      held = as_seats (λ (ns : List Node) (ks : List ℕ). HeldAt ns ks (before ++ by_rule c.args.said.now ∷ []) start now) c.ask.ensures.world c.ask.ensures.places (c.in-Ok.ensures.held start before stands held);
+      held = both (λ (ns : List Node) (ks : List ℕ). HeldAt ns ks (before ++ by_rule c.args.said.now ∷ []) start now) c.ask.ensures.world c.ask.ensures.places (c.in-Ok.ensures.held start before stands held);
       few = λ few. c.in-Ok.ensures.few before stands few;
     }))

@@ -9,10 +9,11 @@ use Rattle.spl_world.specs.Disks.{bench}
 use Rattle.spl_world.specs.Views.{places_of}
 use Rattle.spl_world.specs.declared.fault.WorldFault.TheVariants.{Disk, NoMemory, TooMany}
 use Rattle.spl_world.specs.declared.fault.WorldFault.{WorldFault}
+use Rattle.spl_world.proofs.Results.{err_from, err_same}
 use Rattle.spl_lines.specs.Written.{IsRunnable, IsWithin}
 use Rattle.spl_app.specs.Ends.{EndsAt, HeldAt}
-use Rattle.spl_app.proofs.Benches.{err_back, err_same}
-use Rattle.spl_app.proofs.Ending.{as_seats, err_from}
+use Rattle.spl_app.proofs.Benches.{err_back}
+use Rattle.spl_app.proofs.Behinds.{both}
 use Rattle.spl_app.proofs.run.Run.ask.Goals as goal
 
 pub take_line-requires-clause-runnable : goal.take_line-requires-clause-runnable
@@ -66,7 +67,7 @@ returns-in_err-append_text-clause-ended g c = λ start before stands held.
     (inr (
       refl,
       record {
-        held = as_seats (λ (ns : List NodeId) (ks : List ℕ). HeldAt ns ks (before ++ by_rule c.args.said.now ∷ []) start now) (c.take_line.ensures.ids ∙ c.requires.nodes) c.take_line.ensures.places (c.in_ok-answer.ensures.held start before stands held);
+        held = both (λ (ns : List NodeId) (ks : List ℕ). HeldAt ns ks (before ++ by_rule c.args.said.now ∷ []) start now) (c.take_line.ensures.ids ∙ c.requires.nodes) c.take_line.ensures.places (c.in_ok-answer.ensures.held start before stands held);
         few = λ few. subst (λ (ns : List NodeId). IsWithin ns (before ++ by_rule c.args.said.now ∷ [])) c.requires.nodes (c.in_ok-answer.ensures.few before stands (subst (λ (ns : List NodeId). IsWithin ns before) (sym c.requires.nodes) few));
       },
     ))

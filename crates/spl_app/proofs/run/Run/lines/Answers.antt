@@ -7,6 +7,7 @@ use Rattle.spl_world.specs.Disks.{bench}
 use Rattle.spl_world.specs.Held.{AllHeld}
 use Rattle.spl_world.specs.Views.{places_of}
 use Rattle.spl_world.specs.declared.fault.WorldFault.TheVariants.{Disk as FailedDisk, TooMany as PastLimit}
+use Rattle.spl_world.proofs.Picking.{forgets_none}
 use Rattle.spl_lines.specs.Lines.{lines_of}
 use Rattle.spl_lines.specs.Written.{ran, IsLine, answers_behind}
 use Rattle.spl_lines.specs.Given.{run_of}
@@ -20,12 +21,13 @@ use Rattle.spl_app.specs.declared.fault.RunFault.TheVariants.{BadLine, TooMany, 
 use Rattle.spl_app.specs.Ends.{EndsBehind, FaultEnds, HeldAt}
 use Rattle.spl_app.specs.Run.{HasFront, IsRun, Bad, Past, StopsFor}
 use Rattle.spl_app.proofs.Behinds.{at_first, at_own, both}
-use Rattle.spl_app.proofs.Benches.{none_itself, none_then}
-use Rattle.spl_app.proofs.Ends.{all_before, bad_rest, schedule}
-use Rattle.spl_app.proofs.Ending.{as_seats, ends_more, fault_reached, front_at, front_whole}
-use Rattle.spl_app.proofs.Events.{none_within}
+use Rattle.spl_app.proofs.Benches.{none_then}
+use Rattle.spl_app.proofs.Ends.{bad_rest, schedule}
+use Rattle.spl_app.proofs.Ending.{ends_more, fault_reached, front_at, front_whole}
 use Rattle.spl_app.proofs.Holds.{held_as}
-use Rattle.spl_app.proofs.Runs.{all-push, before_it, front_of_all, part_of_all, stops_at}
+use Rattle.spl_app.proofs.Runs.{front_of_all, part_of_all, stops_at}
+use Rattle.spl_links.proofs.Behinds.{none_within}
+use Rattle.spl_links.proofs.Schedules.{all-push, all_before, before_it}
 use Rattle.spl_app.proofs.run.Run.lines.Goals as goal
 
 pub lines-init : goal.lines-init
@@ -35,7 +37,7 @@ lines-init g c = record {
   feeds = c.in-Ok.ensures (g.S.Source.taken c.args.source.now) (g.S.Source.left c.args.source.now);
   good = tt;
   behind = c.requires.fresh;
-  onward = none_itself _;
+  onward = forgets_none _;
   unarmed = λ off. off;
   places = refl;
   held = λ start h. h;
@@ -69,7 +71,7 @@ lines-preserved g c =
       lines = lines ++ line ∷ [];
       counted = omega (arith, c.lines.invariant.counted, length-append lines (line ∷ []));
       feeds = next;
-      good = all-push _ _ _ c.lines.invariant.good line_good;
+      good = all-push (IsLine _) _ _ c.lines.invariant.good line_good;
       behind = at_first _ _ (lines ++ line ∷ []) c.lines.self c.line.new.self _ _ _ c.lines.invariant.behind.nodes c.lines.invariant.behind.skips behind_line;
       onward = none_then _ _ _ c.lines.invariant.onward c.line.ensures.onward;
       unarmed = λ off. c.line.ensures.unarmed (c.lines.invariant.unarmed off) (λ is. cc);
@@ -379,7 +381,7 @@ returns-in-Err-clause-many_held g c = λ start h number which is.
     let places = places_of c.args.self.now.world in
     let now = (bench g.D.Disk.image_at g.D.Disk.moment g.D.Disk.faults g.D.Disk.armed g.D.Disk.picks c.line.new.pairs.items) in
     let run : IsRun ns lines = record { lines = c.lines.invariant.good; few = c.lines.invariant.behind.few } in
-    let ended = as_seats (λ (ms : List Node) (ks : List ℕ). FaultEnds (λ e. EndsBehind ms ks (lines ++ line ∷ []) lines e start now) (HasFront ms (lines ++ line ∷ []) (λ ls. HeldAt ms ks (ran ls) start now)) c.in-Err.fault) c.lines.invariant.behind.nodes c.lines.invariant.places
+    let ended = both (λ (ms : List Node) (ks : List ℕ). FaultEnds (λ e. EndsBehind ms ks (lines ++ line ∷ []) lines e start now) (HasFront ms (lines ++ line ∷ []) (λ ls. HeldAt ms ks (ran ls) start now)) c.in-Err.fault) c.lines.invariant.behind.nodes c.lines.invariant.places
     (c.in-Err.ensures.ended start lines (subst (λ (ms : List Node). IsRun ms lines) (sym c.lines.invariant.behind.nodes) run) c.lines.invariant.behind.stands (c.lines.invariant.held start h)) in
     let same : c.in-Err.fault ≡ TooMany number which = cc in
     let found = c.in-Err.ensures.many number which (ap (λ (e : RunFault). Err e) same) in
@@ -398,7 +400,7 @@ returns-in-Err-clause-disk_held g c = λ start h slot is.
     let places = places_of c.args.self.now.world in
     let now = (bench g.D.Disk.image_at g.D.Disk.moment g.D.Disk.faults g.D.Disk.armed g.D.Disk.picks c.line.new.pairs.items) in
     let run : IsRun ns lines = record { lines = c.lines.invariant.good; few = c.lines.invariant.behind.few } in
-    let ended = as_seats (λ (ms : List Node) (ks : List ℕ). FaultEnds (λ e. EndsBehind ms ks (lines ++ line ∷ []) lines e start now) (HasFront ms (lines ++ line ∷ []) (λ ls. HeldAt ms ks (ran ls) start now)) c.in-Err.fault) c.lines.invariant.behind.nodes c.lines.invariant.places
+    let ended = both (λ (ms : List Node) (ks : List ℕ). FaultEnds (λ e. EndsBehind ms ks (lines ++ line ∷ []) lines e start now) (HasFront ms (lines ++ line ∷ []) (λ ls. HeldAt ms ks (ran ls) start now)) c.in-Err.fault) c.lines.invariant.behind.nodes c.lines.invariant.places
     (c.in-Err.ensures.ended start lines (subst (λ (ms : List Node). IsRun ms lines) (sym c.lines.invariant.behind.nodes) run) c.lines.invariant.behind.stands (c.lines.invariant.held start h)) in
     let same : c.in-Err.fault ≡ Disk slot = cc in
     let found = c.in-Err.ensures.whole slot (ap (λ (e : RunFault). Err e) same) in
@@ -417,7 +419,7 @@ returns-in-Err-clause-reached g c = λ start h.
     let places = places_of c.args.self.now.world in
     let now = (bench g.D.Disk.image_at g.D.Disk.moment g.D.Disk.faults g.D.Disk.armed g.D.Disk.picks c.line.new.pairs.items) in
     let run : IsRun ns lines = record { lines = c.lines.invariant.good; few = c.lines.invariant.behind.few } in
-    let ended = as_seats (λ (ms : List Node) (ks : List ℕ). FaultEnds (λ e. EndsBehind ms ks (lines ++ line ∷ []) lines e start now) (HasFront ms (lines ++ line ∷ []) (λ ls. HeldAt ms ks (ran ls) start now)) c.in-Err.fault) c.lines.invariant.behind.nodes c.lines.invariant.places
+    let ended = both (λ (ms : List Node) (ks : List ℕ). FaultEnds (λ e. EndsBehind ms ks (lines ++ line ∷ []) lines e start now) (HasFront ms (lines ++ line ∷ []) (λ ls. HeldAt ms ks (ran ls) start now)) c.in-Err.fault) c.lines.invariant.behind.nodes c.lines.invariant.places
     (c.in-Err.ensures.ended start lines (subst (λ (ms : List Node). IsRun ms lines) (sym c.lines.invariant.behind.nodes) run) c.lines.invariant.behind.stands (c.lines.invariant.held start h)) in
     fault_reached ns places lines line start now rest all next.fed.run run c.in-Err.fault ended
 
@@ -428,7 +430,7 @@ returns-in-Ok-false-clause-reached g c = λ start h.
     let none = c.in-Ok-false.ensures.none c.in-Ok-false.field-0-test in
     let all = all_lines (g.S.Source.taken c.args.source.now) (g.S.Source.left c.args.source.now) lines (g.S.Source.taken c.advance.new.source) (g.S.Source.left c.advance.new.source) c.advance.new.self last none in
     front_whole c.args.self.now.nodes.items _ lines _ all record { lines = c.lines.invariant.good; few = c.lines.invariant.behind.few }
-    (inl (as_seats (λ (ms : List Node) (ks : List ℕ). HeldAt ms ks (ran lines) start (bench g.D.Disk.image_at g.D.Disk.moment g.D.Disk.faults g.D.Disk.armed g.D.Disk.picks c.lines.pairs.items)) c.lines.invariant.behind.world c.lines.invariant.places (c.lines.invariant.held start h)))
+    (inl (both (λ (ms : List Node) (ks : List ℕ). HeldAt ms ks (ran lines) start (bench g.D.Disk.image_at g.D.Disk.moment g.D.Disk.faults g.D.Disk.armed g.D.Disk.picks c.lines.pairs.items)) c.lines.invariant.behind.world c.lines.invariant.places (c.lines.invariant.held start h)))
 
 pub returns-in-Err-Unfinished-clause-reached : goal.returns-in-Err-Unfinished-clause-reached
 returns-in-Err-Unfinished-clause-reached g c = λ start h.
@@ -437,7 +439,7 @@ returns-in-Err-Unfinished-clause-reached g c = λ start h.
     let none = c.in-Err-Unfinished.ensures.none refl in
     let all = all_lines (g.S.Source.taken c.args.source.now) (g.S.Source.left c.args.source.now) lines (g.S.Source.taken c.advance.new.source) (g.S.Source.left c.advance.new.source) c.advance.new.self last none in
     front_whole c.args.self.now.nodes.items _ lines _ all record { lines = c.lines.invariant.good; few = c.lines.invariant.behind.few }
-    (inl (as_seats (λ (ms : List Node) (ks : List ℕ). HeldAt ms ks (ran lines) start (bench g.D.Disk.image_at g.D.Disk.moment g.D.Disk.faults g.D.Disk.armed g.D.Disk.picks c.lines.pairs.items)) c.lines.invariant.behind.world c.lines.invariant.places (c.lines.invariant.held start h)))
+    (inl (both (λ (ms : List Node) (ks : List ℕ). HeldAt ms ks (ran lines) start (bench g.D.Disk.image_at g.D.Disk.moment g.D.Disk.faults g.D.Disk.armed g.D.Disk.picks c.lines.pairs.items)) c.lines.invariant.behind.world c.lines.invariant.places (c.lines.invariant.held start h)))
 
 pub returns-in-Err-Overlong-clause-reached : goal.returns-in-Err-Overlong-clause-reached
 returns-in-Err-Overlong-clause-reached g c = λ start h.
@@ -446,7 +448,7 @@ returns-in-Err-Overlong-clause-reached g c = λ start h.
     let none = c.in-Err-Overlong.ensures.none refl in
     let all = all_lines (g.S.Source.taken c.args.source.now) (g.S.Source.left c.args.source.now) lines (g.S.Source.taken c.advance.new.source) (g.S.Source.left c.advance.new.source) c.advance.new.self last none in
     front_whole c.args.self.now.nodes.items _ lines _ all record { lines = c.lines.invariant.good; few = c.lines.invariant.behind.few }
-    (inl (as_seats (λ (ms : List Node) (ks : List ℕ). HeldAt ms ks (ran lines) start (bench g.D.Disk.image_at g.D.Disk.moment g.D.Disk.faults g.D.Disk.armed g.D.Disk.picks c.lines.pairs.items)) c.lines.invariant.behind.world c.lines.invariant.places (c.lines.invariant.held start h)))
+    (inl (both (λ (ms : List Node) (ks : List ℕ). HeldAt ms ks (ran lines) start (bench g.D.Disk.image_at g.D.Disk.moment g.D.Disk.faults g.D.Disk.armed g.D.Disk.picks c.lines.pairs.items)) c.lines.invariant.behind.world c.lines.invariant.places (c.lines.invariant.held start h)))
 
 pub returns-in-Err-TooLong-clause-reached : goal.returns-in-Err-TooLong-clause-reached
 returns-in-Err-TooLong-clause-reached g c = λ start h.
@@ -455,7 +457,7 @@ returns-in-Err-TooLong-clause-reached g c = λ start h.
     let none = c.in-Err-TooLong.ensures.none refl in
     let all = all_lines (g.S.Source.taken c.args.source.now) (g.S.Source.left c.args.source.now) lines (g.S.Source.taken c.advance.new.source) (g.S.Source.left c.advance.new.source) c.advance.new.self last none in
     front_whole c.args.self.now.nodes.items _ lines _ all record { lines = c.lines.invariant.good; few = c.lines.invariant.behind.few }
-    (inl (as_seats (λ (ms : List Node) (ks : List ℕ). HeldAt ms ks (ran lines) start (bench g.D.Disk.image_at g.D.Disk.moment g.D.Disk.faults g.D.Disk.armed g.D.Disk.picks c.lines.pairs.items)) c.lines.invariant.behind.world c.lines.invariant.places (c.lines.invariant.held start h)))
+    (inl (both (λ (ms : List Node) (ks : List ℕ). HeldAt ms ks (ran lines) start (bench g.D.Disk.image_at g.D.Disk.moment g.D.Disk.faults g.D.Disk.armed g.D.Disk.picks c.lines.pairs.items)) c.lines.invariant.behind.world c.lines.invariant.places (c.lines.invariant.held start h)))
 
 pub returns-in-Err-Read-clause-reached : goal.returns-in-Err-Read-clause-reached
 returns-in-Err-Read-clause-reached g c = λ start h.
@@ -464,7 +466,7 @@ returns-in-Err-Read-clause-reached g c = λ start h.
     let none = c.in-Err-Read.ensures.none refl in
     let all = all_lines (g.S.Source.taken c.args.source.now) (g.S.Source.left c.args.source.now) lines (g.S.Source.taken c.advance.new.source) (g.S.Source.left c.advance.new.source) c.advance.new.self last none in
     front_whole c.args.self.now.nodes.items _ lines _ all record { lines = c.lines.invariant.good; few = c.lines.invariant.behind.few }
-    (inl (as_seats (λ (ms : List Node) (ks : List ℕ). HeldAt ms ks (ran lines) start (bench g.D.Disk.image_at g.D.Disk.moment g.D.Disk.faults g.D.Disk.armed g.D.Disk.picks c.lines.pairs.items)) c.lines.invariant.behind.world c.lines.invariant.places (c.lines.invariant.held start h)))
+    (inl (both (λ (ms : List Node) (ks : List ℕ). HeldAt ms ks (ran lines) start (bench g.D.Disk.image_at g.D.Disk.moment g.D.Disk.faults g.D.Disk.armed g.D.Disk.picks c.lines.pairs.items)) c.lines.invariant.behind.world c.lines.invariant.places (c.lines.invariant.held start h)))
 
 pub returns-in-Err-NoMemory-clause-reached : goal.returns-in-Err-NoMemory-clause-reached
 returns-in-Err-NoMemory-clause-reached g c = λ start h.
@@ -473,7 +475,7 @@ returns-in-Err-NoMemory-clause-reached g c = λ start h.
     let none = c.in-Err-NoMemory.ensures.none refl in
     let all = all_lines (g.S.Source.taken c.args.source.now) (g.S.Source.left c.args.source.now) lines (g.S.Source.taken c.advance.new.source) (g.S.Source.left c.advance.new.source) c.advance.new.self last none in
     front_whole c.args.self.now.nodes.items _ lines _ all record { lines = c.lines.invariant.good; few = c.lines.invariant.behind.few }
-    (inl (as_seats (λ (ms : List Node) (ks : List ℕ). HeldAt ms ks (ran lines) start (bench g.D.Disk.image_at g.D.Disk.moment g.D.Disk.faults g.D.Disk.armed g.D.Disk.picks c.lines.pairs.items)) c.lines.invariant.behind.world c.lines.invariant.places (c.lines.invariant.held start h)))
+    (inl (both (λ (ms : List Node) (ks : List ℕ). HeldAt ms ks (ran lines) start (bench g.D.Disk.image_at g.D.Disk.moment g.D.Disk.faults g.D.Disk.armed g.D.Disk.picks c.lines.pairs.items)) c.lines.invariant.behind.world c.lines.invariant.places (c.lines.invariant.held start h)))
 
 pub returns-in_default-clause-reached : goal.returns-in_default-clause-reached
 returns-in_default-clause-reached g c = λ start h.

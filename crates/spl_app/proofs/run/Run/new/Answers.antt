@@ -5,8 +5,9 @@ use Rattle.spl_world.specs.Links.{seat_of}
 use Rattle.spl_lines.proofs.Outputs.{due_none}
 use Rattle.spl_app.proofs.Benches.{none_on, unarmed_on, unpicked_unarmed}
 use Rattle.spl_world.specs.declared.fault.WorldFault.TheVariants.{NoMemory}
-use Rattle.spl_app.proofs.Ending.{err_from, made_none}
-use Rattle.spl_app.proofs.Events.{none_within}
+use Rattle.spl_world.proofs.Unmade.{made_none}
+use Rattle.spl_world.proofs.Results.{err_from}
+use Rattle.spl_links.proofs.Behinds.{none_within}
 use Rattle.spl_app.proofs.run.Run.new.Goals as goal
 
 pub returns-clause-behind : goal.returns-clause-behind

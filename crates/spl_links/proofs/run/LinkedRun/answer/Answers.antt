@@ -8,6 +8,8 @@ use Rattle.spl_world.specs.Disks.{bench, images}
 use Rattle.spl_world.specs.Links.{link_view}
 use Rattle.spl_world.specs.Views.{IsPlace, places_of}
 use Rattle.spl_world.specs.declared.fault.WorldFault.{WorldFault}
+use Rattle.spl_world.proofs.Results.{err_from, err_same}
+use Rattle.spl_world.proofs.Counting.{failed}
 use Rattle.spl_links.specs.Faults.{fault_of, world_fault}
 use Rattle.spl_links.specs.Outside.{outside}
 use Rattle.spl_links.specs.Tasks.{Task, answers, nodes_in}
@@ -15,7 +17,6 @@ use Rattle.spl_links.specs.declared.fault.LinkedFault.TheVariants.{NoMemory, Wor
 use Rattle.spl_links.proofs.Behinds.{due_one, part_one}
 use Rattle.spl_links.proofs.Causes.{causes_if}
 use Rattle.spl_links.proofs.Ending.{due_all, memory_ends, sink_ends, world_ends, world_same}
-use Rattle.spl_links.proofs.Results.{err_from, err_same, failed}
 use Rattle.spl_links.proofs.Running.{have_run}
 use Rattle.spl_links.proofs.run.LinkedRun.answer.Goals as goal
 

@@ -5,6 +5,7 @@ use Rattle.spl_sched.specs.declared.line.Line.{Line}
 use Rattle.spl_world.specs.Disks.{bench, images}
 use Rattle.spl_world.specs.Links.{link_view}
 use Rattle.spl_world.specs.Views.{IsPlace, places_of}
+use Rattle.spl_world.proofs.Results.{err_from}
 use Rattle.spl_links.specs.Behind.{EndsFor, IsBehind}
 use Rattle.spl_links.specs.Outside.{outside}
 use Rattle.spl_links.specs.Tasks.{Task, calm_behind, tasks_of}
@@ -12,7 +13,6 @@ use Rattle.spl_links.specs.declared.fault.LinkedFault.{LinkedFault}
 use Rattle.spl_links.specs.declared.fault.LinkedFault.TheVariants.{World}
 use Rattle.spl_links.proofs.Causes.{causes_as, causes_behind}
 use Rattle.spl_links.proofs.Ending.{ends_more, read_ends}
-use Rattle.spl_links.proofs.Results.{err_from}
 use Rattle.spl_links.proofs.run.LinkedRun.line.Goals as goal
 
 pub returns-in_err-said-clause-ended : goal.returns-in_err-said-clause-ended

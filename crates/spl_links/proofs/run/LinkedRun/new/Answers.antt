@@ -5,11 +5,13 @@ use Rattle.spl_world.specs.Views.{places_of}
 use Rattle.spl_world.specs.declared.fault.WorldFault.{WorldFault}
 use Rattle.spl_world.specs.declared.fault.WorldFault.TheVariants.{NoMemory}
 use Rattle.spl_world.specs.declared.world.World.{World}
+use Rattle.spl_world.proofs.Results.{err_from, err_same}
+use Rattle.spl_world.proofs.Counting.{failed}
+use Rattle.spl_world.proofs.Unmade.{made_none}
 use Rattle.spl_links.specs.Ends.{is_of_making}
 use Rattle.spl_links.proofs.Behinds.{none_behind, none_ran, ready_for}
 use Rattle.spl_links.proofs.Causes.{causes_if, made_causes, memory_causes}
-use Rattle.spl_links.proofs.Making.{made_none, making_only}
-use Rattle.spl_links.proofs.Results.{err_from, err_same, failed}
+use Rattle.spl_links.proofs.Making.{making_only}
 use Rattle.spl_links.proofs.run.LinkedRun.new.Goals as goal
 
 pub returns-clause-go : goal.returns-clause-go

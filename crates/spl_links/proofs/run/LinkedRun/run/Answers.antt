@@ -9,10 +9,10 @@ use Rattle.spl_world.specs.Disks.{images}
 use Rattle.spl_world.specs.Links.{link_view, seat_of}
 use Rattle.spl_world.specs.Views.{ids_of}
 use Rattle.spl_world.proofs.Linking.{delivers_nothing}
+use Rattle.spl_world.proofs.Results.{on_ok}
 use Rattle.spl_links.specs.Behind.{AreRun}
 use Rattle.spl_links.specs.Ends.{EndsAt}
 use Rattle.spl_links.specs.Tasks.{nodes_in, ran_by}
-use Rattle.spl_links.proofs.Results.{ok_any}
 use Rattle.spl_links.proofs.Running.{may_go, ran_fails, ran_more, seated}
 use Rattle.spl_links.proofs.Stopping.{stays_within, stop_off, stop_sound, stops_none}
 use Rattle.spl_links.proofs.run.LinkedRun.run.Goals as goal
@@ -61,7 +61,7 @@ returns-in_default g c =
       ran = λ es ts number x r.
           ran_more es ts w x y is r c.args.line.now number c.step.result c.step.new.self z js c.step.ensures.ids c.step.ensures.places
           (c.step.ensures.stands (ran_by ts) r.stands) (c.step.ensures.few (ran_by ts) r.stands)
-          (ok_any c.step.result (stays_within (nodes_in es) (ran_by ts) c.args.line.now (stops_none c.args.line.now c.requires.runs c.in_default.not-Stop) r.few))
+          (on_ok c.step.result (stays_within (nodes_in es) (ran_by ts) c.args.line.now (stops_none c.args.line.now c.requires.runs c.in_default.not-Stop) r.few))
           (c.step.ensures.links (seat_of es) (ran_by ts) (seated es ts w x y is r) r.stands);
       ended = λ es ts number x r.
           ran_fails es ts w x y is r c.args.line.now number c.step.result z js (c.step.ensures.ended (ran_by ts) r.stands)

@@ -10,6 +10,8 @@ use Rattle.spl_world.specs.Disks.{bench, images}
 use Rattle.spl_world.specs.Links.{link_view}
 use Rattle.spl_world.specs.Views.{IsPlace, places_of}
 use Rattle.spl_world.specs.declared.fault.WorldFault.{WorldFault}
+use Rattle.spl_world.proofs.Results.{err_from, err_same}
+use Rattle.spl_world.proofs.Counting.{failed}
 use Rattle.spl_links.specs.Behind.{EndsFor, IsBehind}
 use Rattle.spl_links.specs.Faults.{world_fault}
 use Rattle.spl_links.specs.Outside.{outside}
@@ -18,7 +20,6 @@ use Rattle.spl_links.specs.declared.fault.LinkedFault.TheVariants.{World}
 use Rattle.spl_links.proofs.Behinds.{answers_none}
 use Rattle.spl_links.proofs.Causes.{causes_if}
 use Rattle.spl_links.proofs.Ending.{world_ends, world_same}
-use Rattle.spl_links.proofs.Results.{err_from, err_same, failed}
 use Rattle.spl_links.proofs.run.LinkedRun.settle.Goals as goal
 
 pub returns-in_err-run-clause-ended : goal.returns-in_err-run-clause-ended

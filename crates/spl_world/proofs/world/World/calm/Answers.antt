@@ -10,12 +10,12 @@ use Rattle.spl_world.proofs.Calms.{passes_next, passes_front, sorted_already}
 use Rattle.spl_world.proofs.Counting.{counts_done, counts_then, counts_failed, failed, counts_memory, counts_to, at_most}
 use Rattle.spl_world.proofs.Quieting.{calm_is, left_world, left_counts}
 use Rattle.spl_world.proofs.Composed.{spares_then}
-use Rattle.spl_world.proofs.Results.{on_ok}
+use Rattle.spl_world.proofs.Results.{err_from, on_ok}
 use Rattle.spl_world.proofs.Slots.{same_length}
 use Rattle.spl_world.specs.Disks.{images}
 use Rattle.spl_world.proofs.Leaving.{all_itself, all_then, leaves_counted, leaves_failed, leaves_memory, leaves_ok, leaves_then, memory_no_disk, disk_at, counted_no_disk}
-use Rattle.spl_world.proofs.Ending.{any_fault, failed_ends}
-use Rattle.spl_world.proofs.EndingParts.{leads_pass, leads_same, leads_then, leads_to, next_pass_leads, part_still, part_then, passes_so_far}
+use Rattle.spl_world.proofs.Ending.{any_fault}
+use Rattle.spl_world.proofs.EndingParts.{leads_pass, leads_passes, leads_same, leads_then, leads_to, next_pass_leads, part_still, part_then}
 use Rattle.spl_world.specs.Ended.{PartEnds}
 use Rattle.spl_world.proofs.Linking.{done, fails_early, off_limit}
 use Rattle.spl_world.proofs.LinkingParts.{err_then, ok_then, part_alone, part_failed, part_left, part_same, part_to, whole_part}
@@ -169,7 +169,7 @@ returns-in_err-rows-clause-ended g c = λ m h.
     let ids = ids_of c.args.self.now in
     let whole : Calming = calm c.args.circuit m c.args.passes in
     any_fault c.from_residual.result (λ e. PartEnds c.args.circuit (calming m) whole e old old.disks)
-    (λ e. part_still c.args.circuit (calming m) (calming m) whole e old old (leads_same (calming m)) (leads_to (calming m) (passes c.args.circuit ids c.args.passes (calming m)) whole (calm_is c.args.circuit m old c.args.passes h) (passes_so_far c.args.circuit ids c.args.passes (calming m)))
+    (λ e. part_still c.args.circuit (calming m) (calming m) whole e old old (leads_same (calming m)) (leads_to (calming m) (passes c.args.circuit ids c.args.passes (calming m)) whole (calm_is c.args.circuit m old c.args.passes h) (leads_passes c.args.circuit ids c.args.passes (calming m)))
     refl refl c.requires.sits h (λ d w off k. k))
 
 pub returns-in_err-pass-clause-ended : goal.returns-in_err-pass-clause-ended
@@ -184,8 +184,8 @@ returns-in_err-pass-clause-ended g c = λ m h.
     let rows = subst (λ (ns : List NodeId). AreRows y.taken ns c.loop-done.rows.items) (sym c.loop-done.invariant.1) so_far.1 in
     let most : c.loop-done.done + 1 ≤ c.args.passes = omega (arith, c.loop-done-test.true) in
     let part = subst (λ (ns : List NodeId). PartEnds c.args.circuit y (pass c.args.circuit ns y) c.in_err-pass.field-0.0 mid is) c.loop-done.invariant.1 (c.in_err-pass.ensures.ended y so_far.0 rows) in
-    failed_ends c.from_residual-in_err-pass.result _ c.from_residual-in_err-pass.ensures (λ e. PartEnds c.args.circuit (calming m) whole e old is)
-    (part_then c.args.circuit (calming m) y (pass c.args.circuit ids y) whole c.in_err-pass.field-0.0 old mid is (passes_so_far c.args.circuit ids c.loop-done.done (calming m))
+    err_from c.from_residual-in_err-pass.result _ (λ e. PartEnds c.args.circuit (calming m) whole e old is) c.from_residual-in_err-pass.ensures
+    (part_then c.args.circuit (calming m) y (pass c.args.circuit ids y) whole c.in_err-pass.field-0.0 old mid is (leads_passes c.args.circuit ids c.loop-done.done (calming m))
     (leads_to (pass c.args.circuit ids y) (passes c.args.circuit ids c.args.passes (calming m)) whole (calm_is c.args.circuit m old c.args.passes h) (next_pass_leads c.args.circuit ids c.loop-done.done c.args.passes (calming m) most))
     c.loop-done.invariant.1 c.loop-done.invariant.8 c.loop-done.invariant.4 part)
 
@@ -203,7 +203,7 @@ returns-then-not-branch-clause-ended g c = λ m h.
     let most : c.loop-done.done + 1 ≤ c.args.passes = omega (arith, c.loop-done-test.true) in
     let behind = subst (λ (ns : List NodeId). Holds c.args.circuit (pass c.args.circuit ns y).world last) c.loop-done.invariant.1 (c.in_ok-pass.ensures.own y so_far.0 rows).0 in
     any_fault c.add.result (λ e. PartEnds c.args.circuit (calming m) whole e old last.disks)
-    (λ e. part_still c.args.circuit (calming m) here whole e old last (leads_then (calming m) y here (passes_so_far c.args.circuit ids c.loop-done.done (calming m)) (leads_pass c.args.circuit ids y))
+    (λ e. part_still c.args.circuit (calming m) here whole e old last (leads_then (calming m) y here (leads_passes c.args.circuit ids c.loop-done.done (calming m)) (leads_pass c.args.circuit ids y))
     (leads_to here (passes c.args.circuit ids c.args.passes (calming m)) whole (calm_is c.args.circuit m old c.args.passes h) (next_pass_leads c.args.circuit ids c.loop-done.done c.args.passes (calming m) most))
     (c.pass.ensures.ids ∙ c.loop-done.invariant.1) (c.pass.ensures.places ∙ c.loop-done.invariant.8) c.in_ok-pass.ensures.sits behind (spares_then c.args.circuit old mid last c.loop-done.invariant.4 c.in_ok-pass.ensures.others))
 

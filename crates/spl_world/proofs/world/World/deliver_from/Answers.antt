@@ -9,7 +9,7 @@ use Rattle.spl_world.proofs.Delivery.{moves_as}
 use Rattle.spl_world.proofs.Slots.{same_length}
 use Rattle.spl_world.proofs.Turns.{delivered, deliver_more}
 use Rattle.spl_world.proofs.Leaving.{all_itself, all_then, leaves_failed, leaves_limit, leaves_ok, leaves_then, limit_no_disk, disk_at}
-use Rattle.spl_world.proofs.Ending.{any_fault, failed_ends}
+use Rattle.spl_world.proofs.Ending.{any_fault}
 use Rattle.spl_world.proofs.EndingParts.{delivers_front, leads_delivers, part_event, part_still}
 use Rattle.spl_world.specs.Ended.{EventEnds, PartEnds}
 use Rattle.spl_world.specs.Disks.{images}
@@ -25,6 +25,7 @@ use Rattle.spl_world.specs.Links.{PartDelivers, link_view}
 use Rattle.spl_world.specs.Views.{ids_of, places_of}
 use Rattle.spl_world.proofs.LinkFaults.{faults_failed, faults_off, faults_ok, faults_then, links_itself, links_then}
 use Rattle.spl_world.proofs.Linking.{off_failed}
+use Rattle.spl_world.proofs.Results.{err_from}
 use Rattle.spl_world.proofs.world.World.deliver_from.Goals as goal
 
 pub deliver-requires-clause-from_below : goal.deliver-requires-clause-from_below
@@ -166,7 +167,7 @@ returns-in_err-deliver-clause-ended g c = λ z a b h at to.
     let more : c.loop-index.index - c.args.taken ≤ (c.loop-index.index + 1) - c.args.taken = omega arith in
     let most : (c.loop-index.index + 1) - c.args.taken ≤ c.args.all - c.args.taken = omega (arith, c.loop-index.invariant.3, c.loop-index.invariant.4, c.loop-index-test.true) in
     let ended = subst (λ (w : CircuitWorld). EventEnds c.args.circuit w c.in_err-deliver.field-0.0 mid is) (deliver_more c.args.circuit z a b c.args.taken c.loop-index.index z.world c.loop-index.invariant.3) (c.in_err-deliver.ensures.ended here.world a b (moves.own z.world h) first second) in
-    failed_ends c.from_residual-in_err-deliver.result _ c.from_residual-in_err-deliver.ensures (λ e. PartEnds c.args.circuit z all e old is)
+    err_from c.from_residual-in_err-deliver.result _ (λ e. PartEnds c.args.circuit z all e old is) c.from_residual-in_err-deliver.ensures
     (part_event c.args.circuit z here next all c.in_err-deliver.field-0.0 old mid is (leads_delivers c.args.circuit z a b (c.args.taken + 1) (c.loop-index.index - c.args.taken)) (delivers_front c.args.circuit z a b (c.args.taken + 1) (c.loop-index.index - c.args.taken) ((c.loop-index.index + 1) - c.args.taken) more) (delivers_front c.args.circuit z a b (c.args.taken + 1) ((c.loop-index.index + 1) - c.args.taken) (c.args.all - c.args.taken) most)
     c.loop-index.invariant.1 c.loop-index.invariant.9 c.loop-index.invariant.7 (moves.own z.world h) moves.others ended)
 

@@ -12,7 +12,6 @@ use Rattle.spl_world.proofs.Counting.{counts_done, counts_then, counts_failed, f
 use Rattle.spl_world.proofs.Slots.{some_at, same_length, length_ids, set_length}
 use Rattle.spl_world.proofs.Turns.{sender_own, from_all_next, square_set}
 use Rattle.spl_world.proofs.Leaving.{all_itself, all_then, leaves_failed, leaves_ok, leaves_then, disk_at}
-use Rattle.spl_world.proofs.Ending.{failed_ends}
 use Rattle.spl_world.proofs.EndingParts.{from_all_turn, leads_from_all, part_then}
 use Rattle.spl_world.specs.Ended.{PartEnds}
 use Rattle.spl_world.specs.Disks.{images}
@@ -21,7 +20,8 @@ use Rattle.spl_world.proofs.LinkingParts.{err_then, ok_then, part_failed, part_s
 use Rattle.spl_world.proofs.Seating.{places_as}
 use Rattle.spl_world.specs.Links.{PartDelivers, link_view}
 use Rattle.spl_world.specs.Views.{places_of}
-use Rattle.spl_world.proofs.LinkFaults.{faults_failed, faults_ok, faults_then, links_itself, links_then}
+use Rattle.spl_world.proofs.LinkFaults.{faults_failed, faults_ok, faults_then, links_itself}
+use Rattle.spl_world.proofs.Results.{err_from}
 use Rattle.spl_world.proofs.world.World.from_all.Goals as goal
 
 pub loop-from-preserved : goal.loop-from-preserved
@@ -143,7 +143,7 @@ returns-in_err-to_all-clause-ended g c = λ z h rows.
     let here : slice_get (ids_of c.loop-from.self) c.loop-from.from ≡ Some sender.0 = ap (λ (ns : List NodeId). slice_get ns c.loop-from.from) c.loop-from.invariant.1 ∙ sender.1 in
     let row = subst (λ (ns : List NodeId). c.index_mut.result.now.items ≡ row_of y.taken sender.0 ns) (sym c.loop-from.invariant.1) (so_far.1 c.loop-from.from sender.0 c.index_mut.result.now sender.1 there) in
     let part = subst (λ (ns : List NodeId). PartEnds c.args.circuit y (to_all c.args.circuit y sender.0 ns) c.in_err-to_all.field-0.0 mid is) c.loop-from.invariant.1 (c.in_err-to_all.ensures.ended y sender.0 so_far.0 here row) in
-    failed_ends c.from_residual.result _ c.from_residual.ensures (λ e. PartEnds c.args.circuit z whole e old is)
+    err_from c.from_residual.result _ (λ e. PartEnds c.args.circuit z whole e old is) c.from_residual.ensures
     (part_then c.args.circuit z y (to_all c.args.circuit y sender.0 ids) whole c.in_err-to_all.field-0.0 old mid is (leads_from_all c.args.circuit z ids (take c.loop-from.from ids)) (from_all_turn c.args.circuit z ids c.loop-from.from sender.0 sender.1)
     c.loop-from.invariant.1 c.loop-from.invariant.8 c.loop-from.invariant.4 part)
 

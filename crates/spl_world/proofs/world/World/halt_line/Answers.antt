@@ -9,12 +9,12 @@ use Rattle.spl_world.specs.Ended.{LineEnds}
 use Rattle.spl_world.specs.Views.{ids_of, places_of}
 use Rattle.spl_world.specs.declared.fault.WorldFault.TheVariants.{NoMemory}
 use Rattle.spl_world.proofs.Counting.{counts_failed, at_least}
-use Rattle.spl_world.proofs.Ending.{failed_ends}
 use Rattle.spl_world.proofs.EndingLines.{ended_still, limit_named}
 use Rattle.spl_world.proofs.Leaving.{limit_no_disk, memory_is_few, memory_no_disk}
 use Rattle.spl_world.proofs.Picking.{forgets_none}
 use Rattle.spl_world.proofs.Powering.{stands_line}
 use Rattle.spl_world.proofs.Standing.{events_after, limit_is, one_event, one_stop, over_line, over_stops, power_answered}
+use Rattle.spl_world.proofs.Results.{err_from}
 use Rattle.spl_world.proofs.world.World.halt_line.Goals as goal
 
 pub returns-clause-answer : goal.returns-clause-answer
@@ -69,16 +69,16 @@ returns-in_err-add-2-clause-onward g c = forgets_none _
 pub returns-in_err-add-clause-ended : goal.returns-in_err-add-clause-ended
 returns-in_err-add-clause-ended g c = λ before stands.
     let was = images g.D.Disk.image_at g.D.Disk.moment c.args.pairs.now.items in
-    failed_ends c.from_residual.result c.in_err-add.field-0.0 c.from_residual.ensures (λ e. LineEnds (λ k. whole_world (ids_of c.args.self.now) k before) c.args.line.now e (ids_of c.args.self.now) (places_of c.args.self.now) was)
+    err_from c.from_residual.result c.in_err-add.field-0.0 (λ e. LineEnds (λ k. whole_world (ids_of c.args.self.now) k before) c.args.line.now e (ids_of c.args.self.now) (places_of c.args.self.now) was) c.from_residual.ensures
     (ended_still before c.args.self.now was stands c.in_err-add.field-0.0 (limit_named c.in_err-add.field-0.0 1 (places_of c.args.self.now) c.in_err-add.ensures.fault) c.args.line.now was refl)
 
 pub returns-in_err-add-2-clause-ended : goal.returns-in_err-add-2-clause-ended
 returns-in_err-add-2-clause-ended g c = λ before stands.
     let was = images g.D.Disk.image_at g.D.Disk.moment c.args.pairs.now.items in
-    failed_ends c.from_residual-in_err-add-2.result c.in_err-add-2.field-0.0 c.from_residual-in_err-add-2.ensures (λ e. LineEnds (λ k. whole_world (ids_of c.args.self.now) k before) c.args.line.now e (ids_of c.args.self.now) (places_of c.args.self.now) was)
+    err_from c.from_residual-in_err-add-2.result c.in_err-add-2.field-0.0 (λ e. LineEnds (λ k. whole_world (ids_of c.args.self.now) k before) c.args.line.now e (ids_of c.args.self.now) (places_of c.args.self.now) was) c.from_residual-in_err-add-2.ensures
     (ended_still before c.args.self.now was stands c.in_err-add-2.field-0.0 (limit_named c.in_err-add-2.field-0.0 2 (places_of c.args.self.now) c.in_err-add-2.ensures.fault) c.args.line.now was refl)
 
 pub returns-in_err-halt_node-clause-ended : goal.returns-in_err-halt_node-clause-ended
 returns-in_err-halt_node-clause-ended g c = λ before stands.
-    failed_ends c.from_residual-in_err-halt_node.result NoMemory c.from_residual-in_err-halt_node.ensures (λ e. LineEnds (λ k. whole_world (ids_of c.args.self.now) k before) c.args.line.now e (ids_of c.args.self.now) (places_of c.args.self.now) (images g.D.Disk.image_at g.D.Disk.moment c.halt_node.new.pairs.items))
+    err_from c.from_residual-in_err-halt_node.result NoMemory (λ e. LineEnds (λ k. whole_world (ids_of c.args.self.now) k before) c.args.line.now e (ids_of c.args.self.now) (places_of c.args.self.now) (images g.D.Disk.image_at g.D.Disk.moment c.halt_node.new.pairs.items)) c.from_residual-in_err-halt_node.ensures
     (c.in_err-halt_node.ensures.ended (λ k. whole_world (ids_of c.args.self.now) k before) stands.each)

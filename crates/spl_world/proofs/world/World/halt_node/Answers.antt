@@ -10,10 +10,11 @@ use Rattle.spl_wire.specs.declared.answer.Answer.TheVariants as answer
 use Rattle.spl_world.specs.Disks.{images}
 use Rattle.spl_world.specs.Halts.{said}
 use Rattle.spl_world.specs.Views.{Holds, seen}
-use Rattle.spl_world.proofs.Cutting.{cut_step, fail_from_one, halted_each, keeps_cut, keeps_fail, said_so, seat_at}
+use Rattle.spl_world.proofs.Cutting.{fail_from_one, halted_each, keeps_cut, keeps_fail, said_so, seat_at}
 use Rattle.spl_world.proofs.EndingLines.{ended_cut, ended_fail, ended_stop}
 use Rattle.spl_world.proofs.Results.{on_err}
 use Rattle.spl_world.proofs.Slots.{same_at}
+use Rattle.spl_projection.proofs.Owns.{cut-fits}
 use Rattle.spl_world.proofs.world.World.halt_node.Goals as goal
 
 -- ---- a stop
@@ -41,7 +42,7 @@ returns-in_ok-stop_at-in-Stop-clause-slot g c =
 -- ---- a cut
 
 pub halt_step-requires-clause-fits : goal.halt_step-requires-clause-fits
-halt_step-requires-clause-fits g c = cut_step c.in-Cut.calls c.in-Cut.fill c.in-Cut.step (rw (c.in-Cut.is) at c.requires.fits)
+halt_step-requires-clause-fits g c = cut-fits c.in-Cut.calls c.in-Cut.fill c.in-Cut.step (rw (c.in-Cut.is) at c.requires.fits)
 
 pub returns-in_ok-bit-in-Cut-clause-answer : goal.returns-in_ok-bit-in-Cut-clause-answer
 returns-in_ok-bit-in-Cut-clause-answer g c = λ worlds roll h.

@@ -12,13 +12,13 @@ use Rattle.spl_world.specs.Disks.{AreBlank, Images, TellAs, bench, images, image
 use Rattle.spl_world.specs.Making.{AreMadeBut}
 use Rattle.spl_world.specs.Views.{slot_ids}
 use Rattle.spl_world.proofs.Counting.{failed}
-use Rattle.spl_world.proofs.Ending.{failed_ends}
 use Rattle.spl_world.proofs.Handling.{one_leaves, one_onward}
 use Rattle.spl_world.proofs.HoldingLines.{held_first}
 use Rattle.spl_world.proofs.Leaving.{all_itself, all_then, leaves_failed, leaves_memory, leaves_ok, leaves_other, leaves_then}
 use Rattle.spl_world.proofs.Made.{AreMade, IsEntry, entry_at, entry_below, known_here, made_below, made_holds, made_placed, made_sits, none_made, one_more, still_there}
-use Rattle.spl_world.proofs.Unmade.{else_still, made_but}
+use Rattle.spl_world.proofs.Unmade.{else_still, made_but, made_none}
 use Rattle.spl_world.proofs.Pairing.{images_here, images_length, images_set, pair_here}
+use Rattle.spl_world.proofs.Results.{err_from}
 use Rattle.spl_world.proofs.world.World.new.Goals as goal
 
 pub loop-id-init : goal.loop-id-init
@@ -166,8 +166,8 @@ returns-in_err-ids-clause-unmade g c = λ unpicked.
     let es = c.args.registry.now in
     let ns = sorted (registered es) in
     let ps = c.args.pairs.now.items in
-    failed_ends c.from_residual.result NoMemory c.from_residual.ensures (λ (e : WorldFault). AreMadeBut ns es e (bench g.D.Disk.image_at g.D.Disk.moment g.D.Disk.faults g.D.Disk.armed g.D.Disk.picks ps) (bench g.D.Disk.image_at g.D.Disk.moment g.D.Disk.faults g.D.Disk.armed g.D.Disk.picks ps))
-    (made_but g.D.Disk.image_at g.D.Disk.moment g.D.Disk.faults g.D.Disk.armed g.D.Disk.picks ns es ns 0 [] NoMemory ps ps ps (none_made es ns (images g.D.Disk.image_at g.D.Disk.moment ps)) unpicked (all_itself _) 0 (λ k off. refl) (λ k q. cc))
+    err_from c.from_residual.result NoMemory (λ (e : WorldFault). AreMadeBut ns es e (bench g.D.Disk.image_at g.D.Disk.moment g.D.Disk.faults g.D.Disk.armed g.D.Disk.picks ps) (bench g.D.Disk.image_at g.D.Disk.moment g.D.Disk.faults g.D.Disk.armed g.D.Disk.picks ps)) c.from_residual.ensures
+    (made_none ns es NoMemory _ unpicked (λ k q. cc))
 
 pub returns-in_err-slot-clause-unmade : goal.returns-in_err-slot-clause-unmade
 returns-in_err-slot-clause-unmade g c = λ unpicked.
@@ -185,7 +185,7 @@ returns-in_err-slot-clause-unmade g c = λ unpicked.
     let all = sorted (registered es) in
     let r = c.new.new.disks in
     let f = c.in_err-slot.field-0.0 in
-    failed_ends c.from_residual-in_err-slot.result f c.from_residual-in_err-slot.ensures (λ (e : WorldFault). AreMadeBut all es e (bench g.D.Disk.image_at g.D.Disk.moment g.D.Disk.faults g.D.Disk.armed g.D.Disk.picks old) (bench g.D.Disk.image_at g.D.Disk.moment g.D.Disk.faults g.D.Disk.armed g.D.Disk.picks (slice_set ps c.from.result r)))
+    err_from c.from_residual-in_err-slot.result f (λ (e : WorldFault). AreMadeBut all es e (bench g.D.Disk.image_at g.D.Disk.moment g.D.Disk.faults g.D.Disk.armed g.D.Disk.picks old) (bench g.D.Disk.image_at g.D.Disk.moment g.D.Disk.faults g.D.Disk.armed g.D.Disk.picks (slice_set ps c.from.result r))) c.from_residual-in_err-slot.ensures
     (made_but g.D.Disk.image_at g.D.Disk.moment g.D.Disk.faults g.D.Disk.armed g.D.Disk.picks all es ns c.loop-id.id-index c.loop-id.slots.items f old ps (slice_set ps c.from.result r) c.loop-id.invariant.made unpicked
     (all_then _ _ _ c.loop-id.invariant.onward (one_onward g.D.Disk.image_at g.D.Disk.moment g.D.Disk.faults g.D.Disk.armed g.D.Disk.picks ps c.from.result c.index_mut-disks.result.now r pair c.new.ensures.onward))
     c.from.result (else_still g.D.Disk.image_at g.D.Disk.moment g.D.Disk.faults g.D.Disk.armed g.D.Disk.picks ps c.from.result r) (λ k q. (c.in_err-slot.ensures.failed k (ap (failed Slot) q)).0 ∙ sym c.from.ensures))
@@ -205,7 +205,7 @@ returns-in_err-join-clause-unmade g c = λ unpicked.
     let old = c.args.pairs.now.items in
     let all = sorted (registered es) in
     let r = c.new.new.disks in
-    failed_ends c.from_residual-in_err-join.result NoMemory c.from_residual-in_err-join.ensures (λ (e : WorldFault). AreMadeBut all es e (bench g.D.Disk.image_at g.D.Disk.moment g.D.Disk.faults g.D.Disk.armed g.D.Disk.picks old) (bench g.D.Disk.image_at g.D.Disk.moment g.D.Disk.faults g.D.Disk.armed g.D.Disk.picks (slice_set ps c.from.result r)))
+    err_from c.from_residual-in_err-join.result NoMemory (λ (e : WorldFault). AreMadeBut all es e (bench g.D.Disk.image_at g.D.Disk.moment g.D.Disk.faults g.D.Disk.armed g.D.Disk.picks old) (bench g.D.Disk.image_at g.D.Disk.moment g.D.Disk.faults g.D.Disk.armed g.D.Disk.picks (slice_set ps c.from.result r))) c.from_residual-in_err-join.ensures
     (made_but g.D.Disk.image_at g.D.Disk.moment g.D.Disk.faults g.D.Disk.armed g.D.Disk.picks all es ns c.loop-id.id-index c.loop-id.slots.items NoMemory old ps (slice_set ps c.from.result r) c.loop-id.invariant.made unpicked
     (all_then _ _ _ c.loop-id.invariant.onward (one_onward g.D.Disk.image_at g.D.Disk.moment g.D.Disk.faults g.D.Disk.armed g.D.Disk.picks ps c.from.result c.index_mut-disks.result.now r pair c.new.ensures.onward))
     c.from.result (else_still g.D.Disk.image_at g.D.Disk.moment g.D.Disk.faults g.D.Disk.armed g.D.Disk.picks ps c.from.result r) (λ k q. cc))

@@ -9,13 +9,13 @@ use Rattle.spl_world.proofs.Turns.{delivered, same_turn, turn_is, turn_none, tur
 use Rattle.spl_world.specs.Views.{seen}
 use Rattle.spl_world.specs.Disks.{images}
 use Rattle.spl_world.proofs.Leaving.{leaves_failed, leaves_ok, leaves_same, disk_at}
-use Rattle.spl_world.proofs.Ending.{failed_ends}
 use Rattle.spl_world.proofs.EndingParts.{leads_same, part_then, turn_leads}
 use Rattle.spl_world.specs.Ended.{PartEnds}
 use Rattle.spl_world.proofs.Linking.{done}
 use Rattle.spl_world.proofs.LinkingParts.{err_more, part_down, part_failed, part_own, part_turn}
 use Rattle.spl_world.specs.Links.{link_view}
 use Rattle.spl_world.proofs.LinkFaults.{faults_failed, faults_ok, faults_same}
+use Rattle.spl_world.proofs.Results.{err_from}
 use Rattle.spl_world.proofs.world.World.pair_turn.Goals as goal
 
 -- the recipient is down
@@ -106,7 +106,7 @@ returns-in_err-deliver_from-clause-ended g c = λ z a b h at to e.
     let all = c.count-all.ensures (images g.D.Disk.image_at g.D.Disk.moment c.args.pairs.now.items) z.world a b h at to in
     let part : Calming = delivers c.args.circuit z a b (c.args.taken + 1) (c.count-all.result - c.args.taken) in
     let whole : Calming = pair_turn c.args.circuit z a b in
-    failed_ends c.from_residual.result _ c.from_residual.ensures (λ f. PartEnds c.args.circuit z whole f old is)
+    err_from c.from_residual.result _ (λ f. PartEnds c.args.circuit z whole f old is) c.from_residual.ensures
     (part_then c.args.circuit z z part whole c.in_err-deliver_from.field-0.0 old old is (leads_same z) (turn_leads c.args.circuit z a b c.args.taken c.count-all.result e all up) refl refl (λ d m off k. k) (c.in_err-deliver_from.ensures.ended z a b h at to))
 
 -- ---- the links

@@ -9,14 +9,13 @@ use Rattle.spl_world.proofs.Calms.{pass_ticks}
 use Rattle.spl_world.proofs.Composed.{spares_then}
 use Rattle.spl_world.proofs.Counting.{counts_done, counts_more, counts_then, counts_failed, failed, at_least}
 use Rattle.spl_world.proofs.Slots.{same_length}
-use Rattle.spl_world.proofs.Ticking.{or_false}
 use Rattle.spl_world.proofs.Turns.{rows_same, ticks_taken, some_calming}
 use Rattle.spl_world.proofs.Leaving.{all_then, leaves_failed, leaves_ok, leaves_then, disk_at}
-use Rattle.spl_world.proofs.Ending.{failed_ends}
 use Rattle.spl_world.proofs.EndingParts.{leads_from_all, leads_same, leads_ticks, part_then}
 use Rattle.spl_world.specs.Ended.{PartEnds}
 use Rattle.spl_world.specs.Disks.{images}
 use Rattle.std.proofs.Common.{Bool}
+use Rattle.std.proofs.lemmas.Bool.{or_parts}
 use Rattle.spl_world.proofs.Linking.{done}
 use Rattle.spl_world.proofs.LinkingParts.{err_more, err_then, ok_then, part_alone, part_failed, part_same, part_ticks}
 use Rattle.spl_world.proofs.EndingParts.{leads_pass}
@@ -25,6 +24,7 @@ use Rattle.spl_world.specs.Links.{PartDelivers, link_view}
 use Rattle.spl_world.specs.Views.{places_of}
 use Rattle.spl_world.proofs.LinkFaults.{faults_failed, faults_ok, faults_still}
 use Rattle.spl_world.proofs.Linking.{off_failed}
+use Rattle.spl_world.proofs.Results.{err_from}
 use Rattle.spl_world.proofs.world.World.pass.Goals as goal
 
 pub from_all-requires-clause-square : goal.from_all-requires-clause-square
@@ -79,7 +79,7 @@ returns-clause-quiet g c = λ z h rows still.
     let y : Calming = ticks c.args.circuit z (open_nodes z.world ids) in
     let taken = subst (λ (ns : List NodeId). AreRows y.taken ns c.args.rows.now.items) (sym c.tick_all.ensures.ids) (rows_same z.taken y.taken ids c.args.rows.now.items (λ a b. sym (ticks_taken c.args.circuit z (open_nodes z.world ids) a b)) rows) in
     let counts = subst (λ (ns : List NodeId). c.from_all.new.self.events + length y.happened ≡ c.tick_all.new.self.events + length (from_all c.args.circuit y ns ns).happened) c.tick_all.ensures.ids (c.in_ok-from_all.ensures.counts y ((c.in_ok-moved.ensures.moves z).own z.world h) taken).ok in
-    let b = or_false _ _ still in
+    let b = or_parts _ _ still in
     let same : c.from_all.new.self.events ≡ c.tick_all.new.self.events = c.grew_since-delivered.ensures b.1 ∙ c.count-ticked.ensures.count in
     let none : length (pass c.args.circuit ids z).happened ≡ length y.happened = omega (arith, counts, same) in
     quiet-found c.args.circuit ids z (c.in_ok-moved.ensures.idle z.world h b.0) none
@@ -109,7 +109,7 @@ returns-in_err-moved-clause-ended g c = λ z h rows.
     let is = images g.D.Disk.image_at g.D.Disk.moment c.tick_all.new.pairs.items in
     let ids = ids_of c.args.self.now in
     let y : Calming = ticks c.args.circuit z (open_nodes z.world ids) in
-    failed_ends c.from_residual.result _ c.from_residual.ensures (λ e. PartEnds c.args.circuit z (pass c.args.circuit ids z) e old is)
+    err_from c.from_residual.result _ (λ e. PartEnds c.args.circuit z (pass c.args.circuit ids z) e old is) c.from_residual.ensures
     (part_then c.args.circuit z z y (pass c.args.circuit ids z) c.in_err-moved.field-0.0 old old is (leads_same z) (leads_from_all c.args.circuit y ids ids) refl refl (λ d m off k. k) (c.in_err-moved.ensures.ended z h))
 
 pub returns-in_err-from_all-clause-ended : goal.returns-in_err-from_all-clause-ended
@@ -122,7 +122,7 @@ returns-in_err-from_all-clause-ended g c = λ z h rows.
     let whole : Calming = pass c.args.circuit ids z in
     let taken = subst (λ (ns : List NodeId). AreRows y.taken ns c.args.rows.now.items) (sym c.tick_all.ensures.ids) (rows_same z.taken y.taken ids c.args.rows.now.items (λ a b. sym (ticks_taken c.args.circuit z (open_nodes z.world ids) a b)) rows) in
     let part = subst (λ (ns : List NodeId). PartEnds c.args.circuit y (from_all c.args.circuit y ns ns) c.in_err-from_all.field-0.0 mid is) c.tick_all.ensures.ids (c.in_err-from_all.ensures.ended y ((c.in_ok-moved.ensures.moves z).own z.world h) taken) in
-    failed_ends c.from_residual-in_err-from_all.result _ c.from_residual-in_err-from_all.ensures (λ e. PartEnds c.args.circuit z whole e old is)
+    err_from c.from_residual-in_err-from_all.result _ (λ e. PartEnds c.args.circuit z whole e old is) c.from_residual-in_err-from_all.ensures
     (part_then c.args.circuit z y whole whole c.in_err-from_all.field-0.0 old mid is (leads_ticks c.args.circuit z (open_nodes z.world ids)) (leads_same whole) c.tick_all.ensures.ids c.tick_all.ensures.places (c.in_ok-moved.ensures.moves z).others part)
 
 -- ---- the links

@@ -9,11 +9,10 @@ use Rattle.spl_world.specs.Views.{IsAt, ids_of, seen, places_of}
 use Rattle.spl_world.proofs.Counting.{counts_failed, at_least, failed}
 use Rattle.spl_world.proofs.Leaving.{all_itself, leaves_failed, leaves_limit, leaves_ok, limit_no_disk, disk_at, journal_from, memory_no_disk, no_journal}
 use Rattle.spl_world.proofs.Powering.{stands_start, stands_roll}
-use Rattle.spl_world.proofs.Results.{ok_both}
+use Rattle.spl_world.proofs.Results.{err_from, ok_both}
 use Rattle.spl_world.proofs.Standing.{stands_after, counted_line, over_line, step_result, calm_answered, power_answered}
 use Rattle.spl_world.proofs.Staying.{stays_refused}
 use Rattle.spl_world.specs.Ended.{LineEnds}
-use Rattle.spl_world.proofs.Ending.{failed_ends}
 use Rattle.spl_world.proofs.EndingLines.{ended_by, ended_calm, ended_still, limit_named, memory_named}
 use Rattle.spl_world.specs.declared.fault.WorldFault.TheVariants.{NoMemory}
 use Rattle.spl_circuit.specs.Nodes.{CircuitId}
@@ -154,7 +153,7 @@ returns-in_err-calm-in-Calm-clause-ended g c = λ before stands.
     let was = images g.D.Disk.image_at g.D.Disk.moment c.args.pairs.now.items in
     let is = images g.D.Disk.image_at g.D.Disk.moment c.calm.new.pairs.items in
     let f = c.in_err-calm-in-Calm.field-0.0 in
-    failed_ends c.from_residual-in_err-calm-in-Calm.result f c.from_residual-in_err-calm-in-Calm.ensures (λ e. LineEnds (λ k. whole_world (ids_of c.args.self.now) k before) c.args.line.now e (ids_of c.args.self.now) (places_of c.args.self.now) is)
+    err_from c.from_residual-in_err-calm-in-Calm.result f (λ e. LineEnds (λ k. whole_world (ids_of c.args.self.now) k before) c.args.line.now e (ids_of c.args.self.now) (places_of c.args.self.now) is) c.from_residual-in_err-calm-in-Calm.ensures
     (ended_calm before c.args.self.now was stands f (λ k q. c.in_err-calm-in-Calm.ensures.place k (ap (failed (Unit {0})) q)) c.in-Calm.circuit c.in-Calm.passes is
     (c.in_err-calm-in-Calm.ensures.ended (whole_world (ids_of c.args.self.now) c.in-Calm.circuit before) (stands.each c.in-Calm.circuit)) c.args.line.now c.in-Calm.is)
 
@@ -163,31 +162,31 @@ returns-in_err-start_at-in-Start-clause-ended g c = λ before stands.
     let was = images g.D.Disk.image_at g.D.Disk.moment c.args.pairs.now.items in
     let is = images g.D.Disk.image_at g.D.Disk.moment c.start_at.new.pairs.items in
     let f = c.in_err-start_at-in-Start.field-0.0 in
-    failed_ends c.from_residual-in_err-start_at-in-Start.result f c.from_residual-in_err-start_at-in-Start.ensures (λ e. LineEnds (λ k. whole_world (ids_of c.args.self.now) k before) c.args.line.now e (ids_of c.args.self.now) (places_of c.args.self.now) is)
+    err_from c.from_residual-in_err-start_at-in-Start.result f (λ e. LineEnds (λ k. whole_world (ids_of c.args.self.now) k before) c.args.line.now e (ids_of c.args.self.now) (places_of c.args.self.now) is) c.from_residual-in_err-start_at-in-Start.ensures
     (ended_still before c.args.self.now was stands f (λ k q. c.in_err-start_at-in-Start.ensures.place k (ap (failed (Unit {0})) q)) c.args.line.now is c.start_at.ensures.same)
 
 pub returns-in_err-add-in-Step-clause-ended : goal.returns-in_err-add-in-Step-clause-ended
 returns-in_err-add-in-Step-clause-ended g c = λ before stands.
     let was = images g.D.Disk.image_at g.D.Disk.moment c.args.pairs.now.items in
-    failed_ends c.from_residual.result c.in_err-add-in-Step.field-0.0 c.from_residual.ensures (λ e. LineEnds (λ k. whole_world (ids_of c.args.self.now) k before) c.args.line.now e (ids_of c.args.self.now) (places_of c.args.self.now) was)
+    err_from c.from_residual.result c.in_err-add-in-Step.field-0.0 (λ e. LineEnds (λ k. whole_world (ids_of c.args.self.now) k before) c.args.line.now e (ids_of c.args.self.now) (places_of c.args.self.now) was) c.from_residual.ensures
     (ended_still before c.args.self.now was stands c.in_err-add-in-Step.field-0.0 (limit_named c.in_err-add-in-Step.field-0.0 1 (places_of c.args.self.now) c.in_err-add-in-Step.ensures.fault) c.args.line.now was refl)
 
 pub returns-in_err-add-in-Start-clause-ended : goal.returns-in_err-add-in-Start-clause-ended
 returns-in_err-add-in-Start-clause-ended g c = λ before stands.
     let was = images g.D.Disk.image_at g.D.Disk.moment c.args.pairs.now.items in
-    failed_ends c.from_residual-in_err-add-in-Start.result c.in_err-add-in-Start.field-0.0 c.from_residual-in_err-add-in-Start.ensures (λ e. LineEnds (λ k. whole_world (ids_of c.args.self.now) k before) c.args.line.now e (ids_of c.args.self.now) (places_of c.args.self.now) was)
+    err_from c.from_residual-in_err-add-in-Start.result c.in_err-add-in-Start.field-0.0 (λ e. LineEnds (λ k. whole_world (ids_of c.args.self.now) k before) c.args.line.now e (ids_of c.args.self.now) (places_of c.args.self.now) was) c.from_residual-in_err-add-in-Start.ensures
     (ended_still before c.args.self.now was stands c.in_err-add-in-Start.field-0.0 (limit_named c.in_err-add-in-Start.field-0.0 1 (places_of c.args.self.now) c.in_err-add-in-Start.ensures.fault) c.args.line.now was refl)
 
 pub returns-in_err-add-in-Roll-clause-ended : goal.returns-in_err-add-in-Roll-clause-ended
 returns-in_err-add-in-Roll-clause-ended g c = λ before stands.
     let was = images g.D.Disk.image_at g.D.Disk.moment c.args.pairs.now.items in
-    failed_ends c.from_residual-in_err-add-in-Roll.result c.in_err-add-in-Roll.field-0.0 c.from_residual-in_err-add-in-Roll.ensures (λ e. LineEnds (λ k. whole_world (ids_of c.args.self.now) k before) c.args.line.now e (ids_of c.args.self.now) (places_of c.args.self.now) was)
+    err_from c.from_residual-in_err-add-in-Roll.result c.in_err-add-in-Roll.field-0.0 (λ e. LineEnds (λ k. whole_world (ids_of c.args.self.now) k before) c.args.line.now e (ids_of c.args.self.now) (places_of c.args.self.now) was) c.from_residual-in_err-add-in-Roll.ensures
     (ended_still before c.args.self.now was stands c.in_err-add-in-Roll.field-0.0 (limit_named c.in_err-add-in-Roll.field-0.0 1 (places_of c.args.self.now) c.in_err-add-in-Roll.ensures.fault) c.args.line.now was refl)
 
 pub returns-in_err-roll_at-in-Roll-clause-ended : goal.returns-in_err-roll_at-in-Roll-clause-ended
 returns-in_err-roll_at-in-Roll-clause-ended g c = λ before stands.
     let was = images g.D.Disk.image_at g.D.Disk.moment c.args.pairs.now.items in
-    failed_ends c.from_residual-in_err-roll_at-in-Roll.result NoMemory c.from_residual-in_err-roll_at-in-Roll.ensures (λ e. LineEnds (λ k. whole_world (ids_of c.args.self.now) k before) c.args.line.now e (ids_of c.args.self.now) (places_of c.args.self.now) was)
+    err_from c.from_residual-in_err-roll_at-in-Roll.result NoMemory (λ e. LineEnds (λ k. whole_world (ids_of c.args.self.now) k before) c.args.line.now e (ids_of c.args.self.now) (places_of c.args.self.now) was) c.from_residual-in_err-roll_at-in-Roll.ensures
     (ended_still before c.args.self.now was stands NoMemory (memory_named (places_of c.args.self.now)) c.args.line.now was refl)
 
 -- ---- the faults of the links

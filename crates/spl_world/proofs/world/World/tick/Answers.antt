@@ -15,8 +15,9 @@ use Rattle.spl_world.proofs.Up.{world_up}
 use Rattle.spl_world.specs.Views.{seen}
 use Rattle.spl_world.specs.Disks.{images}
 use Rattle.spl_world.proofs.Leaving.{all_itself, leaves_failed, leaves_limit, leaves_ok, leaves_same, limit_no_disk, disk_at}
-use Rattle.spl_world.proofs.Ending.{any_fault, failed_ends, still_ended}
+use Rattle.spl_world.proofs.Ending.{any_fault, still_ended}
 use Rattle.spl_world.specs.Ended.{EventEnds}
+use Rattle.spl_world.proofs.Results.{err_from}
 use Rattle.spl_world.proofs.world.World.tick.Goals as goal
 
 -- ---- where the node isn't open
@@ -93,5 +94,5 @@ returns-in_err-answer-clause-ended g c = λ m n h at.
     let is = images g.D.Disk.image_at g.D.Disk.moment c.handle.new.pairs.items in
     let ready : (m.up n && is_open_cell (m.at n)) ≡ true = sym (c.is_open.ensures.world (images g.D.Disk.image_at g.D.Disk.moment c.args.pairs.now.items) m n h at) ∙ c.if-not-is_open.false in
     let same : carried_out m n (plan_of (site_at n c.args.circuit) (m.at n) event.Tick) ≡ tick_at c.args.circuit n m = sym (world_up m (step.At n c.args.circuit event.Tick) (and_left (m.up n) (is_open_cell (m.at n)) ready)) ∙ opened_tick c.args.circuit n m ready in
-    failed_ends c.from_residual-in_err-answer.result _ c.from_residual-in_err-answer.ensures (λ e. EventEnds c.args.circuit (tick_at c.args.circuit n m) e xs is)
+    err_from c.from_residual-in_err-answer.result _ (λ e. EventEnds c.args.circuit (tick_at c.args.circuit n m) e xs is) c.from_residual-in_err-answer.ensures
     (subst (λ (w : CircuitWorld). EventEnds c.args.circuit w c.in_err-answer.field-0.0 xs is) same (c.in_err-answer.ensures.ended m n h at))

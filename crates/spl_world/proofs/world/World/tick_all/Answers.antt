@@ -1,6 +1,7 @@
 use Rattle.std.proofs.Common.{◌≡◌, ◌+◌, ◌≤◌, ℕ, ◌∙◌, ap, sym, subst, take, length, slice_get, Some, List, arith, refl}
 use Rattle.std.specs.List.{AllByRecursion}
 use Rattle.std.proofs.lemmas.List.{take_all}
+use Rattle.std.proofs.lemmas.Bool.{or_parts}
 use Rattle.spl_circuit.specs.Nodes.{NodeId}
 use Rattle.spl_model.specs.Worlds.{World as CircuitWorld}
 use Rattle.spl_model.specs.Calm.{Calming, open_nodes, ticks}
@@ -9,13 +10,13 @@ use Rattle.spl_world.specs.Calms.{tick_count}
 use Rattle.spl_world.specs.Views.{Moves, ids_of, seen}
 use Rattle.spl_world.proofs.Counting.{counts_done, counts_more, counts_failed, at_most}
 use Rattle.spl_world.proofs.Slots.{some_at, same_length, length_ids, not_before}
-use Rattle.spl_world.proofs.Ticking.{ticked, tick_moves, count_more, idle_more, open_front, or_false, tick_more}
+use Rattle.spl_world.proofs.Ticking.{ticked, tick_moves, count_more, idle_more, open_front, tick_more}
 use Rattle.spl_world.proofs.Turns.{some_calming}
 use Rattle.spl_world.proofs.Leaving.{all_itself, all_then, leaves_failed, leaves_ok, leaves_then, disk_at}
-use Rattle.spl_world.proofs.Ending.{failed_ends}
 use Rattle.spl_world.proofs.EndingParts.{leads_ticks, part_event, ticks_front, ticks_next}
 use Rattle.spl_world.specs.Ended.{EventEnds, PartEnds}
 use Rattle.spl_world.specs.Disks.{images}
+use Rattle.spl_world.proofs.Results.{err_from}
 use Rattle.spl_world.proofs.world.World.tick_all.Goals as goal
 
 pub loop-slot-preserved : goal.loop-slot-preserved
@@ -38,7 +39,7 @@ loop-slot-preserved g c =
           let there : slice_get (ids_of c.loop-slot.self) c.loop-slot.slot ≡ Some n.0 = ap (λ (ns : List NodeId). slice_get ns c.loop-slot.slot) c.loop-slot.invariant.1 ∙ n.1 in
           let z : Calming = some_calming 0 in
           let w : CircuitWorld = ticked c.args.circuit z (take c.loop-slot.slot (ids_of c.args.self.now)) m in
-          let b = or_false c.loop-slot.moved c.in_ok-one.one still in
+          let b = or_parts c.loop-slot.moved c.in_ok-one.one still in
           idle_more c.args.circuit z (ids_of c.args.self.now) c.loop-slot.slot n.0 m n.1 (not_before (ids_of c.args.self.now) c.loop-slot.slot n.0 h.ordered n.1) (c.loop-slot.invariant.4 m h b.0)
           (c.in_ok-one.ensures.idle w n.0 ((c.loop-slot.invariant.2 z).own m h) there b.1),
       c.in_ok-one.ensures.sits,
@@ -105,6 +106,6 @@ returns-in_err-one-clause-ended g c = λ z h.
     let all : Calming = ticks c.args.circuit z (open_nodes z.world ids) in
     let holds = (c.loop-slot.invariant.2 z).own z.world h in
     let ended = subst (λ (w : CircuitWorld). EventEnds c.args.circuit w c.in_err-one.field-0.0 mid is) (tick_more c.args.circuit z ids c.loop-slot.slot n.0 z.world n.1 (not_before ids c.loop-slot.slot n.0 h.ordered n.1)) (c.in_err-one.ensures.ended here.world n.0 holds there) in
-    failed_ends c.from_residual.result _ c.from_residual.ensures (λ e. PartEnds c.args.circuit z all e old is)
+    err_from c.from_residual.result _ (λ e. PartEnds c.args.circuit z all e old is) c.from_residual.ensures
     (part_event c.args.circuit z here next all c.in_err-one.field-0.0 old mid is (leads_ticks c.args.circuit z (open_nodes z.world (take c.loop-slot.slot ids))) (ticks_next c.args.circuit z ids c.loop-slot.slot n.0 n.1) (ticks_front c.args.circuit z ids (c.loop-slot.slot + 1))
     c.loop-slot.invariant.1 c.loop-slot.invariant.7 c.loop-slot.invariant.5 holds (c.loop-slot.invariant.2 z).others ended)

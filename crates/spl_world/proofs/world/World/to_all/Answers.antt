@@ -10,7 +10,6 @@ use Rattle.spl_world.proofs.Counting.{counts_done, counts_then, counts_failed, a
 use Rattle.spl_world.proofs.Slots.{some_at, same_length, length_ids, set_length}
 use Rattle.spl_world.proofs.Turns.{turn_own, to_all_next, row_at, some_calming}
 use Rattle.spl_world.proofs.Leaving.{all_itself, all_then, leaves_failed, leaves_ok, leaves_then, disk_at}
-use Rattle.spl_world.proofs.Ending.{failed_ends}
 use Rattle.spl_world.proofs.EndingParts.{part_then, to_all_so_far, to_all_turn}
 use Rattle.spl_world.specs.Ended.{PartEnds}
 use Rattle.spl_world.specs.Disks.{images}
@@ -20,6 +19,7 @@ use Rattle.spl_world.proofs.Seating.{places_as}
 use Rattle.spl_world.specs.Links.{PartDelivers, link_view}
 use Rattle.spl_world.specs.Views.{places_of}
 use Rattle.spl_world.proofs.LinkFaults.{faults_failed, faults_ok, faults_then, links_itself, links_then}
+use Rattle.spl_world.proofs.Results.{err_from}
 use Rattle.spl_world.proofs.world.World.to_all.Goals as goal
 
 pub loop-to-preserved : goal.loop-to-preserved
@@ -124,7 +124,7 @@ returns-in_err-row-clause-ended g c = λ z a h at row.
     let so_far = c.loop-to.invariant.3 z a h at row in
     let here : slice_get (ids_of c.loop-to.self) c.args.from ≡ Some a = ap (λ (ns : List NodeId). slice_get ns c.args.from) c.loop-to.invariant.1 ∙ at in
     let taken : y.taken a recipient.0 ≡ c.index.result.now = sym (c.index.ensures ∙ ap (λ (r : List ℕ). get_or r c.loop-to.to c.index.result.now) so_far.1 ∙ row_at y.taken a ids c.loop-to.to recipient.0 c.index.result.now recipient.1) in
-    failed_ends c.from_residual.result _ c.from_residual.ensures (λ e. PartEnds c.args.circuit z whole e old is)
+    err_from c.from_residual.result _ (λ e. PartEnds c.args.circuit z whole e old is) c.from_residual.ensures
     (part_then c.args.circuit z y (pair_turn c.args.circuit y a recipient.0) whole c.in_err-row.field-0.0 old mid is (to_all_so_far c.args.circuit z a ids c.loop-to.to) (to_all_turn c.args.circuit z a ids c.loop-to.to recipient.0 recipient.1)
     c.loop-to.invariant.1 c.loop-to.invariant.8 c.loop-to.invariant.4 (c.in_err-row.ensures.ended y a recipient.0 so_far.0 here to taken))
 
