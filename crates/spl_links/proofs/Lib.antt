@@ -8,4 +8,3 @@ mod Running
 pub mod Stopping
 pub mod Tasks
 mod Whole
-mod Wiring

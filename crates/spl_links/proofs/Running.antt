@@ -33,7 +33,6 @@ use Rattle.spl_links.specs.Behind.{AreRun, MayGo}
 use Rattle.spl_links.specs.Ends.{AreSeats, EndsAt, HaveRun, HoldBehind}
 use Rattle.spl_links.specs.Tasks.{Task, carried, nodes_in, ran_by}
 use Rattle.spl_links.proofs.Tasks.{carried_one, ran-append}
-use Rattle.spl_links.proofs.Wiring.{part_of_all}
 
 -- ---- the places of nodes
 
@@ -115,8 +114,8 @@ module _ (es : List Entry) (ts : List Task) (w : World) (x y : LinkView) (is : L
     put_part : (e : WorldFault) (z : LinkView) → CarriesPart e sent y z → PutsPart (wire_of es (carried es (ts ++ task ∷ []))) x.put z.put
     put_part e z part =
         let p = part_behind e (carried es ts) sent x y z r.all_carried part in
-        subst (λ (cs : List Carried). PutsPart (wire_of es cs) x.put z.put) (sym p.all ∙ sym carried_is)
-        (part_of_all es p.first p.rest x.put z.put (same_part (x.wire p.first) (wire_of es p.first) x.put z.put (r.wire p.first) p.put))
+        subst (λ (cs : List Carried). PutsPart (wire_of es cs) x.put z.put) (sym carried_is)
+        (same_part (x.wire (carried es ts ++ sent)) (wire_of es (carried es ts ++ sent)) x.put z.put (r.wire (carried es ts ++ sent)) p.put)
 
     fails : (e : WorldFault) (z : LinkView) (js : List Images) → LineEnds (λ c. whole_world (ids_of w) c (ran_by ts)) l e (ids_of w) (places_of w) js → CarriesPart e sent y z
         → ((which : ℕ) → e ≡ TooMany which → IsOver (ids_of w) behind which) → ((slot at : ℕ) → e ≡ NotAJournal slot at → ⊥) → EndsAt es ts task e x z js

@@ -1,11 +1,12 @@
 -- How calls leave the links, one behind the other.
-use Rattle.std.proofs.Common.{◌≡◌, ℕ, ◌≤◌, Bool, true, false, List, [], ◌++◌, append-nil, append_assoc, Result, Ok, Err, OnErr, refl, sym, ap, subst, ◌∙◌, arith}
+use Rattle.std.proofs.Common.{◌≡◌, ℕ, ◌≤◌, Bool, true, false, List, [], ◌++◌, Result, Ok, Err, OnErr, refl, sym, ap, subst, ◌∙◌, arith}
 use Rattle.std.specs.Prelude.{IfErr, IsErr, IsErrOf}
 use Rattle.std.specs.List.{list_any}
 use Rattle.std.specs.Result.{IsErrAnd}
 use Rattle.std.proofs.lemmas.List.Folds.{list_any-append}
 use Rattle.spl_pump.proofs.Carrying.{goes_on_none, goes_on_more, puts_on, puts_on_part, same_puts}
-use Rattle.spl_pump.proofs.Wires.{puts_nothing, puts_part}
+use Rattle.spl_agree.specs.World.{IsPrefixOf}
+use Rattle.spl_pump.proofs.Wires.{part_of_more, puts_nothing, puts_nothing_part, puts_part}
 use Rattle.spl_pump.specs.Moves.{Streams}
 use Rattle.std.proofs.lemmas.Bool.{eq-eqb, or_left, or_right}
 use Rattle.spl_edge.specs.Causes.{Rose}
@@ -20,6 +21,10 @@ use Rattle.spl_world.specs.declared.fault.WorldFault.TheVariants.{Disk, Lied, Li
 -- a carrier puts nothing where it carries nothing
 abbrev pub IsIdle : LinkView → Type 0
 IsIdle x = (a b : ℕ) → x.wire [] a b ≡ []
+
+-- what some messages put begins what they and later ones put
+abbrev pub HasFronts : LinkView → Type 0
+HasFronts x = (sent later : List Carried) (a b : ℕ) → IsPrefixOf (x.wire sent a b) (x.wire (sent ++ later) a b)
 
 -- an error of no link
 abbrev pub IsOff : {A : Type 0} → Result A WorldFault → Type 0
@@ -78,29 +83,20 @@ no_cause NoMemory xs x y off = tt
 
 pub part_behind : (e : WorldFault) (xs ys : List Carried) (x y z : LinkView) → Carries xs x y → CarriesPart e ys y z → CarriesPart e (xs ++ ys) x z
 part_behind e xs ys x y z a b = record {
-  first = xs ++ b.first;
-  rest = b.rest;
-  all = ap (λ (l : List Carried). xs ++ l) b.all ∙ sym (append_assoc xs b.first b.rest);
-  put = puts_on_part xs b.first x.wire y.wire x.put y.put z.put a.onward a.put b.put;
+  put = puts_on_part xs ys x.wire y.wire x.put y.put z.put a.onward a.put b.put;
   no_less = omega (arith, a.no_less, b.no_less);
   cause = cause_behind e xs ys x y z a.no_less b.cause;
 }
 
-pub part_more : (e : WorldFault) (xs ys : List Carried) (x y : LinkView) → CarriesPart e xs x y → CarriesPart e (xs ++ ys) x y
-part_more e xs ys x y p = record {
-  first = p.first;
-  rest = p.rest ++ ys;
-  all = ap (λ (l : List Carried). l ++ ys) p.all ∙ append_assoc p.first p.rest ys;
-  put = p.put;
+pub part_more : (e : WorldFault) (xs ys : List Carried) (x y : LinkView) → HasFronts x → CarriesPart e xs x y → CarriesPart e (xs ++ ys) x y
+part_more e xs ys x y fronts p = record {
+  put = part_of_more (x.wire xs) (x.wire (xs ++ ys)) x.put y.put (fronts xs ys) p.put;
   no_less = p.no_less;
   cause = cause_more e xs ys x y p.cause;
 }
 
 carries_part : (e : WorldFault) (xs : List Carried) (x y : LinkView) → is_of_links e ≡ false → Carries xs x y → CarriesPart e xs x y
 carries_part e xs x y off k = record {
-  first = xs;
-  rest = [];
-  all = sym (append-nil xs);
   put = puts_part (x.wire xs) x.put y.put k.put;
   no_less = k.no_less;
   cause = no_cause e xs x y off;
@@ -154,9 +150,6 @@ fault_cause pump.NoMemory from to m x y rose lies = tt
 -- it was not carried
 pub fault_part : (f : WorldFault) (e : PumpFault) (from to : ℕ) (m : Message) (x y : LinkView) → f ≡ carry_fault from to e → PutsPart (x.wire (only from to m)) x.put y.put → x.faults ≤ y.faults → (e ≡ pump.Link → Rose x.faults y.faults) → LiesOf e y.put y.taken → CarriesPart f (only from to m) x y
 fault_part f e from to m x y is part less rose lies = subst (λ (g : WorldFault). CarriesPart g (only from to m) x y) (sym is) (record {
-  first = only from to m;
-  rest = [];
-  all = sym (append-nil (only from to m));
   put = part;
   no_less = less;
   cause = fault_cause e from to m x y rose lies;
@@ -167,5 +160,9 @@ pub memory_part : {B : Type 0} (r : Result B WorldFault) → IsErr r × IsErrAnd
 memory_part r e xs x y k = delivers_still r xs x y (off_memory r e) k
 
 -- nothing was carried yet
-pub fails_early : {B : Type 0} (r : Result B WorldFault) (f : WorldFault) → IsErr r × IsErrAnd r (λ y. y ≡ f) → is_of_links f ≡ false → (xs : List Carried) (x : LinkView) → IsIdle x → Delivers r xs x x
-fails_early r f e off xs x idle = delivers_failed r f e xs x x (part_more f [] xs x x (carries_part f [] x x off (carries_nothing x idle)))
+pub fails_early : {B : Type 0} (r : Result B WorldFault) (f : WorldFault) → IsErr r × IsErrAnd r (λ y. y ≡ f) → is_of_links f ≡ false → (xs : List Carried) (x : LinkView) → Delivers r xs x x
+fails_early r f e off xs x = delivers_failed r f e xs x x (record {
+  put = part_of_more (λ a b. []) (x.wire xs) x.put x.put (λ a b. (x.wire xs a b, refl)) (puts_nothing_part x.put);
+  no_less = omega arith;
+  cause = no_cause f xs x x off;
+})

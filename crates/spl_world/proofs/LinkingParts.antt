@@ -17,7 +17,7 @@ use Rattle.spl_world.specs.Ended.{Leads}
 use Rattle.spl_world.specs.Links.{Carries, CarriesPart, Delivers, LinkView, PartDelivers, carried_at, carried_in}
 use Rattle.spl_world.specs.declared.fault.WorldFault.{WorldFault}
 use Rattle.spl_world.proofs.Counting.{failed}
-use Rattle.spl_world.proofs.Linking.{IsIdle, IsOff, done, carries_nothing, delivers_as, delivers_failed, delivers_still, delivers_then, part_more}
+use Rattle.spl_world.proofs.Linking.{HasFronts, IsIdle, IsOff, done, carries_nothing, delivers_as, delivers_failed, delivers_still, delivers_then, part_more}
 use Rattle.spl_world.proofs.Calms.{passes_split}
 use Rattle.spl_world.proofs.Reading.{no_messages}
 use Rattle.spl_world.proofs.Turns.{nothing_less, turn_none}
@@ -52,16 +52,16 @@ module _ (place : NodeId → ℕ) where
   )
 
   -- one that ended with an error, in a longer one
-  pub err_more : (e : WorldFault) (z y w : Calming) (p q : LinkView) → PartFails e z y p q → Leads y w → PartFails e z w p q
-  err_more e z y w p q f g = (
+  pub err_more : (e : WorldFault) (z y w : Calming) (p q : LinkView) → HasFronts p → PartFails e z y p q → Leads y w → PartFails e z w p q
+  err_more e z y w p q fronts f g = (
     record { steps = f.0.steps ++ g.steps; happened = both_lead z y w f.0 g; world = both_reach z y w f.0 g },
     subst (λ (l : List Carried). CarriesPart e l p q) (both_carry z y w f.0 g)
-        (part_more e (carried_in place z.world f.0.steps) (carried_in place y.world g.steps) p q f.1),
+        (part_more e (carried_in place z.world f.0.steps) (carried_in place y.world g.steps) p q fronts f.1),
   )
 
   -- so behind another
-  pub err_then : (e : WorldFault) (z y v w : Calming) (p q s : LinkView) → PartDelivers done place z y p q → PartFails e y v q s → Leads v w → PartFails e z w p s
-  err_then e z y v w p q s f g more = err_more e z v w p s (ok_then (failed (Unit {0}) e) z y v p q s f g) more
+  pub err_then : (e : WorldFault) (z y v w : Calming) (p q s : LinkView) → HasFronts p → PartDelivers done place z y p q → PartFails e y v q s → Leads v w → PartFails e z w p s
+  err_then e z y v w p q s fronts f g more = err_more e z v w p s fronts (ok_then (failed (Unit {0}) e) z y v p q s f g) more
 
   -- one that fails as the call in it does
   pub part_failed : {B : Type 0} (r : Result B WorldFault) (f : WorldFault) → IsErr r × IsErrAnd r (λ y. y ≡ f) → (z y : Calming) (p q : LinkView) → PartFails f z y p q → PartDelivers r place z y p q

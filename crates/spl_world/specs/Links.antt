@@ -94,12 +94,9 @@ HasLinkCause Link sent x y = Rose x.faults y.faults
 HasLinkCause (Lied from to put got) sent x y = (list_any (is_on from to) sent ≡ true) × LiesOf (pump.Lied put got) y.put y.taken
 HasLinkCause _ sent x y = ⊤
 
--- of the first of these messages were put all bytes, or a front of them on each pair
+-- a front of what these messages put was put on each pair
 pub record CarriesPart (e : WorldFault) (sent : List Carried) (x y : LinkView) : Type 0 where
-  pub first : List Carried
-  pub rest : List Carried
-  pub all : sent ≡ first ++ rest
-  pub put : PutsPart (x.wire first) x.put y.put
+  pub put : PutsPart (x.wire sent) x.put y.put
   pub no_less : x.faults ≤ y.faults
   pub cause : HasLinkCause e sent x y
 

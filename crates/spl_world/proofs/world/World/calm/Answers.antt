@@ -219,7 +219,7 @@ pub returns-then-not-branch-clause-ready : goal.returns-then-not-branch-clause-r
 returns-then-not-branch-clause-ready g c = on_ok c.add.result c.in_ok-pass.ensures.ready
 
 pub returns-in_err-rows-clause-links : goal.returns-in_err-rows-clause-links
-returns-in_err-rows-clause-links g c = λ place m placed h. fails_early c.from_residual.result NoMemory c.from_residual.ensures refl (carried_in place m (calm c.args.circuit m c.args.passes).happened) (link_view g.C.Carry.slots g.C.Carry.failed g.C.Carry.wire g.F.Fabric.put_on g.F.Fabric.taken_on g.F.Fabric.faults c.args.carrier.now c.args.fabric.now) (g.met.C.Carry.idle c.args.carrier.now)
+returns-in_err-rows-clause-links g c = λ place m placed h. fails_early c.from_residual.result NoMemory c.from_residual.ensures refl (carried_in place m (calm c.args.circuit m c.args.passes).happened) (link_view g.C.Carry.slots g.C.Carry.failed g.C.Carry.wire g.F.Fabric.put_on g.F.Fabric.taken_on g.F.Fabric.faults c.args.carrier.now c.args.fabric.now)
 
 pub returns-in_err-pass-clause-links : goal.returns-in_err-pass-clause-links
 returns-in_err-pass-clause-links g c = λ place m placed h.
@@ -239,7 +239,7 @@ returns-in_err-pass-clause-links g c = λ place m placed h.
     whole_part place c.from_residual-in_err-pass.result m (calm c.args.circuit m c.args.passes) p s
     (part_to place c.from_residual-in_err-pass.result (calming m) all (calm c.args.circuit m c.args.passes) p s (calm_is c.args.circuit m (seen g.D.Disk.image_at g.D.Disk.moment c.args.self.now c.args.pairs.now.items) c.args.passes h)
     (part_failed place c.from_residual-in_err-pass.result f c.from_residual-in_err-pass.ensures (calming m) all p s
-    (err_then place f (calming m) y (pass c.args.circuit ids y) all p q s carried part (next_pass_leads c.args.circuit ids c.loop-done.done c.args.passes (calming m) most))))
+    (err_then place f (calming m) y (pass c.args.circuit ids y) all p q s (g.met.C.Carry.front c.args.carrier.now) carried part (next_pass_leads c.args.circuit ids c.loop-done.done c.args.passes (calming m) most))))
 
 pub returns-then-not-branch-clause-links : goal.returns-then-not-branch-clause-links
 returns-then-not-branch-clause-links g c = λ place m placed h.

@@ -187,7 +187,7 @@ returns-in_err-add-clause-links g c = λ place z a b placed h at to.
     let here : Calming = delivers c.args.circuit z a b (c.args.taken + 1) (c.loop-index.index - c.args.taken) in
     let all : Calming = delivers c.args.circuit z a b (c.args.taken + 1) (c.args.all - c.args.taken) in
     part_failed place c.from_residual.result f c.from_residual.ensures z all p q
-    (err_more place f z here all p q (part_alone place (failed (Unit {0}) f) z here p q (off_limit (failed (Unit {0}) f) 1 c.in_err-add.ensures.fault) (c.loop-index.invariant.12 place z a b placed h at to))
+    (err_more place f z here all p q (g.met.C.Carry.front c.args.carrier.now) (part_alone place (failed (Unit {0}) f) z here p q (off_limit (failed (Unit {0}) f) 1 c.in_err-add.ensures.fault) (c.loop-index.invariant.12 place z a b placed h at to))
     (delivers_front c.args.circuit z a b (c.args.taken + 1) (c.loop-index.index - c.args.taken) (c.args.all - c.args.taken) c.loop-index.invariant.4))
 
 pub returns-in_err-deliver-clause-links : goal.returns-in_err-deliver-clause-links
@@ -209,7 +209,7 @@ returns-in_err-deliver-clause-links g c = λ place z a b placed h at to.
     let part = part_to place (failed (Unit {0}) f) here (calming_step here one) next q s (deliver_next c.args.circuit z a b c.args.taken c.loop-index.index c.loop-index.invariant.3)
     (part_step place (failed (Unit {0}) f) here one q s (c.in_err-deliver.ensures.links place here.world a b seats (moves.own z.world h) first second)) in
     part_failed place c.from_residual-in_err-deliver.result f c.from_residual-in_err-deliver.ensures z all p s
-    (err_then place f z here next all p q s so_far part (delivers_front c.args.circuit z a b (c.args.taken + 1) ((c.loop-index.index + 1) - c.args.taken) (c.args.all - c.args.taken) most))
+    (err_then place f z here next all p q s (g.met.C.Carry.front c.args.carrier.now) so_far part (delivers_front c.args.circuit z a b (c.args.taken + 1) ((c.loop-index.index + 1) - c.args.taken) (c.args.all - c.args.taken) most))
 
 pub returns-clause-links : goal.returns-clause-links
 returns-clause-links g c = λ place z a b placed h at to.

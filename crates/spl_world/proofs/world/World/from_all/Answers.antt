@@ -174,7 +174,7 @@ returns-in_err-to_all-clause-links g c = λ place z placed h rows.
     let whole : Calming = from_all c.args.circuit z (ids_of c.args.self.now) (ids_of c.args.self.now) in
     let part = subst (λ (ns : List NodeId). PartDelivers (failed (Unit {0}) f) place y (to_all c.args.circuit y sender.0 ns) q s) c.loop-from.invariant.1 (c.in_err-to_all.ensures.links place y sender.0 seats so_far.0 here row) in
     part_failed place c.from_residual.result f c.from_residual.ensures z whole p s
-    (err_then place f z y (to_all c.args.circuit y sender.0 (ids_of c.args.self.now)) whole p q s carried part (from_all_turn c.args.circuit z (ids_of c.args.self.now) c.loop-from.from sender.0 sender.1))
+    (err_then place f z y (to_all c.args.circuit y sender.0 (ids_of c.args.self.now)) whole p q s (g.met.C.Carry.front c.args.carrier.now) carried part (from_all_turn c.args.circuit z (ids_of c.args.self.now) c.loop-from.from sender.0 sender.1))
 
 pub returns-clause-links : goal.returns-clause-links
 returns-clause-links g c = λ place z placed h rows.

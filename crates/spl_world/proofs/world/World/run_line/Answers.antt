@@ -221,19 +221,19 @@ returns-in_ok-roll_at-in-Roll-clause-faults g c = faults_same _ _
 -- ---- the links
 
 pub returns-in_err-add-in-Step-clause-links : goal.returns-in_err-add-in-Step-clause-links
-returns-in_err-add-in-Step-clause-links g c = λ place before placed stands. fails_early c.from_residual.result c.in_err-add-in-Step.field-0.0 c.from_residual.ensures (off_limit (failed (Unit {0}) c.in_err-add-in-Step.field-0.0) 1 c.in_err-add-in-Step.ensures.fault) (line_carried place (λ (k : CircuitId). whole_world (ids_of c.args.self.now) k before) c.args.line.now) (link_view g.C.Carry.slots g.C.Carry.failed g.C.Carry.wire g.F.Fabric.put_on g.F.Fabric.taken_on g.F.Fabric.faults c.args.carrier.now c.args.fabric.now) (g.met.C.Carry.idle c.args.carrier.now)
+returns-in_err-add-in-Step-clause-links g c = λ place before placed stands. fails_early c.from_residual.result c.in_err-add-in-Step.field-0.0 c.from_residual.ensures (off_limit (failed (Unit {0}) c.in_err-add-in-Step.field-0.0) 1 c.in_err-add-in-Step.ensures.fault) (line_carried place (λ (k : CircuitId). whole_world (ids_of c.args.self.now) k before) c.args.line.now) (link_view g.C.Carry.slots g.C.Carry.failed g.C.Carry.wire g.F.Fabric.put_on g.F.Fabric.taken_on g.F.Fabric.faults c.args.carrier.now c.args.fabric.now)
 
 pub returns-in_err-add-in-Start-clause-links : goal.returns-in_err-add-in-Start-clause-links
-returns-in_err-add-in-Start-clause-links g c = λ place before placed stands. fails_early c.from_residual-in_err-add-in-Start.result c.in_err-add-in-Start.field-0.0 c.from_residual-in_err-add-in-Start.ensures (off_limit (failed (Unit {0}) c.in_err-add-in-Start.field-0.0) 1 c.in_err-add-in-Start.ensures.fault) (line_carried place (λ (k : CircuitId). whole_world (ids_of c.args.self.now) k before) c.args.line.now) (link_view g.C.Carry.slots g.C.Carry.failed g.C.Carry.wire g.F.Fabric.put_on g.F.Fabric.taken_on g.F.Fabric.faults c.args.carrier.now c.args.fabric.now) (g.met.C.Carry.idle c.args.carrier.now)
+returns-in_err-add-in-Start-clause-links g c = λ place before placed stands. fails_early c.from_residual-in_err-add-in-Start.result c.in_err-add-in-Start.field-0.0 c.from_residual-in_err-add-in-Start.ensures (off_limit (failed (Unit {0}) c.in_err-add-in-Start.field-0.0) 1 c.in_err-add-in-Start.ensures.fault) (line_carried place (λ (k : CircuitId). whole_world (ids_of c.args.self.now) k before) c.args.line.now) (link_view g.C.Carry.slots g.C.Carry.failed g.C.Carry.wire g.F.Fabric.put_on g.F.Fabric.taken_on g.F.Fabric.faults c.args.carrier.now c.args.fabric.now)
 
 pub returns-in_err-add-in-Roll-clause-links : goal.returns-in_err-add-in-Roll-clause-links
-returns-in_err-add-in-Roll-clause-links g c = λ place before placed stands. fails_early c.from_residual-in_err-add-in-Roll.result c.in_err-add-in-Roll.field-0.0 c.from_residual-in_err-add-in-Roll.ensures (off_limit (failed (Unit {0}) c.in_err-add-in-Roll.field-0.0) 1 c.in_err-add-in-Roll.ensures.fault) (line_carried place (λ (k : CircuitId). whole_world (ids_of c.args.self.now) k before) c.args.line.now) (link_view g.C.Carry.slots g.C.Carry.failed g.C.Carry.wire g.F.Fabric.put_on g.F.Fabric.taken_on g.F.Fabric.faults c.args.carrier.now c.args.fabric.now) (g.met.C.Carry.idle c.args.carrier.now)
+returns-in_err-add-in-Roll-clause-links g c = λ place before placed stands. fails_early c.from_residual-in_err-add-in-Roll.result c.in_err-add-in-Roll.field-0.0 c.from_residual-in_err-add-in-Roll.ensures (off_limit (failed (Unit {0}) c.in_err-add-in-Roll.field-0.0) 1 c.in_err-add-in-Roll.ensures.fault) (line_carried place (λ (k : CircuitId). whole_world (ids_of c.args.self.now) k before) c.args.line.now) (link_view g.C.Carry.slots g.C.Carry.failed g.C.Carry.wire g.F.Fabric.put_on g.F.Fabric.taken_on g.F.Fabric.faults c.args.carrier.now c.args.fabric.now)
 
 pub returns-in_err-start_at-in-Start-clause-links : goal.returns-in_err-start_at-in-Start-clause-links
-returns-in_err-start_at-in-Start-clause-links g c = λ place before placed stands. fails_early c.from_residual-in_err-start_at-in-Start.result c.in_err-start_at-in-Start.field-0.0 c.from_residual-in_err-start_at-in-Start.ensures c.in_err-start_at-in-Start.ensures.unlinked (line_carried place (λ (k : CircuitId). whole_world (ids_of c.args.self.now) k before) c.args.line.now) (link_view g.C.Carry.slots g.C.Carry.failed g.C.Carry.wire g.F.Fabric.put_on g.F.Fabric.taken_on g.F.Fabric.faults c.args.carrier.now c.args.fabric.now) (g.met.C.Carry.idle c.args.carrier.now)
+returns-in_err-start_at-in-Start-clause-links g c = λ place before placed stands. fails_early c.from_residual-in_err-start_at-in-Start.result c.in_err-start_at-in-Start.field-0.0 c.from_residual-in_err-start_at-in-Start.ensures c.in_err-start_at-in-Start.ensures.unlinked (line_carried place (λ (k : CircuitId). whole_world (ids_of c.args.self.now) k before) c.args.line.now) (link_view g.C.Carry.slots g.C.Carry.failed g.C.Carry.wire g.F.Fabric.put_on g.F.Fabric.taken_on g.F.Fabric.faults c.args.carrier.now c.args.fabric.now)
 
 pub returns-in_err-roll_at-in-Roll-clause-links : goal.returns-in_err-roll_at-in-Roll-clause-links
-returns-in_err-roll_at-in-Roll-clause-links g c = λ place before placed stands. fails_early c.from_residual-in_err-roll_at-in-Roll.result NoMemory c.from_residual-in_err-roll_at-in-Roll.ensures refl (line_carried place (λ (k : CircuitId). whole_world (ids_of c.args.self.now) k before) c.args.line.now) (link_view g.C.Carry.slots g.C.Carry.failed g.C.Carry.wire g.F.Fabric.put_on g.F.Fabric.taken_on g.F.Fabric.faults c.args.carrier.now c.args.fabric.now) (g.met.C.Carry.idle c.args.carrier.now)
+returns-in_err-roll_at-in-Roll-clause-links g c = λ place before placed stands. fails_early c.from_residual-in_err-roll_at-in-Roll.result NoMemory c.from_residual-in_err-roll_at-in-Roll.ensures refl (line_carried place (λ (k : CircuitId). whole_world (ids_of c.args.self.now) k before) c.args.line.now) (link_view g.C.Carry.slots g.C.Carry.failed g.C.Carry.wire g.F.Fabric.put_on g.F.Fabric.taken_on g.F.Fabric.faults c.args.carrier.now c.args.fabric.now)
 
 pub returns-in_ok-add-in-Step-clause-links : goal.returns-in_ok-add-in-Step-clause-links
 returns-in_ok-add-in-Step-clause-links g c = λ place before placed stands.

@@ -152,7 +152,7 @@ returns-in_err-row-clause-links g c = λ place z a placed h at row.
     let f = c.in_err-row.field-0.0 in
     let whole : Calming = to_all c.args.circuit z a (ids_of c.args.self.now) in
     part_failed place c.from_residual.result f c.from_residual.ensures z whole p s
-    (err_then place f z y (pair_turn c.args.circuit y a recipient.0) whole p q s carried (c.in_err-row.ensures.links place y a recipient.0 seats so_far.0 here to taken) (to_all_turn c.args.circuit z a (ids_of c.args.self.now) c.loop-to.to recipient.0 recipient.1))
+    (err_then place f z y (pair_turn c.args.circuit y a recipient.0) whole p q s (g.met.C.Carry.front c.args.carrier.now) carried (c.in_err-row.ensures.links place y a recipient.0 seats so_far.0 here to taken) (to_all_turn c.args.circuit z a (ids_of c.args.self.now) c.loop-to.to recipient.0 recipient.1))
 
 pub returns-clause-links : goal.returns-clause-links
 returns-clause-links g c = λ place z a placed h at row.
