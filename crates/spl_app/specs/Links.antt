@@ -91,7 +91,7 @@ IsUsed node es r = (slot : ℕ) × (node_at es slot ≡ Some node) × IsFirstWit
 abbrev pub Gives : Status → List Entry → RunView → Type 0
 Gives status.Ok es r = AreTaken (nodes_in es) (lines_of r.given) × (rest_of r.given ≡ []) × (length r.given ≤ limit) × IsAtEnd r.left × AllRan es r (lines_of r.given)
 Gives (status.BadSchedule line) es r = IsBadAt (nodes_in es) r.given r.left line × AllRan es r (take (line - 1) (run_of r.given))
-Gives status.ReadFault es r = Rose r.unread.0 r.unread.1 × (length r.given ≤ limit) × AreTaken (nodes_in es) (lines_of r.given) × AllRan es r (lines_of r.given)
+Gives status.ReadFault es r = Rose r.unread.0 r.unread.1 × (length r.given ≤ limit) × (length (rest_of r.given) ≤ longest_line) × AreTaken (nodes_in es) (lines_of r.given) × AllRan es r (lines_of r.given)
 Gives status.TooLong es r = (limit < length r.given) × AreTaken (nodes_in es) (run_of r.given) × (length (rest_of (take limit r.given)) ≤ longest_line) × AllRan es r (run_of r.given)
 Gives (status.TooMany which) es r = IfTold es r (Stopped (error.TooMany which) es r)
 Gives (status.DiskFault node) es r = (slot : ℕ) × (node_at es slot ≡ Some node) × RoseAt slot r.start r.now × IfTold es r (IsUnbegun (error.Disk slot) es r.before r.behind ⊎ Stopped (error.Disk slot) es r)

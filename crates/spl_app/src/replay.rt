@@ -49,7 +49,7 @@ pub fn replay<S: Source, W: Sink, D: StopDisk>(
     ensures many { (which : ℕ) → result ≡ Status.TooMany which
         → HasTooMany (sorted (ids_of registry.now)) (appended_bytes (S.taken schedule.old) (S.taken schedule.new)) (W.written out.old) (W.written out.new) which }
     ensures read { result ≡ Status.ReadFault → let given = appended_bytes (S.taken schedule.old) (S.taken schedule.new) in
-        Rose (S.faults schedule.old) (S.faults schedule.new) × (length given ≤ limit) × IsRun (sorted (ids_of registry.now)) (lines_of given)
+        Rose (S.faults schedule.old) (S.faults schedule.new) × (length given ≤ limit) × (length (rest_of given) ≤ longest_line) × IsRun (sorted (ids_of registry.now)) (lines_of given)
         × Appends (W.written out.old) (W.written out.new) (answers (sorted (ids_of registry.now)) (lines_of given)) }
     ensures write { result ≡ Status.WriteFault → Rose (W.faults out.old) (W.faults out.new) }
     ensures long { result ≡ Status.TooLong → let given = appended_bytes (S.taken schedule.old) (S.taken schedule.new) in

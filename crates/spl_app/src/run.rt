@@ -231,7 +231,7 @@ impl Run {
         ensures good { OnOk result (IsRun self.old.nodes.items (run_of (appended_bytes (S.taken source.old) (S.taken source.new)))) }
         ensures due { OnOk result (IsDue (W.written out.old) (W.written out.new) self.new.output (answers_behind self.old.skip self.old.nodes.items (run_of (appended_bytes (S.taken source.old) (S.taken source.new))))) }
         ensures ok { IfOk result (λ end. end ≡ RunEnd.Whole → IsSchedule self.old.nodes.items (appended_bytes (S.taken source.old) (S.taken source.new)) × IsAtEnd (S.left source.new)) }
-        ensures read { IfOk result (λ end. end ≡ RunEnd.Read → Rose (S.faults source.old) (S.faults source.new) × (length (appended_bytes (S.taken source.old) (S.taken source.new)) ≤ limit)) }
+        ensures read { IfOk result (λ end. end ≡ RunEnd.Read → Rose (S.faults source.old) (S.faults source.new) × (length (appended_bytes (S.taken source.old) (S.taken source.new)) ≤ limit) × (length (rest_of (appended_bytes (S.taken source.old) (S.taken source.new))) ≤ longest_line)) }
         ensures long { IfOk result (λ end. end ≡ RunEnd.TooLong → (limit < length (appended_bytes (S.taken source.old) (S.taken source.new))) × (length (rest_of (take limit (appended_bytes (S.taken source.old) (S.taken source.new)))) ≤ longest_line)) }
         ensures bad { (number : ℕ) → IsErrOf result (RunFault.BadLine number) → IsBadAt self.old.nodes.items (appended_bytes (S.taken source.old) (S.taken source.new)) (S.left source.new) number
             × IsDue (W.written out.old) (W.written out.new) self.new.output (answers_behind self.old.skip self.old.nodes.items (take (number - 1) (run_of (appended_bytes (S.taken source.old) (S.taken source.new))))) }
@@ -304,7 +304,7 @@ pub fn run_lines<S: Source, W: Sink, D: StopDisk>(
     ensures written { OnOk result (Appends (W.written out.old) (W.written out.new) (answers_behind skip (sorted (registered registry.now)) (run_of (appended_bytes (S.taken source.old) (S.taken source.new))))) }
     ensures held { OnOk result (AreHeld (bench D.image_at D.moment D.faults D.armed D.picks pairs.old.items) (sorted (registered registry.now)) (ran (run_of (appended_bytes (S.taken source.old) (S.taken source.new)))) registry.now (bench D.image_at D.moment D.faults D.armed D.picks pairs.new.items)) }
     ensures ok { IfOk result (λ end. end ≡ RunEnd.Whole → IsSchedule (sorted (registered registry.now)) (appended_bytes (S.taken source.old) (S.taken source.new)) × IsAtEnd (S.left source.new)) }
-    ensures read { IfOk result (λ end. end ≡ RunEnd.Read → Rose (S.faults source.old) (S.faults source.new) × (length (appended_bytes (S.taken source.old) (S.taken source.new)) ≤ limit)) }
+    ensures read { IfOk result (λ end. end ≡ RunEnd.Read → Rose (S.faults source.old) (S.faults source.new) × (length (appended_bytes (S.taken source.old) (S.taken source.new)) ≤ limit) × (length (rest_of (appended_bytes (S.taken source.old) (S.taken source.new))) ≤ longest_line)) }
     ensures long { IfOk result (λ end. end ≡ RunEnd.TooLong → (limit < length (appended_bytes (S.taken source.old) (S.taken source.new))) × (length (rest_of (take limit (appended_bytes (S.taken source.old) (S.taken source.new)))) ≤ longest_line)) }
 
     // The first line that a schedule may not have.

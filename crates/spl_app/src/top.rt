@@ -108,11 +108,12 @@ pub fn splinter<S: Source, W: Sink, D: StopDisk, E: Disk, F: Fabric>(
         IsRegistryText text × HasTooMany (nodes_of text) given (W.written out.old) (W.written out.new) which }
 
     // A source failed, within its limit: that of the registry, and nothing is written and the schedule
-    // isn't read, or that of the schedule, and the answers to all lines that it gave are written.
+    // isn't read, or that of the schedule, in no line that is too long already, and the answers to all
+    // lines that it gave are written.
     ensures read { IsReplay (map string_bytes words.now) → result ≡ Status.ReadFault → let text = appended_bytes (S.taken registry.old) (S.taken registry.new) in
         let given = appended_bytes (S.taken schedule.old) (S.taken schedule.new) in
         (Rose (S.faults registry.old) (S.faults registry.new) × (length text ≤ limit) × Appends (W.written out.old) (W.written out.new) [] × (schedule.new ≡ schedule.old))
-        ⊎ (Rose (S.faults schedule.old) (S.faults schedule.new) × (length given ≤ limit) × IsRegistryText text × IsRun (nodes_of text) (lines_of given)
+        ⊎ (Rose (S.faults schedule.old) (S.faults schedule.new) × (length given ≤ limit) × (length (rest_of given) ≤ longest_line) × IsRegistryText text × IsRun (nodes_of text) (lines_of given)
         × Appends (W.written out.old) (W.written out.new) (answers (nodes_of text) (lines_of given))) }
 
     // A disk of this node of the registry has failed since it was last picked from. The answers to

@@ -292,6 +292,10 @@ module _ (before : List ℕ) (had : Option (List ℕ)) (lines : List (List ℕ))
       pub rest_given : rest_of (appended_bytes before taken) ≡ waiting feed
       rest_given = ap rest_of (sym whole) ∙ rest_waits
 
+      -- the line that waits isn't too long so far
+      pub rest_short : length (waiting feed) ≤ longest_line → length (rest_of (appended_bytes before taken)) ≤ longest_line
+      rest_short short = omega (arith, ap length rest_given, short)
+
       -- and its last line lacks its line feed
       pub unfinished : IsAtEnd left → waiting feed ≢ [] → IsUnfinished (appended_bytes before taken) left
       unfinished ended more = record { ended = ended; short = is_short; more = λ empty. more (sym rest_given ∙ empty) }

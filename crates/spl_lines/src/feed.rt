@@ -170,7 +170,7 @@ impl Feed {
         ensures unfinished { IsErrOf result FeedFault.Unfinished → IsAtEnd (S.left source.new) × (count_of self.new ≤ limit) × (waiting self.new ≢ []) }
         ensures over { IsErrOf result FeedFault.Overlong → longest_line < length (waiting self.new) }
         ensures long { IsErrOf result FeedFault.TooLong → (limit < count_of self.new) × (length (waiting self.new) ≤ longest_line) }
-        ensures read { IsErrOf result FeedFault.Read → Rose (S.faults source.old) (S.faults source.new) × (count_of self.new ≤ limit) }
+        ensures read { IsErrOf result FeedFault.Read → Rose (S.faults source.old) (S.faults source.new) × (count_of self.new ≤ limit) × (length (waiting self.new) ≤ longest_line) }
         ensures later { S.faults source.old ≤ S.faults source.new }
     {
         let mut seen = 0;

@@ -49,7 +49,7 @@ pub fn run_linked<S: Source, W: Sink, D: Disk, C: Carry, F: Fabric>(
     // What was given: all of it are lines that a schedule may have there, or this is the first that isn't.
     ensures good { OnOk result (AreTaken (nodes_in registry.now) (run_of (appended_bytes (S.taken source.old) (S.taken source.new)))) }
     ensures whole { IfOk result (λ end. end ≡ LinkedEnd.Whole → (rest_of (appended_bytes (S.taken source.old) (S.taken source.new)) ≡ []) × (length (appended_bytes (S.taken source.old) (S.taken source.new)) ≤ limit) × IsAtEnd (S.left source.new)) }
-    ensures read { IfOk result (λ end. end ≡ LinkedEnd.Read → Rose (S.faults source.old) (S.faults source.new) × (length (appended_bytes (S.taken source.old) (S.taken source.new)) ≤ limit)) }
+    ensures read { IfOk result (λ end. end ≡ LinkedEnd.Read → Rose (S.faults source.old) (S.faults source.new) × (length (appended_bytes (S.taken source.old) (S.taken source.new)) ≤ limit) × (length (rest_of (appended_bytes (S.taken source.old) (S.taken source.new))) ≤ longest_line)) }
     ensures long { IfOk result (λ end. end ≡ LinkedEnd.TooLong → (limit < length (appended_bytes (S.taken source.old) (S.taken source.new))) × (length (rest_of (take limit (appended_bytes (S.taken source.old) (S.taken source.new)))) ≤ longest_line)) }
     ensures bad { (n : ℕ) → IsErrOf result (LinkedFault.BadLine n) → IsBadAt (nodes_in registry.now) (appended_bytes (S.taken source.old) (S.taken source.new)) (S.left source.new) n }
     ensures taken { Consumes (S.left source.old) (S.left source.new) (appended_bytes (S.taken source.old) (S.taken source.new)) }

@@ -52,6 +52,7 @@ returns-in-Ok-Read-clause-ended g c =
     let same = run_given given found.1 in (
       found.0,
       found.1,
+      found.2,
       subst (AreTaken (nodes_in c.args.registry.now)) same c.in-Ok-Read.ensures.good,
       λ tell. subst (λ (ls : List (List ℕ)). IsWhole c.args.registry.now (tasks 1 ls) (outside (g.W.Sink.written c.args.out.now) (fabric_view (g.F.Fabric.put_on c.args.fabric.now) (g.F.Fabric.taken_on c.args.fabric.now) (g.F.Fabric.faults c.args.fabric.now)) (images g.E.Disk.image_at g.E.Disk.moment c.args.pairs.now.items)) (outside (g.W.Sink.written c.run_linked.new.out) (fabric_view (g.F.Fabric.put_on c.run_linked.new.fabric) (g.F.Fabric.taken_on c.run_linked.new.fabric) (g.F.Fabric.faults c.run_linked.new.fabric)) (images g.E.Disk.image_at g.E.Disk.moment c.run_linked.new.pairs.items))) same (whole_as c.args.registry.now (tasks 1 (run_of given)) _ _ (fabric_view (g.F.Fabric.put_on c.args.fabric.now) (g.F.Fabric.taken_on c.args.fabric.now) (g.F.Fabric.faults c.args.fabric.now)) (fabric_view (g.F.Fabric.put_on c.run_linked.new.fabric) (g.F.Fabric.taken_on c.run_linked.new.fabric) (g.F.Fabric.faults c.run_linked.new.fabric)) (c.in-Ok-Read.ensures.ran tell) refl refl),
     )

@@ -30,6 +30,7 @@ returns-in-Ok-Read-clause-read g c = λ _.
     let same = run_given (appended_bytes (g.S.Source.taken c.args.schedule.now) (g.S.Source.taken c.run_lines.new.source)) found.1 in (
       found.0,
       found.1,
+      found.2,
       subst (IsRun (sorted (ids_of c.args.registry.now))) same c.in-Ok-Read.ensures.good,
       subst (λ (ls : List (List ℕ)). Appends (g.W.Sink.written c.args.out.now) (g.W.Sink.written c.run_lines.new.out) (answers (sorted (ids_of c.args.registry.now)) ls)) same c.in-Ok-Read.ensures.written,
     )

@@ -68,8 +68,8 @@ pub returns-in-Ok-clause-read : goal.returns-in-Ok-clause-read
 returns-in-Ok-clause-read g c = λ form is.
     let given = appended_bytes (g.S.Source.taken c.args.schedule.now) (g.S.Source.taken c.replay.new.schedule) in
     let found = c.replay.ensures.read is in
-    let (run, wrote) = subst (λ (ns : List Node). IsRun ns (lines_of given) × Appends (g.W.Sink.written c.args.out.now) (g.W.Sink.written c.replay.new.out) (answers ns (lines_of given))) (sym (ap nodes_in c.in-Ok.ensures.entries)) (found.2, found.3) in
-    inr (found.0, found.1, c.in-Ok.ensures.text, run, wrote)
+    let (run, wrote) = subst (λ (ns : List Node). IsRun ns (lines_of given) × Appends (g.W.Sink.written c.args.out.now) (g.W.Sink.written c.replay.new.out) (answers ns (lines_of given))) (sym (ap nodes_in c.in-Ok.ensures.entries)) (found.3, found.4) in
+    inr (found.0, found.1, found.2, c.in-Ok.ensures.text, run, wrote)
 
 pub returns-in-Ok-clause-long : goal.returns-in-Ok-clause-long
 returns-in-Ok-clause-long g c = λ form is.

@@ -14,7 +14,7 @@ use Rattle.spl_lines.specs.Given.{run_of}
 use Rattle.spl_lines.specs.Due.{IsDue, IsDuePart}
 use Rattle.spl_lines.specs.Feed.{Feeds, waiting}
 use Rattle.spl_lines.proofs.Dues.{due_same, due_whole}
-use Rattle.spl_lines.proofs.Fed.{unfinished, all_lines, few_lines, is_long, is_overlong, is_short}
+use Rattle.spl_lines.proofs.Fed.{unfinished, all_lines, few_lines, is_long, is_overlong, is_short, rest_short}
 use Rattle.spl_lines.proofs.Given.{limit_is}
 use Rattle.spl_app.specs.declared.fault.RunFault.{RunFault}
 use Rattle.spl_app.specs.declared.fault.RunFault.TheVariants.{BadLine, TooMany, Disk}
@@ -321,7 +321,7 @@ returns-in-Err-Read-clause-read g c = λ _.
     let none = c.in-Err-Read.ensures.none refl in
     let all = all_lines (g.S.Source.taken c.args.source.now) (g.S.Source.left c.args.source.now) lines (g.S.Source.taken c.advance.new.source) (g.S.Source.left c.advance.new.source) c.advance.new.self last none in
     let end = c.in-Err-Read.ensures.read (search rules) in
-    (omega (arith, c.lines.invariant.source_later, end.0), is_short (g.S.Source.taken c.args.source.now) (g.S.Source.left c.args.source.now) lines (g.S.Source.taken c.advance.new.source) (g.S.Source.left c.advance.new.source) c.advance.new.self last none end.1)
+    (omega (arith, c.lines.invariant.source_later, end.0), is_short (g.S.Source.taken c.args.source.now) (g.S.Source.left c.args.source.now) lines (g.S.Source.taken c.advance.new.source) (g.S.Source.left c.advance.new.source) c.advance.new.self last none end.1, rest_short (g.S.Source.taken c.args.source.now) (g.S.Source.left c.args.source.now) lines (g.S.Source.taken c.advance.new.source) (g.S.Source.left c.advance.new.source) c.advance.new.self last none end.1 end.2)
 
 pub returns-in-Err-Unfinished-clause-bad : goal.returns-in-Err-Unfinished-clause-bad
 returns-in-Err-Unfinished-clause-bad g c = λ number is.

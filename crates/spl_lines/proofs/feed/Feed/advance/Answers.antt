@@ -86,4 +86,9 @@ pieces-preserved g c =
     }
 
 pub returns-in-Err-Failed-clause-read : goal.returns-in-Err-Failed-clause-read
-returns-in-Err-Failed-clause-read g c = λ is. (search rules, omega (arith, limit_is, c.fill.ensures.count, ap length c.in-Err-Failed.ensures.none))
+returns-in-Err-Failed-clause-read g c = λ is.
+    let more = appended_bytes (g.S.Source.taken c.pieces.source) (g.S.Source.taken c.fill.new.source) in (
+      search rules,
+      omega (arith, limit_is, c.fill.ensures.count, ap length c.in-Err-Failed.ensures.none),
+      omega (arith, ap length c.in-Err-Failed.ensures.none, ap length c.fill.ensures.waits, length-append (waiting c.cut.new.self) (take (limit - count_of c.cut.new.self) more), length-take (limit - count_of c.cut.new.self) more),
+    )

@@ -5,7 +5,7 @@ use Rattle.spl_circuit.specs.Nodes.{Node}
 use Rattle.spl_lines.specs.Feed.{Feeds, waiting}
 use Rattle.spl_lines.specs.Given.{run_of}
 use Rattle.spl_lines.specs.Lines.{lines_of}
-use Rattle.spl_lines.proofs.Fed.{all_lines, few_lines, is_long, is_overlong, is_short, rest_given, unfinished}
+use Rattle.spl_lines.proofs.Fed.{all_lines, few_lines, is_long, is_overlong, is_short, rest_given, rest_short, unfinished}
 use Rattle.spl_lines.proofs.Given.{limit_is}
 use Rattle.spl_world.specs.Disks.{bench, images}
 use Rattle.spl_world.specs.Links.{link_view}
@@ -234,7 +234,7 @@ returns-in-Err-Read-clause-read g c = λ _.
     let none = c.in-Err-Read.ensures.none refl in
     let all = all_lines (g.S.Source.taken c.args.source.now) (g.S.Source.left c.args.source.now) lines (g.S.Source.taken c.advance.new.source) (g.S.Source.left c.advance.new.source) c.advance.new.self last none in
     let end = c.in-Err-Read.ensures.read (search rules) in
-    (omega (arith, c.lines.invariant.source_later, end.0), is_short (g.S.Source.taken c.args.source.now) (g.S.Source.left c.args.source.now) lines (g.S.Source.taken c.advance.new.source) (g.S.Source.left c.advance.new.source) c.advance.new.self last none end.1)
+    (omega (arith, c.lines.invariant.source_later, end.0), is_short (g.S.Source.taken c.args.source.now) (g.S.Source.left c.args.source.now) lines (g.S.Source.taken c.advance.new.source) (g.S.Source.left c.advance.new.source) c.advance.new.self last none end.1, rest_short (g.S.Source.taken c.args.source.now) (g.S.Source.left c.args.source.now) lines (g.S.Source.taken c.advance.new.source) (g.S.Source.left c.advance.new.source) c.advance.new.self last none end.1 end.2)
 
 pub returns-in-Err-Unfinished-clause-taken : goal.returns-in-Err-Unfinished-clause-taken
 returns-in-Err-Unfinished-clause-taken g c =
