@@ -1,16 +1,19 @@
 -- The order of all digits is the order of the bytes.
-use Rattle.std.proofs.Common.{◌≡◌, ℕ, zero, suc, ◌+◌, ◌*◌, ◌/◌, ◌%◌, ◌<◌, Bool, true, false, cond, List, [], ◌∷◌, length, Some, None, Result, OnOk, OnErr, nat_cmp, Ordering, Less, Equal, Greater, refl, sym, ap, subst, ◌∙◌, arith}
+use Rattle.std.proofs.Common.{◌≡◌, ◌≢◌, ℕ, zero, suc, ◌+◌, ◌-◌, ◌*◌, ◌/◌, ◌%◌, ◌<◌, ◌≤◌, ◌==◌, ◌&&◌, nat_eq, eq-eqb, take, drop, slice_index, Bool, true, false, cond, List, [], ◌∷◌, length, Some, None, Result, OnOk, OnErr, nat_cmp, Ordering, Less, Equal, Greater, refl, sym, ap, subst, ◌∙◌, arith}
 use Rattle.std.specs.Map.{lookup, remove_entry}
 use Rattle.std.specs.BTreeMap.{insert_entry, is_at}
 use Rattle.std.specs.Ordering.{ordering_then, is_eq, match_ordering}
 use Rattle.std.specs.Cmp.Lexicographic.{slice_cmp}
+use Rattle.std.specs.Cmp.Lexicographic.{pointwise}
+use Rattle.std.proofs.Math.Seq.{drop-cons}
 use Rattle.std.proofs.lemmas.Grind.{common_steps}
 use Rattle.spl_state.specs.declared.address.Address.{Address}
 use Rattle.spl_state.specs.Entries.{Entry, address_cmp}
 use Rattle.spl_state.specs.Root.{digit_of}
-use Rattle.spl_state.specs.Digits.{digits_cmp, tail_cmp}
+use Rattle.spl_state.specs.Digits.{digits_cmp, tail_cmp, same_digits}
 use Rattle.spl_state.specs.Kept.{AllWhole, IsState}
 use Rattle.spl_state.proofs.Digits.{less_of, equal_of, greater_of}
+use Rattle.spl_state.proofs.Parts.{not_equal}
 use Rattle.spl_state.proofs.Steps.{either}
 use Rattle.spl_state.specs.Order.{Rises, insert_rises, remove_rises}
 
@@ -155,3 +158,57 @@ state_removed d k a es fs h ha depth e =
 pub state_swapped : {T E : Type 0} (r : Result T E) (d k : ℕ) (a : Address) (v : List ℕ) (es fs : List Entry) → IsState d es → length a.0 ≡ 35 → k ≡ d
     → OnOk r (fs ≡ insert_entry (tail_cmp d) es a v) → OnErr r (fs ≡ es) → IsState k fs
 state_swapped r d k a v es fs h ha depth good bad = either r (state_written d k a v es fs h ha depth) (state_same d k es fs h depth) good bad
+
+-- A run of whole bytes.
+
+high_digit : (l : List ℕ) (i : ℕ) → digit_of l (i * 2) ≡ slice_index l i / 16
+high_digit l i =
+    let half : i * 2 / 2 ≡ i = omega arith in
+    let even : i * 2 % 2 ≡ 0 = omega arith in
+    rw (half, even) refl
+
+low_digit : (l : List ℕ) (i : ℕ) → digit_of l (i * 2 + 1) ≡ slice_index l i % 16
+low_digit l i =
+    let half : (i * 2 + 1) / 2 ≡ i = omega arith in
+    let odd : (i * 2 + 1) % 2 ≡ 1 = omega arith in
+    rw (half, odd) refl
+
+-- two bytes are the same where both their digits are
+byte_same : (x y : ℕ) (r : Bool) → (nat_eq x y && r) ≡ ((y / 16 == x / 16) && ((y % 16 == x % 16) && r))
+byte_same x y r = by (y / 16 == x / 16) (y % 16 == x % 16) refl refl
+  where
+    by : (s t : Bool) → (y / 16 == x / 16) ≡ s → (y % 16 == x % 16) ≡ t → (nat_eq x y && r) ≡ (s && (t && r))
+    by true true high low =
+        let h : y / 16 ≡ x / 16 = grind arith in
+        let l : y % 16 ≡ x % 16 = grind arith in
+        let same : x ≡ y = omega arith in
+        ap (λ z. nat_eq x z && r) (sym same) ∙ ap (λ b. b && r) (eq-eqb x x refl)
+    by true false high low =
+        let l : y % 16 ≢ x % 16 = grind arith in
+        ap (λ b. b && r) (not_equal x y (λ p. l (ap (λ z. z % 16) (sym p))))
+    by false t high low =
+        let h : y / 16 ≢ x / 16 = grind arith in
+        ap (λ b. b && r) (not_equal x y (λ p. h (ap (λ z. z / 16) (sym p))))
+
+bytes_by : (n i : ℕ) (a b : Address) → i + n ≤ length a.0 → i + n ≤ length b.0 → pointwise nat_eq (take n (drop i a.0)) (take n (drop i b.0)) ≡ same_digits (n * 2) (i * 2) a b
+unfolding same_digits
+bytes_by zero i a b ha hb = refl
+bytes_by (suc n) i a b ha hb =
+    let two : suc n * 2 ≡ suc (suc (n * 2)) = omega arith in
+    let next : suc i * 2 ≡ i * 2 + 1 + 1 = omega arith in
+    let x = slice_index a.0 i in
+    let y = slice_index b.0 i in
+    ap (λ l. pointwise nat_eq (take (suc n) l) (take (suc n) (drop i b.0))) (drop-cons a.0 i 0 (omega arith))
+    ∙ ap (λ l. pointwise nat_eq (x ∷ take n (drop (suc i) a.0)) (take (suc n) l)) (drop-cons b.0 i 0 (omega arith))
+    ∙ ap (λ r. nat_eq x y && r) (bytes_by n (suc i) a b (omega arith) (omega arith) ∙ ap (λ k. same_digits (n * 2) k a b) next)
+    ∙ byte_same x y (same_digits (n * 2) (i * 2 + 1 + 1) a b)
+    ∙ ap (λ d. (d == x / 16) && ((y % 16 == x % 16) && same_digits (n * 2) (i * 2 + 1 + 1) a b)) (sym (high_digit b.0 i))
+    ∙ ap (λ d. (digit_of b.0 (i * 2) == d) && ((y % 16 == x % 16) && same_digits (n * 2) (i * 2 + 1 + 1) a b)) (sym (high_digit a.0 i))
+    ∙ ap (λ d. (digit_of b.0 (i * 2) == digit_of a.0 (i * 2)) && ((d == x % 16) && same_digits (n * 2) (i * 2 + 1 + 1) a b)) (sym (low_digit b.0 i))
+    ∙ ap (λ d. (digit_of b.0 (i * 2) == digit_of a.0 (i * 2)) && ((digit_of b.0 (i * 2 + 1) == d) && same_digits (n * 2) (i * 2 + 1 + 1) a b)) (sym (low_digit a.0 i))
+    ∙ ap (λ q. same_digits q (i * 2) a b) (sym two)
+
+pub same_bytes : (i j : ℕ) (a b : Address) → i ≤ j → j ≤ length a.0 → j ≤ length b.0 → pointwise nat_eq (take (j - i) (drop i a.0)) (take (j - i) (drop i b.0)) ≡ same_digits (j * 2 - i * 2) (i * 2) a b
+same_bytes i j a b low ha hb =
+    let all : (j - i) * 2 ≡ j * 2 - i * 2 = omega arith in
+    bytes_by (j - i) i a b (omega arith) (omega arith) ∙ ap (λ n. same_digits n (i * 2) a b) all

@@ -1,16 +1,15 @@
 -- The addresses under a prefix stand in the part of its digit.
-use Rattle.std.proofs.Common.{◌≡◌, ◌≢◌, ℕ, zero, suc, ◌+◌, ◌/◌, ◌%◌, ◌<◌, ◌&&◌, Bool, true, false, cond, List, [], ◌∷◌, ◌++◌, length, get_or, nat_eq, refl, sym, ap, ◌∙◌, arith, append-nil, zero-add}
+use Rattle.std.proofs.Common.{◌≡◌, ◌≢◌, ℕ, zero, suc, ◌+◌, ◌/◌, ◌%◌, ◌<◌, Bool, true, false, cond, List, [], ◌∷◌, ◌++◌, length, get_or, nat_eq, refl, sym, ap, ◌∙◌, arith, append-nil, zero-add, Option, None, Some, IfSome, is_some}
 use Rattle.std.specs.List.{starts_with}
 use Rattle.spl_state.specs.declared.address.Address.{Address}
 use Rattle.spl_state.specs.Entries.{Entry, covered}
 use Rattle.spl_state.specs.Root.{digit_of}
 use Rattle.spl_state.specs.Part.{Part}
+use Rattle.spl_state.specs.Runs.{AllAlong, IsOtherDigit}
 use Rattle.spl_state.specs.Kept.{AllDigit, Sorted, IsInner, all_entries}
 use Rattle.spl_state.proofs.Bytes.{digit_next}
-
-both_true : (x y : Bool) → (x && y) ≡ true → (x ≡ true) × (y ≡ true)
-both_true true y h = (refl, h)
-both_true false y h = absurd (grind (arith, h))
+use Rattle.spl_state.proofs.Digits.{both_true}
+use Rattle.spl_state.proofs.Runs.{along_above, along_digit}
 
 same_bytes : (x y : ℕ) → nat_eq x y ≡ true → x ≡ y
 same_bytes x y h = grind arith
@@ -63,3 +62,9 @@ covered_parts p d k (suc i) (s ∷ ss) s0 h at within low =
 pub covered_part : (p : List ℕ) (d i : ℕ) (ss : List Part) (part : Part) → IsInner d ss → i ≡ digit_of p d → i < length ss → d / 2 < length p → part ≡ get_or ss i part → covered p part.entries ≡ covered p (all_entries ss)
 covered_part p d i ss part h at within low is =
     ap (λ s. covered p s.entries) is ∙ sym (covered_parts p d 0 i ss part h.sorted (sym at ∙ sym (zero-add i)) within low)
+
+-- none of the entries that have other digits
+pub covered_other : (p : List ℕ) (d m : ℕ) (path : Address) (es : List Entry) (r : Option ℕ) → is_some r ≡ true → IfSome r (λ k. IsOtherDigit d m p path k) → AllAlong m d path es → covered p es ≡ []
+covered_other p d m path es None is off h = absurd (grind (arith, is))
+covered_other p d m path es (Some k) is off h =
+    none_covered p k (digit_of path.0 k) es (along_digit d k path es off.low (along_above d (k + 1) m path es (omega (arith, off.low)) (omega (arith, off.high)) h)) off.differ off.within

@@ -7,5 +7,6 @@ pub mod Steps
 pub mod Prefixes
 pub mod Bytes
 pub mod Covers
+pub mod Runs
 pub mod Thin
 pub mod Drafts

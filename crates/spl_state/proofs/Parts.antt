@@ -34,7 +34,7 @@ pub branch_all : (d j : ℕ) (es : List Entry) → AllDigit d j es → branch d 
 branch_all d j [] h = refl
 branch_all d j (e ∷ es) h = ap (λ b. cond b (e ∷ branch d j es) (branch d j es)) (eq-eqb (digit_of e.0.0 d) j h.0) ∙ ap (λ r. e ∷ r) (branch_all d j es h.1)
 
-not_equal : (a b : ℕ) → a ≢ b → (a == b) ≡ false
+pub not_equal : (a b : ℕ) → a ≢ b → (a == b) ≡ false
 not_equal a b h = grind arith
 
 pub branch_other : (d i j : ℕ) (es : List Entry) → AllDigit d j es → j ≢ i → branch d i es ≡ []

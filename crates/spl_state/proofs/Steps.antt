@@ -1,18 +1,17 @@
 -- What a change of one part does to the whole, in the words of the code's goals.
-use Rattle.std.proofs.Common.{◌≡◌, ◌≢◌, ℕ, zero, suc, ◌+◌, ◌-◌, ◌<◌, ◌≤◌, Bool, true, false, List, [], ◌∷◌, ◌++◌, length, length-append, get_or, replicate, Ordering, Less, Equal, Greater, min, Result, Ok, Err, IfOk, OnOk, OnErr, Option, None, Some, refl, sym, ap, subst, ◌∙◌, arith, slice_set, zero-add, append-nil, add-one}
+use Rattle.std.proofs.Common.{◌≡◌, ◌≢◌, ℕ, zero, suc, ◌+◌, ◌<◌, ◌≤◌, Bool, true, false, List, [], ◌∷◌, ◌++◌, length, length-append, get_or, replicate, Ordering, Less, Equal, Greater, min, Result, Ok, Err, IfOk, OnOk, OnErr, Option, None, Some, refl, sym, ap, subst, ◌∙◌, arith, slice_set, zero-add, append-nil, add-one}
 use Rattle.std.specs.Prelude.{if◌then◌else◌}
 use Rattle.std.specs.Map.{lookup, remove_entry}
 use Rattle.std.specs.BTreeMap.{insert_entry, is_at}
 use Rattle.std.specs.Ordering.{match_ordering}
 use Rattle.spl_state.specs.declared.address.Address.{Address}
 use Rattle.spl_state.specs.declared.tree.Body.{Body}
-use Rattle.spl_state.specs.declared.tree.Body.TheVariants.{Empty, Leaf, Thin, Inner}
 use Rattle.spl_state.specs.Entries.{Entry}
 use Rattle.spl_state.specs.Root.{digit_of}
 use Rattle.spl_state.specs.Digits.{tail_cmp}
 use Rattle.spl_state.specs.Part.{Part, AllAt}
-use Rattle.spl_state.specs.Kept.{IsShaped, AllDigit, Sorted, IsInner, IsKept, all_entries, entries_of, is_inner, thin_digit, empty_part}
-use Rattle.spl_state.proofs.Parts.{depth_at, node_of_single}
+use Rattle.spl_state.specs.Kept.{IsShaped, AllDigit, Sorted, IsInner, IsKept, all_entries, entries_of, empty_part}
+use Rattle.spl_state.proofs.Parts.{depth_at}
 use Rattle.spl_state.proofs.Writes.{inner_set, digits_at, digits_inserted, digits_removed, insert_parts, remove_parts, lookup_parts}
 
 pub on_ok : {T E : Type 0} {A B : Type 0} (r : Result T E) → (A → B) → OnOk r A → OnOk r B
@@ -127,10 +126,7 @@ pub missing_below : {T E : Type 0} (r : Result T E) (d i k : ℕ) (a : Address) 
     → OnErr r (lookup (is_at (tail_cmp old.depth a)) old.entries ≡ None) → OnErr r (lookup (is_at (tail_cmp k a)) es ≡ None)
 missing_below r d i k a es ss old h at low is depth all = on_err r (λ e. sym (found_below d i k a es ss old h at low is depth all) ∙ e)
 
--- A lone entry moves into a part of its own.
-
-true_false : true ≢ false
-true_false p = grind (arith, p)
+-- A part moves among empty ones.
 
 false_true : false ≢ true
 false_true p = grind (arith, p)
@@ -138,16 +134,6 @@ false_true p = grind (arith, p)
 -- a part whose digest is stale
 pub kept_stale : (d size : ℕ) (digest : List ℕ) (body : Body) → size ≡ min (length (entries_of body)) 2 → IsShaped d body → IsKept d size false digest body
 kept_stale d size digest body sized shaped = record { sized = sized; digested = λ f. absurd (false_true f); shaped = shaped }
-
-pub kept_deeper : (d size : ℕ) (fresh : Bool) (digest : List ℕ) (body : Body) → IsKept d size fresh digest body → is_inner body ≡ false → length (entries_of body) ≡ 1 → IsKept (d + 1) size fresh digest body
-kept_deeper d size fresh digest Empty h outer one = absurd (omega (arith, one))
-kept_deeper d size fresh digest (Leaf a v) h outer one = record {
-  sized = h.sized;
-  digested = λ f. h.digested f ∙ node_of_single (70 - d) (70 - (d + 1)) d (d + 1) ((a, v) ∷ []) refl;
-  shaped = tt;
-}
-kept_deeper d size fresh digest (Thin j part) h outer one = absurd (true_false outer)
-kept_deeper d size fresh digest (Inner kids) h outer one = absurd (true_false outer)
 
 no_parts : (n d : ℕ) → all_entries (replicate n (empty_part d)) ≡ []
 no_parts zero d = refl
@@ -181,13 +167,3 @@ one_more d (suc k) = ap (λ r. empty_part d ∷ r) (one_more d k)
 
 pub replicate_more : (d n m : ℕ) (ss : List Part) → ss ≡ replicate n (empty_part d) → m ≡ n + 1 → ss ++ empty_part d ∷ [] ≡ replicate m (empty_part d)
 replicate_more d n m ss e q = ap (λ xs. xs ++ empty_part d ∷ []) e ∙ one_more d n ∙ ap (λ k. replicate k (empty_part d)) (sym (q ∙ add-one n))
-
--- what moves into one of the empty parts is all that they have
-pub moved_entries : (d i : ℕ) (body moved : Body) (ss : List Part) → moved ≡ body → i < 16 → ss ≡ replicate 16 (empty_part (d + 1))
-    → all_entries (slice_set ss i (record { depth = d + 1; entries = entries_of moved; inner = is_inner moved; thin = thin_digit moved })) ≡ entries_of body
-moved_entries d i body moved ss is small e = entries_alone (d + 1) i ss (record { depth = d + 1; entries = entries_of moved; inner = is_inner moved; thin = thin_digit moved }) small e ∙ ap entries_of is
-
-pub moved_inner : (d i : ℕ) (body moved : Body) (ss : List Part) → d < 70 → moved ≡ body → AllDigit d i (entries_of body) → ss ≡ replicate 16 (empty_part (d + 1))
-    → IsInner d (slice_set ss i (record { depth = d + 1; entries = entries_of moved; inner = is_inner moved; thin = thin_digit moved }))
-moved_inner d i body moved ss low is digits e =
-    inner_alone d i ss (record { depth = d + 1; entries = entries_of moved; inner = is_inner moved; thin = thin_digit moved }) low e refl (subst (λ b. AllDigit d i (entries_of b)) (sym is) digits)

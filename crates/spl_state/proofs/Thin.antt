@@ -1,22 +1,25 @@
--- A level with one part.
-use Rattle.std.proofs.Common.{◌≡◌, ◌≢◌, ℕ, ◌+◌, ◌-◌, ◌<◌, ◌≤◌, ◌==◌, Bool, true, false, cond, List, [], ◌∷◌, ◌++◌, length, Result, IfOk, OnOk, OnErr, None, Some, IfSome, refl, sym, ap, subst, ◌∙◌, arith, append-nil, add-one, replicate}
+-- A lone part, in the words of the code's goals.
+use Rattle.std.proofs.Common.{◌≡◌, ℕ, ◌+◌, ◌-◌, ◌<◌, ◌≤◌, Bool, true, false, List, [], ◌∷◌, ◌++◌, length, min, Result, IfOk, OnOk, OnErr, Option, None, Some, IfSome, refl, sym, ap, subst, ◌∙◌, arith, add-one, replicate, is_some, Box, Global}
 use Rattle.std.specs.Prelude.{if◌then◌else◌}
 use Rattle.std.specs.Map.{lookup, remove_entry}
 use Rattle.std.specs.BTreeMap.{insert_entry, is_at}
-use Rattle.sha2.specs.Sha256.{sha256}
 use Rattle.spl_state.specs.declared.address.Address.{Address}
+use Rattle.spl_state.specs.declared.tree.Tree.{Tree}
+use Rattle.spl_state.specs.declared.tree.Body.{Body}
+use Rattle.spl_state.specs.declared.tree.Body.TheVariants.{Empty, Leaf, Thin, Inner}
 use Rattle.spl_state.specs.Entries.{Entry}
 use Rattle.spl_state.specs.Root.{digit_of, joined}
-use Rattle.spl_state.specs.Levels.{node_of, branch, lone}
-use Rattle.spl_state.specs.Digits.{tail_cmp, shares}
-use Rattle.spl_state.specs.Part.{Part}
-use Rattle.spl_state.specs.Kept.{AllDigit, IsThin}
-use Rattle.spl_state.proofs.Nodes.{node_of-none, node_of-many}
-use Rattle.spl_state.proofs.Parts.{node_of_single, branch_all, branch_other}
-use Rattle.spl_state.proofs.PlainRoot.{joined_children}
-use Rattle.spl_state.proofs.Prefixes.{shares_branch}
-use Rattle.spl_state.proofs.Steps.{on_ok, on_err, either, former_by}
-use Rattle.spl_state.proofs.Writes.{digits_inserted, digits_removed, insert_here, lookup_later, lookup_here, remove_later, remove_here}
+use Rattle.spl_state.specs.Levels.{node_of}
+use Rattle.spl_state.specs.Digits.{tail_cmp, same_digits, shares}
+use Rattle.spl_state.specs.Runs.{AllAlong, IsFirstApart, raised}
+use Rattle.spl_state.specs.Part.{Part, Run}
+use Rattle.spl_state.specs.Kept.{AllDigit, IsShaped, IsKept, IsThin, entries_of, is_inner, thin_run, IsLeft, IsParting, CanStand}
+use Rattle.spl_state.proofs.Bytes.{remove_none}
+use Rattle.spl_state.proofs.Digits.{same_alike, same_digit}
+use Rattle.spl_state.proofs.Nodes.{node_of-none}
+use Rattle.spl_state.proofs.Parts.{node_of_single}
+use Rattle.spl_state.proofs.Runs.{along_above, along_below, along_digit, along_by, lookup_along, lookup_apart, insert_along, along_inserted, remove_along, along_removed, shares_along, shares_whole, shares_none, raised_is}
+use Rattle.spl_state.proofs.Steps.{on_ok, on_err, where_err, either, former_by}
 
 pub joined_none : (part : ℕ → List ℕ) → joined part 0 ≡ []
 unfolding joined
@@ -33,125 +36,172 @@ few_below m n k l [] h = node_of-none m k ∙ sym (node_of-none n l)
 few_below m n k l (e ∷ []) h = node_of_single m n k l (e ∷ []) refl
 few_below m n k l (e ∷ f ∷ es) h = absurd (omega arith)
 
-part_is : (d j i : ℕ) (es : List Entry) (below : List ℕ) → AllDigit d j es → below ≡ node_of (70 - (d + 1)) (d + 1) es → lone j below i ≡ node_of (70 - (d + 1)) (d + 1) (branch d i es)
-part_is d j i es below h e = by (i == j) refl
-  where
-    by : (b : Bool) → (i == j) ≡ b → cond b below (replicate 32 0) ≡ node_of (70 - (d + 1)) (d + 1) (branch d i es)
-    by true is =
-        let same : i ≡ j = grind arith in
-        e ∙ ap (node_of (70 - (d + 1)) (d + 1)) (sym (ap (λ k. branch d k es) same ∙ branch_all d j es h))
-    by false is =
-        let not : j ≢ i = grind arith in
-        sym (ap (node_of (70 - (d + 1)) (d + 1)) (branch_other d i j es h not) ∙ node_of-none (70 - (d + 1)) (d + 1))
+-- of entries that stand higher than their part
+pub raised_part : (d size : ℕ) (path : Address) (part : Part) (below : List ℕ) → d ≤ part.depth → part.depth ≤ 70 → AllAlong part.depth d path part.entries → below ≡ node_of (70 - part.depth) part.depth part.entries
+    → size ≡ min (length part.entries) 2 → 2 ≤ size → raised (part.depth - d) d path below ≡ node_of (70 - d) d part.entries
+raised_part d size path part below low high h e sized many = raised_is d part.depth path part.entries below low high h (omega arith) e
 
-pub many_below : (d j : ℕ) (part : Part) (below : List ℕ) → IsThin d j part → 2 ≤ length part.entries → below ≡ node_of (70 - part.depth) part.depth part.entries
-    → sha256 (1 ∷ joined (lone j below) 16) ≡ node_of (70 - d) d part.entries
-many_below d j part below h many e =
-    let low = h.low in
-    let left : 70 - d ≡ 70 - (d + 1) + 1 = omega arith in
-    ap (λ r. sha256 (1 ∷ r)) (joined_children (lone j below) (node_of (70 - (d + 1)) (d + 1)) d part.entries
-    (λ i. part_is d j i part.entries below h.digits (e ∙ ap (λ k. node_of (70 - k) k part.entries) h.deep)) 16)
-    ∙ sym (node_of-many (70 - d) (70 - (d + 1)) d part.entries left many)
+pub few_raised : (d size : ℕ) (part : Part) (below : List ℕ) → below ≡ node_of (70 - part.depth) part.depth part.entries → size ≡ min (length part.entries) 2 → size < 2 → below ≡ node_of (70 - d) d part.entries
+few_raised d size part below e sized few = e ∙ few_below (70 - part.depth) (70 - d) part.depth d part.entries (omega arith)
 
 -- A look-up.
 
-pub found_in : (d j k : ℕ) (a : Address) (es : List Entry) (part : Part) → IsThin d j part → digit_of a.0 d ≡ j → d ≡ k → part.entries ≡ es
+pub found_in : (d : ℕ) (path : Address) (k : ℕ) (a : Address) (es : List Entry) (part : Part) → IsThin d path part → same_digits (part.depth - d) d a path ≡ true → d ≡ k → part.entries ≡ es
     → lookup (is_at (tail_cmp part.depth a)) part.entries ≡ lookup (is_at (tail_cmp k a)) es
-found_in d j k a es part h at depth all =
-    ap (λ n. lookup (is_at (tail_cmp n a)) part.entries) h.deep
-    ∙ sym (lookup_here d a part.entries [] h.low (subst (λ q. AllDigit d q part.entries) (sym at) h.digits) refl)
-    ∙ ap (lookup (is_at (tail_cmp d a))) (append-nil part.entries)
+found_in d path k a es part h at depth all =
+    lookup_along d part.depth a part.entries (omega (arith, h.low)) h.high (along_by d part.depth a path part.entries at h.digits)
     ∙ ap (λ n. lookup (is_at (tail_cmp n a)) part.entries) depth ∙ ap (λ xs. lookup (is_at (tail_cmp k a)) xs) all
 
-pub found_not : (d i j k : ℕ) (a : Address) (es : List Entry) (part : Part) → IsThin d j part → i ≡ digit_of a.0 d → i ≢ j → d ≡ k → part.entries ≡ es
+pub found_not : (d : ℕ) (path : Address) (k : ℕ) (a : Address) (es : List Entry) (part : Part) → IsThin d path part → same_digits (part.depth - d) d a path ≡ false → d ≡ k → part.entries ≡ es
     → None ≡ lookup (is_at (tail_cmp k a)) es
-found_not d i j k a es part h at not depth all =
-    sym (lookup_later d j a part.entries [] h.low h.digits (λ p. not (at ∙ p)))
-    ∙ ap (lookup (is_at (tail_cmp d a))) (append-nil part.entries)
+found_not d path k a es part h not depth all =
+    sym (lookup_apart d part.depth a path part.entries (omega (arith, h.low)) h.high not h.digits)
     ∙ ap (λ n. lookup (is_at (tail_cmp n a)) part.entries) depth ∙ ap (λ xs. lookup (is_at (tail_cmp k a)) xs) all
 
-pub former_in : {E : Type 0} (r : Result Bool E) (v : List ℕ) (d j k : ℕ) (a : Address) (es : List Entry) (part : Part) → IsThin d j part → digit_of a.0 d ≡ j → d ≡ k → part.entries ≡ es
+pub former_in : {E : Type 0} (r : Result Bool E) (v : List ℕ) (d : ℕ) (path : Address) (k : ℕ) (a : Address) (es : List Entry) (part : Part) → IsThin d path part → same_digits (part.depth - d) d a path ≡ true → d ≡ k → part.entries ≡ es
     → IfOk r (λ b. (if b then Some v else None) ≡ lookup (is_at (tail_cmp part.depth a)) part.entries) → IfOk r (λ b. (if b then Some v else None) ≡ lookup (is_at (tail_cmp k a)) es)
-former_in r v d j k a es part h at depth all = former_by r v _ _ (found_in d j k a es part h at depth all)
+former_in r v d path k a es part h at depth all = former_by r v _ _ (found_in d path k a es part h at depth all)
 
-pub missing_in : {T E : Type 0} (r : Result T E) (d j k : ℕ) (a : Address) (es : List Entry) (part : Part) → IsThin d j part → digit_of a.0 d ≡ j → d ≡ k → part.entries ≡ es
+pub missing_in : {T E : Type 0} (r : Result T E) (d : ℕ) (path : Address) (k : ℕ) (a : Address) (es : List Entry) (part : Part) → IsThin d path part → same_digits (part.depth - d) d a path ≡ true → d ≡ k → part.entries ≡ es
     → OnErr r (lookup (is_at (tail_cmp part.depth a)) part.entries ≡ None) → OnErr r (lookup (is_at (tail_cmp k a)) es ≡ None)
-missing_in r d j k a es part h at depth all = on_err r (λ e. sym (found_in d j k a es part h at depth all) ∙ e)
+missing_in r d path k a es part h at depth all = on_err r (λ e. sym (found_in d path k a es part h at depth all) ∙ e)
 
 -- A digest below.
 
-pub shares_in : (m d j k : ℕ) (a : Address) (es : List Entry) (part : Part) → IsThin d j part → digit_of a.0 d ≡ j → d < m → d ≡ k → part.entries ≡ es
+pub shares_in : (m d : ℕ) (path : Address) (k : ℕ) (a : Address) (es : List Entry) (part : Part) → IsThin d path part → same_digits (part.depth - d) d a path ≡ true → part.depth ≤ m → d ≡ k → part.entries ≡ es
     → shares m part.depth a part.entries ≡ shares m k a es
-shares_in m d j k a es part h at deep depth all =
-    ap (λ n. shares m n a part.entries) h.deep
-    ∙ ap (shares m (d + 1) a) (sym (branch_all d j part.entries h.digits))
-    ∙ sym (shares_branch m d j a part.entries deep (sym at))
+shares_in m d path k a es part h at deep depth all =
+    shares_along d part.depth m a part.entries (omega (arith, h.low)) deep (along_by d part.depth a path part.entries at h.digits)
     ∙ ap (λ n. shares m n a part.entries) depth ∙ ap (λ xs. shares m k a xs) all
 
-pub digest_not : (m d i j k : ℕ) (a : Address) (es : List Entry) (part : Part) → IsThin d j part → i ≡ digit_of a.0 d → i ≢ j → d < m → d ≡ k → part.entries ≡ es
+-- none of the entries has the address's digits
+pub digest_not : (m e d : ℕ) (path : Address) (k : ℕ) (a : Address) (es : List Entry) (part : Part) → IsThin d path part → same_digits (e - d) d a path ≡ false → d ≤ e → e ≤ m → e ≤ part.depth → d ≡ k → part.entries ≡ es
     → replicate 32 0 ≡ node_of (70 - m) m (shares m k a es)
-unfolding shares
-digest_not m d i j k a es part h at not deep depth all =
-    let differ : j ≢ digit_of a.0 d = λ p. not (at ∙ sym p) in
+digest_not m e d path k a es part h not low high within depth all =
     sym (node_of-none (70 - m) m) ∙ ap (node_of (70 - m) m)
-    (ap (shares m (d + 1) a) (sym (branch_other d (digit_of a.0 d) j part.entries h.digits differ))
-    ∙ sym (shares_branch m d (digit_of a.0 d) a part.entries deep refl)
+    (sym (shares_none d e m a path part.entries low high not (along_above d e part.depth path part.entries low within h.digits))
+    ∙ ap (λ n. shares m n a part.entries) depth ∙ ap (λ xs. shares m k a xs) all)
+
+-- all of them have
+pub digest_along : (m d : ℕ) (path : Address) (k : ℕ) (a : Address) (es : List Entry) (part : Part) (r : List ℕ) → r ≡ node_of (70 - m) m part.entries → IsThin d path part → same_digits (m - d) d a path ≡ true → d ≤ m → m ≤ part.depth
+    → d ≡ k → part.entries ≡ es → r ≡ node_of (70 - m) m (shares m k a es)
+digest_along m d path k a es part r digest h at low within depth all =
+    digest ∙ ap (node_of (70 - m) m)
+    (sym (shares_whole d m a part.entries (along_by d m a path part.entries at (along_above d m part.depth path part.entries low within h.digits)))
     ∙ ap (λ n. shares m n a part.entries) depth ∙ ap (λ xs. shares m k a xs) all)
 
 -- An insertion and a removal.
 
-pub thin_inserted : {T E : Type 0} (r : Result T E) (d j : ℕ) (a : Address) (v : List ℕ) (p old : Part) → IsThin d j old → digit_of a.0 d ≡ j → p.depth ≡ old.depth
-    → OnOk r (p.entries ≡ insert_entry (tail_cmp old.depth) old.entries a v) → OnErr r (p.entries ≡ old.entries) → IsThin d j p
-thin_inserted r d j a v p old h at depth good bad = record {
-  low = h.low;
-  small = h.small;
-  deep = depth ∙ h.deep;
-  digits = either r
-      (λ e. subst (AllDigit d j) (sym e) (digits_inserted d j (tail_cmp old.depth) a old.entries v at h.digits))
-      (λ e. subst (AllDigit d j) (sym e) h.digits) good bad;
+pub thin_inserted : {T E : Type 0} (r : Result T E) (d : ℕ) (path : Address) (a : Address) (v : List ℕ) (p old : Part) → IsThin d path old → same_digits (old.depth - d) d a path ≡ true → p.depth ≡ old.depth
+    → OnOk r (p.entries ≡ insert_entry (tail_cmp old.depth) old.entries a v) → OnErr r (p.entries ≡ old.entries) → IsThin d path p
+thin_inserted r d path a v p old h at depth good bad = record {
+  low = subst (λ n. d < n) (sym depth) h.low;
+  high = subst (λ n. n ≤ 70) (sym depth) h.high;
+  digits = subst (λ n. AllAlong n d path p.entries) (sym depth) (either r
+      (λ e. subst (AllAlong old.depth d path) (sym e) (along_inserted d old.depth path (tail_cmp old.depth) a old.entries v at h.digits))
+      (λ e. subst (AllAlong old.depth d path) (sym e) h.digits) good bad);
 }
 
-pub entries_in : {T E : Type 0} (r : Result T E) (d j k : ℕ) (a : Address) (v : List ℕ) (es : List Entry) (p old : Part) → IsThin d j old → digit_of a.0 d ≡ j → d ≡ k → old.entries ≡ es
+pub entries_in : {T E : Type 0} (r : Result T E) (d : ℕ) (path : Address) (k : ℕ) (a : Address) (v : List ℕ) (es : List Entry) (p old : Part) → IsThin d path old → same_digits (old.depth - d) d a path ≡ true → d ≡ k → old.entries ≡ es
     → OnOk r (p.entries ≡ insert_entry (tail_cmp old.depth) old.entries a v) → OnOk r (p.entries ≡ insert_entry (tail_cmp k) es a v)
-entries_in r d j k a v es p old h at depth all =
+entries_in r d path k a v es p old h at depth all =
     on_ok r (λ e.
-    e ∙ ap (λ n. insert_entry (tail_cmp n) old.entries a v) h.deep
-    ∙ sym (append-nil (insert_entry (tail_cmp (d + 1)) old.entries a v))
-    ∙ sym (insert_here d a old.entries [] v h.low (subst (λ q. AllDigit d q old.entries) (sym at) h.digits) refl)
-    ∙ ap (λ xs. insert_entry (tail_cmp d) xs a v) (append-nil old.entries)
+    e ∙ insert_along d old.depth a v old.entries (omega (arith, h.low)) h.high (along_by d old.depth a path old.entries at h.digits)
     ∙ ap (λ n. insert_entry (tail_cmp n) old.entries a v) depth ∙ ap (λ xs. insert_entry (tail_cmp k) xs a v) all)
 
-pub thin_removed : (d j : ℕ) (t : Address → Bool) (p old : Part) → IsThin d j old → p.depth ≡ old.depth → p.entries ≡ remove_entry t old.entries → IsThin d j p
-thin_removed d j t p old h depth e = record {
-  low = h.low;
-  small = h.small;
-  deep = depth ∙ h.deep;
-  digits = subst (AllDigit d j) (sym e) (digits_removed d j t old.entries h.digits);
+pub thin_removed : (d : ℕ) (path : Address) (t : Address → Bool) (p old : Part) → IsThin d path old → p.depth ≡ old.depth → p.entries ≡ remove_entry t old.entries → IsThin d path p
+thin_removed d path t p old h depth e = record {
+  low = subst (λ n. d < n) (sym depth) h.low;
+  high = subst (λ n. n ≤ 70) (sym depth) h.high;
+  digits = subst (λ n. AllAlong n d path p.entries) (sym depth) (subst (AllAlong old.depth d path) (sym e) (along_removed d old.depth path t old.entries h.digits));
 }
 
-pub removed_in : (d j k : ℕ) (a : Address) (es : List Entry) (p old : Part) → IsThin d j old → digit_of a.0 d ≡ j → d ≡ k → old.entries ≡ es
+pub removed_in : (d : ℕ) (path : Address) (k : ℕ) (a : Address) (es : List Entry) (p old : Part) → IsThin d path old → same_digits (old.depth - d) d a path ≡ true → d ≡ k → old.entries ≡ es
     → p.entries ≡ remove_entry (is_at (tail_cmp old.depth a)) old.entries → p.entries ≡ remove_entry (is_at (tail_cmp k a)) es
-removed_in d j k a es p old h at depth all e =
-    e ∙ ap (λ n. remove_entry (is_at (tail_cmp n a)) old.entries) h.deep
-    ∙ sym (append-nil (remove_entry (is_at (tail_cmp (d + 1) a)) old.entries))
-    ∙ sym (remove_here d a old.entries [] h.low (subst (λ q. AllDigit d q old.entries) (sym at) h.digits) refl)
-    ∙ ap (remove_entry (is_at (tail_cmp d a))) (append-nil old.entries)
+removed_in d path k a es p old h at depth all e =
+    e ∙ remove_along d old.depth a old.entries (omega (arith, h.low)) h.high (along_by d old.depth a path old.entries at h.digits)
     ∙ ap (λ n. remove_entry (is_at (tail_cmp n a)) old.entries) depth ∙ ap (λ xs. remove_entry (is_at (tail_cmp k a)) xs) all
 
-pub removed_not : (d i j k : ℕ) (a : Address) (es : List Entry) (part : Part) → IsThin d j part → i ≡ digit_of a.0 d → i ≢ j → d ≡ k → part.entries ≡ es
+pub removed_not : (d : ℕ) (path : Address) (k : ℕ) (a : Address) (es : List Entry) (part : Part) → IsThin d path part → same_digits (part.depth - d) d a path ≡ false → d ≡ k → part.entries ≡ es
     → es ≡ remove_entry (is_at (tail_cmp k a)) es
-removed_not d i j k a es part h at not depth all =
-    sym (sym (ap (λ n. remove_entry (is_at (tail_cmp n a)) part.entries) depth ∙ ap (λ xs. remove_entry (is_at (tail_cmp k a)) xs) all)
-    ∙ ap (remove_entry (is_at (tail_cmp d a))) (sym (append-nil part.entries))
-    ∙ remove_later d j a part.entries [] h.low h.digits (λ p. not (at ∙ p)) ∙ append-nil part.entries ∙ all)
+removed_not d path k a es part h not depth all = sym (remove_none (is_at (tail_cmp k a)) es (sym (found_not d path k a es part h not depth all)))
 
-pub room_digit : (d : ℕ) (s : Part) (a : Address) (j : ℕ) → d ≡ s.depth → Some j ≡ s.thin → IfSome s.thin (λ i. i ≡ digit_of a.0 s.depth) → digit_of a.0 d ≡ j
-room_digit d s a j depth thin h =
-    let is : j ≡ digit_of a.0 s.depth = subst (λ x. IfSome x (λ i. i ≡ digit_of a.0 s.depth)) (sym thin) h in
-    ap (digit_of a.0) depth ∙ sym is
+pub room_path : (d : ℕ) (s : Part) (a path : Address) (part : Part) → d ≡ s.depth → Some (record { path = path; end = part.depth }) ≡ s.thin → IfSome s.thin (λ r. same_digits (r.end - s.depth) s.depth a r.path ≡ true)
+    → same_digits (part.depth - d) d a path ≡ true
+room_path d s a path part depth thin h =
+    let is : same_digits (part.depth - s.depth) s.depth a path ≡ true = subst (λ x. IfSome x (λ r. same_digits (r.end - s.depth) s.depth a r.path ≡ true)) (sym thin) h in
+    ap (λ n. same_digits (part.depth - n) n a path) depth ∙ is
 
 -- where a descent ends, above its end
-pub ends_digit : (d e : ℕ) (s : Part) (a : Address) (j : ℕ) → d ≡ s.depth → d < e → Some j ≡ s.thin → IfSome s.thin (λ i. s.depth < e → digit_of a.0 s.depth ≢ i) → digit_of a.0 d ≢ j
-ends_digit d e s a j depth low thin h =
-    let not : s.depth < e → digit_of a.0 s.depth ≢ j = subst (λ x. IfSome x (λ i. s.depth < e → digit_of a.0 s.depth ≢ i)) (sym thin) h in
-    λ p. not (subst (λ n. n < e) depth low) (ap (digit_of a.0) (sym depth) ∙ p)
+pub left_path : (d m : ℕ) (s : Part) (a path : Address) (part : Part) → d ≡ s.depth → part.depth ≤ m → Some (record { path = path; end = part.depth }) ≡ s.thin → IsLeft m a s → same_digits (part.depth - d) d a path ≡ false
+left_path d m s a path part depth low thin h =
+    let not : part.depth ≤ m → same_digits (part.depth - s.depth) s.depth a path ≡ false = subst (λ x. IfSome x (λ r. r.end ≤ m → same_digits (r.end - s.depth) s.depth a r.path ≡ false)) (sym thin) h in
+    ap (λ n. same_digits (part.depth - n) n a path) depth ∙ not low
+
+-- Where an address leaves what stands here.
+
+pub apart_same : (d k m : ℕ) (a b : Address) → IsFirstApart d m a b k → same_digits (k + 1 - d) d a b ≡ false
+apart_same d k m a b h = by (same_digits (k + 1 - d) d a b) refl
+  where
+    by : (t : Bool) → same_digits (k + 1 - d) d a b ≡ t → t ≡ false
+    by true is = absurd (h.differ (sym (same_digit d k a b h.low is)))
+    by false is = refl
+
+pub missing_apart : {T E : Type 0} (r : Result T E) (a path : Address) (k : ℕ) (s : Part) → IsParting a path k s → OnErr r (lookup (is_at (tail_cmp s.depth a)) s.entries ≡ None)
+missing_apart r a path k s h =
+    let apart = h.apart in
+    where_err r (lookup_apart s.depth (k + 1) a path s.entries (omega (arith, apart.low)) (omega (arith, apart.high)) (apart_same s.depth k 70 a path apart) h.along)
+
+pub leaf_parting : (d k : ℕ) (a at : Address) (v : List ℕ) → IsFirstApart d 70 a at k → IsParting a at k (record { depth = d; entries = (at, v) ∷ []; inner = false; thin = None })
+leaf_parting d k a at v h = record {
+  apart = h;
+  along = (same_alike (k + 1 - d) d at at refl, tt);
+  stands = record { few = λ p. absurd (grind (arith, p)); above = tt };
+}
+
+pub thin_parting : (d k : ℕ) (a path : Address) (part : Part) → IsThin d path part → IsFirstApart d part.depth a path k
+    → IsParting a path k (record { depth = d; entries = part.entries; inner = true; thin = Some (record { path = path; end = part.depth }) })
+thin_parting d k a path part h apart = record {
+  apart = record { low = apart.low; high = omega (arith, h.high, apart.high); same = apart.same; differ = apart.differ };
+  along = along_above d (k + 1) part.depth path part.entries (omega (arith, apart.low)) (omega (arith, apart.high)) h.digits;
+  stands = record { few = λ p. refl; above = omega (arith, apart.high) };
+}
+
+pub parting_above : (a path : Address) (k : ℕ) (s : Part) → IsParting a path k s → AllAlong k s.depth path s.entries
+parting_above a path k s h = along_above s.depth k (k + 1) path s.entries (h.apart.low) (omega arith) h.along
+
+pub parting_digit : (a path : Address) (k : ℕ) (s : Part) → IsParting a path k s → AllDigit k (digit_of path.0 k) s.entries
+parting_digit a path k s h = along_digit s.depth k path s.entries h.apart.low h.along
+
+above_more : (k : ℕ) (r : Option Run) → IfSome r (λ x. k + 1 ≤ x.end) → IfSome r (λ x. k ≤ x.end)
+above_more k None h = tt
+above_more k (Some x) h = omega (arith, h)
+
+pub parting_stands : (a path : Address) (k : ℕ) (s : Part) → IsParting a path k s → CanStand k s
+parting_stands a path k s h = record { few = h.stands.few; above = above_more k s.thin h.stands.above }
+
+-- What stands lower.
+
+shaped_lower : (d k : ℕ) (body : Body) → d ≤ k → (is_inner body ≡ true → is_some (thin_run body) ≡ true) → IfSome (thin_run body) (λ r. k < r.end) → IsShaped d body → IsShaped k body
+shaped_lower d k Empty low few above h = tt
+shaped_lower d k (Leaf a v) low few above h = tt
+shaped_lower d k (Thin path part) low few above h = record {
+  low = above;
+  high = h.high;
+  digits = along_below d k part.value.depth path part.value.entries low (omega (arith, above)) h.digits;
+}
+shaped_lower d k (Inner kids) low few above h = absurd (grind (arith, few refl))
+
+pub kept_lower : (d k size : ℕ) (fresh b : Bool) (digest : List ℕ) (body : Body) → d ≤ k → (is_inner body ≡ true → is_some (thin_run body) ≡ true) → IfSome (thin_run body) (λ r. k < r.end)
+    → (b ≡ true → (fresh ≡ true) × (size < 2)) → IsKept d size fresh digest body → IsKept k size b digest body
+kept_lower d k size fresh b digest body low few above keeps h = record {
+  sized = h.sized;
+  digested = λ t. h.digested (keeps t).0 ∙ few_below (70 - d) (70 - k) d k (entries_of body) (omega (arith, h.sized, (keeps t).1));
+  shaped = shaped_lower d k body low few above h.shaped;
+}
+
+pub no_run : (P : Run → Type 0) (body : Body) → ((path : Address) → (part : Box Tree Global) → body ≡ Thin path part → ⊥) → IfSome (thin_run body) P
+no_run P Empty not = tt
+no_run P (Leaf a v) not = tt
+no_run P (Thin path part) not = absurd (not path part refl)
+no_run P (Inner kids) not = tt

@@ -3,7 +3,7 @@ use Rattle.std.specs.Prelude.{ℕ, max, ◌≤◌, ◌<◌, ◌-◌, ◌+◌, Li
 use Rattle.std.proofs.Common.{arith}
 use denote.Param.Weighed.{most}
 use Rattle.spl_state.specs.Part.{Part, AllAt, digits_left}
-use Rattle.spl_state.specs.Kept.{entries_of, is_inner, thin_digit, IsKept, IsShaped}
+use Rattle.spl_state.specs.Kept.{entries_of, is_inner, thin_run, IsKept, IsShaped}
 use Rattle.spl_state.specs.declared.tree.Tree.TheInside.{Inside}
 use Rattle.spl_state.specs.declared.tree.Tree.TheDeep.{deep-Body}
 use Rattle.spl_state.specs.declared.tree.Body.{Body}
@@ -16,8 +16,8 @@ most_left d (s ∷ ss) low h = omega (arith, h.0, most_left d ss low h.1)
 by_body : (d : ℕ) (b : Body) → IsShaped d b → deep-Body b ≤ 71 - d
 by_body d Empty h = omega arith
 by_body d (Leaf a v) h = omega arith
-by_body d (Thin j part) h = omega (arith, h.low, h.deep)
+by_body d (Thin path part) h = omega (arith, h.low, h.high)
 by_body d (Inner kids) h = omega (arith, most_left d kids.items h.low h.below)
 
-pub falls : (a : Inside) → IsKept a.depth a.size a.fresh a.digest a.body → max (deep-Body a.body) 0 ≤ digits_left (record { depth = a.depth; entries = entries_of a.body; inner = is_inner a.body; thin = thin_digit a.body })
+pub falls : (a : Inside) → IsKept a.depth a.size a.fresh a.digest a.body → max (deep-Body a.body) 0 ≤ digits_left (record { depth = a.depth; entries = entries_of a.body; inner = is_inner a.body; thin = thin_run a.body })
 falls a h = omega (arith, by_body a.depth a.body h.shaped)

@@ -1,12 +1,13 @@
 -- What a part of the tree keeps.
-use Rattle.std.specs.Prelude.{ℕ, ◌+◌, ◌-◌, ◌≡◌, ◌<◌, List, [], ◌∷◌, length, min, Bool, true, false, Option, Some, None, IfSome, IsTrue}
+use Rattle.std.specs.Prelude.{ℕ, ◌+◌, ◌-◌, ◌≡◌, ◌<◌, ◌≤◌, is_some, List, [], ◌∷◌, length, min, Bool, true, false, Option, Some, None, IfSome, IsTrue}
 use Rattle.std.specs.FinMap.Entries.{is_sorted}
 use Rattle.std.specs.List.{flat_map}
 use Rattle.spl_state.specs.Entries.{Entry, address_cmp}
 use Rattle.spl_state.specs.Root.{digit_of}
 use Rattle.spl_state.specs.Levels.{node_of}
-use Rattle.spl_state.specs.Part.{Part, AllAt}
-use Rattle.spl_state.specs.Digits.{tail_cmp}
+use Rattle.spl_state.specs.Part.{Part, Run, AllAt}
+use Rattle.spl_state.specs.Digits.{tail_cmp, same_digits}
+use Rattle.spl_state.specs.Runs.{AllAlong, IsFirstApart}
 use Rattle.std.specs.Ordering.{is_eq}
 use Rattle.spl_state.specs.declared.address.Address.{Address}
 use Rattle.spl_state.specs.declared.tree.Body.{Body}
@@ -20,22 +21,22 @@ all_entries ss = flat_map (λ s. s.entries) ss
 abbrev pub entries_of : Body → List Entry
 entries_of Empty = []
 entries_of (Leaf a v) = (a, v) ∷ []
-entries_of (Thin j part) = part.value.entries
+entries_of (Thin path part) = part.value.entries
 entries_of (Inner kids) = all_entries kids.items
 
 -- whether a part has parts of its own
 abbrev pub is_inner : Body → Bool
 is_inner Empty = false
 is_inner (Leaf a v) = false
-is_inner (Thin j part) = true
+is_inner (Thin path part) = true
 is_inner (Inner kids) = true
 
--- the digit of a lone part
-abbrev pub thin_digit : Body → Option ℕ
-thin_digit Empty = None
-thin_digit (Leaf a v) = None
-thin_digit (Thin j part) = Some j
-thin_digit (Inner kids) = None
+-- what leads to a lone part
+abbrev pub thin_run : Body → Option Run
+thin_run Empty = None
+thin_run (Leaf a v) = None
+thin_run (Thin path part) = Some (record { path = path; end = part.value.depth })
+thin_run (Inner kids) = None
 
 -- each entry has the digit j at depth d
 abbrev pub AllDigit : ℕ → ℕ → List Entry → Type 0
@@ -54,17 +55,16 @@ pub record IsInner (d : ℕ) (parts : List Part) : Type 0 where
   pub below : AllAt (d + 1) parts
   pub sorted : Sorted d 0 parts
 
--- one part, whose entries have the digit j
-pub record IsThin (d : ℕ) (j : ℕ) (part : Part) : Type 0 where
-  pub low : d < 70
-  pub small : j < 16
-  pub deep : part.depth ≡ d + 1
-  pub digits : AllDigit d j part.entries
+-- one part, whose entries have the digits of an address down to it
+pub record IsThin (d : ℕ) (path : Address) (part : Part) : Type 0 where
+  pub low : d < part.depth
+  pub high : part.depth ≤ 70
+  pub digits : AllAlong part.depth d path part.entries
 
 abbrev pub IsShaped : ℕ → Body → Type 0
 IsShaped d Empty = Unit {0}
 IsShaped d (Leaf a v) = Unit {0}
-IsShaped d (Thin j part) = IsThin d j part.value
+IsShaped d (Thin path part) = IsThin d path part.value
 IsShaped d (Inner kids) = IsInner d kids.items
 
 pub record IsKept (d : ℕ) (size : ℕ) (fresh : Bool) (digest : List ℕ) (body : Body) : Type 0 where
@@ -81,9 +81,24 @@ abbrev pub AllSame : ℕ → Address → List Entry → Type 0
 AllSame d a [] = Unit {0}
 AllSame d a (e ∷ es) = (is_eq (tail_cmp d a e.0) ≡ true) × AllSame d a es
 
--- an entry that stands here alone is the address's
+-- an entry that stands here alone is the address's, and a lone part stands below its digits
 abbrev pub IsRoom : Address → Part → Type 0
-IsRoom a s = (s.inner ≡ false → AllSame s.depth a s.entries) × IfSome s.thin (λ j. j ≡ digit_of a.0 s.depth)
+IsRoom a s = (s.inner ≡ false → AllSame s.depth a s.entries) × IfSome s.thin (λ r. same_digits (r.end - s.depth) s.depth a r.path ≡ true)
+
+-- a lone part that stands at digit m or above it has other digits down to it than the address
+abbrev pub IsLeft : ℕ → Address → Part → Type 0
+IsLeft m a s = IfSome s.thin (λ r. r.end ≤ m → same_digits (r.end - s.depth) s.depth a r.path ≡ false)
+
+-- what stands here could stand at digit k: there aren't sixteen parts, and a lone part stands no higher
+pub record CanStand (k : ℕ) (s : Part) : Type 0 where
+  pub few : s.inner ≡ true → is_some s.thin ≡ true
+  pub above : IfSome s.thin (λ r. k ≤ r.end)
+
+-- the entries have the digits of `path` down to the k-th one, where the address differs first
+pub record IsParting (a path : Address) (k : ℕ) (s : Part) : Type 0 where
+  pub apart : IsFirstApart s.depth 70 a path k
+  pub along : AllAlong (k + 1) s.depth path s.entries
+  pub stands : CanStand (k + 1) s
 
 -- each address has 35 bytes
 abbrev pub AllWhole : List Entry → Type 0

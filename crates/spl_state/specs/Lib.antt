@@ -3,6 +3,7 @@ pub mod Root
 pub mod Entries
 pub mod Digits
 pub mod Levels
+pub mod Runs
 pub mod Part
 pub mod Kept
 pub mod Falls

@@ -1,7 +1,8 @@
 //! Addresses: where a value lies in a state.
-ghost use Rattle.std.specs.Prelude.{◌≡◌, ◌≤◌, ◌<◌, ◌-◌, ◌/◌, ◌%◌, if◌then◌else◌};
+ghost use Rattle.std.specs.Prelude.{◌≡◌, ◌≤◌, ◌<◌, ◌-◌, ◌*◌, ◌/◌, ◌%◌, true, IfSome, IfNone, if◌then◌else◌};
 ghost use Rattle.std.specs.Ordering.{is_eq};
 ghost use Rattle.spl_state.specs.Digits.{tail_cmp, same_digits};
+ghost use Rattle.spl_state.specs.Runs.{IsFirstApart};
 ghost use Rattle.spl_state.specs.Root.{digit_of};
 
 /// 35 bytes, ordered by these; as 70 hexadecimal digits it is a path down the tree
@@ -20,25 +21,33 @@ impl Address {
     }
 
     /// Whether both have the same digits from `from` on.
-    #[tactic(auto, using(crate::proofs::Digits::tail_end_is, crate::proofs::Digits::tail_next, crate::proofs::Digits::tail_differ))]
+    #[tactic(auto, using(crate::proofs::Digits::tail_is))]
     pub(crate) fn same_tail(&self, other: &Address, from: usize) -> bool
         requires { from ≤ 70 }
         ensures { result ≡ is_eq (tail_cmp from self.now other.now) }
     {
-        if self.0 == other.0 {
-            return true;
-        }
-        for k in from..70 {
-            if self.digit(k) != other.digit(k) {
-                return false;
-            }
-        }
-        true
+        self.same_between(other, from, 70)
     }
 
-    /// Whether both have the same digits from `from` to `to`.
-    #[tactic(auto, using(crate::proofs::Digits::same_none, crate::proofs::Digits::same_next, crate::proofs::Digits::same_differ))]
+    /// Whether both have the same digits from `from` to `to`. Whole bytes are compared as such.
     pub(crate) fn same_between(&self, other: &Address, from: usize, to: usize) -> bool
+        requires low { from ≤ to }
+        requires high { to ≤ 70 }
+        ensures { result ≡ same_digits (to - from) from self.now other.now }
+    {
+        let first = from.div_ceil(2);
+        let last = to / 2;
+        if last <= first {
+            return self.same_digits(other, from, to);
+        }
+        self.same_digits(other, from, first * 2)
+            && self.same_bytes(other, first, last)
+            && self.same_digits(other, last * 2, to)
+    }
+
+    /// Whether both have the same digits from `from` to `to`, one by one.
+    #[tactic(auto, using(crate::proofs::Digits::same_none, crate::proofs::Digits::same_next, crate::proofs::Digits::same_differ))]
+    fn same_digits(&self, other: &Address, from: usize, to: usize) -> bool
         requires low { from ≤ to }
         requires high { to ≤ 70 }
         ensures { result ≡ same_digits (to - from) from self.now other.now }
@@ -49,6 +58,35 @@ impl Address {
             }
         }
         true
+    }
+
+    /// Whether both have the same bytes from `first` to `last`.
+    #[tactic(auto, using(crate::proofs::Bytes::same_bytes))]
+    fn same_bytes(&self, other: &Address, first: usize, last: usize) -> bool
+        requires low { first ≤ last }
+        requires high { last ≤ 35 }
+        ensures { result ≡ same_digits (last * 2 - first * 2) (first * 2) self.now other.now }
+    {
+        self.0[first..last] == other.0[first..last]
+    }
+
+    /// The first digit from `from` to `to` where both differ; None where they are the same.
+    #[tactic(auto, using(crate::proofs::Digits::same_none, crate::proofs::Digits::same_behind))]
+    pub(crate) fn first_apart(&self, other: &Address, from: usize, to: usize) -> Option<usize>
+        requires low { from ≤ to }
+        requires high { to ≤ 70 }
+        ensures none { IfNone result (same_digits (to - from) from self.now other.now ≡ true) }
+        ensures some { IfSome result (λ k. IsFirstApart from to self.now other.now k) }
+    {
+        if self.0 == other.0 {
+            return None;
+        }
+        for k in from..to {
+            if self.digit(k) != other.digit(k) {
+                return Some(k);
+            }
+        }
+        None
     }
 }
 

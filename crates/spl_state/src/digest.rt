@@ -1,8 +1,9 @@
 //! The digests of single nodes.
-ghost use Rattle.std.specs.Prelude.{◌≡◌, ◌++◌, ◌∷◌, replicate, if◌then◌else◌};
+ghost use Rattle.std.specs.Prelude.{◌≡◌, ◌≤◌, ◌-◌, ◌++◌, ◌∷◌, replicate, if◌then◌else◌};
 ghost use Rattle.sha2.specs.Sha256.{sha256};
 ghost use Rattle.spl_state.specs.Root.{joined};
 ghost use Rattle.spl_state.specs.Levels.{lone};
+ghost use Rattle.spl_state.specs.Runs.{raised};
 
 use crate::address::Address;
 use crate::piece::Piece;
@@ -29,6 +30,21 @@ pub(crate) fn lone_part(below: &[u8; 32], only: u8) -> [u8; 32]
         hasher.update(&or_zeros(below, i == only));
     }
     hasher.finalize()
+}
+
+/// The node of entries that all lie below the digits of `path` from `from` to `to`, by their node
+/// below these.
+#[tactic(auto, using(crate::proofs::Runs::raised_none, crate::proofs::Runs::raised_more))]
+pub(crate) fn lone_parts(below: [u8; 32], path: &Address, from: usize, to: usize) -> [u8; 32]
+    requires low { from ≤ to }
+    requires high { to ≤ 70 }
+    ensures { result ≡ raised (to - from) from path.now below }
+{
+    let mut node = below;
+    for k in (from..to).rev() {
+        node = lone_part(&node, path.digit(k));
+    }
+    node
 }
 
 /// A digest, or zeros.

@@ -4,6 +4,7 @@ ghost use Rattle.std.specs.List.{starts_with};
 ghost use Rattle.std.specs.Cmp.{partial_equiv_from_equiv};
 ghost use Rattle.std.specs.Cmp.Lexicographic.{pointwise, nat_list_eq_equiv};
 ghost use Rattle.spl_state.specs.Root.{digit_of};
+ghost use Rattle.spl_state.specs.Runs.{IsOtherDigit};
 
 use crate::address::{Address, half};
 use std::marker::Model;
@@ -82,6 +83,21 @@ impl Prefix {
         } else {
             None
         }
+    }
+
+    /// A digit of the bytes, from `from` to `to`, that the address doesn't have: the first one, if
+    /// there is one.
+    pub(crate) fn first_apart(&self, address: &Address, from: usize, to: usize) -> Option<usize>
+        requires { to ≤ 70 }
+        ensures { IfSome result (λ k. IsOtherDigit from to self.now address.now k) }
+    {
+        for k in from..to {
+            let digit = self.digit(k)?;
+            if digit != address.digit(k) {
+                return Some(k);
+            }
+        }
+        None
     }
 }
 

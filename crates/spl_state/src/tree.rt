@@ -2,16 +2,16 @@
 mod read;
 mod write;
 
-ghost use Rattle.std.specs.Prelude.{◌≡◌, ◌≢◌, ◌≤◌, ◌<◌, ◌-◌, length, min, option_copied, IfSome};
+ghost use Rattle.std.specs.Prelude.{◌≡◌, ◌≤◌, ◌-◌, length, min, option_copied};
 ghost use Rattle.std.specs.Map.{lookup};
 ghost use Rattle.std.specs.BTreeMap.{is_at};
 ghost use Rattle.spl_state.specs.Digits.{tail_cmp, shares};
-ghost use Rattle.spl_state.specs.Root.{digit_of};
 ghost use Rattle.spl_state.specs.Levels.{node_of};
-ghost use Rattle.spl_state.specs.Kept.{empty_part};
+ghost use Rattle.spl_state.specs.Runs.{AllAlong};
+ghost use Rattle.spl_state.specs.Kept.{IsLeft, empty_part};
 
 use crate::address::Address;
-use crate::digest::{leaf, lone_part};
+use crate::digest::{leaf, lone_parts};
 use crate::piece::Piece;
 use sha2::{Digest, Sha256};
 use std::marker::Model;
@@ -35,8 +35,8 @@ pub(crate) struct Tree {
 enum Body {
     Empty,
     Leaf(Address, Piece),
-    /// One part, below one digit.
-    Thin(u8, Box<Tree>),
+    /// One part, below the digits of this address from here to where it stands.
+    Thin(Address, Box<Tree>),
     /// Sixteen parts, one below each digit.
     Inner(Vec<Tree>),
 }
@@ -46,9 +46,9 @@ impl Model for Tree {
 
     ghost Value = { Part };
 
-    ghost use Rattle.spl_state.specs.Kept.{entries_of, is_inner, thin_digit, IsKept};
+    ghost use Rattle.spl_state.specs.Kept.{entries_of, is_inner, thin_run, IsKept};
 
-    ghost view = { λ t. record { depth = t.depth; entries = entries_of t.body; inner = is_inner t.body; thin = thin_digit t.body } };
+    ghost view = { λ t. record { depth = t.depth; entries = entries_of t.body; inner = is_inner t.body; thin = thin_run t.body } };
 
     ghost invariant = { λ t. IsKept t.depth t.size t.fresh t.digest t.body };
 
@@ -102,14 +102,22 @@ impl Tree {
                 }
                 hasher.finalize()
             }
-            Body::Thin(only, part) => {
-                let below = part.digest();
-                if self.size < 2 {
-                    below
-                } else {
-                    lone_part(&below, *only)
-                }
-            }
+            Body::Thin(path, part) => part.raised(part.digest(), path, self.depth),
+        }
+    }
+
+    /// The digest of the entries at the digit `from` above, by their digest here.
+    fn raised(&self, digest: [u8; 32], path: &Address, from: usize) -> [u8; 32]
+        requires low { from ≤ self.now.depth }
+        requires high { self.now.depth ≤ 70 }
+        requires along { AllAlong self.now.depth from path.now self.now.entries }
+        requires digest { digest ≡ node_of (70 - self.now.depth) self.now.depth self.now.entries }
+        ensures { result ≡ node_of (70 - from) from self.now.entries }
+    {
+        if self.size < 2 {
+            digest
+        } else {
+            lone_parts(digest, path, from, self.depth)
         }
     }
 
@@ -150,7 +158,7 @@ impl Tree {
         self.size
     }
 
-    /// The part that lone parts lead to, as long as they are those of an address's digits, and
+    /// The part that lone parts lead to, as long as they stand below an address's digits, and
     /// down to the digit `end` at most.
     #[tactic(auto, using(crate::proofs::Thin::found_in, crate::proofs::Thin::shares_in))]
     fn below(&self, address: &Address, end: usize) -> &Tree
@@ -158,16 +166,13 @@ impl Tree {
         requires high { end ≤ 70 }
         ensures deeper { self.now.depth ≤ result.now.depth }
         ensures low { result.now.depth ≤ end }
-        ensures ends { IfSome result.now.thin (λ j. result.now.depth < end → digit_of address.now.0 result.now.depth ≢ j) }
+        ensures left { IsLeft end address.now result.now }
         ensures found { lookup (is_at (tail_cmp result.now.depth address.now)) result.now.entries ≡ lookup (is_at (tail_cmp self.now.depth address.now)) self.now.entries }
         ensures shared { shares end result.now.depth address.now result.now.entries ≡ shares end self.now.depth address.now self.now.entries }
     {
-        if self.depth == end {
-            return self;
-        }
         match &self.body {
-            Body::Thin(only, part) => {
-                if address.digit(self.depth) == *only {
+            Body::Thin(path, part) => {
+                if part.depth <= end && address.same_between(path, self.depth, part.depth) {
                     part.below(address, end)
                 } else {
                     self

@@ -34,7 +34,16 @@ impl Tree {
                 let part = &parts[address.digit(here.depth) as usize];
                 part.digest_at(address, digits)
             }
-            Body::Thin(_, _) => [0; 32],
+            Body::Thin(path, part) => {
+                // Where the part stands no lower, the address has other digits down to it.
+                if part.depth <= digits {
+                    return [0; 32];
+                }
+                if !address.same_between(path, here.depth, digits) {
+                    return [0; 32];
+                }
+                part.raised(part.digest(), path, digits)
+            }
         }
     }
 
@@ -61,7 +70,12 @@ impl Tree {
                     Ok(())
                 }
             },
-            Body::Thin(_, part) => part.collect(prefix, out),
+            Body::Thin(path, part) => {
+                if prefix.first_apart(path, self.depth, part.depth).is_some() {
+                    return Ok(());
+                }
+                part.collect(prefix, out)
+            }
         }
     }
 
@@ -81,7 +95,7 @@ impl Tree {
                 }
                 Body::Inner(copies)
             }
-            Body::Thin(only, part) => Body::Thin(*only, Box::new(alloc, part.copy(alloc)?)?),
+            Body::Thin(path, part) => Body::Thin(*path, Box::new(alloc, part.copy(alloc)?)?),
         };
         Ok(Tree {
             depth: self.depth,

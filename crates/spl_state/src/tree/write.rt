@@ -3,7 +3,8 @@ ghost use Rattle.std.specs.Prelude.{◌≡◌, ◌≤◌, ◌<◌, ◌+◌, leng
 ghost use Rattle.std.specs.Map.{lookup, remove_entry};
 ghost use Rattle.std.specs.BTreeMap.{insert_entry, is_at};
 ghost use Rattle.spl_state.specs.Digits.{tail_cmp};
-ghost use Rattle.spl_state.specs.Kept.{all_entries, AllDigit, IsRoom, empty_part};
+ghost use Rattle.spl_state.specs.Runs.{AllAlong};
+ghost use Rattle.spl_state.specs.Kept.{all_entries, AllDigit, IsRoom, IsParting, CanStand, empty_part};
 
 use super::{Body, Tree};
 use crate::address::Address;
@@ -37,7 +38,7 @@ impl Tree {
 
     /// Writes a value at an address, and leaves the one that it replaced in its place; says
     /// whether there was one. It is called once for each level, so that it moves nothing large.
-    #[tactic(auto, using(crate::proofs::Steps::depth_of, crate::proofs::Steps::kept_stale, crate::proofs::Steps::entries_inserted, crate::proofs::Steps::entries_kept, crate::proofs::Steps::former_below, crate::proofs::Steps::missing_below, crate::proofs::Thin::thin_inserted, crate::proofs::Thin::entries_in, crate::proofs::Thin::former_in, crate::proofs::Thin::missing_in, crate::proofs::Thin::room_digit))]
+    #[tactic(auto, using(crate::proofs::Steps::depth_of, crate::proofs::Steps::kept_stale, crate::proofs::Steps::entries_inserted, crate::proofs::Steps::entries_kept, crate::proofs::Steps::former_below, crate::proofs::Steps::missing_below, crate::proofs::Thin::thin_inserted, crate::proofs::Thin::entries_in, crate::proofs::Thin::former_in, crate::proofs::Thin::missing_in, crate::proofs::Thin::room_path))]
     fn exchange(
         &mut self,
         alloc: Global,
@@ -116,8 +117,8 @@ impl Tree {
                 self.fresh = false;
                 found
             }
-            Body::Thin(only, part) => {
-                if address.digit(self.depth) != *only {
+            Body::Thin(path, part) => {
+                if !address.same_between(path, self.depth, part.depth) {
                     return false;
                 }
                 let found = part.delete(address);
@@ -200,8 +201,8 @@ impl Tree {
         }
     }
 
-    /// Sees to it that an entry that stands here alone is the address's, and that a single part is
-    /// that of its digit. Where the address has an entry that takes no memory.
+    /// Sees to it that an entry that stands here alone is the address's, and that a lone part stands
+    /// below its digits. Where the address has an entry that takes no memory.
     #[inline]
     fn make_room(&mut self, alloc: Global, address: &Address) -> Result<(), AllocError>
         requires { self.old.depth ≤ 70 }
@@ -216,21 +217,21 @@ impl Tree {
         self.part_ways(alloc, address)
     }
 
-    /// Whether there is a single part, and it is that of the address's digit.
+    /// Whether there is a lone part, and it stands below the address's digits.
     #[inline]
     fn leads(&self, address: &Address) -> bool
         requires { self.now.depth ≤ 70 }
         ensures { result ≡ true → IsRoom address.now self.now }
     {
         match &self.body {
-            Body::Thin(only, _) => *only == address.digit(self.depth),
+            Body::Thin(path, part) => address.same_between(path, self.depth, part.depth),
             _ => false,
         }
     }
 
     /// Makes the room that `make_room` sees to.
     #[inline(never)]
-    #[tactic(auto, using(crate::proofs::Digits::tail_low))]
+    #[tactic(auto, using(crate::proofs::Thin::missing_apart, crate::proofs::Thin::parting_above, crate::proofs::Thin::parting_digit, crate::proofs::Thin::parting_stands))]
     fn part_ways(&mut self, alloc: Global, address: &Address) -> Result<(), AllocError>
         requires { self.old.depth ≤ 70 }
         ensures depth { self.new.depth ≡ self.old.depth }
@@ -238,39 +239,44 @@ impl Tree {
         ensures room { OnOk result (IsRoom address.now self.new) }
         ensures missing { OnErr result (lookup (is_at (tail_cmp self.old.depth address.now)) self.old.entries ≡ None) }
     {
+        let Some((path, k)) = self.parting(address) else {
+            return Ok(());
+        };
+        if k == self.depth {
+            let parts = empty_parts(alloc, k + 1)?;
+            self.split(parts, path.digit(k));
+        } else {
+            let room = Box::new(alloc, Tree::new(k))?;
+            self.lengthen(room, &path, k);
+        }
+        Ok(())
+    }
+
+    /// Where the address leaves all entries that stand here: an address with their digits down to
+    /// there, and the digit; None where there is room for it.
+    #[tactic(auto, using(crate::proofs::Digits::tail_whole))]
+    fn parting(&self, address: &Address) -> Option<(Address, usize)>
+        requires { self.now.depth ≤ 70 }
+        ensures room { IfNone result (IsRoom address.now self.now) }
+        ensures apart { IfSome result (λ r. IsParting address.now r.0 r.1 self.now) }
+    {
         match &self.body {
             Body::Leaf(at, _) => {
-                if address.same_tail(at, self.depth) {
-                    return Ok(());
-                }
-                let digit = at.digit(self.depth);
-                if digit == address.digit(self.depth) {
-                    let part = Box::new(alloc, Tree::new(self.depth + 1))?;
-                    self.lengthen(part, digit);
-                    Ok(())
-                } else {
-                    let parts = empty_parts(alloc, self.depth + 1)?;
-                    self.split(parts, digit);
-                    Ok(())
-                }
+                let k = address.first_apart(at, self.depth, 70)?;
+                Some((*at, k))
             }
-            Body::Thin(only, _) => {
-                if *only == address.digit(self.depth) {
-                    return Ok(());
-                }
-                let parts = empty_parts(alloc, self.depth + 1)?;
-                self.widen(parts);
-                Ok(())
+            Body::Thin(path, part) => {
+                let k = address.first_apart(path, self.depth, part.depth)?;
+                Some((*path, k))
             }
-            _ => Ok(()),
+            _ => None,
         }
     }
 
-    /// Moves a lone entry into one of the empty parts.
+    /// Moves what stands here into one of the empty parts.
     fn split(&mut self, parts: Vec<Tree>, digit: u8)
         requires depth { self.old.depth < 70 }
-        requires lone { length self.old.entries ≡ 1 }
-        requires outer { self.old.inner ≡ false }
+        requires stands { CanStand (self.old.depth + 1) self.old }
         requires digit { AllDigit self.old.depth digit self.old.entries }
         requires small { digit < 16 }
         requires parts { parts.items ≡ replicate 16 (empty_part (self.old.depth + 1)) }
@@ -280,59 +286,63 @@ impl Tree {
         ensures thin { self.new.thin ≡ None }
     {
         let mut parts = parts;
-        let body = mem::replace(&mut self.body, Body::Empty);
-        let lone = Tree {
-            depth: self.depth + 1,
-            size: self.size,
-            fresh: self.fresh,
-            digest: self.digest,
-            body,
-        };
-        parts[digit as usize] = lone;
+        let depth = self.depth;
+        let lower = mem::replace(self, Tree::new(depth)).lowered(depth + 1);
+        self.size = lower.size();
+        self.fresh = false;
+        parts[digit as usize] = lower;
         self.body = Body::Inner(parts);
     }
 
-    /// Moves a lone entry one digit down.
-    fn lengthen(&mut self, part: Box<Tree>, digit: u8)
-        requires depth { self.old.depth < 70 }
-        requires lone { length self.old.entries ≡ 1 }
-        requires outer { self.old.inner ≡ false }
-        requires digit { AllDigit self.old.depth digit self.old.entries }
-        requires small { digit < 16 }
-        requires part { part.value ≡ empty_part (self.old.depth + 1) }
+    /// Moves what stands here down to the digit `to`, into a lone part.
+    fn lengthen(&mut self, room: Box<Tree>, path: &Address, to: usize)
+        requires low { self.old.depth < to }
+        requires high { to ≤ 70 }
+        requires stands { CanStand to self.old }
+        requires along { AllAlong to self.old.depth path.now self.old.entries }
         ensures depth { self.new.depth ≡ self.old.depth }
         ensures entries { self.new.entries ≡ self.old.entries }
         ensures inner { self.new.inner ≡ true }
-        ensures thin { self.new.thin ≡ Some digit }
+        ensures thin { self.new.thin ≡ Some (record { path = path.now; end = to }) }
     {
-        let mut part = part;
-        let body = mem::replace(&mut self.body, Body::Empty);
-        let lone = Tree {
-            depth: self.depth + 1,
-            size: self.size,
-            fresh: self.fresh,
-            digest: self.digest,
-            body,
-        };
-        *part = lone;
-        self.body = Body::Thin(digit, part);
+        let mut room = room;
+        let depth = self.depth;
+        *room = mem::replace(self, Tree::new(depth)).lowered(to);
+        self.size = room.size();
+        self.fresh = false;
+        self.body = Body::Thin(*path, room);
     }
 
-    /// Gives each digit a part.
-    fn widen(&mut self, parts: Vec<Tree>)
-        requires { parts.items ≡ replicate 16 (empty_part (self.old.depth + 1)) }
-        ensures depth { self.new.depth ≡ self.old.depth }
-        ensures entries { self.new.entries ≡ self.old.entries }
-        ensures inner { self.new.inner ≡ self.old.inner }
-        ensures thin { self.new.thin ≡ None }
+    /// A part with the same entries that stands at the digit `to`.
+    fn lowered(self, to: usize) -> Tree
+        requires low { self.depth < to }
+        requires high { to ≤ 70 }
+        requires stands { CanStand to self }
+        ensures depth { result.depth ≡ to }
+        ensures entries { result.entries ≡ self.entries }
     {
-        let mut parts = parts;
-        match mem::replace(&mut self.body, Body::Empty) {
-            Body::Thin(only, part) => {
-                parts[only as usize] = Box::into_inner(part);
-                self.body = Body::Inner(parts);
+        let Tree {
+            size,
+            fresh,
+            digest,
+            body,
+            ..
+        } = self;
+        let body = match body {
+            Body::Thin(path, part) => {
+                if part.depth == to {
+                    return Box::into_inner(part);
+                }
+                Body::Thin(path, part)
             }
-            body => self.body = body,
+            body => body,
+        };
+        Tree {
+            depth: to,
+            size,
+            fresh: fresh && size < 2,
+            digest,
+            body,
         }
     }
 }

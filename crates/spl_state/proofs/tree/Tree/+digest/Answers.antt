@@ -3,10 +3,9 @@ use Rattle.std.proofs.Math.Seq.{take-length}
 use Rattle.std.proofs.Common.{◌≡◌, ◌<◌, ◌≤◌, ◌+◌, ◌-◌, [], ◌∷◌, length, min, take, sym, ap, subst, ◌∙◌, arith}
 use Rattle.sha2.specs.Sha256.{sha256}
 use Rattle.spl_state.specs.Levels.{node_of, children}
-use Rattle.spl_state.specs.Kept.{IsInner, all_entries, entries_of, IsThin}
+use Rattle.spl_state.specs.Kept.{IsInner, all_entries, entries_of}
 use Rattle.spl_state.proofs.Nodes.{node_none, node_of-one, node_of-many, children-zero, children-more}
 use Rattle.spl_state.proofs.Parts.{few_digest, many_digest}
-use Rattle.spl_state.proofs.Thin.{few_below, many_below}
 use Rattle.spl_state.proofs.tree.Tree.+digest.Goals as goal
 
 pub returns-then-size-gt0 : goal.returns-then-size-gt0
@@ -70,22 +69,3 @@ returns-after-loop-child t c =
     ∙ sym (node_of-many _ _ _ _ left many)
     ∙ ap (node_of (70 - c.args.self.now.depth) c.args.self.now.depth)
     (ap all_entries items ∙ ap entries_of (sym c.in-Inner.is) ∙ ap (λ s. s.entries) c.self.view_is)
-
-pub returns-then-self-lt2-2 : goal.returns-then-self-lt2-2
-returns-then-self-lt2-2 t c =
-    let sized : c.self.inside.size ≡ min (length c.in-Thin.part.value.entries) 2 = rw c.in-Thin.is at c.self.invariant.sized in
-    let few : length c.in-Thin.part.value.entries < 2 = omega (arith, sized, c.if-self-lt2-2.true) in
-    c.digest-below.ensures ∙ ap (λ s. node_of (70 - s.depth) s.depth s.entries) c.deref.ensures
-    ∙ few_below (70 - c.in-Thin.part.value.depth) (70 - c.self.inside.depth) c.in-Thin.part.value.depth c.self.inside.depth c.in-Thin.part.value.entries few
-    ∙ ap (λ b. node_of (70 - c.self.inside.depth) c.self.inside.depth (entries_of b)) (sym c.in-Thin.is)
-    ∙ ap (λ s. node_of (70 - s.depth) s.depth s.entries) c.self.view_is
-
-pub returns-else-self-lt2-2 : goal.returns-else-self-lt2-2
-returns-else-self-lt2-2 t c =
-    let shape : IsThin c.self.inside.depth c.in-Thin.only c.in-Thin.part.value = rw c.in-Thin.is at c.self.invariant.shaped in
-    let sized : c.self.inside.size ≡ min (length c.in-Thin.part.value.entries) 2 = rw c.in-Thin.is at c.self.invariant.sized in
-    let many : 2 ≤ length c.in-Thin.part.value.entries = omega (arith, sized, c.if-self-lt2-2.false) in
-    c.lone_part.ensures ∙ many_below c.self.inside.depth c.in-Thin.only c.in-Thin.part.value c.digest-below.result shape many
-    (c.digest-below.ensures ∙ ap (λ s. node_of (70 - s.depth) s.depth s.entries) c.deref.ensures)
-    ∙ ap (λ b. node_of (70 - c.self.inside.depth) c.self.inside.depth (entries_of b)) (sym c.in-Thin.is)
-    ∙ ap (λ s. node_of (70 - s.depth) s.depth s.entries) c.self.view_is

@@ -1,10 +1,11 @@
--- A lone entry has the digits or not, and none has another digit than the lone part.
-use Rattle.std.proofs.Common.{◌≡◌, ◌<◌, ◌-◌, refl, sym, ap, ◌∙◌, arith}
-use Rattle.spl_state.specs.Root.{digit_of}
+-- A lone entry has the digits or not, and so have all entries of a lone part.
+use Rattle.std.proofs.Common.{◌≡◌, ◌≤◌, ◌-◌, sym, ap, subst, ◌∙◌, arith}
 use Rattle.spl_state.specs.Levels.{node_of}
-use Rattle.spl_state.specs.Kept.{IsThin, entries_of, thin_digit}
+use Rattle.spl_state.specs.Runs.{AllAlong}
+use Rattle.spl_state.specs.Kept.{IsThin, entries_of, thin_run}
 use Rattle.spl_state.proofs.Prefixes.{digest_one, digest_other}
-use Rattle.spl_state.proofs.Thin.{digest_not, ends_digit}
+use Rattle.spl_state.proofs.Runs.{along_below}
+use Rattle.spl_state.proofs.Thin.{digest_not, digest_along, left_path}
 use Rattle.spl_state.proofs.tree.Tree.+digest_at.Goals as goal
 
 pub returns-then-same_between : goal.returns-then-same_between
@@ -21,13 +22,54 @@ returns-else-same_between t c =
     (ap entries_of (sym c.in-Leaf.is) ∙ ap (λ s. s.entries) c.here.view_is) (sym c.same_between.ensures ∙ c.if-same_between.false) (ap (λ s. s.depth) c.here.view_is)
     ∙ ap (node_of (70 - c.args.digits) c.args.digits) c.below-here.ensures.shared
 
-pub returns-in-Thin : goal.returns-in-Thin
-returns-in-Thin t c =
+pub returns-then-deref-digits : goal.returns-then-deref-digits
+returns-then-deref-digits t c =
     let here = c.below-here.result.now in
-    let shape : IsThin c.here.inside.depth c.in-Thin.field-0 c.in-Thin.field-1.value = rw c.in-Thin.is at c.here.invariant.shaped in
-    let depth : c.here.inside.depth ≡ here.depth = ap (λ s. s.depth) c.here.view_is in
-    let deep : c.here.inside.depth < c.args.digits = omega (arith, depth, c.if-here-digits.false, c.below-here.ensures.low) in
-    digest_not c.args.digits c.here.inside.depth (digit_of c.args.address.now.0 c.here.inside.depth) c.in-Thin.field-0 here.depth c.args.address.now here.entries c.in-Thin.field-1.value shape refl
-    (ends_digit c.here.inside.depth c.args.digits here c.args.address.now c.in-Thin.field-0 depth deep (ap thin_digit (sym c.in-Thin.is) ∙ ap (λ s. s.thin) c.here.view_is) c.below-here.ensures.ends)
-    deep depth (ap entries_of (sym c.in-Thin.is) ∙ ap (λ s. s.entries) c.here.view_is)
+    let d = c.here.inside.depth in
+    let part = c.in-Thin.part.value in
+    let shape : IsThin d c.in-Thin.path part = rw c.in-Thin.is at c.here.invariant.shaped in
+    let depth : d ≡ here.depth = ap (λ s. s.depth) c.here.view_is in
+    let stands : c.behind-part.inside.depth ≡ part.depth = ap (λ s. s.depth) (c.behind-part.view_is ∙ c.deref.ensures) in
+    let within : part.depth ≤ c.args.digits = omega (arith, stands, c.if-deref-digits.true) in
+    digest_not c.args.digits part.depth d c.in-Thin.path here.depth c.args.address.now here.entries part shape
+    (left_path d c.args.digits here c.args.address.now c.in-Thin.path part depth within (ap thin_run (sym c.in-Thin.is) ∙ ap (λ s. s.thin) c.here.view_is) c.below-here.ensures.left)
+    (omega (arith, shape.low)) within (omega arith) depth (ap entries_of (sym c.in-Thin.is) ∙ ap (λ s. s.entries) c.here.view_is)
+    ∙ ap (node_of (70 - c.args.digits) c.args.digits) c.below-here.ensures.shared
+
+pub returns-then-not-same_between : goal.returns-then-not-same_between
+returns-then-not-same_between t c =
+    let here = c.below-here.result.now in
+    let d = c.here.inside.depth in
+    let part = c.in-Thin.part.value in
+    let shape : IsThin d c.in-Thin.path part = rw c.in-Thin.is at c.here.invariant.shaped in
+    let depth : d ≡ here.depth = ap (λ s. s.depth) c.here.view_is in
+    let stands : c.behind-part.inside.depth ≡ part.depth = ap (λ s. s.depth) (c.behind-part.view_is ∙ c.deref.ensures) in
+    digest_not c.args.digits c.args.digits d c.in-Thin.path here.depth c.args.address.now here.entries part shape
+    (sym c.same_between-in-Thin.ensures ∙ c.if-not-same_between.true)
+    (omega (arith, depth, c.below-here.ensures.low)) (omega arith) (omega (arith, stands, c.if-deref-digits.false)) depth (ap entries_of (sym c.in-Thin.is) ∙ ap (λ s. s.entries) c.here.view_is)
+    ∙ ap (node_of (70 - c.args.digits) c.args.digits) c.below-here.ensures.shared
+
+pub raised-requires-clause-along : goal.raised-requires-clause-along
+raised-requires-clause-along t c =
+    let here = c.below-here.result.now in
+    let d = c.here.inside.depth in
+    let part = c.in-Thin.part.value in
+    let shape : IsThin d c.in-Thin.path part = rw c.in-Thin.is at c.here.invariant.shaped in
+    let depth : d ≡ here.depth = ap (λ s. s.depth) c.here.view_is in
+    let stands : c.behind-part.inside.depth ≡ part.depth = ap (λ s. s.depth) (c.behind-part.view_is ∙ c.deref.ensures) in
+    subst (λ s. AllAlong s.depth c.args.digits c.in-Thin.path s.entries) (sym c.deref-in-Thin.ensures)
+    (along_below d c.args.digits part.depth c.in-Thin.path part.entries (omega (arith, depth, c.below-here.ensures.low)) (omega (arith, stands, c.if-deref-digits.false)) shape.digits)
+
+pub returns-else-not-same_between : goal.returns-else-not-same_between
+returns-else-not-same_between t c =
+    let here = c.below-here.result.now in
+    let d = c.here.inside.depth in
+    let part = c.in-Thin.part.value in
+    let shape : IsThin d c.in-Thin.path part = rw c.in-Thin.is at c.here.invariant.shaped in
+    let depth : d ≡ here.depth = ap (λ s. s.depth) c.here.view_is in
+    let stands : c.behind-part.inside.depth ≡ part.depth = ap (λ s. s.depth) (c.behind-part.view_is ∙ c.deref.ensures) in
+    digest_along c.args.digits d c.in-Thin.path here.depth c.args.address.now here.entries part c.raised.result
+    (c.raised.ensures ∙ ap (λ s. node_of (70 - c.args.digits) c.args.digits s.entries) c.deref-in-Thin.ensures) shape
+    (sym c.same_between-in-Thin.ensures ∙ c.if-not-same_between.false)
+    (omega (arith, depth, c.below-here.ensures.low)) (omega (arith, stands, c.if-deref-digits.false)) depth (ap entries_of (sym c.in-Thin.is) ∙ ap (λ s. s.entries) c.here.view_is)
     ∙ ap (node_of (70 - c.args.digits) c.args.digits) c.below-here.ensures.shared

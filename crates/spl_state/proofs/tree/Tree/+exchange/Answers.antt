@@ -1,10 +1,10 @@
 -- The parts are those of before, and the part of the address's digit is written.
-use Rattle.std.proofs.Common.{◌<◌, ◌≤◌, length, min, sym, ap, subst, ◌∙◌, arith}
-use Rattle.spl_state.specs.Digits.{tail_cmp}
-use Rattle.spl_state.specs.Kept.{IsInner, IsThin, all_entries, entries_of, thin_digit}
+use Rattle.std.proofs.Common.{◌<◌, ◌≤◌, ◌-◌, length, min, sym, ap, subst, ◌∙◌, arith}
+use Rattle.spl_state.specs.Digits.{tail_cmp, same_digits}
+use Rattle.spl_state.specs.Kept.{IsInner, IsThin, all_entries, entries_of, thin_run}
 use Rattle.spl_state.specs.declared.tree.Body.TheVariants.{Inner}
 use Rattle.spl_state.proofs.Steps.{kept_stale, inner_inserted, former_below, size_grown}
-use Rattle.spl_state.proofs.Thin.{former_in, room_digit}
+use Rattle.spl_state.proofs.Thin.{former_in, room_path}
 use Rattle.spl_state.proofs.tree.Tree.+exchange.Goals as goal
 
 pub invariant_of-self-in-Inner : goal.invariant_of-self-in-Inner
@@ -25,11 +25,15 @@ returns-in-Inner-clause-replaced t c =
 
 pub returns-in-Thin-clause-replaced : goal.returns-in-Thin-clause-replaced
 returns-in-Thin-clause-replaced t c =
-    let shape : IsThin c.self.inside.depth c.in-Thin.field-0 c.in-Thin.part.value = rw c.in-Thin.is at c.self.invariant.shaped in
-    let here : IsThin c.self.inside.depth c.in-Thin.field-0 c.deref_mut.result.now = subst (IsThin c.self.inside.depth c.in-Thin.field-0) (sym c.deref_mut.ensures.value) shape in
-    let at = room_digit c.self.inside.depth c.make_room.new.self c.args.address.now c.in-Thin.field-0 (ap (λ s. s.depth) c.self.view_is)
-    (ap thin_digit (sym c.in-Thin.is) ∙ ap (λ s. s.thin) c.self.view_is) c.in_ok-make_room.ensures.room.1 in
-    former_in c.exchange-done-in-Thin.result c.exchange-done-in-Thin.new.value c.self.inside.depth c.in-Thin.field-0 c.args.self.now.depth c.args.address.now c.args.self.now.entries c.deref_mut.result.now here at
+    let d = c.self.inside.depth in
+    let path = c.in-Thin.field-0 in
+    let part = c.in-Thin.part.value in
+    let shape : IsThin d path part = rw c.in-Thin.is at c.self.invariant.shaped in
+    let here : IsThin d path c.deref_mut.result.now = subst (IsThin d path) (sym c.deref_mut.ensures.value) shape in
+    let at = room_path d c.make_room.new.self c.args.address.now path part (ap (λ s. s.depth) c.self.view_is)
+    (ap thin_run (sym c.in-Thin.is) ∙ ap (λ s. s.thin) c.self.view_is) c.in_ok-make_room.ensures.room.1 in
+    former_in c.exchange-done-in-Thin.result c.exchange-done-in-Thin.new.value d path c.args.self.now.depth c.args.address.now c.args.self.now.entries c.deref_mut.result.now here
+    (ap (λ s. same_digits (s.depth - d) d c.args.address.now path) c.deref_mut.ensures.value ∙ at)
     (ap (λ s. s.depth) c.self.view_is ∙ c.make_room.ensures.depth)
     (ap (λ s. s.entries) c.deref_mut.ensures.value ∙ ap entries_of (sym c.in-Thin.is) ∙ ap (λ s. s.entries) c.self.view_is ∙ c.make_room.ensures.entries) c.exchange-done-in-Thin.ensures.replaced
 

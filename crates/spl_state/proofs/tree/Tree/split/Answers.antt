@@ -1,23 +1,18 @@
--- The lone entry is all that the parts have.
-use Rattle.std.proofs.Common.{◌∙◌, ◌+◌, ◌<◌, ap, sym, subst, length, replicate, min, ◌-◌}
-use Rattle.spl_state.specs.Levels.{node_of}
-use Rattle.spl_state.specs.Kept.{AllDigit, IsKept, empty_part}
-use Rattle.spl_state.proofs.Steps.{kept_deeper, moved_entries, moved_inner}
+-- What stands here is all that the parts have.
+use Rattle.std.proofs.Common.{◌≡◌, ◌+◌, ◌<◌, length, min, replicate, sym, ap, subst, ◌∙◌}
+use Rattle.spl_state.specs.Kept.{AllDigit, empty_part}
+use Rattle.spl_state.specs.declared.tree.Body.TheVariants.{Inner}
+use Rattle.spl_state.proofs.Steps.{kept_stale, inner_alone, entries_alone}
 use Rattle.spl_state.proofs.tree.Tree.split.Goals as goal
-
-pub invariant_of-lone : goal.invariant_of-lone
-invariant_of-lone c =
-    subst (IsKept (c.self.inside.depth + 1) c.self.inside.size c.self.inside.fresh c.self.inside.digest) (sym c.replace-body.ensures.value)
-    (kept_deeper c.self.inside.depth c.self.inside.size c.self.inside.fresh c.self.inside.digest c.self.inside.body c.self.invariant
-    (ap (λ s. s.inner) c.self.view_is ∙ c.requires.outer) (ap (λ s. length s.entries) c.self.view_is ∙ c.requires.lone))
 
 pub invariant_of-self : goal.invariant_of-self
 invariant_of-self c =
-    let empty = c.requires.parts ∙ ap (λ s. replicate 16 (empty_part (s.depth + 1))) (sym c.self.view_is) in
-    let all = moved_entries c.self.inside.depth c.args.digit c.self.inside.body c.replace-body.result c.args.parts.items c.replace-body.ensures.value c.requires.small empty in
-    record {
-      sized = c.self.invariant.sized ∙ ap (λ xs. min (length xs) 2) (sym all);
-      digested = λ f. c.self.invariant.digested f ∙ ap (node_of (70 - c.self.inside.depth) c.self.inside.depth) (sym all);
-      shaped = moved_inner c.self.inside.depth c.args.digit c.self.inside.body c.replace-body.result c.args.parts.items (subst (λ s. s.depth < 70) (sym c.self.view_is) c.requires.depth)
-          c.replace-body.ensures.value (subst (λ s. AllDigit s.depth c.args.digit s.entries) (sym c.self.view_is) c.requires.digit) empty;
-    }
+    let lower = c.lowered-lower.result in
+    let was : c.self-2.inside.depth ≡ c.self.inside.depth = ap (λ s. s.depth) (c.self-2.view_is ∙ c.replace.ensures.after ∙ c.new.ensures) in
+    let now : c.self-2.inside.depth ≡ c.args.self.now.depth = was ∙ ap (λ s. s.depth) c.self.view_is in
+    let empty : c.args.parts.items ≡ replicate 16 (empty_part (c.self-2.inside.depth + 1)) = c.requires.parts ∙ ap (λ d. replicate 16 (empty_part (d + 1))) (sym now) in
+    let depth : lower.depth ≡ c.self-2.inside.depth + 1 = c.lowered-lower.ensures.depth ∙ ap (λ d. d + 1) (sym was) in
+    let entries : lower.entries ≡ c.args.self.now.entries = c.lowered-lower.ensures.entries ∙ ap (λ s. s.entries) c.replace.ensures.value in
+    kept_stale _ _ _ (Inner _) (c.size-self-inside.ensures ∙ ap (λ es. min (length es) 2) (sym (entries_alone (c.self-2.inside.depth + 1) c.args.digit c.args.parts.items lower c.requires.small empty)))
+    (inner_alone c.self-2.inside.depth c.args.digit c.args.parts.items lower (subst (λ d. d < 70) (sym now) c.requires.depth) empty depth
+    (subst (λ d. AllDigit d c.args.digit lower.entries) (sym now) (subst (AllDigit c.args.self.now.depth c.args.digit) (sym entries) c.requires.digit)))
