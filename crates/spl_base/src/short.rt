@@ -1,5 +1,5 @@
 //! A short list of bytes that lies in the value itself.
-ghost use Rattle.std.specs.Prelude.{◌≡◌, ℕ, ◌<◌, ◌≤◌, List, length, Some, nat_eq, refl};
+ghost use Rattle.std.specs.Prelude.{◌≡◌, ℕ, ◌-◌, ◌<◌, ◌≤◌, List, length, Some, nat_eq, refl};
 ghost use Rattle.spl_base.specs.Cells.{spelled_from};
 ghost use Rattle.std.specs.Ordering.{nat_cmp};
 ghost use Rattle.std.specs.Cmp.{partial_equiv_from_equiv};
@@ -67,6 +67,50 @@ impl<const CAP: usize> Short<CAP> {
         let c = &self.cells;
         u64::from_be_bytes([c[0], c[1], c[2], c[3], c[4], c[5], c[6], c[7]])
     }
+
+    /// The last eight cells as one number, the highest byte first.
+    fn last(&self) -> u64
+        requires { 8 ≤ CAP }
+        ensures { result ≡ spelled_from self.now (CAP - 8) 8 0 }
+    {
+        let c = &self.cells;
+        let at = CAP - 8;
+        u64::from_be_bytes([
+            c[at],
+            c[at + 1],
+            c[at + 2],
+            c[at + 3],
+            c[at + 4],
+            c[at + 5],
+            c[at + 6],
+            c[at + 7],
+        ])
+    }
+
+    // Most texts differ in their heads, so that one compare of numbers settles them. The first
+    // and the last eight of up to sixteen cells are all of them.
+    fn order(&self, other: &Self) -> Ordering
+        requires { 8 ≤ CAP }
+        ensures { result ≡ slice_cmp nat_cmp self.now other.now }
+    {
+        let these = self.bytes();
+        let those = other.bytes();
+        let first = self.head();
+        let second = other.head();
+        if first != second {
+            first.cmp(&second)
+        } else if CAP > 16 {
+            tail_order(these, those)
+        } else {
+            let third = self.last();
+            let fourth = other.last();
+            if third == fourth {
+                self.len.cmp(&other.len)
+            } else {
+                third.cmp(&fourth)
+            }
+        }
+    }
 }
 
 impl<const CAP: usize> PartialEq for Short<CAP> {
@@ -75,8 +119,25 @@ impl<const CAP: usize> PartialEq for Short<CAP> {
     ghost laws = { partial_equiv_from_equiv nat_list_eq_equiv };
 
     fn eq(&self, other: &Self) -> bool {
-        self.bytes() == other.bytes()
+        let these = self.bytes();
+        let those = other.bytes();
+        if CAP < 8 {
+            these == those
+        } else if CAP <= 16 {
+            self.len == other.len && self.head() == other.head() && self.last() == other.last()
+        } else {
+            self.len == other.len && self.head() == other.head() && same_tail(these, those)
+        }
     }
+}
+
+// Whether texts of one length with the same head are the same.
+fn same_tail(these: &[u8], those: &[u8]) -> bool
+    requires lengths { length these.now ≡ length those.now }
+    requires heads { spelled_from these.now 0 8 0 ≡ spelled_from those.now 0 8 0 }
+    ensures { result ≡ pointwise nat_eq these.now those.now }
+{
+    these.len() <= 8 || these[8..] == those[8..]
 }
 
 impl<const CAP: usize> Eq for Short<CAP> {
@@ -104,23 +165,22 @@ impl<const CAP: usize> Ord for Short<CAP> {
 
     fn cmp(&self, other: &Self) -> Ordering {
         if CAP >= 8 {
-            order(self.head(), other.head(), self.bytes(), other.bytes())
+            self.order(other)
         } else {
             self.bytes().cmp(other.bytes())
         }
     }
 }
 
-// Most texts differ in their heads, so that one compare of numbers settles them.
-fn order(first: u64, second: u64, these: &[u8], those: &[u8]) -> Ordering
-    requires first { first ≡ spelled_from these.now 0 8 0 }
-    requires second { second ≡ spelled_from those.now 0 8 0 }
+// The order of texts with the same head.
+fn tail_order(these: &[u8], those: &[u8]) -> Ordering
+    requires heads { spelled_from these.now 0 8 0 ≡ spelled_from those.now 0 8 0 }
     ensures { result ≡ slice_cmp nat_cmp these.now those.now }
 {
-    if first == second {
-        these.cmp(those)
+    if these.len() <= 8 || those.len() <= 8 {
+        these.len().cmp(&those.len())
     } else {
-        first.cmp(&second)
+        these[8..].cmp(&those[8..])
     }
 }
 
