@@ -14,13 +14,18 @@ use std::alloc::{AllocError, Global};
 fn is_lower_digit(b: u8) -> bool
     ensures { result ≡ is_lower_digit b }
 {
-    b.is_ascii_digit() || (b'a'..=b'f').contains(&b)
+    matches!(b, b'0'..=b'9' | b'a'..=b'f')
 }
 
+// It looks at all bytes, so that many are tested at once.
 fn are_digits(bytes: &[u8]) -> bool
     ensures { result ≡ list_all is_lower_digit bytes.now }
 {
-    bytes.iter().all(|b| is_lower_digit(*b))
+    let mut all = true;
+    for b in bytes {
+        all &= is_lower_digit(*b);
+    }
+    all
 }
 
 /// Reads as many bytes as there are cells, two digits for each, and tells whether that is what the

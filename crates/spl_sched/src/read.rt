@@ -98,20 +98,24 @@ fn read_no_step(alloc: Global, name: &[u8], words: &mut WordReader) -> Result<Li
     ensures { Reads result (read_kind line_kinds None name.now words.old) }
 {
     if name == b"calm".as_slice() {
-        read_calm(alloc, words)
-    } else if name == b"stop".as_slice() {
-        Ok(Line::Stop(read_node(alloc, words)?))
-    } else if name == b"start".as_slice() {
-        Ok(Line::Start(read_node(alloc, words)?))
-    } else if name == b"roll".as_slice() {
-        Ok(Line::Roll(read_node(alloc, words)?))
-    } else if name == b"cut".as_slice() {
-        read_cut(alloc, words)
-    } else if name == b"fail".as_slice() {
-        read_failing(alloc, words)
-    } else {
-        Err(LineFault::BadLine)
+        return read_calm(alloc, words);
     }
+    if name == b"stop".as_slice() {
+        return Ok(Line::Stop(read_node(alloc, words)?));
+    }
+    if name == b"start".as_slice() {
+        return Ok(Line::Start(read_node(alloc, words)?));
+    }
+    if name == b"roll".as_slice() {
+        return Ok(Line::Roll(read_node(alloc, words)?));
+    }
+    if name == b"cut".as_slice() {
+        return read_cut(alloc, words);
+    }
+    if name == b"fail".as_slice() {
+        return read_failing(alloc, words);
+    }
+    Err(LineFault::BadLine)
 }
 
 /// The step that the words behind its name spell, as a line.

@@ -218,26 +218,33 @@ fn plain_event(name: &[u8]) -> Option<Event>
     ensures { result ≡ named plain_events name.now }
 {
     if name == b"show".as_slice() {
-        Some(Event::Show)
-    } else if name == b"root".as_slice() {
-        Some(Event::Root)
-    } else if name == b"history".as_slice() {
-        Some(Event::History)
-    } else if name == b"tick".as_slice() {
-        Some(Event::Tick)
-    } else if name == b"expire".as_slice() {
-        Some(Event::Expire)
-    } else if name == b"remove".as_slice() {
-        Some(Event::Remove)
-    } else if name == b"abandon".as_slice() {
-        Some(Event::Abandon)
-    } else if name == b"purge".as_slice() {
-        Some(Event::Purge)
-    } else if name == b"detail".as_slice() {
-        Some(Event::Detail)
-    } else {
-        None
+        return Some(Event::Show);
     }
+    if name == b"root".as_slice() {
+        return Some(Event::Root);
+    }
+    if name == b"history".as_slice() {
+        return Some(Event::History);
+    }
+    if name == b"tick".as_slice() {
+        return Some(Event::Tick);
+    }
+    if name == b"expire".as_slice() {
+        return Some(Event::Expire);
+    }
+    if name == b"remove".as_slice() {
+        return Some(Event::Remove);
+    }
+    if name == b"abandon".as_slice() {
+        return Some(Event::Abandon);
+    }
+    if name == b"purge".as_slice() {
+        return Some(Event::Purge);
+    }
+    if name == b"detail".as_slice() {
+        return Some(Event::Detail);
+    }
+    None
 }
 
 /// The step that the words behind its name spell, where it is one with such words.
@@ -245,26 +252,33 @@ fn read_worded(alloc: Global, name: &[u8], words: &mut WordReader) -> Result<Ste
     ensures { Reads result (read_kind worded_kinds None name.now words.old) }
 {
     if name == b"propose".as_slice() {
-        read_proposal(alloc, words)
-    } else if name == b"vote".as_slice() {
-        read_vote(alloc, words)
-    } else if name == b"submit".as_slice() {
-        read_batch(alloc, words)
-    } else if name == b"get".as_slice() {
-        read_get(alloc, words)
-    } else if name == b"list".as_slice() {
-        read_list(alloc, words)
-    } else if name == b"status".as_slice() {
-        read_status(alloc, words)
-    } else if name == b"receipt".as_slice() {
-        read_receipt(alloc, words)
-    } else if name == b"route".as_slice() {
-        read_route(alloc, words)
-    } else if name == b"deliver".as_slice() {
-        read_delivery(alloc, words)
-    } else {
-        Err(LineFault::BadLine)
+        return read_proposal(alloc, words);
     }
+    if name == b"vote".as_slice() {
+        return read_vote(alloc, words);
+    }
+    if name == b"submit".as_slice() {
+        return read_batch(alloc, words);
+    }
+    if name == b"get".as_slice() {
+        return read_get(alloc, words);
+    }
+    if name == b"list".as_slice() {
+        return read_list(alloc, words);
+    }
+    if name == b"status".as_slice() {
+        return read_status(alloc, words);
+    }
+    if name == b"receipt".as_slice() {
+        return read_receipt(alloc, words);
+    }
+    if name == b"route".as_slice() {
+        return read_route(alloc, words);
+    }
+    if name == b"deliver".as_slice() {
+        return read_delivery(alloc, words);
+    }
+    Err(LineFault::BadLine)
 }
 
 /// The step that the words behind its name spell. Those without more words come first, so that
