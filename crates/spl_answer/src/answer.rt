@@ -133,11 +133,11 @@ pub fn append_text(answer: &Answer, out: &mut Vec<u8>) -> Result<(), AllocError>
             append(b"ok detail ", out)?;
             append_detail(
                 definition.get(),
-                hash,
+                hash.get(),
                 *lifecycle,
                 *mark,
                 accepted,
-                requester,
+                requester.get(),
                 out,
             )
         }

@@ -41,6 +41,17 @@ impl<T> Boxed<T> {
     {
         &self.inner
     }
+
+    /// The same value, shared. An error comes for want of memory alone.
+    pub fn share(&self) -> Result<Boxed<T>, AllocError>
+    where
+        T: Drop,
+        ensures { IfOk result (λ b. b ≡ self.now) }
+    {
+        Ok(Boxed {
+            inner: self.inner.clone()?,
+        })
+    }
 }
 
 impl<T: Field> Field for Boxed<T> {
@@ -64,8 +75,6 @@ impl<T: Value> Value for Boxed<T> {
     }
 
     fn copy(&self, _alloc: Global) -> Result<Boxed<T>, AllocError> {
-        Ok(Boxed {
-            inner: self.inner.clone()?,
-        })
+        self.share()
     }
 }

@@ -73,7 +73,7 @@ pub fn put_list<T: Field>(items: &[T], w: &mut Writer) -> Result<(), AllocError>
 fn take_items<T: Field>(alloc: Global, r: &mut Reader, count: u16) -> Result<Listing<T>, Malformed>
     ensures { Reads (λ x. x) result r.new (items_at T.form.parse count r.old) }
 {
-    let mut items = Listing::new(alloc);
+    let mut items = Listing::with_room(alloc, r.left().min(usize::from(count)))?;
     for _ in 0..count {
         let x = T::take_parts(alloc, r)?;
         items.push(x)?;

@@ -43,6 +43,13 @@ impl<'a> Reader<'a> {
         self.place
     }
 
+    /// How many bytes are left.
+    pub fn left(&self) -> usize
+        ensures { result ≡ length self.now.rest }
+    {
+        self.rest.len()
+    }
+
     // A second reader that stands here.
     pub(crate) fn fork(&self) -> Reader<'a>
         ensures { result ≡ self.now }

@@ -5,3 +5,4 @@ pub mod Says
 pub mod Mays
 pub mod Asks
 pub mod Hears
+pub mod Due

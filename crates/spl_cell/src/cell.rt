@@ -5,10 +5,11 @@ ghost use Rattle.spl_wire.specs.Changes.{change_form};
 ghost use Rattle.spl_wire.specs.Bounds.{IsWritable, AllSendable};
 ghost use Rattle.spl_wire.specs.Grouping.{grouped, records_of};
 ghost use Rattle.spl_rules.specs.Pack.{packed};
-ghost use Rattle.spl_rules.specs.Cells.{Empty, is_bound, is_empty_cell, is_open_cell};
+ghost use Rattle.spl_rules.specs.Cells.{Empty, is_bound, is_empty_cell};
 ghost use Rattle.spl_rules.specs.Plans.{plan_of};
 ghost use Rattle.spl_rules.specs.Changes.{made, applied, moved_cell, stopped_cell};
 ghost use Rattle.spl_rules.specs.Valid.{IsValid, IsFor, FitsMoveAt, are_formed, are_legal};
+ghost use Rattle.spl_cell.specs.Due.{due};
 ghost use Rattle.spl_cell.specs.States.{IsStill};
 
 use crate::site::Site;
@@ -92,14 +93,15 @@ impl Cell {
         matches!(self.state, State::Empty)
     }
 
-    /// Whether the cell is bound, and the node takes part.
-    pub fn is_open(&self) -> bool
+    /// Whether a tick has anything to do here; None where the cell isn't bound, or the node takes no
+    /// part any more.
+    pub fn due(&self) -> Option<bool>
         requires running { self.now.halted ≡ false }
-        ensures { result ≡ is_open_cell self.now.state }
+        ensures { result ≡ due self.now.site self.now.state }
     {
         match &self.state {
-            State::Held(held) => held.is_open(),
-            _ => false,
+            State::Held(held) => held.due(),
+            _ => None,
         }
     }
 

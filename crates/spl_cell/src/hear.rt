@@ -1,13 +1,13 @@
 //! A message comes from another node.
 ghost use Rattle.std.specs.Prelude.{◌==◌, ◌≡◌, ◌&&◌, true, false, not, None, IfOk};
 ghost use Rattle.std.specs.Str.{bytes_eq};
-ghost use Rattle.spl_agree.specs.Fits.{generation_of};
+ghost use Rattle.spl_agree.specs.Fits.{IsDue, generation_of};
 ghost use Rattle.spl_circuit.specs.Nodes.{position};
 ghost use Rattle.spl_circuit.specs.Rules.{admin, broken, is_member};
 ghost use Rattle.spl_rules.specs.Cells as rules;
 ghost use Rattle.spl_rules.specs.Cells.{Acts, Delivered, admin_group, can_bind, declines, returns_unbound, ignores, asked_first, forwarded_first, hears_first};
 ghost use Rattle.spl_rules.specs.Events.{hears_admin, other_hears};
-ghost use Rattle.spl_rules.specs.Plans.{planned};
+ghost use Rattle.spl_rules.specs.Plans.{admin_lane, group_row, planned};
 ghost use Rattle.spl_rules.specs.Valid.{IsValid};
 ghost use Rattle.spl_cell.specs.Hears.{hears};
 ghost use Rattle.spl_cell.specs.States.{cell_of, IsAt};
@@ -19,10 +19,10 @@ use crate::node::position;
 use crate::plans::{Say, refuses, tells_only};
 use crate::site::Site;
 use crate::state::State;
-use spl_agree::{CommitMsg, Generation, GroupEvent, Note, Place, Reason, Round};
+use spl_agree::{CommitMsg, Generation, GroupEvent, GroupPlan, Note, Place, Reason, Round};
 use spl_base::{NodeId, Value};
 use spl_circuit::{Act, ActKind, Definition, RouteFault};
-use spl_wire::{Answer, Message, Plan, Refusal};
+use spl_wire::{Answer, ChangeList, Message, Plan, Refusal};
 use std::alloc::{AllocError, Global};
 
 /// The coordinator can't bind the definition.
@@ -46,20 +46,33 @@ pub(crate) fn generation_of<V>(body: &CommitMsg<V>) -> Generation
 }
 
 impl Held {
+    /// What a message gives in the admin group.
+    #[tactic(auto, using(crate::proofs::Seats::group_here))]
+    fn admin_heard(
+        &self,
+        alloc: Global,
+        sender: u8,
+        body: &CommitMsg<Act>,
+    ) -> Result<GroupPlan<Act>, AllocError>
+        requires settled { IsSettledHeld self.now }
+        requires due { IsDue (admin_group self.now.bound.definition) (position self.now.bound.definition.members self.now.site.here) self.now.bound.acts (GroupEvent.From sender body.now) }
+        ensures { IfOk result (λ p. p ≡ group_row (admin_lane self.now.site self.now.bound.definition) self.now.bound.acts (GroupEvent.From sender body.now)) }
+    {
+        self.acts.hear(alloc, sender, body)
+    }
+
     /// A message of the cell's generation, from another node.
     #[tactic(auto, using(crate::proofs::Positions::sender_facts))]
-    fn hears(&self, alloc: Global, from: &NodeId, body: CommitMsg<Act>) -> Result<Plan, AllocError>
+    fn hears(&self, alloc: Global, from: &NodeId, body: &CommitMsg<Act>) -> Result<Plan, AllocError>
         requires settled { IsSettledHeld self.now }
         requires other { bytes_eq from.now self.now.site.here ≡ false }
-        requires same { generation_of body ≡ self.now.bound.definition.generation }
-        ensures { IfOk result (λ p. p ≡ planned self.now.site (Acts Delivered self.now.bound from.now (GroupEvent.From (position self.now.bound.definition.members from.now) body))) }
+        requires same { generation_of body.now ≡ self.now.bound.definition.generation }
+        ensures { IfOk result (λ p. p ≡ planned self.now.site (Acts Delivered self.now.bound from.now (GroupEvent.From (position self.now.bound.definition.members from.now) body.now))) }
     {
         let sender = position(self.definition().members.as_slice(), from);
-        let event = GroupEvent::From {
-            sender,
-            message: body,
-        };
-        self.acts(alloc, Say::Delivered, from, &event)
+        let plan = self.admin_heard(alloc, sender, body)?;
+        let first = ChangeList::new(alloc);
+        self.site.admin_plan(alloc, Say::Delivered, first, self.definition(), from, plan)
     }
 }
 
@@ -285,19 +298,19 @@ impl Site {
         state: &State,
         held: &Held,
         from: &NodeId,
-        body: CommitMsg<Act>,
+        body: &CommitMsg<Act>,
     ) -> Result<Plan, AllocError>
         requires site { held.now.site ≡ site_of self.now }
         requires bound { cell_of state.now ≡ rules.Held held.now.bound }
         requires settled { IsSettledHeld held.now }
         requires other { bytes_eq from.now self.now.here ≡ false }
-        ensures { IfOk result (λ p. p ≡ planned (site_of self.now) (hears_admin (site_of self.now) held.now.bound from.now body)) }
+        ensures { IfOk result (λ p. p ≡ planned (site_of self.now) (hears_admin (site_of self.now) held.now.bound from.now body.now)) }
     {
         if !held.is_open() {
-            return self.hears_first(alloc, state, from, &body);
+            return self.hears_first(alloc, state, from, body);
         }
-        if generation_of(&body) != held.definition().generation {
-            return self.hears_first(alloc, state, from, &body);
+        if generation_of(body) != held.definition().generation {
+            return self.hears_first(alloc, state, from, body);
         }
         held.hears(alloc, from, body)
     }
@@ -318,14 +331,14 @@ impl Site {
         let State::Held(held) = state else {
             return self.other_hears(alloc, state, from, message);
         };
-        match message.copy(alloc)? {
+        match message {
             Message::Admin { body, .. } => self.hears_admin(alloc, state, held, from, body),
             Message::Scabbard {
                 from: service,
                 to,
                 body,
                 ..
-            } => held.hears_service(alloc, from, &service, &to, body),
+            } => held.hears_service(alloc, from, service, to, body),
         }
     }
 }

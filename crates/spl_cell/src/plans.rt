@@ -10,7 +10,7 @@ ghost use Rattle.spl_cell.specs.Sites.{site_of};
 use crate::durable::{with_acts, with_batches};
 use crate::site::Site;
 use spl_agree::{GroupPlan, Note, OpenMove};
-use spl_base::NodeId;
+use spl_base::{Boxed, NodeId};
 use spl_circuit::{Act, Definition};
 use spl_command::Batch;
 use spl_wire::{Answer, ChangeList, Message, Outgoing, Plan, Refusal, SendList};
@@ -75,6 +75,7 @@ impl Site {
         ensures { IfOk result (λ p. p ≡ planned (site_of self.now) (Replies note to.now message)) }
     {
         let mut sends = SendList::new(alloc);
+        let message = Boxed::new(alloc, message)?;
         sends.push(Outgoing { to: *to, message })?;
         Ok(Plan {
             answer: Answer::Delivered(note),
@@ -110,7 +111,7 @@ impl Site {
             changes: with_acts(first, changes)?,
             admin: opening,
             service: OpenMove::Keep,
-            sends: self.with_admin_sends(none, definition, back, sends)?,
+            sends: self.with_admin_sends(alloc, none, definition, back, sends)?,
         })
     }
 
@@ -140,7 +141,7 @@ impl Site {
             changes: with_batches(ChangeList::new(alloc), changes)?,
             admin: OpenMove::Keep,
             service: opening,
-            sends: self.with_service_sends(none, definition, back, sends)?,
+            sends: self.with_service_sends(alloc, none, definition, back, sends)?,
         })
     }
 
@@ -158,7 +159,7 @@ impl Site {
     {
         let changes = with_acts(ChangeList::new(alloc), acts.changes)?;
         let none = SendList::new(alloc);
-        let sends = self.with_admin_sends(none, definition, &self.here, acts.sends)?;
+        let sends = self.with_admin_sends(alloc, none, definition, &self.here, acts.sends)?;
         Ok(Plan {
             answer: Answer::Notes {
                 admin: acts.note,
@@ -167,7 +168,7 @@ impl Site {
             changes: with_batches(changes, batches.changes)?,
             admin: acts.opening,
             service: batches.opening,
-            sends: self.with_service_sends(sends, definition, &self.here, batches.sends)?,
+            sends: self.with_service_sends(alloc, sends, definition, &self.here, batches.sends)?,
         })
     }
 }

@@ -7,11 +7,11 @@ ghost use Rattle.spl_cell.specs.Sites.{site_of};
 use crate::node::node_or;
 use crate::site::Site;
 use spl_agree::{CommitMsg, GroupSends};
-use spl_base::{NodeId, ServiceId};
+use spl_base::{Boxed, NodeId, ServiceId};
 use spl_circuit::{Act, Definition};
 use spl_command::Batch;
 use spl_wire::{Message, Outgoing, SendList};
-use std::alloc::AllocError;
+use std::alloc::{AllocError, Global};
 
 /// The service on a member.
 #[tactic(auto, using(crate::proofs::Rosters::member_served))]
@@ -28,6 +28,7 @@ impl Site {
     #[tactic(auto, using(crate::proofs::Steps::sends_more))]
     pub(crate) fn with_admin_sends(
         &self,
+        alloc: Global,
         first: SendList,
         definition: &Definition,
         back: &NodeId,
@@ -40,6 +41,7 @@ impl Site {
             let to = node_or(definition.members.as_slice(), back, position);
             let circuit = self.circuit;
             let message = Message::Admin { circuit, body };
+            let message = Boxed::new(alloc, message)?;
             sends.push(Outgoing { to, message })?;
         }
         Ok(sends)
@@ -48,14 +50,15 @@ impl Site {
     /// A message from the service here to that on a member.
     fn service_message(
         &self,
+        alloc: Global,
         definition: &Definition,
         to: NodeId,
         body: CommitMsg<Batch>,
-    ) -> Outgoing
+    ) -> Result<Outgoing, AllocError>
         requires valid { broken definition.now ≡ None }
         requires member { is_member definition.now self.now.here ≡ true }
         requires sent { is_member definition.now to ≡ true }
-        ensures { result ≡ record { to = to; message = (service_lane (site_of self.now) definition.now).message to body } }
+        ensures { IfOk result (λ o. o ≡ record { to = to; message = (service_lane (site_of self.now) definition.now).message to body }) }
     {
         let message = Message::Scabbard {
             circuit: self.circuit,
@@ -63,13 +66,15 @@ impl Site {
             to: service_on(definition, &to),
             body,
         };
-        Outgoing { to, message }
+        let message = Boxed::new(alloc, message)?;
+        Ok(Outgoing { to, message })
     }
 
     /// The messages, and behind them those of the service group of a definition.
     #[tactic(auto, using(crate::proofs::Steps::sends_more, crate::proofs::Rosters::node_or_member))]
     pub(crate) fn with_service_sends(
         &self,
+        alloc: Global,
         first: SendList,
         definition: &Definition,
         back: &NodeId,
@@ -83,7 +88,7 @@ impl Site {
         let mut sends = first;
         for (position, body) in messages.into_vec() {
             let to = node_or(definition.members.as_slice(), back, position);
-            sends.push(self.service_message(definition, to, body))?;
+            sends.push(self.service_message(alloc, definition, to, body)?)?;
         }
         Ok(sends)
     }

@@ -1,13 +1,13 @@
 //! A message comes from a service on another node.
 ghost use Rattle.std.specs.Prelude.{◌≡◌, true, false, IsOk, IfOk};
 ghost use Rattle.std.specs.Str.{bytes_eq};
-ghost use Rattle.spl_agree.specs.Fits.{generation_of};
+ghost use Rattle.spl_agree.specs.Fits.{IsDue, generation_of};
 ghost use Rattle.spl_circuit.specs.Nodes.{position};
 ghost use Rattle.spl_circuit.specs.Rules.{is_member};
 ghost use Rattle.spl_wire.specs.declared.answer.Answer.TheVariants as answer;
-ghost use Rattle.spl_rules.specs.Cells.{Replies, Serves, Tells, Delivered};
+ghost use Rattle.spl_rules.specs.Cells.{Replies, Serves, Tells, Delivered, service_group};
 ghost use Rattle.spl_rules.specs.Batches.{way, routed, serves_other, hears_routed, hears_service};
-ghost use Rattle.spl_rules.specs.Plans.{planned};
+ghost use Rattle.spl_rules.specs.Plans.{service_lane, group_row, planned};
 ghost use Rattle.spl_cell.specs.Views.{IsSettledHeld};
 ghost use Rattle.spl_cell.specs.Sites.{site_of};
 
@@ -16,7 +16,7 @@ use crate::held::Held;
 use crate::node::position;
 use crate::plans::{Say, refuses, tells_only};
 use crate::site::Site;
-use spl_agree::{CommitMsg, Generation, GroupEvent, Note, Round};
+use spl_agree::{CommitMsg, Generation, GroupEvent, GroupPlan, Note, Round};
 use spl_base::{NodeId, ServiceId};
 use spl_command::Batch;
 use spl_router::{RouteFault, route};
@@ -102,26 +102,39 @@ impl Held {
         }
     }
 
+    /// What a message gives in the service group.
+    #[tactic(auto, using(crate::proofs::Seats::group_here))]
+    fn service_heard(
+        &self,
+        alloc: Global,
+        sender: u8,
+        body: &CommitMsg<Batch>,
+    ) -> Result<GroupPlan<Batch>, AllocError>
+        requires settled { IsSettledHeld self.now }
+        requires due { IsDue (service_group self.now.bound.definition) (position self.now.bound.definition.members self.now.site.here) self.now.bound.batches (GroupEvent.From sender body.now) }
+        ensures { IfOk result (λ p. p ≡ group_row (service_lane self.now.site self.now.bound.definition) self.now.bound.batches (GroupEvent.From sender body.now)) }
+    {
+        self.batches.hear(alloc, sender, body)
+    }
+
     /// A message of the cell's generation that is routed.
     #[tactic(auto, using(crate::proofs::Positions::sender_facts))]
     fn hears_batch(
         &self,
         alloc: Global,
         from_node: &NodeId,
-        body: CommitMsg<Batch>,
+        body: &CommitMsg<Batch>,
     ) -> Result<Plan, AllocError>
         requires settled { IsSettledHeld self.now }
         requires other { bytes_eq from_node.now self.now.site.here ≡ false }
         requires member { is_member self.now.bound.definition from_node.now ≡ true }
-        requires same { generation_of body ≡ self.now.bound.definition.generation }
-        ensures { IfOk result (λ p. p ≡ planned self.now.site (Serves Delivered self.now.bound from_node.now (GroupEvent.From (position self.now.bound.definition.members from_node.now) body))) }
+        requires same { generation_of body.now ≡ self.now.bound.definition.generation }
+        ensures { IfOk result (λ p. p ≡ planned self.now.site (Serves Delivered self.now.bound from_node.now (GroupEvent.From (position self.now.bound.definition.members from_node.now) body.now))) }
     {
         let sender = position(self.definition().members.as_slice(), from_node);
-        let event = GroupEvent::From {
-            sender,
-            message: body,
-        };
-        self.serves(alloc, Say::Delivered, from_node, &event)
+        let plan = self.service_heard(alloc, sender, body)?;
+        self.site
+            .service_plan(alloc, Say::Delivered, self.definition(), from_node, plan)
     }
 
     /// A message that is routed.
@@ -131,15 +144,15 @@ impl Held {
         from_node: &NodeId,
         from: &ServiceId,
         to: &ServiceId,
-        body: CommitMsg<Batch>,
+        body: &CommitMsg<Batch>,
     ) -> Result<Plan, AllocError>
         requires settled { IsSettledHeld self.now }
         requires other { bytes_eq from_node.now self.now.site.here ≡ false }
         requires member { is_member self.now.bound.definition from_node.now ≡ true }
-        ensures { IfOk result (λ p. p ≡ planned self.now.site (hears_routed self.now.site self.now.bound from_node.now from.now to.now body)) }
+        ensures { IfOk result (λ p. p ≡ planned self.now.site (hears_routed self.now.site self.now.bound from_node.now from.now to.now body.now)) }
     {
-        if generation_of(&body) != self.definition().generation {
-            return self.site.serves_other(alloc, from_node, from, to, &body);
+        if generation_of(body) != self.definition().generation {
+            return self.site.serves_other(alloc, from_node, from, to, body);
         }
         self.hears_batch(alloc, from_node, body)
     }
@@ -151,11 +164,11 @@ impl Held {
         from_node: &NodeId,
         from: &ServiceId,
         to: &ServiceId,
-        body: CommitMsg<Batch>,
+        body: &CommitMsg<Batch>,
     ) -> Result<Plan, AllocError>
         requires settled { IsSettledHeld self.now }
         requires other { bytes_eq from_node.now self.now.site.here ≡ false }
-        ensures { IfOk result (λ p. p ≡ planned self.now.site (hears_service self.now.site self.now.bound from_node.now from.now to.now body)) }
+        ensures { IfOk result (λ p. p ≡ planned self.now.site (hears_service self.now.site self.now.bound from_node.now from.now to.now body.now)) }
     {
         match self.way(from_node, from, to) {
             Ok(()) => self.hears_routed(alloc, from_node, from, to, body),

@@ -6,7 +6,7 @@ ghost use Rattle.spl_rules.specs.Plans.{planned};
 use crate::held::Held;
 use crate::plans::tells_only;
 use spl_agree::Agreed;
-use spl_base::Value;
+use spl_base::{Boxed, Value};
 use spl_commit::Member;
 use spl_wire::{Answer, Plan};
 use std::alloc::{AllocError, Global};
@@ -85,11 +85,11 @@ impl Held {
         let hash = self.definition().hash(alloc)?;
         let answer = Answer::Detail {
             definition: self.shared_definition().copy(alloc)?,
-            hash,
+            hash: Boxed::new(alloc, hash)?,
             lifecycle: self.lifecycle(),
             mark: self.mark,
             accepted: self.accepted_in_order(alloc)?,
-            requester: self.requester(),
+            requester: Boxed::new(alloc, self.requester())?,
         };
         Ok(tells_only(alloc, answer))
     }

@@ -1,10 +1,13 @@
 //! The groups of a cell are asked to go on.
 ghost use Rattle.std.specs.Prelude.{◌≡◌, IfOk};
+ghost use Rattle.spl_agree.specs.declared.event.GroupEvent.TheVariants as group;
 ghost use Rattle.spl_agree.specs.Fits.{IsDue};
 ghost use Rattle.spl_circuit.specs.Nodes.{position};
-ghost use Rattle.spl_rules.specs.Cells.{Turns, admin_group, service_group};
+ghost use Rattle.spl_rules.specs.Cells.{Held as Bound, Turns, admin_group, service_group};
 ghost use Rattle.spl_rules.specs.Events.{turns};
-ghost use Rattle.spl_rules.specs.Plans.{planned};
+ghost use Rattle.spl_rules.specs.Idle.{is_idle_note};
+ghost use Rattle.spl_rules.specs.Plans.{admin_lane, service_lane, group_row, planned};
+ghost use Rattle.spl_cell.specs.Due.{due};
 ghost use Rattle.spl_cell.specs.Views.{IsSettledHeld};
 
 use crate::held::Held;
@@ -53,5 +56,33 @@ impl Held {
             return self.both(alloc, act, batch);
         }
         self.acts(alloc, Say::Alone, &self.site.here, act)
+    }
+
+    /// Whether a tick has nothing to do in the admin group.
+    fn acts_rest(&self) -> bool
+        ensures { result ≡ is_idle_note (group_row (admin_lane self.now.site self.now.bound.definition) self.now.bound.acts group.Tick).note }
+    {
+        self.acts.rests()
+    }
+
+    /// Whether a tick has nothing to do in the service group.
+    fn batches_rest(&self) -> bool
+        ensures { result ≡ is_idle_note (group_row (service_lane self.now.site self.now.bound.definition) self.now.bound.batches group.Tick).note }
+    {
+        self.batches.rests()
+    }
+
+    /// Whether a tick has anything to do in the groups that go on by it; None where the node takes no
+    /// part any more.
+    pub(crate) fn due(&self) -> Option<bool>
+        ensures { result ≡ due self.now.site (Bound self.now.bound) }
+    {
+        if !self.is_open() {
+            return None;
+        }
+        if self.runs() {
+            return Some(!(self.acts_rest() && self.batches_rest()));
+        }
+        Some(!self.acts_rest())
     }
 }

@@ -191,11 +191,11 @@ fn detail(alloc: Global, rest: &str) -> Result<Answer, RowFault> {
     let definition = Boxed::new(alloc, definition(alloc, rest)?)?;
     Ok(Answer::Detail {
         definition,
-        hash: digest(),
+        hash: Boxed::new(alloc, digest())?,
         lifecycle: Lifecycle::Proposed,
         mark: Mark::Open,
         accepted,
-        requester,
+        requester: Boxed::new(alloc, requester)?,
     })
 }
 

@@ -23,6 +23,20 @@ impl<M: Agreed> Member<M> {
         self.row(alloc, event)
     }
 
+    /// What a message of the group's generation from another position gives, as `plan` of that event.
+    pub fn hear(
+        &self,
+        alloc: Global,
+        sender: u8,
+        message: &CommitMsg<M::Value>,
+    ) -> Result<GroupPlan<M::Value>, AllocError>
+        requires settled { IsSettled (group_by (M.rules self.now.content) self.now) self.now.here self.now.state }
+        requires due { IsDue (group_by (M.rules self.now.content) self.now) self.now.here self.now.state (GroupEvent.From sender message.now) }
+        ensures { IfOk result (λ p. p ≡ row (group_by (M.rules self.now.content) self.now) self.now.here self.now.state (GroupEvent.From sender message.now)) }
+    {
+        self.on_message(alloc, sender, message)
+    }
+
     /// What any event gives.
     pub(crate) fn row(
         &self,

@@ -1,7 +1,9 @@
 //! What a tick, an expire and a submitted value give.
-ghost use Rattle.std.specs.Prelude.{◌≡◌, IfOk};
+ghost use Rattle.std.specs.Prelude.{◌≡◌, ◌↔◌, ◌&&◌, ◌||◌, true, slice_get, is_none, IfOk};
 ghost use Rattle.spl_agree.specs.Member.{below_but};
-ghost use Rattle.spl_agree.specs.Rows.{on_tick, coordinator_tick, ask_again, try_first, judge_first, refuse_first, begin_at, member_tick, forward_first, on_expire, expire_open, on_submit};
+ghost use Rattle.spl_agree.specs.declared.event.GroupEvent.TheVariants as event;
+ghost use Rattle.spl_agree.specs.declared.event.Note.TheVariants as note;
+ghost use Rattle.spl_agree.specs.Rows.{row, nothing, on_tick, coordinator_tick, ask_again, try_first, judge_first, refuse_first, begin_at, member_tick, forward_first, on_expire, expire_open, on_submit};
 ghost use Rattle.spl_coord.specs.Positions.{positions};
 ghost use Rattle.spl_commit.specs.Views.{group_by};
 
@@ -153,6 +155,37 @@ impl<M: Agreed> Member<M> {
                 self.coordinator,
                 self.forward(alloc, value)?,
             ),
+        }
+    }
+
+    /// Whether a tick finds nothing to do.
+    pub fn rests(&self) -> bool
+        ensures { (result ≡ true) ↔ (row (group_by (M.rules self.now.content) self.now) self.now.here self.now.state event.Tick ≡ nothing note.Idle) }
+    {
+        if self.here == self.coordinator {
+            self.leads_nothing()
+        } else {
+            self.follows_nothing()
+        }
+    }
+
+    /// At the coordinator: nothing is pending, or no round can begin.
+    fn leads_nothing(&self) -> bool
+        ensures { result ≡ (is_none (slice_get self.now.state.pending 0) || (is_none self.now.state.opened && Rattle.spl_agree.specs.Member.is_spent self.now.state)) }
+    {
+        match self.first() {
+            None => true,
+            Some(_) => self.opened.is_none() && self.is_spent(),
+        }
+    }
+
+    /// At another member: nothing is promised, and nothing is pending.
+    fn follows_nothing(&self) -> bool
+        ensures { result ≡ (is_none self.now.state.promise && is_none (slice_get self.now.state.pending 0)) }
+    {
+        match self.promise {
+            Some(_) => false,
+            None => self.first().is_none(),
         }
     }
 

@@ -34,7 +34,14 @@ impl Records {
         ensures ok { OnOk result (self.new ≡ self.old ++ bytes.now ∷ []) }
         ensures err { OnErr result (self.new ≡ self.old) }
     {
-        let piece = Piece::from(alloc, bytes)?;
+        self.take(Piece::from(alloc, bytes)?)
+    }
+
+    /// One record more, at the end, kept without a copy. After want of memory the list is as it was.
+    pub fn take(&mut self, piece: Piece) -> Result<(), AllocError>
+        ensures ok { OnOk result (self.new ≡ self.old ++ piece ∷ []) }
+        ensures err { OnErr result (self.new ≡ self.old) }
+    {
         self.items.push(piece)?;
         Ok(())
     }

@@ -37,11 +37,11 @@ pub(crate) fn detail(alloc: Global, bytes: &[u8], times: u32) -> Result<u64, Fau
     }
     let answer = Answer::Detail {
         definition: Boxed::new(alloc, definition)?,
-        hash,
+        hash: Boxed::new(alloc, hash)?,
         lifecycle: Lifecycle::Proposed,
         mark: Mark::Open,
         accepted,
-        requester,
+        requester: Boxed::new(alloc, requester)?,
     };
     written(alloc, &answer, times)
 }

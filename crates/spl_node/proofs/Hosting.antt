@@ -1,11 +1,12 @@
 -- A host that is up, stops and starts.
-use Rattle.std.proofs.Common.{◌≡◌, ℕ, Bool, true, false, ◌&&◌, List, [], Option, Some, None, IfSome, OnOk, Result, Ok, Err, refl, sym, ◌∙◌, ap, subst}
-use Rattle.std.specs.Prelude.{is_some, not, IsSome, IsOk, IfNone}
+use Rattle.std.proofs.Common.{◌≡◌, ℕ, Bool, true, false, List, [], Option, Some, None, IfSome, OnOk, Result, Ok, Err, refl, sym, ◌∙◌, ap, subst}
+use Rattle.std.specs.Prelude.{is_some, not, if◌then◌else◌, IsSome, IsOk, IfNone}
 use Rattle.std.specs.Result.{IsOkAnd, result_unwrap_or}
 use Rattle.spl_circuit.specs.Nodes.{NodeId, CircuitId}
 use Rattle.spl_edge.specs.Image.{Image, IsSettled, settled_at}
-use Rattle.spl_rules.specs.Cells.{Cell, is_open_cell}
+use Rattle.spl_rules.specs.Cells.{Cell}
 use Rattle.spl_rules.specs.Changes.{stopped_cell}
+use Rattle.spl_cell.specs.Due.{due}
 use Rattle.spl_snapshot.specs.Counting.{pair_records, pair_records_of, IfBoth, TellsAs}
 use Rattle.spl_snapshot.specs.Pairs.{PairStands}
 use Rattle.spl_node.specs.declared.node.Node.{Node}
@@ -86,9 +87,11 @@ pub ok_both : {A E : Type 0} {P Q S : Type 0} (r : Result A E) → (P → Q → 
 ok_both (Ok a) f p q = f p q
 ok_both (Err e) f p q = p
 
--- whether it is up, and a circuit is open at its node
-pub open_up : (here : NodeId) (o : Option Node) (n : Node) (first second : Option Image) (c : CircuitId) → o ≡ Some n → is_open_cell (cell_of n c) ≡ (is_some o && is_open_cell (kept_cell here o first second c))
-open_up here o n first second c is = subst (λ (x : Option Node). is_open_cell (cell_of n c) ≡ (is_some x && is_open_cell (kept_cell here x first second c))) (sym is) refl
+-- whether a tick has anything to do there, where it is up
+pub due_up : (here : NodeId) (o : Option Node) (n : Node) (first second : Option Image) (c : CircuitId) → o ≡ Some n → here_of n ≡ here → due (site_at (here_of n) c) (cell_of n c) ≡ (if is_some o then due (site_at here c) (kept_cell here o first second c) else None)
+due_up here o n first second c is same =
+    subst (λ (x : Option Node). due (site_at (here_of n) c) (cell_of n c) ≡ (if is_some x then due (site_at here c) (kept_cell here x first second c) else None)) (sym is)
+    (ap (λ (k : NodeId). due (site_at k c) (cell_of n c)) same)
 
 -- ---- a stop
 

@@ -7,9 +7,10 @@ ghost use Rattle.std.specs.List.Sorted.{IsStrictlySortedBy};
 ghost use Rattle.std.specs.Map.{keys_of};
 ghost use Rattle.spl_circuit.specs.Nodes.{NodeId, CircuitId};
 ghost use Rattle.spl_wire.specs.Forms.{record_form};
-ghost use Rattle.spl_rules.specs.Cells.{Empty, Site, is_open_cell};
+ghost use Rattle.spl_rules.specs.Cells.{Empty, Site};
 ghost use Rattle.spl_rules.specs.Plans.{plan_of};
 ghost use Rattle.spl_rules.specs.Valid.{IsFor};
+ghost use Rattle.spl_cell.specs.Due.{due};
 ghost use Rattle.spl_cell.specs.States.{IsStill};
 ghost use Rattle.spl_node.specs.Done.{IsGiven, no_circuit};
 ghost use Rattle.spl_node.specs.Kept.{cell_at, cells_after, cells_with, AreOwn, IsOwn};
@@ -97,13 +98,14 @@ impl Cells {
         let _ = self.map.len();
     }
 
-    /// Whether the cell of a circuit is bound and open.
-    pub fn is_open(&self, circuit: &CircuitId) -> bool
-        ensures { result ≡ is_open_cell (cell_at self.now.entries circuit.now) }
+    /// Whether a tick has anything to do at the cell of a circuit; None where it isn't bound and
+    /// open.
+    pub fn due(&self, circuit: &CircuitId) -> Option<bool>
+        ensures { result ≡ due (site_at self.now.here circuit.now) (cell_at self.now.entries circuit.now) }
     {
         match self.map.get(circuit) {
-            Some(cell) => cell.is_open(),
-            None => false,
+            Some(cell) => cell.due(),
+            None => None,
         }
     }
 

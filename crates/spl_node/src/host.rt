@@ -1,5 +1,5 @@
 //! A node that goes down and comes up over its two disks.
-ghost use Rattle.std.specs.Prelude.{◌≡◌, ◌≢◌, ◌≤◌, ◌<◌, ◌⊎◌, ◌&&◌, [], ℕ, Bool, true, false, Option, OnOk, IfOk, IfSome, IsErrOf};
+ghost use Rattle.std.specs.Prelude.{◌≡◌, ◌≢◌, ◌≤◌, ◌<◌, ◌⊎◌, [], ℕ, true, false, if◌then◌else◌, Option, None, is_some, OnOk, IfOk, IfSome, IsErrOf};
 ghost use Rattle.std.specs.List.{list_any};
 ghost use Rattle.std.specs.Option.{option_copied};
 ghost use Rattle.std.specs.List.Sorted.{IsStrictlySortedBy};
@@ -13,10 +13,11 @@ ghost use Rattle.spl_journal.specs.Make.{IsBlank};
 ghost use Rattle.spl_journal.specs.Reads.{Stays};
 ghost use Rattle.spl_snapshot.specs.Counting.{chosen, second_counts, IfBoth, PairLeaves, PairLeavesInTurn, TellsAs, Onward};
 ghost use Rattle.spl_wire.specs.Bounds.{AllSendable};
-ghost use Rattle.spl_rules.specs.Cells.{Empty, is_bound, is_open_cell};
+ghost use Rattle.spl_rules.specs.Cells.{Empty, is_bound};
 ghost use Rattle.spl_rules.specs.Changes.{stopped_cell};
 ghost use Rattle.spl_rules.specs.Plans.{plan_of};
 ghost use Rattle.spl_rules.specs.Valid.{IsFor, are_legal};
+ghost use Rattle.spl_cell.specs.Due.{due};
 ghost use Rattle.spl_node.specs.Hosts.{BothTell, HostStands, PicksOld, host_id, host_cell, host_second, is_up};
 ghost use Rattle.spl_node.specs.Kept.{cells_after};
 ghost use Rattle.spl_node.specs.Records.{site_at};
@@ -82,13 +83,15 @@ impl Host {
         self.node.is_some()
     }
 
-    /// Whether it is up, and a circuit is bound here and open.
-    pub fn is_open(&self, circuit: &CircuitId) -> bool
-        ensures { (first second : Option Image) → result ≡ (is_up self.now && is_open_cell (host_cell self.now first second circuit.now)) }
+    /// Whether a tick has anything to do at the cell of a circuit; None where the node is down, or
+    /// the cell isn't bound and open.
+    pub fn due(&self, circuit: &CircuitId) -> Option<bool>
+        ensures due { (first second : Option Image) → HostStands self.now first second → result ≡ (if is_up self.now then due (site_at (host_id self.now) circuit.now) (host_cell self.now first second circuit.now) else None) }
+        ensures up { is_some result ≡ true → is_up self.now ≡ true }
     {
         match &self.node {
-            Some(node) => node.is_open(circuit),
-            None => false,
+            Some(node) => node.due(circuit),
+            None => None,
         }
     }
 

@@ -19,9 +19,10 @@ ghost use Rattle.spl_snapshot.specs.Pairs.{PairStands, is_second, journal_in};
 ghost use Rattle.spl_snapshot.specs.Stopped.{kept_on};
 ghost use Rattle.spl_wire.specs.Bounds.{AllSendable};
 ghost use Rattle.spl_wire.specs.Grouping.{record_of};
-ghost use Rattle.spl_rules.specs.Cells.{Empty, is_bound, is_open_cell};
+ghost use Rattle.spl_rules.specs.Cells.{Empty, is_bound};
 ghost use Rattle.spl_rules.specs.Plans.{plan_of};
 ghost use Rattle.spl_rules.specs.Valid.{IsFor, are_legal};
+ghost use Rattle.spl_cell.specs.Due.{due};
 ghost use Rattle.spl_node.specs.Kept.{cells_after, packed_node};
 ghost use Rattle.spl_node.specs.Records.{is_record, record_bytes, site_at};
 ghost use Rattle.spl_node.specs.Stands.{NodeStands, StandFor, here_of, cell_of, is_halted};
@@ -91,11 +92,12 @@ impl Node {
         self.halted || self.pairing.halted()
     }
 
-    /// Whether a circuit is bound here and open.
-    pub fn is_open(&self, circuit: &CircuitId) -> bool
-        ensures { result ≡ is_open_cell (cell_of self.now circuit.now) }
+    /// Whether a tick has anything to do at the cell of a circuit; None where it isn't bound and
+    /// open.
+    pub fn due(&self, circuit: &CircuitId) -> Option<bool>
+        ensures { result ≡ due (site_at (here_of self.now) circuit.now) (cell_of self.now circuit.now) }
     {
-        self.cells.is_open(circuit)
+        self.cells.due(circuit)
     }
 
     /// 0 where the journal on the first disk counts, and 1 where that on the second does.

@@ -20,7 +20,7 @@ fn put_record(records: &mut Records, alloc: Global, item: &Record) -> Result<(),
     ensures { OnOk result (records.new ≡ records.old ++ record_bytes item.now ∷ []) }
 {
     let bytes = item.write(alloc)?;
-    records.push(alloc, bytes.bytes())
+    records.take(bytes)
 }
 
 /// The byte forms of records join a list.

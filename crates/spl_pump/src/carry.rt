@@ -6,6 +6,7 @@ ghost use Rattle.spl_pump.specs.Moves.{HasCause};
 ghost use Rattle.spl_pump.specs.Wires.{AllTaken, Carried, GoesOn, only};
 
 use crate::fault::PumpFault;
+use spl_base::Boxed;
 use spl_edge::Fabric;
 use spl_wire::Message;
 use std::alloc::Global;
@@ -32,8 +33,8 @@ pub trait Carry {
         fabric: &mut F,
         from: u8,
         to: u8,
-        message: &Message,
-    ) -> Result<Message, PumpFault>
+        message: &Boxed<Message>,
+    ) -> Result<Boxed<Message>, PumpFault>
         requires apart { from ≢ to }
         requires from { from < slots self.old }
         requires to { to < slots self.old }

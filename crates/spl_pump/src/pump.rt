@@ -14,7 +14,7 @@ ghost use Rattle.spl_pump.specs.Wires.{GoesOn, hand, hands, hands_if, on_pair, o
 use crate::carry::Carry;
 use crate::exchange::exchange;
 use crate::fault::PumpFault;
-use spl_base::{Malformed, NodeId, Piece};
+use spl_base::{Boxed, Malformed, NodeId, Piece};
 use spl_edge::Fabric;
 use spl_link::{Opening, a_peer_is_heard};
 use spl_registry::Registry;
@@ -233,7 +233,7 @@ impl Pump {
         from: u8,
         to: u8,
         message: &Message,
-    ) -> Result<Message, PumpFault>
+    ) -> Result<Boxed<Message>, PumpFault>
         requires apart { from ≢ to }
         requires from { from < length self.old.entries }
         requires to { to < length self.old.entries }
@@ -251,7 +251,8 @@ impl Pump {
         ensures lied { IfErr result (λ e. LiesOf e (F.put_on fabric.new) (F.taken_on fabric.new)) }
     {
         self.meet(alloc, fabric, from.min(to), from.max(to))?;
-        let copy = send(alloc, fabric, from, to, message)?;
+        let got = send(alloc, fabric, from, to, message)?;
+        let copy = Boxed::new(alloc, got)?;
         Ok(copy)
     }
 }
@@ -278,9 +279,9 @@ impl Carry for Pump {
         fabric: &mut F,
         from: u8,
         to: u8,
-        message: &Message,
-    ) -> Result<Message, PumpFault> {
-        match self.carry_over(alloc, fabric, from, to, message) {
+        message: &Boxed<Message>,
+    ) -> Result<Boxed<Message>, PumpFault> {
+        match self.carry_over(alloc, fabric, from, to, message.get()) {
             Ok(copy) => Ok(copy),
             Err(fault) => {
                 self.failed = true;

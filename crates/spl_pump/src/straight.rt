@@ -3,6 +3,7 @@ ghost use Rattle.std.specs.Prelude.{◌≡◌, [], false, refl};
 
 use crate::carry::Carry;
 use crate::fault::PumpFault;
+use spl_base::Boxed;
 use spl_edge::Fabric;
 use spl_wire::Message;
 use std::alloc::Global;
@@ -35,13 +36,13 @@ impl Carry for Straight {
     #[tactic(auto, using(crate::proofs::Wires::puts_nothing, crate::proofs::Wires::puts_nothing_part, crate::proofs::Carrying::goes_on_silent))]
     fn carry<F: Fabric>(
         &mut self,
-        alloc: Global,
+        _alloc: Global,
         _fabric: &mut F,
         _from: u8,
         _to: u8,
-        message: &Message,
-    ) -> Result<Message, PumpFault> {
-        match message.copy(alloc) {
+        message: &Boxed<Message>,
+    ) -> Result<Boxed<Message>, PumpFault> {
+        match message.share() {
             Ok(copy) => Ok(copy),
             Err(_) => {
                 self.failed = true;

@@ -1,6 +1,8 @@
 -- Changes that come one by one become the records of their groups.
-use Rattle.std.proofs.Common.{◌≡◌, ◌⊎◌, ℕ, true, false, List, [], ◌∷◌, ◌++◌, append_assoc, append-nil, length, refl, sym, ap, subst, ◌∙◌, inl, inr, arith}
-use Rattle.std.specs.Prelude.{nat_lt}
+use Rattle.std.proofs.Common.{◌≡◌, ◌⊎◌, ◌<◌, ℕ, Bool, true, false, List, [], ◌∷◌, ◌++◌, append_assoc, append-nil, length, IsTrue, refl, sym, ap, subst, ◌∙◌, inl, inr, arith}
+use Rattle.std.specs.Prelude.{nat_lt, get_or}
+use Rattle.std.specs.List.{list_all}
+use Rattle.std.proofs.lemmas.List.Folds.{list_all_at}
 use Rattle.spl_agree.proofs.Tests.{bool_cases, lt_is}
 use Rattle.spl_wire.specs.declared.change.Change.{Change}
 use Rattle.spl_wire.specs.declared.record.Record.{Record}
@@ -68,3 +70,11 @@ pub packed_finished : (c : List ℕ) (came : List Change) (p : PackingView) → 
 packed_finished c came p h =
     subst (λ (z : List ℕ). finished (record { circuit = z; records = p.records; group = p.group }) ≡ records_of c (grouped c came)) (sym h.circuit)
     (packed_done c came p.records p.group h.records)
+
+-- an item of a list of which all pass
+pub passes_at : {A : Type 0} (p : A → Bool) (xs : List A) (i : ℕ) (x : A) → IsTrue (list_all p xs) → (i < length xs) × (x ≡ get_or xs i x) → IsTrue (p x)
+passes_at p xs i x all here = go (bool_cases (p x))
+  where
+    go : (p x ≡ true) ⊎ (p x ≡ false) → IsTrue (p x)
+    go (inl q) = q
+    go (inr q) = absurd (let none = list_all_at p xs i x here.0 (ap p (sym here.1) ∙ q) in cc)

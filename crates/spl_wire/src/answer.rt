@@ -107,11 +107,11 @@ pub enum Answer {
     /// The definition that a cell is bound to with its hash, and where the circuit stands here.
     Detail {
         definition: Boxed<Definition>,
-        hash: [u8; 32],
+        hash: Boxed<[u8; 32]>,
         lifecycle: Lifecycle,
         mark: Mark,
         accepted: Members,
-        requester: Option<NodeId>,
+        requester: Boxed<Option<NodeId>>,
     },
     /// How many batches are committed here, and the root of the state that they left.
     Root {

@@ -12,14 +12,14 @@ use std::alloc::{AllocError, Global};
 use std::marker::Model;
 use std::mem;
 
-/// The bytes that memory is taken for before the changes of a further record are written: most records are shorter.
-const ROOM: usize = 8192;
+/// The bytes that memory is taken for before a change is measured: most changes are shorter.
+const ROOM: usize = 512;
 
 /// The records of a packed cell, in order.
 pub type PackedRecords = Listing<Record>;
 
-/// Records so far, and the changes of the one that is begun, with how many bytes it has left. Their byte forms are
-/// written one behind the other, so that measuring them takes memory only now and then.
+/// Records so far, and the changes of the one that is begun, with how many bytes it has left. Each change is written
+/// over the one before to be measured, so that this takes memory only now and then.
 #[derive(Drop)]
 struct Packing {
     circuit: CircuitId,
@@ -41,16 +41,16 @@ impl Model for Packing {
     ghost invariant = { λ p. p.left ≡ most_bytes - record_size p.circuit p.group };
 }
 
-/// How many bytes the byte form of a change has, which is written behind others. An error comes for want of memory
+/// How many bytes the byte form of a change has, which is written where others were. An error comes for want of memory
 /// alone.
 fn size_of(change: &Change, written: &mut Writer) -> Result<usize, AllocError>
     requires { IsTrue (change_form.bounded change.now) }
     ensures size { IfOk result (λ n. n ≡ length (change_form.spell change.now)) }
     ensures fits { OnOk result (IsTrue (change_form.fits change.now)) }
 {
-    let before = written.bytes().len();
+    written.clear();
     change.put_parts(written)?;
-    Ok(written.bytes().len() - before)
+    Ok(written.bytes().len())
 }
 
 /// How many bytes an empty record of the circuit has left.
@@ -63,16 +63,16 @@ fn left_at_first(circuit: CircuitId) -> usize
 
 impl Packing {
     /// No record, and none begun.
-    fn new(alloc: Global, circuit: CircuitId) -> Packing
-        ensures { result ≡ record { circuit = circuit; records = []; group = [] } }
+    fn new(alloc: Global, circuit: CircuitId) -> Result<Packing, AllocError>
+        ensures { IfOk result (λ p. p ≡ record { circuit = circuit; records = []; group = [] }) }
     {
-        Packing {
+        Ok(Packing {
             circuit,
             records: Listing::new(alloc),
             group: ChangeList::new(alloc),
-            written: Writer::new(alloc),
+            written: Writer::with_room(alloc, ROOM)?,
             left: left_at_first(circuit),
-        }
+        })
     }
 
     /// Whether a change, whose byte form has so many bytes, has no place in the record that is begun.
@@ -89,9 +89,7 @@ impl Packing {
     fn close(&mut self, alloc: Global) -> Result<(), AllocError>
         ensures { OnOk result (self.new ≡ closed self.old) }
     {
-        let written = Writer::with_room(alloc, ROOM)?;
         let changes = mem::replace(&mut self.group, ChangeList::new(alloc));
-        self.written = written;
         self.left = left_at_first(self.circuit);
         let circuit = self.circuit;
         self.records.push(Record { circuit, changes })
@@ -145,7 +143,7 @@ pub fn packed_records(
     ensures ok { IfOk result (λ rs. rs ≡ records_of circuit (grouped circuit changes.items)) }
     ensures fits { OnOk result (IsTrue (list_all change_form.fits changes.items)) }
 {
-    let mut packing = Packing::new(alloc, circuit);
+    let mut packing = Packing::new(alloc, circuit)?;
     for change in changes {
         packing.take(alloc, change)?;
     }

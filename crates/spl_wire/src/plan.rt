@@ -4,13 +4,13 @@ use crate::answer::Answer;
 use crate::message::Message;
 use crate::record::ChangeList;
 use spl_agree::OpenMove;
-use spl_base::{Listing, NodeId};
+use spl_base::{Boxed, Listing, NodeId};
 
 /// A message to a node.
 #[derive(Debug, Drop)]
 pub struct Outgoing {
     pub to: NodeId,
-    pub message: Message,
+    pub message: Boxed<Message>,
 }
 
 /// Messages in the order in which they are sent.

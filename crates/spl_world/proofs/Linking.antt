@@ -155,10 +155,6 @@ fault_part f e from to m x y is part less rose lies = subst (λ (g : WorldFault)
   cause = fault_cause e from to m x y rose lies;
 })
 
--- it was, and memory for it is wanting
-pub memory_part : {B : Type 0} (r : Result B WorldFault) → IsErr r × IsErrAnd r (λ y. y ≡ NoMemory) → (xs : List Carried) (x y : LinkView) → Carries xs x y → Delivers r xs x y
-memory_part r e xs x y k = delivers_still r xs x y (off_memory r e) k
-
 -- nothing was carried yet
 pub fails_early : {B : Type 0} (r : Result B WorldFault) (f : WorldFault) → IsErr r × IsErrAnd r (λ y. y ≡ f) → is_of_links f ≡ false → (xs : List Carried) (x : LinkView) → Delivers r xs x x
 fails_early r f e off xs x = delivers_failed r f e xs x x (record {

@@ -1,18 +1,26 @@
 -- What the nodes tell of the world that they stand for.
-use Rattle.std.proofs.Common.{◌≡◌, ℕ, zero, suc, true, false, ◌||◌, List, [], ◌∷◌, Some, slice_get, refl, ap, sym, ◌∙◌, subst}
+use Rattle.std.proofs.Common.{◌≡◌, ℕ, zero, suc, Bool, true, false, ◌||◌, List, [], ◌∷◌, Some, None, slice_get, if◌then◌else◌, refl, ap, sym, ◌∙◌, subst}
 use Rattle.std.specs.Str.{bytes_eq}
 use Rattle.std.proofs.lemmas.Bool.{or_right}
 use Rattle.spl_circuit.specs.Nodes.{NodeId, CircuitId, has_node}
-use Rattle.spl_rules.specs.Cells.{is_open_cell}
-use Rattle.spl_model.specs.Worlds.{World as CircuitWorld, messages, on_pair}
+use Rattle.spl_rules.specs.Cells.{Cell}
+use Rattle.spl_cell.specs.Due.{due}
+use Rattle.spl_model.specs.Worlds.{World as CircuitWorld, site_at, messages, on_pair}
+use Rattle.spl_world.specs.Calms.{due_at}
 use Rattle.spl_world.specs.Kept.{lists_about, sent_to}
-use Rattle.spl_world.specs.Views.{Nodes, Holds, slot_id, slot_ids, view_in}
+use Rattle.spl_world.specs.Views.{Nodes, Holds, slot_id, slot_ids, slot_up, view_in}
 use Rattle.spl_world.specs.declared.slot.Slot.{Slot}
 use Rattle.spl_world.proofs.Slots.{same_at}
+use Rattle.spl_world.proofs.Up.{up_as}
 use Rattle.spl_base.specs.Booleans.{bytes_same}
 
-pub open_as : (xs : Nodes) (i : ℕ) (x : Slot) (c : CircuitId) (n : NodeId) (m : CircuitWorld) → slice_get xs.slots i ≡ Some x → slice_get (slot_ids xs.slots) i ≡ Some n → Holds c m xs → is_open_cell ((view_in xs x).cells c) ≡ is_open_cell (m.at n)
-open_as xs i x c n m there at h = ap is_open_cell ((h.each i x there).state ∙ ap m.at (same_at xs.slots i x n there at))
+-- whether a tick has anything to do at a node, and in each world that the nodes stand for
+pub due_as : (xs : Nodes) (i : ℕ) (x : Slot) (c : CircuitId) (n : NodeId) (m : CircuitWorld) → slice_get xs.slots i ≡ Some x → slice_get (slot_ids xs.slots) i ≡ Some n → Holds c m xs → (if slot_up x then due (site_at (slot_id x) c) ((view_in xs x).cells c) else None) ≡ due_at c m n
+due_as xs i x c n m there at h =
+    let same : slot_id x ≡ n = same_at xs.slots i x n there at in
+    ap (λ (b : Bool). if b then due (site_at (slot_id x) c) ((view_in xs x).cells c) else None) (up_as c m xs i x n h there at)
+    ∙ ap (λ (k : Cell). if m.up n then due (site_at (slot_id x) c) k else None) ((h.each i x there).state ∙ ap m.at same)
+    ∙ ap (λ (k : NodeId). if m.up n then due (site_at k c) (m.at n) else None) same
 
 pub has_at : (ns : List NodeId) (j : ℕ) (b : NodeId) → slice_get ns j ≡ Some b → has_node ns b ≡ true
 has_at [] j b e = absurd cc

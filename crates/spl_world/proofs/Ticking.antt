@@ -1,5 +1,5 @@
 -- The ticks of a pass, one node more.
-use Rattle.std.proofs.Common.{◌≡◌, ℕ, ◌+◌, ◌⊎◌, inl, inr, Bool, true, false, true≢false, not, ◌&&◌, ◌||◌, List, [], ◌∷◌, ◌++◌, take, drop, ◌≤◌, length, length-append, Some, slice_get, refl, ap, sym, subst, ◌∙◌, if◌then◌else◌, arith, append-nil}
+use Rattle.std.proofs.Common.{◌≡◌, ℕ, ◌+◌, ◌⊎◌, inl, inr, Bool, true, false, true≢false, not, ◌&&◌, ◌||◌, List, [], ◌∷◌, ◌++◌, take, drop, ◌≤◌, length, length-append, Option, Some, None, slice_get, refl, ap, sym, subst, ◌∙◌, if◌then◌else◌, arith, append-nil}
 use Rattle.std.specs.List.{filter, AllByRecursion}
 use Rattle.std.proofs.lemmas.List.{take-append-drop}
 use Rattle.std.proofs.lemmas.List.Elements.{filter-append}
@@ -15,11 +15,13 @@ use Rattle.spl_wire.specs.declared.plan.Plan.{Plan}
 use Rattle.spl_agree.proofs.Tests.{and_left}
 use Rattle.spl_rules.specs.Idle.{is_idle}
 use Rattle.spl_rules.specs.Plans.{tells_only, plan_of}
-use Rattle.spl_model.specs.Worlds.{World as CircuitWorld, site_at, step_world}
+use Rattle.spl_model.specs.Worlds.{World as CircuitWorld, site_at, step_plan, step_world, carried_out}
 use Rattle.spl_model.specs.Calm.{Calming, open_nodes, ticks}
 use Rattle.spl_model.specs.Quiet.{IsIdleAt}
-use Rattle.spl_world.specs.Calms.{tick_at, tick_count, IsIdleTick}
+use Rattle.spl_world.specs.Calms.{tick_at, tick_count, due_at, IsIdleTick}
 use Rattle.spl_world.specs.Views.{Nodes, Moves, ids_in}
+use Rattle.spl_rules.proofs.Idle.{idle-tick}
+use Rattle.spl_model.proofs.Unmoved.{unmoved-is, unmoved-tells}
 use Rattle.spl_projection.proofs.Ups.{ticks-up}
 use Rattle.spl_world.proofs.Calms.{ticks_more, ticks_at}
 use Rattle.spl_world.proofs.Composed.{moves_then}
@@ -117,10 +119,48 @@ tick_moves c z xs ys zs i n at so_far tick =
 pub opened_tick : (c : CircuitId) (n : NodeId) (m : CircuitWorld) → (m.up n && is_open_cell (m.at n)) ≡ true → step_world m (step.At n c event.Tick) ≡ tick_at c n m
 opened_tick c n m h = rw h refl
 
--- what a node is told by a tick where it is up
-pub idle_told : (c : CircuitId) (n : NodeId) (m : CircuitWorld) (a : Answer) → (m.up n && is_open_cell (m.at n)) ≡ true → a ≡ (plan_of (site_at n c) (m.at n) event.Tick).answer → is_idle a ≡ true → IsIdleAt c m n
-idle_told c n m a ready told idle = ap (λ (p : Plan). is_idle p.answer) (step_up m (step.At n c event.Tick) (and_left (m.up n) (is_open_cell (m.at n)) ready)) ∙ ap is_idle (sym told) ∙ idle
+-- ---- what is looked up of a tick
 
-pub not_false : (b : Bool) → not b ≡ false → b ≡ true
+abbrev gate : Bool → Bool → Bool → Option Bool
+gate u o i = if u then (if o then Some (not i) else None) else None
+
+gate_closed : (u o i : Bool) → gate u o i ≡ None → (u && o) ≡ false
+gate_closed true true i h = cc
+gate_closed true false i h = refl
+gate_closed false o i h = refl
+
+gate_open : (u o i b : Bool) → gate u o i ≡ Some b → ((u && o) ≡ true) × (not i ≡ b)
+gate_open true true i b h = (refl, cc)
+gate_open true false i b h = absurd cc
+gate_open false o i b h = absurd cc
+
+not_false : (b : Bool) → not b ≡ false → b ≡ true
 not_false true h = refl
 not_false false h = cc
+
+module _ (c : CircuitId) (n : NodeId) (m : CircuitWorld) where
+  abbrev told : Answer
+  told = (plan_of (site_at n c) (m.at n) event.Tick).answer
+
+  -- no tick is there
+  pub none_due : due_at c m n ≡ None → (m.up n && is_open_cell (m.at n)) ≡ false
+  none_due h = gate_closed (m.up n) (is_open_cell (m.at n)) (is_idle told) h
+
+  pub one_due : (b : Bool) → due_at c m n ≡ Some b → (m.up n && is_open_cell (m.at n)) ≡ true
+  one_due b h = (gate_open (m.up n) (is_open_cell (m.at n)) (is_idle told) b h).0
+
+  pub not_due : due_at c m n ≡ Some false → is_idle told ≡ true
+  not_due h = not_false (is_idle told) (gate_open (m.up n) (is_open_cell (m.at n)) (is_idle told) false h).1
+
+  planned_is : (m.up n && is_open_cell (m.at n)) ≡ true → step_plan m (step.At n c event.Tick) ≡ plan_of (site_at n c) (m.at n) event.Tick
+  planned_is ready = step_up m (step.At n c event.Tick) (and_left (m.up n) (is_open_cell (m.at n)) ready)
+
+  -- one with nothing to do is idle, and leaves the world as it is
+  pub idle_due : due_at c m n ≡ Some false → IsIdleAt c m n
+  idle_due h = ap (λ (p : Plan). is_idle p.answer) (planned_is (one_due false h)) ∙ not_due h
+
+  pub stays_due : due_at c m n ≡ Some false → m ≡ tick_at c n m
+  stays_due h =
+      let alone : step_plan m (step.At n c event.Tick) ≡ tells_only told = planned_is (one_due false h) ∙ idle-tick (site_at n c) (m.at n) (not_due h) in
+      let same : step_world m (step.At n c event.Tick) ≡ m = ap (carried_out m n) alone ∙ unmoved-is m (carried_out m n (tells_only told)) (unmoved-tells m n told) in
+      sym same ∙ opened_tick c n m (one_due false h)

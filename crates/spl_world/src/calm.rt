@@ -6,7 +6,6 @@ ghost use Rattle.spl_circuit.specs.Nodes.{NodeId as Id};
 ghost use Rattle.spl_model.specs.Worlds.{World as CircuitWorld};
 ghost use Rattle.spl_model.specs.Calm.{Calming, calming, ticks, open_nodes, delivers, pair_turn, to_all, from_all, pass, calm};
 ghost use Rattle.spl_model.specs.Quiet.{IsIdleAt, IsQuiet};
-ghost use Rattle.spl_rules.specs.Idle.{is_idle_note, is_idle};
 ghost use Rattle.spl_world.specs.Calms.{tick_at, tick_count, IsIdleTick, AreRows, IsSquare, row_of, sent_count};
 ghost use Rattle.spl_world.specs.Counts.{Counts};
 ghost use Rattle.spl_world.specs.Disks.{Images, LeavesDisks, bench, images, is_of_journal};
@@ -17,29 +16,11 @@ ghost use Rattle.spl_world.specs.Views.{IsPlace, Holds, IsAt, IsUp, Moves, Sits,
 
 use crate::fault::WorldFault;
 use crate::world::World;
-use spl_agree::Note;
 use spl_base::CircuitId;
 use spl_edge::{Disk, Fabric, Pair};
 use spl_pump::Carry;
-use spl_wire::{Answer, Event};
+use spl_wire::Event;
 use std::alloc::{AllocError, Global};
-
-// A group has nothing to do, or it isn't there.
-fn is_idle_note(note: Note) -> bool
-    ensures { result ≡ is_idle_note note }
-{
-    matches!(note, Note::Idle | Note::Off)
-}
-
-// No group of the cell has anything to do.
-fn is_idle(answer: &Answer) -> bool
-    ensures { result ≡ is_idle answer.now }
-{
-    match answer {
-        Answer::Notes { admin, service } => is_idle_note(*admin) && is_idle_note(*service),
-        _ => false,
-    }
-}
 
 impl World {
     // How many messages about a circuit a node sent to each node.
@@ -68,7 +49,7 @@ impl World {
     }
 
     // A tick at a node, where it is up and the circuit bound and open there. Answers whether there
-    // was anything to do.
+    // was anything to do; where there is nothing, the event is counted alone.
     fn tick<D: Disk>(
         &mut self,
         alloc: Global,
@@ -91,12 +72,15 @@ impl World {
         ensures ended { (m : CircuitWorld) (n : Id) → Holds circuit m (seen D.image_at D.moment self.old pairs.old.items) → IsAt self.old slot n → IfErr result (λ e. EventEnds circuit (tick_at circuit n m) e (seen D.image_at D.moment self.old pairs.old.items) (images D.image_at D.moment pairs.new.items)) }
         ensures unlinked { IfErr result (λ e. is_of_links e ≡ false) }
     {
-        if !self.is_open(slot, &circuit) {
+        let Some(due) = self.due(slot, &circuit) else {
+            return Ok(false);
+        };
+        self.events.add(1)?;
+        if !due {
             return Ok(false);
         }
-        self.events.add(1)?;
-        let answer = self.handle(alloc, pairs, slot, circuit, &Event::Tick)?;
-        Ok(!is_idle(&answer))
+        self.handle(alloc, pairs, slot, circuit, &Event::Tick)?;
+        Ok(true)
     }
 
     // A tick at each node that is up and where the circuit is bound and open. Answers whether there

@@ -27,7 +27,7 @@ fn carry<C: Carry, F: Fabric>(
     fabric: &mut F,
     from: u8,
     to: u8,
-    message: &Message,
+    message: &Boxed<Message>,
 ) -> Result<Boxed<Message>, WorldFault>
     requires apart { from ≢ to }
     requires from { from < C.slots carrier.old }
@@ -46,7 +46,7 @@ fn carry<C: Carry, F: Fabric>(
     ensures sound { IfErr result (λ e. is_of_journal e ≡ false) }
 {
     match carrier.carry(alloc, fabric, from, to, message) {
-        Ok(copy) => Ok(Boxed::new(alloc, copy)?),
+        Ok(copy) => Ok(copy),
         Err(fault) => Err(carry_fault(fault, from, to)),
     }
 }

@@ -5,7 +5,7 @@ ghost use Rattle.std.specs.Str.{bytes_eq};
 ghost use Rattle.spl_circuit.specs.Nodes.{NodeId as Id};
 ghost use Rattle.spl_world.specs.Kept.{AllBelong, SendsBelong, sent_to, sends_to};
 
-use spl_base::{Listing, NodeId};
+use spl_base::{Boxed, Listing, NodeId};
 use spl_wire::{Message, Outgoing};
 use std::alloc::{AllocError, Global};
 use std::collections::BTreeMap;
@@ -15,7 +15,7 @@ use std::marker::Model;
 /// were sent.
 #[derive(Drop)]
 pub struct Outbox {
-    lists: BTreeMap<NodeId, Listing<Message>>,
+    lists: BTreeMap<NodeId, Listing<Boxed<Message>>>,
 }
 
 impl Model for Outbox {
@@ -48,7 +48,7 @@ impl Outbox {
 
     /// The message of this index, from 0, of those that were sent to a node; None exactly where
     /// there are fewer.
-    pub fn message(&self, to: &NodeId, index: usize) -> Option<&Message>
+    pub fn message(&self, to: &NodeId, index: usize) -> Option<&Boxed<Message>>
         ensures { option_copied result ≡ slice_get (sent_to self.now to.now) index }
     {
         match self.lists.get(to) {
@@ -58,7 +58,7 @@ impl Outbox {
     }
 
     // One message more.
-    fn post(&mut self, alloc: Global, to: NodeId, message: Message) -> Result<(), AllocError>
+    fn post(&mut self, alloc: Global, to: NodeId, message: Boxed<Message>) -> Result<(), AllocError>
         ensures recipient { OnOk result (sent_to self.new to ≡ sent_to self.old to ++ message ∷ []) }
         ensures others { OnOk result ((b : Id) → bytes_eq to b ≡ false → sent_to self.new b ≡ sent_to self.old b) }
         ensures err { OnErr result ((b : Id) → sent_to self.new b ≡ sent_to self.old b) }
@@ -80,7 +80,7 @@ impl Outbox {
         ensures about { (c : Id) → ((b : Id) → AllBelong c (sent_to self.old b)) → SendsBelong c sends.now → (b : Id) → AllBelong c (sent_to self.new b) }
     {
         for send in sends {
-            self.post(alloc, send.to, send.message.copy(alloc)?)?;
+            self.post(alloc, send.to, send.message.share()?)?;
         }
         Ok(())
     }

@@ -6,7 +6,7 @@ ghost use Rattle.spl_circuit.specs.Nodes.{NodeId as Id};
 ghost use Rattle.spl_world.specs.Kept.{AllBelong, BelongEach, SendsBelong, lists_about, sent_to, sends_to};
 
 use crate::outbox::Outbox;
-use spl_base::{CircuitId, NodeId};
+use spl_base::{Boxed, CircuitId, NodeId};
 use spl_wire::{Message, Outgoing};
 use std::alloc::{AllocError, Global};
 use std::collections::BTreeMap;
@@ -50,7 +50,7 @@ impl Posts {
 
     /// The message of this index, from 0, of those about a circuit that were sent to a node; None
     /// exactly where there are fewer.
-    pub fn message(&self, circuit: &CircuitId, to: &NodeId, index: usize) -> Option<&Message>
+    pub fn message(&self, circuit: &CircuitId, to: &NodeId, index: usize) -> Option<&Boxed<Message>>
         ensures value { option_copied result ≡ slice_get (sent_to (lists_about self.now circuit.now) to.now) index }
         ensures about { AllBelong circuit.now (sent_to (lists_about self.now circuit.now) to.now) }
     {

@@ -1,5 +1,5 @@
 //! A node of the world.
-ghost use Rattle.std.specs.Prelude.{◌≡◌, ◌≢◌, ◌&&◌, ◌<◌, ◌≤◌, ℕ, [], length, slice_get, Option, Some, None, true, false, IfErr, IfOk, IfSome, OnOk, IsErrOf};
+ghost use Rattle.std.specs.Prelude.{◌≡◌, ◌≢◌, ◌<◌, ◌≤◌, ℕ, [], length, slice_get, Option, Some, None, is_some, if◌then◌else◌, true, false, IfErr, IfOk, IfSome, OnOk, IsErrOf};
 ghost use Rattle.std.specs.Option.{option_copied};
 ghost use Rattle.std.specs.List.{list_any};
 ghost use Rattle.std.specs.List.Sorted.{IsStrictlySortedBy};
@@ -7,9 +7,10 @@ ghost use Rattle.std.specs.Ordering.{nat_cmp};
 ghost use Rattle.std.specs.Cmp.Lexicographic.{slice_cmp};
 ghost use Rattle.std.specs.Str.{bytes_eq};
 ghost use Rattle.spl_circuit.specs.Nodes.{NodeId as Id};
+ghost use Rattle.spl_cell.specs.Due.{due};
 ghost use Rattle.spl_model.specs.Worlds.{site_at};
 ghost use Rattle.spl_node.specs.Hosts.{HostStands, is_up};
-ghost use Rattle.spl_rules.specs.Cells.{is_bound, is_open_cell};
+ghost use Rattle.spl_rules.specs.Cells.{is_bound};
 ghost use Rattle.spl_rules.specs.Changes.{stopped_cell};
 ghost use Rattle.spl_rules.specs.Plans.{plan_of};
 ghost use Rattle.spl_rules.specs.Valid.{IsFor};
@@ -25,7 +26,7 @@ ghost use Rattle.spl_world.specs.Views.{IsFresh, node_view, slot_id, slot_up};
 
 use crate::fault::{WorldFault, journal_fault};
 use crate::posts::Posts;
-use spl_base::{CircuitId, Listing, NodeId};
+use spl_base::{Boxed, CircuitId, Listing, NodeId};
 use spl_edge::{Disk, Pair, StopDisk};
 use spl_node::{Host, Outcome, Stopping};
 use spl_wire::{Answer, Event, Message};
@@ -90,11 +91,13 @@ impl Slot {
         self.host.is_up()
     }
 
-    /// Whether it is up, and a circuit is bound there and open.
-    pub fn is_open(&self, circuit: &CircuitId) -> bool
-        ensures { (is : Images) → result ≡ (slot_up self.now && is_open_cell ((node_view self.now is).cells circuit.now)) }
+    /// Whether a tick has anything to do at the cell of a circuit; None where the node is down, or
+    /// the cell isn't bound and open.
+    pub fn due(&self, circuit: &CircuitId) -> Option<bool>
+        ensures due { (is : Images) → HostStands self.now.host is.0 is.1 → result ≡ (if slot_up self.now then due (site_at (slot_id self.now) circuit.now) ((node_view self.now is).cells circuit.now) else None) }
+        ensures up { is_some result ≡ true → slot_up self.now ≡ true }
     {
-        self.host.is_open(circuit)
+        self.host.due(circuit)
     }
 
     /// An event at the cell of a circuit, and its answer: the plan of the event is carried out, and
@@ -255,7 +258,7 @@ impl Slot {
 
     /// The message of this index, from 0, of those about a circuit that were sent to a node; None
     /// exactly where there are fewer.
-    pub fn message(&self, circuit: &CircuitId, to: &NodeId, index: usize) -> Option<&Message>
+    pub fn message(&self, circuit: &CircuitId, to: &NodeId, index: usize) -> Option<&Boxed<Message>>
         ensures value { option_copied result ≡ slice_get (sent_to (lists_about self.now.posts circuit.now) to.now) index }
         ensures about { AllBelong circuit.now (sent_to (lists_about self.now.posts circuit.now) to.now) }
     {

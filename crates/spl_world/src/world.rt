@@ -1,14 +1,14 @@
 //! All nodes of a run, and what happens at one of them.
-ghost use Rattle.std.specs.Prelude.{◌≡◌, ◌+◌, ◌<◌, ◌&&◌, ℕ, List, Some, length, slice_get, true, false, IfOk, IfSome, OnOk, IsErrOf, IfErr};
+ghost use Rattle.std.specs.Prelude.{◌≡◌, ◌+◌, ◌<◌, ℕ, List, Some, is_some, length, slice_get, true, false, IfOk, IfSome, OnOk, IsErrOf, IfErr};
 ghost use Rattle.std.specs.List.{position_from};
 ghost use Rattle.std.specs.Option.{option_copied};
 ghost use Rattle.std.specs.Str.{bytes_eq};
 ghost use Rattle.spl_circuit.specs.Nodes.{NodeId as Id, has_node};
 ghost use Rattle.spl_sched.specs.declared.line.Step.TheVariants as step;
-ghost use Rattle.spl_rules.specs.Cells.{is_open_cell};
 ghost use Rattle.spl_rules.specs.Plans.{plan_of};
 ghost use Rattle.spl_rules.specs.Valid.{IsFor};
 ghost use Rattle.spl_model.specs.Worlds.{site_at, World as CircuitWorld, Steps, messages, carried_out, step_plan, step_world};
+ghost use Rattle.spl_world.specs.Calms.{due_at};
 ghost use Rattle.spl_world.specs.Disks.{Images, LeavesDisks, bench, images, is_of_journal};
 ghost use Rattle.spl_world.specs.Halts.{delivery_of};
 ghost use Rattle.spl_world.specs.Ended.{EventEnds};
@@ -43,13 +43,6 @@ fn position_of(slots: &[Slot], node: &NodeId) -> Option<usize>
     ensures { result ≡ position_from (has_id node.now) 0 slots.now }
 {
     slots.iter().position(|slot| slot.id() == *node)
-}
-
-// An equal message, on the heap.
-fn boxed(alloc: Global, message: &Message) -> Result<Boxed<Message>, AllocError>
-    ensures { IfOk result (λ m. m ≡ message.now) }
-{
-    Boxed::new(alloc, message.copy(alloc)?)
 }
 
 impl World {
@@ -133,13 +126,14 @@ impl World {
         self.slots[slot].is_up()
     }
 
-    // Whether the node of this index is up, and the cell of a circuit bound and open there.
-    pub(crate) fn is_open(&self, slot: usize, circuit: &CircuitId) -> bool
+    // Whether a tick has anything to do at the cell of a circuit at the node of this index; None where
+    // the node is down, or the cell isn't bound and open.
+    pub(crate) fn due(&self, slot: usize, circuit: &CircuitId) -> Option<bool>
         requires below { slot < length self.now.slots.items }
-        ensures world { (is : List Images) (m : CircuitWorld) (n : Id) → Holds circuit.now m (over self.now is) → IsAt self.now slot n → result ≡ (m.up n && is_open_cell (m.at n)) }
-        ensures up { result ≡ true → IsUp self.now slot }
+        ensures world { (is : List Images) (m : CircuitWorld) (n : Id) → Sits (over self.now is) → Holds circuit.now m (over self.now is) → IsAt self.now slot n → result ≡ due_at circuit.now m n }
+        ensures up { is_some result ≡ true → IsUp self.now slot }
     {
-        self.slots[slot].is_open(circuit)
+        self.slots[slot].due(circuit)
     }
 
     // Whether the nodes of these indexes are the same.
@@ -172,7 +166,7 @@ impl World {
         to: usize,
         circuit: &CircuitId,
         index: usize,
-    ) -> Option<&Message>
+    ) -> Option<&Boxed<Message>>
         requires from_below { from < length self.now.slots.items }
         requires to_below { to < length self.now.slots.items }
         requires apart { (a b : Id) → IsAt self.now from a → IsAt self.now to b → bytes_eq a b ≡ false }
@@ -201,7 +195,7 @@ impl World {
     {
         let sender = self.slots[from].id();
         let message = match self.message(from, to, circuit, index) {
-            Some(message) => boxed(alloc, message)?,
+            Some(message) => message.share()?,
             None => return Ok(None),
         };
         Ok(Some(Event::Deliver {

@@ -5,7 +5,7 @@ use Rattle.spl_base.proofs.field.take_items.Goals as goal
 
 pub returns-in_err-x : goal.returns-in_err-x
 returns-in_err-x g c =
-    let p = err_from_is_err_and c.from_residual.result c.from_residual.ensures.1 in
+    let p = err_from_is_err_and c.from_residual-in_err-x.result c.from_residual-in_err-x.ensures.1 in
     let parse = g.T.Field.form.parse in
     rw (p.1, p.2) (ends parse c.in_err-x.field-0.0 c.loop.items c.args.count c.loop.counter c.loop.r (items_at parse c.args.count c.args.r.now) c.loop-test.true c.in_err-x.ensures c.loop.invariant)
 

@@ -8,4 +8,4 @@ pub write-requires : goal.write-requires
 write-requires c = record { few = exact_record.bounds c.args.item.now c.requires }
 
 pub returns : goal.returns
-returns c = at_ok c.push.result (λ is. is ∙ ap (λ (b : List ℕ). c.args.records.now ++ b ∷ []) (c.bytes-2.ensures ∙ spelled_is c.args.item.now c.in_ok-bytes.bytes c.in_ok-bytes.ensures.spelled)) c.push.ensures.ok
+returns c = at_ok c.take.result (λ is. is ∙ ap (λ (b : List ℕ). c.args.records.now ++ b ∷ []) (spelled_is c.args.item.now c.in_ok-bytes.bytes c.in_ok-bytes.ensures.spelled)) c.take.ensures.ok

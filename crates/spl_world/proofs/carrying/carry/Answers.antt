@@ -1,16 +1,9 @@
 use Rattle.std.proofs.Common.{ap, Err}
 use Rattle.spl_pump.specs.Wires.{only}
 use Rattle.spl_world.specs.Links.{link_view}
-use Rattle.spl_world.proofs.Linking.{fault_part, memory_part}
-use Rattle.spl_world.proofs.LinkFaults.{faults_carry, faults_off, faults_ok}
-use Rattle.spl_world.proofs.Linking.{off_memory}
+use Rattle.spl_world.proofs.Linking.{fault_part}
+use Rattle.spl_world.proofs.LinkFaults.{faults_carry, faults_ok}
 use Rattle.spl_world.proofs.carrying.carry.Goals as goal
-
-pub returns-in_err-new-in-Ok-clause-links : goal.returns-in_err-new-in-Ok-clause-links
-returns-in_err-new-in-Ok-clause-links g c =
-    let x = link_view g.C.Carry.slots g.C.Carry.failed g.C.Carry.wire g.F.Fabric.put_on g.F.Fabric.taken_on g.F.Fabric.faults c.args.carrier.now c.args.fabric.now in
-    let y = link_view g.C.Carry.slots g.C.Carry.failed g.C.Carry.wire g.F.Fabric.put_on g.F.Fabric.taken_on g.F.Fabric.faults c.carry.new.self c.carry.new.fabric in
-    memory_part c.from_residual.result c.from_residual.ensures (only c.args.from c.args.to c.args.message.now) x y (record { onward = c.in-Ok.ensures.onward; put = c.in-Ok.ensures.put; no_less = c.in-Ok.ensures.cause.later })
 
 pub returns-in-Err-clause-links : goal.returns-in-Err-clause-links
 returns-in-Err-clause-links g c =
@@ -20,11 +13,8 @@ returns-in-Err-clause-links g c =
 
 -- ---- the faults of the links
 
-pub returns-in_err-new-in-Ok-clause-faults : goal.returns-in_err-new-in-Ok-clause-faults
-returns-in_err-new-in-Ok-clause-faults g c = faults_off c.from_residual.result _ _ (off_memory c.from_residual.result c.from_residual.ensures) (record { no_less = c.in-Ok.ensures.cause.later; slots = c.in-Ok.ensures.slots })
-
 pub returns-in-Err-clause-faults : goal.returns-in-Err-clause-faults
 returns-in-Err-clause-faults g c = faults_carry _ c.in-Err.fault c.args.from c.args.to _ _ c.carry_fault.ensures.fault c.requires.from c.requires.to (record { no_less = c.in-Err.ensures.cause.later; slots = c.in-Err.ensures.slots }) (λ q. c.in-Err.ensures.cause.failed (ap Err q)) c.in-Err.ensures.lied
 
-pub returns-in_ok-new-in-Ok-clause-faults : goal.returns-in_ok-new-in-Ok-clause-faults
-returns-in_ok-new-in-Ok-clause-faults g c = faults_ok _ _ _ (record { no_less = c.in-Ok.ensures.cause.later; slots = c.in-Ok.ensures.slots })
+pub returns-in-Ok-clause-faults : goal.returns-in-Ok-clause-faults
+returns-in-Ok-clause-faults g c = faults_ok _ _ _ (record { no_less = c.in-Ok.ensures.cause.later; slots = c.in-Ok.ensures.slots })

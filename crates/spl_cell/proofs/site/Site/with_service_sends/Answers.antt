@@ -14,7 +14,7 @@ loop-position-preserved c =
     let at = c.in-Some.position in
     let body = c.in-Some.body in
     let to = c.node_or-to.ensures ∙ ap (λ ms. node_or ms back at) c.as_slice.ensures in
-    let one = c.service_message.ensures ∙ ap (λ (n : NodeId). let o : Outgoing = record { to = n; message = lane.message n body } in o) to in
+    let one = c.in_ok-service_message.ensures ∙ ap (λ (n : NodeId). let o : Outgoing = record { to = n; message = lane.message n body } in o) to in
     c.in_ok-push.ensures.ok
     ∙ (ap (λ o. c.loop-position.sends ++ o ∷ []) one
     ∙ (ap (λ ss. ss ++ outgoing lane back (at, body) ∷ []) c.loop-position.invariant

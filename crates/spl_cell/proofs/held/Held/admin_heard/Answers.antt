@@ -1,0 +1,11 @@
+use Rattle.std.proofs.Common.{sym, subst}
+use Rattle.spl_circuit.specs.Nodes.{position}
+use Rattle.spl_rules.specs.Cells.{admin_group}
+use Rattle.spl_cell.specs.Views.{IsSettledHeld}
+use Rattle.spl_cell.proofs.Seats.{settled_seat}
+use Rattle.spl_cell.proofs.held.Held.admin_heard.Goals as goal
+
+pub hear-requires-clause-settled : goal.hear-requires-clause-settled
+hear-requires-clause-settled c =
+    let d = c.self.inside.acts.content.definition in
+    settled_seat (admin_group d) (position d.members c.self.inside.site.here) c.self.inside.acts c.self.invariant.acts (subst IsSettledHeld (sym c.self.view_is) c.requires.settled).0
