@@ -36,6 +36,7 @@ use spl_registry::Registry;
 use spl_sched::{Line, LineFault};
 use spl_world::{World, WorldFault, sorted_ids};
 use std::alloc::Global;
+use std::mem;
 
 /// A run: its nodes, the text of the last answer, and the answers that wait. Those to the first
 /// `skip` lines are left out.
@@ -286,7 +287,8 @@ fn lacks_memory(ended: &Result<RunEnd, RunFault>) -> bool
 /// Runs each line that a source gives over the nodes of a registry, whose disks are blank, up to the
 /// first that a schedule may not have or with which the lines pass a limit, and writes the answers
 /// to those behind the first `skip`.
-/// Want of memory is told before a fault of the sink, since it may leave disks armed.
+/// Want of memory is told before a fault of the sink, since it may leave disks armed. What the run holds in
+/// memory is left to the end of the process.
 pub fn run_lines<S: Source, W: Sink, D: StopDisk>(
     alloc: Global,
     registry: &Registry,
@@ -342,6 +344,8 @@ pub fn run_lines<S: Source, W: Sink, D: StopDisk>(
     };
     let ended = run.lines(alloc, pairs, source, out);
     let flushed = run.output.flush(out);
+    // The process ends behind a run, and gives its memory back at once.
+    mem::forget(run);
     if lacks_memory(&ended) {
         return Err(RunFault::NoMemory);
     }

@@ -45,7 +45,7 @@ use std::alloc::Global;
 /// writes the answers to its last nine lines alone. `links REGISTRY SCHEDULE DIR` runs as `replay` does, but
 /// over the disks of the shelf, which have to be blank, and with messages over the fabric; it takes fewer
 /// kinds of lines, and settles the circuit that a line names behind it. Want of memory can end any run; then
-/// a front of the answers is written.
+/// a front of the answers is written. What a run holds in memory is left to the end of the process.
 pub fn splinter<S: Source, W: Sink, D: StopDisk, E: Disk, F: Fabric>(
     alloc: Global,
     words: &[String],

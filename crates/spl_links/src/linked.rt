@@ -21,6 +21,7 @@ use spl_pump::Carry;
 use spl_registry::Registry;
 use spl_world::WorldFault;
 use std::alloc::Global;
+use std::mem;
 
 // Whether a run ended for want of memory.
 fn lacks_memory(ended: &Result<LinkedEnd, LinkedFault>) -> bool
@@ -31,7 +32,8 @@ fn lacks_memory(ended: &Result<LinkedEnd, LinkedFault>) -> bool
 
 /// Runs each line that a source gives over the nodes of a registry, whose disks are blank, up to the first that a schedule may
 /// not have there or that ends with an error, settles each circuit behind the line that names it, and writes the answers. All
-/// messages go through the carrier, which has carried none. Want of memory is told before a fault of the sink.
+/// messages go through the carrier, which has carried none. Want of memory is told before a fault of the sink. What the run holds in
+/// memory is left to the end of the process.
 pub fn run_linked<S: Source, W: Sink, D: Disk, C: Carry, F: Fabric>(
     alloc: Global,
     registry: &Registry,
@@ -69,6 +71,8 @@ pub fn run_linked<S: Source, W: Sink, D: Disk, C: Carry, F: Fabric>(
     let mut run = LinkedRun::new(alloc, registry, pairs)?;
     let ended = run.lines(alloc, pairs, carrier, fabric, source, out);
     let flushed = run.flush(out);
+    // The process ends behind a run, and gives its memory back at once.
+    mem::forget(run);
     if lacks_memory(&ended) {
         return Err(LinkedFault::NoMemory);
     }
