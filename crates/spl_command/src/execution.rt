@@ -73,15 +73,19 @@ impl<'a> Past<'a> {
     }
 }
 
+/// The most changes that a receipt takes memory for before they come; most transactions have one.
+const FEW: usize = 4;
+
 impl Receipt {
-    fn new(alloc: Global) -> Receipt
-        ensures { result ≡ receipt_of (values_of []) [] }
+    /// A receipt of nothing, with memory for so many changes.
+    fn new(alloc: Global, room: usize) -> Result<Receipt, AllocError>
+        ensures { IfOk result (λ r. r ≡ receipt_of (values_of []) []) }
     {
-        Receipt {
-            changes: Listing::new(alloc),
+        Ok(Receipt {
+            changes: Listing::with_room(alloc, room)?,
             events: Listing::new(alloc),
             returned: Listing::new(alloc),
-        }
+        })
     }
 
     /// Adds what a command leaves.
@@ -124,7 +128,7 @@ fn receipt(
 ) -> Result<Receipt, AllocError>
     ensures { IfOk result (λ r. r ≡ receipt_of (values_behind (values_of state.now) transactions.now) commands.now) }
 {
-    let mut receipt = Receipt::new(alloc);
+    let mut receipt = Receipt::new(alloc, commands.len().min(FEW))?;
     for (i, command) in commands.iter().enumerate() {
         let past = Past {
             state,
@@ -143,7 +147,7 @@ fn receipts(
 ) -> Result<Receipts, AllocError>
     ensures { IfOk result (λ rs. rs ≡ receipts_of (values_of state.now) transactions.now) }
 {
-    let mut receipts = Listing::new(alloc);
+    let mut receipts = Listing::with_room(alloc, transactions.len())?;
     for (i, transaction) in transactions.iter().enumerate() {
         let commands = transaction.commands.as_slice();
         let receipt = receipt(alloc, state, &transactions[..i], commands)?;

@@ -1,5 +1,5 @@
 //! Lists of prefixes.
-ghost use Rattle.std.specs.Prelude.{◌≡◌, ◌++◌, ◌∷◌, [], length, nat_eq, OnOk, OnErr, slice_get};
+ghost use Rattle.std.specs.Prelude.{◌≡◌, ◌++◌, ◌∷◌, [], length, nat_eq, IfOk, OnOk, OnErr, slice_get};
 ghost use Rattle.std.specs.Option.{option_copied};
 ghost use Rattle.spl_command.specs.Execution.{covered};
 
@@ -90,6 +90,15 @@ impl Prefixes {
         Prefixes {
             items: Listing::new(alloc),
         }
+    }
+
+    /// No prefixes, with memory for so many of them.
+    pub fn with_room(alloc: Global, room: usize) -> Result<Self, AllocError>
+        ensures { IfOk result (λ l. l ≡ []) }
+    {
+        Ok(Prefixes {
+            items: Listing::with_room(alloc, room)?,
+        })
     }
 
     /// One prefix more, at the end. After want of memory the list is as it was.

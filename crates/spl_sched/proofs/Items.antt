@@ -22,7 +22,7 @@ no_way true = refl
 no_way false = refl
 
 -- one more at the end of the front
-moved : {A : Type 0} (front : List A) (x : A) (others : Option (List A)) → with_front front (others >>= λ xs. Some (x ∷ xs)) ≡ with_front (front ++ x ∷ []) others
+pub moved : {A : Type 0} (front : List A) (x : A) (others : Option (List A)) → with_front front (others >>= λ xs. Some (x ∷ xs)) ≡ with_front (front ++ x ∷ []) others
 moved front x None = refl
 moved {A} front x (Some xs) = ap (λ (ys : List A). Some ys) (simp append_assoc)
 

@@ -1,5 +1,5 @@
 //! The transactions of a batch, as words.
-ghost use Rattle.std.specs.Prelude.{◌≡◌, ◌++◌, ◌∷◌, [], OnOk, map};
+ghost use Rattle.std.specs.Prelude.{◌≡◌, ◌++◌, ◌∷◌, [], IfOk, OnOk, map};
 ghost use Rattle.spl_sched.specs.Words.{Reads, behind_spaces};
 ghost use Rattle.spl_sched.specs.Transactions.{prefix, command_text, read_part, no_parts, with_part, with_word, read_open, read_transactions, words_of_transaction, words_of_transactions};
 
@@ -35,14 +35,15 @@ fn read_part(alloc: Global, word: &[u8]) -> Result<Part, LineFault>
     }
 }
 
-fn no_parts(alloc: Global) -> Transaction
-    ensures { result ≡ no_parts }
+/// A transaction without parts. Its lists have memory for one item, which most have.
+fn no_parts(alloc: Global) -> Result<Transaction, AllocError>
+    ensures { IfOk result (λ t. t ≡ no_parts) }
 {
-    Transaction {
+    Ok(Transaction {
         inputs: Prefixes::new(alloc),
-        outputs: Prefixes::new(alloc),
-        commands: Listing::new(alloc),
-    }
+        outputs: Prefixes::with_room(alloc, 1)?,
+        commands: Listing::with_room(alloc, 1)?,
+    })
 }
 
 /// The transaction with one part more. An input comes before each output, and both before each
@@ -82,12 +83,12 @@ fn with_word(alloc: Global, transaction: Transaction, word: &[u8]) -> Result<Tra
 fn read_behind(alloc: Global, words: &mut WordReader) -> Result<Transactions, LineFault>
     ensures { Reads result (read_open no_parts words.old) }
 {
-    let mut done = Listing::new(alloc);
-    let mut open = no_parts(alloc);
+    let mut done = Listing::with_room(alloc, 1)?;
+    let mut open = no_parts(alloc)?;
     while let Some(word) = words.next() {
         if word == b"tx".as_slice() {
             done.push(open)?;
-            open = no_parts(alloc);
+            open = no_parts(alloc)?;
         } else {
             open = with_word(alloc, open, word)?;
         }
