@@ -40,6 +40,11 @@ abbrev pub records_of : List ℕ → List (List Change) → List Record
 records_of c [] = []
 records_of c (xs ∷ xss) = record_of c xs ∷ records_of c xss
 
+-- the byte form of each record
+abbrev pub spelled : List Record → List (List ℕ)
+spelled [] = []
+spelled (r ∷ rs) = record_form.spell r ∷ spelled rs
+
 -- the changes of all groups
 abbrev pub together : List (List Change) → List Change
 together [] = []

@@ -1,29 +1,47 @@
--- How changes become records, one change at a time.
-use Rattle.std.specs.Prelude.{ℕ, Bool, not, ◌&&◌, nat_lt, List, [], ◌∷◌, ◌++◌, length, if◌then◌else◌}
-use Rattle.spl_wire.specs.declared.change.Change.{Change}
-use Rattle.spl_wire.specs.declared.record.Record.{Record}
-use Rattle.spl_wire.specs.Grouping.{record_of, has_place}
+-- How the byte forms of changes become those of records, one change at a time.
+use Rattle.std.specs.Prelude.{ℕ, ◌+◌, Bool, not, ◌&&◌, nat_lt, nat_le, List, [], ◌∷◌, ◌++◌, length, take, drop, if◌then◌else◌}
+use Rattle.std.specs.Int.{w16}
+use Rattle.spl_base.specs.Form.{number_bytes}
+use Rattle.spl_wire.specs.declared.record.TheConstants.{MOST_CHANGES}
+use Rattle.spl_wire.specs.Grouping.{most_bytes}
 
--- a circuit, the records so far, and the changes of the record that is begun
+-- a circuit, the byte forms of the records so far, and how many changes the record has that is begun, and their bytes
 pub record PackingView : Type 0 where
   pub circuit : List ℕ
-  pub records : List Record
-  pub group : List Change
+  pub records : List (List ℕ)
+  pub count : ℕ
+  pub written : List ℕ
 
--- a record is begun in which the change has no place
-abbrev pub is_full : PackingView → Change → Bool
-is_full p x = nat_lt 0 (length p.group) && not (has_place p.circuit p.group x)
+-- the byte form of a record of so many changes, which have these bytes
+abbrev pub sealed : List ℕ → ℕ → List ℕ → List ℕ
+sealed c n w = c ++ (number_bytes w16 n ++ w)
 
--- the record that is begun is the last one
-abbrev pub closed : PackingView → PackingView
-closed p = record { circuit = p.circuit; records = p.records ++ record_of p.circuit p.group ∷ []; group = [] }
+-- how many bytes it has
+abbrev pub sealed_size : List ℕ → List ℕ → ℕ
+sealed_size c w = length c + 2 + length w
 
-abbrev pub added : PackingView → Change → PackingView
-added p x = record p { group = p.group ++ x ∷ [] }
+-- a record of so many changes has no place for one more, whose bytes stand behind theirs already
+abbrev pub is_full : List ℕ → ℕ → List ℕ → Bool
+is_full c n w = nat_lt 0 n && not (nat_lt n MOST_CHANGES && nat_le (sealed_size c w) most_bytes)
+
+-- the record of the first bytes is the last one, and the one that is begun has those behind them, and no change yet
+abbrev pub closed : ℕ → PackingView → PackingView
+closed start p = record { circuit = p.circuit; records = p.records ++ sealed p.circuit p.count (take start p.written) ∷ []; count = 0; written = drop start p.written }
+
+-- the bytes of one more change stand in the record that is begun
+abbrev pub written_behind : PackingView → List ℕ → PackingView
+written_behind p x = record p { written = p.written ++ x }
+
+-- a record with a place for the change whose bytes stand in it
+abbrev pub placed : ℕ → PackingView → PackingView
+placed start p = if is_full p.circuit p.count p.written then closed start p else p
+
+abbrev pub counted : PackingView → PackingView
+counted p = record p { count = p.count + 1 }
 
 -- one change more
-abbrev pub taken : PackingView → Change → PackingView
-taken p x = if is_full p x then added (closed p) x else added p x
+abbrev pub taken : PackingView → List ℕ → PackingView
+taken p x = counted (placed (length p.written) (written_behind p x))
 
-abbrev pub finished : PackingView → List Record
-finished p = if nat_lt 0 (length p.group) then (closed p).records else p.records
+abbrev pub finished : PackingView → List (List ℕ)
+finished p = if nat_lt 0 p.count then p.records ++ sealed p.circuit p.count p.written ∷ [] else p.records

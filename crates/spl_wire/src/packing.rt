@@ -1,150 +1,159 @@
 //! Records of changes that build a cell.
-ghost use Rattle.std.specs.Prelude.{◌≡◌, ◌-◌, IsTrue, IfOk, OnOk, length, []};
+ghost use Rattle.std.specs.Prelude.{◌≡◌, ◌≤◌, ◌<◌, IsTrue, IfOk, OnOk, length, []};
 ghost use Rattle.std.specs.List.{list_all};
 ghost use Rattle.spl_wire.specs.Changes.{change_form};
-ghost use Rattle.spl_wire.specs.Grouping.{most_bytes, record_size, grouped, records_of};
-ghost use Rattle.spl_wire.specs.Packing.{is_full, closed, added, taken, finished};
+ghost use Rattle.spl_wire.specs.Grouping.{grouped, records_of, spelled};
+ghost use Rattle.spl_wire.specs.Packing.{sealed, sealed_size, is_full, closed, placed, taken, finished};
 
 use crate::change::Change;
-use crate::record::{ChangeList, MOST_CHANGES, Record};
-use spl_base::{CircuitId, Field, LONGEST_BODY, Listing, Writer};
+use crate::record::MOST_CHANGES;
+use spl_base::{CircuitId, Field, LONGEST_BODY, Piece, Writer};
 use std::alloc::{AllocError, Global};
 use std::marker::Model;
-use std::mem;
 
-/// The bytes that memory is taken for before a change is measured: most changes are shorter.
+/// The bytes that memory is taken for before a cell is packed: most cells have fewer.
 const ROOM: usize = 512;
 
-/// The records of a packed cell, in order.
-pub type PackedRecords = Listing<Record>;
+/// The byte forms of the records of a packed cell, in order.
+pub type PackedRecords = Vec<Piece>;
 
-/// Records so far, and the changes of the one that is begun, with how many bytes it has left. Each change is written
-/// over the one before to be measured, so that this takes memory only now and then.
+/// How many bytes the record has whose changes have these.
+#[tactic(auto, using(crate::proofs::Sizes::id_length))]
+fn sealed_size(circuit: CircuitId, changes: &[u8]) -> usize
+    ensures { result ≡ sealed_size circuit changes.now }
+{
+    circuit.bytes().len() + 2 + changes.len()
+}
+
+/// The byte form of the record of so many changes, which have these bytes. An error comes for want of memory alone.
+fn sealed(
+    alloc: Global,
+    circuit: CircuitId,
+    count: u16,
+    changes: &[u8],
+) -> Result<Piece, AllocError>
+    ensures { IfOk result (λ p. p ≡ sealed circuit count changes.now) }
+{
+    let mut w = Writer::with_room(alloc, sealed_size(circuit, changes))?;
+    circuit.put_parts(&mut w)?;
+    count.put_parts(&mut w)?;
+    w.put_raw(changes)?;
+    Ok(w.into_piece())
+}
+
+/// Whether a record of so many changes has no place for one more, whose bytes stand behind theirs already.
+fn is_full(circuit: CircuitId, count: u16, changes: &[u8]) -> bool
+    ensures { result ≡ is_full circuit count changes.now }
+{
+    count > 0 && !(count < MOST_CHANGES && sealed_size(circuit, changes) <= LONGEST_BODY)
+}
+
+/// Byte forms of records so far, and of the record that is begun how many changes it has, and their bytes. Each change
+/// is spelled once, right behind those before it.
 #[derive(Drop)]
 struct Packing {
     circuit: CircuitId,
     records: PackedRecords,
-    group: ChangeList,
+    count: u16,
     written: Writer,
-    left: usize,
 }
 
 impl Model for Packing {
-    ghost use Rattle.std.specs.Prelude.{◌≡◌, ◌-◌};
-    ghost use Rattle.spl_wire.specs.Grouping.{most_bytes, record_size};
     ghost use Rattle.spl_wire.specs.Packing.{PackingView};
 
     ghost Value = { PackingView };
 
-    ghost view = { λ p. record { circuit = p.circuit; records = p.records; group = p.group } };
-
-    ghost invariant = { λ p. p.left ≡ most_bytes - record_size p.circuit p.group };
-}
-
-/// How many bytes the byte form of a change has, which is written where others were. An error comes for want of memory
-/// alone.
-fn size_of(change: &Change, written: &mut Writer) -> Result<usize, AllocError>
-    requires { IsTrue (change_form.bounded change.now) }
-    ensures size { IfOk result (λ n. n ≡ length (change_form.spell change.now)) }
-    ensures fits { OnOk result (IsTrue (change_form.fits change.now)) }
-{
-    written.clear();
-    change.put_parts(written)?;
-    Ok(written.bytes().len())
-}
-
-/// How many bytes an empty record of the circuit has left.
-#[tactic(auto, using(crate::proofs::Sizes::empty_left))]
-fn left_at_first(circuit: CircuitId) -> usize
-    ensures { result ≡ most_bytes - record_size circuit [] }
-{
-    LONGEST_BODY.saturating_sub(circuit.bytes().len() + 2)
+    ghost view = { λ p. record { circuit = p.circuit; records = p.records.items; count = p.count; written = p.written } };
 }
 
 impl Packing {
     /// No record, and none begun.
     fn new(alloc: Global, circuit: CircuitId) -> Result<Packing, AllocError>
-        ensures { IfOk result (λ p. p ≡ record { circuit = circuit; records = []; group = [] }) }
+        ensures { IfOk result (λ p. p ≡ record { circuit = circuit; records = []; count = 0; written = [] }) }
     {
         Ok(Packing {
             circuit,
-            records: Listing::new(alloc),
-            group: ChangeList::new(alloc),
+            records: Vec::new(alloc),
+            count: 0,
             written: Writer::with_room(alloc, ROOM)?,
-            left: left_at_first(circuit),
         })
     }
 
-    /// Whether a change, whose byte form has so many bytes, has no place in the record that is begun.
-    #[tactic(auto, using(crate::proofs::Sizes::full_by))]
-    fn is_full(&self, change: &Change, bytes: usize) -> bool
-        requires { bytes ≡ length (change_form.spell change.now) }
-        ensures { result ≡ is_full self.now change.now }
+    /// The record of the first bytes is the last one, and those behind them begin one.
+    fn close(&mut self, alloc: Global, start: usize) -> Result<(), AllocError>
+        requires { start ≤ length self.old.written }
+        ensures { OnOk result (self.new ≡ closed start self.old) }
     {
-        self.group.len() > 0
-            && !(self.group.len() < usize::from(MOST_CHANGES) && bytes <= self.left)
+        let bytes = self.written.bytes();
+        let rest = Piece::from(alloc, &bytes[start..])?;
+        let record = sealed(alloc, self.circuit, self.count, &bytes[..start])?;
+        self.records.push(record)?;
+        self.count = 0;
+        self.written.clear();
+        self.written.put_raw(rest.bytes())
     }
 
-    /// The record that is begun is the last one, and none is begun.
-    fn close(&mut self, alloc: Global) -> Result<(), AllocError>
-        ensures { OnOk result (self.new ≡ closed self.old) }
+    /// The bytes of a change that stand in the record that is begun, from `start` on, begin a record where they have
+    /// no place in that one.
+    fn place(&mut self, alloc: Global, start: usize) -> Result<(), AllocError>
+        requires { start ≤ length self.old.written }
+        ensures placed { OnOk result (self.new ≡ placed start self.old) }
+        ensures few { OnOk result (self.new.count < MOST_CHANGES) }
     {
-        let changes = mem::replace(&mut self.group, ChangeList::new(alloc));
-        self.left = left_at_first(self.circuit);
-        let circuit = self.circuit;
-        self.records.push(Record { circuit, changes })
-    }
-
-    /// The change joins the record that is begun.
-    #[tactic(auto, using(crate::proofs::Sizes::more_left))]
-    fn add(&mut self, change: Change, bytes: usize) -> Result<(), AllocError>
-        requires size { bytes ≡ length (change_form.spell change) }
-        ensures { OnOk result (self.new ≡ added self.old change) }
-    {
-        self.group.push(change)?;
-        self.left = self.left.saturating_sub(bytes);
+        if is_full(self.circuit, self.count, self.written.bytes()) {
+            self.close(alloc, start)?;
+        }
         Ok(())
     }
 
     /// One change more.
-    fn take(&mut self, alloc: Global, change: Change) -> Result<(), AllocError>
-        requires { IsTrue (change_form.bounded change) }
-        ensures ok { OnOk result (self.new ≡ taken self.old change) }
-        ensures fits { OnOk result (IsTrue (change_form.fits change)) }
+    fn take(&mut self, alloc: Global, change: &Change) -> Result<(), AllocError>
+        requires { IsTrue (change_form.bounded change.now) }
+        ensures ok { OnOk result (self.new ≡ taken self.old (change_form.spell change.now)) }
+        ensures fits { OnOk result (IsTrue (change_form.fits change.now)) }
     {
-        let bytes = size_of(&change, &mut self.written)?;
-        if self.is_full(&change, bytes) {
-            self.close(alloc)?;
+        let start = self.written.bytes().len();
+        change.put_parts(&mut self.written)?;
+        self.place(alloc, start)?;
+        self.count += 1;
+        Ok(())
+    }
+
+    /// The record that is begun, if there is one, is the last one.
+    fn end(&mut self, alloc: Global) -> Result<(), AllocError>
+        ensures { OnOk result (self.new.records ≡ finished self.old) }
+    {
+        if self.count > 0 {
+            let last = sealed(alloc, self.circuit, self.count, self.written.bytes())?;
+            self.records.push(last)?;
         }
-        self.add(change, bytes)
+        Ok(())
     }
 
     /// The records, with the one that is begun.
     fn finish(self, alloc: Global) -> Result<PackedRecords, AllocError>
-        ensures { IfOk result (λ rs. rs ≡ finished self) }
+        ensures { IfOk result (λ rs. rs.items ≡ finished self) }
     {
         let mut packing = self;
-        if packing.group.len() > 0 {
-            packing.close(alloc)?;
-        }
+        packing.end(alloc)?;
         Ok(packing.records)
     }
 }
 
-/// The records of changes of a circuit, in order. A new record begins where the next change would
+/// The byte forms of the records of changes of a circuit, in order. A new record begins where the next change would
 /// make it too long. An error comes for want of memory alone.
-#[tactic(auto, using(crate::proofs::Packs::packed_none, crate::proofs::Packs::packed_finished))]
+#[tactic(auto, using(crate::proofs::Packs::packed_none))]
 pub fn packed_records(
     alloc: Global,
     circuit: CircuitId,
     changes: Vec<Change>,
 ) -> Result<PackedRecords, AllocError>
     requires { IsTrue (list_all change_form.bounded changes.items) }
-    ensures ok { IfOk result (λ rs. rs ≡ records_of circuit (grouped circuit changes.items)) }
+    ensures ok { IfOk result (λ rs. rs.items ≡ spelled (records_of circuit (grouped circuit changes.items))) }
     ensures fits { OnOk result (IsTrue (list_all change_form.fits changes.items)) }
 {
     let mut packing = Packing::new(alloc, circuit)?;
-    for change in changes {
+    for change in &changes {
         packing.take(alloc, change)?;
     }
     packing.finish(alloc)

@@ -1,18 +1,24 @@
-use Rattle.std.proofs.Common.{length}
-use Rattle.std.proofs.lemmas.Iterator.Adapters.{YieldsList-from_vec}
-use Rattle.std.proofs.lemmas.Iterator.Consumers.{YieldsList-turn}
-use Rattle.spl_wire.specs.Changes.{change_form}
+use Rattle.std.proofs.Common.{◌≡◌, IsTrue, IfOk, ℕ, List, take, subst, sym, ◌∙◌, ap, arith}
+use Rattle.std.specs.List.{list_all}
 use Rattle.spl_base.specs.Booleans.{all_more}
-use Rattle.spl_wire.proofs.Packs.{packed_taken, passes_at}
+use Rattle.spl_wire.specs.declared.change.Change.{Change}
+use Rattle.spl_wire.specs.Changes.{change_form}
+use Rattle.spl_wire.specs.Grouping.{grouped, records_of, spelled}
+use Rattle.spl_wire.proofs.Packs.{take_next, packed_next, packed_all}
 use Rattle.spl_wire.proofs.packing.packed_records.Goals as goal
 
 pub loop-change-preserved : goal.loop-change-preserved
-loop-change-preserved c = (
-  rw c.in_ok-take.ensures.ok (packed_taken c.args.circuit c.loop-change.yielded c.loop-change.packing c.in-Some.change c.loop-change.invariant.0),
-  all_more change_form.fits c.loop-change.yielded c.in-Some.change c.loop-change.invariant.1 c.in_ok-take.ensures.fits,
-)
+loop-change-preserved c =
+    let all = c.deref-change-items.result.now in
+    let i = c.loop-change.change-index in
+    let x = c.change-item.result in (
+      rw c.in_ok-take.ensures.ok (packed_next c.args.circuit all i x c.loop-change.packing c.loop-change-test.true c.change-item.is c.loop-change.invariant.0),
+      subst (λ (came : List Change). IsTrue (list_all change_form.fits came)) (sym (take_next all i x c.loop-change-test.true c.change-item.is))
+          (all_more change_form.fits (take i all) x c.loop-change.invariant.1 c.in_ok-take.ensures.fits),
+    )
 
-pub take-requires : goal.take-requires
-take-requires c =
-    let turn = YieldsList-turn (YieldsList-from_vec c.args.changes.items (cc) (cc)) c.loop-change.yielded _ c.loop-change.yielded_by _ c.next.new.self c.in-Some.change c.in-Some.is c.next.ensures.steps in
-    passes_at change_form.bounded c.args.changes.items (length c.loop-change.yielded) c.in-Some.change c.requires turn
+pub returns-clause-ok : goal.returns-clause-ok
+returns-clause-ok c =
+    let all = packed_all c.args.circuit c.deref-change-items.result.now c.loop-change.change-index c.loop-change.packing (omega (arith, c.loop-change-test.false)) c.loop-change.invariant.0 in
+    let value = ap (λ (xs : List Change). spelled (records_of c.args.circuit (grouped c.args.circuit xs))) c.deref-change-items.ensures.value in
+    subst (λ (bytes : List (List ℕ)). IfOk c.finish.result (λ rs. rs.items ≡ bytes)) (all ∙ value) c.finish.ensures
