@@ -3,7 +3,7 @@ ghost use Rattle.std.specs.Prelude.{◌≡◌, true, false, IsTrue, IfOk, OnOk, 
 ghost use Rattle.std.specs.List.{list_all};
 ghost use Rattle.spl_wire.specs.Changes.{change_form};
 ghost use Rattle.spl_wire.specs.Bounds.{IsWritable, AllSendable};
-ghost use Rattle.spl_wire.specs.Grouping.{grouped, records_of};
+ghost use Rattle.spl_wire.specs.Grouping.{grouped, records_of, spelled};
 ghost use Rattle.spl_rules.specs.Pack.{packed};
 ghost use Rattle.spl_rules.specs.Cells.{Empty, is_bound, is_empty_cell};
 ghost use Rattle.spl_rules.specs.Plans.{plan_of};
@@ -172,11 +172,11 @@ impl Cell {
         Ok(())
     }
 
-    /// The records of the changes that make the cell of an empty one, in order. An empty cell has
+    /// The byte forms of the records of the changes that make the cell of an empty one, in order. An empty cell has
     /// none, and open rounds aren't packed. An error comes for want of memory alone.
     pub fn pack(&self, alloc: Global) -> Result<PackedRecords, AllocError>
         requires running { self.now.halted ≡ false }
-        ensures records { IfOk result (λ rs. rs ≡ records_of self.now.site.circuit (grouped self.now.site.circuit (packed self.now.state))) }
+        ensures records { IfOk result (λ rs. rs.items ≡ spelled (records_of self.now.site.circuit (grouped self.now.site.circuit (packed self.now.state)))) }
         ensures fits { OnOk result (IsTrue (list_all change_form.fits (packed self.now.state))) }
     {
         packed_cells_have_a_form();

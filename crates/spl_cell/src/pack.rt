@@ -15,13 +15,18 @@ use spl_command::Batch;
 use spl_wire::Change;
 use std::alloc::{AllocError, Global};
 
+/// The changes that memory is taken for before a cell is packed: most cells have no more.
+const ROOM: usize = 8;
+
 /// The changes, and behind them those of the admin group.
 #[tactic(auto, using(crate::proofs::Steps::changes_more))]
 fn acts_behind(first: Vec<Change>, changes: GroupChanges<Act>) -> Result<Vec<Change>, AllocError>
     ensures { IfOk result (λ cs. cs.items ≡ first.items ++ map durable.Admin changes) }
 {
     let mut all = first;
-    for change in changes.into_vec() {
+    let changes = changes.into_vec();
+    all.try_reserve(changes.len())?;
+    for change in changes {
         all.push(Change::Admin(change))?;
     }
     Ok(all)
@@ -36,7 +41,9 @@ fn batches_behind(
     ensures { IfOk result (λ cs. cs.items ≡ first.items ++ map durable.Service changes) }
 {
     let mut all = first;
-    for change in changes.into_vec() {
+    let changes = changes.into_vec();
+    all.try_reserve(changes.len())?;
+    for change in changes {
         all.push(Change::Service(change))?;
     }
     Ok(all)
@@ -69,7 +76,7 @@ impl Held {
     fn bound_packed(&self, alloc: Global) -> Result<Vec<Change>, AllocError>
         ensures { IfOk result (λ cs. cs.items ≡ Change.Bind self.now.bound.definition ∷ Change.Turn self.now.bound.turn ∷ []) }
     {
-        let mut all = Vec::new(alloc);
+        let mut all = Vec::with_capacity(alloc, ROOM)?;
         let definition = self.shared_definition().copy(alloc)?;
         all.push(Change::Bind(definition))?;
         all.push(Change::Turn(self.turn))?;
