@@ -12,7 +12,7 @@ use Rattle.spl_wire.specs.declared.change.Change.{Change}
 use Rattle.spl_wire.specs.declared.record.Record.{Record}
 use Rattle.spl_wire.specs.Changes.{change_form}
 use Rattle.spl_wire.specs.Forms.{record_form}
-use Rattle.spl_wire.specs.Grouping.{most_bytes, record_of, record_size, grouped, records_of, together, is_sized}
+use Rattle.spl_wire.specs.Grouping.{most_bytes, record_of, record_size, grouped, records_of, spelled, together, is_sized}
 use Rattle.spl_wire.proofs.Sizes.{size-of}
 use Rattle.spl_wire.proofs.Groups.{together-grouped}
 use Rattle.spl_rules.proofs.Bounded.{packed-sized}
@@ -20,7 +20,7 @@ use Rattle.spl_rules.proofs.Packed.{packed-stopped}
 use Rattle.spl_rules.specs.Pack.{packed}
 use Rattle.spl_cell.specs.Views.{CellView}
 use Rattle.spl_node.specs.Records.{is_record, record_bytes, changes_about, changes_in}
-use Rattle.spl_node.specs.Kept.{spelled, packed_cell, IsSound, AreFit}
+use Rattle.spl_node.specs.Kept.{packed_cell, IsSound}
 use Rattle.spl_node.proofs.Booleans.{bytes_same, le_is, is_le}
 use Rattle.spl_node.proofs.Reading.{record_again, is_record_again}
 
@@ -77,24 +77,18 @@ groups v sound = groups_of v.site.circuit (grouped v.site.circuit (packed v.stat
 group_fits : (c : CircuitId) (xs : List Change) → IsTrue (circuit_id.fits c) → IsGroup c xs → IsTrue (record_form.fits (record_of c xs))
 group_fits c xs named g = record_fits c xs named g.few g.fit
 
-fits_of : (c : CircuitId) (xss : List (List Change)) → IsTrue (circuit_id.fits c) → AreGroups c xss → AreFit (records_of c xss)
-fits_of c [] named gs = tt
-fits_of c (xs ∷ xss) named gs = (group_fits c xs named gs.0, fits_of c xss named gs.1)
-
--- its records have byte forms
-pub packed_fits : (v : CellView) → IsSound v → AreFit (records_of v.site.circuit (grouped v.site.circuit (packed v.state)))
-packed_fits v sound = fits_of v.site.circuit (grouped v.site.circuit (packed v.state)) sound.named (groups v sound)
-
 good_of : (c : CircuitId) (xss : List (List Change)) → IsTrue (circuit_id.fits c) → AreGroups c xss → AreGood is_record (spelled (records_of c xss))
+unfolding record_bytes
 good_of c [] named gs = tt
 good_of c (xs ∷ xss) named gs = (good_record c xs (group_fits c xs named gs.0) gs.0.short, good_of c xss named gs.1)
 
--- and are good ones
+-- its records are good ones
 pub packed_good : (v : CellView) → IsSound v → AreGood is_record (packed_cell v)
 packed_good v sound = good_of v.site.circuit (grouped v.site.circuit (packed v.state)) sound.named (groups v sound)
 
 -- the changes of its own circuit in them are its packed form, and there are none of another
 own_changes : (c : CircuitId) (xss : List (List Change)) → IsTrue (circuit_id.fits c) → AreGroups c xss → changes_in c (spelled (records_of c xss)) ≡ together xss
+unfolding record_bytes
 own_changes c [] named gs = refl
 own_changes c (xs ∷ xss) named gs =
     let all : changes_about c (Some (record_of c xs)) ≡ xs = rw (bytes_same c) refl in
@@ -102,6 +96,7 @@ own_changes c (xs ∷ xss) named gs =
     ∙ ap (λ (l : List Change). xs ++ l) (own_changes c xss named gs.1)
 
 other_changes : (c other : CircuitId) (xss : List (List Change)) → bytes_eq c other ≡ false → IsTrue (circuit_id.fits c) → AreGroups c xss → changes_in other (spelled (records_of c xss)) ≡ []
+unfolding record_bytes
 other_changes c other [] apart named gs = refl
 other_changes c other (xs ∷ xss) apart named gs =
     let none : changes_about other (Some (record_of c xs)) ≡ [] = rw apart refl in

@@ -11,15 +11,13 @@ use Rattle.spl_circuit.specs.Nodes.{NodeId, CircuitId}
 use Rattle.spl_wire.specs.declared.change.Change.{Change}
 use Rattle.spl_wire.specs.declared.event.Event.{Event}
 use Rattle.spl_wire.specs.Changes.{change_form}
-use Rattle.spl_wire.specs.declared.record.Record.{Record}
-use Rattle.spl_wire.specs.Forms.{record_form}
-use Rattle.spl_wire.specs.Grouping.{grouped, records_of}
+use Rattle.spl_wire.specs.Grouping.{grouped, records_of, spelled}
 use Rattle.spl_rules.specs.Cells.{Cell, Empty, is_bound}
 use Rattle.spl_rules.specs.Changes.{applied, stopped_cell, after_plan}
 use Rattle.spl_rules.specs.Pack.{packed}
 use Rattle.spl_rules.specs.Plans.{plan_of}
 use Rattle.spl_cell.specs.Views.{CellView}
-use Rattle.spl_node.specs.Records.{record_bytes, site_at}
+use Rattle.spl_node.specs.Records.{site_at}
 
 -- cells by their circuits, in the order of the ids
 abbrev pub Entries : Type 0
@@ -47,10 +45,6 @@ abbrev pub cells_with : NodeId → (CircuitId → Cell) → CircuitId → List C
 cells_with here cells c xs id = if bytes_eq c id then applied (site_at here c) (cells c) xs else cells id
 
 -- ---- packed cells
-
-abbrev pub spelled : List Record → List (List ℕ)
-spelled [] = []
-spelled (r ∷ rs) = record_bytes r ∷ spelled rs
 
 -- the records of a packed cell
 abbrev pub packed_cell : CellView → List (List ℕ)
@@ -84,11 +78,6 @@ AreOwn here (e ∷ es) = IsOwn here e.0 e.1 × AreOwn here es
 abbrev pub AreSound : List CellView → Type 0
 AreSound [] = Unit {0}
 AreSound (v ∷ vs) = IsSound v × AreSound vs
-
--- each record has a byte form
-abbrev pub AreFit : List Record → Type 0
-AreFit [] = Unit {0}
-AreFit (r ∷ rs) = IsTrue (record_form.fits r) × AreFit rs
 
 -- ---- the roll
 

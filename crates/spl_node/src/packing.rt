@@ -1,35 +1,22 @@
 //! The records into which the cells of a node pack, and the ids of the bound ones.
-ghost use Rattle.std.specs.Prelude.{◌≡◌, ◌++◌, ◌∷◌, [], IsTrue, IfOk, OnOk};
+ghost use Rattle.std.specs.Prelude.{◌≡◌, ◌++◌, IfOk, OnOk};
 ghost use Rattle.std.specs.Map.{values_of};
-ghost use Rattle.spl_wire.specs.Forms.{record_form};
-ghost use Rattle.spl_node.specs.Records.{record_bytes};
-ghost use Rattle.spl_node.specs.Kept.{IsSound, AreFit, AreSound, bound_ids, packed_cell, packed_cells, spelled};
+ghost use Rattle.spl_node.specs.Kept.{IsSound, AreSound, bound_ids, packed_cell, packed_cells};
 
 use crate::cells::Cells;
-use spl_base::{CircuitId, Listing};
+use spl_base::{CircuitId, Listing, Piece};
 use spl_cell::Cell;
 use spl_journal::Records;
 use spl_snapshot::Packed;
-use spl_wire::Record;
 use std::alloc::{AllocError, Global};
 use std::collections::BTreeMap;
 
-/// The byte form of a record joins a list.
-fn put_record(records: &mut Records, alloc: Global, item: &Record) -> Result<(), AllocError>
-    requires { IsTrue (record_form.fits item.now) }
-    ensures { OnOk result (records.new ≡ records.old ++ record_bytes item.now ∷ []) }
+/// The byte forms of records join a list, without a copy.
+fn put_pieces(records: &mut Records, pieces: Vec<Piece>) -> Result<(), AllocError>
+    ensures { OnOk result (records.new ≡ records.old ++ pieces.items) }
 {
-    let bytes = item.write(alloc)?;
-    records.take(bytes)
-}
-
-/// The byte forms of records join a list.
-fn put_records(records: &mut Records, alloc: Global, packed: &[Record]) -> Result<(), AllocError>
-    requires { AreFit packed.now }
-    ensures { OnOk result (records.new ≡ records.old ++ spelled packed.now) }
-{
-    for item in packed {
-        put_record(records, alloc, item)?;
+    for piece in pieces {
+        records.take(piece)?;
     }
     Ok(())
 }
@@ -39,8 +26,8 @@ fn put_cell(records: &mut Records, alloc: Global, cell: &Cell) -> Result<(), All
     requires { IsSound cell.now }
     ensures { OnOk result (records.new ≡ records.old ++ packed_cell cell.now) }
 {
-    let packed = cell.pack(alloc)?;
-    put_records(records, alloc, packed.as_slice())
+    let pieces = cell.pack(alloc)?;
+    put_pieces(records, pieces)
 }
 
 /// The records of all cells of a map, in the order of the ids.
