@@ -107,6 +107,7 @@ impl Cell {
 
     /// What an event gives: an answer, durable changes, a move of the open round of each group, and
     /// messages. Nothing is changed. An error comes for want of memory alone.
+    #[inline(always)]
     pub fn plan(&self, alloc: Global, event: &Event) -> Result<Plan, AllocError>
         requires running { self.now.halted ≡ false }
         requires own { IsFor self.now.site event.now }
@@ -134,6 +135,7 @@ impl Cell {
 
     /// Makes the changes of a plan, each where it fits, and then its moves. An error comes for want
     /// of memory alone, and the cell is halted then.
+    #[inline(always)]
     pub fn apply(&mut self, alloc: Global, plan: &Plan) -> Result<(), AllocError>
         requires running { self.old.halted ≡ false }
         requires fits { FitsMoveAt self.old.site.here (applied self.old.site self.old.state plan.now.changes) plan.now.admin plan.now.service }

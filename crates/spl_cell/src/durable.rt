@@ -50,12 +50,16 @@ pub(crate) fn queued<V>(change: &GroupChange<V>) -> Option<&V>
 
 /// The changes, and behind them those of the admin group.
 #[tactic(auto, using(crate::proofs::Steps::changes_more))]
+#[inline(always)]
 pub(crate) fn with_acts(
     first: ChangeList,
     changes: GroupChanges<Act>,
 ) -> Result<ChangeList, AllocError>
     ensures { IfOk result (λ cs. cs ≡ first ++ map durable.Admin changes) }
 {
+    if changes.as_slice().is_empty() {
+        return Ok(first);
+    }
     let mut all = first;
     for change in changes.into_vec() {
         all.push(Change::Admin(change))?;
@@ -65,12 +69,16 @@ pub(crate) fn with_acts(
 
 /// The changes, and behind them those of the service group.
 #[tactic(auto, using(crate::proofs::Steps::changes_more))]
+#[inline(always)]
 pub(crate) fn with_batches(
     first: ChangeList,
     changes: GroupChanges<Batch>,
 ) -> Result<ChangeList, AllocError>
     ensures { IfOk result (λ cs. cs ≡ first ++ map durable.Service changes) }
 {
+    if changes.as_slice().is_empty() {
+        return Ok(first);
+    }
     let mut all = first;
     for change in changes.into_vec() {
         all.push(Change::Service(change))?;

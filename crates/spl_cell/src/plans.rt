@@ -88,6 +88,7 @@ impl Site {
 
     /// What the admin group of a definition gives, behind a first change. A message came from
     /// `back`.
+    #[inline(always)]
     pub(crate) fn admin_plan(
         &self,
         alloc: Global,
@@ -116,6 +117,7 @@ impl Site {
     }
 
     /// What the service group of a definition gives. A message came from `back`.
+    #[inline(always)]
     pub(crate) fn service_plan(
         &self,
         alloc: Global,

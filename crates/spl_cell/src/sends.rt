@@ -26,6 +26,7 @@ fn service_on(definition: &Definition, node: &NodeId) -> ServiceId
 impl Site {
     /// The messages, and behind them those of the admin group of a definition.
     #[tactic(auto, using(crate::proofs::Steps::sends_more))]
+    #[inline(always)]
     pub(crate) fn with_admin_sends(
         &self,
         alloc: Global,
@@ -36,6 +37,9 @@ impl Site {
     ) -> Result<SendList, AllocError>
         ensures { IfOk result (λ ss. ss ≡ first ++ group_sends (admin_lane (site_of self.now) definition.now) back.now messages) }
     {
+        if messages.as_slice().is_empty() {
+            return Ok(first);
+        }
         let mut sends = first;
         for (position, body) in messages.into_vec() {
             let to = node_or(definition.members.as_slice(), back, position);
@@ -48,6 +52,7 @@ impl Site {
     }
 
     /// A message from the service here to that on a member.
+    #[inline(always)]
     fn service_message(
         &self,
         alloc: Global,
@@ -72,6 +77,7 @@ impl Site {
 
     /// The messages, and behind them those of the service group of a definition.
     #[tactic(auto, using(crate::proofs::Steps::sends_more, crate::proofs::Rosters::node_or_member))]
+    #[inline(always)]
     pub(crate) fn with_service_sends(
         &self,
         alloc: Global,
@@ -85,6 +91,9 @@ impl Site {
         requires answered { is_member definition.now back.now ≡ true }
         ensures { IfOk result (λ ss. ss ≡ first ++ group_sends (service_lane (site_of self.now) definition.now) back.now messages) }
     {
+        if messages.as_slice().is_empty() {
+            return Ok(first);
+        }
         let mut sends = first;
         for (position, body) in messages.into_vec() {
             let to = node_or(definition.members.as_slice(), back, position);

@@ -38,6 +38,7 @@ impl Held {
     }
 
     /// The groups go on by a tick or an expire, the service group where the circuit is active here.
+    #[inline(always)]
     pub(crate) fn turns(
         &self,
         alloc: Global,

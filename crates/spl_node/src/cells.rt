@@ -111,6 +111,7 @@ impl Cells {
 
     /// Carries out the plan of an event at the cell of a circuit. After an error, which comes for
     /// want of memory alone, that cell is lost.
+    #[inline(always)]
     pub fn handle(
         &mut self,
         alloc: Global,

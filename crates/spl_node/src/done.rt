@@ -59,6 +59,7 @@ fn recorded(
 }
 
 /// Carries out the plan of an event at a cell. After an error the cell may be halted.
+#[inline(always)]
 fn carried_out(cell: &mut Cell, alloc: Global, event: &Event) -> Result<Done, AllocError>
     requires sound { IsSound cell.old }
     requires own { IsFor cell.old.site event.now }
@@ -85,6 +86,7 @@ fn carried_out(cell: &mut Cell, alloc: Global, event: &Event) -> Result<Done, Al
 }
 
 /// The same, but a root keeps the digests that it makes, and after an error the cell is empty.
+#[inline(always)]
 pub(crate) fn handled(cell: &mut Cell, alloc: Global, event: &Event) -> Result<Done, AllocError>
     requires sound { IsSound cell.old }
     requires own { IsFor cell.old.site event.now }

@@ -76,6 +76,13 @@ impl Host {
         self.id
     }
 
+    /// Its id.
+    pub fn node(&self) -> &NodeId
+        ensures { result.now ≡ host_id self.now }
+    {
+        &self.id
+    }
+
     /// Whether it is up.
     pub fn is_up(&self) -> bool
         ensures { result ≡ is_up self.now }

@@ -110,6 +110,7 @@ impl Node {
     /// An event at the cell of a circuit. Where it changes the cell, the record of the changes is
     /// kept before the answer comes, and where that leaves no room for more, all cells are written
     /// anew on the other disk. After an error the node is halted.
+    #[inline(always)]
     pub fn step<D: Disk>(
         &mut self,
         alloc: Global,

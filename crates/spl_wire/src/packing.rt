@@ -1,9 +1,9 @@
 //! Records of changes that build a cell.
-ghost use Rattle.std.specs.Prelude.{◌≡◌, ◌≤◌, ◌<◌, IsTrue, IfOk, OnOk, length, []};
+ghost use Rattle.std.specs.Prelude.{◌≡◌, ◌+◌, ◌≤◌, ◌<◌, IsTrue, IfOk, OnOk, length, [], false};
 ghost use Rattle.std.specs.List.{list_all};
 ghost use Rattle.spl_wire.specs.Changes.{change_form};
 ghost use Rattle.spl_wire.specs.Grouping.{grouped, records_of, spelled};
-ghost use Rattle.spl_wire.specs.Packing.{sealed, sealed_size, is_full, closed, placed, taken, finished};
+ghost use Rattle.spl_wire.specs.Packing.{sealed, sealed_size, is_full, closed, placed, counted, taken, finished};
 
 use crate::change::Change;
 use crate::record::MOST_CHANGES;

@@ -13,7 +13,7 @@ loop-position-preserved c =
     let back = c.args.back.now in
     let at = c.in-Some.position in
     let body = c.in-Some.body in
-    let to = c.node_or-to.ensures ∙ ap (λ ms. node_or ms back at) c.as_slice.ensures in
+    let to = c.node_or-to.ensures ∙ ap (λ ms. node_or ms back at) c.as_slice-in-loop-position.ensures in
     let one = c.in_ok-service_message.ensures ∙ ap (λ (n : NodeId). let o : Outgoing = record { to = n; message = lane.message n body } in o) to in
     c.in_ok-push.ensures.ok
     ∙ (ap (λ o. c.loop-position.sends ++ o ∷ []) one
