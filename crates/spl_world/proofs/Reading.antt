@@ -1,18 +1,19 @@
 -- What the nodes tell of the world that they stand for.
-use Rattle.std.proofs.Common.{◌≡◌, ℕ, zero, suc, Bool, true, false, ◌||◌, List, [], ◌∷◌, Some, None, slice_get, if◌then◌else◌, refl, ap, sym, ◌∙◌, subst}
+use Rattle.std.proofs.Common.{◌≡◌, ◌⊎◌, ℕ, zero, suc, Bool, true, false, ◌||◌, List, [], ◌∷◌, length, replicate, Some, None, slice_get, if◌then◌else◌, refl, ap, sym, ◌∙◌, subst, inl, inr}
 use Rattle.std.specs.Str.{bytes_eq}
 use Rattle.std.proofs.lemmas.Bool.{or_right}
 use Rattle.spl_circuit.specs.Nodes.{NodeId, CircuitId, has_node}
 use Rattle.spl_rules.specs.Cells.{Cell}
 use Rattle.spl_cell.specs.Due.{due}
 use Rattle.spl_model.specs.Worlds.{World as CircuitWorld, site_at, messages, on_pair}
-use Rattle.spl_world.specs.Calms.{due_at}
+use Rattle.spl_world.specs.Calms.{due_at, row_of}
 use Rattle.spl_world.specs.Kept.{lists_about, sent_to}
 use Rattle.spl_world.specs.Views.{Nodes, Holds, slot_id, slot_ids, slot_up, view_in}
 use Rattle.spl_world.specs.declared.slot.Slot.{Slot}
 use Rattle.spl_world.proofs.Slots.{same_at}
 use Rattle.spl_world.proofs.Up.{up_as}
 use Rattle.spl_base.specs.Booleans.{bytes_same}
+use Rattle.spl_agree.proofs.Tests.{bool_cases}
 
 -- whether a tick has anything to do at a node, and in each world that the nodes stand for
 pub due_as : (xs : Nodes) (i : ℕ) (x : Slot) (c : CircuitId) (n : NodeId) (m : CircuitWorld) → slice_get xs.slots i ≡ Some x → slice_get (slot_ids xs.slots) i ≡ Some n → Holds c m xs → (if slot_up x then due (site_at (slot_id x) c) ((view_in xs x).cells c) else None) ≡ due_at c m n
@@ -37,3 +38,22 @@ messages_as xs i j x y c a b m there also at to h off =
 
 pub no_messages : (m : CircuitWorld) (a b : NodeId) → bytes_eq a b ≡ true → messages m a b ≡ []
 no_messages m a b same = rw same refl
+
+-- nothing that was sent about a circuit is for anyone
+pub silent_as : (xs : Nodes) (i : ℕ) (x : Slot) (c : CircuitId) (a b : NodeId) (m : CircuitWorld) → slice_get xs.slots i ≡ Some x → slice_get (slot_ids xs.slots) i ≡ Some a → has_node (slot_ids xs.slots) b ≡ true → Holds c m xs → lists_about x.posts c ≡ []
+    → messages m a b ≡ []
+silent_as xs i x c a b m there at known h silent = go (bool_cases (bytes_eq a b))
+  where
+    go : (bytes_eq a b ≡ true) ⊎ (bytes_eq a b ≡ false) → messages m a b ≡ []
+    go (inl q) = no_messages m a b q
+    go (inr q) =
+        let sent : sent_to (lists_about x.posts c) b ≡ on_pair a b m.sent =
+        (h.each i x there).sent b (ap (λ ns. has_node ns b) h.nodes ∙ known) ∙ ap (λ (k : NodeId). on_pair k b m.sent) (same_at xs.slots i x a there at) in
+        let whole : messages m a b ≡ on_pair a b m.sent = rw q refl in
+        whole ∙ (sym sent ∙ ap (λ ls. sent_to ls b) silent)
+
+-- a row of zeros
+pub zeros_of : (f : NodeId → NodeId → ℕ) (a : NodeId) (bs : List NodeId) → ((j : ℕ) (b : NodeId) → slice_get bs j ≡ Some b → f a b ≡ zero) → replicate (length bs) zero ≡ row_of f a bs
+zeros_of f a [] none = refl
+zeros_of f a (b ∷ bs) none =
+    ap (λ (k : ℕ). k ∷ replicate (length bs) zero) (sym (none zero b refl)) ∙ ap (λ (ks : List ℕ). f a b ∷ ks) (zeros_of f a bs (λ j d e. none (suc j) d e))

@@ -29,7 +29,11 @@ impl World {
         ensures wide { IfOk result (λ r. length r.items ≡ length self.now.slots.items) }
         ensures counts { (is : List Images) (m : CircuitWorld) (a : Id) → Holds circuit.now m (over self.now is) → IsAt self.now from a → IfOk result (λ r. r.items ≡ row_of (sent_count m) a (ids_of self.now)) }
     {
-        let mut row = Vec::new(alloc);
+        let mut row = Vec::with_capacity(alloc, self.len())?;
+        if self.slots[from].is_silent(circuit) {
+            row.resize(self.len(), 0)?;
+            return Ok(row);
+        }
         for to in 0..self.len() {
             row.push(self.count(from, to, circuit))?;
         }

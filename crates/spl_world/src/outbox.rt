@@ -75,6 +75,7 @@ impl Outbox {
     }
 
     /// Messages are sent, in their order.
+    #[inline(always)]
     pub fn post_all(&mut self, alloc: Global, sends: &[Outgoing]) -> Result<(), AllocError>
         ensures sent { OnOk result ((b : Id) → sent_to self.new b ≡ sent_to self.old b ++ sends_to b sends.now) }
         ensures about { (c : Id) → ((b : Id) → AllBelong c (sent_to self.old b)) → SendsBelong c sends.now → (b : Id) → AllBelong c (sent_to self.new b) }

@@ -1,5 +1,5 @@
 //! What a node ever sent.
-ghost use Rattle.std.specs.Prelude.{◌≡◌, ◌++◌, [], length, slice_get, false, OnOk};
+ghost use Rattle.std.specs.Prelude.{◌≡◌, ◌++◌, [], length, slice_get, true, false, OnOk};
 ghost use Rattle.std.specs.Option.{option_copied};
 ghost use Rattle.std.specs.Str.{bytes_eq};
 ghost use Rattle.spl_circuit.specs.Nodes.{NodeId as Id};
@@ -38,6 +38,13 @@ impl Posts {
         }
     }
 
+    /// Whether nothing was sent about a circuit.
+    pub fn is_silent(&self, circuit: &CircuitId) -> bool
+        ensures { result ≡ true → lists_about self.now circuit.now ≡ [] }
+    {
+        self.outboxes.get(circuit).is_none()
+    }
+
     /// How many messages about a circuit were sent to a node.
     pub fn count(&self, circuit: &CircuitId, to: &NodeId) -> usize
         ensures { result ≡ length (sent_to (lists_about self.now circuit.now) to.now) }
@@ -61,6 +68,7 @@ impl Posts {
     }
 
     /// Messages about a circuit are sent, in their order.
+    #[inline(always)]
     pub fn post(
         &mut self,
         alloc: Global,

@@ -77,6 +77,13 @@ impl Slot {
         self.host.id()
     }
 
+    /// Its id.
+    pub fn node(&self) -> &NodeId
+        ensures { result.now ≡ slot_id self.now }
+    {
+        self.host.node()
+    }
+
     /// The position of its disks among the pairs.
     pub fn position(&self) -> usize
         ensures { result ≡ self.now.position }
@@ -247,6 +254,13 @@ impl Slot {
         ensures bound { IfOk result (λ ids. (is : Images) (c : Id) → list_any (bytes_eq c) ids ≡ is_bound ((node_view self.now is).cells c)) }
     {
         self.host.roll(alloc)
+    }
+
+    /// Whether it sent nothing about a circuit.
+    pub fn is_silent(&self, circuit: &CircuitId) -> bool
+        ensures { result ≡ true → lists_about self.now.posts circuit.now ≡ [] }
+    {
+        self.posts.is_silent(circuit)
     }
 
     /// How many messages about a circuit were sent to a node.

@@ -142,7 +142,7 @@ impl World {
         requires to_below { to < length self.now.slots.items }
         ensures { (a b : Id) → IsAt self.now from a → IsAt self.now to b → result ≡ bytes_eq a b }
     {
-        self.slots[from].id() == self.slots[to].id()
+        self.slots[from].node() == self.slots[to].node()
     }
 
     // How many messages about a circuit one node sent to another.
@@ -151,11 +151,11 @@ impl World {
         requires to_below { to < length self.now.slots.items }
         ensures { (is : List Images) (m : CircuitWorld) (a b : Id) → Holds circuit.now m (over self.now is) → IsAt self.now from a → IsAt self.now to b → result ≡ length (messages m a b) }
     {
-        if self.is_same(from, to) {
+        if from == to {
             return 0;
         }
-        let recipient = self.slots[to].id();
-        self.slots[from].count(circuit, &recipient)
+        let recipient = self.slots[to].node();
+        self.slots[from].count(circuit, recipient)
     }
 
     // The message of this index, from 0, of those about a circuit that one node sent to another; None
@@ -173,8 +173,8 @@ impl World {
         ensures value { (is : List Images) (m : CircuitWorld) (a b : Id) → Holds circuit.now m (over self.now is) → IsAt self.now from a → IsAt self.now to b → option_copied result ≡ slice_get (messages m a b) index }
         ensures belongs { IfSome (option_copied result) (λ x. belongs circuit.now x ≡ true) }
     {
-        let recipient = self.slots[to].id();
-        self.slots[from].message(circuit, &recipient, index)
+        let recipient = self.slots[to].node();
+        self.slots[from].message(circuit, recipient, index)
     }
 
     // The delivery of the message of this index, from 0, of those about a circuit that one node sent
