@@ -4,6 +4,7 @@ ghost use Rattle.std.specs.Prelude.{◌≡◌, ◌≤◌, ◌<◌, ◌^◌, leng
 use crate::fault::Malformed;
 use crate::field::Field;
 use crate::reader::Reader;
+use crate::short::Short;
 use crate::writer::Writer;
 use std::alloc::{AllocError, Global};
 use std::marker::Model;
@@ -11,18 +12,28 @@ use std::marker::Model;
 /// How many bytes a byte string has at most where it is read.
 pub const LONGEST_PIECE: u16 = 1024;
 
-/// A byte string. Contracts see the bytes.
+/// How many bytes a byte string has at most that stands in the value itself.
+const ROOM: usize = 15;
+
+/// A byte string. A copy of at most 15 bytes takes no memory. Contracts see the bytes.
 #[derive(Debug, Drop)]
 pub struct Piece {
-    bytes: Vec<u8>,
+    bytes: Bytes,
+}
+
+#[derive(Debug, Drop)]
+enum Bytes {
+    Short(Short<ROOM>),
+    Long(Vec<u8>),
 }
 
 impl Model for Piece {
     ghost use Rattle.std.specs.Prelude.{List, ℕ};
+    ghost use Rattle.spl_base.specs.Pieces.{bytes_of};
 
     ghost Value = { List ℕ };
 
-    ghost view = { λ a. a.bytes.items };
+    ghost view = { λ a. bytes_of a.bytes };
 }
 
 impl Piece {
@@ -30,23 +41,31 @@ impl Piece {
     pub fn from_vec(bytes: Vec<u8>) -> Piece
         ensures { result ≡ bytes.items }
     {
-        Piece { bytes }
+        Piece {
+            bytes: Bytes::Long(bytes),
+        }
     }
 
     /// A copy of the bytes. An error comes for want of memory alone.
     pub fn from(alloc: Global, bytes: &[u8]) -> Result<Piece, AllocError>
         ensures { IfOk result (λ p. p ≡ bytes.now) }
     {
-        Ok(Piece {
-            bytes: Vec::from_slice(alloc, bytes)?,
-        })
+        let bytes = if bytes.len() <= ROOM {
+            Bytes::Short(Short::new(bytes))
+        } else {
+            Bytes::Long(Vec::from_slice(alloc, bytes)?)
+        };
+        Ok(Piece { bytes })
     }
 
     /// Its bytes.
     pub fn bytes(&self) -> &[u8]
         ensures { result.now ≡ self.now }
     {
-        self.bytes.as_slice()
+        match &self.bytes {
+            Bytes::Short(bytes) => bytes.bytes(),
+            Bytes::Long(bytes) => bytes.as_slice(),
+        }
     }
 }
 
