@@ -16,6 +16,7 @@ use crate::site::Site;
 use crate::state::State;
 use spl_base::{CircuitId, NodeId};
 use spl_rules::{cells_stay_valid, packed_cells_have_a_form, plans_fit_cells, plans_have_bounds};
+use spl_state::RunCache;
 use spl_wire::{ChangeList, Event, PackedRecords, Plan, packed_records};
 use std::alloc::{AllocError, Global};
 use std::marker::Model;
@@ -187,12 +188,13 @@ impl Cell {
     }
 
     /// Keeps the digests of the state anew, so that telling its root costs nothing; nothing that is
-    /// seen changes.
-    pub fn renew(&mut self)
+    /// seen changes. Cells of equal states that are renewed in turn share most of the work by the
+    /// cache.
+    pub fn renew(&mut self, cache: &mut RunCache)
         ensures { self.new ≡ self.old }
     {
         if let State::Held(held) = &mut self.state {
-            held.renew();
+            held.renew(cache);
         }
     }
 

@@ -20,6 +20,7 @@ use spl_circuit::{Act, Definition, Lifecycle, Mark, Members};
 use spl_command::Batch;
 use spl_commit::Member;
 use spl_scabbard::Service;
+use spl_state::RunCache;
 use spl_wire::{ChangeList, Plan};
 use std::alloc::{AllocError, Global};
 use std::marker::Model;
@@ -113,10 +114,10 @@ impl Held {
     }
 
     /// Keeps the digests of the state anew.
-    pub(crate) fn renew(&mut self)
+    pub(crate) fn renew(&mut self, cache: &mut RunCache)
         ensures { self.new ≡ self.old }
     {
-        self.batches.renew();
+        self.batches.renew(cache);
     }
 
     /// The acts that are committed here, and the definition, which breaks no rule.

@@ -4,11 +4,16 @@ use spl_rows::{
     Answered, RowFault, Telling, address, byte, bytes, halves, hex_text, made, name_and_rest,
     state_text, words,
 };
-use spl_state::{Address, Prefix, State};
+use spl_state::{Address, Prefix, RunCache, State};
 use std::alloc::Global;
 
-/// Does what a word says, and tells of it.
-fn done(alloc: Global, state: &mut State, word: &str) -> Result<&'static str, RowFault> {
+/// Does what a word says, and tells of it. The words of a row share a cache.
+fn done(
+    alloc: Global,
+    state: &mut State,
+    cache: &mut RunCache,
+    word: &str,
+) -> Result<&'static str, RowFault> {
     let (name, rest) = name_and_rest(word);
     match name {
         "set" => {
@@ -22,7 +27,7 @@ fn done(alloc: Global, state: &mut State, word: &str) -> Result<&'static str, Ro
             Ok(if found { "deleted" } else { "not there" })
         }
         "renew" => {
-            state.renew();
+            state.renew(cache);
             Ok("renewed")
         }
         _ => Err(RowFault::BadRow),
@@ -30,8 +35,9 @@ fn done(alloc: Global, state: &mut State, word: &str) -> Result<&'static str, Ro
 }
 
 fn do_all(alloc: Global, state: &mut State, words: &[&str]) -> Result<(), RowFault> {
+    let mut cache = RunCache::new();
     for word in words {
-        done(alloc, state, word)?;
+        done(alloc, state, &mut cache, word)?;
     }
     Ok(())
 }
@@ -45,15 +51,16 @@ pub fn state(alloc: Global, text: &str) -> Result<State, RowFault> {
 }
 
 /// What a word does, and the root behind it.
-fn step_text(alloc: Global, state: &mut State, word: &str) -> Answered {
-    let what = done(alloc, state, word)?;
+fn step_text(alloc: Global, state: &mut State, cache: &mut RunCache, word: &str) -> Answered {
+    let what = done(alloc, state, cache, word)?;
     let root = hex_text(alloc, &state.root())?;
     made(format!(in alloc; "{what}, {root}"))
 }
 
 fn tell_steps(alloc: Global, told: &mut Telling, state: &mut State, words: &[&str]) {
+    let mut cache = RunCache::new();
     for word in words {
-        told.tell("\n  ", step_text(alloc, state, word));
+        told.tell("\n  ", step_text(alloc, state, &mut cache, word));
     }
 }
 

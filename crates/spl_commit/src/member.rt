@@ -117,9 +117,9 @@ impl<M: Agreed> Member<M> {
 
 impl<M: Agreed + Renew> Member<M> {
     /// Makes anew what its content keeps beside the list; nothing that is seen changes.
-    pub fn renew(&mut self)
+    pub fn renew(&mut self, cache: &mut M::Cache)
         ensures { self.new ≡ self.old }
     {
-        self.content.renew();
+        self.content.renew(cache);
     }
 }

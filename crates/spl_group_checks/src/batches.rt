@@ -6,6 +6,7 @@ use spl_rows::{
     Answered, RowFault, Telling, batch, halves, hex_text, made, number, receipts_text, state_text,
 };
 use spl_scabbard::Service;
+use spl_state::RunCache;
 use std::alloc::Global;
 
 /// The batch of the words behind a circuit.
@@ -72,7 +73,7 @@ fn tell_kept(alloc: Global, told: &mut Telling, service: &Service, ids: &str) {
 fn tell_left(alloc: Global, told: &mut Telling, service: &mut Service) {
     told.tell("\n  state ", state_text(alloc, service.state()));
     told.tell("\n  root ", hex_text(alloc, &service.root()));
-    service.renew();
+    service.renew(&mut RunCache::new());
     told.tell(", renewed ", hex_text(alloc, &service.root()));
 }
 

@@ -7,6 +7,7 @@ use Rattle.std.specs.Cmp.Lexicographic.{slice_cmp}
 use Rattle.std.specs.BTreeMap.{is_at, insert_entry}
 use Rattle.std.specs.Map.{lookup, set_value}
 use Rattle.std.specs.Str.{bytes_eq}
+use Rattle.std.proofs.lemmas.Map.Steps.{set_value_same}
 use Rattle.std.proofs.lemmas.Map.Text.{is_eq-slice_cmp}
 use Rattle.spl_agree.proofs.Tests.{bool_cases}
 use Rattle.spl_circuit.specs.Nodes.{NodeId, CircuitId}
@@ -50,6 +51,10 @@ set_own here c (e ∷ es) v own new = by (bool_cases (is_at (order c) e.0)) (set
     by : (is_at (order c) e.0 ≡ true) ⊎ (is_at (order c) e.0 ≡ false) → AreOwn here (set_value (is_at (order c)) es v) → AreOwn here (set_value (is_at (order c)) (e ∷ es) v)
     by (inl h) later = rw h (subst (λ (k : CircuitId). IsOwn here k v) (at_is c e.0 h) new, own.1)
     by (inr h) later = rw h (own.0, later)
+
+-- where it is what was there, nothing changes
+pub written_same : (c : CircuitId) (old new : Entries) (v w : CellView) → lookup (is_at (order c)) old ≡ Some v → new ≡ set_value (is_at (order c)) old w → w ≡ v → new ≡ old
+written_same c old new v w found is same = is ∙ (ap (λ (x : CellView). set_value (is_at (order c)) old x) same ∙ set_value_same (is_at (order c)) old v found)
 
 -- a cell more
 pub insert_own : (here : NodeId) (c : CircuitId) (es : Entries) (v : CellView) → AreOwn here es → IsOwn here c v → AreOwn here (insert_entry order es c v)

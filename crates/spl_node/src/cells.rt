@@ -20,6 +20,7 @@ use crate::done::{Done, handled, no_circuit, replayed};
 use spl_base::{CircuitId, NodeId};
 use spl_cell::Cell;
 use spl_rules::records_are_formed;
+use spl_state::RunCache;
 use spl_wire::{Event, Record};
 use std::alloc::{AllocError, Global};
 use std::collections::BTreeMap;
@@ -154,6 +155,16 @@ impl Cells {
         }
         keep(&mut self.map, circuit, cell)?;
         Ok(done)
+    }
+
+    /// Makes the digests of the state of a circuit's cell anew, so that telling its root costs
+    /// nothing; nothing that is seen changes.
+    pub fn renew(&mut self, circuit: &CircuitId, cache: &mut RunCache)
+        ensures { self.new ≡ self.old }
+    {
+        if let Some(cell) = self.map.get_mut(circuit) {
+            cell.renew(cache);
+        }
     }
 
     /// Makes the changes of a record that was read at the cell of its circuit. After an error,

@@ -85,7 +85,7 @@ fn carried_out(cell: &mut Cell, alloc: Global, event: &Event) -> Result<Done, Al
     })
 }
 
-/// The same, but a root keeps the digests that it makes, and after an error the cell is empty.
+/// The same, but after an error the cell is empty.
 #[inline(always)]
 pub(crate) fn handled(cell: &mut Cell, alloc: Global, event: &Event) -> Result<Done, AllocError>
     requires sound { IsSound cell.old }
@@ -95,9 +95,6 @@ pub(crate) fn handled(cell: &mut Cell, alloc: Global, event: &Event) -> Result<D
     ensures sound { IsSound cell.new }
     ensures given { IfOk result (λ done. IsGiven cell.old.site cell.old.state (plan_of cell.old.site cell.old.state event.now) done) }
 {
-    if matches!(event, Event::Root) {
-        cell.renew();
-    }
     match carried_out(cell, alloc, event) {
         Ok(done) => Ok(done),
         Err(AllocError) => {

@@ -30,6 +30,7 @@ use crate::{Node, Outcome, Stopping};
 use spl_base::{CircuitId, Listing, NodeId};
 use spl_edge::{Disk, Fill, Pair, StopDisk};
 use spl_journal::JournalFault;
+use spl_state::RunCache;
 use spl_wire::Event;
 use std::alloc::{AllocError, Global};
 
@@ -99,6 +100,16 @@ impl Host {
         match &self.node {
             Some(node) => node.due(circuit),
             None => None,
+        }
+    }
+
+    /// Makes the digests of the state of a circuit's cell anew, where the node is up, so that
+    /// telling its root costs nothing; nothing that is seen changes.
+    pub fn renew(&mut self, circuit: &CircuitId, cache: &mut RunCache)
+        ensures { self.new ≡ self.old }
+    {
+        if let Some(node) = &mut self.node {
+            node.renew(circuit, cache);
         }
     }
 

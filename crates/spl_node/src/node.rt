@@ -35,6 +35,7 @@ use spl_base::{CircuitId, Listing, NodeId};
 use spl_edge::{Disk, Pair};
 use spl_journal::JournalFault;
 use spl_snapshot::{Pairing, appends_to_pairs_are_kept_or_lost, format_pair};
+use spl_state::RunCache;
 use spl_wire::{Answer, Event, SendList};
 use std::alloc::{AllocError, Global};
 
@@ -105,6 +106,14 @@ impl Node {
         ensures { result ≡ chosen (is_second self.now.pairing) 0 1 }
     {
         self.pairing.counting()
+    }
+
+    /// Makes the digests of the state of a circuit's cell anew, so that telling its root costs
+    /// nothing; nothing that is seen changes.
+    pub fn renew(&mut self, circuit: &CircuitId, cache: &mut RunCache)
+        ensures { self.new ≡ self.old }
+    {
+        self.cells.renew(circuit, cache);
     }
 
     /// An event at the cell of a circuit. Where it changes the cell, the record of the changes is

@@ -11,7 +11,7 @@ use indexmap::IndexMap;
 use spl_agree::{Place, Reason, Renew};
 use spl_base::{BatchId, BatchIds, Listing};
 use spl_command::{Batch, Receipts, Verdict, execute};
-use spl_state::State;
+use spl_state::{RunCache, State};
 use std::alloc::{AllocError, Global};
 use std::marker::Model;
 
@@ -136,8 +136,10 @@ impl Service {
 }
 
 impl Renew for Service {
+    type Cache = RunCache;
+
     /// Makes the state's stale digests anew.
-    fn renew(&mut self) {
-        self.state.renew();
+    fn renew(&mut self, cache: &mut RunCache) {
+        self.state.renew(cache);
     }
 }

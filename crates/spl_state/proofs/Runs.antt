@@ -157,3 +157,14 @@ unfolding raised
 raised_more m d p below h =
     let left : m - d ≡ suc (m - (d + 1)) = omega arith in
     ap (λ n. raised n d p below) left
+
+-- the run depends on its digits alone
+pub raised_same : (n k : ℕ) (a b : Address) (below : List ℕ) → same_digits n k a b ≡ true → raised n k a below ≡ raised n k b below
+unfolding raised same_digits
+raised_same zero k a b below h = refl
+raised_same (suc n) k a b below h =
+    let both : ((digit_of b.0 k == digit_of a.0 k) && same_digits n (k + 1) a b) ≡ true = h in
+    let here : digit_of b.0 k ≡ digit_of a.0 k = grind arith in
+    let more : same_digits n (k + 1) a b ≡ true = grind arith in
+    ap (λ j. sha256 (1 ∷ joined (lone j (raised n (k + 1) a below)) 16)) (sym here)
+    ∙ ap (λ r. sha256 (1 ∷ joined (lone (digit_of b.0 k) r) 16)) (raised_same n (k + 1) a b below more)

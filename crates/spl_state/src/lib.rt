@@ -7,10 +7,12 @@ mod digest;
 mod draft;
 mod piece;
 mod prefix;
+mod run_cache;
 mod state;
 mod tree;
 
 pub use address::Address;
 pub use draft::Draft;
 pub use prefix::Prefix;
+pub use run_cache::RunCache;
 pub use state::State;

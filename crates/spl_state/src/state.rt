@@ -10,6 +10,7 @@ ghost use Rattle.spl_state.specs.Root.{node_at, digits_of};
 use crate::address::Address;
 use crate::piece::Piece;
 use crate::prefix::Prefix;
+use crate::run_cache::RunCache;
 use crate::tree::Tree;
 use std::alloc::{AllocError, Global};
 use std::marker::Model;
@@ -149,11 +150,12 @@ impl State {
         self.tree.digest_at(address, digits as usize)
     }
 
-    /// Makes each stale digest anew, so that the next root costs nothing. The entries stay.
-    pub fn renew(&mut self)
+    /// Makes each stale digest anew, so that the next root costs nothing. The entries stay. Most of
+    /// the work is shared by states that are equal and are renewed with one cache in turn.
+    pub fn renew(&mut self, cache: &mut RunCache)
         ensures { self.new ≡ self.old }
     {
-        self.tree.renew();
+        self.tree.renew_all(cache);
     }
 
     /// A state with the same entries and digests.

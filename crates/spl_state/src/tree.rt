@@ -13,6 +13,7 @@ ghost use Rattle.spl_state.specs.Kept.{IsLeft, empty_part};
 use crate::address::Address;
 use crate::digest::{leaf, lone_parts};
 use crate::piece::Piece;
+use crate::run_cache::RunCache;
 use sha2::{Digest, Sha256};
 use std::marker::Model;
 
@@ -121,8 +122,38 @@ impl Tree {
         }
     }
 
+    /// The digest of the entries from the first digit on, by their digest here.
+    fn raised_from_first(&self, path: &Address, cache: &mut RunCache) -> [u8; 32]
+        requires high { self.now.depth ≤ 70 }
+        requires along { AllAlong self.now.depth 0 path.now self.now.entries }
+        ensures { result ≡ node_of 70 0 self.now.entries }
+    {
+        let digest = self.digest();
+        if self.size < 2 {
+            digest
+        } else {
+            cache.raise(digest, path, self.depth)
+        }
+    }
+
+    /// Makes each stale digest of the whole tree anew. A run of lone parts at the top is looked up
+    /// in the cache, and kept there.
+    pub(crate) fn renew_all(&mut self, cache: &mut RunCache)
+        requires { self.old.depth ≡ 0 }
+        ensures { self.new ≡ self.old }
+    {
+        match &mut self.body {
+            Body::Thin(path, part) if !self.fresh => {
+                part.renew();
+                self.digest = part.raised_from_first(path, cache);
+                self.fresh = true;
+            }
+            _ => self.renew(),
+        }
+    }
+
     /// Makes each stale digest anew.
-    pub(crate) fn renew(&mut self)
+    fn renew(&mut self)
         ensures { self.new ≡ self.old }
     {
         if self.fresh {

@@ -18,6 +18,7 @@ use crate::world::World;
 use spl_base::NodeId;
 use spl_edge::{Disk, Pair};
 use spl_registry::Registry;
+use spl_state::RunCache;
 use std::alloc::{AllocError, Global};
 
 /// The ids of the nodes of a registry, in order. It fails for want of memory alone.
@@ -79,6 +80,7 @@ impl World {
             events: Events::new(),
             stops: Stops::new(),
             halted: false,
+            runs: RunCache::new(),
         })
     }
 }

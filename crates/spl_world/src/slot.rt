@@ -29,6 +29,7 @@ use crate::posts::Posts;
 use spl_base::{Boxed, CircuitId, Listing, NodeId};
 use spl_edge::{Disk, Pair, StopDisk};
 use spl_node::{Host, Outcome, Stopping};
+use spl_state::RunCache;
 use spl_wire::{Answer, Event, Message};
 use std::alloc::{AllocError, Global};
 
@@ -105,6 +106,16 @@ impl Slot {
         ensures up { is_some result ≡ true → slot_up self.now ≡ true }
     {
         self.host.due(circuit)
+    }
+
+    /// Makes the digests of the state of a circuit's cell anew before an event that tells its root;
+    /// nothing that is seen changes.
+    pub fn prepare(&mut self, circuit: &CircuitId, event: &Event, cache: &mut RunCache)
+        ensures { self.new ≡ self.old }
+    {
+        if matches!(event, Event::Root) {
+            self.host.renew(circuit, cache);
+        }
     }
 
     /// An event at the cell of a circuit, and its answer: the plan of the event is carried out, and

@@ -24,19 +24,22 @@ use crate::stops::Stops;
 use spl_base::{Boxed, CircuitId, NodeId};
 use spl_edge::{Disk, Fabric, Pair};
 use spl_pump::Carry;
+use spl_state::RunCache;
 use spl_wire::{Answer, Event, Message, Refusal};
 use std::alloc::{AllocError, Global};
 
 /// The nodes of a run, in the order of their ids. Each keeps its cells, over a pair of disks of its
-/// own, and what it sent. Beside them is how many events ran, and how many lines stopped a node. The
-/// world is halted where a line found no memory, a disk that failed or no room for an event or a
-/// stop: what was kept may be lost then, and nothing more may be asked.
+/// own, and what it sent. Beside them is how many events ran, how many lines stopped a node, and the
+/// last run of a state that was hashed, which all of them share. The world is halted where a line
+/// found no memory, a disk that failed or no room for an event or a stop: what was kept may be lost
+/// then, and nothing more may be asked.
 #[derive(Drop)]
 pub struct World {
     pub(crate) slots: Vec<Slot>,
     pub(crate) events: Events,
     pub(crate) stops: Stops,
     pub(crate) halted: bool,
+    pub(crate) runs: RunCache,
 }
 
 fn position_of(slots: &[Slot], node: &NodeId) -> Option<usize>
@@ -112,6 +115,7 @@ impl World {
         ensures unlinked { IfErr result (λ e. is_of_links e ≡ false) }
     {
         let here = &mut self.slots[slot];
+        here.prepare(&circuit, event, &mut self.runs);
         let disks = &mut pairs[here.position()];
         here.handle(alloc, disks, &circuit, event)
     }

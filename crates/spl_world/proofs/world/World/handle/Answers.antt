@@ -16,50 +16,50 @@ use Rattle.spl_world.proofs.world.World.handle.Goals as goal
 pub index_mut-disks-requires : goal.index_mut-disks-requires
 index_mut-disks-requires g c =
     let ss = c.args.self.now.slots.items in
-    let there = slice_get_read ss (length ss) c.args.slot c.index_mut-here.result.now refl c.requires.below c.index_mut-here.ensures.value in
-    let below = pair_below g.D.Disk.image_at g.D.Disk.moment ss c.args.pairs.now.items c.args.slot c.index_mut-here.result.now c.requires.sits there c.position.result c.position.ensures in
+    let there = slice_get_read ss (length ss) c.args.slot c.index_mut-here.result.now refl c.requires.below c.index_mut-here.ensures.value ∙ ap Some (sym c.prepare.ensures) in
+    let below = pair_below g.D.Disk.image_at g.D.Disk.moment ss c.args.pairs.now.items c.args.slot c.prepare.new.self c.requires.sits there c.position.result c.position.ensures in
     omega (arith, below, c.args.pairs.now.ok.0)
 
 pub handle-requires-clause-up : goal.handle-requires-clause-up
 handle-requires-clause-up g c =
     let ss = c.args.self.now.slots.items in
-    is_there_up ss c.args.slot c.index_mut-here.result.now (slice_get_read ss (length ss) c.args.slot c.index_mut-here.result.now refl c.requires.below c.index_mut-here.ensures.value) c.requires.up
+    is_there_up ss c.args.slot c.prepare.new.self (slice_get_read ss (length ss) c.args.slot c.index_mut-here.result.now refl c.requires.below c.index_mut-here.ensures.value ∙ ap Some (sym c.prepare.ensures)) c.requires.up
 
 pub handle-requires-clause-own : goal.handle-requires-clause-own
 handle-requires-clause-own g c =
     let ss = c.args.self.now.slots.items in
-    c.requires.own (slot_id c.index_mut-here.result.now) (id_at ss c.args.slot c.index_mut-here.result.now (slice_get_read ss (length ss) c.args.slot c.index_mut-here.result.now refl c.requires.below c.index_mut-here.ensures.value))
+    c.requires.own (slot_id c.prepare.new.self) (id_at ss c.args.slot c.prepare.new.self (slice_get_read ss (length ss) c.args.slot c.index_mut-here.result.now refl c.requires.below c.index_mut-here.ensures.value ∙ ap Some (sym c.prepare.ensures)))
 
 pub handle-requires-clause-stands : goal.handle-requires-clause-stands
 handle-requires-clause-stands g c =
     let ss = c.args.self.now.slots.items in
     let ps = c.args.pairs.now.items in
-    let s = c.index_mut-here.result.now in
-    let there = slice_get_read ss (length ss) c.args.slot s refl c.requires.below c.index_mut-here.ensures.value in
+    let s = c.prepare.new.self in
+    let there = slice_get_read ss (length ss) c.args.slot c.index_mut-here.result.now refl c.requires.below c.index_mut-here.ensures.value ∙ ap Some (sym c.prepare.ensures) in
     let below = pair_below g.D.Disk.image_at g.D.Disk.moment ss ps c.args.slot s c.requires.sits there c.position.result c.position.ensures in
     own_stands g.D.Disk.image_at g.D.Disk.moment ss ps c.args.slot s c.requires.sits there c.position.result c.position.ensures c.index_mut-disks.result.now (slice_get_read ps (length ps) c.position.result c.index_mut-disks.result.now refl below c.index_mut-disks.ensures.value)
 
 pub returns-clause-ids : goal.returns-clause-ids
 returns-clause-ids g c =
     let ss = c.args.self.now.slots.items in
-    same_ids ss c.args.slot c.index_mut-here.result.now c.handle.new.self (slice_get_read ss (length ss) c.args.slot c.index_mut-here.result.now refl c.requires.below c.index_mut-here.ensures.value) c.handle.ensures.id
+    same_ids ss c.args.slot c.prepare.new.self c.handle.new.self (slice_get_read ss (length ss) c.args.slot c.index_mut-here.result.now refl c.requires.below c.index_mut-here.ensures.value ∙ ap Some (sym c.prepare.ensures)) c.handle.ensures.id
 
 pub returns-clause-ups : goal.returns-clause-ups
 returns-clause-ups g c =
     let ss = c.args.self.now.slots.items in
-    same_ups ss c.args.slot c.index_mut-here.result.now c.handle.new.self (slice_get_read ss (length ss) c.args.slot c.index_mut-here.result.now refl c.requires.below c.index_mut-here.ensures.value) c.handle.ensures.up
+    same_ups ss c.args.slot c.prepare.new.self c.handle.new.self (slice_get_read ss (length ss) c.args.slot c.index_mut-here.result.now refl c.requires.below c.index_mut-here.ensures.value ∙ ap Some (sym c.prepare.ensures)) c.handle.ensures.up
 
 pub returns-clause-places : goal.returns-clause-places
 returns-clause-places g c =
     let ss = c.args.self.now.slots.items in
-    same_places ss c.args.slot c.index_mut-here.result.now c.handle.new.self (slice_get_read ss (length ss) c.args.slot c.index_mut-here.result.now refl c.requires.below c.index_mut-here.ensures.value) c.handle.ensures.position
+    same_places ss c.args.slot c.prepare.new.self c.handle.new.self (slice_get_read ss (length ss) c.args.slot c.index_mut-here.result.now refl c.requires.below c.index_mut-here.ensures.value ∙ ap Some (sym c.prepare.ensures)) c.handle.ensures.position
 
 pub returns-clause-answer : goal.returns-clause-answer
 returns-clause-answer g c = λ m n h at.
     let ss = c.args.self.now.slots.items in
     let ps = c.args.pairs.now.items in
-    let s = c.index_mut-here.result.now in
-    let there = slice_get_read ss (length ss) c.args.slot s refl c.requires.below c.index_mut-here.ensures.value in
+    let s = c.prepare.new.self in
+    let there = slice_get_read ss (length ss) c.args.slot c.index_mut-here.result.now refl c.requires.below c.index_mut-here.ensures.value ∙ ap Some (sym c.prepare.ensures) in
     let below = pair_below g.D.Disk.image_at g.D.Disk.moment ss ps c.args.slot s c.requires.sits there c.position.result c.position.ensures in
     let pair = slice_get_read ps (length ps) c.position.result c.index_mut-disks.result.now refl below c.index_mut-disks.ensures.value in
     let view = own_view g.D.Disk.image_at g.D.Disk.moment ss ps c.args.slot s c.requires.sits there c.position.result c.position.ensures c.index_mut-disks.result.now pair in
@@ -69,8 +69,8 @@ pub returns-clause-moves : goal.returns-clause-moves
 returns-clause-moves g c = λ n at.
     let ss = c.args.self.now.slots.items in
     let ps = c.args.pairs.now.items in
-    let s = c.index_mut-here.result.now in
-    let there = slice_get_read ss (length ss) c.args.slot s refl c.requires.below c.index_mut-here.ensures.value in
+    let s = c.prepare.new.self in
+    let there = slice_get_read ss (length ss) c.args.slot c.index_mut-here.result.now refl c.requires.below c.index_mut-here.ensures.value ∙ ap Some (sym c.prepare.ensures) in
     let below = pair_below g.D.Disk.image_at g.D.Disk.moment ss ps c.args.slot s c.requires.sits there c.position.result c.position.ensures in
     let pair = slice_get_read ps (length ps) c.position.result c.index_mut-disks.result.now refl below c.index_mut-disks.ensures.value in
     ok_three c.handle.result
@@ -82,8 +82,8 @@ pub returns-clause-sits : goal.returns-clause-sits
 returns-clause-sits g c =
     let ss = c.args.self.now.slots.items in
     let ps = c.args.pairs.now.items in
-    let s = c.index_mut-here.result.now in
-    let there = slice_get_read ss (length ss) c.args.slot s refl c.requires.below c.index_mut-here.ensures.value in
+    let s = c.prepare.new.self in
+    let there = slice_get_read ss (length ss) c.args.slot c.index_mut-here.result.now refl c.requires.below c.index_mut-here.ensures.value ∙ ap Some (sym c.prepare.ensures) in
     let below = pair_below g.D.Disk.image_at g.D.Disk.moment ss ps c.args.slot s c.requires.sits there c.position.result c.position.ensures in
     let pair = slice_get_read ps (length ps) c.position.result c.index_mut-disks.result.now refl below c.index_mut-disks.ensures.value in
     at_ok c.handle.result (own_sits g.D.Disk.image_at g.D.Disk.moment ss ps c.args.slot s c.requires.sits there c.position.result c.position.ensures c.index_mut-disks.result.now pair c.handle.new.self c.handle.new.disks c.handle.ensures.position) c.handle.ensures.stands
@@ -92,8 +92,8 @@ pub returns-clause-disks : goal.returns-clause-disks
 returns-clause-disks g c =
     let ss = c.args.self.now.slots.items in
     let ps = c.args.pairs.now.items in
-    let s = c.index_mut-here.result.now in
-    let there = slice_get_read ss (length ss) c.args.slot s refl c.requires.below c.index_mut-here.ensures.value in
+    let s = c.prepare.new.self in
+    let there = slice_get_read ss (length ss) c.args.slot c.index_mut-here.result.now refl c.requires.below c.index_mut-here.ensures.value ∙ ap Some (sym c.prepare.ensures) in
     let below = pair_below g.D.Disk.image_at g.D.Disk.moment ss ps c.args.slot s c.requires.sits there c.position.result c.position.ensures in
     let pair = slice_get_read ps (length ps) c.position.result c.index_mut-disks.result.now refl below c.index_mut-disks.ensures.value in
     one_leaves g.D.Disk.image_at g.D.Disk.moment g.D.Disk.faults g.D.Disk.armed g.D.Disk.picks c.handle.result ps c.position.result c.index_mut-disks.result.now c.handle.new.disks s.position pair c.position.ensures c.handle.ensures.onward c.handle.ensures.failed
@@ -101,16 +101,16 @@ returns-clause-disks g c =
 pub returns-clause-place : goal.returns-clause-place
 returns-clause-place g c = λ slot q.
     let ss = c.args.self.now.slots.items in
-    let s = c.index_mut-here.result.now in
-    let at = place_at ss c.args.slot s (slice_get_read ss (length ss) c.args.slot s refl c.requires.below c.index_mut-here.ensures.value) in
+    let s = c.prepare.new.self in
+    let at = place_at ss c.args.slot s (slice_get_read ss (length ss) c.args.slot c.index_mut-here.result.now refl c.requires.below c.index_mut-here.ensures.value ∙ ap Some (sym c.prepare.ensures)) in
     (c.args.slot, at ∙ ap Some (sym (c.handle.ensures.failed slot q).0))
 
 pub returns-clause-ended : goal.returns-clause-ended
 returns-clause-ended g c = λ m n h at.
     let ss = c.args.self.now.slots.items in
     let ps = c.args.pairs.now.items in
-    let s = c.index_mut-here.result.now in
-    let there = slice_get_read ss (length ss) c.args.slot s refl c.requires.below c.index_mut-here.ensures.value in
+    let s = c.prepare.new.self in
+    let there = slice_get_read ss (length ss) c.args.slot c.index_mut-here.result.now refl c.requires.below c.index_mut-here.ensures.value ∙ ap Some (sym c.prepare.ensures) in
     let below = pair_below g.D.Disk.image_at g.D.Disk.moment ss ps c.args.slot s c.requires.sits there c.position.result c.position.ensures in
     let pair = slice_get_read ps (length ps) c.position.result c.index_mut-disks.result.now refl below c.index_mut-disks.ensures.value in
     own_ended g.D.Disk.image_at g.D.Disk.moment ss ps c.args.slot s c.requires.sits there c.position.result c.position.ensures c.index_mut-disks.result.now pair c.handle.new.self c.handle.new.disks c.args.circuit n c.args.event.now m at h
