@@ -31,6 +31,7 @@ impl<V: Drop> GroupChanges<V> {
     }
 
     /// One change.
+    #[inline(always)]
     pub fn one(alloc: Global, change: GroupChange<V>) -> Result<Self, AllocError>
         ensures { IfOk result (λ cs. cs ≡ change ∷ []) }
     {
@@ -40,6 +41,7 @@ impl<V: Drop> GroupChanges<V> {
     }
 
     /// One change more, at the end. After want of memory nothing is changed.
+    #[inline(always)]
     pub fn push(&mut self, change: GroupChange<V>) -> Result<(), AllocError>
         ensures ok { OnOk result (self.new ≡ self.old ++ change ∷ []) }
         ensures err { OnErr result (self.new ≡ self.old) }
@@ -90,6 +92,7 @@ impl<V: Drop> GroupSends<V> {
     }
 
     /// One message.
+    #[inline(always)]
     pub fn one(alloc: Global, to: u8, message: CommitMsg<V>) -> Result<Self, AllocError>
         ensures { IfOk result (λ ss. ss ≡ (to, message) ∷ []) }
     {
@@ -99,6 +102,7 @@ impl<V: Drop> GroupSends<V> {
     }
 
     /// One message more, at the end. After want of memory nothing is changed.
+    #[inline(always)]
     pub fn push(&mut self, to: u8, message: CommitMsg<V>) -> Result<(), AllocError>
         ensures ok { OnOk result (self.new ≡ self.old ++ (to, message) ∷ []) }
         ensures err { OnErr result (self.new ≡ self.old) }

@@ -25,6 +25,7 @@ impl<T> Model for Boxed<T> {
 
 impl<T> Boxed<T> {
     /// The value, moved to the heap. An error comes for want of memory alone.
+    #[inline(always)]
     pub fn new(alloc: Global, x: T) -> Result<Boxed<T>, AllocError>
     where
         T: Drop,

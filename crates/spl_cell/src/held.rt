@@ -223,6 +223,7 @@ impl Held {
 
     /// What an event gives in the service group.
     #[tactic(auto, using(crate::proofs::Seats::group_here))]
+    #[inline(always)]
     pub(crate) fn service_row(
         &self,
         alloc: Global,

@@ -44,6 +44,7 @@ impl Held {
 
 impl Site {
     /// A cell whose open rounds are moved, that of the admin group by the first move.
+    #[inline(always)]
     pub(crate) fn moved(&self, state: State, x: OpenMove, y: OpenMove) -> State
         requires at { IsAt (site_of self.now) state }
         requires fits { FitsMoveAt self.now.here (cell_of state) x y }

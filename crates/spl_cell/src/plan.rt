@@ -45,6 +45,7 @@ impl Site {
     }
 
     /// What any event gives at a cell.
+    #[inline(always)]
     pub(crate) fn plan(
         &self,
         alloc: Global,

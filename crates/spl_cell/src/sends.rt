@@ -15,6 +15,7 @@ use std::alloc::{AllocError, Global};
 
 /// The service on a member.
 #[tactic(auto, using(crate::proofs::Rosters::member_served))]
+#[inline(always)]
 fn service_on(definition: &Definition, node: &NodeId) -> ServiceId
     requires valid { broken definition.now ≡ None }
     requires member { is_member definition.now node.now ≡ true }

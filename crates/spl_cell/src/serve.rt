@@ -77,6 +77,7 @@ impl Held {
     /// Whether a message from a service on another node to a service here goes on, or why not. One
     /// that does comes from a member.
     #[tactic(auto, using(crate::proofs::Rosters::sender_is_member))]
+    #[inline(always)]
     fn way(&self, from_node: &NodeId, from: &ServiceId, to: &ServiceId) -> Result<(), RouteFault>
         ensures value { result ≡ way self.now.site self.now.bound from_node.now from.now to.now }
         ensures member { IsOk result → is_member self.now.bound.definition from_node.now ≡ true }

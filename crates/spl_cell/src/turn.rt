@@ -20,6 +20,7 @@ use std::alloc::{AllocError, Global};
 
 impl Held {
     /// Each group does its part, the admin group first.
+    #[inline(always)]
     fn both(
         &self,
         alloc: Global,

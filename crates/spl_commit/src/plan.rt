@@ -54,6 +54,7 @@ impl<M: Agreed> Member<M> {
     }
 
     /// A message of the group's generation.
+    #[inline(always)]
     fn on_message(
         &self,
         alloc: Global,
