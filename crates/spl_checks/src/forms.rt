@@ -80,7 +80,7 @@ fn is_written_back(alloc: Global, kind: Kind, bytes: &[u8]) -> Result<bool, Malf
     match kind {
         Kind::Message => {
             let (message, size) = Message::read(alloc, bytes)?;
-            Ok(message.copy(alloc)?.write(alloc)?.bytes() == &bytes[..size.min(bytes.len())])
+            Ok(message.write(alloc)?.bytes() == &bytes[..size.min(bytes.len())])
         }
         Kind::Record => {
             let (record, size) = Record::read(alloc, bytes)?;

@@ -17,13 +17,6 @@ impl<M: Agreed> Member<M> {
         Place(self.place())
     }
 
-    /// The round and the value at a place of the history, if there is one.
-    pub fn history_at(&self, place: Place) -> Option<(Round, &M::Value)>
-        ensures { option_map (λ e. (e.0, e.1.now)) result ≡ slice_get self.now.state.history place }
-    {
-        self.history.get(place.0 as usize)
-    }
-
     /// The promised round, if there is one.
     pub fn promised(&self) -> Option<Round>
         ensures { result ≡ option_map (λ p. p.0) self.now.state.promise }

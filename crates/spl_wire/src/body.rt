@@ -1,10 +1,10 @@
 //! The bodies of messages, and the reasons in them.
-ghost use Rattle.std.specs.Prelude.{◌≡◌, ◌++◌, IsTrue, OnOk, IfOk};
+ghost use Rattle.std.specs.Prelude.{◌≡◌, ◌++◌, IsTrue, OnOk};
 ghost use Rattle.spl_base.specs.Form.{Reads};
 ghost use Rattle.spl_wire.specs.Bodies as form;
 
 use spl_agree::{CommitMsg, Generation, Place, Reason, Round};
-use spl_base::{Field, Malformed, Reader, Value, Writer};
+use spl_base::{Field, Malformed, Reader, Writer};
 use std::alloc::{AllocError, Global};
 
 pub(crate) fn put_reason(why: Reason, w: &mut Writer) -> Result<(), AllocError>
@@ -144,62 +144,5 @@ pub(crate) fn take_body<V: Field>(alloc: Global, r: &mut Reader) -> Result<Commi
             })
         }
         _ => Err(Malformed::At { at }),
-    }
-}
-
-/// An equal body.
-pub(crate) fn copy_body<V: Value>(
-    alloc: Global,
-    body: &CommitMsg<V>,
-) -> Result<CommitMsg<V>, AllocError>
-    ensures { IfOk result (λ b. b ≡ body.now) }
-{
-    match body {
-        CommitMsg::VoteRequest {
-            generation,
-            round,
-            place,
-            value,
-        } => Ok(CommitMsg::VoteRequest {
-            generation: *generation,
-            round: *round,
-            place: *place,
-            value: value.copy(alloc)?,
-        }),
-        CommitMsg::Vote {
-            generation,
-            round,
-            yes,
-        } => Ok(CommitMsg::Vote {
-            generation: *generation,
-            round: *round,
-            yes: *yes,
-        }),
-        CommitMsg::Decision {
-            generation,
-            round,
-            commit,
-        } => Ok(CommitMsg::Decision {
-            generation: *generation,
-            round: *round,
-            commit: *commit,
-        }),
-        CommitMsg::DecisionRequest { generation, round } => Ok(CommitMsg::DecisionRequest {
-            generation: *generation,
-            round: *round,
-        }),
-        CommitMsg::Forward { generation, value } => Ok(CommitMsg::Forward {
-            generation: *generation,
-            value: value.copy(alloc)?,
-        }),
-        CommitMsg::Refused {
-            generation,
-            value,
-            reason,
-        } => Ok(CommitMsg::Refused {
-            generation: *generation,
-            value: value.copy(alloc)?,
-            reason: *reason,
-        }),
     }
 }

@@ -1,7 +1,6 @@
 //! Messages between nodes.
-ghost use Rattle.std.specs.Prelude.{◌≡◌, IfOk};
 
-use crate::body::{copy_body, put_body, take_body};
+use crate::body::{put_body, take_body};
 use spl_agree::CommitMsg;
 use spl_base::{
     CircuitId, Field, Malformed, Piece, Reader, ServiceId, Writer, read_front, spelled,
@@ -107,28 +106,5 @@ impl Message {
         ensures only { (x : Sent) (rest : List ℕ) → IsTrue (message_form.fits x) → bytes.now ≡ message_form.spell x ++ rest → Answers result (Ok (x, length (message_form.spell x))) }
     {
         read_front(alloc, bytes)
-    }
-
-    /// An equal message.
-    pub fn copy(&self, alloc: Global) -> Result<Message, AllocError>
-        ensures { IfOk result (λ m. m ≡ self.now) }
-    {
-        match self {
-            Message::Admin { circuit, body } => Ok(Message::Admin {
-                circuit: *circuit,
-                body: copy_body(alloc, body)?,
-            }),
-            Message::Scabbard {
-                circuit,
-                from,
-                to,
-                body,
-            } => Ok(Message::Scabbard {
-                circuit: *circuit,
-                from: *from,
-                to: *to,
-                body: copy_body(alloc, body)?,
-            }),
-        }
     }
 }
