@@ -2,7 +2,7 @@
 ghost use Rattle.std.specs.Prelude.{◌≡◌, ◌++◌, IfOk, OnOk};
 ghost use Rattle.serde_json.specs.View.{view, members_view};
 ghost use Rattle.serde_json.specs.Written.{compact_text};
-ghost use Rattle.spl_answer.specs.Json.{service_value, put_all, fields_to_management, fields_from_mark, detail_value};
+ghost use Rattle.spl_answer.specs.Json.{put_all, fields_to_management, fields_from_mark, detail_value};
 
 use crate::json::{Json, append_json, digits_of};
 use crate::names::{lifecycle_name, mark_name};

@@ -4,7 +4,7 @@ ghost use Rattle.std.specs.Str.{IsAscii};
 ghost use Rattle.serde_json.specs.Data.{Data, string};
 ghost use Rattle.serde_json.specs.View.{view};
 ghost use Rattle.serde_json.specs.Written.{has_float, compact_text};
-ghost use Rattle.spl_answer.specs.Json.{digits, text_or_null};
+ghost use Rattle.spl_answer.specs.Json.{digits};
 
 use crate::part::append;
 use hex::encode;

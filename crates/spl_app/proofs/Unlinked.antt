@@ -1,10 +1,10 @@
 -- Where messages are handed over in memory, no link is at fault.
-use Rattle.std.proofs.Common.{◌≡◌, ◌<◌, ◌++◌, ◌∷◌, [], ℕ, List, Bool, true, false, Some, Result, Ok, Err, IfErr, refl, sym, subst, ◌∙◌, arith}
+use Rattle.std.proofs.Common.{◌≡◌, ◌<◌, ◌++◌, ◌∷◌, [], ℕ, List, false, Some, Result, Ok, Err, IfErr, refl, sym, subst, ◌∙◌, arith}
 use Rattle.std.specs.Prelude.{IsErrOf}
 use Rattle.spl_circuit.specs.Nodes.{NodeId}
 use Rattle.spl_pump.specs.Wires.{Carried, Ends}
 use Rattle.spl_world.specs.Disks.{is_of_journal}
-use Rattle.spl_world.specs.Links.{CarriesPart, Delivers, HasLinkCause, LinkView, Places, is_of_links}
+use Rattle.spl_world.specs.Links.{Delivers, HasLinkCause, LinkView, Places, is_of_links}
 use Rattle.spl_world.specs.Views.{IsPlace, ids_of, places_of}
 use Rattle.spl_world.specs.declared.fault.WorldFault.{WorldFault}
 use Rattle.spl_world.specs.declared.fault.WorldFault.TheVariants as fault

@@ -9,8 +9,8 @@ use Rattle.spl_world.specs.declared.fault.WorldFault.TheVariants.{Disk, TooMany}
 use Rattle.spl_lines.specs.Lines.{lines_of, limit}
 use Rattle.spl_lines.specs.Written.{ran}
 use Rattle.spl_lines.specs.Given.{run_of}
-use Rattle.spl_app.specs.Ends.{EndsAtNode, EndsFailed, EndsIn, EndsPast, EndsShort, EndsSomewhere}
-use Rattle.spl_app.specs.Run.{HasFront, Past}
+use Rattle.spl_app.specs.Ends.{EndsFailed, EndsIn, EndsPast, EndsShort, EndsSomewhere}
+use Rattle.spl_app.specs.Run.{Past}
 use Rattle.spl_app.proofs.Ending.{ends_more, front_then}
 use Rattle.spl_app.proofs.Wholes.{front, front_in, same_before, stops_in}
 

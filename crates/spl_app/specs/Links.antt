@@ -20,7 +20,7 @@ use Rattle.spl_pump.specs.Wires.{LiesOf}
 use Rattle.spl_pump.specs.declared.fault.PumpFault.TheVariants as pump
 use Rattle.spl_registry.specs.Nodes.{Entry, node_at}
 use Rattle.spl_registry.specs.Tree.{registry_of}
-use Rattle.spl_world.specs.Disks.{AllTell, Images, PairView, RoseAt, bench, images, images_at}
+use Rattle.spl_world.specs.Disks.{AllTell, PairView, RoseAt, bench, images, images_at}
 use Rattle.spl_world.specs.Links.{LinkView}
 use Rattle.spl_world.specs.Making.{HoldNothing}
 use Rattle.spl_world.specs.declared.fault.WorldFault.{WorldFault}

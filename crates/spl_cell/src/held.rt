@@ -1,5 +1,5 @@
 //! A bound cell.
-ghost use Rattle.std.specs.Prelude.{◌≡◌, ◌&&◌, [], true, None, length, IfOk};
+ghost use Rattle.std.specs.Prelude.{◌≡◌, [], true, None, IfOk};
 ghost use Rattle.spl_agree.specs.Member.{values, new_member};
 ghost use Rattle.spl_agree.specs.Fits.{IsDue};
 ghost use Rattle.spl_circuit.specs.Nodes.{position, has_node};

@@ -1,5 +1,5 @@
 //! Nodes and their positions.
-ghost use Rattle.std.specs.Prelude.{◌≡◌, ◌<◌, ◌≤◌, length};
+ghost use Rattle.std.specs.Prelude.{◌≡◌, ◌≤◌, length};
 ghost use Rattle.spl_circuit.specs.Nodes.{position, node_or};
 
 use spl_base::NodeId;

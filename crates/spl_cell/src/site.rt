@@ -1,5 +1,4 @@
 //! A circuit at a node.
-ghost use Rattle.std.specs.Prelude.{◌≡◌};
 ghost use Rattle.spl_rules.specs.Valid.{IsNamed};
 ghost use Rattle.spl_cell.specs.Sites.{site_of};
 

@@ -1,6 +1,6 @@
 //! The nodes and the circuits of a generated schedule.
 ghost use Rattle.std.specs.Prelude.{◌≡◌, ◌≤◌, IsTrue, IfOk, length};
-ghost use Rattle.spl_base.specs.Ids.{is_circuit_id, is_label, is_service_id};
+ghost use Rattle.spl_base.specs.Ids.{is_label};
 ghost use Rattle.spl_gen.specs.Circuits.{node, service, id, name, members, member, definition, circuit_of};
 
 use spl_agree::Generation;

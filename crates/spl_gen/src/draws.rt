@@ -1,5 +1,5 @@
 //! A generator of numbers.
-ghost use Rattle.std.specs.Prelude.{◌≡◌, ◌^◌, ◌<◌};
+ghost use Rattle.std.specs.Prelude.{◌≡◌};
 ghost use Rattle.spl_gen.specs.Draws.{next, draw};
 
 use std::marker::Model;

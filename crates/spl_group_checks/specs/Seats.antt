@@ -1,5 +1,5 @@
 -- A member of a group of three with numbers as its values.
-use Rattle.std.specs.Prelude.{◌≡◌, ℕ, List, [], ◌∷◌, Option, Some, None}
+use Rattle.std.specs.Prelude.{◌≡◌, ℕ, List, [], Option, Some, None}
 use Rattle.spl_agree.specs.Fits.{IsSettled}
 use Rattle.spl_commit.specs.Views.{MemberView, group_by}
 use Rattle.spl_group_checks.specs.Numbers.{number_rules}

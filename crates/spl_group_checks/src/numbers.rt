@@ -1,5 +1,4 @@
 //! Numbers as the values of a group.
-ghost use Rattle.std.specs.Prelude.{◌≡◌};
 
 use spl_agree::{Admit, Agreed, Reason};
 use std::alloc::{AllocError, Global};
@@ -11,7 +10,7 @@ pub struct Numbers {
 }
 
 impl Agreed for Numbers {
-    ghost use Rattle.std.specs.Prelude.{◌≡◌, ◌%◌, ◌==◌, refl};
+    ghost use Rattle.std.specs.Prelude.{◌%◌, ◌==◌, refl};
     ghost use Rattle.spl_group_checks.specs.Numbers.{number_rules, stray_number, same_number};
 
     type Key = u64;

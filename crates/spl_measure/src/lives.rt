@@ -1,5 +1,5 @@
 //! The life of a circuit at the node that leads it, over disks and without them.
-ghost use Rattle.std.specs.Prelude.{◌≡◌, false, IfOk};
+ghost use Rattle.std.specs.Prelude.{◌≡◌, IfOk};
 ghost use Rattle.spl_rules.specs.Valid.{IsFor};
 ghost use Rattle.spl_node.specs.Records.{site_at};
 ghost use Rattle.spl_trial.specs.About.{IsAbout};

@@ -1,12 +1,11 @@
 -- A calm in which nothing is left to do stays so, and a pass without deliveries finds it so.
 use Rattle.std.proofs.Common.{◌≡◌, ℕ, zero, suc, ◌+◌, ◌-◌, ◌*◌, ◌≤◌, ◌⊎◌, inl, inr, Bool, true, false, ◌&&◌, List, [], ◌∷◌, ◌++◌, append-nil, append_assoc, length, length-append, refl, sym, ap, subst, ◌∙◌, arith}
-use Rattle.std.specs.Prelude.{if◌then◌else◌, map}
+use Rattle.std.specs.Prelude.{if◌then◌else◌}
 use Rattle.std.specs.List.{AllByRecursion}
 use Rattle.std.specs.Str.{bytes_eq}
 use Rattle.spl_agree.proofs.Tests.{if_holds, bool_cases, and_left, and_right}
 use Rattle.spl_circuit.specs.Nodes.{NodeId, CircuitId}
 use Rattle.spl_circuit.specs.Same.{node_is}
-use Rattle.spl_wire.specs.declared.answer.Answer.{Answer}
 use Rattle.spl_wire.specs.declared.answer.Answer.TheVariants as answer
 use Rattle.spl_wire.specs.declared.answer.Refusal.TheVariants as refusal
 use Rattle.spl_wire.specs.declared.event.Event.TheVariants as event
@@ -15,7 +14,7 @@ use Rattle.spl_sched.specs.declared.line.Step.TheVariants as step
 use Rattle.spl_rules.specs.Idle.{is_idle}
 use Rattle.spl_rules.specs.Plans.{tells_only}
 use Rattle.spl_rules.proofs.Idle.{idle-tick}
-use Rattle.spl_model.specs.Worlds.{World, Occurrence, Steps, site_at, messages, step_plan, step_world, plan_up, carried_out}
+use Rattle.spl_model.specs.Worlds.{World, Occurrence, Steps, site_at, messages, step_plan, step_world, carried_out}
 use Rattle.spl_model.specs.Calm.{Calming, calming_step, open_nodes, ticks, delivers, takes, pair_turn, to_all, from_all, pass, passes}
 use Rattle.spl_model.specs.Quiet.{IsIdleAt, IsTaken, AllTaken, IsQuiet, ticks_at}
 use Rattle.spl_model.proofs.Unmoved.{unmoved-tells, unmoved-is}

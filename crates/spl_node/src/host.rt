@@ -71,14 +71,7 @@ impl Host {
     }
 
     /// Its id.
-    pub fn id(&self) -> NodeId
-        ensures { result ≡ host_id self.now }
-    {
-        self.id
-    }
-
-    /// Its id.
-    pub fn node(&self) -> &NodeId
+    pub fn id(&self) -> &NodeId
         ensures { result.now ≡ host_id self.now }
     {
         &self.id

@@ -1,5 +1,5 @@
 //! One frame from one node to another.
-ghost use Rattle.std.specs.Prelude.{◌≡◌, ◌≢◌, ◌≤◌, ◌<◌, ℕ, List, Some, length, IfOk, IfErr, OnOk};
+ghost use Rattle.std.specs.Prelude.{◌≡◌, ◌<◌, ℕ, List, Some, IfOk, IfErr, OnOk};
 ghost use Rattle.spl_edge.specs.Fabrics.{AreTaken};
 ghost use Rattle.spl_frame.specs.Frames.{frame, IsBody};
 ghost use Rattle.spl_pump.specs.Moves.{Grows, GrowsPart, HasCause, IsLie};

@@ -1,13 +1,10 @@
 //! Messages as frames over a fabric.
-ghost use Rattle.std.specs.Prelude.{min, max, ◌≡◌, ◌≢◌, ◌<◌, ◌≤◌, ℕ, List, [], Some, false, true, not, IsTrue, IfOk, IfErr, OnOk, OnErr, length};
-ghost use Rattle.spl_base.specs.Ids.{is_node_id};
+ghost use Rattle.std.specs.Prelude.{min, max, ◌≡◌, ◌≢◌, ◌<◌, [], Some, false, true, IsTrue, IfOk, IfErr, OnOk, length};
 ghost use Rattle.spl_edge.specs.Fabrics.{AreTaken};
-ghost use Rattle.spl_frame.specs.Frames.{frame, IsBody};
+ghost use Rattle.spl_frame.specs.Frames.{frame};
 ghost use Rattle.spl_wire.specs.Bounds.{IsSendable};
 ghost use Rattle.spl_wire.specs.Forms.{message_form};
 ghost use Rattle.spl_wire.specs.declared.message.Message.{Message as MessageValue};
-ghost use Rattle.spl_registry.specs.Nodes.{node_at};
-ghost use Rattle.spl_link.specs.Greetings.{greeting};
 ghost use Rattle.spl_pump.specs.Moves.{Grows, GrowsPart, HasCause, IsLie};
 ghost use Rattle.spl_pump.specs.Wires.{GoesOn, hand, hands, hands_if, on_pair, only, have_met, met_after, wire_from, Puts, PutsPart, AllTaken, LiesOf};
 

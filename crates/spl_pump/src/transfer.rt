@@ -1,5 +1,5 @@
 //! Bytes from one node to another, a piece at a time.
-ghost use Rattle.std.specs.Prelude.{◌≡◌, ◌≤◌, ◌<◌, ℕ, min, length, take, IfOk, IfErr, OnOk, OnErr};
+ghost use Rattle.std.specs.Prelude.{◌≡◌, ◌≤◌, ◌<◌, ℕ, min, length, take, IfOk, IfErr, OnOk};
 ghost use Rattle.spl_edge.specs.Fabrics.{AreTaken};
 ghost use Rattle.spl_pump.specs.Moves.{Grows, GrowsPart, AreDue, HasCause, IsFault};
 

@@ -1,7 +1,6 @@
 -- A tick that is told as idle is nothing but its answer.
-use Rattle.std.proofs.Common.{◌≡◌, ℕ, Bool, true, false, ◌&&◌, List, [], ◌∷◌, refl, ap, ap₂, ◌∙◌}
+use Rattle.std.proofs.Common.{◌≡◌, ℕ, true, List, [], ◌∷◌, refl, ap, ◌∙◌}
 use Rattle.std.specs.Prelude.{Option, Some, None, ◌==◌}
-use Rattle.spl_agree.specs.declared.event.Note.{Note}
 use Rattle.spl_agree.specs.declared.event.Note.TheVariants as note
 use Rattle.spl_agree.specs.declared.event.GroupEvent.TheVariants as group
 use Rattle.spl_agree.specs.declared.plan.GroupPlan.{GroupPlan}
@@ -13,8 +12,7 @@ use Rattle.spl_circuit.specs.declared.act.Act.{Act}
 use Rattle.spl_command.specs.declared.batch.Batch.{Batch}
 use Rattle.spl_wire.specs.declared.event.Event.TheVariants as event
 use Rattle.spl_wire.specs.declared.plan.Plan.{Plan}
-use Rattle.spl_rules.specs.Cells.{Bound, Cell, Held, Empty, Purged, Site, Deed, Turns, Acts, Alone, Refuses, is_open, runs}
-use Rattle.spl_rules.specs.Events.{does}
+use Rattle.spl_rules.specs.Cells.{Bound, Cell, Held, Empty, Purged, Site, Deed, Turns, Acts, Alone, is_open, runs}
 use Rattle.spl_rules.specs.Idle.{is_idle_note, is_idle}
 use Rattle.spl_rules.specs.Plans.{tells_only, plan_of, planned, both_plans, group_plan, group_row, admin_lane, service_lane}
 

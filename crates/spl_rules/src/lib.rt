@@ -17,7 +17,7 @@ ghost use Rattle.spl_rules.specs.Events.{does};
 ghost use Rattle.spl_rules.specs.Plans.{plan_of};
 ghost use Rattle.spl_rules.specs.Changes.{made, applied, applied_one, moved_cell, stopped_cell, after_plan};
 ghost use Rattle.spl_rules.specs.Pack.{packed};
-ghost use Rattle.spl_rules.specs.Valid.{IsKept, IsSettledCell, IsValid, IsNamed, FitsMoveAt, IsFor, is_legal, are_legal, are_formed};
+ghost use Rattle.spl_rules.specs.Valid.{IsKept, IsValid, IsNamed, FitsMoveAt, IsFor, is_legal, are_legal, are_formed};
 ghost use Rattle.spl_wire.specs.declared.message.Message.{Message};
 ghost use Rattle.spl_wire.specs.declared.change.Change.{Change};
 ghost use Rattle.spl_wire.specs.declared.record.Record.{Record};

@@ -1,5 +1,5 @@
 //! Addresses and prefixes, as words.
-ghost use Rattle.std.specs.Prelude.{◌≡◌, ◌++◌, ◌∷◌, OnOk};
+ghost use Rattle.std.specs.Prelude.{◌≡◌, ◌++◌, OnOk};
 ghost use Rattle.spl_sched.specs.Words.{Reads, Takes, read_first};
 ghost use Rattle.spl_sched.specs.Transactions.{prefix, dashed};
 

@@ -1,5 +1,5 @@
 //! What a disk keeps, as a word.
-ghost use Rattle.std.specs.Prelude.{◌≡◌, None};
+ghost use Rattle.std.specs.Prelude.{None};
 ghost use Rattle.spl_sched.specs.Words.{Reads, read_kind};
 ghost use Rattle.spl_sched.specs.Grammar.{fill_kinds};
 

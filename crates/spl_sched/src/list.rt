@@ -1,7 +1,7 @@
 //! Lists with a comma between each two items.
 ghost use Rattle.std.specs.Prelude.{◌≡◌, ◌++◌, OnOk, map};
 ghost use Rattle.std.specs.List.{join_with_byte};
-ghost use Rattle.spl_sched.specs.Words.{Reads, split, joined, up_to};
+ghost use Rattle.spl_sched.specs.Words.{Reads, joined, up_to};
 
 use crate::fault::LineFault;
 use crate::word::Spelled;

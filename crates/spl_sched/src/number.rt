@@ -1,8 +1,8 @@
 //! Numbers in decimal digits.
-ghost use Rattle.std.specs.Prelude.{◌≡◌, ◌++◌, ◌^◌, OnOk, IsTrue, decimal, MatchOption, SomeIff, ◌+◌, ◌-◌, ◌*◌, ◌<◌, ◌≤◌, length};
+ghost use Rattle.std.specs.Prelude.{◌≡◌, ◌++◌, ◌^◌, OnOk, IsTrue, decimal, MatchOption, SomeIff, ◌+◌, ◌-◌, ◌*◌, ◌<◌, ◌≤◌};
 ghost use Rattle.std.specs.List.{list_all};
 ghost use Rattle.spl_base.specs.Ids.{is_digit};
-ghost use Rattle.spl_sched.specs.Words.{is_decimal, value, Reads, number};
+ghost use Rattle.spl_sched.specs.Words.{is_decimal, value, number};
 
 use crate::fault::LineFault;
 use crate::word::Spelled;

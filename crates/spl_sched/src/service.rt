@@ -1,5 +1,4 @@
 //! A service, as a word.
-ghost use Rattle.std.specs.Prelude.{◌≡◌};
 ghost use Rattle.spl_sched.specs.Words.{Reads, Takes, text, read_first};
 ghost use Rattle.spl_sched.specs.Grammar.{is_type};
 

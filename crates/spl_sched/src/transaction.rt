@@ -1,5 +1,5 @@
 //! The transactions of a batch, as words.
-ghost use Rattle.std.specs.Prelude.{◌≡◌, ◌++◌, ◌∷◌, [], IfOk, OnOk, map};
+ghost use Rattle.std.specs.Prelude.{◌≡◌, ◌++◌, ◌∷◌, IfOk, OnOk, map};
 ghost use Rattle.spl_sched.specs.Words.{Reads, behind_spaces};
 ghost use Rattle.spl_sched.specs.Transactions.{prefix, command_text, read_part, no_parts, with_part, with_word, read_open, read_transactions, words_of_transaction, words_of_transactions};
 

@@ -1,7 +1,7 @@
 //! Taking words from the front of bytes.
 ghost use Rattle.std.specs.Prelude.{◌≡◌, ◌∷◌, [], ◌==◌, MatchOption, Some, None};
 ghost use Rattle.std.specs.List.{position};
-ghost use Rattle.spl_sched.specs.Words.{split, behind, read_end, Takes, Reads};
+ghost use Rattle.spl_sched.specs.Words.{split, behind, read_end, Reads};
 
 use crate::fault::LineFault;
 use std::marker::Model;

@@ -1,5 +1,5 @@
 -- Messages that a cell may hear.
-use Rattle.std.proofs.Common.{◌≡◌, ℕ, List, Bool, true, ◌&&◌, IsTrue, length, refl}
+use Rattle.std.proofs.Common.{◌≡◌, ℕ, List, true, IsTrue, length, refl}
 use Rattle.std.specs.Prelude.{nat_le}
 use Rattle.std.specs.Str.{bytes_eq}
 use Rattle.std.proofs.lemmas.Slice.Eq.{bytes_eq-Decides}

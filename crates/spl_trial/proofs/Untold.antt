@@ -1,5 +1,5 @@
 -- Disks that don't tell.
-use Rattle.std.proofs.Common.{◌≡◌, ℕ, List, Bool, true, false, Option, None, IfSome}
+use Rattle.std.proofs.Common.{◌≡◌, ℕ, List, Bool, true, false, None, IfSome}
 use Rattle.spl_edge.specs.Image.{Image}
 use Rattle.spl_journal.specs.Journals.{is_halted as journal_halted}
 use Rattle.spl_snapshot.specs.declared.pairing.Pairing.{Pairing}

@@ -85,7 +85,7 @@ impl World {
             None => return Ok(None),
         };
         Ok(Some(Event::Deliver {
-            from: sender,
+            from: *sender,
             message,
         }))
     }

@@ -15,7 +15,7 @@ ghost use Rattle.spl_world.specs.Disks.{NoneForgotten, bench, images};
 ghost use Rattle.spl_world.specs.Ended.{EventEnds};
 ghost use Rattle.spl_world.specs.Halts.{IsEventOf, bit_in};
 ghost use Rattle.spl_world.specs.Held.{FailsBy, PickUnarmed, StopsAt, StopsSlot};
-ghost use Rattle.spl_world.specs.Views.{Holds, IsAt, IsUp, Sits, ids_of, places_of, seen, slot_id, slot_up};
+ghost use Rattle.spl_world.specs.Views.{Holds, IsAt, IsUp, Sits, ids_of, places_of, seen, slot_up};
 ghost use Rattle.spl_world.specs.declared.slot.Slot.{Slot as Seat};
 
 use crate::fault::WorldFault;

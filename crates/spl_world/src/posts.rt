@@ -3,7 +3,7 @@ ghost use Rattle.std.specs.Prelude.{◌≡◌, ◌++◌, [], length, slice_get, 
 ghost use Rattle.std.specs.Option.{option_copied};
 ghost use Rattle.std.specs.Str.{bytes_eq};
 ghost use Rattle.spl_circuit.specs.Nodes.{NodeId as Id};
-ghost use Rattle.spl_world.specs.Kept.{AllBelong, BelongEach, SendsBelong, lists_about, sent_to, sends_to};
+ghost use Rattle.spl_world.specs.Kept.{AllBelong, SendsBelong, lists_about, sent_to, sends_to};
 
 use crate::outbox::Outbox;
 use spl_base::{Boxed, CircuitId, NodeId};

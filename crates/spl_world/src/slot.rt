@@ -72,17 +72,10 @@ impl Slot {
     }
 
     /// Its id.
-    pub fn id(&self) -> NodeId
-        ensures { result ≡ slot_id self.now }
-    {
-        self.host.id()
-    }
-
-    /// Its id.
-    pub fn node(&self) -> &NodeId
+    pub fn id(&self) -> &NodeId
         ensures { result.now ≡ slot_id self.now }
     {
-        self.host.node()
+        self.host.id()
     }
 
     /// The position of its disks among the pairs.

@@ -45,7 +45,7 @@ pub struct World {
 fn position_of(slots: &[Slot], node: &NodeId) -> Option<usize>
     ensures { result ≡ position_from (has_id node.now) 0 slots.now }
 {
-    slots.iter().position(|slot| slot.id() == *node)
+    slots.iter().position(|slot| slot.id() == node)
 }
 
 impl World {
@@ -146,7 +146,7 @@ impl World {
         requires to_below { to < length self.now.slots.items }
         ensures { (a b : Id) → IsAt self.now from a → IsAt self.now to b → result ≡ bytes_eq a b }
     {
-        self.slots[from].node() == self.slots[to].node()
+        self.slots[from].id() == self.slots[to].id()
     }
 
     // How many messages about a circuit one node sent to another.
@@ -158,7 +158,7 @@ impl World {
         if from == to {
             return 0;
         }
-        let recipient = self.slots[to].node();
+        let recipient = self.slots[to].id();
         self.slots[from].count(circuit, recipient)
     }
 
@@ -177,7 +177,7 @@ impl World {
         ensures value { (is : List Images) (m : CircuitWorld) (a b : Id) → Holds circuit.now m (over self.now is) → IsAt self.now from a → IsAt self.now to b → option_copied result ≡ slice_get (messages m a b) index }
         ensures belongs { IfSome (option_copied result) (λ x. belongs circuit.now x ≡ true) }
     {
-        let recipient = self.slots[to].node();
+        let recipient = self.slots[to].id();
         self.slots[from].message(circuit, recipient, index)
     }
 
@@ -203,7 +203,7 @@ impl World {
             None => return Ok(None),
         };
         Ok(Some(Event::Deliver {
-            from: sender,
+            from: *sender,
             message,
         }))
     }

@@ -1,6 +1,5 @@
-use Rattle.std.proofs.Common.{◌∷◌, ◌≡◌, ◌∙◌, List, [], length, length-append, ap, sym, subst, arith}
+use Rattle.std.proofs.Common.{◌∷◌, ◌∙◌, List, [], length, length-append, ap, sym, subst, arith}
 use Rattle.spl_edge.specs.declared.bench.Pair.{Pair}
-use Rattle.spl_memory.specs.MemDisks.{failing_of}
 use Rattle.spl_memory.specs.declared.mem_disk.MemDisk.{MemDisk}
 use Rattle.spl_app.specs.Benches.{FirstFails}
 use Rattle.spl_world.specs.Held.{AllUnpicked}

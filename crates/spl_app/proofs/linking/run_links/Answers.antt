@@ -1,4 +1,4 @@
-use Rattle.std.proofs.Common.{◌≡◌, inl, inr, refl, rules}
+use Rattle.std.proofs.Common.{inl, inr, refl, rules}
 use Rattle.std.proofs.KnownBytes.{Appends-nil}
 use Rattle.spl_world.proofs.Leaving.{all_itself}
 use Rattle.spl_app.proofs.Registries.{no_fault}

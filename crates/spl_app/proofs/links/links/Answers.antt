@@ -1,4 +1,4 @@
-use Rattle.std.proofs.Common.{◌≡◌, ℕ, List, [], Some, refl, sym, ap, subst, ◌∙◌, inl, arith, rules}
+use Rattle.std.proofs.Common.{◌≡◌, List, Some, refl, sym, ap, subst, inl, arith, rules}
 use Rattle.spl_registry.specs.Nodes.{node_at}
 use Rattle.spl_world.specs.Disks.{AreBlank, Images, bench, images, images_at}
 use Rattle.spl_world.proofs.Leaving.{all_then}

@@ -1,4 +1,4 @@
-use Rattle.std.proofs.Common.{◌≡◌, ◌≢◌, ◌<◌, ◌≤◌, ◌-◌, ℕ, List, [], Err, length, take, refl, sym, ap, subst, ◌∙◌, inl, inr, arith, rules}
+use Rattle.std.proofs.Common.{◌≡◌, ◌≢◌, ◌<◌, ◌≤◌, ◌-◌, ℕ, List, Err, length, take, refl, sym, ap, subst, ◌∙◌, inl, arith, rules}
 use Rattle.std.specs.Io.{appended_bytes}
 use Rattle.spl_lines.specs.Given.{run_of}
 use Rattle.spl_lines.proofs.Given.{run_given}
@@ -10,7 +10,6 @@ use Rattle.spl_links.specs.declared.fault.LinkedFault.{LinkedFault}
 use Rattle.spl_links.specs.declared.fault.LinkedFault.TheVariants as linked
 use Rattle.spl_pump.specs.Wires.{Pumped, wire_from, wire_of}
 use Rattle.spl_world.specs.Disks.{images}
-use Rattle.spl_world.specs.declared.fault.WorldFault.{WorldFault}
 use Rattle.spl_world.specs.declared.fault.WorldFault.TheVariants as error
 use Rattle.spl_app.specs.Links.{fabric_view, run_view}
 use Rattle.spl_app.proofs.Linked.{gives_fault, memory_as, never_registry, never_usage, never_write, short_as, stopped_as, whole_as}

@@ -1,4 +1,4 @@
-use Rattle.std.proofs.Common.{◌≡◌, ℕ, suc, ◌-◌, arith, sym, ◌∙◌}
+use Rattle.std.proofs.Common.{◌≡◌, suc, ◌-◌, arith, sym, ◌∙◌}
 use Rattle.spl_group_checks.proofs.Seating.{begin_fits, begun_ready}
 use Rattle.spl_group_checks.proofs.seats.open.Goals as goal
 

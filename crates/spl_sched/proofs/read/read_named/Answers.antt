@@ -1,4 +1,4 @@
-use Rattle.std.proofs.Common.{◌≡◌, sym, subst, ◌∙◌, Option, List, ℕ, ◌∷◌}
+use Rattle.std.proofs.Common.{sym, subst, ◌∙◌, Option, List, ℕ, ◌∷◌}
 use Rattle.std.specs.Option.{option_map}
 use Rattle.spl_sched.specs.declared.line.Line.{Line}
 use Rattle.spl_sched.specs.declared.line.Line.TheVariants as line

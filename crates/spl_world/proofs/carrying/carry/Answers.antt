@@ -1,5 +1,4 @@
 use Rattle.std.proofs.Common.{ap, Err}
-use Rattle.spl_pump.specs.Wires.{only}
 use Rattle.spl_world.specs.Links.{link_view}
 use Rattle.spl_world.proofs.Linking.{fault_part}
 use Rattle.spl_world.proofs.LinkFaults.{faults_carry, faults_ok}

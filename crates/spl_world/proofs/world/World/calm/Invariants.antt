@@ -8,7 +8,6 @@ use Rattle.std.proofs.Common.{ℕ}
 use Rattle.spl_world.proofs.Linking.{done}
 use Rattle.spl_world.specs.Links.{IsReady, PartDelivers, Places, link_view, LinksGoOn}
 use Rattle.spl_circuit.specs.Nodes.{NodeId}
-use Rattle.std.proofs.Common.{◌≤◌}
 use Rattle.spl_world.proofs.world.World.calm.Given as goal
 
 -- the passes so far are made

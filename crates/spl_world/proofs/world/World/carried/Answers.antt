@@ -61,13 +61,13 @@ pub returns-clause-event : goal.returns-clause-event
 returns-clause-event g c = λ is m a b h at to.
     let xs = c.args.self.now.slots.items in
     let here = slice_get_read xs (length xs) c.args.from c.index.result.now refl c.requires.from_below c.index.ensures in
-    found_delivery a c.id-sender.result c.in-Some.message.now c.in_ok-message-in-Some.message (slice_get (messages m a b) c.args.index) (c.id-sender.ensures ∙ same_at xs c.args.from c.index.result.now a here at) c.in_ok-message-in-Some.ensures.same (c.in-Some.ensures.value is m a b h at to)
+    found_delivery a c.id-sender.result.now c.in-Some.message.now c.in_ok-message-in-Some.message (slice_get (messages m a b) c.args.index) (c.id-sender.ensures ∙ same_at xs c.args.from c.index.result.now a here at) c.in_ok-message-in-Some.ensures.same (c.in-Some.ensures.value is m a b h at to)
 
 pub returns-clause-own : goal.returns-clause-own
 returns-clause-own g c = λ n to.
     let xs = c.args.self.now.slots.items in
     let here = slice_get_read xs (length xs) c.args.from c.index.result.now refl c.requires.from_below c.index.ensures in
-    is_for n c.id-sender.result c.args.circuit.now c.in_ok-message-in-Some.message (rw (c.id-sender.ensures) (c.requires.apart (slot_id c.index.result.now) n (id_at xs c.args.from c.index.result.now here) to))
+    is_for n c.id-sender.result.now c.args.circuit.now c.in_ok-message-in-Some.message (rw (c.id-sender.ensures) (c.requires.apart (slot_id c.index.result.now) n (id_at xs c.args.from c.index.result.now here) to))
     (subst (λ (x : Message). belongs c.args.circuit.now x ≡ true) (sym c.in_ok-message-in-Some.ensures.same) c.in-Some.ensures.belongs)
 
 pub returns-clause-ready : goal.returns-clause-ready

@@ -21,5 +21,5 @@ returns c = λ is m a b h at to.
     let there = slice_get_read xs (length xs) c.args.from c.index-2.result.now refl c.requires.from_below c.index-2.ensures in
     let also = slice_get_read xs (length xs) c.args.to c.index.result.now refl c.requires.to_below c.index.ensures in
     let other : bytes_eq a b ≡ false = apart (ids_of c.args.self.now) c.args.to c.args.from b a h.ordered to at (λ (e : c.args.from ≡ c.args.to). omega (arith, e, c.if-from-to.false)) in
-    c.count.ensures ∙ ap (λ (i : NodeId). length (sent_to (lists_about c.index-2.result.now.posts c.args.circuit.now) i)) c.node-recipient.ensures
+    c.count.ensures ∙ ap (λ (i : NodeId). length (sent_to (lists_about c.index-2.result.now.posts c.args.circuit.now) i)) c.id-recipient.ensures
     ∙ ap length (messages_as (over c.args.self.now is) c.args.from c.args.to c.index-2.result.now c.index.result.now c.args.circuit.now a b m there also at to h other)

@@ -7,7 +7,6 @@ use Rattle.std.proofs.Common.{ℕ}
 use Rattle.spl_world.proofs.Linking.{done}
 use Rattle.spl_world.specs.Links.{IsReady, PartDelivers, Places, link_view, LinksGoOn}
 use Rattle.spl_circuit.specs.Nodes.{NodeId}
-use Rattle.std.proofs.Common.{◌≤◌}
 use Rattle.spl_world.proofs.world.World.from_all.Given as goal
 
 -- the senders so far had their turns

@@ -7,7 +7,6 @@ use Rattle.spl_world.specs.Views.{Holds, IsAt, Spares, ids_of, Sits, places_of, 
 use Rattle.std.proofs.Common.{ℕ}
 use Rattle.spl_world.proofs.Linking.{done}
 use Rattle.spl_world.specs.Links.{IsReady, PartDelivers, Places, link_view, LinksGoOn}
-use Rattle.std.proofs.Common.{◌≤◌}
 use Rattle.spl_world.proofs.world.World.to_all.Given as goal
 
 -- the recipients so far had their turns
