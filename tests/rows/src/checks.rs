@@ -1,0 +1,50 @@
+//! Rows of the parts below a run: lines, byte forms, definitions, batches, states, answers, frames and registries.
+
+mod answers;
+mod batches;
+mod definitions;
+mod devices;
+mod forms;
+mod frames;
+mod generated;
+mod lines;
+mod registries;
+mod runs;
+mod states;
+
+use crate::words::{Answered, RowFault};
+use std::alloc::Global;
+
+/// What a row of one of these tables answers.
+pub fn answer(alloc: Global, table: &str, rest: &str) -> Answered {
+    match table {
+        "line" => lines::said(alloc, rest),
+        "names" => lines::named(alloc, rest),
+        "form" => forms::read(alloc, rest),
+        "cuts" => forms::cuts(alloc, rest),
+        "changes" => forms::changes(alloc, rest),
+        "definition" => definitions::judged(alloc, rest),
+        "same-definition" => definitions::compared(alloc, rest),
+        "member" => definitions::service_at(alloc, rest),
+        "route" => definitions::routed(alloc, rest),
+        "batch" => batches::judged(alloc, rest),
+        "same-batch" => batches::compared(alloc, rest),
+        "execute" => batches::executed(alloc, rest),
+        "answer" => answers::printed(alloc, rest),
+        "frames" => frames::framed(alloc, rest),
+        "stream" => frames::streamed(alloc, rest),
+        "frame" => frames::written(alloc, rest),
+        "hello" => frames::greeted(alloc, rest),
+        "roots" => states::roots(alloc, rest),
+        "digest" => states::digest(alloc, rest),
+        "value" => states::value(alloc, rest),
+        "under" => states::under(alloc, rest),
+        "copy" => states::copied(alloc, rest),
+        "sha256" => states::sha256(alloc, rest),
+        "registry" => registries::read(alloc, rest),
+        "source" => devices::taken(alloc, rest),
+        "sink" => devices::kept(alloc, rest),
+        "generated" => generated::summed(alloc, rest),
+        _ => Err(RowFault::BadRow),
+    }
+}
