@@ -17,7 +17,7 @@ use std::process::ExitCode;
 use std::{env, fs, io};
 
 /// Why a part came to no end.
-#[derive(Clone, Copy, Debug, PartialEq, Eq)]
+#[derive(Clone, Copy, PartialEq, Eq)]
 enum Fault {
     NoMemory,
     Malformed,
