@@ -1,0 +1,5 @@
+pub mod Plans
+pub mod Kept
+pub mod Members
+pub mod Promises
+pub mod Leaders

@@ -1,0 +1,6 @@
+pub mod Leading
+pub mod Listing
+pub mod Digits
+pub mod Making
+pub mod Saying
+pub mod Clashing

@@ -1,0 +1,5 @@
+pub mod Accepted
+pub mod Made
+pub mod Clashes
+pub mod Forms
+pub mod FormLaws

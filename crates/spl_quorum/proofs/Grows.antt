@@ -1,0 +1,93 @@
+-- What outlives lines: messages keep their numbers, and a process that does nothing stays as it was.
+use Rattle.std.proofs.Common.{◌≡◌, ℕ, true, false, List, [], ◌∷◌, ◌++◌, inl, inr, refl, sym, subst, ◌∙◌, ap, append_assoc}
+use Rattle.std.specs.Prelude.{Option, Some, None, ◌==◌}
+use Rattle.spl_agree.specs.World.{put}
+use Rattle.spl_agree.proofs.Tests.{if_holds, if_true, put-same}
+use Rattle.spl_acceptor.specs.declared.kind.TheConstants.{MEMBER, ACCEPTOR, LEADER}
+use Rattle.spl_acceptor.specs.declared.message.Name.{Name}
+use Rattle.spl_acceptor.specs.declared.message.PaxosMsg.{PaxosMsg}
+use Rattle.spl_acceptor.specs.declared.group.Group.{Group}
+use Rattle.spl_acceptor.specs.Rows.{member_row, acceptor_row, leader_row}
+use Rattle.spl_acceptor.specs.Worlds.{World, Sent, same_name, put_round, on_pair, numbered, message_at, posted, Happening, Delivers, round_of, heard, delivered, happens, run}
+use Rattle.spl_quorum.proofs.Round.{Was}
+use Rattle.spl_quorum.proofs.Said.{Sends}
+use Rattle.spl_quorum.specs.Settling.{for_each}
+use Rattle.spl_quorum.proofs.Lists.{append-nil, numbered-front, pair-append, pair-other}
+use Rattle.spl_quorum.proofs.Runs.{run-append, delivered-up}
+
+-- more was sent, behind what was
+abbrev pub Grows : World → World → Type 0
+Grows w v = (extra : List Sent) × (v.sent ≡ w.sent ++ extra)
+
+pub grows-self : (w : World) → Grows w w
+grows-self w = ([], sym (append-nil w.sent))
+
+pub grows-then : (w v u : World) → Grows w v → Grows v u → Grows w u
+grows-then w v u x y = (x.0 ++ y.0, y.1 ∙ ap (λ (z : List Sent). z ++ y.0) x.1 ∙ append_assoc w.sent x.0 y.0)
+
+heard-grows : (g : Group) (w : World) (from to : Name) (m : PaxosMsg) → Grows w (heard g w from to m)
+heard-grows g w from to m = if_holds (Grows w) (to.kind == MEMBER) _ _
+    (λ q. (posted (record { kind = MEMBER; number = to.number }) (member_row g (w.member to.number (round_of m)) from m).sends, refl))
+    (λ q. if_holds (Grows w) (to.kind == ACCEPTOR) _ _
+    (λ t. (posted (record { kind = ACCEPTOR; number = to.number }) (acceptor_row g (w.acceptor to.number (round_of m)) from m).sends, refl))
+    (λ t. (posted (record { kind = LEADER; number = to.number }) (leader_row g (w.leader to.number (round_of m)) from m).sends, refl)))
+
+delivered-grows : (g : Group) (w : World) (from to : Name) (o : Option PaxosMsg) → Grows w (delivered g w from to o)
+delivered-grows g w from to None = grows-self w
+delivered-grows g w from to (Some m) = heard-grows g w from to m
+
+pub delivers-grows : (g : Group) (w : World) (from to : Name) (k : ℕ) → Grows w (happens g w (Delivers from to k))
+delivers-grows g w from to k = if_holds (Grows w) (w.up to) _ _ (λ q. delivered-grows g w from to (message_at w from to k)) (λ q. grows-self w)
+
+-- a message keeps its number
+pub message-stays : (w v : World) (f t : Name) (k : ℕ) (m : PaxosMsg) → Grows w v → message_at w f t k ≡ Some m → message_at v f t k ≡ Some m
+message-stays w v f t k m x e = ap (λ (z : List Sent). numbered (on_pair f t z) k) x.1 ∙ ap (λ (z : List PaxosMsg). numbered z k) (pair-append f t w.sent x.0) ∙ numbered-front (on_pair f t w.sent) (on_pair f t x.0) k m e
+
+pub delivers-up : (g : Group) (w : World) (from to : Name) (k : ℕ) → (happens g w (Delivers from to k)).up ≡ w.up
+delivers-up g w from to k = if_holds (λ (v : World). v.up ≡ w.up) (w.up to) _ _ (λ q. delivered-up g w from to (message_at w from to k)) (λ q. refl)
+
+-- ---- what is handed over is heard
+
+pub hears-it : (g : Group) (w : World) (from to : Name) (k : ℕ) (m : PaxosMsg) → w.up to ≡ true → message_at w from to k ≡ Some m → happens g w (Delivers from to k) ≡ heard g w from to m
+hears-it g w from to k m up e = if_true (λ (v : World). v ≡ heard g w from to m) (w.up to) (delivered g w from to (message_at w from to k)) w up (ap (delivered g w from to) e)
+
+pub put_round-same : {S : Type 0} (f : ℕ → ℕ → S) (h k : ℕ) (s : S) → put_round f h k s h k ≡ s
+unfolding put_round
+put_round-same {S} f h k s = ap (λ (z : ℕ → S). z k) (put-same f h (put (f h) k s)) ∙ put-same (f h) k s
+
+-- what one process sends is no other's
+pub others-still : (w : World) (f t here : Name) (sends : Sends) → same_name here f ≡ false → on_pair f t (w.sent ++ posted here sends) ≡ on_pair f t w.sent
+others-still w f t here sends d = pair-append f t w.sent (posted here sends) ∙ ap (λ (z : List PaxosMsg). on_pair f t w.sent ++ z) (pair-other f t here sends d) ∙ append-nil (on_pair f t w.sent)
+
+-- ---- some lines for each
+
+pub run-each : {A : Type 0} (g : Group) (lines : A → List Happening) (x : A) (xs : List A) (w : World) → run g w (for_each lines (x ∷ xs)) ≡ run g (run g w (lines x)) (for_each lines xs)
+run-each g lines x xs w = run-append g w (lines x) (for_each lines xs)
+
+-- what outlives the lines of each outlives them all
+pub keep-each : {A : Type 0} (g : Group) (lines : A → List Happening) (Q : World → Type 0) (xs : List A) → ((x : A) (w : World) → Was x xs → Q w → Q (run g w (lines x))) → (w : World) → Q w → Q (run g w (for_each lines xs))
+keep-each g lines Q [] keep w q = q
+keep-each g lines Q (x ∷ xs) keep w q = subst Q (sym (run-each g lines x xs w)) (keep-each g lines Q xs (λ y v u. keep y v (inr u)) (run g w (lines x)) (keep x w (inl refl) q))
+
+-- where the lines of each bring something about that outlives those of the others, all of it is there in the end
+pub each-stage : {A : Type 0} (g : Group) (lines : A → List Happening) (I : World → Type 0) (P : A → World → Type 0) (xs : List A)
+    → ((x : A) (w : World) → Was x xs → I w → I (run g w (lines x)) × P x (run g w (lines x)))
+    → ((x y : A) (w : World) → Was x xs → I w → P y w → P y (run g w (lines x)))
+    → (w : World) → I w → I (run g w (for_each lines xs)) × ((x : A) → Was x xs → P x (run g w (for_each lines xs)))
+each-stage g lines I P [] step keep w i = (i, λ x u. absurd u)
+each-stage {A} g lines I P (x ∷ xs) step keep w i = subst (λ (v : World). I v × ((y : A) → Was y (x ∷ xs) → P y v)) (sym (run-each g lines x xs w))
+    (all (each-stage g lines I P xs (λ y v u j. step y v (inr u) j) (λ y z v u j p. keep y z v (inr u) j p) (run g w (lines x)) (step x w (inl refl) i).0))
+  where
+    first : P x (run g (run g w (lines x)) (for_each lines xs))
+    first = (keep-each g lines (λ (v : World). I v × P x v) xs (λ y v u q. ((step y v (inr u) q.0).0, keep y x v (inr u) q.0 q.1)) (run g w (lines x)) (step x w (inl refl) i)).1
+
+    all : I (run g (run g w (lines x)) (for_each lines xs)) × ((y : A) → Was y xs → P y (run g (run g w (lines x)) (for_each lines xs))) → I (run g (run g w (lines x)) (for_each lines xs)) × ((y : A) → Was y (x ∷ xs) → P y (run g (run g w (lines x)) (for_each lines xs)))
+    all s = (s.0, one)
+      where
+        one : (y : A) → Was y (x ∷ xs) → P y (run g (run g w (lines x)) (for_each lines xs))
+        one y (inl e) = subst (λ (z : A). P z (run g (run g w (lines x)) (for_each lines xs))) (sym e) first
+        one y (inr u) = s.1 y u
+
+pub each-append : {A : Type 0} (lines : A → List Happening) (xs ys : List A) → for_each lines (xs ++ ys) ≡ for_each lines xs ++ for_each lines ys
+each-append lines [] ys = refl
+each-append lines (x ∷ xs) ys = ap (λ (z : List Happening). lines x ++ z) (each-append lines xs ys) ∙ sym (append_assoc (lines x) (for_each lines xs) (for_each lines ys))

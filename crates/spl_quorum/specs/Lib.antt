@@ -1,0 +1,4 @@
+pub mod Begun
+pub mod Settling
+pub mod Examples
+pub mod Written
