@@ -1,0 +1,2 @@
+pub mod CalmLines
+pub mod OneRun
