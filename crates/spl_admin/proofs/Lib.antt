@@ -1,3 +1,2 @@
 pub mod Decided
-pub mod Lives
 pub mod Positions

@@ -4,7 +4,7 @@ use Rattle.std.specs.List.{filter}
 use Rattle.spl_circuit.specs.declared.definition.Definition.{Definition}
 use Rattle.spl_circuit.specs.declared.act.Act.{Act}
 use Rattle.spl_circuit.specs.Nodes.{Node, has_node}
-use Rattle.spl_circuit.specs.Lifecycle.{life}
+use Rattle.spl_circuit.specs.Lifecycle.{life, current}
 
 -- the circuit's definition, and the acts applied so far
 pub record LedgerView : Type 0 where
@@ -13,4 +13,4 @@ pub record LedgerView : Type 0 where
 
 -- the members that have accepted, in member order
 abbrev pub accepted_members : LedgerView → List Node
-accepted_members l = filter (has_node (life l.definition l.acts).accepted) l.definition.members
+accepted_members l = filter (has_node (current (life l.definition l.acts)).accepted) l.definition.members

@@ -68,10 +68,12 @@ impl Agreed for Ledger {
         Ok(self.misfit(value))
     }
 
-    #[tactic(auto, using(crate::proofs::Lives::life_more))]
+    #[tactic(auto, using(spl_circuit::proofs::Lives::life_more))]
     fn apply(&mut self, alloc: Global, value: Act) -> Result<(), AllocError> {
         self.acts.reserve(1)?;
-        self.standing.take(alloc, self.definition.get(), &value)?;
+        let place = self.acts.len() as u32;
+        self.standing
+            .take(alloc, self.definition.get(), place, &value)?;
         self.acts.push(value).unwrap();
         Ok(())
     }

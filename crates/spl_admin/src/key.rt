@@ -2,7 +2,7 @@
 use spl_base::NodeId;
 
 /// What names an act: its node, and the turn of the node (docs/RULES.md, Acts).
-#[derive(Clone, Copy, Debug, PartialEq, Eq, Hash)]
+#[derive(Clone, Copy, PartialEq, Eq, Hash)]
 pub struct ActKey {
     pub node: NodeId,
     pub turn: u32,

@@ -3,15 +3,15 @@ ghost use Rattle.std.specs.Prelude.{◌≡◌, [], length, None, IfOk};
 ghost use Rattle.std.specs.Str.{bytes_eq};
 ghost use Rattle.spl_circuit.specs.Rules.{broken};
 ghost use Rattle.spl_circuit.specs.Nodes.{has_node, node_or};
-ghost use Rattle.spl_circuit.specs.Lifecycle.{life};
-ghost use Rattle.spl_circuit.specs.Acts.{misfit_kind, misfit, admits_kind};
+ghost use Rattle.spl_circuit.specs.Lifecycle.{life, current, disbanding_of};
+ghost use Rattle.spl_circuit.specs.Acts.{is_node, misfit_kind, misfit, admits_kind};
 ghost use Rattle.spl_circuit.specs.Equality.{same_definition};
 ghost use Rattle.spl_admin.specs.Kept.{accepted_members};
 
 use crate::standing::Standing;
-use spl_agree::{Admit, Reason};
+use spl_agree::{Admit, Place, Reason};
 use spl_base::{Boxed, NodeId, Value};
-use spl_circuit::{Act, ActKind, Definition, Lifecycle, Members};
+use spl_circuit::{Act, ActKind, Definition, Lifecycle, Members, VERSION_TOO_LOW};
 use std::alloc::{AllocError, Global};
 use std::marker::Model;
 
@@ -81,20 +81,34 @@ impl Ledger {
 
     /// The node that proposed the circuit, if one did.
     pub fn requester(&self) -> Option<NodeId>
-        ensures { result ≡ (life self.now.definition self.now.acts).requester }
+        ensures { result ≡ (life self.now.definition self.now.acts).circuit.requester }
     {
         self.standing.requester()
     }
 
-    /// Whether the node has accepted the circuit.
-    pub fn accepted(&self, node: &NodeId) -> bool
-        ensures { result ≡ has_node (life self.now.definition self.now.acts).accepted node.now }
+    /// The place of the disband that is open, if one is.
+    pub fn disbanding(&self) -> Option<Place>
+        ensures { result ≡ disbanding_of (life self.now.definition self.now.acts) }
     {
-        self.standing.has_accepted(node)
+        self.standing.disbanding()
     }
 
-    /// The members that have accepted the circuit, in member order. An error comes for want of
-    /// memory alone.
+    /// Whether the node asked for what is open: the circuit, or the disband once there is one.
+    pub fn requested(&self, node: &NodeId) -> bool
+        ensures { result ≡ is_node (current (life self.now.definition self.now.acts)).requester node.now }
+    {
+        self.standing.current().is_requester(node)
+    }
+
+    /// Whether the node has accepted it.
+    pub fn accepted(&self, node: &NodeId) -> bool
+        ensures { result ≡ has_node (current (life self.now.definition self.now.acts)).accepted node.now }
+    {
+        self.standing.current().has_accepted(node)
+    }
+
+    /// The members that have accepted it, in member order. An error comes for want of memory
+    /// alone.
     pub fn accepted_members(&self, alloc: Global) -> Result<Members, AllocError>
         ensures { IfOk result (λ ms. ms ≡ accepted_members self.now) }
     {
@@ -133,16 +147,21 @@ impl Ledger {
                 }
             }
             ActKind::Accept | ActKind::Reject => self.standing.misfit_vote(node),
-            ActKind::Remove => {
-                if !self.standing.is_proposed() {
-                    return Some(Reason::WRONG_LIFECYCLE);
+            ActKind::Remove => self.standing.misfit_removal(node),
+            ActKind::Disband => {
+                if self.definition().version != 2 {
+                    return Some(VERSION_TOO_LOW);
                 }
-                if self.standing.is_requester(node) {
+                if self.standing.is_active() {
                     None
                 } else {
-                    Some(Reason::NOT_REQUESTER)
+                    Some(Reason::WRONG_LIFECYCLE)
                 }
             }
+            ActKind::DisbandAccept(place) | ActKind::DisbandReject(place) => {
+                self.standing.misfit_disband_vote(*place, node)
+            }
+            ActKind::DisbandRemove(place) => self.standing.misfit_disband_removal(*place, node),
         }
     }
 

@@ -3,7 +3,7 @@
 use crate::{CommitMsg, Reason, Round};
 
 /// What happens at a member.
-#[derive(Debug, Drop)]
+#[derive(Drop)]
 pub enum GroupEvent<V> {
     /// It is asked to go on.
     Tick,
@@ -16,7 +16,7 @@ pub enum GroupEvent<V> {
 }
 
 /// A durable change of a member.
-#[derive(Debug, Drop)]
+#[derive(Drop)]
 pub enum GroupChange<V> {
     /// The value joins the pending ones.
     Queue(V),
@@ -39,7 +39,7 @@ pub enum GroupChange<V> {
 }
 
 /// A move of the open round, which no stop survives.
-#[derive(Clone, Copy, Debug, PartialEq, Eq)]
+#[derive(Clone, Copy, PartialEq, Eq)]
 pub enum OpenMove {
     /// It stays.
     Keep,
@@ -52,7 +52,7 @@ pub enum OpenMove {
 }
 
 /// What is told of an event.
-#[derive(Clone, Copy, Debug, PartialEq, Eq)]
+#[derive(Clone, Copy, PartialEq, Eq)]
 pub enum Note {
     Idle,
     Asked(Round),

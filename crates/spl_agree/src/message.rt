@@ -3,7 +3,7 @@
 use crate::{Generation, Place, Reason, Round};
 
 /// A message between two members of a group, with the generation of the sender's definition.
-#[derive(Debug, Drop)]
+#[derive(Drop)]
 pub enum CommitMsg<V> {
     /// The coordinator asks for a vote on a value at a place.
     VoteRequest {

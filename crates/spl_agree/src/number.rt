@@ -4,7 +4,7 @@ ghost use Rattle.std.specs.Prelude.{◌≡◌};
 use std::marker::Model;
 
 /// The generation of a definition of a circuit, from 1. Contracts see its number.
-#[derive(Clone, Copy, Debug, PartialEq, Eq, PartialOrd, Ord)]
+#[derive(Clone, Copy, PartialEq, Eq, PartialOrd, Ord)]
 pub struct Generation(pub u32);
 
 impl Model for Generation {
@@ -18,7 +18,7 @@ impl Model for Generation {
 }
 
 /// A round of a group, from 1: one attempt to commit one value. Contracts see its number.
-#[derive(Clone, Copy, Debug, PartialEq, Eq, PartialOrd, Ord)]
+#[derive(Clone, Copy, PartialEq, Eq, PartialOrd, Ord)]
 pub struct Round(pub u64);
 
 impl Model for Round {
@@ -32,7 +32,7 @@ impl Model for Round {
 }
 
 /// A place in a history, from 0. Contracts see its number.
-#[derive(Clone, Copy, Debug, PartialEq, Eq, PartialOrd, Ord)]
+#[derive(Clone, Copy, PartialEq, Eq, PartialOrd, Ord)]
 pub struct Place(pub u32);
 
 impl Model for Place {

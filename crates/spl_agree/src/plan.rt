@@ -6,7 +6,7 @@ use std::alloc::{AllocError, Global};
 use std::marker::Model;
 
 /// Durable changes in their order. Contracts see them as a list.
-#[derive(Debug, Drop)]
+#[derive(Drop)]
 pub struct GroupChanges<V> {
     items: Vec<GroupChange<V>>,
 }
@@ -67,7 +67,7 @@ impl<V: Drop> GroupChanges<V> {
 }
 
 /// Messages in the order in which they are sent, each to a position. Contracts see them as a list of pairs.
-#[derive(Debug, Drop)]
+#[derive(Drop)]
 pub struct GroupSends<V> {
     items: Vec<(u8, CommitMsg<V>)>,
 }
@@ -128,7 +128,7 @@ impl<V: Drop> GroupSends<V> {
 }
 
 /// What an event gives at a member: a note, durable changes, a move of the open round, and messages.
-#[derive(Debug, Drop)]
+#[derive(Drop)]
 pub struct GroupPlan<V> {
     pub note: Note,
     pub changes: GroupChanges<V>,

@@ -2,7 +2,7 @@
 
 /// Why a value is refused: a code, and where in the value, 0 unless the code says otherwise. The codes from 9 to 12 are
 /// the causes that make a batch invalid.
-#[derive(Clone, Copy, Debug, PartialEq, Eq)]
+#[derive(Clone, Copy, PartialEq, Eq)]
 pub struct Reason {
     pub code: u8,
     pub at: u8,
@@ -38,7 +38,7 @@ impl Reason {
 }
 
 /// What the content of a group says to a forwarded value.
-#[derive(Clone, Copy, Debug, PartialEq, Eq)]
+#[derive(Clone, Copy, PartialEq, Eq)]
 pub enum Admit {
     /// The value may be queued.
     Take,

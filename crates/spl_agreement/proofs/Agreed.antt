@@ -2,7 +2,7 @@
 use Rattle.std.proofs.Common.{◌≡◌, true, List, sym, ◌∙◌}
 use Rattle.spl_circuit.specs.declared.definition.Definition.{Definition}
 use Rattle.spl_circuit.specs.Nodes.{NodeId}
-use Rattle.spl_model.specs.Worlds.{Occurrence, first_world, world_behind, site_at}
+use Rattle.spl_model.specs.Worlds.{blank, Occurrence, empty_world, world_behind, site_at}
 use Rattle.spl_model.specs.Projection.{Ran, own, lines_fit}
 use Rattle.spl_agreement.specs.Lists.{act_list, batch_list}
 use Rattle.spl_model.specs.Plain.{AllPlain}
@@ -32,6 +32,6 @@ agreed-behind ns es d h = record {
 -- at each moment of each circuit's world
 pub lines-agree : (ns : List NodeId) (rs : List Ran) → lines_fit rs ≡ true → Agree ns rs
 lines-agree ns rs h = record {
-  happened = λ c. lines-run (first_world ns) (own c rs);
+  happened = λ c. lines-run (empty_world ns) (own (blank ns) c rs);
   agreed = λ c d es fs e. agreed-behind ns es d (plain-moment ns c rs es fs h e);
 }

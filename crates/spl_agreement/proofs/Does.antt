@@ -1,6 +1,6 @@
 -- What an event does at a cell, as few kinds: each with what is known then of the cell, of the event, and of the value that
 -- it brings.
-use Rattle.std.proofs.Common.{◌≡◌, ℕ, ◌⊎◌, Bool, true, false, not, ◌&&◌, List, length, refl, sym, ap, subst, inl, inr}
+use Rattle.std.proofs.Common.{◌≡◌, ℕ, ◌⊎◌, Bool, true, false, not, ◌&&◌, List, [], length, refl, sym, ap, subst, inl, inr}
 use Rattle.std.specs.Prelude.{Option, Some, None, ◌==◌, nat_lt, is_none, is_some, Ok, Err}
 use Rattle.std.specs.Str.{bytes_eq}
 use Rattle.spl_base.specs.Booleans.{none_is}
@@ -19,7 +19,7 @@ use Rattle.spl_circuit.specs.declared.act.Act.{Act}
 use Rattle.spl_circuit.specs.Nodes.{NodeId, CircuitId, ServiceId, has_node, position}
 use Rattle.spl_circuit.specs.Rules.{broken, admin, is_member}
 use Rattle.spl_circuit.specs.Acts.{is_node}
-use Rattle.spl_circuit.specs.Lifecycle.{is_proposed}
+use Rattle.spl_circuit.specs.Lifecycle.{Life, life, is_active, is_disbanding, is_asked, current}
 use Rattle.spl_circuit.specs.Routing.{Way, route}
 use Rattle.spl_circuit.specs.Same.{node_is}
 use Rattle.spl_command.specs.declared.batch.Batch.{Batch}
@@ -33,7 +33,7 @@ use Rattle.spl_wire.specs.declared.message.Message.{Message}
 use Rattle.spl_wire.specs.declared.message.Message.TheVariants as message
 use Rattle.spl_wire.specs.declared.event.Event.{Event}
 use Rattle.spl_wire.specs.declared.event.Event.TheVariants as event
-use Rattle.spl_rules.specs.Cells.{Cell, Empty, Held, Purged, Deed, Refuses, Submitted, Alone, Tells, Replies, Binds, Acts, Serves, Turns, Abandons, Purges, is_open, own_life, runs, is_free, can_bind, proposes, proposes_at, votes, removes, is_act_pending, is_waiting, next_act, proposal, asked_first, forwarded_first, hears_first, Bound, Site, Delivered}
+use Rattle.spl_rules.specs.Cells.{Cell, Empty, Held, Purged, Deed, Refuses, Submitted, Alone, Tells, Replies, Binds, Acts, Serves, Turns, Abandons, Purges, is_open, is_active_here, own_life, runs, is_free, can_bind, proposes, proposes_at, vote_kind, removal_kind, submits_next, votes, removes, disbands, is_act_pending, is_waiting, next_act, proposal, asked_first, forwarded_first, hears_first, Bound, Site, Delivered}
 use Rattle.spl_rules.specs.Batches.{submits, submits_ruled, submits_known, when_active, status_kept, status_refused, receipt_kept, has_the_id, routed, way, hears_routed, serves_other}
 use Rattle.spl_rules.specs.Events.{turns, held_hears, held_does, other_does, does}
 use Rattle.spl_agreement.proofs.CoupledSteps.{IsIdle, IsFree}
@@ -79,7 +79,7 @@ pub data Does (site : Site) (heard : NodeId → Message → Type 0) (k : Cell) (
   Asked : (d : Definition) (from : NodeId) (c : CircuitId) (gen r place : ℕ) (v : Act) → deed ≡ Binds Delivered d from (group.From (position d.members from) (msg.VoteRequest gen r place v)) → IsBindable site k d → d.generation ≡ gen → admin d ≡ from → heard from (message.Admin c (msg.VoteRequest gen r place v)) → Does site heard k o deed
   Handed : (d : Definition) (from : NodeId) (c : CircuitId) (gen : ℕ) (v : Act) → deed ≡ Binds Delivered d from (group.Submit v) → IsBindable site k d → d.generation ≡ gen → admin d ≡ site.here → v.node ≡ from → is_proposal v.kind ≡ true → heard from (message.Admin c (msg.Forward gen v)) → o ≡ Some (OfActs v) → Does site heard k o deed
   -- a group is handed an act of the node or a batch, or gets a message
-  Acted : (h : Bound) (w : ActKind) → deed ≡ Acts Submitted h site.here (group.Submit (next_act site.here h.turn w)) → k ≡ Held h → is_proposal w ≡ false → is_act_pending site h ≡ false → not (is_proposed (own_life h).state) ≡ false → o ≡ Some (OfActs (next_act site.here h.turn w)) → Does site heard k o deed
+  Acted : (h : Bound) (w : ActKind) → deed ≡ Acts Submitted h site.here (group.Submit (next_act site.here h.turn w)) → k ≡ Held h → is_proposal w ≡ false → is_act_pending site h ≡ false → (h.acts.history ≡ [] → ⊥) → o ≡ Some (OfActs (next_act site.here h.turn w)) → Does site heard k o deed
   Taken : (h : Bound) (v : Batch) → deed ≡ Serves Submitted h site.here (group.Submit v) → k ≡ Held h → runs h ≡ true → known batch_rules h.batches v ≡ None → (length h.batches.pending == 64) ≡ false → o ≡ Some (OfBatches v) → Does site heard k o deed
   Heard : (h : Bound) (from : NodeId) (c : CircuitId) (x : CommitMsg Act) → deed ≡ Acts Delivered h from (group.From (position h.definition.members from) x) → k ≡ Held h → generation_of x ≡ h.definition.generation → heard from (message.Admin c x) → o ≡ handed_on (message.Admin c x) → Does site heard k o deed
   Served : (h : Bound) (from : NodeId) (c : CircuitId) (s t : ServiceId) (x : CommitMsg Batch) → deed ≡ Serves Delivered h from (group.From (position h.definition.members from) x) → k ≡ Held h → runs h ≡ true → generation_of x ≡ h.definition.generation → heard from (message.Scabbard c s t x) → o ≡ handed_on (message.Scabbard c s t x) → Does site heard k o deed
@@ -103,7 +103,22 @@ bind-facts site k gen d h =
     free_is (Held e) g x = cc
     free_is (Purged old) g x = ltb_is old g x
 
--- a message that is routed finds the circuit active
+-- where something is asked for, or the circuit is active, there are acts
+asked-acts : (h : Bound) → not (is_asked (own_life h).state) ≡ false → h.acts.history ≡ [] → ⊥
+asked-acts h p e = let k : not (is_asked (own_life h).state) ≡ true = ap (λ (x : List (ℕ × Act)). not (is_asked (life h.definition (values x)).state)) e in cc
+
+active-acts : (h : Bound) → not (is_active_here h) ≡ false → h.acts.history ≡ [] → ⊥
+active-acts h p e = let k : not (is_active_here h) ≡ true = ap (λ (x : List (ℕ × Act)). not (is_active (life h.definition (values x)).state)) e in cc
+
+-- neither a vote nor a removal is a proposal
+vote-other : (l : Life) (accept : Bool) → is_proposal (vote_kind l accept) ≡ false
+vote-other l true = if_holds (λ (k : ActKind). is_proposal k ≡ false) (is_disbanding l.state) (kind.DisbandAccept l.disband.place) kind.Accept (λ q. refl) (λ q. refl)
+vote-other l false = if_holds (λ (k : ActKind). is_proposal k ≡ false) (is_disbanding l.state) (kind.DisbandReject l.disband.place) kind.Reject (λ q. refl) (λ q. refl)
+
+removal-other : (l : Life) → is_proposal (removal_kind l) ≡ false
+removal-other l = if_holds (λ (k : ActKind). is_proposal k ≡ false) (is_disbanding l.state) (kind.DisbandRemove l.disband.place) kind.Remove (λ q. refl) (λ q. refl)
+
+-- a message that is routed finds the circuit running
 routed-runs : (site : Site) (h : Bound) (from : NodeId) (s t : ServiceId) (u : Unit {0}) → way site h from s t ≡ Ok u → runs h ≡ true
 routed-runs site h from s t u e = go (bool_cases (is_open h.mark && runs h))
   where
@@ -126,23 +141,36 @@ module _ (site : Site) (heard : NodeId → Message → Type 0) where
       at (Held e) m = Refused _ refl
       at (Purged old) m = if_holds (Does site heard (Purged old) (Some (OfActs (proposal site.here d)))) (nat_lt old d.generation) _ _ (λ q. Proposed d refl (h, m, ltb_is old d.generation q) refl) (λ q. Refused _ refl)
 
+  does-next : (h : Bound) (w : ActKind) → is_proposal w ≡ false → is_act_pending site h ≡ false → (h.acts.history ≡ [] → ⊥) → Does site heard (Held h) (Some (OfActs (next_act site.here h.turn w))) (submits_next site h w)
+  does-next h w other pending some = if_holds (Does site heard (Held h) (Some (OfActs (next_act site.here h.turn w)))) (is_open h.mark) _ _ (λ q. Acted h w refl refl other pending some refl) (λ q. Refused _ refl)
+
   does-votes : (h : Bound) (w : ActKind) → is_proposal w ≡ false → Does site heard (Held h) (Some (OfActs (next_act site.here h.turn w))) (votes site h w)
   does-votes h w other =
       if_holds P (is_act_pending site h) _ _ (λ q. Refused _ refl) (λ pending.
-      if_holds P (not (is_proposed (own_life h).state)) _ _ (λ x. Refused _ refl) (λ proposed.
-      if_holds P (has_node (own_life h).accepted site.here) _ _ (λ y. Refused _ refl) (λ y. Acted h w refl refl other pending proposed refl)))
+      if_holds P (not (is_asked (own_life h).state)) _ _ (λ x. Refused _ refl) (λ asked.
+      if_holds P (has_node (current (own_life h)).accepted site.here) _ _ (λ y. Refused _ refl) (λ y. does-next h w other pending (asked-acts h asked))))
     where
       P : Deed → Type 0
       P = Does site heard (Held h) (Some (OfActs (next_act site.here h.turn w)))
 
-  does-removes : (h : Bound) → Does site heard (Held h) (Some (OfActs (next_act site.here h.turn kind.Remove))) (removes site h)
-  does-removes h =
+  does-removes : (h : Bound) (w : ActKind) → is_proposal w ≡ false → Does site heard (Held h) (Some (OfActs (next_act site.here h.turn w))) (removes site h w)
+  does-removes h w other =
       if_holds P (is_act_pending site h) _ _ (λ q. Refused _ refl) (λ pending.
-      if_holds P (not (is_proposed (own_life h).state)) _ _ (λ x. Refused _ refl) (λ proposed.
-      if_holds P (not (is_node (own_life h).requester site.here)) _ _ (λ y. Refused _ refl) (λ y. Acted h kind.Remove refl refl refl pending proposed refl)))
+      if_holds P (not (is_asked (own_life h).state)) _ _ (λ x. Refused _ refl) (λ asked.
+      if_holds P (not (is_node (current (own_life h)).requester site.here)) _ _ (λ y. Refused _ refl) (λ y. does-next h w other pending (asked-acts h asked))))
     where
       P : Deed → Type 0
-      P = Does site heard (Held h) (Some (OfActs (next_act site.here h.turn kind.Remove)))
+      P = Does site heard (Held h) (Some (OfActs (next_act site.here h.turn w)))
+
+  does-disbands : (h : Bound) → Does site heard (Held h) (Some (OfActs (next_act site.here h.turn kind.Disband))) (disbands site h)
+  does-disbands h =
+      if_holds P (is_act_pending site h) _ _ (λ q. Refused _ refl) (λ pending.
+      if_holds P (not (is_active_here h)) _ _ (λ x. Refused _ refl) (λ active.
+      if_holds P (not (is_open h.mark)) _ _ (λ y. Refused _ refl) (λ y.
+      if_holds P (h.definition.version == 1) _ _ (λ z. Refused _ refl) (λ z. Acted h kind.Disband refl refl refl pending (active-acts h active) refl))))
+    where
+      P : Deed → Type 0
+      P = Does site heard (Held h) (Some (OfActs (next_act site.here h.turn kind.Disband)))
 
   -- ---- batches
 
@@ -237,9 +265,9 @@ module _ (site : Site) (heard : NodeId → Message → Type 0) where
 
   does-held : (h : Bound) (e : Event) → Hears heard e → Does site heard (Held h) (brought_to site.here (Held h) e) (held_does site h e)
   does-held h (event.Propose d) was = does-proposes d (Held h) (broken d) refl
-  does-held h (event.Vote true) was = does-votes h kind.Accept refl
-  does-held h (event.Vote false) was = does-votes h kind.Reject refl
-  does-held h event.Remove was = does-removes h
+  does-held h (event.Vote accept) was = does-votes h (vote_kind (own_life h) accept) (vote-other (own_life h) accept)
+  does-held h event.Remove was = does-removes h (removal_kind (own_life h)) (removal-other (own_life h))
+  does-held h event.Disband was = does-disbands h
   does-held h event.Abandon was = if_holds (Does site heard (Held h) None) (not (runs h)) _ _ (λ q. Refused _ refl) (λ q. if_holds (Does site heard (Held h) None) (is_open h.mark) _ _ (λ x. Left h refl refl) (λ x. Refused _ refl))
   does-held h event.Purge was = if_holds (Does site heard (Held h) None) (is_open h.mark && is_waiting (own_life h).state h.acts) _ _ (λ q. Refused _ refl) (λ q. Forgot h refl refl)
   does-held h (event.Submit v) was = does-submits h v

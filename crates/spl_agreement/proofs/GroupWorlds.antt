@@ -1,6 +1,6 @@
 -- The cells of one circuit id, beside a world of each group of each definition.
 use Rattle.std.proofs.Common.{◌≡◌, ◌≢◌, ℕ, ◌<◌, ◌⊎◌, true, false, List, [], ◌∷◌, ◌++◌, length, refl, sym, ap, subst, ◌∙◌, inl, inr}
-use Rattle.std.specs.Prelude.{Some, None}
+use Rattle.std.specs.Prelude.{Some, None, ◌==◌}
 use Rattle.std.proofs.lemmas.Option.{none-some}
 use Rattle.spl_agree.specs.declared.reason.Reason.{Reason}
 use Rattle.spl_agree.specs.declared.message.CommitMsg.{CommitMsg}
@@ -20,7 +20,7 @@ use Rattle.spl_circuit.specs.Nodes.{NodeId, CircuitId, ServiceId, has_node, posi
 use Rattle.spl_circuit.specs.Rules.{broken, admin, service, is_member}
 use Rattle.spl_circuit.specs.Acts.{misfit, misfit_kind, act_rules}
 use Rattle.spl_circuit.specs.Equality.{same_definition}
-use Rattle.spl_circuit.specs.Lifecycle.{life, is_active}
+use Rattle.spl_circuit.specs.Lifecycle.{life, is_running}
 use Rattle.spl_command.specs.declared.batch.Batch.{Batch}
 use Rattle.spl_scabbard.specs.Checks.{batch_rules}
 use Rattle.spl_wire.specs.declared.message.Message.TheVariants as message
@@ -111,6 +111,11 @@ first_kind d n (kind.Propose x) h = go (bool_cases (same_definition x d))
     go (inl q) = (x, refl, definition_is x d q)
     go (inr q) = absurd (no_reason (rw q at h))
 first_kind d n kind.Accept h = cc
+first_kind d n kind.Disband h = absurd (go (bool_cases (d.version == 2)))
+  where
+    go : ((d.version == 2) ≡ true) ⊎ ((d.version == 2) ≡ false) → ⊥
+    go (inl q) = no_reason (rw q at h)
+    go (inr q) = no_reason (rw q at h)
 first_kind d n _ h = cc
 
 -- an act that is good before all others is the proposal of the definition
@@ -156,15 +161,15 @@ quiet-admin e past at said list n back m ev is may c = go (node_cases n (admin e
     go (inr q) (inr x) = inr x
     go (inr q) (inl x) = sub (quiet-row (group_of admin_groups e) (position e.members n) m ev (λ y. q (position-apart e.members n (admin e) spot.few spot.here y)) x)
 
--- where the lifecycle is active at a member, every member was bound
-pub active-ever : (e : Definition) (past : List (NodeId × Definition)) (at : NodeId → Presence Act) (said : GroupMessage Act → Type 0) (list : List Act) (n other : NodeId) (a : Member Act) → at n ≡ There e a → is_active (life e (values a.history)).state ≡ true → has_node e.members other ≡ true → InGroups admin_groups e past at said list → Ever other e past
+-- where the circuit runs at a member, every member was bound
+pub active-ever : (e : Definition) (past : List (NodeId × Definition)) (at : NodeId → Presence Act) (said : GroupMessage Act → Type 0) (list : List Act) (n other : NodeId) (a : Member Act) → at n ≡ There e a → is_running (life e (values a.history)).state ≡ true → has_node e.members other ≡ true → InGroups admin_groups e past at said list → Ever other e past
 active-ever e past at said list n other a is active mem c = go (c.quiet n e a is)
   where
     spot : IsPlaced admin_groups e n
     spot = c.placed n e a is
 
     not_empty : a.history ≡ [] → ⊥
-    not_empty h = let k : is_active (life e (values a.history)).state ≡ false = ap (λ (x : List (ℕ × Act)). is_active (life e (values x)).state) h in cc
+    not_empty h = let k : is_running (life e (values a.history)).state ≡ false = ap (λ (x : List (ℕ × Act)). is_running (life e (values x)).state) h in cc
 
     nothing_before : {A : Type 0} (xs ys : List A) → xs ++ ys ≡ [] → xs ≡ []
     nothing_before [] ys h = refl

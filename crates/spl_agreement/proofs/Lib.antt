@@ -28,3 +28,5 @@ pub mod PendingActDeeds
 pub mod PendingActsAreFew
 pub mod Agreed
 pub mod OneList
+pub mod GoesOn
+pub mod Restarts

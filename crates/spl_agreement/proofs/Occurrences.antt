@@ -28,7 +28,7 @@ use Rattle.spl_sched.specs.declared.line.Step.{Step}
 use Rattle.spl_sched.specs.declared.line.Step.TheVariants as step
 use Rattle.spl_sched.specs.Grammar.{step_node}
 use Rattle.spl_model.proofs.Nodes.{node_not}
-use Rattle.spl_model.specs.Worlds.{Sent, World, first_world, put_at, on_pair, messages, posted, delivery, step_plan, stopped, started, halted, Occurrence, Steps, Stops, Starts, Halts, happens, occur, world_behind, site_at}
+use Rattle.spl_model.specs.Worlds.{Sent, World, empty_world, put_at, on_pair, messages, posted, delivery, step_plan, stopped, started, halted, Occurrence, Steps, Stops, Starts, Halts, happens, occur, world_behind, site_at}
 use Rattle.spl_agreement.specs.Lists.{acts_in, batches_in, adds, acts_from, batches_from, act_list, batch_list}
 use Rattle.spl_agreement.proofs.GroupOfDefinition.{GroupMessage, Presence, Away, There, Ever, IsQuiet, SomeWorld, InGroups, Groups, group_of}
 use Rattle.spl_agreement.proofs.GroupWorlds.{admin_said, service_said, admin_presence, service_presence, WasSent, IsValid, IsValidCell, InWorld, Others, was-left, admin_groups, service_groups, first_act}
@@ -188,8 +188,8 @@ world-start = record {
 }
 
 -- behind anything that happened
-pub run-past : (ns : List NodeId) (es : List Occurrence) → AllPlain es → SomePast [] (occur (first_world ns) es).at (occur (first_world ns) es).sent (λ f. act_list ns f es) (λ f. batch_list ns f es)
-run-past ns es h = run-keeps [] (first_world ns) es (λ f. []) (λ f. []) h ([], (λ k f x. x), world-start)
+pub run-past : (ns : List NodeId) (es : List Occurrence) → AllPlain es → SomePast [] (occur (empty_world ns) es).at (occur (empty_world ns) es).sent (λ f. act_list ns f es) (λ f. batch_list ns f es)
+run-past ns es h = run-keeps [] (empty_world ns) es (λ f. []) (λ f. []) h ([], (λ k f x. x), world-start)
 
 -- a history is a beginning of the list
 pub groups-prefix : {V : Type 0} (groups : Groups V) (d : Definition) (past : Past) (at : NodeId → Presence V) (said : GroupMessage V → Type 0) (list : List V) (n : NodeId) (m : Member V) → at n ≡ There d m → InGroups groups d past at said list → IsPrefixOf (values m.history) list

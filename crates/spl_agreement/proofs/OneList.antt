@@ -20,7 +20,8 @@ use Rattle.spl_wire.specs.declared.answer.Refusal.TheVariants as refusal
 use Rattle.spl_rules.specs.Cells.{Cell, Held, Tells, runs, Bound}
 use Rattle.spl_rules.specs.Batches.{root_told, history_told}
 use Rattle.spl_rules.specs.Plans.{plan_of, tells_only}
-use Rattle.spl_model.specs.Worlds.{World, Occurrence, first_world, happens, occur, site_at}
+use Rattle.spl_model.specs.Origins.{is-blank}
+use Rattle.spl_model.specs.Worlds.{blank, World, Occurrence, empty_world, happens, occur, site_at}
 use Rattle.spl_model.specs.Projection.{Ran, lines_fit}
 use Rattle.spl_agreement.specs.Lists.{is_bound_to, batches_in, adds, batches_from, batch_list}
 use Rattle.spl_agreement.specs.Told.{answered}
@@ -81,14 +82,14 @@ batches-append d w (e ∷ es) fs =
     ∙ sym (append_assoc (adds batches_in (service d) d w e) (batches_from d (happens w e) es) (batches_from d (occur (happens w e) es) fs))
 
 -- from the lines before one to all lines
-list-grows : (ns : List NodeId) (c : CircuitId) (d : Definition) (xs ys : List Ran) → IsPrefixOf (batch_list ns d (whole_happened ns c xs)) (batch_list ns d (whole_happened ns c (xs ++ ys)))
+list-grows : (ns : List NodeId) (c : CircuitId) (d : Definition) (xs ys : List Ran) → IsPrefixOf (batch_list ns d (whole_happened (blank ns) c xs)) (batch_list ns d (whole_happened (blank ns) c (xs ++ ys)))
 list-grows ns c d xs ys = (
-  batches_from d (occur (first_world ns) (whole_happened ns c xs)) later,
-  sym (batches-append d (first_world ns) (whole_happened ns c xs) later) ∙ ap (λ (es : List Occurrence). batch_list ns d es) (sym (happened-append c (first_world ns) xs ys)),
+  batches_from d (occur (empty_world ns) (whole_happened (blank ns) c xs)) later,
+  sym (batches-append d (empty_world ns) (whole_happened (blank ns) c xs) later) ∙ ap (λ (es : List Occurrence). batch_list ns d es) (sym (happened-append c (empty_world ns) xs ys)),
 )
   where
     later : List Occurrence
-    later = happened_from c (whole_from c (first_world ns) xs) ys
+    later = happened_from c (whole_from c (empty_world ns) xs) ys
 
 -- ---- what is told
 
@@ -104,7 +105,7 @@ held-bound w n d _ is h = cc
 
 module _ (ns : List NodeId) (rs : List Ran) (fit : lines_fit rs ≡ true) (c : CircuitId) (d : Definition) (e : Event) (told : Answer) (t : IsTold ns rs c d e told) where
   abbrev w : World
-  w = whole_world ns c t.before
+  w = whole_world (blank ns) c t.before
 
   fits : lines_fit (t.before ++ asking t.node c e ∷ []) ≡ true
   fits = fits-left (t.before ++ asking t.node c e ∷ []) t.behind (subst (λ (xs : List Ran). lines_fit xs ≡ true) (sym t.lines ∙ sym (append_assoc t.before (asking t.node c e ∷ []) t.behind)) fit)
@@ -113,18 +114,18 @@ module _ (ns : List NodeId) (rs : List Ran) (fit : lines_fit rs ≡ true) (c : C
   fits_before = fits-left t.before (asking t.node c e ∷ []) fits
 
   held : IsHeld w t.node d
-  held = held-bound w t.node d (w.at t.node) refl (subst (λ (at : NodeId → Cell). is_bound_to d (at t.node) ≡ true) (own-same ns c t.before fits_before).at t.bound)
+  held = held-bound w t.node d (w.at t.node) refl (subst (λ (at : NodeId → Cell). is_bound_to d (at t.node) ≡ true) (own-same (blank ns) c t.before (is-blank ns) fits_before).at t.bound)
 
   asked : answered w (site_at t.node c) e ≡ told
-  asked = sym (answer-whole ns t.before (asking t.node c e) fits) ∙ t.said
+  asked = sym (answer-whole (blank ns) t.before (asking t.node c e) (is-blank ns) fits) ∙ t.said
 
-  begins : IsPrefixOf (values held.bound.batches.history) (batch_list ns d (whole_happened ns c t.before))
-  begins = begins-batches ns (whole_happened ns c t.before) d (plain-whole c (first_world ns) t.before fits_before) t.node held.bound
-      (subst (λ (x : World). x.at t.node ≡ Held held.bound) (whole-run c (first_world ns) t.before) held.is) held.same
+  begins : IsPrefixOf (values held.bound.batches.history) (batch_list ns d (whole_happened (blank ns) c t.before))
+  begins = begins-batches ns (whole_happened (blank ns) c t.before) d (plain-whole c (empty_world ns) t.before fits_before) t.node held.bound
+      (subst (λ (x : World). x.at t.node ≡ Held held.bound) (whole-run c (empty_world ns) t.before) held.is) held.same
 
-  front : IsPrefixOf (values held.bound.batches.history) (batch_list ns d (whole_happened ns c rs))
-  front = prefix-on (values held.bound.batches.history) (batch_list ns d (whole_happened ns c t.before)) (batch_list ns d (whole_happened ns c rs)) begins
-      (subst (λ (xs : List Ran). IsPrefixOf (batch_list ns d (whole_happened ns c t.before)) (batch_list ns d (whole_happened ns c xs))) t.lines (list-grows ns c d t.before (asking t.node c e ∷ t.behind)))
+  front : IsPrefixOf (values held.bound.batches.history) (batch_list ns d (whole_happened (blank ns) c rs))
+  front = prefix-on (values held.bound.batches.history) (batch_list ns d (whole_happened (blank ns) c t.before)) (batch_list ns d (whole_happened (blank ns) c rs)) begins
+      (subst (λ (xs : List Ran). IsPrefixOf (batch_list ns d (whole_happened (blank ns) c t.before)) (batch_list ns d (whole_happened (blank ns) c xs))) t.lines (list-grows ns c d t.before (asking t.node c e ∷ t.behind)))
 
   -- what its cell tells
   abbrev tells : Answer
@@ -143,14 +144,14 @@ module _ (ns : List NodeId) (rs : List Ran) (fit : lines_fit rs ≡ true) (c : C
 -- a root is that of committed batches
 record IsRootOf (ns : List NodeId) (rs : List Ran) (c : CircuitId) (d : Definition) (count : ℕ) (x : List ℕ) : Type 0 where
   batches : List Batch
-  front : IsPrefixOf batches (batch_list ns d (whole_happened ns c rs))
+  front : IsPrefixOf batches (batch_list ns d (whole_happened (blank ns) c rs))
   counted : count ≡ length batches
   root : x ≡ node_at 70 [] (state_of batches)
 
 root-told : (ns : List NodeId) (rs : List Ran) (fit : lines_fit rs ≡ true) (c : CircuitId) (d : Definition) (count : ℕ) (x : List ℕ) → IsTold ns rs c d event.Root (answer.Root count x) → IsRootOf ns rs c d count x
 root-told ns rs fit c d count x t = go (bool_cases (runs k.bound))
   where
-    k : IsHeld (whole_world ns c t.before) t.node d
+    k : IsHeld (whole_world (blank ns) c t.before) t.node d
     k = held ns rs fit c d event.Root (answer.Root count x) t
 
     told : tells ns rs fit c d event.Root (answer.Root count x) t ≡ answer.Root count x
@@ -165,13 +166,13 @@ root-told ns rs fit c d count x t = go (bool_cases (runs k.bound))
 
 record IsHistoryOf (ns : List NodeId) (rs : List Ran) (c : CircuitId) (d : Definition) (xs : List ℕ) : Type 0 where
   batches : List Batch
-  front : IsPrefixOf batches (batch_list ns d (whole_happened ns c rs))
+  front : IsPrefixOf batches (batch_list ns d (whole_happened (blank ns) c rs))
   ids : ids_of batches ≡ xs
 
 history-told : (ns : List NodeId) (rs : List Ran) (fit : lines_fit rs ≡ true) (c : CircuitId) (d : Definition) (xs : List ℕ) → IsTold ns rs c d event.History (answer.History xs) → IsHistoryOf ns rs c d xs
 history-told ns rs fit c d xs t = go (bool_cases (runs k.bound))
   where
-    k : IsHeld (whole_world ns c t.before) t.node d
+    k : IsHeld (whole_world (blank ns) c t.before) t.node d
     k = held ns rs fit c d event.History (answer.History xs) t
 
     told : tells ns rs fit c d event.History (answer.History xs) t ≡ answer.History xs
@@ -185,13 +186,13 @@ history-told ns rs fit c d xs t = go (bool_cases (runs k.bound))
 
 one-root : (ns : List NodeId) (rs : List Ran) (c : CircuitId) (d : Definition) (count : ℕ) (x y : List ℕ) → IsRootOf ns rs c d count x → IsRootOf ns rs c d count y → x ≡ y
 one-root ns rs c d count x y p q =
-    let same : p.batches ≡ q.batches = prefix-equal p.batches q.batches (batch_list ns d (whole_happened ns c rs)) p.front q.front (sym p.counted ∙ q.counted) in
+    let same : p.batches ≡ q.batches = prefix-equal p.batches q.batches (batch_list ns d (whole_happened (blank ns) c rs)) p.front q.front (sym p.counted ∙ q.counted) in
     p.root ∙ (ap (λ (bs : List Batch). node_at 70 [] (state_of bs)) same ∙ sym q.root)
 
 one-history : (ns : List NodeId) (rs : List Ran) (c : CircuitId) (d : Definition) (xs ys : List ℕ) → IsHistoryOf ns rs c d xs → IsHistoryOf ns rs c d ys → IsPrefixOf xs ys ⊎ IsPrefixOf ys xs
 one-history ns rs c d xs ys p q =
     subst (λ (us : List ℕ). IsPrefixOf us ys ⊎ IsPrefixOf ys us) p.ids
-    (subst (λ (vs : List ℕ). IsPrefixOf (ids_of p.batches) vs ⊎ IsPrefixOf vs (ids_of p.batches)) q.ids (go (prefix-both p.batches q.batches (batch_list ns d (whole_happened ns c rs)) p.front q.front)))
+    (subst (λ (vs : List ℕ). IsPrefixOf (ids_of p.batches) vs ⊎ IsPrefixOf vs (ids_of p.batches)) q.ids (go (prefix-both p.batches q.batches (batch_list ns d (whole_happened (blank ns) c rs)) p.front q.front)))
   where
     go : IsPrefixOf p.batches q.batches ⊎ IsPrefixOf q.batches p.batches → IsPrefixOf (ids_of p.batches) (ids_of q.batches) ⊎ IsPrefixOf (ids_of q.batches) (ids_of p.batches)
     go (inl r) = inl (prefix-ids p.batches q.batches r)

@@ -10,7 +10,7 @@ use Rattle.spl_sched.specs.declared.line.Line.{Line}
 use Rattle.spl_sched.specs.declared.line.Line.TheVariants as line
 use Rattle.spl_sched.specs.Grammar.{is_event, is_step, is_line, is_fill, step_node}
 use Rattle.spl_base.specs.Ids.{is_node_id, is_circuit_id}
-use Rattle.spl_model.specs.Worlds.{World, first_world, Occurrence, occur}
+use Rattle.spl_model.specs.Worlds.{blank, World, empty_world, Occurrence, occur}
 use Rattle.spl_model.specs.Plain.{AllPlain}
 use Rattle.spl_model.specs.Projection.{Ran, names, line_fits, lines_fit, concerned, at_one_of, beside, own_line, own_among, own}
 use Rattle.spl_model.specs.Answers.{line_world, lines_world, occurrences_in, occurrences_from, occurrences}
@@ -63,5 +63,5 @@ plain-front [] ys h = tt
 plain-front (x ∷ xs) ys h = (h.0, plain-front xs ys h.1)
 
 -- at each moment of a circuit's world
-pub plain-moment : (ns : List NodeId) (c : CircuitId) (rs : List Ran) (es fs : List Occurrence) → lines_fit rs ≡ true → es ++ fs ≡ occurrences ns c rs → AllPlain es
-plain-moment ns c rs es fs h e = plain-front es fs (subst AllPlain (sym e) (plain-lines (first_world ns) (own c rs) (fit-own c (concerned c rs) rs h)))
+pub plain-moment : (ns : List NodeId) (c : CircuitId) (rs : List Ran) (es fs : List Occurrence) → lines_fit rs ≡ true → es ++ fs ≡ occurrences (blank ns) c rs → AllPlain es
+plain-moment ns c rs es fs h e = plain-front es fs (subst AllPlain (sym e) (plain-lines (empty_world ns) (own (blank ns) c rs) (fit-own c (concerned (blank ns) c rs) rs h)))

@@ -1,20 +1,19 @@
 -- What an event does with acts: what it submits is the node's next act, or a proposal that was forwarded to its coordinator.
-use Rattle.std.proofs.Common.{◌≡◌, ◌≢◌, ℕ, ◌⊎◌, true, false, not, List, [], ◌∷◌, refl, sym, ap, subst, ◌∙◌, inl, inr}
+use Rattle.std.proofs.Common.{◌≡◌, ◌≢◌, ℕ, ◌⊎◌, true, false, List, [], ◌∷◌, refl, sym, subst, ◌∙◌, inl, inr}
 use Rattle.std.specs.Prelude.{Option}
 use Rattle.std.specs.List.{list_any}
 use Rattle.std.specs.Str.{bytes_eq}
 use Rattle.spl_agree.specs.declared.message.CommitMsg.TheVariants as msg
 use Rattle.spl_agree.specs.declared.event.GroupEvent.{GroupEvent}
 use Rattle.spl_agree.specs.declared.event.GroupEvent.TheVariants as group
-use Rattle.spl_agree.specs.Member.{Member, values}
+use Rattle.spl_agree.specs.Member.{Member}
 use Rattle.spl_agree.proofs.Tests.{or_left, or_right}
 use Rattle.spl_circuit.specs.declared.definition.Definition.{Definition}
 use Rattle.spl_circuit.specs.declared.act.Act.{Act}
 use Rattle.spl_circuit.specs.Nodes.{NodeId}
 use Rattle.spl_circuit.specs.Rules.{admin}
-use Rattle.spl_circuit.specs.Lifecycle.{is_proposed, life}
 use Rattle.spl_wire.specs.declared.event.Event.{Event}
-use Rattle.spl_rules.specs.Cells.{Cell, Deed, Replies, Binds, Acts, Turns, own_life, Bound, Site}
+use Rattle.spl_rules.specs.Cells.{Cell, Deed, Replies, Binds, Acts, Turns, Site}
 use Rattle.spl_rules.specs.Events.{does}
 use Rattle.spl_agreement.specs.Agreement.{is_proposal}
 use Rattle.spl_model.specs.Worlds.{Sent}
@@ -58,10 +57,6 @@ none-pending n x [] h k = absurd k
 none-pending n x (u ∷ us) h (inl e) = subst (λ (z : Act). z.node ≢ n) (sym e) (node_not u.node n (or_left (bytes_eq u.node n) _ h))
 none-pending n x (u ∷ us) h (inr k) = none-pending n x us (or_right (bytes_eq u.node n) _ h) k
 
--- where the circuit is proposed, there are acts
-pub proposed-acts : (h : Bound) → not (is_proposed (own_life h).state) ≡ false → h.acts.history ≡ [] → ⊥
-proposed-acts h p e = let k : not (is_proposed (own_life h).state) ≡ true = ap (λ (x : List (ℕ × Act)). not (is_proposed (life h.definition (values x)).state)) e in cc
-
 -- a group that goes on is handed nothing
 next-clock : (n : NodeId) (a : Member Act) (e : GroupEvent Act) → IsClock e → IsNextAct n a e
 next-clock n a group.Tick h = tt
@@ -84,8 +79,8 @@ apt-of site sent k o deed z = go z
     go (Asked d from c gen r place v e b same leads was) = subst P (sym e) tt
     go (Handed d from c gen v e b same leads its first was brings) = subst P (sym e)
         (first, inr (sym leads, (λ x. was.1 (sym its ∙ x)), subst (λ (g : ℕ). Forwards (admin_said sent) v.node site.here g v) (sym same) (subst (λ (z : NodeId). Forwards (admin_said sent) z site.here gen v) (sym its) (c, was.0))))
-    go (Acted h w e is other pending proposed brings) = subst P (sym e)
-        (other, refl, (λ x q. none-pending site.here x h.acts.pending (or_left (list_any (λ v. bytes_eq v.node site.here) h.acts.pending) _ pending) q), proposed-acts h proposed)
+    go (Acted h w e is other pending some brings) = subst P (sym e)
+        (other, refl, (λ x q. none-pending site.here x h.acts.pending (or_left (list_any (λ v. bytes_eq v.node site.here) h.acts.pending) _ pending) q), some)
     go (Taken h v e is active unknown room brings) = subst P (sym e) tt
     go (Heard h from c x e is same was brings) = subst P (sym e) tt
     go (Served h from c s t x e is active same was brings) = subst P (sym e) tt

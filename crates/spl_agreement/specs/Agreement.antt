@@ -15,7 +15,7 @@ use Rattle.spl_circuit.specs.Rules.{admin}
 use Rattle.spl_circuit.specs.Acts.{act_rules}
 use Rattle.spl_sched.specs.declared.line.Step.{Step}
 use Rattle.spl_rules.specs.Cells.{Bound, Cell, Empty, Held, Purged}
-use Rattle.spl_model.specs.Worlds.{World, site_at, Occurrence, Steps, occur, world_behind}
+use Rattle.spl_model.specs.Worlds.{blank, World, site_at, Occurrence, Steps, occur, world_behind}
 use Rattle.spl_agreement.specs.Lists.{act_list, batch_list}
 use Rattle.spl_model.specs.Plain.{AllPlain}
 use Rattle.spl_model.specs.Projection.{Ran}
@@ -89,5 +89,5 @@ pub record IsAgreed (ns : List NodeId) (es : List Occurrence) (d : Definition) :
 
 -- the agreement of all circuits in a run of lines: at each moment of the world of each id, of each definition
 pub record Agree (ns : List NodeId) (rs : List Ran) : Type 0 where
-  pub happened : (c : CircuitId) → circuit_world ns c rs ≡ world_behind ns (occurrences ns c rs)
-  pub agreed : (c : CircuitId) (d : Definition) (es fs : List Occurrence) → es ++ fs ≡ occurrences ns c rs → IsAgreed ns es d
+  pub happened : (c : CircuitId) → circuit_world (blank ns) c rs ≡ world_behind ns (occurrences (blank ns) c rs)
+  pub agreed : (c : CircuitId) (d : Definition) (es fs : List Occurrence) → es ++ fs ≡ occurrences (blank ns) c rs → IsAgreed ns es d

@@ -3,3 +3,4 @@ pub mod Told
 pub mod Queued
 pub mod Agreement
 pub mod OneList
+pub mod Resumed

@@ -13,7 +13,7 @@ use Rattle.spl_wire.specs.declared.change.Change.{Change}
 use Rattle.spl_wire.specs.declared.change.Change.TheVariants as durable
 use Rattle.spl_sched.specs.Grammar.{step_node}
 use Rattle.spl_rules.specs.Cells.{Cell, Held}
-use Rattle.spl_model.specs.Worlds.{World, Occurrence, Steps, Stops, Starts, Halts, step_plan, happens, first_world}
+use Rattle.spl_model.specs.Worlds.{World, Occurrence, Steps, Stops, Starts, Halts, step_plan, happens, empty_world}
 
 -- the changes that are made
 abbrev pub changes_of : World → Occurrence → List Change
@@ -69,8 +69,8 @@ batches_from d w (e ∷ es) = adds batches_in (service d) d w e ++ batches_from 
 
 -- the list of acts of a circuit, behind what happened
 abbrev pub act_list : List NodeId → Definition → List Occurrence → List Act
-act_list ns d es = acts_from d (first_world ns) es
+act_list ns d es = acts_from d (empty_world ns) es
 
 -- its list of batches
 abbrev pub batch_list : List NodeId → Definition → List Occurrence → List Batch
-batch_list ns d es = batches_from d (first_world ns) es
+batch_list ns d es = batches_from d (empty_world ns) es

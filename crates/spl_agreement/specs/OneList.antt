@@ -9,6 +9,7 @@ use Rattle.spl_wire.specs.declared.answer.Answer.{Answer}
 use Rattle.spl_wire.specs.declared.answer.Answer.TheVariants as answer
 use Rattle.spl_sched.specs.declared.line.Step.TheVariants as step
 use Rattle.spl_sched.specs.declared.line.Line.TheVariants as line
+use Rattle.spl_model.specs.Worlds.{blank}
 use Rattle.spl_model.specs.Projection.{Ran, plainly}
 use Rattle.spl_agreement.specs.Lists.{is_bound_to}
 use Rattle.spl_model.specs.Answers.{circuit_world, answer_to}
@@ -23,8 +24,8 @@ pub record IsTold (ns : List NodeId) (rs : List Ran) (c : CircuitId) (d : Defini
   pub before : List Ran
   pub behind : List Ran
   pub lines : before ++ asking node c e ∷ behind ≡ rs
-  pub bound : is_bound_to d ((circuit_world ns c before).at node) ≡ true
-  pub said : answer_to ns before (asking node c e) ≡ told
+  pub bound : is_bound_to d ((circuit_world (blank ns) c before).at node) ≡ true
+  pub said : answer_to (blank ns) before (asking node c e) ≡ told
 
 -- two answers about a circuit, of nodes that are bound to one definition: roots of as many batches are one root, and of two
 -- histories one begins the other

@@ -1,5 +1,5 @@
 -- What is queued is known (docs/RULES.md, Agreement of circuits).
-use Rattle.std.specs.Prelude.{◌≡◌, ℕ, ◌-◌, ◌⊎◌, Bool, true, false, if◌then◌else◌, slice_get, Option, Some, None, is_some}
+use Rattle.std.specs.Prelude.{◌≡◌, ℕ, ◌-◌, ◌⊎◌, Bool, true, false, slice_get, Option, Some, None, is_some}
 use Rattle.spl_agree.specs.declared.event.Note.TheVariants as note
 use Rattle.spl_agree.specs.declared.message.CommitMsg.TheVariants as msg
 use Rattle.spl_agree.specs.Member.{known}
@@ -8,6 +8,7 @@ use Rattle.spl_scabbard.specs.Checks.{batch_rules}
 use Rattle.spl_circuit.specs.declared.act.ActKind.TheVariants as kind
 use Rattle.spl_circuit.specs.declared.act.Act.{Act}
 use Rattle.spl_circuit.specs.Nodes.{NodeId}
+use Rattle.spl_circuit.specs.Lifecycle.{Life, no_life}
 use Rattle.spl_circuit.specs.Acts.{act_rules}
 use Rattle.spl_wire.specs.declared.message.Message.{Message}
 use Rattle.spl_wire.specs.declared.message.Message.TheVariants as message
@@ -18,7 +19,7 @@ use Rattle.spl_wire.specs.declared.answer.Answer.TheVariants as answer
 use Rattle.spl_sched.specs.declared.line.Step.{Step}
 use Rattle.spl_sched.specs.declared.line.Step.TheVariants as step
 use Rattle.spl_sched.specs.Grammar.{step_node}
-use Rattle.spl_rules.specs.Cells.{Cell, Held, next_act, proposal}
+use Rattle.spl_rules.specs.Cells.{Cell, Held, own_life, next_act, vote_kind, removal_kind, proposal}
 use Rattle.spl_model.specs.Worlds.{World, messages, step_plan, step_world}
 
 -- a value of one of the two groups
@@ -37,6 +38,11 @@ abbrev pub turn_of : Cell → ℕ
 turn_of (Held h) = h.turn
 turn_of _ = 0
 
+-- the lifecycle at the node
+abbrev pub life_at : Cell → Life
+life_at (Held h) = own_life h
+life_at _ = no_life
+
 -- the value that a message hands on
 abbrev pub handed_on : Message → Option Value
 handed_on (message.Admin c (msg.Forward gen v)) = Some (OfActs v)
@@ -46,8 +52,9 @@ handed_on _ = None
 -- the value that an event brings to a cell: a proposal, the node's next act, a batch, or what is handed on
 abbrev pub brought_to : NodeId → Cell → Event → Option Value
 brought_to n k (event.Propose d) = Some (OfActs (proposal n d))
-brought_to n k (event.Vote accept) = Some (OfActs (next_act n (turn_of k) (if accept then kind.Accept else kind.Reject)))
-brought_to n k event.Remove = Some (OfActs (next_act n (turn_of k) kind.Remove))
+brought_to n k (event.Vote accept) = Some (OfActs (next_act n (turn_of k) (vote_kind (life_at k) accept)))
+brought_to n k event.Remove = Some (OfActs (next_act n (turn_of k) (removal_kind (life_at k))))
+brought_to n k event.Disband = Some (OfActs (next_act n (turn_of k) kind.Disband))
 brought_to n k (event.Submit v) = Some (OfBatches v)
 brought_to n k (event.Deliver from m) = handed_on m
 brought_to n k _ = None

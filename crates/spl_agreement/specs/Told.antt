@@ -15,7 +15,7 @@ use Rattle.spl_circuit.specs.declared.definition.Definition.{Definition}
 use Rattle.spl_circuit.specs.declared.act.Act.{Act}
 use Rattle.spl_circuit.specs.Forms.{definition}
 use Rattle.spl_circuit.specs.Nodes.{NodeId, has_node}
-use Rattle.spl_circuit.specs.Lifecycle.{life, is_active}
+use Rattle.spl_circuit.specs.Lifecycle.{life, is_running, current}
 use Rattle.spl_wire.specs.declared.event.Event.{Event}
 use Rattle.spl_wire.specs.declared.event.Event.TheVariants as event
 use Rattle.spl_wire.specs.declared.answer.BatchStatus.TheVariants as status
@@ -31,27 +31,27 @@ use Rattle.spl_model.specs.Worlds.{World, step_plan}
 abbrev pub answered : World → Site → Event → Answer
 answered w site e = (step_plan w (step.At site.here site.circuit e)).answer
 
--- the members that have accepted by these acts, in member order
+-- the members that have accepted what is told of by these acts, in member order
 abbrev pub accepted_by : Definition → List Act → List NodeId
-accepted_by d acts = filter (λ m. has_node (life d acts).accepted m) d.members
+accepted_by d acts = filter (λ m. has_node (current (life d acts)).accepted m) d.members
 
--- the acts have made the circuit active
-abbrev pub AreActive : Definition → List Act → Type 0
-AreActive d acts = is_active (life d acts).state ≡ true
+-- by these acts the circuit runs
+abbrev pub AreRunning : Definition → List Act → Type 0
+AreRunning d acts = is_running (life d acts).state ≡ true
 
--- what is answered where these acts and these batches are committed: of the lifecycle always, of the batches where those
--- acts have made the circuit active
+-- what is answered where these acts and these batches are committed: of the lifecycle always, of the batches where the
+-- circuit runs by those acts
 pub record TellsLists (asks : Event → Answer) (h : Bound) (acts : List Act) (batches : List Batch) : Type 0 where
   pub show : asks event.Show ≡ answer.Show h.definition.generation (life h.definition acts).state h.mark (accepted_by h.definition acts) (length acts) (length h.acts.pending) (length batches) (length h.batches.pending)
-  pub detail : asks event.Detail ≡ answer.Detail h.definition (sha256 (definition.spell h.definition)) (life h.definition acts).state h.mark (accepted_by h.definition acts) (life h.definition acts).requester
-  pub root : AreActive h.definition acts → asks event.Root ≡ answer.Root (length batches) (node_at 70 [] (state_of batches))
-  pub history : AreActive h.definition acts → asks event.History ≡ answer.History (ids_of batches)
-  pub get : (address : Address) → AreActive h.definition acts → asks (event.Get address) ≡ answer.Value (lookup (is_at (address_cmp address)) (state_of batches))
-  pub list : (prefix : List ℕ) → AreActive h.definition acts → asks (event.List prefix) ≡ answer.Listed (map entry_told (filter (has_prefix prefix) (state_of batches)))
+  pub detail : asks event.Detail ≡ answer.Detail h.definition (sha256 (definition.spell h.definition)) (life h.definition acts).state h.mark (accepted_by h.definition acts) (life h.definition acts).circuit.requester
+  pub root : AreRunning h.definition acts → asks event.Root ≡ answer.Root (length batches) (node_at 70 [] (state_of batches))
+  pub history : AreRunning h.definition acts → asks event.History ≡ answer.History (ids_of batches)
+  pub get : (address : Address) → AreRunning h.definition acts → asks (event.Get address) ≡ answer.Value (lookup (is_at (address_cmp address)) (state_of batches))
+  pub list : (prefix : List ℕ) → AreRunning h.definition acts → asks (event.List prefix) ≡ answer.Listed (map entry_told (filter (has_prefix prefix) (state_of batches)))
   -- a batch by its id: its place among those, and the receipts of that place
-  pub committed : (i place : ℕ) → AreActive h.definition acts → place_of batches i ≡ Some place → asks (event.Status i) ≡ answer.Status (status.Committed place)
-  pub receipt : (i place : ℕ) (receipts : List Receipt) → AreActive h.definition acts → place_of batches i ≡ Some place → receipts_at batches place ≡ Some receipts → asks (event.Receipt i) ≡ answer.Receipt i place receipts
-  pub unknown : (i : ℕ) → AreActive h.definition acts → place_of batches i ≡ None → asks (event.Receipt i) ≡ answer.Refused refusal.UnknownId
+  pub committed : (i place : ℕ) → AreRunning h.definition acts → place_of batches i ≡ Some place → asks (event.Status i) ≡ answer.Status (status.Committed place)
+  pub receipt : (i place : ℕ) (receipts : List Receipt) → AreRunning h.definition acts → place_of batches i ≡ Some place → receipts_at batches place ≡ Some receipts → asks (event.Receipt i) ≡ answer.Receipt i place receipts
+  pub unknown : (i : ℕ) → AreRunning h.definition acts → place_of batches i ≡ None → asks (event.Receipt i) ≡ answer.Refused refusal.UnknownId
 
 -- so a node answers while it is up, by the fronts of the circuit's lists that are committed at its cell
 abbrev pub TellsFronts : World → Site → Bound → List Act → List Batch → Type 0

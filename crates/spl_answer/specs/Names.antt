@@ -13,6 +13,8 @@ abbrev pub lifecycle_text : Lifecycle → List ℕ
 lifecycle_text lifecycle.None = codes "none"
 lifecycle_text lifecycle.Proposed = codes "proposed"
 lifecycle_text lifecycle.Active = codes "active"
+lifecycle_text lifecycle.Disbanding = codes "disbanding"
+lifecycle_text lifecycle.Disbanded = codes "disbanded"
 lifecycle_text lifecycle.Rejected = codes "rejected"
 lifecycle_text lifecycle.Removed = codes "removed"
 

@@ -49,6 +49,7 @@ refusal_text refusal.NotPurgeable = codes "16"
 refusal_text refusal.NoMessage = codes "17"
 refusal_text (refusal.NotRouted fault) = codes "18 " ++ fault_text fault
 refusal_text refusal.UnknownId = codes "19"
+refusal_text refusal.VersionTooLow = codes "20"
 
 -- code, and where in the value
 abbrev pub reason_text : Reason → List ℕ

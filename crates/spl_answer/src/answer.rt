@@ -60,6 +60,7 @@ fn append_refusal(refusal: Refusal, out: &mut Vec<u8>) -> Result<(), AllocError>
             append(fault_name(fault), out)
         }
         Refusal::UnknownId => append(b"19", out),
+        Refusal::VersionTooLow => append(b"20", out),
     }
 }
 

@@ -12,6 +12,8 @@ pub(crate) fn lifecycle_name(lifecycle: Lifecycle) -> &'static str
         Lifecycle::None => "none",
         Lifecycle::Proposed => "proposed",
         Lifecycle::Active => "active",
+        Lifecycle::Disbanding => "disbanding",
+        Lifecycle::Disbanded => "disbanded",
         Lifecycle::Rejected => "rejected",
         Lifecycle::Removed => "removed",
     }

@@ -1,17 +1,21 @@
--- What a run over links runs is within the bounds of lines.
-use Rattle.std.proofs.Common.{◌≡◌, ℕ, ◌+◌, Bool, true, false, ◌&&◌, List, [], ◌∷◌, ◌++◌, Option, Some, None, IsTrue, if◌then◌else◌, refl, subst}
+-- What a run runs is within the bounds of lines.
+use Rattle.std.proofs.Common.{◌≡◌, ℕ, ◌+◌, Bool, true, false, ◌&&◌, List, [], ◌∷◌, ◌++◌, Option, Some, None, IsTrue, if◌then◌else◌, refl, subst, sym}
 use Rattle.spl_base.specs.FormLaws.{and_true}
 use Rattle.spl_base.specs.Ids.{is_circuit_id, is_node_id}
 use Rattle.spl_circuit.specs.Nodes.{CircuitId}
 use Rattle.spl_lines.specs.Lines.{is_silent}
 use Rattle.spl_lines.specs.Written.{said}
-use Rattle.spl_links.specs.Tasks.{Task, calm_in, calm_passes, ran_by, tasks, tasks_of}
-use Rattle.spl_model.specs.Projection.{lines_fit}
+use Rattle.spl_lines.specs.Tasks.{Task, ran_by}
+use Rattle.spl_links.specs.Tasks.{calm_in, calm_passes, tasks, tasks_of}
+use Rattle.spl_lines.proofs.Fits.{ran_fits}
+use Rattle.spl_model.specs.Projection.{Ran, lines_fit}
 use Rattle.spl_sched.specs.Grammar.{circuit_of, is_line, is_step, line_of, spelling, step_circuit}
 use Rattle.spl_sched.specs.declared.line.Line.{Line}
 use Rattle.spl_sched.specs.declared.line.Line.TheVariants as line
 use Rattle.spl_sched.specs.declared.line.Step.{Step}
 use Rattle.spl_sched.specs.declared.line.Step.TheVariants as step
+use Rattle.spl_app.specs.Headline.{Gen, Links, Mode, Replay, tasks as plan_tasks}
+use Rattle.spl_app.proofs.Plans.{linked_are, ran_tasks}
 use Rattle.spl_agree.proofs.Booleans.{and_left, and_right}
 
 -- ---- the circuit of a line that fits
@@ -50,6 +54,12 @@ module _ (law : (bytes : List ℕ) (l : Line) → line_of bytes ≡ Some l → (
   fits_of n bytes None rest e h = h
   fits_of n bytes (Some l) rest e h = let fits = said_fits bytes l e in and_true (is_line l) _ fits (fits_behind l (circuit_of l) rest fits refl h)
 
-  pub tasks_fit : (n : ℕ) (lines : List (List ℕ)) → lines_fit (ran_by (tasks n lines)) ≡ true
+  tasks_fit : (n : ℕ) (lines : List (List ℕ)) → lines_fit (ran_by (tasks n lines)) ≡ true
   tasks_fit n [] = refl
   tasks_fit n (bytes ∷ lines) = fits_of n bytes (said bytes) (tasks (n + 1) lines) refl (tasks_fit (n + 1) lines)
+
+  -- and so is what a plan runs
+  pub plan_fits : (m : Mode) (lines : List (List ℕ)) → lines_fit (ran_by (plan_tasks m lines)) ≡ true
+  plan_fits Replay lines = subst (λ (rs : List Ran). lines_fit rs ≡ true) (sym (ran_tasks Replay tt lines)) (ran_fits law lines)
+  plan_fits (Gen n seed) lines = subst (λ (rs : List Ran). lines_fit rs ≡ true) (sym (ran_tasks (Gen n seed) tt lines)) (ran_fits law lines)
+  plan_fits Links lines = subst (λ (ts : List Task). lines_fit (ran_by ts) ≡ true) (sym (linked_are lines)) (tasks_fit 1 lines)

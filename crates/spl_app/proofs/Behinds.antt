@@ -1,6 +1,7 @@
 -- A run, one line further.
 use Rattle.std.proofs.Common.{◌∙◌, ◌≡◌, ℕ, ◌+◌, false, List, [], ◌∷◌, ◌++◌, Option, Some, None, length, sym, subst}
 use Rattle.spl_circuit.specs.Nodes.{Node}
+use Rattle.spl_model.specs.Worlds.{blank}
 use Rattle.spl_sched.specs.declared.line.Line.{Line}
 use Rattle.spl_model.specs.Projection.{Ran}
 use Rattle.spl_model.specs.Outcomes.{by_rule}
@@ -54,7 +55,7 @@ module _ (ns : List Node) (skip : ℕ) (lines : List (List ℕ)) (run : Run) (he
     module _ (number : ℕ) (l : Line) (counted : number ≡ length lines + 1) (is : said line ≡ Some l) (c : Option (List ℕ)) (later : Run) where
       pub behind_said : (now : List Images) → later.nodes.items ≡ ns → later.skip ≡ skip → ids_of later.world ≡ ns → places_of later.world ≡ places_of run.world → is_halted later.world ≡ false → Stands (ran lines ++ by_rule l ∷ []) later.world now
           → IsWithin ns (ran lines ++ by_rule l ∷ [])
-          → IsDue b c later.output (run.output ++ shown skip number (text (answer_to ns (ran lines) (by_rule l)))) → IsBehind ns skip (lines ++ line ∷ []) later now a c
+          → IsDue b c later.output (run.output ++ shown skip number (text (answer_to (blank ns) (ran lines) (by_rule l)))) → IsBehind ns skip (lines ++ line ∷ []) later now a c
       behind_said now nodes skips world places running stands few due = record {
         nodes = nodes;
         skips = skips;
@@ -66,5 +67,5 @@ module _ (ns : List Node) (skip : ℕ) (lines : List (List ℕ)) (run : Run) (he
         due = subst (IsDue a c later.output) (sym (answers_said ns skip lines line number l counted is)) (due_due a b c _ _ _ _ behind.due due);
       }
 
-      pub part_said : IsDuePart b c later.output (run.output ++ shown skip number (text (answer_to ns (ran lines) (by_rule l)))) → IsDuePart a c later.output (answers_behind skip ns (lines ++ line ∷ []))
+      pub part_said : IsDuePart b c later.output (run.output ++ shown skip number (text (answer_to (blank ns) (ran lines) (by_rule l)))) → IsDuePart a c later.output (answers_behind skip ns (lines ++ line ∷ []))
       part_said part = subst (IsDuePart a c later.output) (sym (answers_said ns skip lines line number l counted is)) (due_then a b c _ _ _ _ behind.due part)

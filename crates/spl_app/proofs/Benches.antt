@@ -4,9 +4,12 @@ use Rattle.std.specs.Prelude.{IsErr, IsErrOf}
 use Rattle.std.specs.Result.{IsErrAnd}
 use Rattle.spl_edge.specs.Picks.{Picked}
 use Rattle.spl_edge.specs.declared.disk.Armed.{Armed}
+use Rattle.spl_edge.specs.Views.{DiskView, PairView}
+use Rattle.spl_edge.specs.Calls.{Onward}
+use Rattle.spl_snapshot.specs.Counting.{PairOnward, HasRisen}
 use Rattle.spl_registry.specs.Nodes.{Entry}
 use Rattle.spl_world.specs.declared.fault.WorldFault.{WorldFault}
-use Rattle.spl_world.specs.Disks.{AllGoOn, AllUnarmed, DiskView, GoesOn, HasRisen, IsUnarmed, NoneForgotten, PairGoesOn, PairView, RoseAt}
+use Rattle.spl_world.specs.Disks.{AllGoOn, AllUnarmed, IsUnarmed, NoneForgotten, RoseAt}
 use Rattle.spl_world.specs.Held.{AllUnpicked, AreUnpicked, FailedSince, HasFailedSince, IsUnpicked, last_count}
 use Rattle.spl_world.specs.Views.{ArePlaced, IsPlace, places_of}
 use Rattle.spl_world.specs.declared.world.World.{World}
@@ -36,7 +39,7 @@ none_on xs ys on = record {
 
 -- ---- none is armed
 
-unarmed_one : (x y : DiskView) → GoesOn x y → IsUnarmed x → IsUnarmed y
+unarmed_one : (x y : DiskView) → Onward x y → IsUnarmed x → IsUnarmed y
 unarmed_one x y on off = ap (λ (a : Armed). a.arming) on.armed ∙ off
 
 pub unarmed_on : (xs ys : List PairView) → AllGoOn xs ys → AllUnarmed xs → AllUnarmed ys
@@ -51,10 +54,10 @@ unpicked_unarmed xs h = λ i p e. let u = h i p e in (u.first.off, u.second.off)
 
 -- ---- a disk failed
 
-failed_one : (s p : DiskView) → GoesOn s p → IsUnpicked s → s.faults < p.faults → last_count s.faults p.picks < p.faults
+failed_one : (s p : DiskView) → Onward s p → IsUnpicked s → s.faults < p.faults → last_count s.faults p.picks < p.faults
 failed_one s p on u rose = subst (λ (ps : List Picked). last_count s.faults ps < p.faults) (sym (on.picks ∙ u.picks)) rose
 
-failed_pair : (s p : PairView) → PairGoesOn s p → AreUnpicked s → HasRisen s p → HasFailedSince s p
+failed_pair : (s p : PairView) → PairOnward s p → AreUnpicked s → HasRisen s p → HasFailedSince s p
 failed_pair s p on u (inl rose) = inl (failed_one s.first p.first on.first u.first rose)
 failed_pair s p on u (inr rose) = inr (failed_one s.second p.second on.second u.second rose)
 

@@ -4,24 +4,25 @@ use Rattle.std.specs.Prelude.{IfSome}
 use Rattle.spl_edge.specs.declared.bench.Pair.{Pair}
 use Rattle.spl_edge.specs.Image.{Image}
 use Rattle.spl_edge.specs.declared.disk.Armed.{Armed}
+use Rattle.spl_edge.specs.Views.{PairView, pair_view, bench, image_now}
 use Rattle.spl_journal.specs.Make.{IsBlank}
 use Rattle.spl_app.specs.Benches.{FirstFails, NoneFails}
-use Rattle.spl_memory.specs.MemDisks.{IsFreshDisk, armed_of, failing_of, faults_of, image_of, moment_of, picked_by}
+use Rattle.spl_memory.specs.MemDisks.{IsFreshDisk, failing_of, disk_view}
 use Rattle.spl_memory.specs.declared.mem_disk.MemDisk.{MemDisk}
-use Rattle.spl_world.specs.Disks.{AreBlank, PairView, bench, disk_view, images, images_at, images_of, pair_view}
+use Rattle.spl_world.specs.Disks.{AreBlank, images, images_at, images_of}
 use Rattle.spl_world.specs.Held.{AllUnpicked, AreUnpicked, IsUnpicked}
 
-fresh_blank : (d : MemDisk) → IsFreshDisk d → IfSome (image_of d (moment_of d)) IsBlank
+fresh_blank : (d : MemDisk) → IsFreshDisk d → IfSome (image_now (disk_view d)) IsBlank
 fresh_blank d fresh = subst (λ (o : Option Image). IfSome o IsBlank) (sym fresh.blank) (record { bytes = refl; settled = record { same = refl; none = refl; least = refl; greatest = refl } })
 
-pub pair_blank : (p : Pair MemDisk) → IsFreshDisk p.first → IsFreshDisk p.second → AreBlank (images_of image_of moment_of p)
+pub pair_blank : (p : Pair MemDisk) → IsFreshDisk p.first → IsFreshDisk p.second → AreBlank (images_of disk_view p)
 pair_blank p a b = record { first = fresh_blank p.first a; second = fresh_blank p.second b }
 
 -- each of these pairs is blank
 abbrev pub AllBlank : List (Pair MemDisk) → Type 0
-AllBlank ps = (i : ℕ) → i < length ps → AreBlank (images_at (images image_of moment_of ps) i)
+AllBlank ps = (i : ℕ) → i < length ps → AreBlank (images_at (images disk_view ps) i)
 
-pub blank_more : (ps : List (Pair MemDisk)) (p : Pair MemDisk) → AllBlank ps → AreBlank (images_of image_of moment_of p) → AllBlank (ps ++ p ∷ [])
+pub blank_more : (ps : List (Pair MemDisk)) (p : Pair MemDisk) → AllBlank ps → AreBlank (images_of disk_view p) → AllBlank (ps ++ p ∷ [])
 blank_more [] p all blank zero lt = blank
 blank_more [] p all blank (suc i) lt = absurd (omega (arith, lt))
 blank_more (q ∷ ps) p all blank zero lt = let first : 0 < suc (length ps) = omega arith in all 0 first
@@ -31,18 +32,18 @@ blank_more (q ∷ ps) p all blank (suc i) lt = blank_more ps p (λ k h. (let mor
 
 -- what each pair tells
 abbrev pub told : List (Pair MemDisk) → List PairView
-told ps = bench image_of moment_of faults_of armed_of picked_by ps
+told ps = bench disk_view ps
 
 abbrev told_one : Pair MemDisk → PairView
-told_one p = pair_view image_of moment_of faults_of armed_of picked_by p
+told_one p = pair_view disk_view p
 
-fresh_unpicked : (d : MemDisk) → IsFreshDisk d → IsUnpicked (disk_view image_of moment_of faults_of armed_of picked_by d)
+fresh_unpicked : (d : MemDisk) → IsFreshDisk d → IsUnpicked (disk_view d)
 fresh_unpicked d fresh = record { picks = fresh.picks; off = ap (λ (a : Armed). a.arming) fresh.armed }
 
-pub pair_unpicked : (p : Pair MemDisk) → IsFreshDisk p.first → IsFreshDisk p.second → AreUnpicked (pair_view image_of moment_of faults_of armed_of picked_by p)
+pub pair_unpicked : (p : Pair MemDisk) → IsFreshDisk p.first → IsFreshDisk p.second → AreUnpicked (pair_view disk_view p)
 pair_unpicked p a b = record { first = fresh_unpicked p.first a; second = fresh_unpicked p.second b }
 
-pub unpicked_more : (ps : List (Pair MemDisk)) (p : Pair MemDisk) → AllUnpicked (told ps) → AreUnpicked (pair_view image_of moment_of faults_of armed_of picked_by p) → AllUnpicked (told (ps ++ p ∷ []))
+pub unpicked_more : (ps : List (Pair MemDisk)) (p : Pair MemDisk) → AllUnpicked (told ps) → AreUnpicked (pair_view disk_view p) → AllUnpicked (told (ps ++ p ∷ []))
 unpicked_more [] p all one zero q e = let same : told_one p ≡ q = cc in subst AreUnpicked same one
 unpicked_more [] p all one (suc i) q e = absurd cc
 unpicked_more (x ∷ ps) p all one zero q e = all 0 q e

@@ -3,6 +3,7 @@ use Rattle.std.proofs.Common.{◌≡◌, ◌⊎◌, inl, inr, ◌+◌, ◌<◌, 
 use Rattle.std.proofs.lemmas.Bool.{cases_lt}
 use Rattle.spl_edge.specs.Image.{Image}
 use Rattle.spl_edge.specs.declared.bench.Pair.{Pair}
+use Rattle.spl_edge.specs.Views.{DiskView}
 use Rattle.spl_world.specs.Disks.{Images, images, images_at, images_of}
 use Rattle.spl_world.proofs.Pairing.{images_here, images_length, images_set}
 use Rattle.spl_world.proofs.Slots.{set_same}
@@ -10,14 +11,14 @@ use Rattle.spl_app.specs.Blank.{AllEmpty, AreEmpty}
 
 -- ---- what pairs hold
 
-module _ {D : Type 0} (image_at : D → ℕ → Option Image) (moment : D → ℕ) where
+module _ {D : Type 0} (view : D → DiskView) where
   -- pairs that hold the same are as many
-  pub as_many : (ps qs : List (Pair D)) → images image_at moment ps ≡ images image_at moment qs → length ps ≡ length qs
-  as_many ps qs same = sym (images_length image_at moment ps) ∙ ap length same ∙ images_length image_at moment qs
+  pub as_many : (ps qs : List (Pair D)) → images view ps ≡ images view qs → length ps ≡ length qs
+  as_many ps qs same = sym (images_length view ps) ∙ ap length same ∙ images_length view qs
 
   -- and where one holds what it held all do
-  pub images_stay : (ps : List (Pair D)) (k : ℕ) (p q : Pair D) → slice_get ps k ≡ Some p → images_of image_at moment q ≡ images_of image_at moment p → images image_at moment (slice_set ps k q) ≡ images image_at moment ps
-  images_stay ps k p q there same = images_set image_at moment ps k q ∙ set_same (images image_at moment ps) k (images_of image_at moment q) (images_here image_at moment ps k p there ∙ ap Some (sym same))
+  pub images_stay : (ps : List (Pair D)) (k : ℕ) (p q : Pair D) → slice_get ps k ≡ Some p → images_of view q ≡ images_of view p → images view (slice_set ps k q) ≡ images view ps
+  images_stay ps k p q there same = images_set view ps k q ∙ set_same (images view ps) k (images_of view q) (images_here view ps k p there ∙ ap Some (sym same))
 
 -- ---- empty pairs
 

@@ -2,6 +2,7 @@
 use Rattle.std.proofs.Common.{◌≡◌, ◌≤◌, ◌-◌, inl, inr, ℕ, List, [], ◌∷◌, ◌++◌, take, sym, ◌∙◌, ap, subst, arith, append_assoc, take-append-drop, ◌+◌}
 use Rattle.std.specs.List.{AllByRecursion}
 use Rattle.spl_circuit.specs.Nodes.{NodeId}
+use Rattle.spl_model.specs.Worlds.{blank}
 use Rattle.spl_model.specs.Projection.{Ran}
 use Rattle.spl_model.specs.Counts.{events_behind, events_of, stops_of}
 use Rattle.spl_world.specs.Counts.{IsOver}
@@ -12,7 +13,7 @@ use Rattle.spl_lines.proofs.Outputs.{ran-append}
 use Rattle.spl_app.specs.Run.{IsRun, Reason, Bad, Past, StopsAt}
 use Rattle.spl_links.proofs.Schedules.{all_at}
 
-front-behind : (ns : List NodeId) (before xs ys : List Ran) → events_behind ns before xs ≤ events_behind ns before (xs ++ ys)
+front-behind : (ns : List NodeId) (before xs ys : List Ran) → events_behind (blank ns) before xs ≤ events_behind (blank ns) before (xs ++ ys)
 front-behind ns before [] ys = omega arith
 front-behind ns before (r ∷ xs) ys =
     let rest = front-behind ns (before ++ r ∷ []) xs ys in
@@ -26,13 +27,13 @@ stops-append (x ∷ xs) ys = let rest = stops-append xs ys in omega (arith, rest
 pub stops_front : (xs ys : List Ran) → stops_of xs ≤ stops_of (xs ++ ys)
 stops_front xs ys = omega (arith, stops-append xs ys)
 
-pub events_front : (ns : List NodeId) (xs ys : List Ran) → events_of ns xs ≤ events_of ns (xs ++ ys)
+pub events_front : (ns : List NodeId) (xs ys : List Ran) → events_of (blank ns) xs ≤ events_of (blank ns) (xs ++ ys)
 unfolding events_of
 events_front ns xs ys = front-behind ns [] xs ys
 
 run_front : (ns : List NodeId) (xs ys : List (List ℕ)) → IsRun ns (xs ++ ys) → IsRun ns xs
 run_front ns xs ys run =
-    let events = subst (λ (rs : List Ran). events_of ns (ran xs) ≤ events_of ns rs) (sym (ran-append xs ys)) (events_front ns (ran xs) _) in
+    let events = subst (λ (rs : List Ran). events_of (blank ns) (ran xs) ≤ events_of (blank ns) rs) (sym (ran-append xs ys)) (events_front ns (ran xs) _) in
     let stops = subst (λ (rs : List Ran). stops_of (ran xs) ≤ stops_of rs) (sym (ran-append xs ys)) (stops_front (ran xs) _) in
     record {
       lines = all_front (IsLine ns) xs ys run.lines;

@@ -1,10 +1,10 @@
 -- What the disks hold behind the lines of a text.
 use Rattle.std.proofs.Common.{◌≡◌, ℕ, List, [], ◌∷◌, ◌++◌, Some, None, slice_get, ap, sym, subst, ◌∙◌}
+use Rattle.spl_edge.specs.Views.{PairView}
 use Rattle.spl_circuit.specs.Nodes.{Node}
 use Rattle.spl_model.specs.Outcomes.{by_rule}
 use Rattle.spl_model.specs.Projection.{Ran}
 use Rattle.spl_sched.specs.declared.line.Line.{Line}
-use Rattle.spl_world.specs.Disks.{PairView}
 use Rattle.spl_world.specs.Held.{AllHeld, IsHeld}
 use Rattle.spl_world.specs.Views.{ids_of, places_of}
 use Rattle.spl_world.specs.declared.world.World.{World}

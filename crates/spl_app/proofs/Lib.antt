@@ -18,3 +18,9 @@ mod Unlinked
 mod Wholes
 mod WholeEnds
 mod Words
+mod Plans
+mod Headlines
+mod Replays
+mod LinkedHeadlines
+mod Since
+mod Gens

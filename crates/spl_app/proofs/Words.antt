@@ -1,7 +1,8 @@
 -- The words of a command line.
-use Rattle.std.proofs.Common.{◌≡◌, ℕ, List, [], ◌∷◌, Option, Some, Bool, true, false, IsTrue, length, get_or, map, sym, ◌∙◌, subst, arith, Global, String, string_bytes, codes}
+use Rattle.std.proofs.Common.{◌≡◌, inl, inr, ℕ, List, [], ◌∷◌, Option, Some, Bool, true, false, IsTrue, length, get_or, map, refl, ap, sym, ◌∙◌, subst, arith, Global, String, string_bytes, codes}
 use Rattle.spl_app.specs.Schedule.{IsReplay}
-use Rattle.spl_app.specs.Command.{IsGen, IsLinks}
+use Rattle.spl_app.specs.Command.{IsCommand, IsGen, IsLinks}
+use Rattle.spl_app.specs.Headline.{Asks, Gen, Links, Mode, Replay}
 
 pub replays : (words : List (String Global)) (first : String Global) → length words ≡ 3 → first ≡ get_or words 0 first → ((string_bytes first ≡ codes "replay") → IsReplay (map string_bytes words)) × (IsReplay (map string_bytes words) → string_bytes first ≡ codes "replay")
 replays [] first long is = absurd (omega arith)
@@ -44,3 +45,29 @@ no_links_gen words n seed gen (x, y, z, other) = let spelled = gen.spelled in cc
 pub not_so : (b : Bool) (P : Type 0) → (IsTrue b → P) × (P → IsTrue b) → b ≡ false → P → ⊥
 not_so true P both off p = cc
 not_so false P both off p = let so = both.1 p in cc
+
+pub no_gen_replay : (words : List (List ℕ)) (n seed : ℕ) → IsGen words n seed → IsReplay words → ⊥
+no_gen_replay words n seed gen (a, b, other) = let spelled = gen.spelled in cc
+
+-- ---- what words ask for
+
+pub replay_mode : (words : List (List ℕ)) → IsReplay words → (m : Mode) → Asks words m → m ≡ Replay
+replay_mode words is Replay asks = refl
+replay_mode words is Links asks = absurd (no_links_replay words is asks)
+replay_mode words is (Gen n seed) asks = absurd (no_gen_replay words n seed asks is)
+
+pub links_mode : (words : List (List ℕ)) → IsLinks words → (m : Mode) → Asks words m → m ≡ Links
+links_mode words is Links asks = refl
+links_mode words is Replay asks = absurd (no_links_replay words asks is)
+links_mode words is (Gen n seed) asks = absurd (no_links_gen words n seed asks is)
+
+pub gen_mode : (words : List (List ℕ)) (n seed : ℕ) → IsGen words n seed → ((k t : ℕ) → IsGen words k t → (k ≡ n) × (t ≡ seed)) → (m : Mode) → Asks words m → m ≡ Gen n seed
+gen_mode words n seed is one Replay asks = absurd (no_gen_replay words n seed is asks)
+gen_mode words n seed is one Links asks = absurd (no_links_gen words n seed is asks)
+gen_mode words n seed is one (Gen k t) asks = (let same = one k t asks in ap (λ (a : ℕ). Gen a t) same.0 ∙ ap (Gen n) same.1)
+
+-- each of them is a command
+pub asks_command : (words : List (List ℕ)) (m : Mode) → Asks words m → IsCommand words
+asks_command words Replay asks = inl asks
+asks_command words Links asks = inr (inl asks)
+asks_command words (Gen n seed) asks = inr (inr (n, seed, asks))

@@ -11,3 +11,5 @@ pub mod Ends
 pub mod Benches
 pub mod Blank
 pub mod Links
+pub mod Devices
+pub mod Headline

@@ -1,8 +1,9 @@
 //! Disks in memory for a run.
 ghost use Rattle.std.specs.Prelude.{◌≡◌, ◌<◌, ◌++◌, ◌∷◌, ℕ, [], length, IfOk, OnOk};
-ghost use Rattle.spl_memory.specs.MemDisks.{IsFreshDisk, armed_of, failing_of, faults_of, image_of, moment_of, picked_by};
+ghost use Rattle.spl_edge.specs.Views.{bench};
+ghost use Rattle.spl_memory.specs.MemDisks.{IsFreshDisk, failing_of, disk_view};
 ghost use Rattle.spl_app.specs.Benches.{FirstFails, NoneFails};
-ghost use Rattle.spl_world.specs.Disks.{AreBlank, bench, images, images_at};
+ghost use Rattle.spl_world.specs.Disks.{AreBlank, images, images_at};
 ghost use Rattle.spl_world.specs.Held.{AllUnpicked};
 
 use spl_edge::{Bench, Pair};
@@ -33,8 +34,8 @@ fn join(pairs: &mut Vec<Pair<MemDisk>>, pair: Pair<MemDisk>) -> Result<(), Alloc
 /// Sixteen pairs of blank disks in memory, none of which fails by itself.
 pub fn blank_bench(alloc: Global) -> Result<Bench<MemDisk>, AllocError>
     ensures pairs { IfOk result (λ b. length b.pairs.items ≡ 16) }
-    ensures blank { IfOk result (λ b. (i : ℕ) → i < 16 → AreBlank (images_at (images image_of moment_of b.pairs.items) i)) }
-    ensures unpicked { IfOk result (λ b. AllUnpicked (bench image_of moment_of faults_of armed_of picked_by b.pairs.items)) }
+    ensures blank { IfOk result (λ b. (i : ℕ) → i < 16 → AreBlank (images_at (images disk_view b.pairs.items) i)) }
+    ensures unpicked { IfOk result (λ b. AllUnpicked (bench disk_view b.pairs.items)) }
     ensures sound { IfOk result (λ b. NoneFails b.pairs.items) }
 {
     failing_bench(alloc, Vec::new(alloc))
@@ -44,8 +45,8 @@ pub fn blank_bench(alloc: Global) -> Result<Bench<MemDisk>, AllocError>
 /// from 1.
 pub fn failing_bench(alloc: Global, failing: Vec<u64>) -> Result<Bench<MemDisk>, AllocError>
     ensures pairs { IfOk result (λ b. length b.pairs.items ≡ 16) }
-    ensures blank { IfOk result (λ b. (i : ℕ) → i < 16 → AreBlank (images_at (images image_of moment_of b.pairs.items) i)) }
-    ensures unpicked { IfOk result (λ b. AllUnpicked (bench image_of moment_of faults_of armed_of picked_by b.pairs.items)) }
+    ensures blank { IfOk result (λ b. (i : ℕ) → i < 16 → AreBlank (images_at (images disk_view b.pairs.items) i)) }
+    ensures unpicked { IfOk result (λ b. AllUnpicked (bench disk_view b.pairs.items)) }
     ensures calls { IfOk result (λ b. FirstFails failing.items b.pairs.items) }
 {
     let mut pairs = Vec::new(alloc);

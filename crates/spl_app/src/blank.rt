@@ -1,12 +1,14 @@
 //! Whether the disks of nodes hold no bytes yet.
 ghost use Rattle.std.specs.Prelude.{◌≡◌, ◌<◌, ◌≤◌, ℕ, length, true, false, IfOk, OnOk, IsErrOf};
-ghost use Rattle.spl_world.specs.Disks.{AllGoOn, HasRisen, PairGoesOn, RoseAt, bench, images, images_at, images_of, pair_view};
+ghost use Rattle.spl_edge.specs.Views.{pair_view, bench};
+ghost use Rattle.spl_snapshot.specs.Counting.{PairOnward, HasRisen};
+ghost use Rattle.spl_world.specs.Disks.{AllGoOn, RoseAt, images, images_at, images_of};
 ghost use Rattle.spl_app.specs.Blank.{AllEmpty, AreEmpty, HaveBytes, IsFirstWithBytes};
 
 use spl_edge::{DeviceError, Disk, Pair};
 
 /// Why it isn't known that disks hold no bytes.
-#[derive(Clone, Copy, Debug, PartialEq, Eq)]
+#[derive(Clone, Copy, PartialEq, Eq)]
 pub enum BlankFault {
     /// A disk of the node at this position holds bytes.
     NotBlank(u8),
@@ -18,11 +20,11 @@ pub enum BlankFault {
 
 // Whether neither of two disks holds bytes. The second is asked where the first holds none.
 fn are_empty<E: Disk>(pair: &mut Pair<E>) -> Result<bool, DeviceError>
-    ensures empty { IfOk result (λ empty. empty ≡ true → AreEmpty (images_of E.image_at E.moment pair.old)) }
-    ensures bytes { IfOk result (λ empty. empty ≡ false → HaveBytes (images_of E.image_at E.moment pair.old)) }
-    ensures same { images_of E.image_at E.moment pair.new ≡ images_of E.image_at E.moment pair.old }
-    ensures onward { PairGoesOn (pair_view E.image_at E.moment E.faults E.armed E.picks pair.old) (pair_view E.image_at E.moment E.faults E.armed E.picks pair.new) }
-    ensures failed { IsErrOf result DeviceError.Failed → HasRisen (pair_view E.image_at E.moment E.faults E.armed E.picks pair.old) (pair_view E.image_at E.moment E.faults E.armed E.picks pair.new) }
+    ensures empty { IfOk result (λ empty. empty ≡ true → AreEmpty (images_of E.view pair.old)) }
+    ensures bytes { IfOk result (λ empty. empty ≡ false → HaveBytes (images_of E.view pair.old)) }
+    ensures same { images_of E.view pair.new ≡ images_of E.view pair.old }
+    ensures onward { PairOnward (pair_view E.view pair.old) (pair_view E.view pair.new) }
+    ensures failed { IsErrOf result DeviceError.Failed → HasRisen (pair_view E.view pair.old) (pair_view E.view pair.new) }
 {
     match pair.first.len() {
         Ok(0) => {}
@@ -38,11 +40,11 @@ fn are_empty<E: Disk>(pair: &mut Pair<E>) -> Result<bool, DeviceError>
 // Those of the node at a position.
 fn are_empty_at<E: Disk>(pairs: &mut Vec<Pair<E>>, slot: u8) -> Result<bool, DeviceError>
     requires room { slot < length pairs.old.items }
-    ensures empty { IfOk result (λ empty. empty ≡ true → AreEmpty (images_at (images E.image_at E.moment pairs.old.items) slot)) }
-    ensures bytes { IfOk result (λ empty. empty ≡ false → HaveBytes (images_at (images E.image_at E.moment pairs.old.items) slot)) }
-    ensures same { images E.image_at E.moment pairs.new.items ≡ images E.image_at E.moment pairs.old.items }
-    ensures onward { AllGoOn (bench E.image_at E.moment E.faults E.armed E.picks pairs.old.items) (bench E.image_at E.moment E.faults E.armed E.picks pairs.new.items) }
-    ensures failed { IsErrOf result DeviceError.Failed → RoseAt slot (bench E.image_at E.moment E.faults E.armed E.picks pairs.old.items) (bench E.image_at E.moment E.faults E.armed E.picks pairs.new.items) }
+    ensures empty { IfOk result (λ empty. empty ≡ true → AreEmpty (images_at (images E.view pairs.old.items) slot)) }
+    ensures bytes { IfOk result (λ empty. empty ≡ false → HaveBytes (images_at (images E.view pairs.old.items) slot)) }
+    ensures same { images E.view pairs.new.items ≡ images E.view pairs.old.items }
+    ensures onward { AllGoOn (bench E.view pairs.old.items) (bench E.view pairs.new.items) }
+    ensures failed { IsErrOf result DeviceError.Failed → RoseAt slot (bench E.view pairs.old.items) (bench E.view pairs.new.items) }
 {
     are_empty(&mut pairs[usize::from(slot)])
 }
@@ -51,11 +53,12 @@ fn are_empty_at<E: Disk>(pairs: &mut Vec<Pair<E>>, slot: u8) -> Result<bool, Dev
 /// of which a disk does, and `Disk` only where a disk of that node failed. The disks hold what they held.
 pub fn check_blank<E: Disk>(pairs: &mut Vec<Pair<E>>, count: u8) -> Result<(), BlankFault>
     requires room { count ≤ length pairs.old.items }
-    ensures empty { OnOk result (AllEmpty count (images E.image_at E.moment pairs.old.items)) }
-    ensures bytes { (slot : ℕ) → IsErrOf result (BlankFault.NotBlank slot) → (slot < count) × IsFirstWithBytes slot (images E.image_at E.moment pairs.old.items) }
-    ensures failed { (slot : ℕ) → IsErrOf result (BlankFault.Disk slot) → (slot < count) × RoseAt slot (bench E.image_at E.moment E.faults E.armed E.picks pairs.old.items) (bench E.image_at E.moment E.faults E.armed E.picks pairs.new.items) }
-    ensures same { images E.image_at E.moment pairs.new.items ≡ images E.image_at E.moment pairs.old.items }
-    ensures onward { AllGoOn (bench E.image_at E.moment E.faults E.armed E.picks pairs.old.items) (bench E.image_at E.moment E.faults E.armed E.picks pairs.new.items) }
+    ensures empty { OnOk result (AllEmpty count (images E.view pairs.old.items)) }
+    ensures bytes { (slot : ℕ) → IsErrOf result (BlankFault.NotBlank slot) → (slot < count) × IsFirstWithBytes slot (images E.view pairs.old.items) }
+    ensures failed { (slot : ℕ) → IsErrOf result (BlankFault.Disk slot)
+        → (slot < count) × RoseAt slot (bench E.view pairs.old.items) (bench E.view pairs.new.items) }
+    ensures same { images E.view pairs.new.items ≡ images E.view pairs.old.items }
+    ensures onward { AllGoOn (bench E.view pairs.old.items) (bench E.view pairs.new.items) }
 {
     'slots: for slot in 0..count {
         match are_empty_at(pairs, slot) {

@@ -4,15 +4,11 @@ ghost use Rattle.std.specs.Prelude.{[], Some};
 use spl_edge::{DeviceError, Fabric};
 
 /// No fabric: nothing is put on it, and nothing taken.
-#[derive(Debug, Drop)]
+#[derive(Drop)]
 pub struct NoFabric;
 
 impl Fabric for NoFabric {
-    ghost put_on = { λ _ _ _. Some [] };
-
-    ghost taken_on = { λ _ _ _. Some [] };
-
-    ghost faults = { λ _. 0 };
+    ghost view = { λ _. record { put = λ from to. Some []; taken = λ from to. Some []; faults = 0 } };
 
     fn put(&mut self, _from: u8, _to: u8, _bytes: &[u8]) -> Result<usize, DeviceError> {
         Err(DeviceError::NoMemory)

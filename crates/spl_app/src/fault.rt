@@ -8,7 +8,7 @@ use spl_registry::RegistryFault;
 use std::alloc::AllocError;
 
 /// How a run ended that answered all lines given.
-#[derive(Clone, Copy, Debug, PartialEq, Eq)]
+#[derive(Clone, Copy, PartialEq, Eq)]
 pub enum RunEnd {
     /// The source is at its end, and nothing stands behind its last line.
     Whole,
@@ -19,7 +19,7 @@ pub enum RunEnd {
 }
 
 /// Why a run ended before its last line.
-#[derive(Clone, Copy, Debug, PartialEq, Eq)]
+#[derive(Clone, Copy, PartialEq, Eq)]
 pub enum RunFault {
     /// A schedule may not have the line of this number, also for want of its line feed.
     BadLine(u32),
@@ -54,7 +54,7 @@ impl From<DeviceError> for RunFault {
 }
 
 /// Why a run has no nodes.
-#[derive(Clone, Copy, Debug, PartialEq, Eq)]
+#[derive(Clone, Copy, PartialEq, Eq)]
 pub enum NodesFault {
     /// The bytes given are no registry.
     Bad(RegistryFault),

@@ -1,21 +1,16 @@
 //! Runs generated schedules.
-ghost use Rattle.std.specs.Prelude.{◌≡◌, ◌<◌, ◌≤◌, ◌⊎◌, ◌+◌, ◌-◌, ◌*◌, ◌/◌, ℕ, false, IfOk, IsTrue, length, take};
-ghost use Rattle.std.specs.Io.KnownBytes.{Appends};
+ghost use Rattle.std.specs.Prelude.{◌≡◌, ◌<◌, ◌≤◌, ◌+◌, ◌*◌, ◌/◌, ℕ, IfOk, IsTrue, length};
+ghost use Rattle.spl_edge.specs.Views.{bench, SourceView};
 ghost use Rattle.spl_base.specs.Ids.{is_node_id};
-ghost use Rattle.spl_circuit.specs.Nodes.{Node};
-ghost use Rattle.spl_edge.specs.Causes.{Rose, AppendsPart};
 ghost use Rattle.spl_gen.specs.Circuits.{nodes};
 ghost use Rattle.spl_gen.specs.declared.generate.TheConstants.{MOST_BATCHES};
 ghost use Rattle.spl_registry.specs.Nodes.{made};
-ghost use Rattle.spl_world.specs.Disks.{AllUnarmed, AreBlank, NoneForgotten, bench, images, images_at};
-ghost use Rattle.spl_world.specs.Held.{AllUnpicked, AreHeld};
-ghost use Rattle.spl_world.specs.declared.fault.WorldFault.TheVariants.{NoMemory as NoRoom};
-ghost use Rattle.spl_lines.specs.Written.{ran};
-ghost use Rattle.spl_app.specs.Ends.{EndsAtNode, EndsPast, EndsShort, EndsSomewhere};
-ghost use Rattle.spl_app.specs.Generated.{generated_lines, is_of_reading, last_answers};
-ghost use Rattle.spl_app.specs.Links.{is_of_links};
-ghost use Rattle.spl_app.specs.Registered.{HasFailedAt, SomeFailed};
-ghost use Rattle.spl_app.specs.Run.{HasFront, IsRun, Past, StopsAt};
+ghost use Rattle.spl_world.specs.Disks.{AllUnarmed, AreBlank, NoneForgotten, images, images_at};
+ghost use Rattle.spl_world.specs.Held.{AllUnpicked};
+ghost use Rattle.spl_world.specs.Links.{LinkView};
+ghost use Rattle.spl_app.specs.Devices.{devices};
+ghost use Rattle.spl_app.specs.Generated.{generated_lines};
+ghost use Rattle.spl_app.specs.Headline.{Comes, Gen};
 
 use crate::Status;
 use crate::fault::{RunEnd, RunFault};
@@ -75,27 +70,14 @@ pub fn run_generated<W: Sink, D: StopDisk>(
     requires some { 1 ≤ n }
     requires few { n ≤ MOST_BATCHES }
     requires pairs { 4 ≤ length pairs.old.items }
-    requires blank { (i : ℕ) → i < 4 → AreBlank (images_at (images D.image_at D.moment pairs.old.items) i) }
-    requires unpicked { AllUnpicked (bench D.image_at D.moment D.faults D.armed D.picks pairs.old.items) }
-    ensures words { result ≡ Status.Usage → ⊥ }
-    ensures status { is_of_reading result ≡ false }
-    ensures unlinked { is_of_links result ≡ false }
-    ensures ok { result ≡ Status.Ok → IsRun nodes (generated_lines n seed) × Appends (W.written out.old) (W.written out.new) (last_answers n seed (generated_lines n seed)) }
-    ensures many { (which : ℕ) → result ≡ Status.TooMany which → (number : ℕ) × StopsAt nodes (Past which) (generated_lines n seed) number
-        × Appends (W.written out.old) (W.written out.new) (last_answers n seed (take (number - 1) (generated_lines n seed))) }
-    ensures disk { (node : Node) → result ≡ Status.DiskFault node → HasFront nodes (generated_lines n seed) (λ ls. Appends (W.written out.old) (W.written out.new) (last_answers n seed ls))
-        × HasFailedAt (made nodes) node (bench D.image_at D.moment D.faults D.armed D.picks pairs.old.items) (bench D.image_at D.moment D.faults D.armed D.picks pairs.new.items) }
-    ensures write { result ≡ Status.WriteFault → Rose (W.faults out.old) (W.faults out.new) }
-    ensures held_ok { result ≡ Status.Ok → AreHeld (bench D.image_at D.moment D.faults D.armed D.picks pairs.old.items) nodes (ran (generated_lines n seed)) (made nodes) (bench D.image_at D.moment D.faults D.armed D.picks pairs.new.items) }
-    ensures held_many { (which : ℕ) → result ≡ Status.TooMany which → EndsPast (made nodes) (generated_lines n seed) which (bench D.image_at D.moment D.faults D.armed D.picks pairs.old.items) (bench D.image_at D.moment D.faults D.armed D.picks pairs.new.items) }
-    ensures held_disk { (node : Node) → result ≡ Status.DiskFault node → EndsAtNode (made nodes) (generated_lines n seed) node (λ ls. Appends (W.written out.old) (W.written out.new) (last_answers n seed ls)) (bench D.image_at D.moment D.faults D.armed D.picks pairs.old.items) (bench D.image_at D.moment D.faults D.armed D.picks pairs.new.items) }
-    ensures held_write { result ≡ Status.WriteFault → EndsSomewhere (λ e. e ≡ NoRoom → ⊥) (made nodes) (generated_lines n seed) (bench D.image_at D.moment D.faults D.armed D.picks pairs.old.items) (bench D.image_at D.moment D.faults D.armed D.picks pairs.new.items) }
-    ensures held_memory { result ≡ Status.NoMemory → EndsShort (made nodes) (generated_lines n seed) (λ ls. Appends (W.written out.old) (W.written out.new) (last_answers n seed ls)) (bench D.image_at D.moment D.faults D.armed D.picks pairs.old.items) (bench D.image_at D.moment D.faults D.armed D.picks pairs.new.items) }
-    ensures complete { IsRun nodes (generated_lines n seed) → (Rose (W.faults out.old) (W.faults out.new) → ⊥)
-        → (SomeFailed (bench D.image_at D.moment D.faults D.armed D.picks pairs.old.items) (bench D.image_at D.moment D.faults D.armed D.picks pairs.new.items) → ⊥) → (result ≡ Status.Ok) ⊎ (result ≡ Status.NoMemory) }
-    ensures onward { NoneForgotten (bench D.image_at D.moment D.faults D.armed D.picks pairs.old.items) (bench D.image_at D.moment D.faults D.armed D.picks pairs.new.items) }
-    ensures unarmed { (result ≡ Status.NoMemory → ⊥) → AllUnarmed (bench D.image_at D.moment D.faults D.armed D.picks pairs.new.items) }
-    ensures part { AppendsPart (W.written out.old) (W.written out.new) (last_answers n seed (generated_lines n seed)) }
+    requires blank { (i : ℕ) → i < 4 → AreBlank (images_at (images D.view pairs.old.items) i) }
+    requires unpicked { AllUnpicked (bench D.view pairs.old.items) }
+    // What comes of its lines, whatever a source and links tell: none is used.
+    ensures comes { (schedule : SourceView) (links : LinkView) → Comes result (Gen n seed)
+        (record { nodes = made nodes; lines = generated_lines n seed }) (devices schedule (W.view out.old) (bench D.view pairs.old.items) links)
+        (devices schedule (W.view out.new) (bench D.view pairs.new.items) links) }
+    ensures onward { NoneForgotten (bench D.view pairs.old.items) (bench D.view pairs.new.items) }
+    ensures unarmed { (result ≡ Status.NoMemory → ⊥) → AllUnarmed (bench D.view pairs.new.items) }
 {
     generated_texts_are_lines();
     let Ok(registry) = registry(alloc) else {

@@ -1,17 +1,15 @@
 //! Reads a registry, and runs a schedule over links between its nodes.
-ghost use Rattle.std.specs.Prelude.{◌≡◌, ◌⊎◌, ◌<◌, ◌≤◌, ℕ, [], true, Err, length};
+ghost use Rattle.std.specs.Prelude.{◌≡◌, ◌⊎◌, ◌<◌, ℕ, [], length};
 ghost use Rattle.std.specs.Io.{appended_bytes};
-ghost use Rattle.std.specs.Io.KnownBytes.{Appends, Consumes, IsAtEnd};
-ghost use Rattle.spl_edge.specs.Causes.{Rose};
-ghost use Rattle.spl_lines.specs.Lines.{limit};
+ghost use Rattle.std.specs.Io.KnownBytes.{Appends, Consumes};
+ghost use Rattle.spl_edge.specs.Views.{bench};
+ghost use Rattle.spl_app.specs.Links.{without_carrier};
 ghost use Rattle.spl_pump.specs.Wires.{AllTaken};
-ghost use Rattle.spl_registry.specs.declared.fault.RegistryFault.{RegistryFault};
-ghost use Rattle.spl_registry.specs.Tree.{registry_of};
-ghost use Rattle.spl_world.specs.Disks.{AllGoOn, bench, images, images_at};
+ghost use Rattle.spl_world.specs.Disks.{AllGoOn, images, images_at};
 ghost use Rattle.spl_world.specs.Held.{AllUnpicked};
-ghost use Rattle.spl_app.specs.Blank.{AllEmpty, AreSettled};
-ghost use Rattle.spl_app.specs.Links.{EndsReading, Gives, is_behind_blank, run_view};
-ghost use Rattle.spl_app.specs.Registered.{IsRegistryText, OfRegistry};
+ghost use Rattle.spl_app.specs.Blank.{AreSettled};
+ghost use Rattle.spl_app.specs.Devices.{devices};
+ghost use Rattle.spl_app.specs.Headline.{Came, EndsReading, Links};
 
 use crate::Status;
 use crate::fault::NodesFault;
@@ -31,26 +29,19 @@ pub fn run_links<S: Source, W: Sink, E: Disk, F: Fabric>(
     fabric: &mut F,
 ) -> Status
     requires pairs { length shelf.old.pairs.items ≡ 16 }
-    requires settled { (i : ℕ) → i < 16 → AreSettled (images_at (images E.image_at E.moment shelf.old.pairs.items) i) }
-    requires unpicked { AllUnpicked (bench E.image_at E.moment E.faults E.armed E.picks shelf.old.pairs.items) }
-    requires taken { AllTaken (F.put_on fabric.old) (F.taken_on fabric.old) }
-    ensures words { result ≡ Status.Usage → ⊥ }
-    ensures registry { (fault : RegistryFault) → result ≡ Status.BadRegistry fault
-        → (registry_of (appended_bytes (S.taken registry.old) (S.taken registry.new)) ≡ Err fault) × IsAtEnd (S.left registry.new)
-        × (length (appended_bytes (S.taken registry.old) (S.taken registry.new)) ≤ limit) × Appends (W.written out.old) (W.written out.new) [] × (schedule.new ≡ schedule.old) × (shelf.new ≡ shelf.old) × (fabric.new ≡ fabric.old) }
-    ensures write { result ≡ Status.WriteFault → Rose (W.faults out.old) (W.faults out.new) }
-    ensures faulty { (fault : RegistryFault) → let text = (appended_bytes (S.taken registry.old) (S.taken registry.new)) in
-        (Rose (S.faults registry.old) (S.faults registry.new) → ⊥) → registry_of text ≡ Err fault → length text ≤ limit
-        → (result ≡ Status.BadRegistry fault) ⊎ (result ≡ Status.NoMemory) }
-    ensures nodes_taken { Consumes (S.left registry.old) (S.left registry.new) (appended_bytes (S.taken registry.old) (S.taken registry.new)) }
-    ensures taken { Consumes (S.left schedule.old) (S.left schedule.new) (appended_bytes (S.taken schedule.old) (S.taken schedule.new)) }
-    ensures ended { let text = (appended_bytes (S.taken registry.old) (S.taken registry.new)) in
-        (EndsReading result text (S.left registry.new) (S.faults registry.old) (S.faults registry.new)
-        × Appends (W.written out.old) (W.written out.new) [] × (schedule.new ≡ schedule.old) × (shelf.new ≡ shelf.old) × (fabric.new ≡ fabric.old))
-        ⊎ (IsRegistryText text × IsAtEnd (S.left registry.new) × OfRegistry text (λ es. Gives result es (run_view S.taken S.left S.faults W.written W.faults F.put_on F.taken_on F.faults E.image_at E.moment E.faults E.armed E.picks
-        schedule.old schedule.new out.old out.new fabric.old fabric.new shelf.old.pairs.items shelf.new.pairs.items))) }
-    ensures empty { is_behind_blank result ≡ true → OfRegistry (appended_bytes (S.taken registry.old) (S.taken registry.new)) (λ es. AllEmpty (length es) (images E.image_at E.moment shelf.old.pairs.items)) }
-    ensures onward { AllGoOn (bench E.image_at E.moment E.faults E.armed E.picks shelf.old.pairs.items) (bench E.image_at E.moment E.faults E.armed E.picks shelf.new.pairs.items) }
+    requires settled { (i : ℕ) → i < 16 → AreSettled (images_at (images E.view shelf.old.pairs.items) i) }
+    requires unpicked { AllUnpicked (bench E.view shelf.old.pairs.items) }
+    requires taken { AllTaken (F.view fabric.old).put (F.view fabric.old).taken }
+    ensures nodes_taken { Consumes (S.view registry.old).left (S.view registry.new).left
+        (appended_bytes (S.view registry.old).gave (S.view registry.new).gave) }
+    ensures taken { Consumes (S.view schedule.old).left (S.view schedule.new).left (appended_bytes (S.view schedule.old).gave (S.view schedule.new).gave) }
+    // The registry's reading ended the run, and nothing else was done; or what comes of the bytes given.
+    ensures came { (EndsReading result (S.view registry.old) (S.view registry.new)
+        × Appends (W.view out.old).written (W.view out.new).written [] × (schedule.new ≡ schedule.old) × (shelf.new ≡ shelf.old) × (fabric.new ≡ fabric.old))
+        ⊎ Came result Links (S.view registry.old) (S.view registry.new)
+        (devices (S.view schedule.old) (W.view out.old) (bench E.view shelf.old.pairs.items) (without_carrier (F.view fabric.old)))
+        (devices (S.view schedule.new) (W.view out.new) (bench E.view shelf.new.pairs.items) (without_carrier (F.view fabric.new))) }
+    ensures onward { AllGoOn (bench E.view shelf.old.pairs.items) (bench E.view shelf.new.pairs.items) }
 {
     match read_registry(alloc, registry) {
         Ok(found) => links(alloc, &found, schedule, out, &mut shelf.pairs, fabric),

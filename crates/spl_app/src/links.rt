@@ -1,14 +1,16 @@
 //! Runs a schedule over links and files.
-ghost use Rattle.std.specs.Prelude.{◌≡◌, ◌<◌, ◌≤◌, ℕ, List, true, length};
+ghost use Rattle.std.specs.Prelude.{◌≡◌, ◌<◌, ◌≤◌, ℕ, List, length};
 ghost use Rattle.std.specs.Io.{appended_bytes};
 ghost use Rattle.std.specs.Io.KnownBytes.{Consumes};
-ghost use Rattle.spl_edge.specs.Causes.{Rose};
+ghost use Rattle.spl_edge.specs.Views.{PairView, bench};
+ghost use Rattle.spl_lines.specs.Given.{run_of};
 ghost use Rattle.spl_pump.specs.Wires.{AllTaken};
-ghost use Rattle.spl_registry.specs.declared.fault.RegistryFault.{RegistryFault};
-ghost use Rattle.spl_world.specs.Disks.{AllGoOn, AreBlank, bench, images, images_at};
+ghost use Rattle.spl_world.specs.Disks.{AllGoOn, AreBlank, images, images_at};
 ghost use Rattle.spl_world.specs.Held.{AllUnpicked};
 ghost use Rattle.spl_app.specs.Blank.{AllEmpty, AreSettled};
-ghost use Rattle.spl_app.specs.Links.{Gives, Tells, is_behind_blank, run_view};
+ghost use Rattle.spl_app.specs.Devices.{devices, held_on};
+ghost use Rattle.spl_app.specs.Headline.{Comes, Links};
+ghost use Rattle.spl_app.specs.Links.{Tells, without_carrier};
 
 use crate::Status;
 use crate::blank::{BlankFault, check_blank};
@@ -51,7 +53,7 @@ fn fault_status(registry: &Registry, fault: WorldFault) -> Status
     }
 }
 
-// Runs a schedule over blank disks.
+// Runs a schedule over disks that hold no bytes, where they tell, and on which nothing is pending.
 fn run_blank<S: Source, W: Sink, E: Disk, F: Fabric>(
     alloc: Global,
     registry: &Registry,
@@ -61,16 +63,17 @@ fn run_blank<S: Source, W: Sink, E: Disk, F: Fabric>(
     fabric: &mut F,
 ) -> Status
     requires pairs { length registry.now ≤ length pairs.old.items }
-    requires blank { (i : ℕ) → i < length registry.now → AreBlank (images_at (images E.image_at E.moment pairs.old.items) i) }
-    requires unpicked { AllUnpicked (bench E.image_at E.moment E.faults E.armed E.picks pairs.old.items) }
-    requires taken { AllTaken (F.put_on fabric.old) (F.taken_on fabric.old) }
-    ensures words { result ≡ Status.Usage → ⊥ }
-    ensures registry { (fault : RegistryFault) → result ≡ Status.BadRegistry fault → ⊥ }
-    ensures write { result ≡ Status.WriteFault → Rose (W.faults out.old) (W.faults out.new) }
-    ensures ended { Gives result registry.now (run_view S.taken S.left S.faults W.written W.faults F.put_on F.taken_on F.faults E.image_at E.moment E.faults E.armed E.picks
-        schedule.old schedule.new out.old out.new fabric.old fabric.new pairs.old.items pairs.new.items) }
-    ensures onward { AllGoOn (bench E.image_at E.moment E.faults E.armed E.picks pairs.old.items) (bench E.image_at E.moment E.faults E.armed E.picks pairs.new.items) }
-    ensures taken { Consumes (S.left schedule.old) (S.left schedule.new) (appended_bytes (S.taken schedule.old) (S.taken schedule.new)) }
+    requires blank { (i : ℕ) → i < length registry.now → AreBlank (images_at (images E.view pairs.old.items) i) }
+    requires unpicked { AllUnpicked (bench E.view pairs.old.items) }
+    requires taken { AllTaken (F.view fabric.old).put (F.view fabric.old).taken }
+    // Since a moment from which on nothing that they hold changed.
+    ensures comes { (start : List PairView) → AllGoOn start (bench E.view pairs.old.items) → held_on (bench E.view pairs.old.items) ≡ held_on start
+        → AllEmpty (length registry.now) (held_on start) → Comes result Links
+        (record { nodes = registry.now; lines = run_of (appended_bytes (S.view schedule.old).gave (S.view schedule.new).gave) })
+        (devices (S.view schedule.old) (W.view out.old) start (without_carrier (F.view fabric.old)))
+        (devices (S.view schedule.new) (W.view out.new) (bench E.view pairs.new.items) (without_carrier (F.view fabric.new))) }
+    ensures onward { AllGoOn (bench E.view pairs.old.items) (bench E.view pairs.new.items) }
+    ensures taken { Consumes (S.view schedule.old).left (S.view schedule.new).left (appended_bytes (S.view schedule.old).gave (S.view schedule.new).gave) }
 {
     let Ok(mut pump) = Pump::new(alloc, registry) else {
         return Status::NoMemory;
@@ -98,17 +101,15 @@ pub fn links<S: Source, W: Sink, E: Disk, F: Fabric>(
     fabric: &mut F,
 ) -> Status
     requires pairs { length registry.now ≤ length pairs.old.items }
-    requires settled { (i : ℕ) → i < length registry.now → AreSettled (images_at (images E.image_at E.moment pairs.old.items) i) }
-    requires unpicked { AllUnpicked (bench E.image_at E.moment E.faults E.armed E.picks pairs.old.items) }
-    requires taken { AllTaken (F.put_on fabric.old) (F.taken_on fabric.old) }
-    ensures words { result ≡ Status.Usage → ⊥ }
-    ensures registry { (fault : RegistryFault) → result ≡ Status.BadRegistry fault → ⊥ }
-    ensures write { result ≡ Status.WriteFault → Rose (W.faults out.old) (W.faults out.new) }
-    ensures ended { Gives result registry.now (run_view S.taken S.left S.faults W.written W.faults F.put_on F.taken_on F.faults E.image_at E.moment E.faults E.armed E.picks
-        schedule.old schedule.new out.old out.new fabric.old fabric.new pairs.old.items pairs.new.items) }
-    ensures onward { AllGoOn (bench E.image_at E.moment E.faults E.armed E.picks pairs.old.items) (bench E.image_at E.moment E.faults E.armed E.picks pairs.new.items) }
-    ensures taken { Consumes (S.left schedule.old) (S.left schedule.new) (appended_bytes (S.taken schedule.old) (S.taken schedule.new)) }
-    ensures empty { is_behind_blank result ≡ true → AllEmpty (length registry.now) (images E.image_at E.moment pairs.old.items) }
+    requires settled { (i : ℕ) → i < length registry.now → AreSettled (images_at (images E.view pairs.old.items) i) }
+    requires unpicked { AllUnpicked (bench E.view pairs.old.items) }
+    requires taken { AllTaken (F.view fabric.old).put (F.view fabric.old).taken }
+    ensures comes { Comes result Links (record
+        { nodes = registry.now; lines = run_of (appended_bytes (S.view schedule.old).gave (S.view schedule.new).gave) })
+        (devices (S.view schedule.old) (W.view out.old) (bench E.view pairs.old.items) (without_carrier (F.view fabric.old)))
+        (devices (S.view schedule.new) (W.view out.new) (bench E.view pairs.new.items) (without_carrier (F.view fabric.new))) }
+    ensures onward { AllGoOn (bench E.view pairs.old.items) (bench E.view pairs.new.items) }
+    ensures taken { Consumes (S.view schedule.old).left (S.view schedule.new).left (appended_bytes (S.view schedule.old).gave (S.view schedule.new).gave) }
 {
     match check_blank(pairs, registry.len()) {
         Ok(()) => run_blank(alloc, registry, schedule, out, pairs, fabric),

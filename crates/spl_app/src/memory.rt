@@ -1,9 +1,10 @@
 //! A shelf and a fabric in memory for a run.
-ghost use Rattle.std.specs.Prelude.{◌≡◌, ◌<◌, ℕ, Some, length, IfOk};
-ghost use Rattle.spl_memory.specs.MemDisks.{armed_of, faults_of, image_of, moment_of, picked_by};
-ghost use Rattle.spl_memory.specs.Fabrics.{put_of, taken_of};
+ghost use Rattle.std.specs.Prelude.{◌≡◌, ◌<◌, ℕ, length, IfOk};
+ghost use Rattle.spl_edge.specs.Views.{bench};
+ghost use Rattle.spl_memory.specs.MemDisks.{disk_view};
+ghost use Rattle.spl_memory.specs.Fabrics.{fabric_view};
 ghost use Rattle.spl_pump.specs.Wires.{AllTaken};
-ghost use Rattle.spl_world.specs.Disks.{bench, images, images_at};
+ghost use Rattle.spl_world.specs.Disks.{images, images_at};
 ghost use Rattle.spl_world.specs.Held.{AllUnpicked};
 ghost use Rattle.spl_app.specs.Blank.{AreSettled};
 
@@ -15,8 +16,8 @@ use std::alloc::{AllocError, Global};
 /// Sixteen pairs of blank disks in memory.
 pub fn blank_shelf(alloc: Global) -> Result<Shelf<MemDisk>, AllocError>
     ensures pairs { IfOk result (λ b. length b.pairs.items ≡ 16) }
-    ensures settled { IfOk result (λ b. (i : ℕ) → i < 16 → AreSettled (images_at (images image_of moment_of b.pairs.items) i)) }
-    ensures unpicked { IfOk result (λ b. AllUnpicked (bench image_of moment_of faults_of armed_of picked_by b.pairs.items)) }
+    ensures settled { IfOk result (λ b. (i : ℕ) → i < 16 → AreSettled (images_at (images disk_view b.pairs.items) i)) }
+    ensures unpicked { IfOk result (λ b. AllUnpicked (bench disk_view b.pairs.items)) }
 {
     let bench = blank_bench(alloc)?;
     Ok(Shelf { pairs: bench.pairs })
@@ -24,7 +25,7 @@ pub fn blank_shelf(alloc: Global) -> Result<Shelf<MemDisk>, AllocError>
 
 /// A fabric in memory on which nothing was put, and that fails at the calls of these numbers, counted from 1.
 pub fn blank_fabric(alloc: Global, failing: Vec<u64>) -> MemFabric
-    ensures { AllTaken (λ a b. Some (put_of result a b)) (λ a b. Some (taken_of result a b)) }
+    ensures { AllTaken (fabric_view result).put (fabric_view result).taken }
 {
     MemFabric::new(alloc, failing)
 }

@@ -23,14 +23,16 @@ pub fn registries_are_small(registry: &Registry)
 
 /// The registry that a source gives.
 pub fn read_registry<S: Source>(alloc: Global, registry: &mut S) -> Result<Registry, NodesFault>
-    ensures ended { OnOk result (IsAtEnd (S.left registry.new)) }
-    ensures text { OnOk result (IsRegistryText (appended_bytes (S.taken registry.old) (S.taken registry.new))) }
-    ensures entries { IfOk result (λ r. registry_of (appended_bytes (S.taken registry.old) (S.taken registry.new)) ≡ Ok r) }
-    ensures bad { (fault : Fault) → IsErrOf result (NodesFault.Bad fault) → (registry_of (appended_bytes (S.taken registry.old) (S.taken registry.new)) ≡ Err fault)
-        × IsAtEnd (S.left registry.new) × (length (appended_bytes (S.taken registry.old) (S.taken registry.new)) ≤ limit) }
-    ensures read { IsErrOf result NodesFault.Read → Rose (S.faults registry.old) (S.faults registry.new) × (length (appended_bytes (S.taken registry.old) (S.taken registry.new)) ≤ limit) }
-    ensures long { IsErrOf result NodesFault.TooLong → limit < length (appended_bytes (S.taken registry.old) (S.taken registry.new)) }
-    ensures taken { Consumes (S.left registry.old) (S.left registry.new) (appended_bytes (S.taken registry.old) (S.taken registry.new)) }
+    ensures ended { OnOk result (IsAtEnd (S.view registry.new).left) }
+    ensures text { OnOk result (IsRegistryText (appended_bytes (S.view registry.old).gave (S.view registry.new).gave)) }
+    ensures entries { IfOk result (λ r. registry_of (appended_bytes (S.view registry.old).gave (S.view registry.new).gave) ≡ Ok r) }
+    ensures bad { (fault : Fault) → IsErrOf result (NodesFault.Bad fault)
+        → (registry_of (appended_bytes (S.view registry.old).gave (S.view registry.new).gave) ≡ Err fault)
+        × IsAtEnd (S.view registry.new).left × (length (appended_bytes (S.view registry.old).gave (S.view registry.new).gave) ≤ limit) }
+    ensures read { IsErrOf result NodesFault.Read → Rose (S.view registry.old).faults (S.view registry.new).faults
+        × (length (appended_bytes (S.view registry.old).gave (S.view registry.new).gave) ≤ limit) }
+    ensures long { IsErrOf result NodesFault.TooLong → limit < length (appended_bytes (S.view registry.old).gave (S.view registry.new).gave) }
+    ensures taken { Consumes (S.view registry.old).left (S.view registry.new).left (appended_bytes (S.view registry.old).gave (S.view registry.new).gave) }
 {
     let reading = read_all(alloc, MOST_BYTES, registry);
     match reading.end {

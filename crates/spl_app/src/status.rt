@@ -7,7 +7,7 @@ use spl_registry::RegistryFault;
 use std::alloc::{AllocError, Global};
 
 /// How a run ended (docs/RULES.md, Statuses).
-#[derive(Debug, Drop)]
+#[derive(Drop)]
 pub enum Status {
     /// Registry and schedule were read to their ends, and every answer was written.
     Ok,

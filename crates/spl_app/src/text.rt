@@ -23,11 +23,7 @@ impl TextSource {
 }
 
 impl Source for TextSource {
-    ghost taken = { λ s. take s.at s.text };
-
-    ghost left = { λ s. Some (drop s.at s.text) };
-
-    ghost faults = { λ _. 0 };
+    ghost view = { λ s. record { gave = take s.at s.text; left = Some (drop s.at s.text); faults = 0 } };
 
     fn read(&mut self, buf: &mut [u8]) -> Result<usize, DeviceError> {
         let bytes = self.text.bytes();

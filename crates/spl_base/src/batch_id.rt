@@ -5,7 +5,7 @@ use crate::listing::Listing;
 use std::marker::Model;
 
 /// The id of a batch, which its submitter chooses (docs/RULES.md, Ids). Contracts see its number.
-#[derive(Clone, Copy, Debug, PartialEq, Eq, PartialOrd, Ord, Hash)]
+#[derive(Clone, Copy, PartialEq, Eq, PartialOrd, Ord, Hash)]
 pub struct BatchId(pub u64);
 
 impl Model for BatchId {

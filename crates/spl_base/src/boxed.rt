@@ -12,7 +12,7 @@ use std::rc::Rc;
 
 /// A value on the heap, so that what holds it stays small. Copies share it: a copy costs a count.
 /// Contracts see the value.
-#[derive(Debug, Drop)]
+#[derive(Drop)]
 pub struct Boxed<T> {
     inner: Rc<T>,
 }

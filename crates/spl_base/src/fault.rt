@@ -5,7 +5,7 @@ ghost use Rattle.spl_base.specs.declared.fault.Malformed.TheVariants.{NoMemory, 
 use std::alloc::{AllocError, AllocFailed};
 
 /// A field that could not be taken.
-#[derive(Clone, Copy, Debug, PartialEq, Eq)]
+#[derive(Clone, Copy, PartialEq, Eq)]
 pub enum FieldFault {
     /// Too few bytes remain for the field that begins here.
     Short { at: usize },
@@ -28,7 +28,7 @@ impl FieldFault {
 }
 
 /// Why a value could not be read from the front of bytes.
-#[derive(Clone, Copy, Debug, PartialEq, Eq)]
+#[derive(Clone, Copy, PartialEq, Eq)]
 pub enum Malformed {
     /// Memory ran out.
     NoMemory,

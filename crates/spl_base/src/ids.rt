@@ -12,7 +12,7 @@ use std::alloc::{AllocError, Global};
 use std::marker::Model;
 
 /// The id of a node: 1 to 32 bytes of `a`-`z`, `0`-`9` and `-` (docs/RULES.md, Ids). Contracts see its bytes.
-#[derive(Clone, Copy, Debug, PartialEq, Eq, PartialOrd, Ord, Hash)]
+#[derive(Clone, Copy, PartialEq, Eq, PartialOrd, Ord, Hash)]
 pub struct NodeId {
     text: Short<32>,
 }
@@ -93,7 +93,7 @@ impl Field for NodeId {
 }
 
 /// A label: 0 to 128 bytes of 0x21 to 0x7e (docs/RULES.md, Ids). Contracts see its bytes.
-#[derive(Clone, Copy, Debug, PartialEq, Eq, PartialOrd, Ord, Hash)]
+#[derive(Clone, Copy, PartialEq, Eq, PartialOrd, Ord, Hash)]
 pub struct Label {
     text: Short<128>,
 }
@@ -168,7 +168,7 @@ impl Field for Label {
 }
 
 /// The id of a service in its circuit: four base62 characters (docs/RULES.md, Ids). Contracts see its bytes.
-#[derive(Clone, Copy, Debug, PartialEq, Eq, PartialOrd, Ord, Hash)]
+#[derive(Clone, Copy, PartialEq, Eq, PartialOrd, Ord, Hash)]
 pub struct ServiceId {
     cells: [u8; 4],
 }
@@ -248,7 +248,7 @@ impl Field for ServiceId {
 }
 
 /// The id of a circuit: five base62 characters, a `-`, and five more (docs/RULES.md, Ids). Contracts see its bytes.
-#[derive(Clone, Copy, Debug, PartialEq, Eq, PartialOrd, Ord, Hash)]
+#[derive(Clone, Copy, PartialEq, Eq, PartialOrd, Ord, Hash)]
 pub struct CircuitId {
     text: Short<11>,
 }

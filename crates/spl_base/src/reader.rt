@@ -8,7 +8,7 @@ use std::marker::Model;
 
 /// Takes fields from the front of bytes. A call that fails leaves the reader where it stood: `Short` exactly where
 /// too few bytes remain for the field, `TooLong` exactly where a length is above its bound (docs/RULES.md, Byte forms).
-#[derive(Debug, Drop)]
+#[derive(Drop)]
 pub struct Reader<'a> {
     rest: &'a [u8],
     place: usize,

@@ -30,7 +30,7 @@ use Rattle.spl_circuit.specs.Same.{node_same}
 use Rattle.spl_agreement.proofs.Rosters.{roster}
 use Rattle.spl_agreement.proofs.GroupOfDefinition.{AllPosts, There, there_is, after_row, plan_row, group_of}
 use Rattle.spl_agreement.proofs.GroupWorlds.{admin_groups, service_groups, admin_presence}
-use Rattle.spl_calm.specs.Settled.{is_active_by}
+use Rattle.spl_calm.specs.Settled.{is_running_by}
 use Rattle.spl_calm.proofs.Places.{outside}
 use Rattle.spl_calm.proofs.Pairs.{to_node, to_node-append}
 use Rattle.spl_calm.proofs.Shapes.{Shape, owns, owns-append, Gives, IsShaped}
@@ -107,7 +107,7 @@ acts-turns d c n t a b e f ruled all =
 -- ---- events
 
 pub acts-tick : (d : Definition) (c : CircuitId) (n : NodeId) (t : ℕ) (a : Member Act) (b : Member Batch) → broken d ≡ None → Gives act_shape d n (Held (open_at d t a b)) (plan_of (site_at n c) (Held (open_at d t a b)) event.Tick) (after_row admin_groups d n a group.Tick) (plan_row admin_groups d n a group.Tick).sends
-acts-tick d c n t a b ruled = if_holds (λ (deed : Deed). ActGives d n (Held (open_at d t a b)) c deed (after_row admin_groups d n a group.Tick) (plan_row admin_groups d n a group.Tick).sends) (is_active_by d a) _ _
+acts-tick d c n t a b ruled = if_holds (λ (deed : Deed). ActGives d n (Held (open_at d t a b)) c deed (after_row admin_groups d n a group.Tick) (plan_row admin_groups d n a group.Tick).sends) (is_running_by d a) _ _
     (λ q. acts-turns d c n t a b group.Tick group.Tick ruled all)
     (λ q. acts-acts d c n n t a b Alone group.Tick ruled all)
   where

@@ -1,4 +1,4 @@
--- The service group of a definition in a calm, where the circuit is active at its members.
+-- The service group of a definition in a calm, where the circuit runs at its members.
 use Rattle.spl_model.specs.Worlds.{site_at}
 use Rattle.std.proofs.Common.{◌≡◌, ◌≢◌, ℕ, ◌⊎◌, Bool, true, false, ◌&&◌, eqb, List, [], ◌∷◌, ◌++◌, refl, sym, ap, subst, ◌∙◌, inl, inr}
 use Rattle.std.specs.Prelude.{Option, Some, None, ◌==◌, if◌then◌else◌, Ok, Err}
@@ -27,7 +27,7 @@ use Rattle.spl_circuit.specs.Positions.{position_below}
 use Rattle.spl_circuit.specs.Same.{node_same}
 use Rattle.spl_agreement.proofs.GroupOfDefinition.{AllPosts, There, there_is, after_row, plan_row, group_of}
 use Rattle.spl_agreement.proofs.GroupWorlds.{admin_groups, service_groups, service_presence}
-use Rattle.spl_calm.specs.Settled.{is_active_by}
+use Rattle.spl_calm.specs.Settled.{is_running_by}
 use Rattle.spl_calm.proofs.Places.{route-members, route-from}
 use Rattle.spl_calm.proofs.Pairs.{to_node, to_node-append}
 use Rattle.spl_calm.proofs.Shapes.{Shape, owned, owns, owns-append, Gives, IsMet, IsShaped}
@@ -48,9 +48,9 @@ own_batch d from to (message.Scabbard i s t x) = if generation_of x == d.generat
 abbrev pub batch_shape : Shape Batch
 batch_shape = record { groups = service_groups; stand = service_presence; own = own_batch }
 
--- bound to the definition, open, and active
-abbrev pub IsActiveIn : Definition → Cell → Type 0
-IsActiveIn d k = (t : ℕ) × (a : Member Act) × (b : Member Batch) × (k ≡ Held (open_at d t a b)) × (is_active_by d a ≡ true)
+-- bound to the definition, open, and running
+abbrev pub IsRunningIn : Definition → Cell → Type 0
+IsRunningIn d k = (t : ℕ) × (a : Member Act) × (b : Member Batch) × (k ≡ Held (open_at d t a b)) × (is_running_by d a ≡ true)
 
 -- its own sends to a member are those to its position
 pub mail-batches : (d : Definition) (c : CircuitId) (n back y : NodeId) (ss : List (ℕ × CommitMsg Batch)) → broken d ≡ None → has_node d.members n ≡ true → has_node d.members y ≡ true → y ≢ n → AllPosts (Lands d n back) ss → owns (own_batch d n y) (to_node y (group_sends (service_lane (site_at n c) d) back ss)) ≡ mail (position d.members y) ss
@@ -114,23 +114,23 @@ batches-turns d c n t a b e f ruled here all =
 
 -- ---- events
 
-pub batches-tick : (d : Definition) (c : CircuitId) (n : NodeId) (t : ℕ) (a : Member Act) (b : Member Batch) → broken d ≡ None → has_node d.members n ≡ true → is_active_by d a ≡ true → Gives batch_shape d n (Held (open_at d t a b)) (plan_of (site_at n c) (Held (open_at d t a b)) event.Tick) (after_row service_groups d n b group.Tick) (plan_row service_groups d n b group.Tick).sends
-batches-tick d c n t a b ruled here h = if_true (λ (deed : Deed). BatchGives d n (Held (open_at d t a b)) c deed (after_row service_groups d n b group.Tick) (plan_row service_groups d n b group.Tick).sends) (is_active_by d a) _ _ h
+pub batches-tick : (d : Definition) (c : CircuitId) (n : NodeId) (t : ℕ) (a : Member Act) (b : Member Batch) → broken d ≡ None → has_node d.members n ≡ true → is_running_by d a ≡ true → Gives batch_shape d n (Held (open_at d t a b)) (plan_of (site_at n c) (Held (open_at d t a b)) event.Tick) (after_row service_groups d n b group.Tick) (plan_row service_groups d n b group.Tick).sends
+batches-tick d c n t a b ruled here h = if_true (λ (deed : Deed). BatchGives d n (Held (open_at d t a b)) c deed (after_row service_groups d n b group.Tick) (plan_row service_groups d n b group.Tick).sends) (is_running_by d a) _ _ h
     (batches-turns d c n t a b group.Tick group.Tick ruled here
     (posts-more _ (Lands d n n) (plan_row service_groups d n b group.Tick).sends (λ q x k. (k, inr refl)) (names-tick (group_of service_groups d) (position d.members n) b)))
 
--- the way of a message at an active cell
-pub way-active : (d : Definition) (c : CircuitId) (n from : NodeId) (s u : ServiceId) (t : ℕ) (a : Member Act) (b : Member Batch) → is_active_by d a ≡ true → way (site_at n c) (open_at d t a b) from s u ≡ route (Some d) true from s u n
-way-active d c n from s u t a b h = ap (λ (z : Bool). route (Some d) z from s u n) h
+-- the way of a message at a running cell
+pub way-running : (d : Definition) (c : CircuitId) (n from : NodeId) (s u : ServiceId) (t : ℕ) (a : Member Act) (b : Member Batch) → is_running_by d a ≡ true → way (site_at n c) (open_at d t a b) from s u ≡ route (Some d) true from s u n
+way-running d c n from s u t a b h = ap (λ (z : Bool). route (Some d) z from s u n) h
 
 pub goes-on : (w : Way) → goes w ≡ true → w ≡ Ok tt
 goes-on (Ok x) h = refl
 goes-on (Err f) h = cc
 
-pub batches-hear : (d : Definition) (c : CircuitId) (n from : NodeId) (t : ℕ) (a : Member Act) (b : Member Batch) (i : CircuitId) (s u : ServiceId) (x : CommitMsg Batch) → broken d ≡ None → has_node d.members n ≡ true → has_node d.members from ≡ true → is_active_by d a ≡ true → (generation_of x == d.generation) ≡ true → goes (route (Some d) true from s u n) ≡ true
+pub batches-hear : (d : Definition) (c : CircuitId) (n from : NodeId) (t : ℕ) (a : Member Act) (b : Member Batch) (i : CircuitId) (s u : ServiceId) (x : CommitMsg Batch) → broken d ≡ None → has_node d.members n ≡ true → has_node d.members from ≡ true → is_running_by d a ≡ true → (generation_of x == d.generation) ≡ true → goes (route (Some d) true from s u n) ≡ true
     → Gives batch_shape d n (Held (open_at d t a b)) (plan_of (site_at n c) (Held (open_at d t a b)) (event.Deliver from (message.Scabbard i s u x))) (after_row service_groups d n b (group.From (position d.members from) x)) (plan_row service_groups d n b (group.From (position d.members from) x)).sends
 batches-hear d c n from t a b i s u x ruled here there h g w =
-    subst (λ (z : Way). BatchGives d n (Held (open_at d t a b)) c (routed z (hears_routed (site_at n c) (open_at d t a b) from s u x)) (after_row service_groups d n b (group.From (position d.members from) x)) (plan_row service_groups d n b (group.From (position d.members from) x)).sends) (sym (way-active d c n from s u t a b h ∙ goes-on (route (Some d) true from s u n) w))
+    subst (λ (z : Way). BatchGives d n (Held (open_at d t a b)) c (routed z (hears_routed (site_at n c) (open_at d t a b) from s u x)) (after_row service_groups d n b (group.From (position d.members from) x)) (plan_row service_groups d n b (group.From (position d.members from) x)).sends) (sym (way-running d c n from s u t a b h ∙ goes-on (route (Some d) true from s u n) w))
     (if_true (λ (deed : Deed). BatchGives d n (Held (open_at d t a b)) c deed (after_row service_groups d n b (group.From (position d.members from) x)) (plan_row service_groups d n b (group.From (position d.members from) x)).sends) (generation_of x == d.generation) _ _ g
     (batches-serves d c n from t a b Delivered (group.From (position d.members from) x) ruled here
     (posts-more (IsPost (group_of service_groups d)) (Lands d n from) (plan_row service_groups d n b (group.From (position d.members from) x)).sends (λ q y k. (k.0, inl k.1)) (posts-message (group_of service_groups d) (position d.members n) b (position d.members from) x (position_below d.members from there)))))
@@ -152,11 +152,11 @@ batches-routed d c n from t a b s u x (Ok y) g = if_holds (λ (deed : Deed). Bat
     other : (y : NodeId) (z : CommitMsg Batch) → generation_of z ≡ generation_of x → (generation_of x == d.generation) ≡ false → own_batch d n y (message.Scabbard c u s z) ≡ None
     other y z e q = none (generation_of z == d.generation) (goes (route (Some d) true n u s y)) z (subst (λ (k : ℕ). eqb k d.generation ≡ false) (sym e) q)
 
-pub batches-pass : (d : Definition) (c : CircuitId) (n from : NodeId) (t : ℕ) (a : Member Act) (b : Member Batch) (x : Message) → broken d ≡ None → is_active_by d a ≡ true → (own_batch d from n x ≡ None) ⊎ (has_node d.members from ≡ false) → Gives batch_shape d n (Held (open_at d t a b)) (plan_of (site_at n c) (Held (open_at d t a b)) (event.Deliver from x)) b []
+pub batches-pass : (d : Definition) (c : CircuitId) (n from : NodeId) (t : ℕ) (a : Member Act) (b : Member Batch) (x : Message) → broken d ≡ None → is_running_by d a ≡ true → (own_batch d from n x ≡ None) ⊎ (has_node d.members from ≡ false) → Gives batch_shape d n (Held (open_at d t a b)) (plan_of (site_at n c) (Held (open_at d t a b)) (event.Deliver from x)) b []
 batches-pass d c n from t a b (message.Admin i x) ruled h o = if_holds (λ (deed : Deed). BatchGives d n (Held (open_at d t a b)) c deed b []) (generation_of x == d.generation) _ _
     (λ q. batches-acts d c n from t a b Delivered (group.From (position d.members from) x))
     (λ q. batches-still d c n t a b (hears_first (site_at n c) (Held (open_at d t a b)) from x) (idle-first batch_shape d n c (open_at d t a b) from x (λ y z e. refl)))
-batches-pass d c n from t a b (message.Scabbard i s u x) ruled h o = batches-routed d c n from t a b s u x (way (site_at n c) (open_at d t a b) from s u) (λ e. other o (sym (way-active d c n from s u t a b h) ∙ e))
+batches-pass d c n from t a b (message.Scabbard i s u x) ruled h o = batches-routed d c n from t a b s u x (way (site_at n c) (open_at d t a b) from s u) (λ e. other o (sym (way-running d c n from s u t a b h) ∙ e))
   where
     other : (own_batch d from n (message.Scabbard i s u x) ≡ None) ⊎ (has_node d.members from ≡ false) → route (Some d) true from s u n ≡ Ok tt → (generation_of x == d.generation) ≡ false
     other (inr k) e = absurd (let z : has_node d.members from ≡ true = route-from d from s u n ruled e in cc)
@@ -168,27 +168,27 @@ batches-pass d c n from t a b (message.Scabbard i s u x) ruled h o = batches-rou
 
 -- ---- the laws
 
--- what holds at a cell that is active
-pub at-active : (d : Definition) (k : Cell) (m : Member Batch) (P : Cell → Member Batch → Type 0) → ((t : ℕ) (a : Member Act) (b : Member Batch) → k ≡ Held (open_at d t a b) → is_active_by d a ≡ true → P (Held (open_at d t a b)) b) → IsActiveIn d k → service_presence k ≡ There d m → P k m
-at-active d k m P f o is = subst (λ (z : Cell). P z m) (sym o.3) (subst (λ (z : Member Batch). P (Held (open_at d o.0 o.1 o.2)) z) (there_is d d o.2 m (sym (ap service_presence o.3) ∙ is)).1 (f o.0 o.1 o.2 o.3 o.4))
+-- what holds at a cell that runs
+pub at-running : (d : Definition) (k : Cell) (m : Member Batch) (P : Cell → Member Batch → Type 0) → ((t : ℕ) (a : Member Act) (b : Member Batch) → k ≡ Held (open_at d t a b) → is_running_by d a ≡ true → P (Held (open_at d t a b)) b) → IsRunningIn d k → service_presence k ≡ There d m → P k m
+at-running d k m P f o is = subst (λ (z : Cell). P z m) (sym o.3) (subst (λ (z : Member Batch). P (Held (open_at d o.0 o.1 o.2)) z) (there_is d d o.2 m (sym (ap service_presence o.3) ∙ is)).1 (f o.0 o.1 o.2 o.3 o.4))
 
-pub batch-shaped : (d : Definition) → broken d ≡ None → IsShaped batch_shape IsActiveIn d
+pub batch-shaped : (d : Definition) → broken d ≡ None → IsShaped batch_shape IsRunningIn d
 batch-shaped d ruled = record {
   opens = λ k o. ap is_open_cell o.3;
-  ticks = λ c n k m met. at-active d k m (λ z b. Gives batch_shape d n z (plan_of (site_at n c) z event.Tick) (after_row service_groups d n b group.Tick) (plan_row service_groups d n b group.Tick).sends)
+  ticks = λ c n k m met. at-running d k m (λ z b. Gives batch_shape d n z (plan_of (site_at n c) z event.Tick) (after_row service_groups d n b group.Tick) (plan_row service_groups d n b group.Tick).sends)
       (λ t a b e h. batches-tick d c n t a b ruled met.member h) met.on met.stands;
   hears = λ c n from k m x y dif h o met. hears c n from k m x y h o met;
-  passes = λ c n from k m x dif o met. at-active d k m (λ z b. Gives batch_shape d n z (plan_of (site_at n c) z (event.Deliver from x)) b [])
+  passes = λ c n from k m x dif o met. at-running d k m (λ z b. Gives batch_shape d n z (plan_of (site_at n c) z (event.Deliver from x)) b [])
       (λ t a b e h. batches-pass d c n from t a b x ruled h o) met.on met.stands;
 }
   where
-    heard : (c : CircuitId) (n from : NodeId) (k : Cell) (m : Member Batch) (i : CircuitId) (s u : ServiceId) (x y : CommitMsg Batch) → has_node d.members from ≡ true → (generation_of x == d.generation) ≡ true → goes (route (Some d) true from s u n) ≡ true → x ≡ y → IsMet batch_shape IsActiveIn d n k m
+    heard : (c : CircuitId) (n from : NodeId) (k : Cell) (m : Member Batch) (i : CircuitId) (s u : ServiceId) (x y : CommitMsg Batch) → has_node d.members from ≡ true → (generation_of x == d.generation) ≡ true → goes (route (Some d) true from s u n) ≡ true → x ≡ y → IsMet batch_shape IsRunningIn d n k m
         → Gives batch_shape d n k (plan_of (site_at n c) k (event.Deliver from (message.Scabbard i s u x))) (after_row service_groups d n m (group.From (position d.members from) y)) (plan_row service_groups d n m (group.From (position d.members from) y)).sends
     heard c n from k m i s u x y there g w same met = subst (λ (z : CommitMsg Batch). Gives batch_shape d n k (plan_of (site_at n c) k (event.Deliver from (message.Scabbard i s u x))) (after_row service_groups d n m (group.From (position d.members from) z)) (plan_row service_groups d n m (group.From (position d.members from) z)).sends) same
-        (at-active d k m (λ z b. Gives batch_shape d n z (plan_of (site_at n c) z (event.Deliver from (message.Scabbard i s u x))) (after_row service_groups d n b (group.From (position d.members from) x)) (plan_row service_groups d n b (group.From (position d.members from) x)).sends)
+        (at-running d k m (λ z b. Gives batch_shape d n z (plan_of (site_at n c) z (event.Deliver from (message.Scabbard i s u x))) (after_row service_groups d n b (group.From (position d.members from) x)) (plan_row service_groups d n b (group.From (position d.members from) x)).sends)
         (λ t a b e h. batches-hear d c n from t a b i s u x ruled met.member there h g w) met.on met.stands)
 
-    hears : (c : CircuitId) (n from : NodeId) (k : Cell) (m : Member Batch) (x : Message) (y : CommitMsg Batch) → has_node d.members from ≡ true → own_batch d from n x ≡ Some y → IsMet batch_shape IsActiveIn d n k m
+    hears : (c : CircuitId) (n from : NodeId) (k : Cell) (m : Member Batch) (x : Message) (y : CommitMsg Batch) → has_node d.members from ≡ true → own_batch d from n x ≡ Some y → IsMet batch_shape IsRunningIn d n k m
         → Gives batch_shape d n k (plan_of (site_at n c) k (event.Deliver from x)) (after_row service_groups d n m (group.From (position d.members from) y)) (plan_row service_groups d n m (group.From (position d.members from) y)).sends
     hears c n from k m (message.Admin i x) y h o met = absurd (let z : ◌≡◌ {A = Option (CommitMsg Batch)} None (Some y) = o in cc)
     hears c n from k m (message.Scabbard i s u x) y h o met = go (bool_cases (generation_of x == d.generation && goes (route (Some d) true from s u n)))

@@ -9,8 +9,9 @@ use Rattle.spl_command.specs.declared.batch.Batch.{Batch}
 use Rattle.spl_model.specs.Worlds.{Occurrence, world_behind}
 use Rattle.spl_model.specs.Calm.{calm}
 use Rattle.spl_model.specs.Plain.{AllPlain}
-use Rattle.spl_calm.specs.Settled.{acts_kept, batches_kept, AtMembers, IsWhole, IsActiveAll, IsSettled}
-use Rattle.spl_calm.proofs.Circuits.{some-member, behind, calm-acts, calm-batches}
+use Rattle.spl_calm.specs.Settled.{acts_kept, batches_kept, AtMembers, IsWhole, RunsAtAll, IsRunningAll, IsSettled}
+use Rattle.spl_calm.proofs.Circuits.{some-member, behind, calm-acts}
+use Rattle.spl_calm.proofs.Quiet.{quiet-batches}
 
 pub whole-behind : (ns : List NodeId) (es : List Occurrence) (c : CircuitId) (k : ℕ) (d : Definition) → AllPlain es → IsWhole (world_behind ns es) d → IsWhole (calm c (world_behind ns es) k).world d
 whole-behind ns es c k d plain whole = go (some-member d)
@@ -19,8 +20,8 @@ whole-behind ns es c k d plain whole = go (some-member d)
     go (inl n) = (calm-acts c k (0 + length es) (world_behind ns es) d n.0 (behind ns es plain).0 (behind ns es plain).1 whole n.1).whole
     go (inr none) = record { registered = λ n h. absurd (none n h); up = λ n h. absurd (none n h); open_cells = λ n h. absurd (none n h) }
 
-pub active-behind : (ns : List NodeId) (es : List Occurrence) (c : CircuitId) (k : ℕ) (d : Definition) → AllPlain es → IsWhole (world_behind ns es) d → IsActiveAll (world_behind ns es) d → IsActiveAll (calm c (world_behind ns es) k).world d
-active-behind ns es c k d plain whole active n h = (calm-batches c k (0 + length es) (world_behind ns es) d n (behind ns es plain).0 (behind ns es plain).1 whole active h).active n h
+pub runs-behind : (ns : List NodeId) (es : List Occurrence) (c : CircuitId) (k : ℕ) (d : Definition) → AllPlain es → IsWhole (world_behind ns es) d → IsRunningAll (world_behind ns es) d → RunsAtAll (calm c (world_behind ns es) k).world d
+runs-behind ns es c k d plain whole running n h = (quiet-batches c k (0 + length es) (world_behind ns es) d n (behind ns es plain).0 (behind ns es plain).1 whole running h).runs n h
 
 pub idle-behind : (ns : List NodeId) (es : List Occurrence) (c : CircuitId) (k : ℕ) (d : Definition) (n : NodeId) → AllPlain es → is_member d n ≡ true → IsWhole (world_behind ns es) d → AtMembers d (λ j. (acts_kept (world_behind ns es) j).pending ≡ []) → (acts_kept (world_behind ns es) (admin d)).opened ≡ None → (acts_kept (calm c (world_behind ns es) k).world (admin d)).history ≡ (acts_kept (world_behind ns es) (admin d)).history
 idle-behind ns es c k d n plain member whole empty shut = (calm-acts c k (0 + length es) (world_behind ns es) d n (behind ns es plain).0 (behind ns es plain).1 whole member).idles empty shut
@@ -32,9 +33,9 @@ settle-acts ns es c k d v rest plain few six whole first = go (some-member d)
     go (inl n) = (calm-acts c k (0 + length es) (world_behind ns es) d n.0 (behind ns es plain).0 (behind ns es plain).1 whole n.1).settles v rest (omega (arith, few)) six first
     go (inr none) = inl (λ n h. absurd (none n h))
 
-pub settle-batches : (ns : List NodeId) (es : List Occurrence) (c : CircuitId) (k : ℕ) (d : Definition) (v : Batch) (rest : List Batch) → AllPlain es → length es ≤ 32768 → 6 ≤ k → IsWhole (world_behind ns es) d → IsActiveAll (world_behind ns es) d → (batches_kept (world_behind ns es) (service d)).pending ≡ v ∷ rest → IsSettled d (service d) v (batches_kept (calm c (world_behind ns es) k).world)
-settle-batches ns es c k d v rest plain few six whole active first = go (some-member d)
+pub settle-batches : (ns : List NodeId) (es : List Occurrence) (c : CircuitId) (k : ℕ) (d : Definition) (v : Batch) (rest : List Batch) → AllPlain es → length es ≤ 32768 → 6 ≤ k → IsWhole (world_behind ns es) d → IsRunningAll (world_behind ns es) d → (batches_kept (world_behind ns es) (service d)).pending ≡ v ∷ rest → IsSettled d (service d) v (batches_kept (calm c (world_behind ns es) k).world)
+settle-batches ns es c k d v rest plain few six whole running first = go (some-member d)
   where
     go : ((n : NodeId) × (is_member d n ≡ true)) ⊎ ((n : NodeId) → is_member d n ≡ true → ⊥) → IsSettled d (service d) v (batches_kept (calm c (world_behind ns es) k).world)
-    go (inl n) = (calm-batches c k (0 + length es) (world_behind ns es) d n.0 (behind ns es plain).0 (behind ns es plain).1 whole active n.1).settles v rest (omega (arith, few)) six first
+    go (inl n) = (quiet-batches c k (0 + length es) (world_behind ns es) d n.0 (behind ns es plain).0 (behind ns es plain).1 whole running n.1).settles v rest (omega (arith, few)) six first
     go (inr none) = inl (λ n h. absurd (none n h))

@@ -11,7 +11,7 @@ use Rattle.spl_circuit.specs.Rules.{broken, admin, service, is_member}
 use Rattle.spl_command.specs.declared.batch.Batch.{Batch}
 use Rattle.spl_rules.specs.Cells.{Cell, Held}
 use Rattle.spl_settle.specs.Bound.{InHistory, IsPending, IsRefused, Settles}
-use Rattle.spl_model.specs.Worlds.{Sent, World, first_world, Occurrence, world_behind}
+use Rattle.spl_model.specs.Worlds.{Sent, World, empty_world, Occurrence, world_behind}
 use Rattle.spl_model.specs.Calm.{calm}
 use Rattle.spl_model.specs.Plain.{AllPlain}
 use Rattle.spl_circuit.specs.Positions.{position_below}
@@ -21,12 +21,12 @@ use Rattle.spl_agreement.proofs.GroupOfDefinition.{Groups, There, there_is, grou
 use Rattle.spl_agreement.proofs.GroupBindings.{away_not}
 use Rattle.spl_agreement.proofs.GroupWorlds.{admin_groups, service_groups, admin_presence, service_presence, admin_said, service_said, IsValid, IsValidCell}
 use Rattle.spl_agreement.proofs.Occurrences.{world-start}
-use Rattle.spl_calm.specs.Settled.{is_active_by, cell_acts, cell_batches, acts_kept, batches_kept, IsOpenIn, AtMembers, IsWhole, IsActiveAll, IsSettled}
+use Rattle.spl_calm.specs.Settled.{is_running_by, cell_acts, cell_batches, acts_kept, batches_kept, IsOpenIn, AtMembers, IsWhole, RunsAtAll, IsSettled}
 use Rattle.spl_calm.proofs.Coupled.{IsCoupled}
 use Rattle.spl_calm.proofs.Lasting.{IsCarried}
-use Rattle.spl_calm.proofs.Members.{CellsAre, cells-last, open-keeps, active-keeps}
+use Rattle.spl_calm.proofs.Members.{CellsAre, cells-last, open-keeps}
 use Rattle.spl_calm.proofs.ActShape.{act_shape, act-shaped, IsOpenTo}
-use Rattle.spl_calm.proofs.BatchShape.{batch_shape, batch-shaped, IsActiveIn}
+use Rattle.spl_calm.proofs.BatchShape.{batch_shape, IsRunningIn}
 use Rattle.spl_calm.proofs.Tame.{IsTame, keyed-acts, keyed-batches}
 use Rattle.spl_calm.proofs.TameRuns.{IsTameCell, AllTame, tame-run}
 use Rattle.spl_calm.proofs.Settles.{IsReached, reached-groups, fit-groups, IsCalm, all_taken, calm-group}
@@ -40,14 +40,8 @@ open-to d _ o = absurd o
 pub open-in : (d : Definition) (k : Cell) → IsOpenTo d k → IsOpenIn d k
 open-in d k o = subst (IsOpenIn d) (sym o.3) (refl, refl)
 
-pub active-in : (d : Definition) (k : Cell) → IsOpenIn d k → is_active_by d (cell_acts k) ≡ true → IsActiveIn d k
-active-in d k o h = let x : IsOpenTo d k = open-to d k o in (x.0, x.1, x.2, x.3, subst (λ (z : Cell). is_active_by d (cell_acts z) ≡ true) x.3 h)
-
-pub active-open : (d : Definition) (k : Cell) → IsActiveIn d k → IsOpenIn d k
-active-open d k o = subst (IsOpenIn d) (sym o.3) (refl, refl)
-
-pub active-runs : (d : Definition) (k : Cell) → IsActiveIn d k → is_active_by d (cell_acts k) ≡ true
-active-runs d k o = subst (λ (z : Cell). is_active_by d (cell_acts z) ≡ true) (sym o.3) o.4
+pub running-by : (d : Definition) (k : Cell) → IsRunningIn d k → is_running_by d (cell_acts k) ≡ true
+running-by d k o = subst (λ (z : Cell). is_running_by d (cell_acts z) ≡ true) (sym o.3) o.4
 
 -- what the groups see of a cell is what it keeps
 pub acts-there : (d : Definition) (k : Cell) (m : Member Act) → admin_presence k ≡ There d m → cell_acts k ≡ m
@@ -70,7 +64,7 @@ tame-batches n sent count _ d m t h = absurd (away_not d m h)
 
 -- behind anything that happened
 pub behind : (ns : List NodeId) (es : List Occurrence) → AllPlain es → IsCoupled (world_behind ns es) × AllTame (0 + length es) (world_behind ns es)
-behind ns es h = tame-run 0 (first_world ns) es h ([], (λ f. []), (λ f. []), world-start) (λ n. tt)
+behind ns es h = tame-run 0 (empty_world ns) es h ([], (λ f. []), (λ f. []), world-start) (λ n. tt)
 
 -- the definition of a bound member breaks no rule
 pub ruled-whole : (w : World) (d : Definition) (n : NodeId) → IsCoupled w → IsWhole w d → is_member d n ≡ true → broken d ≡ None
@@ -140,17 +134,13 @@ calm-acts c k count w d n coupled tame whole member = go (reached-groups admin_g
 
 -- ---- batches
 
--- the service group is carried by active cells
-pub batches-carried : (d : Definition) → broken d ≡ None → IsCarried batch_shape IsActiveIn d (CellsAre d (IsActiveIn d))
-batches-carried d ruled = record { ruled = ruled; shaped = batch-shaped d ruled; lasts = cells-last d (IsActiveIn d) (active-keeps d); on = λ w taken q n h. q.1 n h }
-
--- behind a calm the circuit is active still, and a first pending batch is settled
+-- behind a calm the circuit runs still, and a first pending batch is settled
 pub record BatchesCalm (c : CircuitId) (k count : ℕ) (w : World) (d : Definition) : Type 0 where
-  pub active : IsActiveAll (calm c w k).world d
+  pub runs : RunsAtAll (calm c w k).world d
   pub settles : (v : Batch) (rest : List Batch) → count ≤ 32768 → 6 ≤ k → (batches_kept w (service d)).pending ≡ v ∷ rest → IsSettled d (service d) v (batches_kept (calm c w k).world)
 
 -- by any fact that carries the group
-pub calm-batches-by : (c : CircuitId) (k count : ℕ) (w : World) (d : Definition) (Inv : World → (NodeId → NodeId → ℕ) → Type 0) → IsCarried batch_shape IsActiveIn d Inv → Inv w (all_taken w) → IsCoupled w → AllTame count w → IsWhole w d → BatchesCalm c k count w d
+pub calm-batches-by : (c : CircuitId) (k count : ℕ) (w : World) (d : Definition) (Inv : World → (NodeId → NodeId → ℕ) → Type 0) → IsCarried batch_shape IsRunningIn d Inv → Inv w (all_taken w) → IsCoupled w → AllTame count w → IsWhole w d → BatchesCalm c k count w d
 calm-batches-by c k count w d Inv run inv coupled tame whole = go (reached-groups service_groups d count coupled.0 (λ j. service_presence (w.at j)) (service_said w.sent) (coupled.2 d) leads there (λ j m h. tame-batches j w.sent count (w.at j) d m (tame j) h) (coupled.3.services d))
   where
     leads : has_node d.members (service d) ≡ true
@@ -160,15 +150,12 @@ calm-batches-by c k count w d Inv run inv coupled tame whole = go (reached-group
     there j h = let o : IsOpenTo d (w.at j) = open-to d (w.at j) (whole.open_cells j h) in (o.2, ap service_presence o.3)
 
     go : (g : GroupWorld Batch) × IsReached service_groups d count (λ j. service_presence (w.at j)) g → BatchesCalm c k count w d
-    go r = calmed (calm-group batch_shape IsActiveIn d Inv run c k w r.0 inv (record { registered = whole.registered; up = whole.up; same = r.1.same }))
+    go r = calmed (calm-group batch_shape IsRunningIn d Inv run c k w r.0 inv (record { registered = whole.registered; up = whole.up; same = r.1.same }))
       where
         calmed : IsCalm batch_shape d Inv k (calm c w k) r.0 → BatchesCalm c k count w d
         calmed x = record {
-          active = λ j h. active-runs d ((calm c w k).world.at j) (run.on (calm c w k).world (calm c w k).taken x.inv j h);
+          runs = λ j h. running-by d ((calm c w k).world.at j) (run.on (calm c w k).world (calm c w k).taken x.inv j h);
           settles = λ v rest few six first. settled-from service_groups d v x.group (batches_kept (calm c w k).world) run.ruled leads (λ j h. batches-there d ((calm c w k).world.at j) (x.group.at (position d.members j)) (x.calmed.same j h))
               (x.settles v rest six (fit-groups service_groups d count (λ j. service_presence (w.at j)) r.0 keyed-batches run.ruled leads few r.1)
               (subst (λ (z : Member Batch). z.pending ≡ v ∷ rest) (batches-there d (w.at (service d)) (r.0.at (position d.members (service d))) (r.1.same (service d) leads)) first));
         }
-
-pub calm-batches : (c : CircuitId) (k count : ℕ) (w : World) (d : Definition) (n : NodeId) → IsCoupled w → AllTame count w → IsWhole w d → IsActiveAll w d → is_member d n ≡ true → BatchesCalm c k count w d
-calm-batches c k count w d n coupled tame whole active member = calm-batches-by c k count w d (CellsAre d (IsActiveIn d)) (batches-carried d (ruled-whole w d n coupled whole member)) (coupled, λ j h. active-in d (w.at j) (whole.open_cells j h) (active j h)) coupled tame whole

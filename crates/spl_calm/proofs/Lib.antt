@@ -5,7 +5,6 @@ pub mod Sends
 pub mod Landing
 pub mod Idles
 pub mod ActShape
-pub mod Active
 pub mod BatchShape
 pub mod Stays
 pub mod Lasting
@@ -19,5 +18,6 @@ pub mod Tame
 pub mod TameRuns
 pub mod Settles
 pub mod Circuits
+pub mod Quiet
 pub mod Behind
 pub mod Whole

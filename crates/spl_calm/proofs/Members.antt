@@ -1,4 +1,4 @@
--- What holds of each member's cell all through a calm: it is open, and active where it is.
+-- What holds of each member's cell all through a calm: it is open.
 use Rattle.std.proofs.Common.{◌≡◌, ◌≢◌, ℕ, ◌-◌, ◌⊎◌, true, sym, subst, inl, inr}
 use Rattle.std.specs.Prelude.{Option, Some, None, slice_get}
 use Rattle.spl_agree.specs.Member.{Member}
@@ -24,10 +24,8 @@ use Rattle.spl_model.proofs.Nodes.{node_cases}
 use Rattle.spl_agreement.proofs.GroupWorlds.{IsValidCell}
 use Rattle.spl_model.proofs.Puts.{put_at-same, put_at-other}
 use Rattle.spl_model.proofs.Unmoved.{moved-keep}
-use Rattle.spl_calm.specs.Settled.{is_active_by}
 use Rattle.spl_calm.proofs.ActShape.{IsOpenTo}
-use Rattle.spl_calm.proofs.BatchShape.{IsActiveIn}
-use Rattle.spl_calm.proofs.Stays.{StaysOpen, stays-tick, stays-deliver, stays-active}
+use Rattle.spl_calm.proofs.Stays.{StaysOpen, stays-tick, stays-deliver}
 use Rattle.spl_calm.proofs.Coupled.{IsCoupled, coupled-step, valid-behind}
 use Rattle.spl_calm.proofs.Lasting.{IsLasting}
 
@@ -81,7 +79,7 @@ cells-last d P keeps = record {
     deliver : (c : CircuitId) (from to : NodeId) (w : World) (number : ℕ) → Kept to (w.at to) (step_plan w (step.Deliver from to c number))
     deliver c from to w number = if_holds (Kept to (w.at to)) (w.up to) _ _ (λ u. by_message c from to w (slice_get (messages w from to) (number - 1))) (λ u p v. told-keeps P to (w.at to) (answer.Refused refusal.Down) p)
 
--- ---- open, and active
+-- ---- open
 
 pub open-keeps : (d : Definition) → KeepsCell (IsOpenTo d)
 open-keeps d = record {
@@ -91,12 +89,3 @@ open-keeps d = record {
   where
     opened : (n : NodeId) (a : Member Act) (k : Cell) → StaysOpen d n a k → IsOpenTo d k
     opened n a k s = (s.turn, s.acts, s.batches, s.held)
-
-pub active-keeps : (d : Definition) → KeepsCell (IsActiveIn d)
-active-keeps d = record {
-  ticks = λ c n k o v. subst (λ (z : Cell). IsValidCell n (after_plan n z (plan_of (site_at n c) z event.Tick)) → IsActiveIn d (after_plan n z (plan_of (site_at n c) z event.Tick))) (sym o.3) (active n o.1 _ (stays-tick c n d o.0 o.1 o.2) o.4) v;
-  delivers = λ c n from x k o v. subst (λ (z : Cell). IsValidCell n (after_plan n z (plan_of (site_at n c) z (event.Deliver from x))) → IsActiveIn d (after_plan n z (plan_of (site_at n c) z (event.Deliver from x)))) (sym o.3) (active n o.1 _ (stays-deliver c n from d o.0 o.1 o.2 x) o.4) v;
-}
-  where
-    active : (n : NodeId) (a : Member Act) (k : Cell) → StaysOpen d n a k → is_active_by d a ≡ true → IsValidCell n k → IsActiveIn d k
-    active n a k s h v = (s.turn, s.acts, s.batches, s.held, stays-active d n a k s v h)

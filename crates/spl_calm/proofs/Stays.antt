@@ -1,19 +1,18 @@
--- In a calm an open cell of a circuit stays open, and active where it is.
+-- In a calm an open cell of a circuit stays open.
 use Rattle.spl_model.specs.Worlds.{site_at}
-use Rattle.std.proofs.Common.{◌≡◌, ℕ, ◌⊎◌, true, [], refl, sym, subst, inl, inr}
+use Rattle.std.proofs.Common.{◌≡◌, ℕ, ◌⊎◌, refl, sym, subst, inl, inr}
 use Rattle.std.specs.Prelude.{◌==◌, Ok, Err}
 use Rattle.spl_agree.specs.declared.event.GroupEvent.{GroupEvent}
 use Rattle.spl_agree.specs.declared.event.GroupEvent.TheVariants as group
 use Rattle.spl_agree.specs.declared.plan.GroupPlan.{GroupPlan}
 use Rattle.spl_agree.specs.declared.message.CommitMsg.{CommitMsg}
-use Rattle.spl_agree.specs.Member.{Member, values}
-use Rattle.spl_agree.specs.Fits.{AllGood, generation_of}
+use Rattle.spl_agree.specs.Member.{Member}
+use Rattle.spl_agree.specs.Fits.{generation_of}
 use Rattle.spl_agree.specs.World.{after}
 use Rattle.spl_agree.proofs.Tests.{if_holds}
 use Rattle.spl_circuit.specs.declared.definition.Definition.{Definition}
 use Rattle.spl_circuit.specs.declared.act.Act.{Act}
 use Rattle.spl_circuit.specs.Nodes.{NodeId, CircuitId, ServiceId, position}
-use Rattle.spl_circuit.specs.Acts.{act_rules}
 use Rattle.spl_circuit.specs.Routing.{Way}
 use Rattle.spl_command.specs.declared.batch.Batch.{Batch}
 use Rattle.spl_wire.specs.declared.message.Message.{Message}
@@ -24,14 +23,13 @@ use Rattle.spl_rules.specs.Batches.{routed, way, hears_routed, serves_other}
 use Rattle.spl_rules.specs.Changes.{after_plan}
 use Rattle.spl_rules.specs.Plans.{planned, plan_of}
 use Rattle.spl_agreement.proofs.GroupOfDefinition.{after_row, plan_row, group_of}
-use Rattle.spl_agreement.proofs.GroupWorlds.{admin_groups, service_groups, IsValid, IsValidCell}
-use Rattle.spl_calm.specs.Settled.{is_active_by}
+use Rattle.spl_agreement.proofs.GroupWorlds.{admin_groups, service_groups}
+use Rattle.spl_calm.specs.Settled.{is_running_by}
 use Rattle.spl_calm.proofs.Landing.{open_at, after-acts, after-serves, after-both}
 use Rattle.spl_calm.proofs.Idles.{IsIdle, idle-first, idle-other}
 use Rattle.spl_calm.proofs.ActShape.{act_shape}
 use Rattle.spl_calm.proofs.BatchShape.{batch_shape}
 use Rattle.spl_calm.proofs.Shapes.{Shape}
-use Rattle.spl_calm.proofs.Active.{active-after}
 
 -- what a calm does at an open cell
 abbrev pub IsCalmDeed : Bound → Deed → Type 0
@@ -85,7 +83,7 @@ idle-calm s e n b _ h = absurd h
 
 -- a tick
 pub stays-tick : (c : CircuitId) (n : NodeId) (d : Definition) (t : ℕ) (a : Member Act) (b : Member Batch) → StaysOpen d n a (after_plan n (Held (open_at d t a b)) (plan_of (site_at n c) (Held (open_at d t a b)) event.Tick))
-stays-tick c n d t a b = if_holds (λ (deed : Deed). StaysOpen d n a (after_plan n (Held (open_at d t a b)) (planned (site_at n c) deed))) (is_active_by d a) _ _ (λ q. stays-turns c n d t a b group.Tick group.Tick) (λ q. stays-acts c n d t a b Alone n group.Tick)
+stays-tick c n d t a b = if_holds (λ (deed : Deed). StaysOpen d n a (after_plan n (Held (open_at d t a b)) (planned (site_at n c) deed))) (is_running_by d a) _ _ (λ q. stays-turns c n d t a b group.Tick group.Tick) (λ q. stays-acts c n d t a b Alone n group.Tick)
 
 -- any message
 pub calm-routed : (c : CircuitId) (n : NodeId) (b : Bound) (from : NodeId) (s u : ServiceId) (x : CommitMsg Batch) (w : Way) → IsCalmDeed b (routed w (hears_routed (site_at n c) b from s u x))
@@ -97,14 +95,3 @@ stays-deliver c n from d t a b (message.Scabbard i s u x) = stays-deed c n d t a
 stays-deliver c n from d t a b (message.Admin i x) = if_holds (λ (deed : Deed). StaysOpen d n a (after_plan n (Held (open_at d t a b)) (planned (site_at n c) deed))) (generation_of x == d.generation) _ _
     (λ q. stays-acts c n d t a b Delivered from (group.From (position d.members from) x))
     (λ q. stays-deed c n d t a b (hears_first (site_at n c) (Held (open_at d t a b)) from x) (idle-calm batch_shape d n (open_at d t a b) (hears_first (site_at n c) (Held (open_at d t a b)) from x) (idle-first batch_shape d n c (open_at d t a b) from x (λ y z e. refl))))
-
--- where the cell is valid behind it, it is active still
-pub stays-active : (d : Definition) (n : NodeId) (a : Member Act) (k : Cell) (s : StaysOpen d n a k) → IsValidCell n k → is_active_by d a ≡ true → is_active_by d s.acts ≡ true
-stays-active d n a k s v h = go s.grown
-  where
-    here : IsValid d n s.acts s.batches
-    here = subst (λ (z : Cell). IsValidCell n z) s.held v
-
-    go : (s.acts ≡ a) ⊎ ((p : GroupPlan Act) × (s.acts ≡ after (group_of admin_groups d) (position d.members n) a p)) → is_active_by d s.acts ≡ true
-    go (inl e) = subst (λ (z : Member Act). is_active_by d z ≡ true) (sym e) h
-    go (inr p) = subst (λ (z : Member Act). is_active_by d z ≡ true) (sym p.1) (active-after d (position d.members n) a p.0 h (subst (λ (z : Member Act). AllGood (act_rules d) [] (values z.history)) p.1 here.acts.good))

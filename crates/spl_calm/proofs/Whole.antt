@@ -7,26 +7,26 @@ use Rattle.spl_circuit.specs.Rules.{admin, service}
 use Rattle.spl_circuit.specs.Same.{node_same}
 use Rattle.spl_command.specs.declared.batch.Batch.{Batch}
 use Rattle.spl_sched.specs.declared.line.Line.TheVariants as line
-use Rattle.spl_model.specs.Worlds.{World, first_world, world_behind}
+use Rattle.spl_model.specs.Worlds.{blank, World, empty_world, world_behind}
 use Rattle.spl_model.specs.Calm.{calm}
 use Rattle.spl_model.specs.Projection.{Ran, plainly, lines_fit}
 use Rattle.spl_projection.specs.Whole.{whole_world}
 use Rattle.spl_projection.specs.Apart.{moves-own}
 use Rattle.spl_projection.specs.Happened.{whole_happened}
 use Rattle.spl_projection.proofs.Happens.{whole-run, plain-whole}
-use Rattle.spl_calm.specs.Settled.{acts_kept, batches_kept, IsWhole, IsActiveAll, IsSettled}
+use Rattle.spl_calm.specs.Settled.{acts_kept, batches_kept, IsWhole, IsRunningAll, IsSettled}
 use Rattle.spl_calm.proofs.Behind.{settle-acts, settle-batches}
 
-ran : (ns : List NodeId) (c : CircuitId) (rs : List Ran) → whole_world ns c rs ≡ world_behind ns (whole_happened ns c rs)
-ran ns c rs = whole-run c (first_world ns) rs
+ran : (ns : List NodeId) (c : CircuitId) (rs : List Ran) → whole_world (blank ns) c rs ≡ world_behind ns (whole_happened (blank ns) c rs)
+ran ns c rs = whole-run c (empty_world ns) rs
 
-next-calm : (ns : List NodeId) (c : CircuitId) (k : ℕ) (rs : List Ran) → whole_world ns c (rs ++ plainly (line.Calm c k) ∷ []) ≡ (calm c (whole_world ns c rs) k).world
-next-calm ns c k rs = moves-own ns rs (plainly (line.Calm c k)) c (node_same c)
+next-calm : (ns : List NodeId) (c : CircuitId) (k : ℕ) (rs : List Ran) → whole_world (blank ns) c (rs ++ plainly (line.Calm c k) ∷ []) ≡ (calm c (whole_world (blank ns) c rs) k).world
+next-calm ns c k rs = moves-own (blank ns) rs (plainly (line.Calm c k)) c (node_same c)
 
-pub lines-acts : (ns : List NodeId) (rs : List Ran) (c : CircuitId) (k : ℕ) (d : Definition) (v : Act) (rest : List Act) → lines_fit rs ≡ true → length (whole_happened ns c rs) ≤ 32768 → 6 ≤ k → IsWhole (whole_world ns c rs) d → (acts_kept (whole_world ns c rs) (admin d)).pending ≡ v ∷ rest → IsSettled d (admin d) v (acts_kept (whole_world ns c (rs ++ plainly (line.Calm c k) ∷ [])))
+pub lines-acts : (ns : List NodeId) (rs : List Ran) (c : CircuitId) (k : ℕ) (d : Definition) (v : Act) (rest : List Act) → lines_fit rs ≡ true → length (whole_happened (blank ns) c rs) ≤ 32768 → 6 ≤ k → IsWhole (whole_world (blank ns) c rs) d → (acts_kept (whole_world (blank ns) c rs) (admin d)).pending ≡ v ∷ rest → IsSettled d (admin d) v (acts_kept (whole_world (blank ns) c (rs ++ plainly (line.Calm c k) ∷ [])))
 lines-acts ns rs c k d v rest h few six whole first = subst (λ (w : World). IsSettled d (admin d) v (acts_kept w)) (sym (next-calm ns c k rs))
-    (subst (λ (w : World). IsWhole w d → (acts_kept w (admin d)).pending ≡ v ∷ rest → IsSettled d (admin d) v (acts_kept (calm c w k).world)) (sym (ran ns c rs)) (settle-acts ns (whole_happened ns c rs) c k d v rest (plain-whole c (first_world ns) rs h) few six) whole first)
+    (subst (λ (w : World). IsWhole w d → (acts_kept w (admin d)).pending ≡ v ∷ rest → IsSettled d (admin d) v (acts_kept (calm c w k).world)) (sym (ran ns c rs)) (settle-acts ns (whole_happened (blank ns) c rs) c k d v rest (plain-whole c (empty_world ns) rs h) few six) whole first)
 
-pub lines-batches : (ns : List NodeId) (rs : List Ran) (c : CircuitId) (k : ℕ) (d : Definition) (v : Batch) (rest : List Batch) → lines_fit rs ≡ true → length (whole_happened ns c rs) ≤ 32768 → 6 ≤ k → IsWhole (whole_world ns c rs) d → IsActiveAll (whole_world ns c rs) d → (batches_kept (whole_world ns c rs) (service d)).pending ≡ v ∷ rest → IsSettled d (service d) v (batches_kept (whole_world ns c (rs ++ plainly (line.Calm c k) ∷ [])))
-lines-batches ns rs c k d v rest h few six whole active first = subst (λ (w : World). IsSettled d (service d) v (batches_kept w)) (sym (next-calm ns c k rs))
-    (subst (λ (w : World). IsWhole w d → IsActiveAll w d → (batches_kept w (service d)).pending ≡ v ∷ rest → IsSettled d (service d) v (batches_kept (calm c w k).world)) (sym (ran ns c rs)) (settle-batches ns (whole_happened ns c rs) c k d v rest (plain-whole c (first_world ns) rs h) few six) whole active first)
+pub lines-batches : (ns : List NodeId) (rs : List Ran) (c : CircuitId) (k : ℕ) (d : Definition) (v : Batch) (rest : List Batch) → lines_fit rs ≡ true → length (whole_happened (blank ns) c rs) ≤ 32768 → 6 ≤ k → IsWhole (whole_world (blank ns) c rs) d → IsRunningAll (whole_world (blank ns) c rs) d → (batches_kept (whole_world (blank ns) c rs) (service d)).pending ≡ v ∷ rest → IsSettled d (service d) v (batches_kept (whole_world (blank ns) c (rs ++ plainly (line.Calm c k) ∷ [])))
+lines-batches ns rs c k d v rest h few six whole running first = subst (λ (w : World). IsSettled d (service d) v (batches_kept w)) (sym (next-calm ns c k rs))
+    (subst (λ (w : World). IsWhole w d → IsRunningAll w d → (batches_kept w (service d)).pending ≡ v ∷ rest → IsSettled d (service d) v (batches_kept (calm c w k).world)) (sym (ran ns c rs)) (settle-batches ns (whole_happened (blank ns) c rs) c k d v rest (plain-whole c (empty_world ns) rs h) few six) whole running first)

@@ -1,12 +1,12 @@
 -- What a calm needs of a circuit, and what it gives (docs/RULES.md, Calm).
-use Rattle.std.specs.Prelude.{◌≡◌, ◌⊎◌, Bool, true}
+use Rattle.std.specs.Prelude.{◌≡◌, ◌⊎◌, Bool, true, [], None}
 use Rattle.spl_agree.specs.Member.{Member, new_member, values}
 use Rattle.spl_circuit.specs.declared.definition.Definition.{Definition}
 use Rattle.spl_circuit.specs.declared.act.Act.{Act}
 use Rattle.spl_circuit.specs.declared.lifecycle.Mark.TheVariants as mark
 use Rattle.spl_circuit.specs.Nodes.{NodeId, has_node}
-use Rattle.spl_circuit.specs.Rules.{is_member}
-use Rattle.spl_circuit.specs.Lifecycle.{life, is_active}
+use Rattle.spl_circuit.specs.Rules.{admin, is_member}
+use Rattle.spl_circuit.specs.Lifecycle.{life, is_running}
 use Rattle.spl_command.specs.declared.batch.Batch.{Batch}
 use Rattle.spl_settle.specs.Bound.{InHistory, IsPending, IsRefused}
 use Rattle.spl_rules.specs.Cells.{Cell, Held}
@@ -43,13 +43,19 @@ pub record IsWhole (w : World) (d : Definition) : Type 0 where
   pub up : AtMembers d (λ n. w.up n ≡ true)
   pub open_cells : AtMembers d (λ n. IsOpenIn d (w.at n))
 
--- what is kept of acts has made the circuit active
-abbrev pub is_active_by : Definition → Member Act → Bool
-is_active_by d a = is_active (life d (values a.history)).state
+-- by what is kept of acts the circuit runs
+abbrev pub is_running_by : Definition → Member Act → Bool
+is_running_by d a = is_running (life d (values a.history)).state
 
--- the circuit is active at all members
-abbrev pub IsActiveAll : World → Definition → Type 0
-IsActiveAll w d = AtMembers d (λ n. is_active_by d (acts_kept w n) ≡ true)
+-- the circuit runs at all members
+abbrev pub RunsAtAll : World → Definition → Type 0
+RunsAtAll w d = AtMembers d (λ n. is_running_by d (acts_kept w n) ≡ true)
+
+-- it goes on so in a calm: no act is pending at a member, and the coordinator has no round of acts open
+pub record IsRunningAll (w : World) (d : Definition) : Type 0 where
+  pub runs : RunsAtAll w d
+  pub idle : AtMembers d (λ n. (acts_kept w n).pending ≡ [])
+  pub shut : (acts_kept w (admin d)).opened ≡ None
 
 -- the value is in the history of every member, or the coordinator has refused it and it is pending at no member
 abbrev pub IsSettled : {V : Type 0} → Definition → NodeId → V → (NodeId → Member V) → Type 0

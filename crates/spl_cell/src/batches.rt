@@ -14,7 +14,7 @@ use spl_wire::{Answer, BatchStatus, Entries, Entry, Plan, Refusal};
 use std::alloc::{AllocError, Global};
 
 /// A question about the batches that are committed here.
-#[derive(Clone, Copy, Debug)]
+#[derive(Clone, Copy)]
 pub(crate) enum Question {
     Root,
     History,
@@ -137,7 +137,7 @@ impl Held {
     pub(crate) fn asks(&self, alloc: Global, question: Question) -> Result<Plan, AllocError>
         ensures { IfOk result (λ p. p ≡ planned self.now.site (when_active self.now.bound (asks self.now.bound.batches question))) }
     {
-        if !self.is_active() {
+        if !self.runs() {
             return Ok(refuses(alloc, Refusal::NotActive));
         }
         Ok(tells_only(alloc, self.answers(alloc, question)?))

@@ -183,7 +183,7 @@ impl Site {
                 Ok(State::Held(held))
             }
             Change::Abandon => {
-                if held.is_open() && held.is_active() {
+                if held.is_open() && held.runs() {
                     held.mark = Mark::Abandoned;
                 }
                 Ok(State::Held(held))

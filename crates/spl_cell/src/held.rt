@@ -4,6 +4,8 @@ ghost use Rattle.spl_agree.specs.Member.{values, new_member};
 ghost use Rattle.spl_agree.specs.Fits.{IsDue};
 ghost use Rattle.spl_circuit.specs.Nodes.{position, has_node};
 ghost use Rattle.spl_circuit.specs.Rules.{broken, is_member};
+ghost use Rattle.spl_circuit.specs.Lifecycle.{current, disbanding_of};
+ghost use Rattle.spl_circuit.specs.Acts.{is_node};
 ghost use Rattle.spl_rules.specs.Cells.{Acts, Serves, fresh, admin_group, service_group, own_life, is_active_here, runs, keeps_batches, accepted_in_order};
 ghost use Rattle.spl_rules.specs.Plans.{admin_lane, service_lane, group_row, planned};
 ghost use Rattle.spl_cell.specs.Says.{say_of};
@@ -14,7 +16,7 @@ use crate::node::position;
 use crate::plans::Say;
 use crate::site::Site;
 use spl_admin::Ledger;
-use spl_agree::{Generation, GroupEvent, GroupPlan};
+use spl_agree::{Generation, GroupEvent, GroupPlan, Place};
 use spl_base::{Boxed, NodeId};
 use spl_circuit::{Act, Definition, Lifecycle, Mark, Members};
 use spl_command::Batch;
@@ -160,14 +162,28 @@ impl Held {
 
     /// The node that proposed the circuit, if one did.
     pub(crate) fn requester(&self) -> Option<NodeId>
-        ensures { result ≡ (own_life self.now.bound).requester }
+        ensures { result ≡ (own_life self.now.bound).circuit.requester }
     {
         self.ledger().requester()
     }
 
-    /// Whether this node has accepted the circuit.
+    /// The place of the disband that is open, if one is.
+    pub(crate) fn disbanding(&self) -> Option<Place>
+        ensures { result ≡ disbanding_of (own_life self.now.bound) }
+    {
+        self.ledger().disbanding()
+    }
+
+    /// Whether this node asked for what is open.
+    pub(crate) fn is_requester(&self) -> bool
+        ensures { result ≡ is_node (current (own_life self.now.bound)).requester self.now.site.here }
+    {
+        self.ledger().requested(&self.site.here)
+    }
+
+    /// Whether this node has accepted it.
     pub(crate) fn has_accepted(&self) -> bool
-        ensures { result ≡ has_node (own_life self.now.bound).accepted self.now.site.here }
+        ensures { result ≡ has_node (current (own_life self.now.bound)).accepted self.now.site.here }
     {
         self.ledger().accepted(&self.site.here)
     }
@@ -190,14 +206,17 @@ impl Held {
     pub(crate) fn runs(&self) -> bool
         ensures { result ≡ runs self.now.bound }
     {
-        self.is_active()
+        matches!(self.lifecycle(), Lifecycle::Active | Lifecycle::Disbanding)
     }
 
     /// Whether durable changes of the service group fit.
     pub(crate) fn keeps_batches(&self) -> bool
         ensures { result ≡ keeps_batches self.now.bound }
     {
-        self.is_active()
+        matches!(
+            self.lifecycle(),
+            Lifecycle::Active | Lifecycle::Disbanding | Lifecycle::Disbanded
+        )
     }
 
     /// Whether the node takes part.

@@ -37,7 +37,7 @@ impl Held {
     pub(crate) fn abandons(&self, alloc: Global) -> Result<Plan, AllocError>
         ensures { IfOk result (λ p. p ≡ planned self.now.site (abandons self.now.bound)) }
     {
-        if !self.is_active() {
+        if !self.runs() {
             return Ok(refuses(alloc, Refusal::NotActive));
         }
         if !self.is_open() {
@@ -58,7 +58,7 @@ impl Held {
     {
         match self.lifecycle() {
             Lifecycle::None => self.acts_pending() > 0 || self.has_promised(),
-            Lifecycle::Rejected | Lifecycle::Removed => false,
+            Lifecycle::Rejected | Lifecycle::Removed | Lifecycle::Disbanded => false,
             _ => true,
         }
     }

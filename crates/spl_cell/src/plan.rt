@@ -1,6 +1,5 @@
 //! What any event gives at a cell.
-ghost use Rattle.std.specs.Prelude.{◌≡◌, if◌then◌else◌, IfOk};
-ghost use Rattle.spl_circuit.specs.declared.act.ActKind.TheVariants as kind;
+ghost use Rattle.std.specs.Prelude.{◌≡◌, IfOk};
 ghost use Rattle.spl_rules.specs.Events.{other_does};
 ghost use Rattle.spl_rules.specs.Plans.{planned, plan_of};
 ghost use Rattle.spl_rules.specs.Valid.{IsValid, IsFor};
@@ -13,20 +12,8 @@ use crate::plans::refuses;
 use crate::site::Site;
 use crate::state::State;
 use spl_agree::GroupEvent;
-use spl_circuit::ActKind;
 use spl_wire::{Event, Plan, Refusal};
 use std::alloc::{AllocError, Global};
-
-/// How a node votes.
-fn vote_kind(accept: bool) -> ActKind
-    ensures { result ≡ (if accept then kind.Accept else kind.Reject) }
-{
-    if accept {
-        ActKind::Accept
-    } else {
-        ActKind::Reject
-    }
-}
 
 impl Site {
     /// What an event gives at a cell that isn't bound.
@@ -62,8 +49,9 @@ impl Site {
         };
         match event {
             Event::Propose(definition) => self.proposes(alloc, state, definition),
-            Event::Vote { accept } => held.votes(alloc, vote_kind(*accept)),
+            Event::Vote { accept } => held.votes(alloc, *accept),
             Event::Remove => held.removes(alloc),
+            Event::Disband => held.disbands(alloc),
             Event::Abandon => held.abandons(alloc),
             Event::Purge => held.purges(alloc),
             Event::Submit(batch) => held.submits(alloc, batch.get()),

@@ -17,7 +17,7 @@ use spl_wire::{Answer, ChangeList, Message, Outgoing, Plan, Refusal, SendList};
 use std::alloc::{AllocError, Global};
 
 /// How a note of a group is answered.
-#[derive(Clone, Copy, Debug)]
+#[derive(Clone, Copy)]
 pub(crate) enum Say {
     /// As what was submitted.
     Submitted,

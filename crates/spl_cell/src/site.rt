@@ -5,7 +5,7 @@ ghost use Rattle.spl_cell.specs.Sites.{site_of};
 use spl_base::{CircuitId, NodeId};
 
 /// A circuit at a node.
-#[derive(Clone, Copy, Debug)]
+#[derive(Clone, Copy)]
 pub(crate) struct Site {
     pub here: NodeId,
     pub circuit: CircuitId,

@@ -48,7 +48,7 @@ impl Held {
         requires settled { IsSettledHeld self.now }
         ensures { IfOk result (λ p. p ≡ planned self.now.site (submits self.now.site self.now.bound batch.now)) }
     {
-        if !self.is_active() {
+        if !self.runs() {
             return Ok(refuses(alloc, Refusal::NotActive));
         }
         if !self.is_open() {

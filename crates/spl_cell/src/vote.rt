@@ -1,4 +1,4 @@
-//! A node votes, or takes back what it proposed.
+//! A node votes, takes back what it asked for, or asks to disband.
 ghost use Rattle.std.specs.Prelude.{◌≡◌, ◌-◌, ◌^◌, ◌<◌, false, is_some, slice_get, IfOk};
 ghost use Rattle.spl_agree.specs.Member.{known};
 ghost use Rattle.std.specs.List.{list_any};
@@ -6,9 +6,9 @@ ghost use Rattle.std.specs.Str.{bytes_eq};
 ghost use Rattle.spl_agree.specs.Fits.{IsDue};
 ghost use Rattle.spl_circuit.specs.declared.act.ActKind.{ActKind as Kind};
 ghost use Rattle.spl_circuit.specs.Nodes.{position};
-ghost use Rattle.spl_circuit.specs.Acts.{act_rules, is_node};
-ghost use Rattle.spl_circuit.specs.Lifecycle.{is_proposed};
-ghost use Rattle.spl_rules.specs.Cells.{votes, removes, next_act, is_act_pending, admin_group, own_life};
+ghost use Rattle.spl_circuit.specs.Acts.{act_rules};
+ghost use Rattle.spl_circuit.specs.Lifecycle.{is_asked};
+ghost use Rattle.spl_rules.specs.Cells.{vote_kind, removal_kind, submits_next, votes, removes, disbands, next_act, is_act_pending, admin_group, own_life};
 ghost use Rattle.spl_rules.specs.Plans.{planned};
 ghost use Rattle.spl_cell.specs.Mays.{some_is};
 ghost use Rattle.spl_cell.specs.Views.{IsSettledHeld};
@@ -89,56 +89,103 @@ impl Held {
         }
     }
 
-    /// Whether the circuit is proposed here.
-    fn is_proposed(&self) -> bool
-        ensures { result ≡ is_proposed (own_life self.now.bound).state }
+    /// Whether a proposal is open here: that of the circuit, or one to disband it.
+    fn is_asked(&self) -> bool
+        ensures { result ≡ is_asked (own_life self.now.bound).state }
     {
-        matches!(self.lifecycle(), Lifecycle::Proposed)
+        matches!(
+            self.lifecycle(),
+            Lifecycle::Proposed | Lifecycle::Disbanding
+        )
     }
 
-    /// Whether this node proposed the circuit.
-    fn is_requester(&self) -> bool
-        ensures { result ≡ is_node (own_life self.now.bound).requester self.now.site.here }
+    /// How the node accepts or rejects what is asked for.
+    fn vote_kind(&self, accept: bool) -> ActKind
+        ensures { result ≡ vote_kind (own_life self.now.bound) accept }
     {
-        match self.requester() {
-            Some(node) => node == self.site.here,
-            None => false,
+        match (self.disbanding(), accept) {
+            (Some(place), true) => ActKind::DisbandAccept(place),
+            (Some(place), false) => ActKind::DisbandReject(place),
+            (None, true) => ActKind::Accept,
+            (None, false) => ActKind::Reject,
         }
     }
 
-    /// The node accepts or rejects.
-    pub(crate) fn votes(&self, alloc: Global, kind: ActKind) -> Result<Plan, AllocError>
+    /// How the node takes back what it asked for.
+    fn removal_kind(&self) -> ActKind
+        ensures { result ≡ removal_kind (own_life self.now.bound) }
+    {
+        match self.disbanding() {
+            Some(place) => ActKind::DisbandRemove(place),
+            None => ActKind::Remove,
+        }
+    }
+
+    /// The next act of this node is submitted, where it takes part.
+    fn submits_next(&self, alloc: Global, kind: ActKind) -> Result<Plan, AllocError>
         requires settled { IsSettledHeld self.now }
-        ensures { IfOk result (λ p. p ≡ planned self.now.site (votes self.now.site self.now.bound kind)) }
+        requires turn { self.now.bound.turn < 2 ^ 32 - 1 }
+        requires due { IsDue (admin_group self.now.bound.definition) (position self.now.bound.definition.members self.now.site.here) self.now.bound.acts (GroupEvent.Submit (next_act self.now.site.here self.now.bound.turn kind)) }
+        ensures { IfOk result (λ p. p ≡ planned self.now.site (submits_next self.now.site self.now.bound kind)) }
     {
-        if self.is_act_pending() {
-            return Ok(refuses(alloc, Refusal::ActPending));
-        }
-        if !self.is_proposed() {
-            return Ok(refuses(alloc, Refusal::NoProposal));
-        }
-        if self.has_accepted() {
-            return Ok(refuses(alloc, Refusal::AlreadyVoted));
+        if !self.is_open() {
+            return Ok(refuses(alloc, Refusal::Closed));
         }
         let event = GroupEvent::Submit(self.next_act(kind));
         self.acts(alloc, Say::Submitted, &self.site.here, &event)
     }
 
-    /// The node takes back what it proposed.
-    pub(crate) fn removes(&self, alloc: Global) -> Result<Plan, AllocError>
+    /// The node accepts or rejects.
+    pub(crate) fn votes(&self, alloc: Global, accept: bool) -> Result<Plan, AllocError>
         requires settled { IsSettledHeld self.now }
-        ensures { IfOk result (λ p. p ≡ planned self.now.site (removes self.now.site self.now.bound)) }
+        ensures { IfOk result (λ p. p ≡ planned self.now.site (votes self.now.site self.now.bound (vote_kind (own_life self.now.bound) accept))) }
     {
         if self.is_act_pending() {
             return Ok(refuses(alloc, Refusal::ActPending));
         }
-        if !self.is_proposed() {
+        if !self.is_asked() {
+            return Ok(refuses(alloc, Refusal::NoProposal));
+        }
+        if self.has_accepted() {
+            return Ok(refuses(alloc, Refusal::AlreadyVoted));
+        }
+        self.submits_next(alloc, self.vote_kind(accept))
+    }
+
+    /// The node takes back what it asked for.
+    pub(crate) fn removes(&self, alloc: Global) -> Result<Plan, AllocError>
+        requires settled { IsSettledHeld self.now }
+        ensures { IfOk result (λ p. p ≡ planned self.now.site (removes self.now.site self.now.bound (removal_kind (own_life self.now.bound)))) }
+    {
+        if self.is_act_pending() {
+            return Ok(refuses(alloc, Refusal::ActPending));
+        }
+        if !self.is_asked() {
             return Ok(refuses(alloc, Refusal::NoProposal));
         }
         if !self.is_requester() {
             return Ok(refuses(alloc, Refusal::NotRequester));
         }
-        let event = GroupEvent::Submit(self.next_act(ActKind::Remove));
-        self.acts(alloc, Say::Submitted, &self.site.here, &event)
+        self.submits_next(alloc, self.removal_kind())
+    }
+
+    /// The node asks to disband the circuit.
+    pub(crate) fn disbands(&self, alloc: Global) -> Result<Plan, AllocError>
+        requires settled { IsSettledHeld self.now }
+        ensures { IfOk result (λ p. p ≡ planned self.now.site (disbands self.now.site self.now.bound)) }
+    {
+        if self.is_act_pending() {
+            return Ok(refuses(alloc, Refusal::ActPending));
+        }
+        if !self.is_active() {
+            return Ok(refuses(alloc, Refusal::NotActive));
+        }
+        if !self.is_open() {
+            return Ok(refuses(alloc, Refusal::Closed));
+        }
+        if self.definition().version == 1 {
+            return Ok(refuses(alloc, Refusal::VersionTooLow));
+        }
+        self.submits_next(alloc, ActKind::Disband)
     }
 }

@@ -2,3 +2,4 @@ pub mod Ascents
 pub mod Order
 pub mod Sorting
 pub mod Valid
+pub mod Lives

@@ -1,8 +1,9 @@
 -- What the admin group agrees on: the check of an act, and what becomes of a forwarded one (docs/RULES.md, Acts).
-use Rattle.std.specs.Prelude.{ℕ, Bool, true, false, not, List, [], ◌∷◌, if◌then◌else◌, Option, Some, None}
+use Rattle.std.specs.Prelude.{ℕ, Bool, true, false, not, ◌==◌, List, [], ◌∷◌, if◌then◌else◌, Option, Some, None}
 use Rattle.std.specs.Str.{bytes_eq}
 use Rattle.spl_agree.specs.declared.reason.Reason.{Reason}
 use Rattle.spl_agree.specs.declared.reason.TheConstants.Reason.{NOT_A_MEMBER, WRONG_LIFECYCLE, ALREADY_ACCEPTED, NOT_REQUESTER, OTHER_DEFINITION, CANNOT_BIND}
+use Rattle.spl_circuit.specs.declared.act.TheConstants.{VERSION_TOO_LOW}
 use Rattle.spl_agree.specs.declared.reason.Admit.{Admit}
 use Rattle.spl_agree.specs.declared.reason.Admit.TheVariants as admit
 use Rattle.spl_agree.specs.Member.{Rules}
@@ -13,7 +14,7 @@ use Rattle.spl_circuit.specs.declared.act.Act.{Act}
 use Rattle.spl_circuit.specs.Nodes.{Node, has_node, node_or}
 use Rattle.spl_circuit.specs.Rules.{is_member}
 use Rattle.spl_circuit.specs.Equality.{same_definition, same_act_key, same_act}
-use Rattle.spl_circuit.specs.Lifecycle.{Life, life, is_proposed}
+use Rattle.spl_circuit.specs.Lifecycle.{Proposal, life, is_proposed, is_active, is_disbanding_at}
 
 abbrev pub reason : ℕ → Reason
 reason n = record { code = n; at = 0 }
@@ -26,21 +27,31 @@ abbrev pub is_first : List Act → Bool
 is_first [] = true
 is_first (a ∷ rest) = false
 
--- Accept and Reject: the circuit is proposed, and the node hasn't accepted
-abbrev pub misfit_vote : Life → Node → Option Reason
-misfit_vote l n =
-    if not (is_proposed l.state) then Some WRONG_LIFECYCLE
-    else (if has_node l.accepted n then Some ALREADY_ACCEPTED else None)
+-- to accept or reject a proposal: the lifecycle admits it, and the node hasn't accepted
+abbrev pub misfit_vote : Bool → Proposal → Node → Option Reason
+misfit_vote admitted p n =
+    if not admitted then Some WRONG_LIFECYCLE
+    else (if has_node p.accepted n then Some ALREADY_ACCEPTED else None)
+
+-- to take a proposal back: the lifecycle admits it, and the node is the requester
+abbrev pub misfit_removal : Bool → Proposal → Node → Option Reason
+misfit_removal admitted p n =
+    if not admitted then Some WRONG_LIFECYCLE
+    else (if is_node p.requester n then None else Some NOT_REQUESTER)
 
 abbrev pub misfit_kind : Definition → List Act → Node → ActKind → Option Reason
 misfit_kind d acts n (kind.Propose e) =
     if not (same_definition e d) then Some OTHER_DEFINITION
     else (if is_first acts then None else Some WRONG_LIFECYCLE)
-misfit_kind d acts n kind.Accept = misfit_vote (life d acts) n
-misfit_kind d acts n kind.Reject = misfit_vote (life d acts) n
-misfit_kind d acts n kind.Remove =
-    if not (is_proposed (life d acts).state) then Some WRONG_LIFECYCLE
-    else (if is_node (life d acts).requester n then None else Some NOT_REQUESTER)
+misfit_kind d acts n kind.Accept = misfit_vote (is_proposed (life d acts).state) (life d acts).circuit n
+misfit_kind d acts n kind.Reject = misfit_vote (is_proposed (life d acts).state) (life d acts).circuit n
+misfit_kind d acts n kind.Remove = misfit_removal (is_proposed (life d acts).state) (life d acts).circuit n
+misfit_kind d acts n kind.Disband =
+    if not (d.version == 2) then Some VERSION_TOO_LOW
+    else (if is_active (life d acts).state then None else Some WRONG_LIFECYCLE)
+misfit_kind d acts n (kind.DisbandAccept p) = misfit_vote (is_disbanding_at (life d acts) p) (life d acts).disband n
+misfit_kind d acts n (kind.DisbandReject p) = misfit_vote (is_disbanding_at (life d acts) p) (life d acts).disband n
+misfit_kind d acts n (kind.DisbandRemove p) = misfit_removal (is_disbanding_at (life d acts) p) (life d acts).disband n
 
 -- the check of an act against the committed ones: the reason of the first test that fails
 abbrev pub misfit : Definition → List Act → Act → Option Reason

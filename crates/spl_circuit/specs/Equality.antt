@@ -26,6 +26,10 @@ same_kind (kind.Propose d) (kind.Propose e) = same_definition d e
 same_kind kind.Accept kind.Accept = true
 same_kind kind.Reject kind.Reject = true
 same_kind kind.Remove kind.Remove = true
+same_kind kind.Disband kind.Disband = true
+same_kind (kind.DisbandAccept p) (kind.DisbandAccept q) = p == q
+same_kind (kind.DisbandReject p) (kind.DisbandReject q) = p == q
+same_kind (kind.DisbandRemove p) (kind.DisbandRemove q) = p == q
 same_kind a b = false
 
 -- the key of an act is its node and its turn

@@ -8,7 +8,7 @@ use Rattle.spl_base.specs.FormLaws.{wide8, wide32, exact_number, exact_raw, exac
 use Rattle.spl_circuit.specs.declared.definition.Service.{Service}
 use Rattle.spl_circuit.specs.declared.definition.Definition.{Definition}
 use Rattle.spl_circuit.specs.declared.act.ActKind.{ActKind}
-use Rattle.spl_circuit.specs.declared.act.ActKind.TheVariants.{Propose, Accept, Reject, Remove}
+use Rattle.spl_circuit.specs.declared.act.ActKind.TheVariants.{Propose, Accept, Reject, Remove, Disband, DisbandAccept, DisbandReject, DisbandRemove}
 use Rattle.spl_circuit.specs.declared.act.Act.{Act}
 
 abbrev pub node_id : Form (List ℕ)
@@ -44,22 +44,35 @@ definition =
     (λ d. (d.id, (d.generation, (d.version, (d.management, (d.name, (d.members, d.services)))))))
     (circuit_id & word & byte & label & label & lists)
 
-abbrev pub kind_of : Definition ⊎ (Unit {0} ⊎ (Unit {0} ⊎ (Unit {0} ⊎ ⊥))) → ActKind
+-- the definition of a proposal, and the place of a disband
+abbrev pub Kind : Type 0
+Kind = Definition ⊎ (Unit {0} ⊎ (Unit {0} ⊎ (Unit {0} ⊎ (Unit {0} ⊎ (ℕ ⊎ (ℕ ⊎ (ℕ ⊎ ⊥)))))))
+
+abbrev pub kind_of : Kind → ActKind
 kind_of (inl d) = Propose d
 kind_of (inr (inl _)) = Accept
 kind_of (inr (inr (inl _))) = Reject
 kind_of (inr (inr (inr (inl _)))) = Remove
-kind_of (inr (inr (inr (inr x)))) = absurd x
+kind_of (inr (inr (inr (inr (inl _))))) = Disband
+kind_of (inr (inr (inr (inr (inr (inl p)))))) = DisbandAccept p
+kind_of (inr (inr (inr (inr (inr (inr (inl p))))))) = DisbandReject p
+kind_of (inr (inr (inr (inr (inr (inr (inr (inl p)))))))) = DisbandRemove p
+kind_of (inr (inr (inr (inr (inr (inr (inr (inr x)))))))) = absurd x
 
-abbrev pub case_of : ActKind → Definition ⊎ (Unit {0} ⊎ (Unit {0} ⊎ (Unit {0} ⊎ ⊥)))
+abbrev pub case_of : ActKind → Kind
 case_of (Propose d) = inl d
 case_of Accept = inr (inl tt)
 case_of Reject = inr (inr (inl tt))
 case_of Remove = inr (inr (inr (inl tt)))
+case_of Disband = inr (inr (inr (inr (inl tt))))
+case_of (DisbandAccept p) = inr (inr (inr (inr (inr (inl p)))))
+case_of (DisbandReject p) = inr (inr (inr (inr (inr (inr (inl p))))))
+case_of (DisbandRemove p) = inr (inr (inr (inr (inr (inr (inr (inl p)))))))
 
--- 1 is Propose and is followed by a definition, 2 Accept, 3 Reject, 4 Remove
-abbrev pub kinds : Cases (Definition ⊎ (Unit {0} ⊎ (Unit {0} ⊎ (Unit {0} ⊎ ⊥))))
-kinds = definition or nothing or nothing or nothing or no_case
+-- 1 is Propose and is followed by a definition, 2 Accept, 3 Reject, 4 Remove, 5 Disband, and 6 to 8, each followed by the
+-- place of a disband, are DisbandAccept, DisbandReject and DisbandRemove
+abbrev pub kinds : Cases Kind
+kinds = definition or nothing or nothing or nothing or nothing or word or word or word or no_case
 
 abbrev pub kind : Form ActKind
 kind = via kind_of case_of (tagged kinds)
@@ -100,12 +113,13 @@ there : (k : ActKind) → kind_of (case_of k) ≡ k
 there (Propose d) = refl
 there k = refl
 
-back : (x : Definition ⊎ (Unit {0} ⊎ (Unit {0} ⊎ (Unit {0} ⊎ ⊥)))) → case_of (kind_of x) ≡ x
-back (inr (inr (inr (inr x)))) = absurd x
+back : (x : Kind) → case_of (kind_of x) ≡ x
+back (inr (inr (inr (inr (inr (inr (inr (inr x)))))))) = absurd x
 back x = refl
 
 pub exact_kinds : IsExactCases kinds
-exact_kinds = exact_or _ _ exact_definition (exact_or _ _ exact_nothing (exact_or _ _ exact_nothing (exact_or _ _ exact_nothing exact_no_case)))
+exact_kinds = exact_or _ _ exact_definition (exact_or _ _ exact_nothing (exact_or _ _ exact_nothing (exact_or _ _ exact_nothing (exact_or _ _ exact_nothing
+    (exact_or _ _ exact_word (exact_or _ _ exact_word (exact_or _ _ exact_word exact_no_case)))))))
 
 pub exact_kind : IsExact kind
 exact_kind = exact_via _ _ _ there back (exact_tagged _ exact_kinds)

@@ -1,5 +1,5 @@
 -- Definitions of circuits: the nine rules, and who coordinates (docs/RULES.md, Definitions).
-use Rattle.std.specs.Prelude.{ℕ, Bool, true, ◌&&◌, ◌==◌, nat_le, List, [], ◌∷◌, length, if◌then◌else◌, Option, Some, None, codes}
+use Rattle.std.specs.Prelude.{ℕ, Bool, true, ◌&&◌, ◌||◌, ◌==◌, nat_le, List, [], ◌∷◌, length, if◌then◌else◌, Option, Some, None, codes}
 use Rattle.std.specs.List.{list_all, list_any}
 use Rattle.std.specs.Str.{bytes_eq}
 use Rattle.spl_circuit.specs.declared.definition.Service.{Service}
@@ -31,7 +31,7 @@ serves ss n = list_any (λ s. bytes_eq s.node n) ss
 -- the rules in their order, the first of them rule 1
 abbrev pub rules_of : Definition → List Bool
 rules_of d =
-    (d.version == 1)
+    (d.version == 1 || d.version == 2)
     ∷ nat_le 1 d.generation
     ∷ (nat_le 1 (length d.management) && nat_le (length d.management) 32)
     ∷ (nat_le 1 (length d.name) && nat_le (length d.name) 64)

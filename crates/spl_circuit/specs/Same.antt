@@ -94,10 +94,17 @@ kind_is (kind.Propose d) (kind.Propose e) h = ap kind.Propose (definition_is d e
 kind_is kind.Accept kind.Accept h = refl
 kind_is kind.Reject kind.Reject h = refl
 kind_is kind.Remove kind.Remove h = refl
+kind_is kind.Disband kind.Disband h = refl
+kind_is (kind.DisbandAccept p) (kind.DisbandAccept q) h = ap kind.DisbandAccept (eqb-true p q h)
+kind_is (kind.DisbandReject p) (kind.DisbandReject q) h = ap kind.DisbandReject (eqb-true p q h)
+kind_is (kind.DisbandRemove p) (kind.DisbandRemove q) h = ap kind.DisbandRemove (eqb-true p q h)
 kind_is a b h = absurd cc
 
 pub kind_same : (a : ActKind) → same_kind a a ≡ true
 kind_same (kind.Propose d) = definition_same d
+kind_same (kind.DisbandAccept p) = eqb_same p
+kind_same (kind.DisbandReject p) = eqb_same p
+kind_same (kind.DisbandRemove p) = eqb_same p
 kind_same a = refl
 
 abbrev act_by : Node → ℕ → ActKind → Act

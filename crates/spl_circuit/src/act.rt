@@ -2,11 +2,12 @@
 ghost use Rattle.std.specs.Prelude.{◌≡◌};
 
 use crate::definition::Definition;
+use spl_agree::{Place, Reason};
 use spl_base::{Boxed, Field, Malformed, NodeId, Reader, Writer};
 use std::alloc::{AllocError, Global};
 
 /// What a node does to a circuit.
-#[derive(Debug, Drop)]
+#[derive(Drop)]
 pub enum ActKind {
     /// Asks the members for a circuit of this definition.
     Propose(Boxed<Definition>),
@@ -16,10 +17,21 @@ pub enum ActKind {
     Reject,
     /// Takes back the circuit that the node proposed.
     Remove,
+    /// Asks the members to disband the circuit.
+    Disband,
+    /// Agrees to the disband at this place of the acts.
+    DisbandAccept(Place),
+    /// Turns it down.
+    DisbandReject(Place),
+    /// Takes back the one that the node asked for.
+    DisbandRemove(Place),
 }
 
+/// The circuit's version is 1, in which no disband is admitted.
+pub const VERSION_TOO_LOW: Reason = Reason { code: 14, at: 0 };
+
 /// An act of a node on a circuit.
-#[derive(Debug, Drop)]
+#[derive(Drop)]
 pub struct Act {
     pub node: NodeId,
     /// The number of the node's own acts in its generation, from 1, this one included.
@@ -41,6 +53,19 @@ impl Field for ActKind {
             ActKind::Accept => 2u8.put_parts(w),
             ActKind::Reject => 3u8.put_parts(w),
             ActKind::Remove => 4u8.put_parts(w),
+            ActKind::Disband => 5u8.put_parts(w),
+            ActKind::DisbandAccept(place) => {
+                6u8.put_parts(w)?;
+                place.0.put_parts(w)
+            }
+            ActKind::DisbandReject(place) => {
+                7u8.put_parts(w)?;
+                place.0.put_parts(w)
+            }
+            ActKind::DisbandRemove(place) => {
+                8u8.put_parts(w)?;
+                place.0.put_parts(w)
+            }
         }
     }
 
@@ -51,6 +76,10 @@ impl Field for ActKind {
             2 => Ok(ActKind::Accept),
             3 => Ok(ActKind::Reject),
             4 => Ok(ActKind::Remove),
+            5 => Ok(ActKind::Disband),
+            6 => Ok(ActKind::DisbandAccept(Place(u32::take_parts(alloc, r)?))),
+            7 => Ok(ActKind::DisbandReject(Place(u32::take_parts(alloc, r)?))),
+            8 => Ok(ActKind::DisbandRemove(Place(u32::take_parts(alloc, r)?))),
             _ => Err(Malformed::At { at }),
         }
     }

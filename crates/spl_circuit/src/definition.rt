@@ -9,7 +9,7 @@ use spl_base::{
 use std::alloc::{AllocError, Global};
 
 /// A service of a circuit: its id, its type, and the node that it stands on.
-#[derive(Debug, Drop)]
+#[derive(Drop)]
 pub struct Service {
     pub id: ServiceId,
     pub kind: Label,
@@ -23,7 +23,7 @@ pub type Members = Listing<NodeId>;
 pub type Services = Listing<Service>;
 
 /// What a circuit is: its members and the services on them.
-#[derive(Debug, Drop)]
+#[derive(Drop)]
 pub struct Definition {
     pub id: CircuitId,
     pub generation: Generation,

@@ -8,7 +8,7 @@ mod lifecycle;
 mod rules;
 mod values;
 
-pub use act::{Act, ActKind};
+pub use act::{Act, ActKind, VERSION_TOO_LOW};
 pub use codec::{
     acts_are_read_back, definitions_are_read_back, no_act_begins_another,
     no_definition_begins_another, valid_definitions_have_a_form,

@@ -9,6 +9,10 @@ pub enum Lifecycle {
     Proposed,
     /// Each member has accepted.
     Active,
+    /// A member of the active circuit has asked to disband it, and not each member has accepted that.
+    Disbanding,
+    /// Each member has accepted to disband it: nothing more is admitted.
+    Disbanded,
     /// A member turned it down: nothing more is admitted.
     Rejected,
     /// Its requester took it back: nothing more is admitted.
@@ -16,7 +20,7 @@ pub enum Lifecycle {
 }
 
 /// What a node itself has done with a circuit.
-#[derive(Clone, Copy, Debug, PartialEq, Eq)]
+#[derive(Clone, Copy, PartialEq, Eq)]
 pub enum Mark {
     Open,
     /// The node takes no further part.

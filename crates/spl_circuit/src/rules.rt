@@ -85,7 +85,7 @@ impl Definition {
         let name = self.name.bytes().len();
         let members = self.members.as_slice();
         let services = self.services.as_slice();
-        if self.version != 1 {
+        if self.version != 1 && self.version != 2 {
             Some(1)
         } else if self.generation.0 == 0 {
             Some(2)

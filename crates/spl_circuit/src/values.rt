@@ -49,6 +49,10 @@ impl Value for ActKind {
             (ActKind::Accept, ActKind::Accept) => true,
             (ActKind::Reject, ActKind::Reject) => true,
             (ActKind::Remove, ActKind::Remove) => true,
+            (ActKind::Disband, ActKind::Disband) => true,
+            (ActKind::DisbandAccept(a), ActKind::DisbandAccept(b)) => a.0 == b.0,
+            (ActKind::DisbandReject(a), ActKind::DisbandReject(b)) => a.0 == b.0,
+            (ActKind::DisbandRemove(a), ActKind::DisbandRemove(b)) => a.0 == b.0,
             _ => false,
         }
     }
@@ -59,6 +63,10 @@ impl Value for ActKind {
             ActKind::Accept => Ok(ActKind::Accept),
             ActKind::Reject => Ok(ActKind::Reject),
             ActKind::Remove => Ok(ActKind::Remove),
+            ActKind::Disband => Ok(ActKind::Disband),
+            ActKind::DisbandAccept(place) => Ok(ActKind::DisbandAccept(*place)),
+            ActKind::DisbandReject(place) => Ok(ActKind::DisbandReject(*place)),
+            ActKind::DisbandRemove(place) => Ok(ActKind::DisbandRemove(*place)),
         }
     }
 }

@@ -13,7 +13,7 @@ use std::alloc::{AllocError, Global};
 pub const MOST_ITEMS: u16 = 1024;
 
 /// What a transaction does, one step of it (docs/RULES.md, Batches).
-#[derive(Debug, Drop)]
+#[derive(Drop)]
 pub enum Command {
     /// Writes a value at an address.
     Set(Address, Piece),
@@ -35,7 +35,7 @@ pub enum Command {
 pub type Commands = Listing<Command>;
 
 /// Commands that run together, and the prefixes that they read and write under.
-#[derive(Debug, Drop)]
+#[derive(Drop)]
 pub struct Transaction {
     pub inputs: Prefixes,
     pub outputs: Prefixes,
@@ -47,7 +47,7 @@ pub type Transactions = Listing<Transaction>;
 
 /// Transactions that take effect together or not at all (docs/RULES.md, Batches). Its key is
 /// its id. Copies share the transactions.
-#[derive(Debug, Drop)]
+#[derive(Drop)]
 pub struct Batch {
     pub id: BatchId,
     pub transactions: Boxed<Transactions>,

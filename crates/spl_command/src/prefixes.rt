@@ -10,7 +10,7 @@ use std::alloc::{AllocError, Global};
 use std::marker::Model;
 
 /// A prefix as an item of a list: it has a form in bytes, it is compared and copied.
-#[derive(Clone, Copy, Debug)]
+#[derive(Clone, Copy)]
 pub(crate) struct PrefixItem(Prefix);
 
 impl Model for PrefixItem {
@@ -69,7 +69,7 @@ impl Value for PrefixItem {
 }
 
 /// The prefixes that a transaction reads or writes under. Contracts see a list of byte strings.
-#[derive(Debug, Drop)]
+#[derive(Drop)]
 pub struct Prefixes {
     items: Listing<PrefixItem>,
 }

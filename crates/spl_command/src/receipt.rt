@@ -3,7 +3,7 @@ use spl_base::{Label, Listing, Piece};
 use spl_state::Address;
 
 /// A change of the state.
-#[derive(Debug, Drop)]
+#[derive(Drop)]
 pub enum StateChange {
     /// This value was written at the address.
     Set(Address, Piece),
@@ -12,7 +12,7 @@ pub enum StateChange {
 }
 
 /// An event that a transaction told: its type and its data.
-#[derive(Debug, Drop)]
+#[derive(Drop)]
 pub struct StateEvent {
     pub kind: Label,
     pub data: Piece,
@@ -29,7 +29,7 @@ pub type Pieces = Listing<Piece>;
 
 /// What a transaction did: its changes, its events and the data that it returned, each in the
 /// order of its commands (docs/RULES.md, Batches).
-#[derive(Debug, Drop)]
+#[derive(Drop)]
 pub struct Receipt {
     pub changes: Changes,
     pub events: Events,
@@ -40,7 +40,7 @@ pub struct Receipt {
 pub type Receipts = Listing<Receipt>;
 
 /// What a batch is on a state (docs/RULES.md, Batches).
-#[derive(Debug, Drop)]
+#[derive(Drop)]
 pub enum Verdict {
     Valid(Receipts),
     /// The batch changes nothing: this cause came in this transaction, numbered from 1.

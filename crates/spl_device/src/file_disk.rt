@@ -96,11 +96,9 @@ fn write_to<F: FileExt>(file: &F, at: u64, bytes: &[u8]) -> Option<()>
 }
 
 impl<F: FileExt + OpenFile + Drop> Disk for FileDisk<F> {
-    ghost image_at = { λ _ _. None };
+    ghost use Rattle.spl_edge.specs.Views.{untold_disk};
 
-    ghost moment = { λ d. d.moment };
-
-    ghost faults = { λ d. d.faults };
+    ghost view = { λ d. untold_disk d.moment d.faults };
 
     fn len(&mut self) -> Result<u64, DeviceError> {
         let found = match &self.file {

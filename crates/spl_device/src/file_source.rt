@@ -29,11 +29,7 @@ impl<R: Read + Drop> FileSource<R> {
 }
 
 impl<R: Read + Drop> Source for FileSource<R> {
-    ghost taken = { λ s. s.taken.items };
-
-    ghost left = { λ _. None };
-
-    ghost faults = { λ s. s.faults };
+    ghost view = { λ s. record { gave = s.taken.items; left = None; faults = s.faults } };
 
     fn read(&mut self, buf: &mut [u8]) -> Result<usize, DeviceError> {
         self.taken.try_reserve(buf.len())?;

@@ -9,8 +9,6 @@ mod folder;
 mod link;
 mod std_sink;
 mod tcp_fabric;
-#[cfg(test)]
-mod tests;
 
 pub use endpoints::fabric;
 pub use file_disk::FileDisk;

@@ -82,11 +82,9 @@ impl<'a, N: Net> TcpFabric<'a, N> {
 }
 
 impl<'a, N: Net> Fabric for TcpFabric<'a, N> {
-    ghost put_on = { λ _ _ _. None };
+    ghost use Rattle.spl_edge.specs.Views.{untold_fabric};
 
-    ghost taken_on = { λ _ _ _. None };
-
-    ghost faults = { λ f. f.faults };
+    ghost view = { λ f. untold_fabric f.faults };
 
     fn put(&mut self, from: u8, to: u8, bytes: &[u8]) -> Result<usize, DeviceError> {
         let place = match self.place(from, to) {

@@ -5,6 +5,7 @@ use Rattle.spl_edge.specs.declared.fault.DeviceError.{DeviceError}
 use Rattle.spl_edge.specs.declared.fault.DeviceError.TheVariants.{Failed}
 use Rattle.spl_edge.specs.Causes.{next, Rose}
 use Rattle.spl_edge.specs.Image.{Image}
+use Rattle.spl_edge.specs.Views.{DiskView}
 use Rattle.spl_edge.specs.declared.disk.Arming.{Arming}
 use Rattle.spl_edge.specs.declared.disk.Arming.TheVariants.{Off, After, At}
 use Rattle.spl_edge.specs.declared.disk.Armed.{Armed}
@@ -22,6 +23,10 @@ is_due (At k) passed = passed + 1 == k
 abbrev pub fails_at : Armed → ℕ → Bool
 fails_at armed moment = is_due armed.arming (moment - armed.since)
 
+-- the call that a disk gets now fails
+abbrev pub fails_now : DiskView → Bool
+fails_now x = fails_at x.armed x.moment
+
 abbrev pub IsArmed : Armed → Type 0
 IsArmed armed = armed.arming ≡ Off → ⊥
 
@@ -37,9 +42,21 @@ pub record Passes {T : Type 0} (before now : ℕ) (faults later_faults : ℕ) (a
   pub told : IsTrue (fails_at armed before) → faults < 2 ^ 64 - 1 → IsErrOf result Failed
   pub named : IsErrOf result Failed → IsArmed armed → IsTrue (fails_at armed before)
 
+-- so it did of a disk
+abbrev pub IsCall : {T : Type 0} → DiskView → DiskView → Result T DeviceError → Type 0
+IsCall x y result = Passes x.moment y.moment x.faults y.faults x.armed result
+
 -- each earlier moment is as it was
-abbrev pub SamePast : (ℕ → Option Image) → ℕ → (ℕ → Option Image) → Type 0
-SamePast old moment new = (t : ℕ) → t ≤ moment → new t ≡ old t
+abbrev pub SamePast : DiskView → DiskView → Type 0
+SamePast x y = (t : ℕ) → t ≤ x.moment → y.image_at t ≡ x.image_at t
+
+-- a disk went on: earlier moments are as they were, no count fell, and it is armed and has picked as before
+pub record Onward (x y : DiskView) : Type 0 where
+  pub past : SamePast x y
+  pub later : x.moment ≤ y.moment
+  pub no_less : x.faults ≤ y.faults
+  pub armed : y.armed ≡ x.armed
+  pub picks : y.picks ≡ x.picks
 
 -- where it tells: at Ok the change is made, and at Err something that may have been done of it; nothing, where the arming names the call
 pub record Changes {T : Type 0} (armed : Bool) (result : Result T DeviceError) (f : Image → Image) (Part : Image → Image → Type 0) (old new : Option Image) : Type 0 where

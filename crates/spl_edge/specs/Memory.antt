@@ -1,5 +1,6 @@
 -- What the objects in memory show.
-use Rattle.std.specs.Prelude.{◌≡◌, ℕ, List, [], take, drop}
+use Rattle.std.specs.Prelude.{◌≡◌, ℕ, List, [], take, drop, Some}
+use Rattle.spl_edge.specs.Views.{SourceView, SinkView}
 use Rattle.spl_edge.specs.declared.memory.MemSource.{MemSource}
 use Rattle.spl_edge.specs.declared.memory.MemSink.{MemSink}
 
@@ -14,6 +15,9 @@ left_of s = drop s.at s.bytes.items
 -- how often it has failed
 abbrev pub read_faults : MemSource → ℕ
 read_faults s = s.faults
+
+abbrev pub source_view : MemSource → SourceView
+source_view s = record { gave = taken_of s; left = Some (left_of s); faults = read_faults s }
 
 -- how often it was called
 abbrev pub read_calls : MemSource → ℕ
@@ -38,6 +42,9 @@ written_of s = s.bytes.items
 -- how often it has failed
 abbrev pub write_faults : MemSink → ℕ
 write_faults s = s.faults
+
+abbrev pub sink_view : MemSink → SinkView
+sink_view s = record { written = Some (written_of s); faults = write_faults s }
 
 -- how often it was called
 abbrev pub write_calls : MemSink → ℕ

@@ -35,13 +35,9 @@ impl MemSource {
 }
 
 impl Source for MemSource {
-    ghost use Rattle.spl_edge.specs.Memory.{taken_of, left_of, read_faults, read_calls, failing_reads};
+    ghost use Rattle.spl_edge.specs.Memory.{taken_of, left_of, read_faults, read_calls, failing_reads, source_view};
 
-    ghost taken = { taken_of };
-
-    ghost left = { λ s. Some (left_of s) };
-
-    ghost faults = { read_faults };
+    ghost view = { source_view };
 
     fn read(&mut self, buf: &mut [u8]) -> Result<usize, DeviceError>
         ensures bound { IfOk result (λ n. n ≤ length buf.new) }
@@ -99,11 +95,9 @@ impl MemSink {
 }
 
 impl Sink for MemSink {
-    ghost use Rattle.spl_edge.specs.Memory.{written_of, write_faults, write_calls, failing_writes};
+    ghost use Rattle.spl_edge.specs.Memory.{written_of, write_faults, write_calls, failing_writes, sink_view};
 
-    ghost written = { λ s. Some (written_of s) };
-
-    ghost faults = { write_faults };
+    ghost view = { sink_view };
 
     fn write(&mut self, piece: &[u8]) -> Result<usize, DeviceError>
         ensures bound { IfOk result (λ n. n ≤ length piece.now) }

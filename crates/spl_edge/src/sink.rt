@@ -2,31 +2,29 @@
 ghost use Rattle.std.specs.Prelude.{◌≡◌, ◌<◌, ◌≤◌, List, ℕ, length, take, IfOk, OnOk, OnErr, IsErrOf, Option};
 ghost use Rattle.std.specs.Io.KnownBytes.{Appends};
 ghost use Rattle.spl_edge.specs.Causes.{HasCause, Rose, AppendsPart, moved_by};
+ghost use Rattle.spl_edge.specs.Views.{SinkView};
 
 use crate::DeviceError;
 
 /// Where bytes go, one piece after another.
 pub trait Sink {
-    /// The bytes written so far, where the object tells.
-    ghost written: { Self → Option (List ℕ) };
-
-    /// How often it has failed.
-    ghost faults: { Self → ℕ };
+    /// What it tells of itself.
+    ghost view: { Self → SinkView };
 
     /// Takes some bytes from the front of a piece, and tells how many. To take nothing of a piece that isn't empty
     /// counts as a fault. A call that fails takes nothing.
     fn write(&mut self, piece: &[u8]) -> Result<usize, DeviceError>
         ensures bound { IfOk result (λ n. n ≤ length piece.now) }
-        ensures written { Appends (written self.old) (written self.new) (moved_by result piece.now) }
-        ensures nothing { IfOk result (λ n. n ≡ 0 → 0 < length piece.now → Rose (faults self.old) (faults self.new)) }
-        ensures cause { HasCause (faults self.old) (faults self.new) result };
+        ensures written { Appends (view self.old).written (view self.new).written (moved_by result piece.now) }
+        ensures nothing { IfOk result (λ n. n ≡ 0 → 0 < length piece.now → Rose (view self.old).faults (view self.new).faults) }
+        ensures cause { HasCause (view self.old).faults (view self.new).faults result };
 }
 
 /// Writes a whole piece. Where that fails, a front of the piece was written.
 pub fn write_all<W: Sink>(sink: &mut W, piece: &[u8]) -> Result<(), DeviceError>
-    ensures ok { OnOk result (Appends (W.written sink.old) (W.written sink.new) piece.now) }
-    ensures part { AppendsPart (W.written sink.old) (W.written sink.new) piece.now }
-    ensures cause { HasCause (W.faults sink.old) (W.faults sink.new) result }
+    ensures ok { OnOk result (Appends (W.view sink.old).written (W.view sink.new).written piece.now) }
+    ensures part { AppendsPart (W.view sink.old).written (W.view sink.new).written piece.now }
+    ensures cause { HasCause (W.view sink.old).faults (W.view sink.new).faults result }
 {
     let mut sent = 0;
     while sent < piece.len() {

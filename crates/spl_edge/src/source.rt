@@ -2,29 +2,24 @@
 ghost use Rattle.std.specs.Prelude.{◌≡◌, ◌≢◌, ◌↔◌, ◌+◌, ◌<◌, ◌≤◌, ◌^◌, ◌++◌, List, ℕ, [], length, take, IfOk, Option};
 ghost use Rattle.std.specs.Io.KnownBytes.{Consumes, IsAtEnd};
 ghost use Rattle.spl_edge.specs.Causes.{HasCause, Rose, moved_by};
+ghost use Rattle.spl_edge.specs.Views.{SourceView};
 
 use crate::DeviceError;
 use std::alloc::Global;
 
 /// Where bytes come from, one piece after another.
 pub trait Source {
-    /// All bytes taken so far.
-    ghost taken: { Self → List ℕ };
-
-    /// The bytes that are left, where the object tells.
-    ghost left: { Self → Option (List ℕ) };
-
-    /// How often it has failed.
-    ghost faults: { Self → ℕ };
+    /// What it tells of itself.
+    ghost view: { Self → SourceView };
 
     /// Takes some of the next bytes, and tells how many. A read of 0 into a buffer that isn't empty is the end.
     /// A call that fails takes nothing.
     fn read(&mut self, buf: &mut [u8]) -> Result<usize, DeviceError>
         ensures bound { IfOk result (λ n. n ≤ length buf.new) }
-        ensures taken { taken self.new ≡ taken self.old ++ moved_by result buf.new }
-        ensures left { Consumes (left self.old) (left self.new) (moved_by result buf.new) }
-        ensures end { IfOk result (λ n. n ≡ 0 → 0 < length buf.new → IsAtEnd (left self.new)) }
-        ensures cause { HasCause (faults self.old) (faults self.new) result };
+        ensures taken { (view self.new).gave ≡ (view self.old).gave ++ moved_by result buf.new }
+        ensures left { Consumes (view self.old).left (view self.new).left (moved_by result buf.new) }
+        ensures end { IfOk result (λ n. n ≡ 0 → 0 < length buf.new → IsAtEnd (view self.new).left) }
+        ensures cause { HasCause (view self.old).faults (view self.new).faults result };
 }
 
 /// How a reading ended.
@@ -41,7 +36,7 @@ pub enum ReadEnd {
 }
 
 /// The bytes that were read, and how the reading ended.
-#[derive(Debug, Drop)]
+#[derive(Drop)]
 pub struct Reading {
     pub bytes: Vec<u8>,
     pub end: ReadEnd,
@@ -52,12 +47,12 @@ const PIECE: usize = 65_536;
 /// Takes all there is. It ends early at a fault, where memory runs out, and once it has more bytes than the limit.
 pub fn read_all<S: Source>(alloc: Global, limit: usize, source: &mut S) -> Reading
     requires { limit < 2 ^ 32 }
-    ensures taken { S.taken source.new ≡ S.taken source.old ++ result.bytes.items }
-    ensures left { Consumes (S.left source.old) (S.left source.new) result.bytes.items }
-    ensures whole { result.end ≡ ReadEnd.Whole → IsAtEnd (S.left source.new) }
+    ensures taken { (S.view source.new).gave ≡ (S.view source.old).gave ++ result.bytes.items }
+    ensures left { Consumes (S.view source.old).left (S.view source.new).left result.bytes.items }
+    ensures whole { result.end ≡ ReadEnd.Whole → IsAtEnd (S.view source.new).left }
     ensures too_long { result.end ≡ ReadEnd.TooLong ↔ (limit < length result.bytes.items) }
-    ensures fault { result.end ≡ ReadEnd.Fault → Rose (S.faults source.old) (S.faults source.new) }
-    ensures later { S.faults source.old ≤ S.faults source.new }
+    ensures fault { result.end ≡ ReadEnd.Fault → Rose (S.view source.old).faults (S.view source.new).faults }
+    ensures later { (S.view source.old).faults ≤ (S.view source.new).faults }
 {
     let mut bytes = Vec::new(alloc);
     let mut buf = [0u8; PIECE];

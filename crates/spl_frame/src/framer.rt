@@ -12,7 +12,7 @@ use std::marker::Model;
 
 /// Takes the frames out of a stream. It is seen as the bytes that it was fed and whose frames were
 /// not handed out yet.
-#[derive(Debug, Drop)]
+#[derive(Drop)]
 pub struct Framer {
     bytes: Vec<u8>,
     /// Where the first frame begins that was not handed out.

@@ -39,7 +39,7 @@ fn service(number: u8) -> Service
 }
 
 /// A circuit of a generated schedule.
-#[derive(Clone, Copy, Debug, Drop)]
+#[derive(Clone, Copy, Drop)]
 pub(crate) enum Circuit {
     First,
     Second,

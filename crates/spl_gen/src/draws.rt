@@ -5,7 +5,7 @@ ghost use Rattle.spl_gen.specs.Draws.{next, draw};
 use std::marker::Model;
 
 /// Numbers that look drawn (docs/RULES.md, Generated schedules). Contracts see the state.
-#[derive(Debug, Drop)]
+#[derive(Drop)]
 pub(crate) struct Draws {
     state: u64,
 }

@@ -4,7 +4,7 @@ use Rattle.std.specs.Option.{option_map}
 use Rattle.std.proofs.lemmas.List.{take_at, drop_at, get_or_at, get_or-take, get_or-drop, take-take}
 use Rattle.std.proofs.lemmas.Bool.{cases_eq}
 use Rattle.spl_edge.specs.Image.{Image, patched}
-use Rattle.spl_journal.specs.Gate.{IsReady, LeavesSince, IsUpToGate, IsBehindGate, behind, opened}
+use Rattle.spl_journal.specs.Gate.{IsReady, IsUpToGate, IsBehindGate, behind, opened, LeavesBetween}
 use Rattle.spl_journal.specs.Records.{size_bytes, block, sized, records, records_of, IsGood, IsFront, Holds, Standing, IsBeforeOrAfter, SameHead}
 use Rattle.spl_journal.proofs.Sizes.{length-size_bytes, same_epoch}
 use Rattle.spl_journal.proofs.Pieces.{lift1, lift2}
@@ -78,7 +78,7 @@ before_or_after fits gate rs bytes r c front shut good = ⊎_elim
     (λ one. other (sym (gate_is gate (sized r) bytes byte front.room c is) ∙ one))))
     (cases_eq byte 1))
 
-pub leaves_map : (at : ℕ → Option Image) (first last : ℕ) (P Q : List ℕ → Type 0) → ((c : List ℕ) → P c → Q c) → LeavesSince at first last P → LeavesSince at first last Q
+pub leaves_map : (at : ℕ → Option Image) (first last : ℕ) (P Q : List ℕ → Type 0) → ((c : List ℕ) → P c → Q c) → LeavesBetween at first last P → LeavesBetween at first last Q
 leaves_map at first last P Q f left k low high = lift1 (at k) (Safe P) (Safe Q) (left k low high) (λ i safe c may. f c (safe c may))
 
 -- the head stays
@@ -99,21 +99,21 @@ module _ (fits : List ℕ → Bool) (gate extent epoch : ℕ) (r : List ℕ) whe
 
   -- what is left has the records of before, or one more
   pub append_leaves : (told : Option Image) (at : ℕ → Option Image) (first last : ℕ) → IfSome told (Standing fits gate extent epoch) → IsGood fits r
-      → IfSome told (λ i. LeavesSince at first last (IsBehindGate gate (sized r) i.bytes)) → IfSome told (λ i. LeavesSince at first last (IsBeforeOrAfter fits (records_of fits i.bytes) r))
-  append_leaves told at first last stands good left = lift2 told (Standing fits gate extent epoch) (λ i. LeavesSince at first last (IsBehindGate gate (sized r) i.bytes)) (λ i. LeavesSince at first last (IsBeforeOrAfter fits (records_of fits i.bytes) r)) stands left
+      → IfSome told (λ i. LeavesBetween at first last (IsBehindGate gate (sized r) i.bytes)) → IfSome told (λ i. LeavesBetween at first last (IsBeforeOrAfter fits (records_of fits i.bytes) r))
+  append_leaves told at first last stands good left = lift2 told (Standing fits gate extent epoch) (λ i. LeavesBetween at first last (IsBehindGate gate (sized r) i.bytes)) (λ i. LeavesBetween at first last (IsBeforeOrAfter fits (records_of fits i.bytes) r)) stands left
       (λ i s l. leaves_map at first last (IsBehindGate gate (sized r) i.bytes) (IsBeforeOrAfter fits (records_of fits i.bytes) r) (λ c b. before_or_after fits gate (records_of fits i.bytes) i.bytes r c s.holds.front s.holds.shut good b) l)
 
   pub head_leaves : (told : Option Image) (at : ℕ → Option Image) (first last : ℕ) → IfSome told (Standing fits gate extent epoch)
-      → IfSome told (λ i. LeavesSince at first last (IsBehindGate gate (sized r) i.bytes)) → IfSome told (λ i. LeavesSince at first last (SameHead i.bytes))
-  head_leaves told at first last stands left = lift2 told (Standing fits gate extent epoch) (λ i. LeavesSince at first last (IsBehindGate gate (sized r) i.bytes)) (λ i. LeavesSince at first last (SameHead i.bytes)) stands left
+      → IfSome told (λ i. LeavesBetween at first last (IsBehindGate gate (sized r) i.bytes)) → IfSome told (λ i. LeavesBetween at first last (SameHead i.bytes))
+  head_leaves told at first last stands left = lift2 told (Standing fits gate extent epoch) (λ i. LeavesBetween at first last (IsBehindGate gate (sized r) i.bytes)) (λ i. LeavesBetween at first last (SameHead i.bytes)) stands left
       (λ i s l. leaves_map at first last (IsBehindGate gate (sized r) i.bytes) (SameHead i.bytes) (λ c b. head_stays gate (sized r) i.bytes c (low i s) s.holds.front.room b) l)
 
   -- before the first call
-  begun : (i : Image) (at : ℕ → Option Image) (first : ℕ) → Standing fits gate extent epoch i → at first ≡ Some i → LeavesSince at first first (IsBehindGate gate (sized r) i.bytes)
+  begun : (i : Image) (at : ℕ → Option Image) (first : ℕ) → Standing fits gate extent epoch i → at first ≡ Some i → LeavesBetween at first first (IsBehindGate gate (sized r) i.bytes)
   begun i at first s here = started at first (IsBehindGate gate (sized r) i.bytes) (subst (λ (o : Option Image). IfSome o (Safe (IsBehindGate gate (sized r) i.bytes))) (sym here)
       (λ c left. let same = only_settled i c s.holds.settled left in inl (record { same = ap (take (gate + 1)) same; within = omega (arith, ap length same, s.holds.front.room) })))
 
-  pub append_begun : (told : Option Image) (at : ℕ → Option Image) (first : ℕ) → IfSome told (Standing fits gate extent epoch) → at first ≡ told → IfSome told (λ i. LeavesSince at first first (IsBehindGate gate (sized r) i.bytes))
+  pub append_begun : (told : Option Image) (at : ℕ → Option Image) (first : ℕ) → IfSome told (Standing fits gate extent epoch) → at first ≡ told → IfSome told (λ i. LeavesBetween at first first (IsBehindGate gate (sized r) i.bytes))
   append_begun None at first stands here = tt
   append_begun (Some i) at first stands here = begun i at first stands here
 

@@ -6,7 +6,7 @@ use Rattle.std.proofs.lemmas.Bool.{cases_eq}
 use Rattle.std.proofs.lemmas.Bool.Decides.{nat_tests}
 use Rattle.spl_edge.specs.Image.{Image, MayLeave, settled_at}
 use Rattle.spl_journal.specs.Clear.{IsCleared}
-use Rattle.spl_journal.specs.Gate.{IsReady, LeavesSince, IsUpToGate, IsBehindGate, behind, opened}
+use Rattle.spl_journal.specs.Gate.{IsReady, IsUpToGate, IsBehindGate, behind, opened, LeavesBetween}
 use Rattle.spl_journal.specs.Records.{magic, epoch_bytes, epoch_in, closed_front, block, blocks, filling, is_headed, head_fault, is_open, records, IsGood, AreGood, IsFront, Holds, Standing, IsClosedOrFilled}
 use Rattle.spl_journal.proofs.Sizes.{length-epoch_bytes, length-closed_front, epoch_is}
 use Rattle.spl_journal.proofs.Images.{Safe, only_settled}
@@ -153,12 +153,12 @@ module _ (fits : List ℕ → Bool) (epoch : ℕ) (rs : List (List ℕ)) (good :
       (ap (λ (j : Image). records fits j.bytes) (filled_image epoch rs i cleared) ∙ records_whole fits epoch rs good)
 
   pub fill_leaves : (told : Option Image) (at : ℕ → Option Image) (first last : ℕ) → IfSome told (IsCleared epoch)
-      → IfSome told (λ i. LeavesSince at first last (IsBehindGate 16 (filling rs) i.bytes)) → IfSome told (λ i. LeavesSince at first last (IsClosedOrFilled fits epoch rs))
+      → IfSome told (λ i. LeavesBetween at first last (IsBehindGate 16 (filling rs) i.bytes)) → IfSome told (λ i. LeavesBetween at first last (IsClosedOrFilled fits epoch rs))
   fill_leaves None at first last cleared left = tt
   fill_leaves (Some i) at first last cleared left = leaves_map at first last (IsBehindGate 16 (filling rs) i.bytes) (IsClosedOrFilled fits epoch rs)
       (λ d b. closed_or_filled fits epoch rs good small d (subst (λ (j : Image). IsBehindGate 16 (filling rs) j.bytes d) cleared b)) left
 
-  pub fill_begun : (told : Option Image) (at : ℕ → Option Image) (first : ℕ) → IfSome told (IsCleared epoch) → at first ≡ told → IfSome told (λ i. LeavesSince at first first (IsClosedOrFilled fits epoch rs))
+  pub fill_begun : (told : Option Image) (at : ℕ → Option Image) (first : ℕ) → IfSome told (IsCleared epoch) → at first ≡ told → IfSome told (λ i. LeavesBetween at first first (IsClosedOrFilled fits epoch rs))
   fill_begun None at first cleared here = tt
   fill_begun (Some i) at first cleared here = started at first (IsClosedOrFilled fits epoch rs) (subst (λ (o : Option Image). IfSome o (Safe (IsClosedOrFilled fits epoch rs))) (sym here)
       (λ d left.

@@ -5,9 +5,10 @@ use Rattle.std.specs.Option.{option_map}
 use Rattle.spl_edge.specs.declared.fault.DeviceError.{DeviceError}
 use Rattle.spl_edge.specs.declared.fault.DeviceError.TheVariants.{Failed}
 use Rattle.spl_edge.specs.Image.{Image, after_write, after_sync}
-use Rattle.spl_edge.specs.Calls.{Changes, Passes, PartOfWrite, SamePast, IsArmed, fails_at}
+use Rattle.spl_edge.specs.Calls.{Changes, PartOfWrite, SamePast, IsArmed, fails_at, IsCall, fails_now}
 use Rattle.spl_edge.specs.declared.disk.Armed.{Armed}
-use Rattle.spl_journal.specs.Gate.{IsReady, LeavesSince, IsBehindGate, ByCalls, opened}
+use Rattle.spl_edge.specs.Views.{DiskView, image_now}
+use Rattle.spl_journal.specs.Gate.{IsReady, IsBehindGate, ByCalls, opened, LeavesBetween}
 use Rattle.spl_journal.proofs.Images.{Safe, safe_0, safe_1, safe_2, safe_3, safe_4, part_0, part_2}
 
 abbrev pub bytes_of : Option Image → List ℕ
@@ -18,10 +19,10 @@ pub of_told : (o : Option Image) (Q : List ℕ → Type 0) → Q (bytes_of o) �
 of_told None Q q = tt
 of_told (Some i) Q q = q
 
-pub started : (at : ℕ → Option Image) (m : ℕ) (P : List ℕ → Type 0) → IfSome (at m) (Safe P) → LeavesSince at m m P
+pub started : (at : ℕ → Option Image) (m : ℕ) (P : List ℕ → Type 0) → IfSome (at m) (Safe P) → LeavesBetween at m m P
 started at m P here k low high = let same : m ≡ k = omega arith in subst (λ (n : ℕ). IfSome (at n) (Safe P)) same here
 
-pub goes_on : (at later : ℕ → Option Image) (first m now : ℕ) (P : List ℕ → Type 0) → LeavesSince at first m P → SamePast at m later → now ≡ min (m + 1) (2 ^ 64 - 1) → IfSome (later now) (Safe P) → LeavesSince later first now P
+pub goes_on : (at later : ℕ → Option Image) (first m now : ℕ) (P : List ℕ → Type 0) → LeavesBetween at first m P → ((t : ℕ) → t ≤ m → later t ≡ at t) → now ≡ min (m + 1) (2 ^ 64 - 1) → IfSome (later now) (Safe P) → LeavesBetween later first now P
 goes_on at later first m now P so_far past tick here k low high =
     ⊎_elim
     (λ (above : m < k). let same : now ≡ k = omega arith in subst (λ (n : ℕ). IfSome (later n) (Safe P)) same here)
@@ -97,46 +98,46 @@ then_4 gate piece None old new is was = is ∙ ap (λ (o : Option Image). option
 then_4 gate piece (Some i) old new is was = is ∙ ap (λ (o : Option Image). option_map after_sync o) was
 
 -- the failing call came behind so many
-pub by_calls : {T : Type 0} (most : ℕ) (at later : ℕ → Option Image) (first m now calls faults risen : ℕ) (f : ℕ → Image → Image) (g : Image → Image) (Part : Image → Image → Type 0) (told : Option Image) (armed was : Armed) (e : DeviceError)
-    → m ≡ first + calls → calls < most → at m ≡ option_map (f calls) told → was ≡ armed → ((j : ℕ) → j < calls → IsTrue (fails_at armed (first + j)) → ⊥)
-    → SamePast at m later → Passes {T = T} m now faults risen was (Err e) → Changes {T = T} (fails_at was m) (Err e) g Part (at m) (later now)
-    → ByCalls most later first now f told armed (IsOk {T = T} {E = DeviceError} (Err e)) (IsErrOf {T = T} {E = DeviceError} (Err e) Failed)
-by_calls most at later first m now calls faults risen f g Part told armed was e here fewer stands same passed past call change = record {
+pub by_calls : {T : Type 0} (most : ℕ) (x y z : DiskView) (calls : ℕ) (f : ℕ → Image → Image) (g : Image → Image) (Part : Image → Image → Type 0) (e : DeviceError)
+    → y.moment ≡ x.moment + calls → calls < most → image_now y ≡ option_map (f calls) (image_now x) → y.armed ≡ x.armed → ((j : ℕ) → j < calls → IsTrue (fails_at x.armed (x.moment + j)) → ⊥)
+    → SamePast y z → IsCall {T = T} y z (Err e) → Changes {T = T} (fails_now y) (Err e) g Part (image_now y) (image_now z)
+    → ByCalls most x z f (IsOk {T = T} {E = DeviceError} (Err e)) (IsErrOf {T = T} {E = DeviceError} (Err e) Failed)
+by_calls most x y z calls f g Part e here fewer stands same passed past call change = record {
   calls = calls;
   at_most = omega (arith, fewer);
-  stands = ap later (sym here) ∙ past m (omega arith) ∙ stands;
+  stands = ap z.image_at (sym here) ∙ past y.moment (omega arith) ∙ stands;
   last = omega (arith, here, call.any_tick);
   passed = passed;
-  still = λ due. change.stopped (subst IsTrue (sym due_is) due) ∙ sym (past m (omega arith)) ∙ ap later here;
+  still = λ due. change.stopped (subst IsTrue (sym due_is) due) ∙ sym (past y.moment (omega arith)) ∙ ap z.image_at here;
   named = λ failed is_armed. subst IsTrue due_is (call.named failed (subst (λ (a : Armed). IsArmed a) (sym same) is_armed));
   whole = λ ok. cc;
   fewer = λ failed. fewer;
 }
   where
-    due_is : fails_at was m ≡ fails_at armed (first + calls)
-    due_is = ap (λ (a : Armed). fails_at a m) same ∙ ap (λ (n : ℕ). fails_at armed n) here
+    due_is : fails_now y ≡ fails_at x.armed (x.moment + calls)
+    due_is = ap (λ (a : Armed). fails_at a y.moment) same ∙ ap (λ (n : ℕ). fails_at x.armed n) here
 
 -- a call that succeeded was none that the arming names
-pub passed_more : {U : Type 0} (first m calls now faults risen : ℕ) (armed was : Armed) (x : U) → m ≡ first + calls → was ≡ armed → Passes m now faults risen was (Ok x)
-    → ((j : ℕ) → j < calls → IsTrue (fails_at armed (first + j)) → ⊥) → (j : ℕ) → j < calls + 1 → IsTrue (fails_at armed (first + j)) → ⊥
-passed_more first m calls now faults risen armed was x here same call before j lt due = ⊎_elim
-    (λ (is : j ≡ calls). call.stopped (subst IsTrue (ap (λ (n : ℕ). fails_at armed n) (omega (arith, is, here)) ∙ ap (λ (a : Armed). fails_at a m) (sym same)) due))
+pub passed_more : {U : Type 0} (x y z : DiskView) (calls : ℕ) (value : U) → y.moment ≡ x.moment + calls → y.armed ≡ x.armed → IsCall y z (Ok value)
+    → ((j : ℕ) → j < calls → IsTrue (fails_at x.armed (x.moment + j)) → ⊥) → (j : ℕ) → j < calls + 1 → IsTrue (fails_at x.armed (x.moment + j)) → ⊥
+passed_more x y z calls value here same call before j lt due = ⊎_elim
+    (λ (is : j ≡ calls). call.stopped (subst IsTrue (ap (λ (n : ℕ). fails_at x.armed n) (omega (arith, is, here)) ∙ ap (λ (a : Armed). fails_at a y.moment) (sym same)) due))
     (λ other. before j (omega (arith, lt, ne_lt j calls lt other)) due)
     (cases_eq j calls)
   where
     ne_lt : (a b : ℕ) → a < b + 1 → (a ≡ b → ⊥) → a < b
     ne_lt a b less ne = ⊎_elim (λ (l : a < b). l) (λ (g : b ≤ a). absurd (ne (omega arith))) (cases_lt a b)
 
-pub no_calls : (at : ℕ → Option Image) (first : ℕ) (gate : ℕ) (piece : List ℕ) (armed : Armed) (ok failed : Type 0) → (ok → ⊥) → (failed → ⊥) → ByCalls 4 at first first (opened gate piece) (at first) armed ok failed
-no_calls at first gate piece armed ok failed not_ok not_failed =
-    let here : first + 0 ≡ first = omega arith in
+pub no_calls : (x : DiskView) (gate : ℕ) (piece : List ℕ) (ok failed : Type 0) → (ok → ⊥) → (failed → ⊥) → ByCalls 4 x x (opened gate piece) ok failed
+no_calls x gate piece ok failed not_ok not_failed =
+    let here : x.moment + 0 ≡ x.moment = omega arith in
     record {
       calls = 0;
       at_most = omega arith;
-      stands = ap at here ∙ opened_0 gate piece (at first);
+      stands = ap x.image_at here ∙ opened_0 gate piece (image_now x);
       last = omega arith;
       passed = λ j lt due. absurd (omega (arith, lt));
-      still = λ due. ap at (sym here);
+      still = λ due. ap x.image_at (sym here);
       named = λ f. absurd (not_failed f);
       whole = λ o. absurd (not_ok o);
       fewer = λ f. absurd (not_failed f);

@@ -7,10 +7,11 @@ use Rattle.std.proofs.lemmas.List.{take-take, get_or-take}
 use Rattle.std.proofs.lemmas.Bool.{cases_lt}
 use Rattle.std.proofs.lemmas.Bool.Decides.{nat_tests}
 use Rattle.spl_edge.specs.Image.{Image}
-use Rattle.spl_edge.specs.Calls.{SamePast, fails_at}
+use Rattle.spl_edge.specs.Calls.{fails_at}
 use Rattle.spl_edge.specs.declared.disk.Armed.{Armed}
+use Rattle.spl_edge.specs.Views.{DiskView, image_now}
 use Rattle.spl_journal.specs.Clear.{IsShortOrSame}
-use Rattle.spl_journal.specs.Gate.{LeavesSince, ByCalls}
+use Rattle.spl_journal.specs.Gate.{ByCalls, LeavesBetween}
 use Rattle.spl_journal.specs.Records.{magic, is_headed, head_fault, is_open, epoch_in, records, records_of, Standing, SameHead}
 use Rattle.spl_journal.proofs.Images.{Safe}
 use Rattle.spl_journal.proofs.Sizes.{same_epoch}
@@ -64,16 +65,17 @@ module _ (fits : List ℕ → Bool) (end extent epoch : ℕ) (i : Image) (s : St
   standing_records = closed fits end (records_of fits i.bytes) i.bytes s.holds.front s.holds.shut
 
 -- what may be left at these moments and at those
-pub leaves_join : (at later : ℕ → Option Image) (first m last : ℕ) (P : List ℕ → Type 0) → LeavesSince at first m P → SamePast at m later → LeavesSince later m last P → LeavesSince later first last P
+pub leaves_join : (at later : ℕ → Option Image) (first m last : ℕ) (P : List ℕ → Type 0) → LeavesBetween at first m P → ((t : ℕ) → t ≤ m → later t ≡ at t) → LeavesBetween later m last P → LeavesBetween later first last P
 leaves_join at later first m last P before past behind k low high = ⊎_elim
     (λ (lt : k < m). subst (λ (o : Option Image). IfSome o (Safe P)) (sym (past k (omega (arith, lt)))) (before k low (omega (arith, lt))))
     (λ (le : m ≤ k). behind k le high)
     (cases_lt k m)
 
 -- a call that made all its calls of a disk
-module _ (most : ℕ) (at : ℕ → Option Image) (first now : ℕ) (f : ℕ → Image → Image) (told : Option Image) (armed : Armed) (ok failed : Type 0) (calls : ByCalls most at first now f told armed ok failed) (is_ok : ok) where
-  pub all_passed : (n : ℕ) → n < most → IsTrue (fails_at armed (first + n)) → ⊥
+module _ (most : ℕ) (x y : DiskView) (f : ℕ → Image → Image) (ok failed : Type 0) (calls : ByCalls most x y f ok failed) (is_ok : ok) where
+  pub all_passed : (n : ℕ) → n < most → IsTrue (fails_at x.armed (x.moment + n)) → ⊥
   all_passed n lt due = let all = calls.whole is_ok in calls.passed n (omega (arith, lt, all)) due
 
-  pub told_then : now ≡ first + most → at now ≡ option_map (f most) told
-  told_then is = let all = calls.whole is_ok in ap at is ∙ ap (λ (n : ℕ). at (first + n)) (sym all) ∙ calls.stands ∙ ap (λ (n : ℕ). option_map (f n) told) all
+  pub told_then : y.moment ≡ x.moment + most → image_now y ≡ option_map (f most) (image_now x)
+  told_then is = let all = calls.whole is_ok in
+      ap y.image_at is ∙ ap (λ (n : ℕ). y.image_at (x.moment + n)) (sym all) ∙ calls.stands ∙ ap (λ (n : ℕ). option_map (f n) (image_now x)) all

@@ -7,6 +7,7 @@ use Rattle.std.proofs.lemmas.Bool.{cases_lt}
 use Rattle.std.proofs.lemmas.Bool.Decides.{nat_tests}
 use Rattle.spl_edge.specs.Image.{Image}
 use Rattle.spl_edge.specs.Calls.{SamePast}
+use Rattle.spl_edge.specs.Views.{DiskView, image_now}
 use Rattle.spl_journal.specs.Records.{magic, size_bytes, size_from, size_at, record_at, is_block, is_headed, head_fault, walk, walk_behind, records, epoch_from, epoch_in, IsFront}
 use Rattle.spl_journal.specs.Reads.{Stays, IsNext}
 use Rattle.spl_journal.proofs.Walks.{take_add}
@@ -115,26 +116,26 @@ lift1 None P R p f = tt
 lift1 (Some i) P R p f = f i p
 
 -- reads go on
-pub stays_more : (old mid new : ℕ → Option Image) (first m now : ℕ) → Stays old first mid m → Stays mid m new now → Stays old first new now
-stays_more old mid new first m now a b = record {
+pub stays_more : (x y z : DiskView) → Stays x y → Stays y z → Stays x z
+stays_more x y z a b = record {
   past = λ t le. b.past t (omega (arith, le, a.later)) ∙ a.past t le;
   still = λ k low high. ⊎_elim
-      (λ (lt : k < m). b.past k (omega (arith, lt)) ∙ a.still k low (omega (arith, lt)))
-      (λ (le : m ≤ k). b.still k le high ∙ a.still m a.later (omega arith))
-      (cases_lt k m);
+      (λ (lt : k < y.moment). b.past k (omega (arith, lt)) ∙ a.still k low (omega (arith, lt)))
+      (λ (le : y.moment ≤ k). b.still k le high ∙ a.still y.moment a.later (omega arith))
+      (cases_lt k y.moment);
   later = omega (arith, a.later, b.later);
 }
 
-pub stays_none : (old : ℕ → Option Image) (first : ℕ) → Stays old first old first
-stays_none old first = record { past = λ t le. refl; still = λ k low high. let same : k ≡ first = omega (arith, low, high) in ap old same; later = omega arith }
+pub stays_none : (x : DiskView) → Stays x x
+stays_none x = record { past = λ t le. refl; still = λ k low high. let same : k ≡ x.moment = omega (arith, low, high) in ap x.image_at same; later = omega arith }
 
-pub stays_call : (at new : ℕ → Option Image) (m now : ℕ) → SamePast at m new → now ≡ min (m + 1) (2 ^ 64 - 1) → m ≤ now → new now ≡ at m → Stays at m new now
-stays_call at new m now past tick later same = record {
+pub stays_call : (x y : DiskView) → SamePast x y → y.moment ≡ min (x.moment + 1) (2 ^ 64 - 1) → x.moment ≤ y.moment → image_now y ≡ image_now x → Stays x y
+stays_call x y past tick later same = record {
   past = past;
   still = λ k low high. ⊎_elim
-      (λ (lt : m < k). let here : k ≡ now = omega arith in ap new here ∙ same)
-      (λ (le : k ≤ m). let here : k ≡ m = omega arith in past k le ∙ ap at here)
-      (cases_lt m k);
+      (λ (lt : x.moment < k). let here : k ≡ y.moment = omega arith in ap y.image_at here ∙ same)
+      (λ (le : k ≤ x.moment). let here : k ≡ x.moment = omega arith in past k le ∙ ap x.image_at here)
+      (cases_lt x.moment k);
   later = later;
 }
 

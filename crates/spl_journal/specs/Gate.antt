@@ -3,6 +3,7 @@ use Rattle.std.specs.Prelude.{◌≡◌, ◌⊎◌, ◌≤◌, ◌<◌, ◌+◌,
 use Rattle.std.specs.Option.{option_map}
 use Rattle.spl_edge.specs.Image.{Image, IsSettled, MayLeave, patched, after_write, after_sync}
 use Rattle.spl_edge.specs.Calls.{fails_at, IsArmed}
+use Rattle.spl_edge.specs.Views.{DiskView, image_now}
 use Rattle.spl_edge.specs.declared.disk.Armed.{Armed}
 
 -- nothing is pending, and the disk has this place
@@ -11,8 +12,12 @@ pub record IsReady (gate : ℕ) (i : Image) : Type 0 where
   pub within : gate < length i.bytes
 
 -- a crash at any of the moments from the first to the last leaves what has P
-abbrev pub LeavesSince : (ℕ → Option Image) → ℕ → ℕ → (List ℕ → Type 0) → Type 0
-LeavesSince at first last P = (k : ℕ) → first ≤ k → k ≤ last → IfSome (at k) (λ i. (c : List ℕ) → MayLeave i c → P c)
+abbrev pub LeavesBetween : (ℕ → Option Image) → ℕ → ℕ → (List ℕ → Type 0) → Type 0
+LeavesBetween at first last P = (k : ℕ) → first ≤ k → k ≤ last → IfSome (at k) (λ i. (c : List ℕ) → MayLeave i c → P c)
+
+-- so it did while a disk went from x to y
+abbrev pub LeavesSince : DiskView → DiskView → (List ℕ → Type 0) → Type 0
+LeavesSince x y P = LeavesBetween y.image_at x.moment y.moment P
 
 -- the piece stands behind the gate, which has this byte
 abbrev pub behind : ℕ → List ℕ → List ℕ → ℕ → List ℕ
@@ -38,14 +43,15 @@ opened gate piece (suc (suc (suc (suc n)))) i = after_sync (after_write gate (1 
 abbrev pub NamesOne : Armed → ℕ → ℕ → Type 0
 NamesOne armed first most = (j : ℕ) × (j < most) × IsTrue (fails_at armed (first + j))
 
--- of so many calls at most, some succeeded from the first moment on, each leaving what f has for it, and at most one failed behind them, which is the one that the arming names where it is armed
-pub record ByCalls (most : ℕ) (at : ℕ → Option Image) (first now : ℕ) (f : ℕ → Image → Image) (told : Option Image) (armed : Armed) (ok failed : Type 0) : Type 0 where
+-- of so many calls at most that took a disk from x to y, some succeeded, each leaving what f has for it, and at most one
+-- failed behind them, which is the one that the arming names where it is armed
+pub record ByCalls (most : ℕ) (x y : DiskView) (f : ℕ → Image → Image) (ok failed : Type 0) : Type 0 where
   pub calls : ℕ
   pub at_most : calls ≤ most
-  pub stands : at (first + calls) ≡ option_map (f calls) told
-  pub last : now ≤ first + calls + 1
-  pub passed : (j : ℕ) → j < calls → IsTrue (fails_at armed (first + j)) → ⊥
-  pub still : IsTrue (fails_at armed (first + calls)) → at now ≡ at (first + calls)
-  pub named : failed → IsArmed armed → IsTrue (fails_at armed (first + calls))
+  pub stands : y.image_at (x.moment + calls) ≡ option_map (f calls) (image_now x)
+  pub last : y.moment ≤ x.moment + calls + 1
+  pub passed : (j : ℕ) → j < calls → IsTrue (fails_at x.armed (x.moment + j)) → ⊥
+  pub still : IsTrue (fails_at x.armed (x.moment + calls)) → image_now y ≡ y.image_at (x.moment + calls)
+  pub named : failed → IsArmed x.armed → IsTrue (fails_at x.armed (x.moment + calls))
   pub whole : ok → calls ≡ most
   pub fewer : failed → calls < most

@@ -1,14 +1,15 @@
 -- What is read of a journal.
-use Rattle.std.specs.Prelude.{◌≡◌, ◌≢◌, ◌≤◌, ◌<◌, ◌+◌, ℕ, List, length, take, drop, get_or, Bool, Option}
+use Rattle.std.specs.Prelude.{◌≡◌, ◌≢◌, ◌≤◌, ◌<◌, ◌+◌, ℕ, List, length, take, drop, get_or, Bool}
 use Rattle.spl_edge.specs.Image.{Image}
 use Rattle.spl_edge.specs.Calls.{SamePast}
+use Rattle.spl_edge.specs.Views.{DiskView, image_now}
 use Rattle.spl_journal.specs.Records.{block, IsGood}
 
--- what was told before stays told, and at each moment since the first it held what it held then
-pub record Stays (old : ℕ → Option Image) (first : ℕ) (new : ℕ → Option Image) (last : ℕ) : Type 0 where
-  pub past : SamePast old first new
-  pub still : (k : ℕ) → first ≤ k → k ≤ last → new k ≡ old first
-  pub later : first ≤ last
+-- what was told before stays told, and at each moment since x the disk held what it held then
+pub record Stays (x y : DiskView) : Type 0 where
+  pub past : SamePast x y
+  pub still : (k : ℕ) → x.moment ≤ k → k ≤ y.moment → y.image_at k ≡ image_now x
+  pub later : x.moment ≤ y.moment
 
 -- a whole record stands behind the gate at this place, and another gate behind it
 pub record IsNext (fits : List ℕ → Bool) (at : ℕ) (r bytes : List ℕ) : Type 0 where

@@ -3,6 +3,8 @@ ghost use Rattle.std.specs.Prelude.{◌≡◌, ◌≤◌, ◌+◌, ℕ, Some, mi
 ghost use Rattle.std.specs.Option.{option_map};
 ghost use Rattle.spl_edge.specs.Causes.{Rose};
 ghost use Rattle.spl_edge.specs.Image.{settled_at};
+ghost use Rattle.spl_edge.specs.Views.{image_now};
+ghost use Rattle.spl_edge.specs.Calls.{Onward};
 ghost use Rattle.spl_journal.specs.Gate.{LeavesSince, ByCalls};
 ghost use Rattle.spl_journal.specs.Clear.{IsAtRest, IsShortOrSame, cleared};
 ghost use Rattle.spl_journal.specs.Journals.{epoch_cleared};
@@ -13,28 +15,23 @@ use crate::{JournalFault, fault_of};
 use spl_edge::{DeviceError, Disk};
 
 /// A disk that holds a head with a closed gate, and nothing else.
-#[derive(Debug, Drop)]
+#[derive(Drop)]
 pub struct Cleared {
     pub(crate) epoch: u64,
 }
 
 /// Cuts a disk to 17 bytes or fewer and writes a head of 17 bytes over them, by four calls.
 fn clear_to<D: Disk>(disk: &mut D, len: u64, head: &[u8]) -> Result<(), DeviceError>
-    requires rest { IfSome (D.image_at disk.old (D.moment disk.old)) (IsAtRest len) }
+    requires rest { IfSome (image_now (D.view disk.old)) (IsAtRest len) }
     requires head { length head.now ≡ 17 }
-    ensures cleared { OnOk result (D.image_at disk.new (D.moment disk.new)
-        ≡ option_map (cleared (min len 17) head.now 4) (D.image_at disk.old (D.moment disk.old))) }
-    ensures four { OnOk result (D.moment disk.new ≡ D.moment disk.old + 4) }
-    ensures any_moment { IfSome (D.image_at disk.old (D.moment disk.old)) (λ i.
-        LeavesSince (D.image_at disk.new) (D.moment disk.old) (D.moment disk.new) (IsShortOrSame i.bytes)) }
-    ensures by_calls { ByCalls 4 (D.image_at disk.new) (D.moment disk.old) (D.moment disk.new) (cleared (min len 17) head.now)
-        (D.image_at disk.old (D.moment disk.old)) (D.armed disk.old) (IsOk result) (IsErrOf result DeviceError.Failed) }
-    ensures past { (t : ℕ) → t ≤ D.moment disk.old → D.image_at disk.new t ≡ D.image_at disk.old t }
-    ensures later { D.moment disk.old ≤ D.moment disk.new }
-    ensures failed { IsErrOf result DeviceError.Failed → Rose (D.faults disk.old) (D.faults disk.new) }
-    ensures no_less { D.faults disk.old ≤ D.faults disk.new }
-    ensures armed { D.armed disk.new ≡ D.armed disk.old }
-    ensures picks { D.picks disk.new ≡ D.picks disk.old }
+    ensures cleared { OnOk result (image_now (D.view disk.new)
+        ≡ option_map (cleared (min len 17) head.now 4) (image_now (D.view disk.old))) }
+    ensures four { OnOk result ((D.view disk.new).moment ≡ (D.view disk.old).moment + 4) }
+    ensures any_moment { IfSome (image_now (D.view disk.old)) (λ i.
+        LeavesSince (D.view disk.old) (D.view disk.new) (IsShortOrSame i.bytes)) }
+    ensures by_calls { ByCalls 4 (D.view disk.old) (D.view disk.new) (cleared (min len 17) head.now) (IsOk result) (IsErrOf result DeviceError.Failed) }
+    ensures onward { Onward (D.view disk.old) (D.view disk.new) }
+    ensures failed { IsErrOf result DeviceError.Failed → Rose (D.view disk.old).faults (D.view disk.new).faults }
 {
     if let Err(fault) = disk.cut(len.min(17)) {
         return Err(fault);
@@ -53,24 +50,20 @@ fn clear_to<D: Disk>(disk: &mut D, len: u64, head: &[u8]) -> Result<(), DeviceEr
 
 /// Makes a disk ready for a journal of this epoch, by four calls. Its length has to be told, and nothing pending on it.
 pub fn clear<D: Disk>(disk: &mut D, len: u64, epoch: u64) -> Result<Cleared, JournalFault>
-    requires rest { IfSome (D.image_at disk.old (D.moment disk.old)) (IsAtRest len) }
-    ensures cleared { OnOk result (D.image_at disk.new (D.moment disk.new)
-        ≡ option_map (λ i. settled_at (closed_front epoch)) (D.image_at disk.old (D.moment disk.old))) }
+    requires rest { IfSome (image_now (D.view disk.old)) (IsAtRest len) }
+    ensures cleared { OnOk result (image_now (D.view disk.new)
+        ≡ option_map (λ i. settled_at (closed_front epoch)) (image_now (D.view disk.old))) }
     ensures epoch { IfOk result (λ c. epoch_cleared c ≡ epoch) }
-    ensures four { OnOk result (D.moment disk.new ≡ D.moment disk.old + 4) }
+    ensures four { OnOk result ((D.view disk.new).moment ≡ (D.view disk.old).moment + 4) }
 
     // Until the end a stop leaves fewer than 18 bytes, or the first 17 that it had and no more bytes.
-    ensures any_moment { IfSome (D.image_at disk.old (D.moment disk.old)) (λ i.
-        LeavesSince (D.image_at disk.new) (D.moment disk.old) (D.moment disk.new) (IsShortOrSame i.bytes)) }
-    ensures by_calls { ByCalls 4 (D.image_at disk.new) (D.moment disk.old) (D.moment disk.new) (cleared (min len 17) (closed_front epoch))
-        (D.image_at disk.old (D.moment disk.old)) (D.armed disk.old) (IsOk result) (IsErrOf result JournalFault.Disk) }
-    ensures past { (t : ℕ) → t ≤ D.moment disk.old → D.image_at disk.new t ≡ D.image_at disk.old t }
-    ensures later { D.moment disk.old ≤ D.moment disk.new }
-    ensures failed { IsErrOf result JournalFault.Disk → Rose (D.faults disk.old) (D.faults disk.new) }
+    ensures any_moment { IfSome (image_now (D.view disk.old)) (λ i.
+        LeavesSince (D.view disk.old) (D.view disk.new) (IsShortOrSame i.bytes)) }
+    ensures by_calls { ByCalls 4 (D.view disk.old) (D.view disk.new) (cleared (min len 17) (closed_front epoch)) (IsOk result)
+        (IsErrOf result JournalFault.Disk) }
+    ensures onward { Onward (D.view disk.old) (D.view disk.new) }
+    ensures failed { IsErrOf result JournalFault.Disk → Rose (D.view disk.old).faults (D.view disk.new).faults }
     ensures not { (at : ℕ) → IsErrOf result (JournalFault.NotAJournal at) → ⊥ }
-    ensures no_less { D.faults disk.old ≤ D.faults disk.new }
-    ensures armed { D.armed disk.new ≡ D.armed disk.old }
-    ensures picks { D.picks disk.new ≡ D.picks disk.old }
 {
     let head = closed_front(epoch);
     match clear_to(disk, len, &head) {

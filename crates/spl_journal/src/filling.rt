@@ -1,6 +1,8 @@
 //! A journal written whole on a cleared disk.
 ghost use Rattle.std.specs.Prelude.{◌≡◌, ◌≤◌, ◌<◌, ◌+◌, ◌^◌, ◌++◌, ◌∷◌, [], ℕ, Ok, false, length, OnOk, IfOk, IfSome, IsOk, IsErrOf};
 ghost use Rattle.spl_edge.specs.Causes.{Rose};
+ghost use Rattle.spl_edge.specs.Views.{image_now};
+ghost use Rattle.spl_edge.specs.Calls.{Onward};
 ghost use Rattle.spl_journal.specs.Clear.{IsCleared};
 ghost use Rattle.spl_journal.specs.Gate.{LeavesSince, ByCalls, opened};
 ghost use Rattle.spl_journal.specs.Journals.{Stands, len_of, base_of, epoch_of, extent_of, is_halted, epoch_cleared};
@@ -54,26 +56,21 @@ pub fn fill<R: Form, D: Disk>(
     disk: &mut D,
     contents: &Records,
 ) -> Result<Journal<R>, JournalFault>
-    requires cleared { IfSome (D.image_at disk.old (D.moment disk.old)) (IsCleared (epoch_cleared cleared)) }
+    requires cleared { IfSome (image_now (D.view disk.old)) (IsCleared (epoch_cleared cleared)) }
     requires good { AreGood R.is_record contents.now }
-    ensures stands { IfOk result (λ j. IfSome (D.image_at disk.new (D.moment disk.new)) (Stands R.is_record j)) }
-    ensures records { OnOk result (IfSome (D.image_at disk.new (D.moment disk.new)) (λ i. records R.is_record i.bytes ≡ Ok contents.now)) }
+    ensures stands { IfOk result (λ j. IfSome (image_now (D.view disk.new)) (Stands R.is_record j)) }
+    ensures records { OnOk result (IfSome (image_now (D.view disk.new)) (λ i. records R.is_record i.bytes ≡ Ok contents.now)) }
     ensures len { IfOk result (λ j. (len_of j ≡ 18 + length (blocks contents.now)) × (base_of j ≡ len_of j) × (extent_of j ≡ len_of j)) }
     ensures fresh { IfOk result (λ j. (epoch_of j ≡ epoch_cleared cleared) × (is_halted j ≡ false)) }
-    ensures four { OnOk result (D.moment disk.new ≡ D.moment disk.old + 4) }
+    ensures four { OnOk result ((D.view disk.new).moment ≡ (D.view disk.old).moment + 4) }
 
     // Until the end a stop leaves a closed head, or these records.
-    ensures any_moment { IfSome (D.image_at disk.old (D.moment disk.old)) (λ i.
-        LeavesSince (D.image_at disk.new) (D.moment disk.old) (D.moment disk.new) (IsClosedOrFilled R.is_record (epoch_cleared cleared) contents.now)) }
-    ensures by_calls { ByCalls 4 (D.image_at disk.new) (D.moment disk.old) (D.moment disk.new) (opened 16 (filling contents.now))
-        (D.image_at disk.old (D.moment disk.old)) (D.armed disk.old) (IsOk result) (IsErrOf result JournalFault.Disk) }
-    ensures past { (t : ℕ) → t ≤ D.moment disk.old → D.image_at disk.new t ≡ D.image_at disk.old t }
-    ensures later { D.moment disk.old ≤ D.moment disk.new }
-    ensures failed { IsErrOf result JournalFault.Disk → Rose (D.faults disk.old) (D.faults disk.new) }
+    ensures any_moment { IfSome (image_now (D.view disk.old)) (λ i.
+        LeavesSince (D.view disk.old) (D.view disk.new) (IsClosedOrFilled R.is_record (epoch_cleared cleared) contents.now)) }
+    ensures by_calls { ByCalls 4 (D.view disk.old) (D.view disk.new) (opened 16 (filling contents.now)) (IsOk result) (IsErrOf result JournalFault.Disk) }
+    ensures onward { Onward (D.view disk.old) (D.view disk.new) }
+    ensures failed { IsErrOf result JournalFault.Disk → Rose (D.view disk.old).faults (D.view disk.new).faults }
     ensures not { (at : ℕ) → IsErrOf result (JournalFault.NotAJournal at) → ⊥ }
-    ensures no_less { D.faults disk.old ≤ D.faults disk.new }
-    ensures armed { D.armed disk.new ≡ D.armed disk.old }
-    ensures picks { D.picks disk.new ≡ D.picks disk.old }
 {
     let Ok(piece) = filling::<R>(alloc, contents.as_slice()) else {
         return Err(JournalFault::NoMemory);

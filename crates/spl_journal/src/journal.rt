@@ -1,6 +1,8 @@
 //! A journal on a disk.
 ghost use Rattle.std.specs.Prelude.{◌≡◌, ◌≤◌, ◌<◌, ◌+◌, ◌^◌, ◌++◌, ◌∷◌, [], ℕ, true, false, Ok, length, OnOk, OnErr, IfSome, IsSome, IsOk, IsErrOf};
 ghost use Rattle.spl_edge.specs.Causes.{Rose};
+ghost use Rattle.spl_edge.specs.Views.{image_now};
+ghost use Rattle.spl_edge.specs.Calls.{Onward};
 ghost use Rattle.spl_journal.specs.Gate.{LeavesSince, ByCalls, opened};
 ghost use Rattle.spl_journal.specs.Records.{records, records_of, sized, IsGood, IsBeforeOrAfter, SameHead};
 
@@ -83,32 +85,28 @@ impl<R: Form> Journal<R> {
     ) -> Result<(), JournalFault>
         requires running { is_halted self.old ≡ false }
         requires good { IsGood R.is_record bytes.now }
-        requires stands { IfSome (D.image_at disk.old (D.moment disk.old)) (Stands R.is_record self.old) }
+        requires stands { IfSome (image_now (D.view disk.old)) (Stands R.is_record self.old) }
 
-        ensures stands { OnOk result (IfSome (D.image_at disk.new (D.moment disk.new)) (Stands R.is_record self.new)) }
-        ensures records { OnOk result (IfSome (D.image_at disk.old (D.moment disk.old)) (λ i.
-            IfSome (D.image_at disk.new (D.moment disk.new)) (λ j. records R.is_record j.bytes ≡ Ok (records_of R.is_record i.bytes ++ bytes.now ∷ [])))) }
-        ensures tells { OnOk result (IfSome (D.image_at disk.old (D.moment disk.old)) (λ i. IsSome (D.image_at disk.new (D.moment disk.new)))) }
-        ensures four { OnOk result (D.moment disk.new ≡ D.moment disk.old + 4) }
+        ensures stands { OnOk result (IfSome (image_now (D.view disk.new)) (Stands R.is_record self.new)) }
+        ensures records { OnOk result (IfSome (image_now (D.view disk.old)) (λ i.
+            IfSome (image_now (D.view disk.new)) (λ j. records R.is_record j.bytes ≡ Ok (records_of R.is_record i.bytes ++ bytes.now ∷ [])))) }
+        ensures tells { OnOk result (IfSome (image_now (D.view disk.old)) (λ i. IsSome (image_now (D.view disk.new)))) }
+        ensures four { OnOk result ((D.view disk.new).moment ≡ (D.view disk.old).moment + 4) }
 
         // A stop at any moment of the call leaves the records from before it, or those and the new one.
-        ensures any_moment { IfSome (D.image_at disk.old (D.moment disk.old)) (λ i.
-            LeavesSince (D.image_at disk.new) (D.moment disk.old) (D.moment disk.new) (IsBeforeOrAfter R.is_record (records_of R.is_record i.bytes) bytes.now)) }
-        ensures head { IfSome (D.image_at disk.old (D.moment disk.old)) (λ i.
-            LeavesSince (D.image_at disk.new) (D.moment disk.old) (D.moment disk.new) (SameHead i.bytes)) }
-        ensures by_calls { ByCalls 4 (D.image_at disk.new) (D.moment disk.old) (D.moment disk.new) (opened (end_of self.old) (sized bytes.now))
-            (D.image_at disk.old (D.moment disk.old)) (D.armed disk.old) (IsOk result) (IsErrOf result JournalFault.Disk) }
-        ensures past { (t : ℕ) → t ≤ D.moment disk.old → D.image_at disk.new t ≡ D.image_at disk.old t }
-        ensures later { D.moment disk.old ≤ D.moment disk.new }
-        ensures failed { IsErrOf result JournalFault.Disk → Rose (D.faults disk.old) (D.faults disk.new) }
+        ensures any_moment { IfSome (image_now (D.view disk.old)) (λ i.
+            LeavesSince (D.view disk.old) (D.view disk.new) (IsBeforeOrAfter R.is_record (records_of R.is_record i.bytes) bytes.now)) }
+        ensures head { IfSome (image_now (D.view disk.old)) (λ i.
+            LeavesSince (D.view disk.old) (D.view disk.new) (SameHead i.bytes)) }
+        ensures by_calls { ByCalls 4 (D.view disk.old) (D.view disk.new) (opened (end_of self.old) (sized bytes.now)) (IsOk result)
+            (IsErrOf result JournalFault.Disk) }
+        ensures onward { Onward (D.view disk.old) (D.view disk.new) }
+        ensures failed { IsErrOf result JournalFault.Disk → Rose (D.view disk.old).faults (D.view disk.new).faults }
         ensures not { (at : ℕ) → IsErrOf result (JournalFault.NotAJournal at) → ⊥ }
-        ensures no_less { D.faults disk.old ≤ D.faults disk.new }
         ensures halted { OnErr result (is_halted self.new ≡ true) }
         ensures running { OnOk result (is_halted self.new ≡ false) }
         ensures len { OnOk result (len_of self.new ≡ len_of self.old + 5 + length bytes.now) }
         ensures same { (base_of self.new ≡ base_of self.old) × (epoch_of self.new ≡ epoch_of self.old) }
-        ensures armed { D.armed disk.new ≡ D.armed disk.old }
-        ensures picks { D.picks disk.new ≡ D.picks disk.old }
     {
         let gate = self.end;
         self.halted = true;

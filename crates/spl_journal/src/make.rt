@@ -2,6 +2,8 @@
 ghost use Rattle.std.specs.Prelude.{◌≡◌, ◌≤◌, ◌+◌, ◌++◌, ◌∷◌, [], ℕ, Ok, false, length, OnOk, IfOk, IfSome, IsErrOf};
 ghost use Rattle.std.specs.Option.{option_map};
 ghost use Rattle.spl_edge.specs.Causes.{Rose};
+ghost use Rattle.spl_edge.specs.Views.{image_now};
+ghost use Rattle.spl_edge.specs.Calls.{Onward};
 ghost use Rattle.spl_journal.specs.Journals.{Stands, len_of, base_of, epoch_of, is_halted};
 ghost use Rattle.spl_journal.specs.Make.{IsBlank, made};
 ghost use Rattle.spl_journal.specs.Records.{closed_head, records};
@@ -15,15 +17,11 @@ use std::marker::PhantomData;
 /// Writes a head and opens its gate, by four calls.
 fn write_head<D: Disk>(disk: &mut D, head: &[u8]) -> Result<(), DeviceError>
     requires long { length head.now ≡ 18 }
-    requires blank { IfSome (D.image_at disk.old (D.moment disk.old)) IsBlank }
-    ensures made { OnOk result (D.image_at disk.new (D.moment disk.new) ≡ option_map (made head.now) (D.image_at disk.old (D.moment disk.old))) }
-    ensures four { OnOk result (D.moment disk.new ≡ D.moment disk.old + 4) }
-    ensures past { (t : ℕ) → t ≤ D.moment disk.old → D.image_at disk.new t ≡ D.image_at disk.old t }
-    ensures later { D.moment disk.old ≤ D.moment disk.new }
-    ensures failed { IsErrOf result DeviceError.Failed → Rose (D.faults disk.old) (D.faults disk.new) }
-    ensures no_less { D.faults disk.old ≤ D.faults disk.new }
-    ensures armed { D.armed disk.new ≡ D.armed disk.old }
-    ensures picks { D.picks disk.new ≡ D.picks disk.old }
+    requires blank { IfSome (image_now (D.view disk.old)) IsBlank }
+    ensures made { OnOk result (image_now (D.view disk.new) ≡ option_map (made head.now) (image_now (D.view disk.old))) }
+    ensures four { OnOk result ((D.view disk.new).moment ≡ (D.view disk.old).moment + 4) }
+    ensures onward { Onward (D.view disk.old) (D.view disk.new) }
+    ensures failed { IsErrOf result DeviceError.Failed → Rose (D.view disk.old).faults (D.view disk.new).faults }
 {
     if let Err(fault) = disk.write_at(0, head) {
         return Err(fault);
@@ -46,19 +44,15 @@ pub fn format<R: Form, D: Disk>(
     disk: &mut D,
     epoch: u64,
 ) -> Result<Journal<R>, JournalFault>
-    requires blank { IfSome (D.image_at disk.old (D.moment disk.old)) IsBlank }
-    ensures made { OnOk result (D.image_at disk.new (D.moment disk.new) ≡ option_map (made (closed_head epoch)) (D.image_at disk.old (D.moment disk.old))) }
-    ensures stands { IfOk result (λ j. IfSome (D.image_at disk.new (D.moment disk.new)) (Stands R.is_record j)) }
-    ensures empty { OnOk result (IfSome (D.image_at disk.new (D.moment disk.new)) (λ i. records R.is_record i.bytes ≡ Ok [])) }
+    requires blank { IfSome (image_now (D.view disk.old)) IsBlank }
+    ensures made { OnOk result (image_now (D.view disk.new) ≡ option_map (made (closed_head epoch)) (image_now (D.view disk.old))) }
+    ensures stands { IfOk result (λ j. IfSome (image_now (D.view disk.new)) (Stands R.is_record j)) }
+    ensures empty { OnOk result (IfSome (image_now (D.view disk.new)) (λ i. records R.is_record i.bytes ≡ Ok [])) }
     ensures fresh { IfOk result (λ j. (len_of j ≡ 18) × (base_of j ≡ 18) × (epoch_of j ≡ epoch) × (is_halted j ≡ false)) }
-    ensures four { OnOk result (D.moment disk.new ≡ D.moment disk.old + 4) }
-    ensures past { (t : ℕ) → t ≤ D.moment disk.old → D.image_at disk.new t ≡ D.image_at disk.old t }
-    ensures later { D.moment disk.old ≤ D.moment disk.new }
+    ensures four { OnOk result ((D.view disk.new).moment ≡ (D.view disk.old).moment + 4) }
+    ensures onward { Onward (D.view disk.old) (D.view disk.new) }
     ensures not { (at : ℕ) → IsErrOf result (JournalFault.NotAJournal at) → ⊥ }
-    ensures failed { IsErrOf result JournalFault.Disk → Rose (D.faults disk.old) (D.faults disk.new) }
-    ensures no_less { D.faults disk.old ≤ D.faults disk.new }
-    ensures armed { D.armed disk.new ≡ D.armed disk.old }
-    ensures picks { D.picks disk.new ≡ D.picks disk.old }
+    ensures failed { IsErrOf result JournalFault.Disk → Rose (D.view disk.old).faults (D.view disk.new).faults }
 {
     let Ok(head) = closed_head(alloc, epoch) else {
         return Err(JournalFault::NoMemory);

@@ -1,6 +1,8 @@
 //! A journal that is read from a disk, in pieces.
 ghost use Rattle.std.specs.Prelude.{◌≡◌, ◌≤◌, ◌<◌, ◌+◌, ◌^◌, ℕ, None, Some, Err, length, drop, get_or, false, OnOk, IfOk, IfSome, IsErrOf};
 ghost use Rattle.spl_edge.specs.Causes.{Rose};
+ghost use Rattle.spl_edge.specs.Views.{image_now};
+ghost use Rattle.spl_edge.specs.Calls.{Onward};
 ghost use Rattle.spl_journal.specs.Records.{epoch_in, head_fault, is_block, IsGood};
 ghost use Rattle.spl_journal.specs.Reads.{Stays, IsNext, EndsAt};
 
@@ -20,14 +22,12 @@ fn zeros(alloc: Global, len: usize) -> Result<Vec<u8>, AllocError>
 
 /// The epoch of the journal whose head stands on a disk.
 pub(crate) fn read_head<D: Disk>(disk: &mut D) -> Result<u64, JournalFault>
-    ensures epoch { IfOk result (λ epoch. IfSome (D.image_at disk.old (D.moment disk.old)) (λ i. epoch ≡ epoch_in i.bytes)) }
-    ensures ok { OnOk result (IfSome (D.image_at disk.old (D.moment disk.old)) (λ i. head_fault i.bytes ≡ None)) }
-    ensures not { (at : ℕ) → IsErrOf result (JournalFault.NotAJournal at) → IfSome (D.image_at disk.old (D.moment disk.old)) (λ i. head_fault i.bytes ≡ Some at) }
-    ensures stays { Stays (D.image_at disk.old) (D.moment disk.old) (D.image_at disk.new) (D.moment disk.new) }
-    ensures failed { IsErrOf result JournalFault.Disk → Rose (D.faults disk.old) (D.faults disk.new) }
-    ensures no_less { D.faults disk.old ≤ D.faults disk.new }
-    ensures armed { D.armed disk.new ≡ D.armed disk.old }
-    ensures picks { D.picks disk.new ≡ D.picks disk.old }
+    ensures epoch { IfOk result (λ epoch. IfSome (image_now (D.view disk.old)) (λ i. epoch ≡ epoch_in i.bytes)) }
+    ensures ok { OnOk result (IfSome (image_now (D.view disk.old)) (λ i. head_fault i.bytes ≡ None)) }
+    ensures not { (at : ℕ) → IsErrOf result (JournalFault.NotAJournal at) → IfSome (image_now (D.view disk.old)) (λ i. head_fault i.bytes ≡ Some at) }
+    ensures stays { Stays (D.view disk.old) (D.view disk.new) }
+    ensures failed { IsErrOf result JournalFault.Disk → Rose (D.view disk.old).faults (D.view disk.new).faults }
+    ensures onward { Onward (D.view disk.old) (D.view disk.new) }
 {
     let mut head = [0; 18];
     let got = match disk.read(0, &mut head) {
@@ -50,16 +50,14 @@ pub(crate) fn read_next<R: Form, D: Disk>(
 ) -> Result<Option<(R::Read, u64)>, JournalFault>
     requires small { at + 5 < 2 ^ 64 }
     ensures next { IfOk result (λ found. IfSome found (λ r. IsGood R.is_record (R.bytes_of r.0)
-        × IfSome (D.image_at disk.old (D.moment disk.old)) (λ i. at < length i.bytes → IsNext R.is_record at (R.bytes_of r.0) i.bytes))) }
+        × IfSome (image_now (D.view disk.old)) (λ i. at < length i.bytes → IsNext R.is_record at (R.bytes_of r.0) i.bytes))) }
     ensures size { IfOk result (λ found. IfSome found (λ r. r.1 ≡ length (R.bytes_of r.0))) }
-    ensures end { IfOk result (λ found. found ≡ None → IfSome (D.image_at disk.old (D.moment disk.old)) (EndsAt at)) }
+    ensures end { IfOk result (λ found. found ≡ None → IfSome (image_now (D.view disk.old)) (EndsAt at)) }
     ensures not { (k : ℕ) → IsErrOf result (JournalFault.NotAJournal k) → (k ≡ at)
-        × IfSome (D.image_at disk.old (D.moment disk.old)) (λ i. at < length i.bytes → (get_or i.bytes at 0 ≡ 1) × (is_block R.is_record (drop at i.bytes) ≡ false)) }
-    ensures stays { Stays (D.image_at disk.old) (D.moment disk.old) (D.image_at disk.new) (D.moment disk.new) }
-    ensures failed { IsErrOf result JournalFault.Disk → Rose (D.faults disk.old) (D.faults disk.new) }
-    ensures no_less { D.faults disk.old ≤ D.faults disk.new }
-    ensures armed { D.armed disk.new ≡ D.armed disk.old }
-    ensures picks { D.picks disk.new ≡ D.picks disk.old }
+        × IfSome (image_now (D.view disk.old)) (λ i. at < length i.bytes → (get_or i.bytes at 0 ≡ 1) × (is_block R.is_record (drop at i.bytes) ≡ false)) }
+    ensures stays { Stays (D.view disk.old) (D.view disk.new) }
+    ensures failed { IsErrOf result JournalFault.Disk → Rose (D.view disk.old).faults (D.view disk.new).faults }
+    ensures onward { Onward (D.view disk.old) (D.view disk.new) }
 {
     let mut start = [0; 5];
     let got = match disk.read(at, &mut start) {

@@ -2,6 +2,8 @@
 ghost use Rattle.std.specs.Prelude.{◌≡◌, ◌≤◌, ◌<◌, ◌+◌, ◌-◌, ◌^◌, ◌++◌, ◌∷◌, [], ℕ, true, false, Ok, Err, Some, length, OnErr, IfOk, IfSome, IfNone, IsErrOf};
 ghost use Rattle.spl_edge.specs.Causes.{Rose};
 ghost use Rattle.spl_edge.specs.Image.{Image, IsSettled};
+ghost use Rattle.spl_edge.specs.Views.{image_now};
+ghost use Rattle.spl_edge.specs.Calls.{Onward};
 ghost use Rattle.spl_journal.specs.Reads.{Stays};
 ghost use Rattle.spl_journal.specs.Records.{records, head_fault, IsGood};
 
@@ -30,15 +32,13 @@ impl<R: Form> Journal<R> {
 
     /// Begins to read the journal of a disk. It isn't one where fewer than 18 bytes or another head stand there, or its gate is closed.
     pub fn walk<D: Disk>(disk: &mut D) -> Result<Walk<R>, JournalFault>
-        requires settled { IfSome (D.image_at disk.old (D.moment disk.old)) IsSettled }
-        ensures walks { IfOk result (λ w. IfSome (D.image_at disk.old (D.moment disk.old)) (Walks R.is_record w)) }
-        ensures start { IfOk result (λ w. IfSome (D.image_at disk.old (D.moment disk.old)) (λ i. given_by R.is_record w i.bytes ≡ [])) }
-        ensures not { (at : ℕ) → IsErrOf result (JournalFault.NotAJournal at) → IfSome (D.image_at disk.old (D.moment disk.old)) (λ i. head_fault i.bytes ≡ Some at) }
-        ensures stays { Stays (D.image_at disk.old) (D.moment disk.old) (D.image_at disk.new) (D.moment disk.new) }
-        ensures failed { IsErrOf result JournalFault.Disk → Rose (D.faults disk.old) (D.faults disk.new) }
-        ensures no_less { D.faults disk.old ≤ D.faults disk.new }
-        ensures armed { D.armed disk.new ≡ D.armed disk.old }
-        ensures picks { D.picks disk.new ≡ D.picks disk.old }
+        requires settled { IfSome (image_now (D.view disk.old)) IsSettled }
+        ensures walks { IfOk result (λ w. IfSome (image_now (D.view disk.old)) (Walks R.is_record w)) }
+        ensures start { IfOk result (λ w. IfSome (image_now (D.view disk.old)) (λ i. given_by R.is_record w i.bytes ≡ [])) }
+        ensures not { (at : ℕ) → IsErrOf result (JournalFault.NotAJournal at) → IfSome (image_now (D.view disk.old)) (λ i. head_fault i.bytes ≡ Some at) }
+        ensures stays { Stays (D.view disk.old) (D.view disk.new) }
+        ensures failed { IsErrOf result JournalFault.Disk → Rose (D.view disk.old).faults (D.view disk.new).faults }
+        ensures onward { Onward (D.view disk.old) (D.view disk.new) }
     {
         let epoch = match read_head(disk) {
             Ok(epoch) => epoch,
@@ -84,23 +84,22 @@ impl<R: Form> Walk<R> {
         alloc: Global,
         disk: &mut D,
     ) -> Result<Option<R::Read>, JournalFault>
-        requires walks { IfSome (D.image_at disk.old (D.moment disk.old)) (Walks R.is_record self.old) }
-        ensures walks { IfSome (D.image_at disk.old (D.moment disk.old)) (Walks R.is_record self.new) }
+        requires walks { IfSome (image_now (D.view disk.old)) (Walks R.is_record self.old) }
+        ensures walks { IfSome (image_now (D.view disk.old)) (Walks R.is_record self.new) }
         ensures good { IfOk result (λ found. IfSome found (λ r. IsGood R.is_record (R.bytes_of r))) }
-        ensures next { IfOk result (λ found. IfSome found (λ r. IfSome (D.image_at disk.old (D.moment disk.old)) (λ i.
+        ensures next { IfOk result (λ found. IfSome found (λ r. IfSome (image_now (D.view disk.old)) (λ i.
             given_by R.is_record self.new i.bytes ≡ given_by R.is_record self.old i.bytes ++ R.bytes_of r ∷ []))) }
         ensures shorter { IfOk result (λ found. IfSome found (λ r. left_of self.new < left_of self.old)) }
-        ensures none { IfOk result (λ found. IfNone found (IfSome (D.image_at disk.old (D.moment disk.old)) (λ i.
+        ensures none { IfOk result (λ found. IfNone found (IfSome (image_now (D.view disk.old)) (λ i.
             records R.is_record i.bytes ≡ Ok (given_by R.is_record self.old i.bytes)))) }
         ensures ended { IfOk result (λ found. IfNone found (has_ended self.new ≡ true)) }
-        ensures not { (at : ℕ) → IsErrOf result (JournalFault.NotAJournal at) → IfSome (D.image_at disk.old (D.moment disk.old)) (λ i. records R.is_record i.bytes ≡ Err at) }
+        ensures not { (at : ℕ) → IsErrOf result (JournalFault.NotAJournal at)
+            → IfSome (image_now (D.view disk.old)) (λ i. records R.is_record i.bytes ≡ Err at) }
         ensures unmoved { OnErr result (self.new ≡ self.old) }
         ensures same { (epoch_walked self.new ≡ epoch_walked self.old) × (extent_walked self.new ≡ extent_walked self.old) }
-        ensures stays { Stays (D.image_at disk.old) (D.moment disk.old) (D.image_at disk.new) (D.moment disk.new) }
-        ensures failed { IsErrOf result JournalFault.Disk → Rose (D.faults disk.old) (D.faults disk.new) }
-        ensures no_less { D.faults disk.old ≤ D.faults disk.new }
-        ensures armed { D.armed disk.new ≡ D.armed disk.old }
-        ensures picks { D.picks disk.new ≡ D.picks disk.old }
+        ensures stays { Stays (D.view disk.old) (D.view disk.new) }
+        ensures failed { IsErrOf result JournalFault.Disk → Rose (D.view disk.old).faults (D.view disk.new).faults }
+        ensures onward { Onward (D.view disk.old) (D.view disk.new) }
     {
         let at = self.at;
         let found = match read_next::<R, D>(alloc, disk, at) {

@@ -4,6 +4,7 @@ use Rattle.std.proofs.Math.Seq.{drop-append_seam, take-append_seam}
 use Rattle.std.proofs.lemmas.Bool.{cases_lt, le-leb, lt-leb}
 use Rattle.std.proofs.lemmas.List.{drop_all, length-take-le, map-append}
 use Rattle.spl_circuit.specs.Nodes.{Node}
+use Rattle.spl_model.specs.Worlds.{blank}
 use Rattle.spl_sched.specs.declared.line.Line.{Line}
 use Rattle.spl_model.specs.Projection.{Ran}
 use Rattle.spl_model.specs.Outcomes.{by_rule}
@@ -27,7 +28,7 @@ numbered-append n (x ∷ xs) ys =
 outputs-append : (ns : List Node) (before : List Ran) (xs ys : List (ℕ × Line)) → outputs ns before (xs ++ ys) ≡ outputs ns before xs ++ outputs ns (before ++ map (λ (x : ℕ × Line). by_rule x.1) xs) ys
 outputs-append ns before [] ys = ap (λ (b : List Ran). outputs ns b ys) (sym (append-nil before))
 outputs-append ns before (x ∷ xs) ys =
-    let first = printed x.0 (text (answer_to ns before (by_rule x.1))) in
+    let first = printed x.0 (text (answer_to (blank ns) before (by_rule x.1))) in
     ap (λ (l : List ℕ). first ++ l) (outputs-append ns (before ++ by_rule x.1 ∷ []) xs ys
     ∙ ap (λ (b : List Ran). outputs ns (before ++ by_rule x.1 ∷ []) xs ++ outputs ns b ys) (append_assoc before (by_rule x.1 ∷ []) (map (λ (y : ℕ × Line). by_rule y.1) xs)))
     ∙ sym (append_assoc first (outputs ns (before ++ by_rule x.1 ∷ []) xs) (outputs ns (before ++ by_rule x.1 ∷ map (λ (y : ℕ × Line). by_rule y.1) xs) ys))
@@ -96,9 +97,9 @@ module _ (ns : List Node) where
           (λ (within : skip ≤ length lines). behind-append lines (line ∷ []) within ∙ ap (λ (l : List (ℕ × Line)). answers_behind skip ns lines ++ outputs ns (ran lines) l) (alone lines line None is) ∙ append-nil (answers_behind skip ns lines))
           (cases_lt (length lines) skip)
 
-      pub answers_said : (number : ℕ) (l : Line) → number ≡ length lines + 1 → said line ≡ Some l → answers_behind skip ns (lines ++ line ∷ []) ≡ answers_behind skip ns lines ++ shown skip number (text (answer_to ns (ran lines) (by_rule l)))
+      pub answers_said : (number : ℕ) (l : Line) → number ≡ length lines + 1 → said line ≡ Some l → answers_behind skip ns (lines ++ line ∷ []) ≡ answers_behind skip ns lines ++ shown skip number (text (answer_to (blank ns) (ran lines) (by_rule l)))
       answers_said number l counted is =
-          let answer = text (answer_to ns (ran lines) (by_rule l)) in
+          let answer = text (answer_to (blank ns) (ran lines) (by_rule l)) in
           ⊎_elim
           (λ (less : length lines < skip). nothing less ∙ sym (append-nil (answers_behind skip ns lines)) ∙ ap (λ (l : List ℕ). answers_behind skip ns lines ++ l) (sym (not_shown skip number answer (omega arith))))
           (λ (within : skip ≤ length lines).

@@ -3,3 +3,4 @@ pub mod Due
 pub mod Feed
 pub mod Given
 pub mod Written
+pub mod Tasks

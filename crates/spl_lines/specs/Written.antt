@@ -2,6 +2,7 @@
 use Rattle.std.specs.Prelude.{◌⊎◌, ◌≤◌, ◌+◌, ℕ, List, [], ◌∷◌, ◌++◌, Option, Some, None, IsSomeAnd, IsTrue, if◌then◌else◌, take, drop, length, map, decimal, nat_le}
 use Rattle.std.specs.List.{list_all}
 use Rattle.spl_circuit.specs.Nodes.{Node, has_node}
+use Rattle.spl_model.specs.Worlds.{blank}
 use Rattle.spl_sched.specs.declared.line.Line.{Line}
 use Rattle.spl_sched.specs.Grammar.{line_of, nodes_of, is_line}
 use Rattle.spl_model.specs.Projection.{Ran}
@@ -49,7 +50,7 @@ printed n answer = decimal n ++ 32 ∷ answer ++ 10 ∷ []
 -- the answers to lines that run behind others, with the numbers of the lines
 abbrev pub outputs : List Node → List Ran → List (ℕ × Line) → List ℕ
 outputs ns before [] = []
-outputs ns before (x ∷ xs) = printed x.0 (text (answer_to ns before (by_rule x.1))) ++ outputs ns (before ++ by_rule x.1 ∷ []) xs
+outputs ns before (x ∷ xs) = printed x.0 (text (answer_to (blank ns) before (by_rule x.1))) ++ outputs ns (before ++ by_rule x.1 ∷ []) xs
 
 -- what a run of these lines over these nodes writes
 abbrev pub answers : List Node → List (List ℕ) → List ℕ
@@ -65,4 +66,4 @@ shown n number answer = if nat_le number n then [] else printed number answer
 
 -- the events of these lines are within their limit, and so are their stops
 abbrev pub IsWithin : List Node → List Ran → Type 0
-IsWithin ns rs = (events_of ns rs ≤ MOST_EVENTS) × (stops_of rs ≤ MOST_STOPS)
+IsWithin ns rs = (events_of (blank ns) rs ≤ MOST_EVENTS) × (stops_of rs ≤ MOST_STOPS)

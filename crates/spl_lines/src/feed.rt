@@ -16,7 +16,7 @@ use std::alloc::{AllocError, Global};
 const PIECE: usize = 4096;
 
 /// Why there is no next line.
-#[derive(Clone, Copy, Debug, PartialEq, Eq)]
+#[derive(Clone, Copy, PartialEq, Eq)]
 pub enum FeedFault {
     /// The source is at its end, and its last line lacks its line feed.
     Unfinished,
@@ -137,14 +137,15 @@ impl Feed {
     fn fill<S: Source>(&mut self, source: &mut S) -> Result<usize, DeviceError>
         requires room { length (waiting self.old) ≤ longest_line }
         requires within { count_of self.old ≤ limit }
-        ensures taken { S.taken source.new ≡ S.taken source.old ++ appended_bytes (S.taken source.old) (S.taken source.new) }
-        ensures left { Consumes (S.left source.old) (S.left source.new) (appended_bytes (S.taken source.old) (S.taken source.new)) }
-        ensures waits { waiting self.new ≡ waiting self.old ++ take (limit - count_of self.old) (appended_bytes (S.taken source.old) (S.taken source.new)) }
-        ensures count { count_of self.new ≡ count_of self.old + length (appended_bytes (S.taken source.old) (S.taken source.new)) }
-        ensures told { IfOk result (λ n. n ≡ length (appended_bytes (S.taken source.old) (S.taken source.new))) }
-        ensures end { IfOk result (λ n. n ≡ 0 → IsAtEnd (S.left source.new)) }
-        ensures none { OnErr result (appended_bytes (S.taken source.old) (S.taken source.new) ≡ []) }
-        ensures cause { HasCause (S.faults source.old) (S.faults source.new) result }
+        ensures taken { (S.view source.new).gave ≡ (S.view source.old).gave ++ appended_bytes (S.view source.old).gave (S.view source.new).gave }
+        ensures left { Consumes (S.view source.old).left (S.view source.new).left (appended_bytes (S.view source.old).gave (S.view source.new).gave) }
+        ensures waits { waiting self.new ≡ waiting self.old ++ take (limit - count_of self.old)
+            (appended_bytes (S.view source.old).gave (S.view source.new).gave) }
+        ensures count { count_of self.new ≡ count_of self.old + length (appended_bytes (S.view source.old).gave (S.view source.new).gave) }
+        ensures told { IfOk result (λ n. n ≡ length (appended_bytes (S.view source.old).gave (S.view source.new).gave)) }
+        ensures end { IfOk result (λ n. n ≡ 0 → IsAtEnd (S.view source.new).left) }
+        ensures none { OnErr result (appended_bytes (S.view source.old).gave (S.view source.new).gave ≡ []) }
+        ensures cause { HasCause (S.view source.old).faults (S.view source.new).faults result }
     {
         let mut piece = [0u8; PIECE];
         self.shift();
@@ -159,19 +160,22 @@ impl Feed {
     /// Takes the next line, and tells whether there is one: the source is at its end where there
     /// isn't. A line that stands whole within the limit comes before a fault.
     pub fn advance<S: Source>(&mut self, source: &mut S) -> Result<bool, FeedFault>
-        ensures line { has_line result ≡ true → (before : List ℕ) → (had : Option (List ℕ)) → (lines : List (List ℕ)) → Feeds before had lines (S.taken source.old) (S.left source.old) self.old
-            → Feeds before had (lines ++ last_line self.new ∷ []) (S.taken source.new) (S.left source.new) self.new }
-        ensures still { has_line result ≡ false → (before : List ℕ) → (had : Option (List ℕ)) → (lines : List (List ℕ)) → Feeds before had lines (S.taken source.old) (S.left source.old) self.old
-            → Feeds before had lines (S.taken source.new) (S.left source.new) self.new }
+        ensures line { has_line result ≡ true → (before : List ℕ) → (had : Option (List ℕ)) → (lines : List (List ℕ))
+            → Feeds before had lines (S.view source.old).gave (S.view source.old).left self.old
+            → Feeds before had (lines ++ last_line self.new ∷ []) (S.view source.new).gave (S.view source.new).left self.new }
+        ensures still { has_line result ≡ false → (before : List ℕ) → (had : Option (List ℕ)) → (lines : List (List ℕ))
+            → Feeds before had lines (S.view source.old).gave (S.view source.old).left self.old
+            → Feeds before had lines (S.view source.new).gave (S.view source.new).left self.new }
 
         // Where there is none, none waits.
         ensures none { has_line result ≡ false → has_feed (waiting self.new) ≡ false }
-        ensures end { IfOk result (λ more. more ≡ false → IsAtEnd (S.left source.new) × (count_of self.new ≤ limit) × (waiting self.new ≡ [])) }
-        ensures unfinished { IsErrOf result FeedFault.Unfinished → IsAtEnd (S.left source.new) × (count_of self.new ≤ limit) × (waiting self.new ≢ []) }
+        ensures end { IfOk result (λ more. more ≡ false → IsAtEnd (S.view source.new).left × (count_of self.new ≤ limit) × (waiting self.new ≡ [])) }
+        ensures unfinished { IsErrOf result FeedFault.Unfinished → IsAtEnd (S.view source.new).left × (count_of self.new ≤ limit) × (waiting self.new ≢ []) }
         ensures over { IsErrOf result FeedFault.Overlong → longest_line < length (waiting self.new) }
         ensures long { IsErrOf result FeedFault.TooLong → (limit < count_of self.new) × (length (waiting self.new) ≤ longest_line) }
-        ensures read { IsErrOf result FeedFault.Read → Rose (S.faults source.old) (S.faults source.new) × (count_of self.new ≤ limit) × (length (waiting self.new) ≤ longest_line) }
-        ensures later { S.faults source.old ≤ S.faults source.new }
+        ensures read { IsErrOf result FeedFault.Read → Rose (S.view source.old).faults (S.view source.new).faults × (count_of self.new ≤ limit)
+            × (length (waiting self.new) ≤ longest_line) }
+        ensures later { (S.view source.old).faults ≤ (S.view source.new).faults }
     {
         let mut seen = 0;
         'pieces: loop {

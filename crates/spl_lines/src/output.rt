@@ -39,9 +39,9 @@ impl Output {
 
     /// Hands over all that waits. After a fault nothing waits.
     pub fn flush<W: Sink>(&mut self, sink: &mut W) -> Result<(), DeviceError>
-        ensures ok { OnOk result (Appends (W.written sink.old) (W.written sink.new) self.old) }
-        ensures part { AppendsPart (W.written sink.old) (W.written sink.new) self.old }
-        ensures cause { HasCause (W.faults sink.old) (W.faults sink.new) result }
+        ensures ok { OnOk result (Appends (W.view sink.old).written (W.view sink.new).written self.old) }
+        ensures part { AppendsPart (W.view sink.old).written (W.view sink.new).written self.old }
+        ensures cause { HasCause (W.view sink.old).faults (W.view sink.new).faults result }
         ensures empty { self.new ≡ [] }
     {
         let sent = write_all(sink, &self.waiting);
@@ -65,9 +65,9 @@ impl Output {
 
     // Hands over what waits, where that and so many bytes more are above a piece.
     fn make_room<W: Sink>(&mut self, sink: &mut W, size: usize) -> Result<(), DeviceError>
-        ensures ok { OnOk result (IsDue (W.written sink.old) (W.written sink.new) self.new self.old) }
-        ensures part { IsDuePart (W.written sink.old) (W.written sink.new) self.new self.old }
-        ensures cause { HasCause (W.faults sink.old) (W.faults sink.new) result }
+        ensures ok { OnOk result (IsDue (W.view sink.old).written (W.view sink.new).written self.new self.old) }
+        ensures part { IsDuePart (W.view sink.old).written (W.view sink.new).written self.new self.old }
+        ensures cause { HasCause (W.view sink.old).faults (W.view sink.new).faults result }
     {
         if PIECE.saturating_sub(self.waiting.len()) < size {
             return self.flush(sink);
@@ -83,9 +83,9 @@ impl Output {
         number: u32,
         text: &[u8],
     ) -> Result<(), DeviceError>
-        ensures ok { OnOk result (IsDue (W.written sink.old) (W.written sink.new) self.new (self.old ++ printed number text.now)) }
-        ensures part { IsDuePart (W.written sink.old) (W.written sink.new) self.new (self.old ++ printed number text.now) }
-        ensures cause { HasCause (W.faults sink.old) (W.faults sink.new) result }
+        ensures ok { OnOk result (IsDue (W.view sink.old).written (W.view sink.new).written self.new (self.old ++ printed number text.now)) }
+        ensures part { IsDuePart (W.view sink.old).written (W.view sink.new).written self.new (self.old ++ printed number text.now) }
+        ensures cause { HasCause (W.view sink.old).faults (W.view sink.new).faults result }
     {
         let mut buffer = Buffer::new();
         let digits = buffer.format(number).as_bytes();
@@ -103,9 +103,9 @@ impl Output {
         number: u32,
         text: &[u8],
     ) -> Result<(), DeviceError>
-        ensures ok { OnOk result (IsDue (W.written sink.old) (W.written sink.new) self.new (self.old ++ shown skip number text.now)) }
-        ensures part { IsDuePart (W.written sink.old) (W.written sink.new) self.new (self.old ++ shown skip number text.now) }
-        ensures cause { HasCause (W.faults sink.old) (W.faults sink.new) result }
+        ensures ok { OnOk result (IsDue (W.view sink.old).written (W.view sink.new).written self.new (self.old ++ shown skip number text.now)) }
+        ensures part { IsDuePart (W.view sink.old).written (W.view sink.new).written self.new (self.old ++ shown skip number text.now) }
+        ensures cause { HasCause (W.view sink.old).faults (W.view sink.new).faults result }
     {
         if number <= skip {
             return Ok(());

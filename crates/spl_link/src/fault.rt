@@ -2,7 +2,7 @@
 use spl_base::NodeId;
 
 /// Why a peer isn't heard.
-#[derive(Clone, Copy, Debug, Drop, PartialEq, Eq)]
+#[derive(Clone, Copy, Drop, PartialEq, Eq)]
 pub enum LinkFault {
     /// The body isn't exactly the greeting that is due.
     NotHello,

@@ -11,7 +11,7 @@ use std::alloc::{AllocError, Global};
 use std::marker::Model;
 
 /// A side that doesn't know yet whom it is linked with.
-#[derive(Clone, Copy, Debug, Drop, PartialEq, Eq)]
+#[derive(Clone, Copy, Drop, PartialEq, Eq)]
 pub struct Opening {
     here: NodeId,
     peer: NodeId,
@@ -29,7 +29,7 @@ impl Model for Opening {
 }
 
 /// A side whose peer named itself. Contracts see the peer's id.
-#[derive(Clone, Copy, Debug, Drop, PartialEq, Eq)]
+#[derive(Clone, Copy, Drop, PartialEq, Eq)]
 pub struct Named {
     peer: NodeId,
 }

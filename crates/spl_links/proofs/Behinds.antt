@@ -1,11 +1,12 @@
 -- Where a run stands, one task further.
-use Rattle.std.proofs.Common.{◌≡◌, ◌≢◌, ◌<◌, ℕ, List, [], ◌∷◌, ◌++◌, length, Option, Some, None, sym, ◌∙◌, ap, subst, append-nil, arith}
+use Rattle.std.proofs.Common.{◌≡◌, ◌≢◌, ◌<◌, ℕ, zero, suc, List, [], ◌∷◌, ◌++◌, length, map, Option, Some, None, refl, sym, ◌∙◌, ap, subst, append-nil, arith}
 use Rattle.std.specs.List.{AllPairs}
 use Rattle.spl_answer.specs.Texts.{text}
 use Rattle.spl_circuit.specs.Nodes.{Node}
 use Rattle.spl_lines.specs.Due.{IsDue, IsDuePart}
 use Rattle.spl_lines.specs.Written.{IsWithin, printed}
 use Rattle.spl_lines.proofs.Dues.{due_due, due_then, due_waits}
+use Rattle.spl_model.specs.Worlds.{blank}
 use Rattle.spl_model.specs.Answers.{answer_to}
 use Rattle.spl_model.specs.Counts.{events_of}
 use Rattle.spl_model.specs.Outcomes.{by_rule}
@@ -14,19 +15,31 @@ use Rattle.spl_registry.specs.Nodes.{Entry, ids_of as registered}
 use Rattle.spl_sched.specs.declared.line.Line.{Line}
 use Rattle.spl_wire.specs.declared.answer.Answer.{Answer}
 use Rattle.spl_world.specs.Disks.{Images}
-use Rattle.spl_world.specs.Links.{IsReady, LinkView}
+use Rattle.spl_world.specs.Links.{IsReady, LinkView, Places}
 use Rattle.spl_world.specs.Views.{ArePlaced, IsPlace, Stands, ids_of}
 use Rattle.spl_world.specs.declared.world.World.{World}
 use Rattle.spl_world.proofs.Linking.{carries_nothing}
 use Rattle.spl_links.specs.Behind.{AreRun, CanCarry, IsBehind}
 use Rattle.spl_links.specs.Outside.{Outside, outside}
-use Rattle.spl_links.specs.Tasks.{Task, answers, nodes_in, ran_by}
+use Rattle.spl_lines.specs.Tasks.{Task, answers_to, ran_by}
+use Rattle.spl_links.specs.Tasks.{nodes_in}
 use Rattle.spl_links.proofs.Tasks.{answers_one}
+
+-- the places of nodes, where each has that of this function
+pub places_are : (place : Node → ℕ) (ids : List Node) (ks : List ℕ) → length ks ≡ length ids → Places place ids ks → ks ≡ map place ids
+places_are place [] [] n h = refl
+places_are place [] (k ∷ ks) n h = absurd cc
+places_are place (i ∷ ids) [] n h = absurd cc
+places_are place (i ∷ ids) (k ∷ ks) n h =
+    let here : place i ≡ k = h zero i k refl refl in
+    let less : length ks ≡ length ids = omega (arith, n) in
+    let rest = places_are place ids ks less (λ j m q at there. h (suc j) m q at there) in
+    ap (λ (l : List ℕ). k ∷ l) rest ∙ ap (λ (q : ℕ). q ∷ map place ids) (sym here)
 
 -- where no line ran the lines are within their limits
 pub none_within : (ns : List Node) → IsWithin ns []
 none_within ns =
-    let none : events_of ns [] ≡ 0 = events-none ns in
+    let none : events_of (blank ns) [] ≡ 0 = events-none (blank ns) in
     (omega (arith, none), omega arith)
 
 -- no task ran
@@ -54,17 +67,17 @@ ready_for es places y can below = record {
 
 module _ (es : List Entry) (ts : List Task) (l : Line) where
   -- nothing is written of a calm
-  pub answers_none : answers (nodes_in es) (ts ++ record { number = None; line = l } ∷ []) ≡ answers (nodes_in es) ts
-  answers_none = answers_one (nodes_in es) ts (record { number = None; line = l }) ∙ append-nil (answers (nodes_in es) ts)
+  pub answers_none : answers_to (nodes_in es) (ts ++ record { number = None; line = l } ∷ []) ≡ answers_to (nodes_in es) ts
+  answers_none = answers_one (nodes_in es) ts (record { number = None; line = l }) ∙ append-nil (answers_to (nodes_in es) ts)
 
-  module _ (number : ℕ) (w : World) (waiting : List ℕ) (s o : Outside) (behind : IsBehind es ts w waiting s o) (answer : Answer) (right : answer ≡ answer_to (nodes_in es) (ran_by ts) (by_rule l)) where
-    answers_are : answers (nodes_in es) (ts ++ record { number = Some number; line = l } ∷ []) ≡ answers (nodes_in es) ts ++ printed number (text answer)
-    answers_are = answers_one (nodes_in es) ts (record { number = Some number; line = l }) ∙ ap (λ (a : Answer). answers (nodes_in es) ts ++ printed number (text a)) (sym right)
+  module _ (number : ℕ) (w : World) (waiting : List ℕ) (s o : Outside) (behind : IsBehind es ts w waiting s o) (answer : Answer) (right : answer ≡ answer_to (blank (nodes_in es)) (ran_by ts) (by_rule l)) where
+    answers_are : answers_to (nodes_in es) (ts ++ record { number = Some number; line = l } ∷ []) ≡ answers_to (nodes_in es) ts ++ printed number (text answer)
+    answers_are = answers_one (nodes_in es) ts (record { number = Some number; line = l }) ∙ ap (λ (a : Answer). answers_to (nodes_in es) ts ++ printed number (text a)) (sym right)
 
     -- the answer waits
-    pub due_one : (later : List ℕ) (written : Option (List ℕ)) → IsDue o.written written later (waiting ++ printed number (text answer)) → IsDue s.written written later (answers (nodes_in es) (ts ++ record { number = Some number; line = l } ∷ []))
-    due_one later written due = subst (IsDue s.written written later) (sym answers_are) (due_due s.written o.written written waiting later (answers (nodes_in es) ts) (printed number (text answer)) behind.due due)
+    pub due_one : (later : List ℕ) (written : Option (List ℕ)) → IsDue o.written written later (waiting ++ printed number (text answer)) → IsDue s.written written later (answers_to (nodes_in es) (ts ++ record { number = Some number; line = l } ∷ []))
+    due_one later written due = subst (IsDue s.written written later) (sym answers_are) (due_due s.written o.written written waiting later (answers_to (nodes_in es) ts) (printed number (text answer)) behind.due due)
 
     -- or a part of it
-    pub part_one : (later : List ℕ) (written : Option (List ℕ)) → IsDuePart o.written written later (waiting ++ printed number (text answer)) → IsDuePart s.written written later (answers (nodes_in es) (ts ++ record { number = Some number; line = l } ∷ []))
-    part_one later written part = subst (IsDuePart s.written written later) (sym answers_are) (due_then s.written o.written written waiting later (answers (nodes_in es) ts) (printed number (text answer)) behind.due part)
+    pub part_one : (later : List ℕ) (written : Option (List ℕ)) → IsDuePart o.written written later (waiting ++ printed number (text answer)) → IsDuePart s.written written later (answers_to (nodes_in es) (ts ++ record { number = Some number; line = l } ∷ []))
+    part_one later written part = subst (IsDuePart s.written written later) (sym answers_are) (due_then s.written o.written written waiting later (answers_to (nodes_in es) ts) (printed number (text answer)) behind.due part)

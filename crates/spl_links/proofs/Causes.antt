@@ -2,7 +2,8 @@
 use Rattle.std.proofs.Common.{◌≡◌, ◌<◌, ℕ, false, List, Result, IfErr, refl, subst, arith, ◌∙◌}
 use Rattle.std.specs.Prelude.{IsErr, IsErrOf}
 use Rattle.std.specs.Result.{IsErrAnd}
-use Rattle.spl_world.specs.Disks.{AllGoOn, LeavesDisks, PairView, is_of_journal}
+use Rattle.spl_edge.specs.Views.{PairView}
+use Rattle.spl_world.specs.Disks.{AllGoOn, LeavesDisks, is_of_journal}
 use Rattle.spl_world.specs.Links.{LinkView, is_of_links, LinksGoOn}
 use Rattle.spl_world.specs.declared.fault.WorldFault.{WorldFault}
 use Rattle.spl_world.specs.declared.fault.WorldFault.TheVariants.{Disk, Lied, Link, NoMemory, NotAJournal}

@@ -11,3 +11,8 @@ ended_with A f = Err f
 pub err_at : {A E : Type 0} (q : Result A E) (P : E → Type 0) → IfErr q P → (e : E) → IsErrOf q e → P e
 err_at (Ok a) P h e is = absurd cc
 err_at (Err f) P h e is = let same : f ≡ e = cc in subst P same h
+
+-- and what follows of it
+pub err_so : {A E : Type 0} (q : Result A E) (P Q : E → Type 0) → ((e : E) → P e → Q e) → IfErr q P → IfErr q Q
+err_so (Ok a) P Q f h = tt
+err_so (Err e) P Q f h = f e h

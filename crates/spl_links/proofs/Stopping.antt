@@ -1,5 +1,5 @@
 -- A line that takes a node down, and how many lines stop one.
-use Rattle.std.proofs.Common.{◌≡◌, ◌≤◌, ◌+◌, ℕ, true, false, List, [], ◌∷◌, ◌++◌, Result, Ok, Err, IfErr, refl, subst, arith}
+use Rattle.std.proofs.Common.{◌≡◌, ◌≤◌, ℕ, true, false, List, [], ◌∷◌, ◌++◌, Result, Ok, Err, IfErr, refl, subst, arith}
 use Rattle.std.specs.Prelude.{IsErrOf}
 use Rattle.spl_circuit.specs.Nodes.{Node}
 use Rattle.spl_lines.specs.Written.{IsWithin}

@@ -11,11 +11,12 @@ use Rattle.spl_world.specs.Links.{Carries, IsReady, LinkView}
 use Rattle.spl_world.specs.Views.{ArePlaced, Sits, Stands, ids_of, is_halted, over, places_of}
 use Rattle.spl_world.specs.declared.fault.WorldFault.TheVariants.{NoMemory}
 use Rattle.spl_world.specs.declared.world.World.{World}
+use Rattle.spl_lines.specs.Tasks.{Task, answers_to, ran_by}
 use Rattle.spl_links.specs.declared.fault.LinkedFault.{LinkedFault}
 use Rattle.spl_links.specs.declared.fault.LinkedFault.TheVariants as fault
 use Rattle.spl_links.specs.Outside.{Outside}
 use Rattle.spl_links.specs.Ends.{EndsAt, HasFront, HasNext, HaveRun, RanSome}
-use Rattle.spl_links.specs.Tasks.{Task, answers, carried, nodes_in, ran_by}
+use Rattle.spl_links.specs.Tasks.{carried, nodes_in}
 
 -- a carrier between the nodes of a registry that has carried nothing, and a fabric of which all bytes put were taken
 pub record CanCarry (es : List Entry) (y : LinkView) : Type 0 where
@@ -45,12 +46,12 @@ pub record AreRun (es : List Entry) (ts : List Task) (w : World) (x y : LinkView
 -- and their answers were written since, or wait
 pub record IsBehind (es : List Entry) (ts : List Task) (w : World) (waiting : List ℕ) (s o : Outside) : Type 0 where
   pub ran : AreRun es ts w s.links o.links o.disks
-  pub due : IsDue s.written o.written waiting (answers (nodes_in es) ts)
+  pub due : IsDue s.written o.written waiting (answers_to (nodes_in es) ts)
 
 -- A run of these tasks ended with this fault, and some of the answers wait to be written. With an error of a task those to the
--- tasks before it were written or wait
+-- tasks before it were written or wait, and else a front of those to the tasks that ran
 abbrev pub EndsFor : LinkedFault → List Entry → List Task → List ℕ → Outside → Outside → Type 0
-EndsFor (fault.World e) es ts waiting s o = (e ≢ NoMemory) × HasNext ts (λ front t. IsDue s.written o.written waiting (answers (nodes_in es) front) × EndsAt es front t e s.links o.links o.disks)
-EndsFor fault.Write es ts waiting s o = IsDuePart s.written o.written waiting (answers (nodes_in es) ts) × HasFront ts (λ front. HaveRun es front s.links o.links o.disks)
-EndsFor fault.NoMemory es ts waiting s o = IsDuePart s.written o.written waiting (answers (nodes_in es) ts) × RanSome (λ e. e ≡ NoMemory) es ts s.links o.links o.disks
+EndsFor (fault.World e) es ts waiting s o = (e ≢ NoMemory) × HasNext ts (λ front t. IsDue s.written o.written waiting (answers_to (nodes_in es) front) × EndsAt es front t e s.links o.links o.disks)
+EndsFor fault.Write es ts waiting s o = HasFront ts (λ front. IsDuePart s.written o.written waiting (answers_to (nodes_in es) front) × HaveRun es front s.links o.links o.disks)
+EndsFor fault.NoMemory es ts waiting s o = RanSome (λ front. IsDuePart s.written o.written waiting (answers_to (nodes_in es) front)) (λ e. e ≡ NoMemory) es ts s.links o.links o.disks
 EndsFor (fault.BadLine n) es ts waiting s o = ⊤

@@ -1,25 +1,29 @@
 -- How a run over links ended (docs/RULES.md, Links, Journals, Statuses).
-use Rattle.std.specs.Prelude.{◌≡◌, ◌⊎◌, ◌<◌, ℕ, Bool, true, false, List, [], ◌∷◌, ◌++◌, slice_get, Some, length}
-use Rattle.std.specs.Io.KnownBytes.{Appends}
+use Rattle.std.specs.Prelude.{◌≡◌, ◌⊎◌, ◌<◌, ℕ, Bool, true, false, List, [], ◌∷◌, ◌++◌, Some}
+use Rattle.std.specs.Io.KnownBytes.{Appends, append_known}
 use Rattle.spl_edge.specs.Causes.{AppendsPart, Rose}
+use Rattle.spl_edge.specs.Views.{Streams, PairView}
 use Rattle.spl_circuit.specs.Nodes.{Node}
 use Rattle.spl_lines.specs.Written.{IsWithin}
 use Rattle.spl_node.specs.Stands.{StandFor}
+use Rattle.spl_model.specs.Worlds.{blank}
 use Rattle.spl_projection.specs.Whole.{whole_world}
-use Rattle.spl_pump.specs.Wires.{LiesOf, Puts, PutsPart, wire_of}
+use Rattle.spl_pump.specs.Wires.{LiesOf, Puts, wire_of}
 use Rattle.spl_pump.specs.declared.fault.PumpFault.TheVariants as pump
 use Rattle.spl_registry.specs.Nodes.{Entry, node_at}
 use Rattle.spl_snapshot.specs.Counting.{IfBoth}
 use Rattle.spl_world.specs.Counts.{IsOver}
-use Rattle.spl_world.specs.Disks.{AllGoOn, Images, PairView, RoseAt, images_at, is_of_journal}
+use Rattle.spl_world.specs.Disks.{AllGoOn, Images, RoseAt, images_at, is_of_journal}
 use Rattle.spl_world.specs.Ended.{LineEnds}
 use Rattle.spl_world.specs.Held.{cells_behind}
-use Rattle.spl_world.specs.Links.{LinkView, LinksGoOn}
+use Rattle.spl_world.specs.Links.{HasLinkCause, LinkView, LinksGoOn, line_carried, seat_of}
 use Rattle.spl_world.specs.Making.{AreMadeBut}
 use Rattle.spl_world.specs.declared.fault.WorldFault.{WorldFault}
 use Rattle.spl_world.specs.declared.fault.WorldFault.TheVariants.{Disk, Lied, Link, NoMemory, NotAJournal, TooMany}
+use Rattle.spl_lines.specs.Tasks.{Task, answers_to, ran_by}
 use Rattle.spl_links.specs.Outside.{Outside}
-use Rattle.spl_links.specs.Tasks.{Task, answers, carried, nodes_in, ran_by}
+use Rattle.spl_links.specs.Schedule.{AreTaken}
+use Rattle.spl_links.specs.Tasks.{carried, nodes_in, places_in, tasks}
 
 -- ---- tasks that ran
 
@@ -35,20 +39,19 @@ pub record HaveRun (es : List Entry) (ts : List Task) (x y : LinkView) (is : Lis
 
 -- ---- a task that ended with an error
 
--- the positions of the nodes
-pub record AreSeats (es : List Entry) (places : List ℕ) : Type 0 where
-  pub as_many : length places ≡ length (nodes_in es)
-  pub each : (i : ℕ) (n : Node) (k : ℕ) → slice_get (nodes_in es) i ≡ Some n → slice_get places i ≡ Some k → node_at es k ≡ Some n
+-- on each pair all of the first bytes came behind the others, and a front of what the second ones have behind those
+abbrev pub PutsBetween : (ℕ → ℕ → List ℕ) → (ℕ → ℕ → List ℕ) → Streams → Streams → Type 0
+PutsBetween least most old new = (a b : ℕ) → a < 256 → b < 256 → (done : List ℕ) × (more : List ℕ) × (most a b ≡ (least a b ++ done) ++ more) × (new a b ≡ append_known (old a b) (least a b ++ done))
 
--- A task behind others that ran ended with an error. Of the bytes of the messages that all of them carry a front was put on
--- each link, the disks hold what `LineEnds` says, and are journals, and a limit is told where the lines pass it
+-- A task behind others that ran ended with an error. On each link the bytes of the messages of those were put, and a front of
+-- the bytes of its own; the disks hold what `LineEnds` says, and are journals; a limit is told where the lines pass it, and the
+-- links are blamed where they are at fault
 pub record EndsAt (es : List Entry) (front : List Task) (t : Task) (e : WorldFault) (x y : LinkView) (is : List Images) : Type 0 where
   pub few : IsWithin (nodes_in es) (ran_by front)
-  pub places : List ℕ
-  pub seats : AreSeats es places
-  pub ends : LineEnds (λ c. whole_world (nodes_in es) c (ran_by front)) t.line e (nodes_in es) places is
-  pub put : PutsPart (wire_of es (carried es (front ++ t ∷ []))) x.put y.put
+  pub ends : LineEnds (λ c. whole_world (blank (nodes_in es)) c (ran_by front)) t.line e (nodes_in es) (places_in es) is
+  pub put : PutsBetween (wire_of es (carried es front)) (wire_of es (carried es (front ++ t ∷ []))) x.put y.put
   pub over : (which : ℕ) → e ≡ TooMany which → IsOver (nodes_in es) (ran_by (front ++ t ∷ [])) which
+  pub links : HasLinkCause e (line_carried (seat_of es) (λ c. whole_world (blank (nodes_in es)) c (ran_by front)) t.line) x y
   pub sound : is_of_journal e ≡ false
 
 -- ---- fronts
@@ -68,25 +71,36 @@ pub record HasFront (ts : List Task) (P : List Task → Type 0) : Type 0 where
   pub all : ts ≡ front ++ more
   pub holds : P front
 
--- a front of these tasks ran, or the task behind one ended with an error of this kind
-abbrev pub RanSome : (WorldFault → Type 0) → List Entry → List Task → LinkView → LinkView → List Images → Type 0
-RanSome E es ts x y is = HasFront ts (λ front. HaveRun es front x y is) ⊎ HasNext ts (λ front t. (e : WorldFault) × E e × EndsAt es front t e x y is)
+-- a front of these tasks ran, of which this holds, or the task behind one ended with an error of this kind
+abbrev pub RanSome : (List Task → Type 0) → (WorldFault → Type 0) → List Entry → List Task → LinkView → LinkView → List Images → Type 0
+RanSome P E es ts x y is = HasFront ts (λ front. P front × HaveRun es front x y is) ⊎ HasNext ts (λ front t. P front × ((e : WorldFault) × E e × EndsAt es front t e x y is))
 
 -- ---- the end of a run
 
 -- all of these tasks ran and are answered
 pub record IsWhole (es : List Entry) (ts : List Task) (x y : Outside) : Type 0 where
   pub ran : HaveRun es ts x.links y.links y.disks
-  pub written : Appends x.written y.written (answers (nodes_in es) ts)
+  pub written : Appends x.written y.written (answers_to (nodes_in es) ts)
 
 -- the first of these tasks ran and are answered, and the one behind them ended the run with this error
 abbrev pub EndsBy : WorldFault → List Entry → List Task → Outside → Outside → Type 0
-EndsBy e es ts x y = HasNext ts (λ front t. Appends x.written y.written (answers (nodes_in es) front) × EndsAt es front t e x.links y.links y.disks)
+EndsBy e es ts x y = HasNext ts (λ front t. Appends x.written y.written (answers_to (nodes_in es) front) × EndsAt es front t e x.links y.links y.disks)
 
--- a front of the answers to these tasks is written
-pub record EndsShort (E : WorldFault → Type 0) (es : List Entry) (ts : List Task) (x y : Outside) : Type 0 where
-  pub ran : RanSome E es ts x.links y.links y.disks
-  pub written : AppendsPart x.written y.written (answers (nodes_in es) ts)
+-- a front of these tasks ran, and a front of the answers to those is written
+abbrev pub EndsShort : (WorldFault → Type 0) → List Entry → List Task → Outside → Outside → Type 0
+EndsShort E es ts x y = RanSome (λ front. AppendsPart x.written y.written (answers_to (nodes_in es) front)) E es ts x.links y.links y.disks
+
+-- where an error names disks, one of them failed more often
+abbrev pub HasRisen : List PairView → List PairView → WorldFault → Type 0
+HasRisen old new e = (slot : ℕ) → e ≡ Disk slot → RoseAt slot old new
+
+-- this holds of what is run of the first of these lines, each of which a schedule may have there
+pub record OfFirst (ns : List Node) (lines : List (List ℕ)) (P : List Task → Type 0) : Type 0 where
+  pub first : List (List ℕ)
+  pub rest : List (List ℕ)
+  pub place : lines ≡ first ++ rest
+  pub good : AreTaken ns first
+  pub holds : P (tasks 1 first)
 
 -- an error with which the making of nodes ends
 abbrev pub is_of_making : WorldFault → Bool

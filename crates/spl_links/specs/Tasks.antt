@@ -1,9 +1,9 @@
 -- What a run over links runs of a schedule, and what comes of it (docs/RULES.md, Links).
 use Rattle.std.specs.Prelude.{◌≡◌, ◌+◌, ℕ, Bool, true, false, List, [], ◌∷◌, ◌++◌, Option, Some, None, IfSome, map}
 use Rattle.spl_circuit.specs.Nodes.{CircuitId, Node, sorted}
-use Rattle.spl_answer.specs.Texts.{text}
-use Rattle.spl_lines.specs.Written.{IsLine, printed, said}
-use Rattle.spl_model.specs.Answers.{answer_to}
+use Rattle.spl_lines.specs.Tasks.{Task}
+use Rattle.spl_lines.specs.Written.{IsLine, said}
+use Rattle.spl_model.specs.Worlds.{blank}
 use Rattle.spl_model.specs.Outcomes.{by_rule}
 use Rattle.spl_model.specs.Projection.{Ran}
 use Rattle.spl_projection.specs.Whole.{whole_world}
@@ -40,11 +40,6 @@ pub record IsTaken (ns : List Node) (bytes : List ℕ) : Type 0 where
 
 -- ---- tasks
 
--- a line that is run, and the number with which its answer is written, where it is
-pub record Task : Type 0 where
-  pub number : Option ℕ
-  pub line : Line
-
 -- the passes of the calm behind a line
 abbrev pub calm_passes : ℕ
 calm_passes = 8
@@ -66,34 +61,20 @@ abbrev pub tasks : ℕ → List (List ℕ) → List Task
 tasks n [] = []
 tasks n (bytes ∷ lines) = tasks_of n (said bytes) ++ tasks (n + 1) lines
 
--- the lines that ran
-abbrev pub ran_by : List Task → List Ran
-ran_by ts = map (λ t. by_rule t.line) ts
-
 -- ---- what comes of them
-
--- an answer, with its number, where it has one
-abbrev pub shown : Option ℕ → List ℕ → List ℕ
-shown None answer = []
-shown (Some n) answer = printed n answer
-
--- the answers to tasks behind these lines
-abbrev pub answers_behind : List Node → List Ran → List Task → List ℕ
-answers_behind ns before [] = []
-answers_behind ns before (t ∷ ts) = shown t.number (text (answer_to ns before (by_rule t.line))) ++ answers_behind ns (before ++ by_rule t.line ∷ []) ts
-
--- what a run of these tasks over these nodes writes
-abbrev pub answers : List Node → List Task → List ℕ
-answers ns ts = answers_behind ns [] ts
 
 -- the nodes of a registry, in the order of their ids
 abbrev pub nodes_in : List Entry → List Node
 nodes_in es = sorted (ids_of es)
 
+-- and their positions
+abbrev pub places_in : List Entry → List ℕ
+places_in es = map (seat_of es) (nodes_in es)
+
 -- the messages that tasks behind these lines carry between the nodes of a registry, in order
 abbrev pub carried_behind : List Entry → List Ran → List Task → List Carried
 carried_behind es before [] = []
-carried_behind es before (t ∷ ts) = line_carried (seat_of es) (λ c. whole_world (nodes_in es) c before) t.line ++ carried_behind es (before ++ by_rule t.line ∷ []) ts
+carried_behind es before (t ∷ ts) = line_carried (seat_of es) (λ c. whole_world (blank (nodes_in es)) c before) t.line ++ carried_behind es (before ++ by_rule t.line ∷ []) ts
 
 abbrev pub carried : List Entry → List Task → List Carried
 carried es ts = carried_behind es [] ts

@@ -8,7 +8,7 @@ use spl_world::WorldFault;
 use std::alloc::AllocError;
 
 /// How a run ended that ran all lines given.
-#[derive(Clone, Copy, Debug, PartialEq, Eq)]
+#[derive(Clone, Copy, PartialEq, Eq)]
 pub enum LinkedEnd {
     /// The source is at its end, and nothing stands behind its last line.
     Whole,
@@ -19,7 +19,7 @@ pub enum LinkedEnd {
 }
 
 /// Why a run ended before its last line.
-#[derive(Debug, Drop)]
+#[derive(Drop)]
 pub enum LinkedFault {
     /// A schedule may not have the line of this number there, also for want of its line feed.
     BadLine(u32),

@@ -1,15 +1,16 @@
 //! A whole run over links and files.
-ghost use Rattle.std.specs.Prelude.{◌≡◌, ◌≢◌, ◌⊎◌, ◌<◌, ◌≤◌, ◌-◌, [], ℕ, false, take, length, IfOk, OnOk, IsErrOf, ⊤};
+ghost use Rattle.std.specs.Prelude.{◌≡◌, ◌≢◌, ◌⊎◌, ◌<◌, ◌≤◌, ◌-◌, [], ℕ, false, take, length, IfOk, OnOk, IsErrOf};
 ghost use Rattle.std.specs.Io.{appended_bytes};
 ghost use Rattle.std.specs.Io.KnownBytes.{Consumes, IsAtEnd};
 ghost use Rattle.spl_edge.specs.Causes.{Rose};
+ghost use Rattle.spl_edge.specs.Views.{bench};
 ghost use Rattle.spl_lines.specs.Given.{run_of};
 ghost use Rattle.spl_lines.specs.Lines.{limit, longest_line, rest_of};
-ghost use Rattle.spl_world.specs.Disks.{AllTell, AreBlank, bench, images, images_at};
+ghost use Rattle.spl_world.specs.Disks.{AllTell, AreBlank, images, images_at};
 ghost use Rattle.spl_world.specs.Held.{AllUnpicked};
 ghost use Rattle.spl_world.specs.Links.{link_view};
 ghost use Rattle.spl_links.specs.Behind.{CanCarry};
-ghost use Rattle.spl_links.specs.Ends.{EndsBy, EndsShort, HaveCauses, IsUnmade, IsWhole};
+ghost use Rattle.spl_links.specs.Ends.{EndsBy, EndsShort, HasRisen, HaveCauses, IsUnmade, IsWhole, OfFirst};
 ghost use Rattle.spl_links.specs.Outside.{outside};
 ghost use Rattle.spl_links.specs.Schedule.{AreTaken, IsBadAt};
 ghost use Rattle.spl_links.specs.Tasks.{nodes_in, tasks};
@@ -44,29 +45,59 @@ pub fn run_linked<S: Source, W: Sink, D: Disk, C: Carry, F: Fabric>(
     out: &mut W,
 ) -> Result<LinkedEnd, LinkedFault>
     requires pairs { length registry.now ≤ length pairs.old.items }
-    requires blank { (i : ℕ) → i < length registry.now → AreBlank (images_at (images D.image_at D.moment pairs.old.items) i) }
-    requires unpicked { AllUnpicked (bench D.image_at D.moment D.faults D.armed D.picks pairs.old.items) }
-    requires carries { CanCarry registry.now (link_view C.slots C.failed C.wire F.put_on F.taken_on F.faults carrier.old fabric.old) }
+    requires blank { (i : ℕ) → i < length registry.now → AreBlank (images_at (images D.view pairs.old.items) i) }
+    requires unpicked { AllUnpicked (bench D.view pairs.old.items) }
+    requires carries { CanCarry registry.now (link_view (C.view carrier.old) (F.view fabric.old)) }
 
     // What was given: all of it are lines that a schedule may have there, or this is the first that isn't.
-    ensures good { OnOk result (AreTaken (nodes_in registry.now) (run_of (appended_bytes (S.taken source.old) (S.taken source.new)))) }
-    ensures whole { IfOk result (λ end. end ≡ LinkedEnd.Whole → (rest_of (appended_bytes (S.taken source.old) (S.taken source.new)) ≡ []) × (length (appended_bytes (S.taken source.old) (S.taken source.new)) ≤ limit) × IsAtEnd (S.left source.new)) }
-    ensures read { IfOk result (λ end. end ≡ LinkedEnd.Read → Rose (S.faults source.old) (S.faults source.new) × (length (appended_bytes (S.taken source.old) (S.taken source.new)) ≤ limit) × (length (rest_of (appended_bytes (S.taken source.old) (S.taken source.new))) ≤ longest_line)) }
-    ensures long { IfOk result (λ end. end ≡ LinkedEnd.TooLong → (limit < length (appended_bytes (S.taken source.old) (S.taken source.new))) × (length (rest_of (take limit (appended_bytes (S.taken source.old) (S.taken source.new)))) ≤ longest_line)) }
-    ensures bad { (n : ℕ) → IsErrOf result (LinkedFault.BadLine n) → IsBadAt (nodes_in registry.now) (appended_bytes (S.taken source.old) (S.taken source.new)) (S.left source.new) n }
-    ensures taken { Consumes (S.left source.old) (S.left source.new) (appended_bytes (S.taken source.old) (S.taken source.new)) }
+    ensures good { OnOk result (AreTaken (nodes_in registry.now) (run_of (appended_bytes (S.view source.old).gave (S.view source.new).gave))) }
+    ensures whole { IfOk result (λ end. end ≡ LinkedEnd.Whole → (rest_of (appended_bytes (S.view source.old).gave (S.view source.new).gave) ≡ [])
+        × (length (appended_bytes (S.view source.old).gave (S.view source.new).gave) ≤ limit) × IsAtEnd (S.view source.new).left) }
+    ensures read { IfOk result (λ end. end ≡ LinkedEnd.Read → Rose (S.view source.old).faults (S.view source.new).faults
+        × (length (appended_bytes (S.view source.old).gave (S.view source.new).gave) ≤ limit)
+        × (length (rest_of (appended_bytes (S.view source.old).gave (S.view source.new).gave)) ≤ longest_line)) }
+    ensures long { IfOk result (λ end. end ≡ LinkedEnd.TooLong → (limit < length (appended_bytes (S.view source.old).gave (S.view source.new).gave))
+        × (length (rest_of (take limit (appended_bytes (S.view source.old).gave (S.view source.new).gave))) ≤ longest_line)) }
+    ensures bad { (n : ℕ) → IsErrOf result (LinkedFault.BadLine n)
+        → IsBadAt (nodes_in registry.now) (appended_bytes (S.view source.old).gave (S.view source.new).gave) (S.view source.new).left n }
+    ensures taken { Consumes (S.view source.old).left (S.view source.new).left (appended_bytes (S.view source.old).gave (S.view source.new).gave) }
 
     // Over disks that tell: what ran, what was written, what went over the links, and what the disks hold.
-    ensures ran { AllTell (length registry.now) (images D.image_at D.moment pairs.old.items) → OnOk result (IsWhole registry.now (tasks 1 (run_of (appended_bytes (S.taken source.old) (S.taken source.new)))) (outside (W.written out.old) (link_view C.slots C.failed C.wire F.put_on F.taken_on F.faults carrier.old fabric.old) (images D.image_at D.moment pairs.old.items)) (outside (W.written out.new) (link_view C.slots C.failed C.wire F.put_on F.taken_on F.faults carrier.new fabric.new) (images D.image_at D.moment pairs.new.items))) }
-    ensures bad_ran { (n : ℕ) → AllTell (length registry.now) (images D.image_at D.moment pairs.old.items) → IsErrOf result (LinkedFault.BadLine n) → IsWhole registry.now (tasks 1 (take (n - 1) (run_of (appended_bytes (S.taken source.old) (S.taken source.new))))) (outside (W.written out.old) (link_view C.slots C.failed C.wire F.put_on F.taken_on F.faults carrier.old fabric.old) (images D.image_at D.moment pairs.old.items)) (outside (W.written out.new) (link_view C.slots C.failed C.wire F.put_on F.taken_on F.faults carrier.new fabric.new) (images D.image_at D.moment pairs.new.items)) }
-    ensures stopped { (e : WorldFault) → AllTell (length registry.now) (images D.image_at D.moment pairs.old.items) → IsErrOf result (LinkedFault.World e) → IsUnmade e registry.now (bench D.image_at D.moment D.faults D.armed D.picks pairs.old.items) (bench D.image_at D.moment D.faults D.armed D.picks pairs.new.items) (outside (W.written out.old) (link_view C.slots C.failed C.wire F.put_on F.taken_on F.faults carrier.old fabric.old) (images D.image_at D.moment pairs.old.items)) (outside (W.written out.new) (link_view C.slots C.failed C.wire F.put_on F.taken_on F.faults carrier.new fabric.new) (images D.image_at D.moment pairs.new.items)) ⊎ EndsBy e registry.now (tasks 1 (run_of (appended_bytes (S.taken source.old) (S.taken source.new)))) (outside (W.written out.old) (link_view C.slots C.failed C.wire F.put_on F.taken_on F.faults carrier.old fabric.old) (images D.image_at D.moment pairs.old.items)) (outside (W.written out.new) (link_view C.slots C.failed C.wire F.put_on F.taken_on F.faults carrier.new fabric.new) (images D.image_at D.moment pairs.new.items)) }
-    ensures unwritten { AllTell (length registry.now) (images D.image_at D.moment pairs.old.items) → IsErrOf result LinkedFault.Write → EndsShort (λ e. e ≢ WorldFault.NoMemory) registry.now (tasks 1 (run_of (appended_bytes (S.taken source.old) (S.taken source.new)))) (outside (W.written out.old) (link_view C.slots C.failed C.wire F.put_on F.taken_on F.faults carrier.old fabric.old) (images D.image_at D.moment pairs.old.items)) (outside (W.written out.new) (link_view C.slots C.failed C.wire F.put_on F.taken_on F.faults carrier.new fabric.new) (images D.image_at D.moment pairs.new.items)) }
-    ensures short { AllTell (length registry.now) (images D.image_at D.moment pairs.old.items) → IsErrOf result LinkedFault.NoMemory → IsUnmade WorldFault.NoMemory registry.now (bench D.image_at D.moment D.faults D.armed D.picks pairs.old.items) (bench D.image_at D.moment D.faults D.armed D.picks pairs.new.items) (outside (W.written out.old) (link_view C.slots C.failed C.wire F.put_on F.taken_on F.faults carrier.old fabric.old) (images D.image_at D.moment pairs.old.items)) (outside (W.written out.new) (link_view C.slots C.failed C.wire F.put_on F.taken_on F.faults carrier.new fabric.new) (images D.image_at D.moment pairs.new.items)) ⊎ EndsShort (λ e. ⊤) registry.now (tasks 1 (run_of (appended_bytes (S.taken source.old) (S.taken source.new)))) (outside (W.written out.old) (link_view C.slots C.failed C.wire F.put_on F.taken_on F.faults carrier.old fabric.old) (images D.image_at D.moment pairs.old.items)) (outside (W.written out.new) (link_view C.slots C.failed C.wire F.put_on F.taken_on F.faults carrier.new fabric.new) (images D.image_at D.moment pairs.new.items)) }
+    ensures ran { AllTell (length registry.now) (images D.view pairs.old.items)
+        → OnOk result (IsWhole registry.now (tasks 1 (run_of (appended_bytes (S.view source.old).gave (S.view source.new).gave)))
+        (outside (W.view out.old).written (link_view (C.view carrier.old) (F.view fabric.old)) (images D.view pairs.old.items))
+        (outside (W.view out.new).written (link_view (C.view carrier.new) (F.view fabric.new)) (images D.view pairs.new.items))) }
+    ensures bad_ran { (n : ℕ) → AllTell (length registry.now) (images D.view pairs.old.items) → IsErrOf result (LinkedFault.BadLine n)
+        → IsWhole registry.now (tasks 1 (take (n - 1) (run_of (appended_bytes (S.view source.old).gave (S.view source.new).gave))))
+        (outside (W.view out.old).written (link_view (C.view carrier.old) (F.view fabric.old)) (images D.view pairs.old.items))
+        (outside (W.view out.new).written (link_view (C.view carrier.new) (F.view fabric.new)) (images D.view pairs.new.items)) }
+    ensures stopped { (e : WorldFault) → AllTell (length registry.now) (images D.view pairs.old.items) → IsErrOf result (LinkedFault.World e)
+        → IsUnmade e registry.now (bench D.view pairs.old.items) (bench D.view pairs.new.items)
+        (outside (W.view out.old).written (link_view (C.view carrier.old) (F.view fabric.old)) (images D.view pairs.old.items))
+        (outside (W.view out.new).written (link_view (C.view carrier.new) (F.view fabric.new)) (images D.view pairs.new.items))
+        ⊎ OfFirst (nodes_in registry.now) (run_of (appended_bytes (S.view source.old).gave (S.view source.new).gave))
+        (λ ts. EndsBy e registry.now ts (outside (W.view out.old).written (link_view (C.view carrier.old) (F.view fabric.old))
+        (images D.view pairs.old.items)) (outside (W.view out.new).written (link_view (C.view carrier.new) (F.view fabric.new))
+        (images D.view pairs.new.items))) }
+    ensures unwritten { AllTell (length registry.now) (images D.view pairs.old.items) → IsErrOf result LinkedFault.Write
+        → OfFirst (nodes_in registry.now) (run_of (appended_bytes (S.view source.old).gave (S.view source.new).gave))
+        (λ ts. EndsShort (λ e. (e ≢ WorldFault.NoMemory) × HasRisen (bench D.view pairs.old.items) (bench D.view pairs.new.items) e) registry.now ts
+        (outside (W.view out.old).written (link_view (C.view carrier.old) (F.view fabric.old)) (images D.view pairs.old.items))
+        (outside (W.view out.new).written (link_view (C.view carrier.new) (F.view fabric.new)) (images D.view pairs.new.items))) }
+    ensures short { AllTell (length registry.now) (images D.view pairs.old.items) → IsErrOf result LinkedFault.NoMemory
+        → IsUnmade WorldFault.NoMemory registry.now (bench D.view pairs.old.items) (bench D.view pairs.new.items)
+        (outside (W.view out.old).written (link_view (C.view carrier.old) (F.view fabric.old)) (images D.view pairs.old.items))
+        (outside (W.view out.new).written (link_view (C.view carrier.new) (F.view fabric.new)) (images D.view pairs.new.items))
+        ⊎ OfFirst (nodes_in registry.now) (run_of (appended_bytes (S.view source.old).gave (S.view source.new).gave))
+        (λ ts. EndsShort (HasRisen (bench D.view pairs.old.items) (bench D.view pairs.new.items)) registry.now ts
+        (outside (W.view out.old).written (link_view (C.view carrier.old) (F.view fabric.old)) (images D.view pairs.old.items))
+        (outside (W.view out.new).written (link_view (C.view carrier.new) (F.view fabric.new)) (images D.view pairs.new.items))) }
 
     // Over any disks: why it ended.
-    ensures causes { HaveCauses (λ e. IsErrOf result (LinkedFault.World e)) (λ k. k < length registry.now) (bench D.image_at D.moment D.faults D.armed D.picks pairs.old.items) (bench D.image_at D.moment D.faults D.armed D.picks pairs.new.items) (link_view C.slots C.failed C.wire F.put_on F.taken_on F.faults carrier.old fabric.old) (link_view C.slots C.failed C.wire F.put_on F.taken_on F.faults carrier.new fabric.new) }
-    ensures write { IsErrOf result LinkedFault.Write → Rose (W.faults out.old) (W.faults out.new) }
-    ensures later { W.faults out.old ≤ W.faults out.new }
+    ensures causes { HaveCauses (λ e. IsErrOf result (LinkedFault.World e)) (λ k. k < length registry.now) (bench D.view pairs.old.items)
+        (bench D.view pairs.new.items) (link_view (C.view carrier.old) (F.view fabric.old)) (link_view (C.view carrier.new) (F.view fabric.new)) }
+    ensures write { IsErrOf result LinkedFault.Write → Rose (W.view out.old).faults (W.view out.new).faults }
+    ensures later { (W.view out.old).faults ≤ (W.view out.new).faults }
 {
     let mut run = LinkedRun::new(alloc, registry, pairs)?;
     let ended = run.lines(alloc, pairs, carrier, fabric, source, out);

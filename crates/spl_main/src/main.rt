@@ -3,6 +3,7 @@
 
 ghost use Rattle.std.specs.Prelude.{◌≡◌, ◌≢◌};
 ghost use Rattle.std.specs.IoError.{error_kind};
+ghost use Rattle.spl_edge.specs.Views.{bench};
 
 use spl_app::{Status, blank_bench, splinter};
 use spl_device::{FileSource, StdSink, fabric, shelf};

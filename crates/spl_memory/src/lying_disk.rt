@@ -58,11 +58,9 @@ impl LyingDisk {
 }
 
 impl Disk for LyingDisk {
-    ghost image_at = { λ _ _. None };
+    ghost use Rattle.spl_edge.specs.Views.{untold_disk};
 
-    ghost moment = { λ d. d.moment };
-
-    ghost faults = { λ d. d.faults };
+    ghost view = { λ d. untold_disk d.moment d.faults };
 
     fn len(&mut self) -> Result<u64, DeviceError> {
         if let Err(fault) = self.begin() {

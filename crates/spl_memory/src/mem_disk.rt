@@ -3,7 +3,7 @@ ghost use Rattle.std.specs.Prelude.{◌≡◌, ◌≤◌, ◌<◌, ◌+◌, ◌^
 ghost use Rattle.spl_memory.specs.Replay.{replayed, until, all_until, picks_of, bytes_of, undone, back, range_of, filled_in, Pushed, IsHeld};
 ghost use Rattle.spl_edge.specs.Image.{Image, patched, after_write, after_sync, after_cut, settled_at};
 ghost use Rattle.spl_edge.specs.Picks.{filled, painted, picked_bytes, picked_of};
-ghost use Rattle.spl_edge.specs.Calls.{Passes, fails_at, armed_with};
+ghost use Rattle.spl_edge.specs.Calls.{Passes, fails_at};
 
 use crate::log::Log;
 use spl_edge::{Armed, Arming, DeviceError, Disk, Fill, StopDisk, count_fault};
@@ -295,17 +295,9 @@ fn picked(
 }
 
 impl Disk for MemDisk {
-    ghost use Rattle.spl_memory.specs.MemDisks.{image_of, moment_of, faults_of, armed_of, picked_by};
+    ghost use Rattle.spl_memory.specs.MemDisks.{disk_view};
 
-    ghost image_at = { image_of };
-
-    ghost moment = { moment_of };
-
-    ghost faults = { faults_of };
-
-    ghost armed = { armed_of };
-
-    ghost picks = { picked_by };
+    ghost view = { disk_view };
 
     fn len(&mut self) -> Result<u64, DeviceError> {
         if let Err(fault) = begin(

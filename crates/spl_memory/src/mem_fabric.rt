@@ -2,7 +2,7 @@
 ghost use Rattle.std.specs.Prelude.{◌≡◌, ◌≢◌, ◌≤◌, ◌<◌, ◌++◌, ℕ, [], Some, None, length, take, OnOk, OnErr};
 ghost use Rattle.spl_edge.specs.Fabrics.{IsHonest};
 ghost use Rattle.spl_memory.specs.Lanes.{put_in, taken_in, lane_from};
-ghost use Rattle.spl_memory.specs.Fabrics.{put_of, taken_of};
+ghost use Rattle.spl_memory.specs.Fabrics.{put_of, taken_of, fabric_view};
 
 use crate::lane::Lane;
 use crate::lies::{Lie, tell};
@@ -86,15 +86,11 @@ impl MemFabric {
 
 /// What was taken of a fabric in memory is a front of what was put.
 pub fn memory_is_honest(fabric: &MemFabric)
-    ensures { IsHonest (λ from to. Some (put_of fabric.now from to)) (λ from to. Some (taken_of fabric.now from to)) }
+    ensures { IsHonest (fabric_view fabric.now).put (fabric_view fabric.now).taken }
 {}
 
 impl Fabric for MemFabric {
-    ghost put_on = { λ f from to. Some (put_of f from to) };
-
-    ghost taken_on = { λ f from to. Some (taken_of f from to) };
-
-    ghost faults = { λ f. f.faults };
+    ghost view = { fabric_view };
 
     fn put(&mut self, from: u8, to: u8, bytes: &[u8]) -> Result<usize, DeviceError> {
         self.calls = self.calls.saturating_add(1);
@@ -146,11 +142,9 @@ impl LyingFabric {
 }
 
 impl Fabric for LyingFabric {
-    ghost put_on = { λ _ _ _. None };
+    ghost use Rattle.spl_edge.specs.Views.{untold_fabric};
 
-    ghost taken_on = { λ _ _ _. None };
-
-    ghost faults = { λ f. f.faults };
+    ghost view = { λ f. untold_fabric f.faults };
 
     fn put(&mut self, from: u8, to: u8, bytes: &[u8]) -> Result<usize, DeviceError> {
         self.calls = self.calls.saturating_add(1);

@@ -14,7 +14,7 @@ use Rattle.spl_sched.specs.declared.line.Line.{Line}
 use Rattle.spl_sched.specs.declared.line.Line.TheVariants as line
 use Rattle.spl_sched.specs.Grammar.{circuit_of, step_circuit, step_node}
 use Rattle.spl_rules.specs.Cells.{is_bound}
-use Rattle.spl_model.specs.Worlds.{World, Occurrence, Steps, Stops, Starts, Halts, first_world, step_plan, step_world, happens}
+use Rattle.spl_model.specs.Worlds.{Origin, World, Occurrence, Steps, Stops, Starts, Halts, first_world, step_plan, step_world, happens}
 use Rattle.spl_model.specs.Calm.{calm}
 use Rattle.spl_model.specs.Projection.{Ran, names, concerned, own_among, own}
 
@@ -69,17 +69,17 @@ abbrev pub occurrences_from : World → List Ran → List Occurrence
 occurrences_from w [] = []
 occurrences_from w (r ∷ rs) = occurrences_in w r.line r.kept ++ occurrences_from (line_world w r.line r.kept) rs
 
--- the world of a circuit among some nodes, behind the lines of a schedule: its own lines alone count
-abbrev pub circuit_world : List NodeId → CircuitId → List Ran → World
-circuit_world ns c rs = lines_world (first_world ns) (own c rs)
+-- the world of a circuit in a run that begins there, behind the lines of a schedule: its own lines alone count
+abbrev pub circuit_world : Origin → CircuitId → List Ran → World
+circuit_world o c rs = lines_world (first_world o c) (own o c rs)
 
 -- what happens in it
-abbrev pub occurrences : List NodeId → CircuitId → List Ran → List Occurrence
-occurrences ns c rs = occurrences_from (first_world ns) (own c rs)
+abbrev pub occurrences : Origin → CircuitId → List Ran → List Occurrence
+occurrences o c rs = occurrences_from (first_world o c) (own o c rs)
 
 -- the world of a circuit in which a line runs: what the line concerns counts already
-abbrev pub world_before : List NodeId → CircuitId → List Ran → Ran → World
-world_before ns c before r = lines_world (first_world ns) (own_among c (concerned c (before ++ r ∷ [])) before)
+abbrev pub world_before : Origin → CircuitId → List Ran → Ran → World
+world_before o c before r = lines_world (first_world o c) (own_among c (concerned o c (before ++ r ∷ [])) before)
 
 -- ---- nodes
 
@@ -102,32 +102,36 @@ abbrev pub and_circuit : Option CircuitId → List CircuitId → List CircuitId
 and_circuit None cs = cs
 and_circuit (Some c) cs = if has_node cs c then cs else c ∷ cs
 
--- the circuits that lines name, each once
-abbrev pub circuits_in : List Ran → List CircuitId
-circuits_in [] = []
-circuits_in (r ∷ rs) = and_circuit (circuit_of r.line) (circuits_in rs)
+abbrev pub and_circuits : List CircuitId → List CircuitId → List CircuitId
+and_circuits [] cs = cs
+and_circuits (d ∷ ds) cs = and_circuit (Some d) (and_circuits ds cs)
+
+-- the circuits of which a node keeps something at first and those that lines name, each once
+abbrev pub circuits_in : Origin → List Ran → List CircuitId
+circuits_in o [] = and_circuits o.circuits []
+circuits_in o (r ∷ rs) = and_circuit (circuit_of r.line) (circuits_in o rs)
 
 -- the circuits that are bound at a node, in the order of their ids
-abbrev pub bound_at : List NodeId → List Ran → NodeId → List CircuitId
-bound_at ns rs n = filter (λ c. is_bound ((circuit_world ns c rs).at n)) (sorted (circuits_in rs))
+abbrev pub bound_at : Origin → List Ran → NodeId → List CircuitId
+bound_at o rs n = filter (λ c. is_bound ((circuit_world o c rs).at n)) (sorted (circuits_in o rs))
 
-abbrev pub roll_answer : List NodeId → List Ran → NodeId → Answer
-roll_answer ns rs n = if is_up n rs then answer.Roll (bound_at ns rs n) else answer.Refused refusal.Down
+abbrev pub roll_answer : Origin → List Ran → NodeId → Answer
+roll_answer o rs n = if is_up n rs then answer.Roll (bound_at o rs n) else answer.Refused refusal.Down
 
 -- ---- answers
 
 -- the answer to a line behind the lines that ran before it
-unfoldable pub answer_to : List NodeId → List Ran → Ran → Answer
-answer_to ns before r = line_answer (λ c. world_before ns c before r) (λ n. roll_answer ns (before ++ r ∷ []) n) r.line r.kept
+unfoldable pub answer_to : Origin → List Ran → Ran → Answer
+answer_to o before r = line_answer (λ c. world_before o c before r) (λ n. roll_answer o (before ++ r ∷ []) n) r.line r.kept
 
 -- the answers to lines that run behind others
-abbrev pub answers : List NodeId → List Ran → List Ran → List Answer
-answers ns before [] = []
-answers ns before (r ∷ rs) = answer_to ns before r ∷ answers ns (before ++ r ∷ []) rs
+abbrev pub answers : Origin → List Ran → List Ran → List Answer
+answers o before [] = []
+answers o before (r ∷ rs) = answer_to o before r ∷ answers o (before ++ r ∷ []) rs
 
 -- those to the lines that name a circuit
-abbrev pub answers_about : List NodeId → CircuitId → List Ran → List Ran → List Answer
-answers_about ns c before [] = []
-answers_about ns c before (r ∷ rs) =
-    if names c r.line then answer_to ns before r ∷ answers_about ns c (before ++ r ∷ []) rs
-    else answers_about ns c (before ++ r ∷ []) rs
+abbrev pub answers_about : Origin → CircuitId → List Ran → List Ran → List Answer
+answers_about o c before [] = []
+answers_about o c before (r ∷ rs) =
+    if names c r.line then answer_to o before r ∷ answers_about o c (before ++ r ∷ []) rs
+    else answers_about o c (before ++ r ∷ []) rs

@@ -1,9 +1,9 @@
 -- How many events and stops the lines of a schedule have (docs/RULES.md, Limits).
 use Rattle.std.specs.Prelude.{ℕ, ◌+◌, List, [], ◌∷◌, ◌++◌, length}
-use Rattle.spl_circuit.specs.Nodes.{NodeId, CircuitId}
+use Rattle.spl_circuit.specs.Nodes.{CircuitId}
 use Rattle.spl_sched.specs.declared.line.Line.{Line}
 use Rattle.spl_sched.specs.declared.line.Line.TheVariants as line
-use Rattle.spl_model.specs.Worlds.{World}
+use Rattle.spl_model.specs.Worlds.{Origin, World}
 use Rattle.spl_model.specs.Calm.{calm}
 use Rattle.spl_model.specs.Projection.{Ran}
 use Rattle.spl_model.specs.Answers.{world_before}
@@ -14,13 +14,13 @@ line_events worlds (line.Calm c k) = length (calm c (worlds c) k).happened
 line_events worlds _ = 1
 
 -- the events of lines that run behind others
-abbrev pub events_behind : List NodeId → List Ran → List Ran → ℕ
-events_behind ns before [] = 0
-events_behind ns before (r ∷ rs) = line_events (λ c. world_before ns c before r) r.line + events_behind ns (before ++ r ∷ []) rs
+abbrev pub events_behind : Origin → List Ran → List Ran → ℕ
+events_behind o before [] = 0
+events_behind o before (r ∷ rs) = line_events (λ c. world_before o c before r) r.line + events_behind o (before ++ r ∷ []) rs
 
 -- the events of all lines that ran
-unfoldable pub events_of : List NodeId → List Ran → ℕ
-events_of ns rs = events_behind ns [] rs
+unfoldable pub events_of : Origin → List Ran → ℕ
+events_of o rs = events_behind o [] rs
 
 -- a line that stops a node counts, in whatever state the node is
 abbrev pub line_stops : Line → ℕ

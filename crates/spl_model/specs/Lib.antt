@@ -1,4 +1,5 @@
 pub mod Worlds
+pub mod Origins
 pub mod Puts
 pub mod Calm
 pub mod Quiet

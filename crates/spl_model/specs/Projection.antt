@@ -1,7 +1,12 @@
 -- Which of the lines that ran are a circuit's own (docs/RULES.md, Circuits as worlds).
-use Rattle.std.specs.Prelude.{Bool, false, List, [], ◌∷◌, ◌++◌, if◌then◌else◌, Option, Some, None}
+use Rattle.std.specs.Prelude.{ℕ, Bool, false, List, [], ◌∷◌, ◌++◌, if◌then◌else◌, Option, Some, None}
 use Rattle.std.specs.List.{list_all}
 use Rattle.std.specs.Str.{bytes_eq}
+use Rattle.spl_agree.specs.declared.reason.Reason.{Reason}
+use Rattle.spl_agree.specs.Member.{Member, values}
+use Rattle.spl_circuit.specs.declared.act.ActKind.{ActKind}
+use Rattle.spl_circuit.specs.declared.act.ActKind.TheVariants as kind
+use Rattle.spl_circuit.specs.declared.act.Act.{Act}
 use Rattle.spl_circuit.specs.Nodes.{NodeId, CircuitId, has_node}
 use Rattle.spl_wire.specs.declared.event.Event.{Event}
 use Rattle.spl_wire.specs.declared.event.Event.TheVariants as event
@@ -10,6 +15,8 @@ use Rattle.spl_sched.specs.declared.line.Step.TheVariants as step
 use Rattle.spl_sched.specs.declared.line.Line.{Line}
 use Rattle.spl_sched.specs.declared.line.Line.TheVariants as line
 use Rattle.spl_sched.specs.Grammar.{circuit_of, step_node, is_line}
+use Rattle.spl_rules.specs.Cells.{Cell, Empty, Held, Purged}
+use Rattle.spl_model.specs.Worlds.{Origin}
 
 -- a line that ran. A cut or a fail stops its node in an event: `kept` says whether the disks have the record of that
 -- event. Of any other line it says nothing
@@ -54,11 +61,46 @@ line_concerns (line.Cut calls fill s) = step_concerns s
 line_concerns (line.Fail call s) = step_concerns s
 line_concerns _ = []
 
--- the nodes concerned with a circuit: those at which a line that names it takes place, and those that such a line
--- proposes as members
-abbrev pub concerned : CircuitId → List Ran → List NodeId
-concerned c [] = []
-concerned c (r ∷ rs) = (if names c r.line then line_concerns r.line else []) ++ concerned c rs
+-- those at which a line that names the circuit takes place, and those that such a line proposes as members
+abbrev pub lines_concern : CircuitId → List Ran → List NodeId
+lines_concern c [] = []
+lines_concern c (r ∷ rs) = (if names c r.line then line_concerns r.line else []) ++ lines_concern c rs
+
+-- the members that acts propose
+abbrev pub kind_members : ActKind → List NodeId
+kind_members (kind.Propose d) = d.members
+kind_members _ = []
+
+abbrev pub members_of_acts : List Act → List NodeId
+members_of_acts [] = []
+members_of_acts (v ∷ vs) = kind_members v.kind ++ members_of_acts vs
+
+-- the acts that are refused, and the one that is promised
+abbrev pub refused_values : {V : Type 0} → List (V × Reason) → List V
+refused_values [] = []
+refused_values (u ∷ us) = u.0 ∷ refused_values us
+
+abbrev pub promised_values : {V : Type 0} → Option (ℕ × V) → List V
+promised_values None = []
+promised_values (Some p) = p.1 ∷ []
+
+-- all acts that a member keeps
+abbrev pub kept_values : {V : Type 0} → Member V → List V
+kept_values m = m.pending ++ (values m.history ++ (promised_values m.promise ++ refused_values m.refused))
+
+-- a node that keeps something, and the members of the definitions that it keeps, in its acts too
+abbrev pub cell_concerns : NodeId → Cell → List NodeId
+cell_concerns n Empty = []
+cell_concerns n (Held h) = n ∷ (h.definition.members ++ members_of_acts (kept_values h.acts))
+cell_concerns n (Purged g) = n ∷ []
+
+abbrev pub cells_concern : (NodeId → Cell) → List NodeId → List NodeId
+cells_concern at [] = []
+cells_concern at (n ∷ ns) = cell_concerns n (at n) ++ cells_concern at ns
+
+-- the nodes concerned with a circuit: those that the cells concern with which the run begins, and those that its lines do
+abbrev pub concerned : Origin → CircuitId → List Ran → List NodeId
+concerned o c rs = cells_concern (o.kept c) o.nodes ++ lines_concern c rs
 
 -- ---- its own lines
 
@@ -84,5 +126,5 @@ own_among c ns [] = []
 own_among c ns (r ∷ rs) = own_line c ns r ++ own_among c ns rs
 
 -- a circuit's own lines
-abbrev pub own : CircuitId → List Ran → List Ran
-own c rs = own_among c (concerned c rs) rs
+abbrev pub own : Origin → CircuitId → List Ran → List Ran
+own o c rs = own_among c (concerned o c rs) rs

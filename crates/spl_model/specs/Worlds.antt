@@ -29,9 +29,29 @@ pub record World : Type 0 where
   pub at : NodeId → Cell
   pub sent : List Sent
 
--- at first all nodes are up, nothing is kept, and nothing was sent
-abbrev pub first_world : List NodeId → World
-first_world ns = record { nodes = ns; up = λ n. true; at = λ n. Empty; sent = [] }
+-- where a run begins: the registered nodes, what each of them keeps of each circuit, and the circuits of which one keeps
+-- something
+pub record Origin : Type 0 where
+  pub nodes : List NodeId
+  pub kept : CircuitId → NodeId → Cell
+  pub circuits : List CircuitId
+
+-- no other node keeps anything, and nothing is kept of any other circuit
+pub record IsOrigin (o : Origin) : Type 0 where
+  pub only : (c : CircuitId) (n : NodeId) → has_node o.nodes n ≡ false → o.kept c n ≡ Empty
+  pub listed : (c : CircuitId) (n : NodeId) → has_node o.circuits c ≡ false → o.kept c n ≡ Empty
+
+-- nothing is kept
+abbrev pub blank : List NodeId → Origin
+blank ns = record { nodes = ns; kept = λ c n. Empty; circuits = [] }
+
+-- at first all nodes are up, and nothing was sent
+abbrev pub first_world : Origin → CircuitId → World
+first_world o c = record { nodes = o.nodes; up = λ n. true; at = o.kept c; sent = [] }
+
+-- where nothing is kept, the world of each circuit is this one at first
+abbrev pub empty_world : List NodeId → World
+empty_world ns = record { nodes = ns; up = λ n. true; at = λ n. Empty; sent = [] }
 
 -- another thing at one node
 unfoldable pub put_at : {A : Type 0} → (NodeId → A) → NodeId → A → NodeId → A
@@ -105,9 +125,9 @@ abbrev pub occur : World → List Occurrence → World
 occur w [] = w
 occur w (e ∷ es) = occur (happens w e) es
 
--- the world behind what happened
+-- the world behind what happened, where nothing was kept at first
 abbrev pub world_behind : List NodeId → List Occurrence → World
-world_behind ns es = occur (first_world ns) es
+world_behind ns es = occur (empty_world ns) es
 
 -- the world of a circuit stays as it was
 pub record IsUnmoved (old new : World) : Type 0 where

@@ -3,15 +3,15 @@ use Rattle.std.proofs.Common.{◌≡◌, ◌⊎◌, inl, inr, ℕ, ◌≤◌, �
 use Rattle.std.proofs.lemmas.Bool.{cases_lt}
 use Rattle.std.specs.Option.{option_map}
 use Rattle.spl_edge.specs.Image.{Image, MayLeave, IsSettled}
-use Rattle.spl_edge.specs.Picks.{Picked}
-use Rattle.spl_edge.specs.declared.disk.Armed.{Armed}
+use Rattle.spl_edge.specs.Calls.{Onward}
+use Rattle.spl_edge.specs.Views.{DiskView, image_now}
 use Rattle.spl_journal.proofs.Images.{only_settled}
 use Rattle.spl_journal.specs.Clear.{IsAtRest}
 use Rattle.spl_journal.specs.Gate.{ByCalls}
 use Rattle.spl_journal.specs.Journals.{Stands}
 use Rattle.spl_journal.specs.Reads.{Stays}
 use Rattle.spl_snapshot.specs.declared.pairing.Pairing.{Pairing}
-use Rattle.spl_snapshot.specs.Counting.{chosen, IfBoth, PairLeaves, PairLeavesInTurn, Onward}
+use Rattle.spl_snapshot.specs.Counting.{chosen, IfBoth, PairLeavesBetween, PairLeavesBetweenInTurn}
 use Rattle.spl_snapshot.specs.Pairs.{PairStands}
 
 pub both_if : (o p : Option Image) (P Q : Image → Image → Type 0) → IfBoth o p P → ((i j : Image) → P i j → Q i j) → IfBoth o p Q
@@ -23,10 +23,10 @@ pub safe_map : (P Q : List ℕ → List ℕ → Type 0) → ((c d : List ℕ) �
     → IfBoth o p (λ i j. (c d : List ℕ) → MayLeave i c → MayLeave j d → P c d) → IfBoth o p (λ i j. (c d : List ℕ) → MayLeave i c → MayLeave j d → Q c d)
 safe_map P Q f o p h = both_if o p (λ i j. (c d : List ℕ) → MayLeave i c → MayLeave j d → P c d) (λ i j. (c d : List ℕ) → MayLeave i c → MayLeave j d → Q c d) h (λ i j safe c d x y. f c d (safe c d x y))
 
-pub leaves_map : (at other : ℕ → Option Image) (from to start end : ℕ) (P Q : List ℕ → List ℕ → Type 0) → ((c d : List ℕ) → P c d → Q c d) → PairLeaves at from to other start end P → PairLeaves at from to other start end Q
+pub leaves_map : (at other : ℕ → Option Image) (from to start end : ℕ) (P Q : List ℕ → List ℕ → Type 0) → ((c d : List ℕ) → P c d → Q c d) → PairLeavesBetween at from to other start end P → PairLeavesBetween at from to other start end Q
 leaves_map at other from to start end P Q f h k l a b c d = safe_map P Q f (at k) (other l) (h k l a b c d)
 
-pub turn_map : (second : Bool) (at other : ℕ → Option Image) (from to start end : ℕ) (P Q : List ℕ → List ℕ → Type 0) → ((c d : List ℕ) → P c d → Q c d) → PairLeavesInTurn second at from to other start end P → PairLeavesInTurn second at from to other start end Q
+pub turn_map : (second : Bool) (at other : ℕ → Option Image) (from to start end : ℕ) (P Q : List ℕ → List ℕ → Type 0) → ((c d : List ℕ) → P c d → Q c d) → PairLeavesBetweenInTurn second at from to other start end P → PairLeavesBetweenInTurn second at from to other start end Q
 turn_map second at other from to start end P Q f h k l a b c d turn = safe_map P Q f (at k) (other l) (h k l a b c d turn)
 
 settled_both : (second : Bool) (o p : Option Image) → IfSome (chosen second o p) IsSettled → IfSome (chosen second p o) IsSettled → IfSome o IsSettled × IfSome p IsSettled
@@ -57,10 +57,10 @@ still P i j a b h c d x y = subst (λ (e : List ℕ). P e d) (sym (only_settled 
 
 module _ (at other : ℕ → Option Image) (m n : ℕ) where
   pub rest_leaves : IfSome (at m) IsSettled → IfSome (other n) IsSettled → (P : Image → Image → Type 0) (Q : List ℕ → List ℕ → Type 0) → ((i j : Image) → P i j → Q i.bytes j.bytes)
-      → IfBoth (at m) (other n) (λ i j. P i j → PairLeaves at m m other n n Q)
+      → IfBoth (at m) (other n) (λ i j. P i j → PairLeavesBetween at m m other n n Q)
   rest_leaves a b P Q f = by (at m) (other n) a b refl refl
     where
-      by : (o p : Option Image) → IfSome o IsSettled → IfSome p IsSettled → at m ≡ o → other n ≡ p → IfBoth o p (λ i j. P i j → PairLeaves at m m other n n Q)
+      by : (o p : Option Image) → IfSome o IsSettled → IfSome p IsSettled → at m ≡ o → other n ≡ p → IfBoth o p (λ i j. P i j → PairLeavesBetween at m m other n n Q)
       by None p a b x y = tt
       by (Some i) None a b x y = tt
       by (Some i) (Some j) a b x y = λ h k l low high low2 high2.
@@ -70,7 +70,7 @@ module _ (at other : ℕ → Option Image) (m n : ℕ) where
           (subst (λ (p : Option Image). IfBoth (Some i) p (λ i j. (c d : List ℕ) → MayLeave i c → MayLeave j d → Q c d)) (sym there) (still Q i j a b (f i j h)))
 
 -- what is left at the last moments is what a read gives
-pub left_now : (at other : ℕ → Option Image) (m n : ℕ) (Q : List ℕ → List ℕ → Type 0) → IfSome (at m) IsSettled → IfSome (other n) IsSettled → PairLeaves at m m other n n Q → IfBoth (at m) (other n) (λ i j. Q i.bytes j.bytes)
+pub left_now : (at other : ℕ → Option Image) (m n : ℕ) (Q : List ℕ → List ℕ → Type 0) → IfSome (at m) IsSettled → IfSome (other n) IsSettled → PairLeavesBetween at m m other n n Q → IfBoth (at m) (other n) (λ i j. Q i.bytes j.bytes)
 left_now at other m n Q a b left = by (at m) (other n) a b (left m n (omega arith) (omega arith) (omega arith) (omega arith))
   where
     by : (o p : Option Image) → IfSome o IsSettled → IfSome p IsSettled → IfBoth o p (λ i j. (c d : List ℕ) → MayLeave i c → MayLeave j d → Q c d) → IfBoth o p (λ i j. Q i.bytes j.bytes)
@@ -78,41 +78,41 @@ left_now at other m n Q a b left = by (at m) (other n) a b (left m n (omega arit
     by (Some i) None a b h = tt
     by (Some i) (Some j) a b h = h i.bytes j.bytes (own_bytes i a) (own_bytes j b)
 
-pub onward_same : (at : ℕ → Option Image) (m faults : ℕ) (armed : Armed) (picks : List Picked) → Onward at at m m faults faults armed armed picks picks
-onward_same at m faults armed picks = record { past = λ t h. refl; later = omega arith; no_less = omega arith; armed = refl; picks = refl }
+pub onward_same : (x : DiskView) → Onward x x
+onward_same x = record { past = λ t h. refl; later = omega arith; no_less = omega arith; armed = refl; picks = refl }
 
-pub onward_join : (a b c : ℕ → Option Image) (l m n : ℕ) (x y z : ℕ) (p q r : Armed) (s t u : List Picked) → Onward a b l m x y p q s t → Onward b c m n y z q r t u → Onward a c l n x z p r s u
-onward_join a b c l m n x y z p q r s t u f g = record {
-  past = λ k h. g.past k (let le : l ≤ m = f.later in omega arith) ∙ f.past k h;
-  later = let one : l ≤ m = f.later in let two : m ≤ n = g.later in omega arith;
-  no_less = let one : x ≤ y = f.no_less in let two : y ≤ z = g.no_less in omega arith;
+pub onward_join : (x y z : DiskView) → Onward x y → Onward y z → Onward x z
+onward_join x y z f g = record {
+  past = λ k h. g.past k (let le : x.moment ≤ y.moment = f.later in omega arith) ∙ f.past k h;
+  later = let one : x.moment ≤ y.moment = f.later in let two : y.moment ≤ z.moment = g.later in omega arith;
+  no_less = let one : x.faults ≤ y.faults = f.no_less in let two : y.faults ≤ z.faults = g.no_less in omega arith;
   armed = g.armed ∙ f.armed;
   picks = g.picks ∙ f.picks;
 }
 
-pub stays_same : (at : ℕ → Option Image) (m : ℕ) → Stays at m at m
-stays_same at m = record { past = λ t h. refl; still = λ k low high. ap at (let e : k ≡ m = omega arith in e); later = omega arith }
+pub stays_same : (x : DiskView) → Stays x x
+stays_same x = record { past = λ t h. refl; still = λ k low high. ap x.image_at (let e : k ≡ x.moment = omega arith in e); later = omega arith }
 
-pub stays_join : (a b c : ℕ → Option Image) (l m n : ℕ) → Stays a l b m → Stays b m c n → Stays a l c n
-stays_join a b c l m n f g = record {
-  past = λ k h. g.past k (let le : l ≤ m = f.later in omega arith) ∙ f.past k h;
-  still = λ k low high. by k low high (cases_lt k m);
-  later = let one : l ≤ m = f.later in let two : m ≤ n = g.later in omega arith;
+pub stays_join : (x y z : DiskView) → Stays x y → Stays y z → Stays x z
+stays_join x y z f g = record {
+  past = λ k h. g.past k (let le : x.moment ≤ y.moment = f.later in omega arith) ∙ f.past k h;
+  still = λ k low high. by k low high (cases_lt k y.moment);
+  later = let one : x.moment ≤ y.moment = f.later in let two : y.moment ≤ z.moment = g.later in omega arith;
 }
   where
-    by : (k : ℕ) → l ≤ k → k ≤ n → (k < m) ⊎ (m ≤ k) → c k ≡ a l
+    by : (k : ℕ) → x.moment ≤ k → k ≤ z.moment → (k < y.moment) ⊎ (y.moment ≤ k) → z.image_at k ≡ image_now x
     by k low high (inl h) = g.past k (omega arith) ∙ f.still k low (omega arith)
-    by k low high (inr h) = g.still k h high ∙ f.still m f.later (omega arith)
+    by k low high (inr h) = g.still k h high ∙ f.still y.moment f.later (omega arith)
 
 -- a fault that came before the first call
-pub no_calls : (at : ℕ → Option Image) (m : ℕ) (f : ℕ → Image → Image) (armed : Armed) (ok failed : Type 0) → ((i : Image) → f 0 i ≡ i) → (ok → ⊥) → (failed → ⊥) → ByCalls 4 at m m f (at m) armed ok failed
-no_calls at m f armed ok failed none no_ok no_failed = record {
+pub no_calls : (x : DiskView) (f : ℕ → Image → Image) (ok failed : Type 0) → ((i : Image) → f 0 i ≡ i) → (ok → ⊥) → (failed → ⊥) → ByCalls 4 x x f ok failed
+no_calls x f ok failed none no_ok no_failed = record {
   calls = 0;
   at_most = omega arith;
-  stands = ap at (add-zero m) ∙ by (at m);
+  stands = ap x.image_at (add-zero x.moment) ∙ by (image_now x);
   last = omega arith;
   passed = λ j h. absurd (omega arith);
-  still = λ h. ap at (sym (add-zero m));
+  still = λ h. ap x.image_at (sym (add-zero x.moment));
   named = λ h. absurd (no_failed h);
   whole = λ h. absurd (no_ok h);
   fewer = λ h. absurd (no_failed h);
@@ -123,9 +123,9 @@ no_calls at m f armed ok failed none no_ok no_failed = record {
     by (Some i) = ap (λ (k : Image). Some k) (sym (none i))
 
 -- the same calls, told of by another answer
-pub calls_as : (most : ℕ) (at : ℕ → Option Image) (first now : ℕ) (f : ℕ → Image → Image) (told : Option Image) (armed : Armed) (ok failed other_ok other_failed : Type 0) → (other_ok → ok) → (other_failed → failed)
-    → ByCalls most at first now f told armed ok failed → ByCalls most at first now f told armed other_ok other_failed
-calls_as most at first now f told armed ok failed other_ok other_failed oks fails c = record {
+pub calls_as : (most : ℕ) (x y : DiskView) (f : ℕ → Image → Image) (ok failed other_ok other_failed : Type 0) → (other_ok → ok) → (other_failed → failed)
+    → ByCalls most x y f ok failed → ByCalls most x y f other_ok other_failed
+calls_as most x y f ok failed other_ok other_failed oks fails c = record {
   calls = c.calls;
   at_most = c.at_most;
   stands = c.stands;
@@ -137,7 +137,7 @@ calls_as most at first now f told armed ok failed other_ok other_failed oks fail
   fewer = λ h. c.fewer (fails h);
 }
 
-pub either_calls : {S T U : Type 0} (most : ℕ) (at : ℕ → Option Image) (first now : ℕ) (f : ℕ → Image → Image) (told : Option Image) (armed : Armed) (ok failed other_ok other_failed rest_ok rest_failed : Type 0) → (other_ok → ok) → (other_failed → failed) → (T → U)
-    → (ByCalls most at first now f told armed ok failed × S) ⊎ (ByCalls most at first now f told armed rest_ok rest_failed × T) → (ByCalls most at first now f told armed other_ok other_failed × S) ⊎ (ByCalls most at first now f told armed rest_ok rest_failed × U)
-either_calls most at first now f told armed ok failed other_ok other_failed rest_ok rest_failed oks fails left (inl c) = inl (calls_as most at first now f told armed ok failed other_ok other_failed oks fails c.0, c.1)
-either_calls most at first now f told armed ok failed other_ok other_failed rest_ok rest_failed oks fails left (inr c) = inr (c.0, left c.1)
+pub either_calls : {S T U : Type 0} (most : ℕ) (x y : DiskView) (f : ℕ → Image → Image) (ok failed other_ok other_failed rest_ok rest_failed : Type 0) → (other_ok → ok) → (other_failed → failed) → (T → U)
+    → (ByCalls most x y f ok failed × S) ⊎ (ByCalls most x y f rest_ok rest_failed × T) → (ByCalls most x y f other_ok other_failed × S) ⊎ (ByCalls most x y f rest_ok rest_failed × U)
+either_calls most x y f ok failed other_ok other_failed rest_ok rest_failed oks fails left (inl c) = inl (calls_as most x y f ok failed other_ok other_failed oks fails c.0, c.1)
+either_calls most x y f ok failed other_ok other_failed rest_ok rest_failed oks fails left (inr c) = inr (c.0, left c.1)

@@ -8,7 +8,7 @@ use Rattle.std.proofs.lemmas.Bool.{cases_lt}
 use Rattle.std.proofs.lemmas.Bool.Decides.{nat_tests}
 use Rattle.spl_agree.proofs.Tests.{bool_cases}
 use Rattle.spl_circuit.specs.Nodes.{NodeId, CircuitId}
-use Rattle.spl_edge.specs.Calls.{armed_with, fails_at}
+use Rattle.spl_edge.specs.Calls.{armed_with, fails_at, Onward}
 use Rattle.spl_edge.specs.Causes.{Rose}
 use Rattle.spl_edge.specs.Image.{Image, MayLeave, IsSettled, settled_at}
 use Rattle.spl_edge.specs.Picks.{Picked, picked_bytes, picked_of}
@@ -17,10 +17,11 @@ use Rattle.spl_edge.specs.declared.disk.Arming.{Arming}
 use Rattle.spl_edge.specs.declared.disk.Arming.TheVariants.{Off, After, At}
 use Rattle.spl_edge.specs.declared.fill.Fill.{Fill}
 use Rattle.spl_edge.specs.declared.fill.Fill.TheVariants.{Old}
+use Rattle.spl_edge.specs.Views.{DiskView, image_now}
 use Rattle.spl_journal.proofs.Images.{only_settled}
 use Rattle.spl_journal.specs.Gate.{ByCalls, NamesOne, opened}
 use Rattle.spl_journal.specs.Stops.{is_kept}
-use Rattle.spl_snapshot.specs.Counting.{chosen, pair_records, IfBoth, PairLeaves, Onward}
+use Rattle.spl_snapshot.specs.Counting.{chosen, pair_records, IfBoth, PairLeavesBetween}
 use Rattle.spl_snapshot.specs.Stopped.{kept_on}
 use Rattle.spl_wire.specs.declared.change.Change.{Change}
 use Rattle.spl_wire.specs.declared.event.Event.{Event}
@@ -193,7 +194,7 @@ pub stand_then : (here : NodeId) (before : CircuitId → Cell) (o p : Option Ima
 stand_then here before o p Q told other_told stands h = both_told o p (λ i j. Q) Q told other_told (both_apply o p (λ i j. StandFor here before i.bytes j.bytes) (λ i j. Q) stands h) (λ i j is other_is q. q)
 
 -- each image at the last moments stands for these cells
-pub picks_left : (fill : Fill) (here : NodeId) (cells target : CircuitId → Cell) (at other : ℕ → Option Image) (m n : ℕ) → ((i : CircuitId) → stopped_cell (cells i) ≡ target i) → PairLeaves at m m other n n (StandFor here cells) → IfBoth (at m) (other n) (PicksMake fill here target)
+pub picks_left : (fill : Fill) (here : NodeId) (cells target : CircuitId → Cell) (at other : ℕ → Option Image) (m n : ℕ) → ((i : CircuitId) → stopped_cell (cells i) ≡ target i) → PairLeavesBetween at m m other n n (StandFor here cells) → IfBoth (at m) (other n) (PicksMake fill here target)
 picks_left fill here cells target at other m n same left = both_if (at m) (other n) (λ i j. (c d : List ℕ) → MayLeave i c → MayLeave j d → StandFor here cells c d) (PicksMake fill here target) (left m n (omega arith) (omega arith) (omega arith) (omega arith))
     (λ i j all a b. have_cells here cells target (picked_bytes fill i) (picked_bytes fill j) same (all (picked_bytes fill i) (picked_bytes fill j) a b))
 
@@ -229,80 +230,79 @@ chosen_ap f true a b = refl
 
 -- ---- the calls of a record
 
-pub four_passed : {S T : Type 0} (at : ℕ → Option Image) (first now : ℕ) (f : ℕ → Image → Image) (told : Option Image) (armed : Armed) (ok failed : Type 0) → ok → (ByCalls 4 at first now f told armed ok failed × S) ⊎ (ByCalls 4 at first now f told armed ⊤ ⊥ × T) → Pass armed first 4
-four_passed at first now f told armed ok failed is_ok (inl h) = λ j low due. let all : h.0.calls ≡ 4 = h.0.whole is_ok in h.0.passed j (omega (arith, all, low)) due
-four_passed at first now f told armed ok failed is_ok (inr h) = λ j low due. let all : h.0.calls ≡ 4 = h.0.whole tt in h.0.passed j (omega (arith, all, low)) due
+pub four_passed : {S T : Type 0} (x y : DiskView) (f : ℕ → Image → Image) (ok failed : Type 0) → ok → (ByCalls 4 x y f ok failed × S) ⊎ (ByCalls 4 x y f ⊤ ⊥ × T) → Pass x.armed x.moment 4
+four_passed x y f ok failed is_ok (inl h) = λ j low due. let all : h.0.calls ≡ 4 = h.0.whole is_ok in h.0.passed j (omega (arith, all, low)) due
+four_passed x y f ok failed is_ok (inr h) = λ j low due. let all : h.0.calls ≡ 4 = h.0.whole tt in h.0.passed j (omega (arith, all, low)) due
 
 -- where a disk has failed: a call of the record was named, or all four of them passed
-module _ {D : Type 0} (h : Stopping) (here : NodeId) (c : CircuitId) (before : CircuitId → Cell) (e : Event) (image_at : D → ℕ → Option Image) (moment : D → ℕ) (second : Bool) (a b x y : D) (end : ℕ) (piece : List ℕ) (armed : Armed)
-    (is : armed ≡ armed_with (counting_arming h) (moment (chosen second a b))) (stopping : IsStopping h) (rest : IfSome (image_at a (moment a)) IsSettled) (other_rest : IfSome (image_at b (moment b)) IsSettled) (told : IsSome (image_at a (moment a))) (other_told : IsSome (image_at b (moment b)))
-    (stands : IfBoth (image_at a (moment a)) (image_at b (moment b)) (λ i j. StandFor here before i.bytes j.bytes))
-    (stopped : (n : ℕ) (fill : Fill) → IfBoth (image_at a (moment a)) (image_at b (moment b)) (λ i j. StandFor here before i.bytes j.bytes → StandFor here (chosen (is_kept n fill) before (cells_after here before c e)) (kept_on (not second) fill end piece n i) (kept_on second fill end piece n j))) where
+module _ {D : Type 0} (h : Stopping) (here : NodeId) (c : CircuitId) (before : CircuitId → Cell) (e : Event) (view : D → DiskView) (second : Bool) (a b x y : D) (end : ℕ) (piece : List ℕ)
+    (is : (view (chosen second a b)).armed ≡ armed_with (counting_arming h) (view (chosen second a b)).moment) (stopping : IsStopping h) (rest : IfSome (image_now (view a)) IsSettled) (other_rest : IfSome (image_now (view b)) IsSettled) (told : IsSome (image_now (view a))) (other_told : IsSome (image_now (view b)))
+    (stands : IfBoth (image_now (view a)) (image_now (view b)) (λ i j. StandFor here before i.bytes j.bytes))
+    (stopped : (n : ℕ) (fill : Fill) → IfBoth (image_now (view a)) (image_now (view b)) (λ i j. StandFor here before i.bytes j.bytes → StandFor here (chosen (is_kept n fill) before (cells_after here before c e)) (kept_on (not second) fill end piece n i) (kept_on second fill end piece n j))) where
   abbrev Behind : Type 0
-  Behind = PairLeaves (image_at x) (moment x) (moment x) (image_at y) (moment y) (moment y) (StandFor here (cells_after here before c e))
+  Behind = PairLeavesBetween (view x).image_at (view x).moment (view x).moment (view y).image_at (view y).moment (view y).moment (StandFor here (cells_after here before c e))
 
   abbrev Left : Type 0
-  Left = IfBoth (image_at x (moment x)) (image_at y (moment y)) (PicksMake (fill_of h) here (cells_stopped here before c (plan_of (site_at here c) (before c) e).changes (keeps h)))
+  Left = IfBoth (image_now (view x)) (image_now (view y)) (PicksMake (fill_of h) here (cells_stopped here before c (plan_of (site_at here c) (before c) e).changes (keeps h)))
 
-  lost_at : (n : ℕ) → is_kept n (fill_of h) ≡ keeps h → image_at (chosen second x y) (moment (chosen second x y)) ≡ option_map (opened end piece n) (image_at (chosen second a b) (moment (chosen second a b))) → chosen second y x ≡ chosen second b a → Left
+  lost_at : (n : ℕ) → is_kept n (fill_of h) ≡ keeps h → image_now (view (chosen second x y)) ≡ option_map (opened end piece n) (image_now (view (chosen second a b))) → chosen second y x ≡ chosen second b a → Left
   lost_at n same now other = picks_stopped second (fill_of h) (HaveCells here (cells_stopped here before c (plan_of (site_at here c) (before c) e).changes (keeps h))) end piece n
-      (image_at a (moment a)) (image_at b (moment b)) (image_at x (moment x)) (image_at y (moment y)) rest other_rest told other_told
-      (sym (chosen_ap (λ (d : D). image_at d (moment d)) second x y) ∙ (now ∙ ap (option_map (opened end piece n)) (chosen_ap (λ (d : D). image_at d (moment d)) second a b)))
-      (sym (chosen_ap (λ (d : D). image_at d (moment d)) second y x) ∙ (ap (λ (d : D). image_at d (moment d)) other ∙ chosen_ap (λ (d : D). image_at d (moment d)) second b a))
-      (both_if (image_at a (moment a)) (image_at b (moment b))
+      (image_now (view a)) (image_now (view b)) (image_now (view x)) (image_now (view y)) rest other_rest told other_told
+      (sym (chosen_ap (λ (d : D). image_now (view d)) second x y) ∙ (now ∙ ap (option_map (opened end piece n)) (chosen_ap (λ (d : D). image_now (view d)) second a b)))
+      (sym (chosen_ap (λ (d : D). image_now (view d)) second y x) ∙ (ap (λ (d : D). image_now (view d)) other ∙ chosen_ap (λ (d : D). image_now (view d)) second b a))
+      (both_if (image_now (view a)) (image_now (view b))
       (λ i j. StandFor here (chosen (is_kept n (fill_of h)) before (cells_after here before c e)) (kept_on (not second) (fill_of h) end piece n i) (kept_on second (fill_of h) end piece n j))
       (λ i j. HaveCells here (cells_stopped here before c (plan_of (site_at here c) (before c) e).changes (keeps h)) (kept_on (not second) (fill_of h) end piece n i) (kept_on second (fill_of h) end piece n j))
-      (both_apply (image_at a (moment a)) (image_at b (moment b)) (λ i j. StandFor here before i.bytes j.bytes) (λ i j. StandFor here (chosen (is_kept n (fill_of h)) before (cells_after here before c e)) (kept_on (not second) (fill_of h) end piece n i) (kept_on second (fill_of h) end piece n j)) stands (stopped n (fill_of h)))
+      (both_apply (image_now (view a)) (image_now (view b)) (λ i j. StandFor here before i.bytes j.bytes) (λ i j. StandFor here (chosen (is_kept n (fill_of h)) before (cells_after here before c e)) (kept_on (not second) (fill_of h) end piece n i) (kept_on second (fill_of h) end piece n j)) stands (stopped n (fill_of h)))
       (λ i j s. have_kept here c before e (keeps h) (kept_on (not second) (fill_of h) end piece n i) (kept_on second (fill_of h) end piece n j)
       (subst (λ (k : Bool). StandFor here (chosen k before (cells_after here before c e)) (kept_on (not second) (fill_of h) end piece n i) (kept_on second (fill_of h) end piece n j)) same s)))
 
   pub append_stopped : {ok failed : Type 0} → failed
-      → (ByCalls 4 (image_at (chosen second x y)) (moment (chosen second a b)) (moment (chosen second x y)) (opened end piece) (image_at (chosen second a b) (moment (chosen second a b))) armed ok failed × (chosen second y x ≡ chosen second b a))
-      ⊎ (ByCalls 4 (image_at (chosen second x y)) (moment (chosen second a b)) (moment (chosen second x y)) (opened end piece) (image_at (chosen second a b) (moment (chosen second a b))) armed ⊤ ⊥ × IfBoth (image_at a (moment a)) (image_at b (moment b)) (λ i j. StandFor here before i.bytes j.bytes → Behind)) → Left
+      → (ByCalls 4 (view (chosen second a b)) (view (chosen second x y)) (opened end piece) ok failed × (chosen second y x ≡ chosen second b a))
+      ⊎ (ByCalls 4 (view (chosen second a b)) (view (chosen second x y)) (opened end piece) ⊤ ⊥ × IfBoth (image_now (view a)) (image_now (view b)) (λ i j. StandFor here before i.bytes j.bytes → Behind)) → Left
   append_stopped fault (inl k) =
-      let due : IsTrue (fails_at armed (moment (chosen second a b) + k.0.calls)) = k.0.named fault (is_armed h armed (moment (chosen second a b)) is) in
-      lost_at k.0.calls (named_kept h armed (moment (chosen second a b)) k.0.calls is stopping k.0.passed due) (k.0.still due ∙ k.0.stands) k.1
-  append_stopped fault (inr k) = picks_left (fill_of h) here (cells_after here before c e) (cells_stopped here before c (plan_of (site_at here c) (before c) e).changes (keeps h)) (image_at x) (image_at y) (moment x) (moment y)
-      (after_cells here c before e (keeps h) (inl (four_kept h armed (moment (chosen second a b)) is stopping (λ j low due. let all : k.0.calls ≡ 4 = k.0.whole tt in k.0.passed j (omega (arith, all, low)) due))))
-      (stand_then here before (image_at a (moment a)) (image_at b (moment b)) Behind told other_told stands k.1)
+      let due : IsTrue (fails_at (view (chosen second a b)).armed ((view (chosen second a b)).moment + k.0.calls)) = k.0.named fault (is_armed h (view (chosen second a b)).armed (view (chosen second a b)).moment is) in
+      lost_at k.0.calls (named_kept h (view (chosen second a b)).armed (view (chosen second a b)).moment k.0.calls is stopping k.0.passed due) (k.0.still due ∙ k.0.stands) k.1
+  append_stopped fault (inr k) = picks_left (fill_of h) here (cells_after here before c e) (cells_stopped here before c (plan_of (site_at here c) (before c) e).changes (keeps h)) (view x).image_at (view y).image_at (view x).moment (view y).moment
+      (after_cells here c before e (keeps h) (inl (four_kept h (view (chosen second a b)).armed (view (chosen second a b)).moment is stopping (λ j low due. let all : k.0.calls ≡ 4 = k.0.whole tt in k.0.passed j (omega (arith, all, low)) due))))
+      (stand_then here before (image_now (view a)) (image_now (view b)) Behind told other_told stands k.1)
 
 -- ---- armed, handled, picked
 
 -- the disk that doesn't count failed in between
-pub rose_within : {D : Type 0} (faults : D → ℕ) (second : Bool) (a b a1 b1 a2 b2 a3 b3 : D) → faults a1 ≡ faults a → faults b1 ≡ faults b → faults a3 ≡ faults a2 → faults b3 ≡ faults b2
-    → Rose (faults (chosen second b1 a1)) (faults (chosen second b2 a2)) → Rose (faults (chosen second b a)) (faults (chosen second b3 a3))
-rose_within faults false a b a1 b1 a2 b2 a3 b3 same other_same last other_last rose = omega (arith, other_same, other_last, rose)
-rose_within faults true a b a1 b1 a2 b2 a3 b3 same other_same last other_last rose = omega (arith, same, last, rose)
+pub rose_within : {D : Type 0} (view : D → DiskView) (second : Bool) (a b a1 b1 a2 b2 a3 b3 : D) → (view a1).faults ≡ (view a).faults → (view b1).faults ≡ (view b).faults → (view a3).faults ≡ (view a2).faults → (view b3).faults ≡ (view b2).faults
+    → Rose (view (chosen second b1 a1)).faults (view (chosen second b2 a2)).faults → Rose (view (chosen second b a)).faults (view (chosen second b3 a3)).faults
+rose_within view false a b a1 b1 a2 b2 a3 b3 same other_same last other_last rose = omega (arith, other_same, other_last, rose)
+rose_within view true a b a1 b1 a2 b2 a3 b3 same other_same last other_last rose = omega (arith, same, last, rose)
 
 -- a disk that was armed tells what it told
-pub arms_told : (arming : Arming) (at new_at : ℕ → Option Image) (before now faults later : ℕ) (armed : Armed) (had has : List Picked) → Arms arming at new_at before now faults later armed had has → new_at now ≡ at before
-arms_told arming at new_at before now faults later armed had has arms = ap new_at arms.moment ∙ arms.same before
+pub arms_told : (arming : Arming) (x y : DiskView) → Arms arming x y → image_now y ≡ image_now x
+arms_told arming x y arms = ap y.image_at arms.moment ∙ arms.same x.moment
 
 pub is_one : (second : Bool) → (chosen second 0 1 == 1) ≡ second
 is_one false = refl
 is_one true = refl
 
 -- the disk that counts is armed for the calls of the record
-pub armed_counting : {D : Type 0} (armed : D → Armed) (moment : D → ℕ) (second : Bool) (a b x y : D) (k l : Arming) → armed x ≡ armed_with (chosen second k l) (moment a) → moment x ≡ moment a → armed y ≡ armed_with (chosen second l k) (moment b) → moment y ≡ moment b
-    → armed (chosen second x y) ≡ armed_with k (moment (chosen second x y))
-armed_counting armed moment false a b x y k l first first_now other other_now = first ∙ ap (armed_with k) (sym first_now)
-armed_counting armed moment true a b x y k l first first_now other other_now = other ∙ ap (armed_with k) (sym other_now)
+pub armed_counting : {D : Type 0} (view : D → DiskView) (second : Bool) (a b x y : D) (k l : Arming) → (view x).armed ≡ armed_with (chosen second k l) (view a).moment → (view x).moment ≡ (view a).moment → (view y).armed ≡ armed_with (chosen second l k) (view b).moment → (view y).moment ≡ (view b).moment
+    → (view (chosen second x y)).armed ≡ armed_with k (view (chosen second x y)).moment
+armed_counting view false a b x y k l first first_now other other_now = first ∙ ap (armed_with k) (sym first_now)
+armed_counting view true a b x y k l first first_now other other_now = other ∙ ap (armed_with k) (sym other_now)
 
-pub picks_armed : (fill : Fill) (arming : Arming) (at at1 at2 at3 : ℕ → Option Image) (m m1 m2 m3 f f1 f2 f3 : ℕ) (a1 a2 a3 : Armed) (p p1 p2 p3 : List Picked)
-    → Arms arming at at1 m m1 f f1 a1 p p1 → Onward at1 at2 m1 m2 f1 f2 a1 a2 p1 p2 → PicksWith fill at2 at3 m2 m3 f2 f3 a2 a3 p2 p3 → PicksArmed fill arming at at3 m m3 f f3 a3 p p3
-picks_armed fill arming at at1 at2 at3 m m1 m2 m3 f f1 f2 f3 a1 a2 a3 p p1 p2 p3 arms on picks =
-    let one : m1 ≡ m = arms.moment in
-    let two : m1 ≤ m2 = on.later in
-    let three : m3 ≡ m2 + 1 = picks.tick in
-    let none : f1 ≡ f = arms.faults_stay in
-    let more : f1 ≤ f2 = on.no_less in
-    let stay : f3 ≡ f2 = picks.faults_stay in
+pub picks_armed : (fill : Fill) (arming : Arming) (x x1 x2 x3 : DiskView) → Arms arming x x1 → Onward x1 x2 → PicksWith fill x2 x3 → PicksArmed fill arming x x3
+picks_armed fill arming x x1 x2 x3 arms on picks =
+    let one : x1.moment ≡ x.moment = arms.moment in
+    let two : x1.moment ≤ x2.moment = on.later in
+    let three : x3.moment ≡ x2.moment + 1 = picks.tick in
+    let none : x1.faults ≡ x.faults = arms.faults_stay in
+    let more : x1.faults ≤ x2.faults = on.no_less in
+    let stay : x3.faults ≡ x2.faults = picks.faults_stay in
     record {
       image = picked_bytes fill picks.picks.image;
       kept = picks.picks.kept
-          ∙ (ap (λ (l : List Picked). l ++ picked_of fill a2.arming f2 picks.picks.image ∷ []) (on.picks ∙ arms.picks_stay)
-          ∙ (ap (λ (a : Armed). p ++ picked_of fill a.arming f2 picks.picks.image ∷ []) (on.armed ∙ arms.armed)
-          ∙ ap (λ (n : ℕ). p ++ picked_of fill arming n picks.picks.image ∷ []) (sym stay)));
+          ∙ (ap (λ (l : List Picked). l ++ picked_of fill x2.armed.arming x2.faults picks.picks.image ∷ []) (on.picks ∙ arms.picks_stay)
+          ∙ (ap (λ (a : Armed). x.picks ++ picked_of fill a.arming x2.faults picks.picks.image ∷ []) (on.armed ∙ arms.armed)
+          ∙ ap (λ (n : ℕ). x.picks ++ picked_of fill arming n picks.picks.image ∷ []) (sym stay)));
       holds = picks.picks.holds;
       disarmed = picks.disarmed;
       past = λ t low. picks.past t (omega (arith, one, two, low)) ∙ (on.past t (omega (arith, one, low)) ∙ arms.same t);

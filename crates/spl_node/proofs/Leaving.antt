@@ -2,7 +2,6 @@
 use Rattle.std.proofs.Common.{◌≡◌, ◌⊎◌, inl, inr, ℕ, ◌≤◌, Bool, true, false, List, Option, Some, None, IfSome, OnOk, OnErr, Result, Ok, Err, refl, sym, ap, ◌∙◌, subst, arith}
 use Rattle.std.specs.Prelude.{IsSome, IfNone}
 use Rattle.spl_circuit.specs.Nodes.{NodeId, CircuitId}
-use Rattle.spl_edge.specs.Calls.{SamePast}
 use Rattle.spl_edge.specs.Image.{Image, IsSettled, MayLeave, settled_at}
 use Rattle.spl_edge.specs.Picks.{Picked, Picks, picked_bytes}
 use Rattle.spl_edge.specs.declared.disk.Arming.{Arming}
@@ -11,7 +10,7 @@ use Rattle.spl_journal.proofs.Images.{only_settled}
 use Rattle.spl_rules.specs.Cells.{Cell, Empty, Held, Purged}
 use Rattle.spl_rules.specs.Changes.{stopped_cell}
 use Rattle.spl_rules.specs.Plans.{plan_of}
-use Rattle.spl_snapshot.specs.Counting.{IfBoth, IsInTurn, PairLeaves, PairLeavesInTurn}
+use Rattle.spl_snapshot.specs.Counting.{IfBoth, IsInTurn, PairLeavesBetween, PairLeavesBetweenInTurn}
 use Rattle.spl_wire.specs.declared.event.Event.{Event}
 use Rattle.spl_node.specs.declared.node.Node.{Node}
 use Rattle.spl_node.specs.Hosts.{Rests, Runs, kept_cell}
@@ -40,7 +39,7 @@ no_more_picked fill arming faults before after o p picks =
 
 -- one of which a pick was asked
 pub no_more_asked : {A E : Type 0} (r : Result A E) (fill : Fill) (arming : Arming) (faults : ℕ) (before after : List Picked) (at new_at : ℕ → Option Image) (m n : ℕ)
-    → OnOk r (Picks fill arming faults before after (at m) (new_at n)) → SamePast at m new_at → OnErr r (n ≡ m) → IfBoth (at m) (new_at n) LeavesNoMore
+    → OnOk r (Picks fill arming faults before after (at m) (new_at n)) → ((t : ℕ) → t ≤ m → new_at t ≡ at t) → OnErr r (n ≡ m) → IfBoth (at m) (new_at n) LeavesNoMore
 no_more_asked (Ok a) fill arming faults before after at new_at m n ok past err = no_more_picked fill arming faults before after (at m) (new_at n) ok
 no_more_asked (Err e) fill arming faults before after at new_at m n ok past err = no_more_still (at m) (new_at n) (ap new_at err ∙ past m (omega arith))
 
@@ -51,7 +50,7 @@ turn_last false k m l n = inr refl
 turn_last true k m l n = inr refl
 
 -- what a stop at any moment leaves it leaves at the last
-pub leaves_last : (second : Bool) (at other : ℕ → Option Image) (k m l n : ℕ) (P : List ℕ → List ℕ → Type 0) → k ≤ m → l ≤ n → PairLeavesInTurn second at k m other l n P → PairLeaves at m m other n n P
+pub leaves_last : (second : Bool) (at other : ℕ → Option Image) (k m l n : ℕ) (P : List ℕ → List ℕ → Type 0) → k ≤ m → l ≤ n → PairLeavesBetweenInTurn second at k m other l n P → PairLeavesBetween at m m other n n P
 leaves_last second at other k m l n P low other_low left a b c d e f =
     let same : m ≡ a = omega (arith, c, d) in
     let other_same : n ≡ b = omega (arith, e, f) in
@@ -69,7 +68,7 @@ no_more_both (Some i) (Some j) (Some u) (Some v) P told other_told one other lef
 
 -- both were picked from
 pub leaves_picked : (at other new_at new_other : ℕ → Option Image) (m n k l : ℕ) (P : List ℕ → List ℕ → Type 0) → IsSome (at m) → IsSome (other n) → IfBoth (at m) (new_at k) LeavesNoMore → IfBoth (other n) (new_other l) LeavesNoMore
-    → PairLeaves at m m other n n P → PairLeaves new_at k k new_other l l P
+    → PairLeavesBetween at m m other n n P → PairLeavesBetween new_at k k new_other l l P
 leaves_picked at other new_at new_other m n k l P told other_told one other_one left a b c d e f =
     let same : k ≡ a = omega (arith, c, d) in
     let other_same : l ≡ b = omega (arith, e, f) in
@@ -95,24 +94,24 @@ module _ (here : NodeId) (before : CircuitId → Cell) (c : CircuitId) where
 
   -- a step, at its last moments
   pub step_leaves : (e : Event) (second : Bool) (o p : Option Image) (at other : ℕ → Option Image) (from to start end : ℕ) → IsSome o → IsSome p → from ≤ to → start ≤ end → IfBoth o p (λ i j. StandFor here before i.bytes j.bytes)
-      → IfBoth o p (λ i j. StandFor here before i.bytes j.bytes → PairLeavesInTurn second at from to other start end (λ x y. StandFor here before x y ⊎ StandFor here (cells_after here before c e) x y))
-      → PairLeaves at to to other end end (StandForEither here before c (plan_of (site_at here c) (before c) e).changes)
+      → IfBoth o p (λ i j. StandFor here before i.bytes j.bytes → PairLeavesBetweenInTurn second at from to other start end (λ x y. StandFor here before x y ⊎ StandFor here (cells_after here before c e) x y))
+      → PairLeavesBetween at to to other end end (StandForEither here before c (plan_of (site_at here c) (before c) e).changes)
   step_leaves e second o p at other from to start end told other_told low other_low stands left =
       leaves_map at other to to end end (λ x y. StandFor here before x y ⊎ StandFor here (cells_after here before c e) x y) (StandForEither here before c (plan_of (site_at here c) (before c) e).changes) (either_stopped e)
       (leaves_last second at other from to start end (λ x y. StandFor here before x y ⊎ StandFor here (cells_after here before c e) x y) low other_low
-      (stand_then here before o p (PairLeavesInTurn second at from to other start end (λ x y. StandFor here before x y ⊎ StandFor here (cells_after here before c e) x y)) told other_told stands left))
+      (stand_then here before o p (PairLeavesBetweenInTurn second at from to other start end (λ x y. StandFor here before x y ⊎ StandFor here (cells_after here before c e) x y)) told other_told stands left))
 
 -- ---- disks that hold what they held
 
 pub rest_told : (here : NodeId) (cells : CircuitId → Cell) (Q : List ℕ → List ℕ → Type 0) (at other : ℕ → Option Image) (m n : ℕ) → IsSome (at m) → IsSome (other n) → IfSome (at m) IsSettled → IfSome (other n) IsSettled
-    → ((x y : List ℕ) → StandFor here cells x y → Q x y) → IfBoth (at m) (other n) (λ i j. StandFor here cells i.bytes j.bytes) → PairLeaves at m m other n n Q
+    → ((x y : List ℕ) → StandFor here cells x y → Q x y) → IfBoth (at m) (other n) (λ i j. StandFor here cells i.bytes j.bytes) → PairLeavesBetween at m m other n n Q
 rest_told here cells Q at other m n told other_told rest other_rest f stands =
-    stand_then here cells (at m) (other n) (PairLeaves at m m other n n Q) told other_told stands
+    stand_then here cells (at m) (other n) (PairLeavesBetween at m m other n n Q) told other_told stands
     (rest_leaves at other m n rest other_rest (λ i j. StandFor here cells i.bytes j.bytes) Q (λ i j h. f i.bytes j.bytes h))
 
 -- those of a host that stands
 pub host_leaves : (here : NodeId) (o : Option Node) (at other : ℕ → Option Image) (m n : ℕ) → IsSome (at m) → IsSome (other n) → IfSome o (Runs here (at m) (other n)) → IfNone o (Rests (at m) (other n))
-    → PairLeaves at m m other n n (StandFor here (kept_cell here o (at m) (other n)))
+    → PairLeavesBetween at m m other n n (StandFor here (kept_cell here o (at m) (other n)))
 host_leaves here o at other m n told other_told up down =
     let rest = kept_settled here o (at m) (other n) up down in
     rest_told here (kept_cell here o (at m) (other n)) (StandFor here (kept_cell here o (at m) (other n))) at other m n told other_told rest.0 rest.1 (λ x y h. h) (kept_stand here o (at m) (other n) up down)

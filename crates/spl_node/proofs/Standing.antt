@@ -8,7 +8,7 @@ use Rattle.spl_journal.specs.Journals.{Stands}
 use Rattle.spl_journal.specs.Stops.{kept_records}
 use Rattle.spl_snapshot.specs.declared.pairing.Pairing.{Pairing}
 use Rattle.spl_snapshot.specs.Pairs.{PairStands}
-use Rattle.spl_snapshot.specs.Counting.{chosen, second_counts, pair_records, pair_records_of, HaveRecords, HaveEither, HaveOneOf, IfBoth, PairLeaves, PairLeavesInTurn}
+use Rattle.spl_snapshot.specs.Counting.{chosen, second_counts, pair_records, pair_records_of, HaveRecords, HaveEither, HaveOneOf, IfBoth, PairLeavesBetween, PairLeavesBetweenInTurn}
 use Rattle.spl_agree.proofs.Tests.{bool_cases}
 use Rattle.spl_circuit.specs.Nodes.{NodeId, CircuitId}
 use Rattle.spl_wire.specs.declared.change.Change.{Change}
@@ -112,36 +112,36 @@ module _ (here : NodeId) (before after : CircuitId → Cell) (bytes : List ℕ) 
 
   module _ (o p : Option Image) (at other : ℕ → Option Image) (from to start end : ℕ) where
     pub any_kept : (second : Bool)
-        → IfBoth o p (λ i j. PairLeavesInTurn second at from to other start end (HaveOneOf is_record (pair_records_of is_record i.bytes j.bytes) (pair_records_of is_record i.bytes j.bytes ++ bytes ∷ []) packed))
-        → IfBoth o p (λ i j. StandFor here before i.bytes j.bytes → PairLeavesInTurn second at from to other start end (λ c d. StandFor here before c d ⊎ StandFor here after c d))
-    any_kept second left = both_if o p (λ i j. PairLeavesInTurn second at from to other start end (HaveOneOf is_record (pair_records_of is_record i.bytes j.bytes) (pair_records_of is_record i.bytes j.bytes ++ bytes ∷ []) packed))
-        (λ i j. StandFor here before i.bytes j.bytes → PairLeavesInTurn second at from to other start end (λ c d. StandFor here before c d ⊎ StandFor here after c d)) left
+        → IfBoth o p (λ i j. PairLeavesBetweenInTurn second at from to other start end (HaveOneOf is_record (pair_records_of is_record i.bytes j.bytes) (pair_records_of is_record i.bytes j.bytes ++ bytes ∷ []) packed))
+        → IfBoth o p (λ i j. StandFor here before i.bytes j.bytes → PairLeavesBetweenInTurn second at from to other start end (λ c d. StandFor here before c d ⊎ StandFor here after c d))
+    any_kept second left = both_if o p (λ i j. PairLeavesBetweenInTurn second at from to other start end (HaveOneOf is_record (pair_records_of is_record i.bytes j.bytes) (pair_records_of is_record i.bytes j.bytes ++ bytes ∷ []) packed))
+        (λ i j. StandFor here before i.bytes j.bytes → PairLeavesBetweenInTurn second at from to other start end (λ c d. StandFor here before c d ⊎ StandFor here after c d)) left
         (λ i j h stands. turn_map second at other from to start end (HaveOneOf is_record (pair_records_of is_record i.bytes j.bytes) (pair_records_of is_record i.bytes j.bytes ++ bytes ∷ []) packed)
         (λ c d. StandFor here before c d ⊎ StandFor here after c d) (one_of (pair_records_of is_record i.bytes j.bytes) (makes here before i.bytes j.bytes stands)) h)
 
-    pub after_kept : IfBoth o p (λ i j. PairLeaves at from to other start end (HaveEither is_record (pair_records_of is_record i.bytes j.bytes ++ bytes ∷ []) packed))
-        → IfBoth o p (λ i j. StandFor here before i.bytes j.bytes → PairLeaves at from to other start end (StandFor here after))
-    after_kept left = both_if o p (λ i j. PairLeaves at from to other start end (HaveEither is_record (pair_records_of is_record i.bytes j.bytes ++ bytes ∷ []) packed))
-        (λ i j. StandFor here before i.bytes j.bytes → PairLeaves at from to other start end (StandFor here after)) left
+    pub after_kept : IfBoth o p (λ i j. PairLeavesBetween at from to other start end (HaveEither is_record (pair_records_of is_record i.bytes j.bytes ++ bytes ∷ []) packed))
+        → IfBoth o p (λ i j. StandFor here before i.bytes j.bytes → PairLeavesBetween at from to other start end (StandFor here after))
+    after_kept left = both_if o p (λ i j. PairLeavesBetween at from to other start end (HaveEither is_record (pair_records_of is_record i.bytes j.bytes ++ bytes ∷ []) packed))
+        (λ i j. StandFor here before i.bytes j.bytes → PairLeavesBetween at from to other start end (StandFor here after)) left
         (λ i j h stands. leaves_map at other from to start end (HaveEither is_record (pair_records_of is_record i.bytes j.bytes ++ bytes ∷ []) packed) (StandFor here after)
         (either (pair_records_of is_record i.bytes j.bytes) (makes here before i.bytes j.bytes stands)) h)
 
 -- what each image of the last moments stands for, the disks stand for
 pub stands_now : (here : NodeId) (before after : CircuitId → Cell) (o p : Option Image) (at other : ℕ → Option Image) (m n : ℕ) → IfSome (at m) IsSettled → IfSome (other n) IsSettled
-    → IfBoth o p (λ i j. StandFor here before i.bytes j.bytes → PairLeaves at m m other n n (StandFor here after))
+    → IfBoth o p (λ i j. StandFor here before i.bytes j.bytes → PairLeavesBetween at m m other n n (StandFor here after))
     → IfBoth o p (λ i j. StandFor here before i.bytes j.bytes → IfBoth (at m) (other n) (λ k l. StandFor here after k.bytes l.bytes))
-stands_now here before after o p at other m n a b left = both_if o p (λ i j. StandFor here before i.bytes j.bytes → PairLeaves at m m other n n (StandFor here after))
+stands_now here before after o p at other m n a b left = both_if o p (λ i j. StandFor here before i.bytes j.bytes → PairLeavesBetween at m m other n n (StandFor here after))
     (λ i j. StandFor here before i.bytes j.bytes → IfBoth (at m) (other n) (λ k l. StandFor here after k.bytes l.bytes)) left
     (λ i j h stands. left_now at other m n (StandFor here after) a b (h stands))
 
 -- ---- an event without a call
 
 module _ (here : NodeId) (before after : CircuitId → Cell) (at other : ℕ → Option Image) (m n : ℕ) (a : IfSome (at m) IsSettled) (b : IfSome (other n) IsSettled) where
-  pub any_still : (second : Bool) → IfBoth (at m) (other n) (λ i j. StandFor here before i.bytes j.bytes → PairLeavesInTurn second at m m other n n (λ c d. StandFor here before c d ⊎ StandFor here after c d))
-  any_still second = both_if (at m) (other n) (λ i j. StandFor here before i.bytes j.bytes → PairLeaves at m m other n n (λ c d. StandFor here before c d ⊎ StandFor here after c d))
-      (λ i j. StandFor here before i.bytes j.bytes → PairLeavesInTurn second at m m other n n (λ c d. StandFor here before c d ⊎ StandFor here after c d))
+  pub any_still : (second : Bool) → IfBoth (at m) (other n) (λ i j. StandFor here before i.bytes j.bytes → PairLeavesBetweenInTurn second at m m other n n (λ c d. StandFor here before c d ⊎ StandFor here after c d))
+  any_still second = both_if (at m) (other n) (λ i j. StandFor here before i.bytes j.bytes → PairLeavesBetween at m m other n n (λ c d. StandFor here before c d ⊎ StandFor here after c d))
+      (λ i j. StandFor here before i.bytes j.bytes → PairLeavesBetweenInTurn second at m m other n n (λ c d. StandFor here before c d ⊎ StandFor here after c d))
       (rest_leaves at other m n a b (λ i j. StandFor here before i.bytes j.bytes) (λ c d. StandFor here before c d ⊎ StandFor here after c d) (λ i j h. inl h))
       (λ i j h stands k l low high low2 high2 turn. h stands k l low high low2 high2)
 
-  pub after_still : ((i : CircuitId) → stopped_cell (after i) ≡ stopped_cell (before i)) → IfBoth (at m) (other n) (λ i j. StandFor here before i.bytes j.bytes → PairLeaves at m m other n n (StandFor here after))
+  pub after_still : ((i : CircuitId) → stopped_cell (after i) ≡ stopped_cell (before i)) → IfBoth (at m) (other n) (λ i j. StandFor here before i.bytes j.bytes → PairLeavesBetween at m m other n n (StandFor here after))
   after_still same = rest_leaves at other m n a b (λ i j. StandFor here before i.bytes j.bytes) (StandFor here after) (λ i j h. stand_same here before after i.bytes j.bytes (λ k. sym (same k)) h)

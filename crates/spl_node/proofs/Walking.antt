@@ -5,6 +5,7 @@ use Rattle.std.specs.Result.{IsOkAnd}
 use Rattle.spl_circuit.specs.Nodes.{NodeId, CircuitId}
 use Rattle.spl_edge.specs.Causes.{Rose}
 use Rattle.spl_edge.specs.Image.{Image}
+use Rattle.spl_edge.specs.Views.{DiskView, image_now}
 use Rattle.spl_journal.specs.Reads.{Stays}
 use Rattle.spl_snapshot.specs.declared.walking.PairWalk.{PairWalk}
 use Rattle.spl_snapshot.specs.Counting.{IfBoth, HaveRecords, pair_records}
@@ -33,8 +34,8 @@ read_all (Some i) None v given made have = tt
 read_all (Some i) (Some j) v given made have = subst (λ (r : Result (List (List ℕ)) ℕ). IsOkAnd r (IsMade v)) (sym have) made
 
 -- a disk that stays holds what it held
-pub still_holds : (old new : ℕ → Option Image) (first last : ℕ) → Stays old first new last → new last ≡ old first
-still_holds old new first last stays = stays.still last stays.later (omega arith)
+pub still_holds : (x y : DiskView) → Stays x y → image_now y ≡ image_now x
+still_holds x y stays = stays.still y.moment stays.later (omega arith)
 
 pub walks_still : {R : Type 0} (w : PairWalk R) (o p x y : Option Image) → x ≡ o → y ≡ p → PairWalks is_record w o p → PairWalks is_record w x y
 walks_still w o p x y first second walks = subst (λ (a : Option Image). PairWalks is_record w a y) (sym first) (subst (λ (b : Option Image). PairWalks is_record w o b) (sym second) walks)

@@ -3,11 +3,11 @@ use Rattle.std.specs.Prelude.{◌≡◌, ◌+◌, ℕ, List, Bool, false, Option
 use Rattle.spl_circuit.specs.Nodes.{NodeId, CircuitId}
 use Rattle.spl_edge.specs.Calls.{SamePast}
 use Rattle.spl_edge.specs.Image.{Image, IsSettled}
-use Rattle.spl_edge.specs.Picks.{Picked, Picks}
-use Rattle.spl_edge.specs.declared.disk.Armed.{Armed}
+use Rattle.spl_edge.specs.Picks.{Picks}
 use Rattle.spl_edge.specs.declared.disk.Arming.TheVariants.{Off}
 use Rattle.spl_edge.specs.declared.fill.Fill.{Fill}
 use Rattle.spl_edge.specs.declared.fill.Fill.TheVariants.{Old}
+use Rattle.spl_edge.specs.Views.{DiskView, image_now}
 use Rattle.spl_rules.specs.Cells.{Cell, Empty}
 use Rattle.spl_snapshot.specs.Counting.{pair_records, pair_records_of, IfBoth}
 use Rattle.spl_snapshot.specs.Pairs.{is_second}
@@ -66,13 +66,13 @@ pub record HostStands (h : Host) (first second : Option Image) : Type 0 where
   pub down : IfNone h.node (Rests first second)
 
 -- a disk picked with this fill, and isn't armed any more
-pub record PicksWith (fill : Fill) (at new_at : ℕ → Option Image) (before now : ℕ) (faults later : ℕ) (was_armed is_armed : Armed) (had_picked has_picked : List Picked) : Type 0 where
-  pub picks : Picks fill was_armed.arming faults had_picked has_picked (at before) (new_at now)
-  pub disarmed : is_armed.arming ≡ Off
-  pub past : SamePast at before new_at
-  pub tick : now ≡ before + 1
-  pub faults_stay : later ≡ faults
+pub record PicksWith (fill : Fill) (x y : DiskView) : Type 0 where
+  pub picks : Picks fill x.armed.arming x.faults x.picks y.picks (image_now x) (image_now y)
+  pub disarmed : y.armed.arming ≡ Off
+  pub past : SamePast x y
+  pub tick : y.moment ≡ x.moment + 1
+  pub faults_stay : y.faults ≡ x.faults
 
 -- it picked what it had at its last sync
-abbrev pub PicksOld : (ℕ → Option Image) → (ℕ → Option Image) → ℕ → ℕ → ℕ → ℕ → Armed → Armed → List Picked → List Picked → Type 0
-PicksOld at new_at before now faults later was_armed is_armed had_picked has_picked = PicksWith Old at new_at before now faults later was_armed is_armed had_picked has_picked
+abbrev pub PicksOld : DiskView → DiskView → Type 0
+PicksOld x y = PicksWith Old x y

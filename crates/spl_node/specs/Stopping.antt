@@ -5,12 +5,12 @@ use Rattle.std.specs.Str.{bytes_eq}
 use Rattle.spl_circuit.specs.Nodes.{NodeId, CircuitId}
 use Rattle.spl_edge.specs.Calls.{SamePast, armed_with}
 use Rattle.spl_edge.specs.Image.{Image, MayLeave, settled_at}
-use Rattle.spl_edge.specs.Picks.{Picked, picked_bytes}
-use Rattle.spl_edge.specs.declared.disk.Armed.{Armed}
+use Rattle.spl_edge.specs.Picks.{picked_bytes}
 use Rattle.spl_edge.specs.declared.disk.Arming.{Arming}
 use Rattle.spl_edge.specs.declared.disk.Arming.TheVariants.{Off, After, At}
 use Rattle.spl_edge.specs.declared.fill.Fill.{Fill}
 use Rattle.spl_edge.specs.declared.fill.Fill.TheVariants.{Old}
+use Rattle.spl_edge.specs.Views.{DiskView, image_now}
 use Rattle.spl_journal.specs.Journals.{IsFilledBy}
 use Rattle.spl_journal.specs.Stops.{is_kept}
 use Rattle.spl_snapshot.specs.Counting.{pair_records}
@@ -100,19 +100,19 @@ abbrev pub LeavesNoMore : Image → Image → Type 0
 LeavesNoMore i j = (c : List ℕ) → MayLeave j c → MayLeave i c
 
 -- a disk was armed so, and nothing else of it changed
-pub record Arms (arming : Arming) (at new_at : ℕ → Option Image) (before now faults later : ℕ) (is_armed : Armed) (had_picked has_picked : List Picked) : Type 0 where
-  pub armed : is_armed ≡ armed_with arming before
-  pub same : (t : ℕ) → new_at t ≡ at t
-  pub moment : now ≡ before
-  pub faults_stay : later ≡ faults
-  pub picks_stay : has_picked ≡ had_picked
+pub record Arms (arming : Arming) (x y : DiskView) : Type 0 where
+  pub armed : y.armed ≡ armed_with arming x.moment
+  pub same : (t : ℕ) → y.image_at t ≡ x.image_at t
+  pub moment : y.moment ≡ x.moment
+  pub faults_stay : y.faults ≡ x.faults
+  pub picks_stay : y.picks ≡ x.picks
 
 -- a disk that was armed so picked with this fill, and isn't armed any more; no fault is forgotten
-pub record PicksArmed (fill : Fill) (arming : Arming) (at new_at : ℕ → Option Image) (before now : ℕ) (faults risen : ℕ) (is_armed : Armed) (had_picked has_picked : List Picked) : Type 0 where
+pub record PicksArmed (fill : Fill) (arming : Arming) (x y : DiskView) : Type 0 where
   pub image : List ℕ
-  pub kept : has_picked ≡ had_picked ++ record { image = image; fill = fill; arming = arming; faults = risen } ∷ []
-  pub holds : new_at now ≡ Some (settled_at image)
-  pub disarmed : is_armed.arming ≡ Off
-  pub past : SamePast at before new_at
-  pub later : before ≤ now
-  pub no_less : faults ≤ risen
+  pub kept : y.picks ≡ x.picks ++ record { image = image; fill = fill; arming = arming; faults = y.faults } ∷ []
+  pub holds : image_now y ≡ Some (settled_at image)
+  pub disarmed : y.armed.arming ≡ Off
+  pub past : SamePast x y
+  pub later : x.moment ≤ y.moment
+  pub no_less : x.faults ≤ y.faults

@@ -122,7 +122,8 @@ impl Cells {
         requires { IsFor (site_at self.old.here circuit) event.now }
         ensures here { self.new.here ≡ self.old.here }
         ensures cells { OnOk result ((c : CircuitId) → cell_at self.new.entries c ≡ cells_after self.old.here (cell_at self.old.entries) circuit event.now c) }
-        ensures given { IfOk result (λ done. IsGiven (site_at self.old.here circuit) (cell_at self.old.entries circuit) (plan_of (site_at self.old.here circuit) (cell_at self.old.entries circuit) event.now) done) }
+        ensures given { IfOk result (λ done. IsGiven (site_at self.old.here circuit) (cell_at self.old.entries circuit)
+            (plan_of (site_at self.old.here circuit) (cell_at self.old.entries circuit) event.now) done) }
     {
         if let Some(cell) = self.map.get_mut(&circuit) {
             return handled(cell, alloc, event);
@@ -146,7 +147,8 @@ impl Cells {
         requires empty { cell_at self.old.entries circuit ≡ Empty }
         ensures here { self.new.here ≡ self.old.here }
         ensures cells { OnOk result ((c : CircuitId) → cell_at self.new.entries c ≡ cells_after self.old.here (cell_at self.old.entries) circuit event.now c) }
-        ensures given { IfOk result (λ done. IsGiven (site_at self.old.here circuit) (cell_at self.old.entries circuit) (plan_of (site_at self.old.here circuit) (cell_at self.old.entries circuit) event.now) done) }
+        ensures given { IfOk result (λ done. IsGiven (site_at self.old.here circuit) (cell_at self.old.entries circuit)
+            (plan_of (site_at self.old.here circuit) (cell_at self.old.entries circuit) event.now) done) }
     {
         let mut cell = fresh(self.here, circuit);
         let done = handled(&mut cell, alloc, event)?;
@@ -173,7 +175,8 @@ impl Cells {
         requires still { (c : CircuitId) → IsStill (cell_at self.old.entries c) }
         requires written { IsTrue (record_form.fits found) }
         ensures here { self.new.here ≡ self.old.here }
-        ensures cells { OnOk result ((c : CircuitId) → cell_at self.new.entries c ≡ cells_with self.old.here (cell_at self.old.entries) found.circuit found.changes c) }
+        ensures cells { OnOk result ((c : CircuitId) → cell_at self.new.entries c ≡ cells_with self.old.here
+            (cell_at self.old.entries) found.circuit found.changes c) }
         ensures still { OnOk result ((c : CircuitId) → IsStill (cell_at self.new.entries c)) }
     {
         records_are_formed();

@@ -1,5 +1,5 @@
 //! A node that goes down and comes up over its two disks.
-ghost use Rattle.std.specs.Prelude.{◌≡◌, ◌≢◌, ◌≤◌, ◌<◌, ◌⊎◌, [], ℕ, true, false, if◌then◌else◌, Option, None, is_some, OnOk, IfOk, IfSome, IsErrOf};
+ghost use Rattle.std.specs.Prelude.{◌≡◌, ◌⊎◌, ◌≢◌, ◌≤◌, ◌<◌, [], ℕ, true, false, if◌then◌else◌, Option, None, is_some, OnOk, IfOk, IfSome, IsErrOf};
 ghost use Rattle.std.specs.List.{list_any};
 ghost use Rattle.std.specs.Option.{option_copied};
 ghost use Rattle.std.specs.List.Sorted.{IsStrictlySortedBy};
@@ -9,9 +9,10 @@ ghost use Rattle.std.specs.Str.{bytes_eq};
 ghost use Rattle.spl_circuit.specs.Nodes.{NodeId, CircuitId};
 ghost use Rattle.spl_edge.specs.Causes.{Rose};
 ghost use Rattle.spl_edge.specs.Image.{Image};
+ghost use Rattle.spl_edge.specs.Views.{image_now, pair_view};
+ghost use Rattle.spl_edge.specs.Calls.{Onward};
 ghost use Rattle.spl_journal.specs.Make.{IsBlank};
-ghost use Rattle.spl_journal.specs.Reads.{Stays};
-ghost use Rattle.spl_snapshot.specs.Counting.{chosen, second_counts, IfBoth, PairLeaves, PairLeavesInTurn, TellsAs, Onward};
+ghost use Rattle.spl_snapshot.specs.Counting.{chosen, second_counts, IfBoth, PairLeaves, PairLeavesInTurn, TellsAs, PairOnward, PairStays, PairTellsAs, HasRisen};
 ghost use Rattle.spl_wire.specs.Bounds.{AllSendable};
 ghost use Rattle.spl_rules.specs.Cells.{Empty, is_bound};
 ghost use Rattle.spl_rules.specs.Changes.{stopped_cell};
@@ -50,17 +51,16 @@ impl Host {
         id: NodeId,
         disks: &mut Pair<D>,
     ) -> Result<Host, JournalFault>
-        requires first { IfSome (D.image_at disks.old.first (D.moment disks.old.first)) IsBlank }
-        requires second { IfSome (D.image_at disks.old.second (D.moment disks.old.second)) IsBlank }
+        requires first { IfSome (image_now (D.view disks.old.first)) IsBlank }
+        requires second { IfSome (image_now (D.view disks.old.second)) IsBlank }
         ensures id { IfOk result (λ h. host_id h ≡ id) }
         ensures up { IfOk result (λ h. is_up h ≡ true) }
         ensures empty { IfOk result (λ h. (first second : Option Image) (c : CircuitId) → host_cell h first second c ≡ Empty) }
-        ensures stands { IfOk result (λ h. HostStands h (D.image_at disks.new.first (D.moment disks.new.first)) (D.image_at disks.new.second (D.moment disks.new.second))) }
-        ensures told_first { OnOk result (TellsAs (D.image_at disks.old.first (D.moment disks.old.first)) (D.image_at disks.new.first (D.moment disks.new.first))) }
+        ensures stands { IfOk result (λ h. HostStands h (image_now (D.view disks.new.first)) (image_now (D.view disks.new.second))) }
+        ensures told_first { OnOk result (TellsAs (image_now (D.view disks.old.first)) (image_now (D.view disks.new.first))) }
         ensures not { (at : ℕ) → IsErrOf result (JournalFault.NotAJournal at) → ⊥ }
-        ensures failed { IsErrOf result JournalFault.Disk → Rose (D.faults disks.old.first) (D.faults disks.new.first) }
-        ensures on_first { Onward (D.image_at disks.old.first) (D.image_at disks.new.first) (D.moment disks.old.first) (D.moment disks.new.first) (D.faults disks.old.first) (D.faults disks.new.first)
-            (D.armed disks.old.first) (D.armed disks.new.first) (D.picks disks.old.first) (D.picks disks.new.first) }
+        ensures failed { IsErrOf result JournalFault.Disk → Rose (D.view disks.old.first).faults (D.view disks.new.first).faults }
+        ensures on_first { Onward (D.view disks.old.first) (D.view disks.new.first) }
         ensures second { disks.new.second ≡ disks.old.second }
     {
         let node = Node::create(alloc, id, disks)?;
@@ -87,7 +87,8 @@ impl Host {
     /// Whether a tick has anything to do at the cell of a circuit; None where the node is down, or
     /// the cell isn't bound and open.
     pub fn due(&self, circuit: &CircuitId) -> Option<bool>
-        ensures due { (first second : Option Image) → HostStands self.now first second → result ≡ (if is_up self.now then due (site_at (host_id self.now) circuit.now) (host_cell self.now first second circuit.now) else None) }
+        ensures due { (first second : Option Image) → HostStands self.now first second
+            → result ≡ (if is_up self.now then due (site_at (host_id self.now) circuit.now) (host_cell self.now first second circuit.now) else None) }
         ensures up { is_some result ≡ true → is_up self.now ≡ true }
     {
         match &self.node {
@@ -117,32 +118,37 @@ impl Host {
     ) -> Result<Outcome, JournalFault>
         requires up { is_up self.old ≡ true }
         requires own { IsFor (site_at (host_id self.old) circuit.now) event.now }
-        requires stands { HostStands self.old (D.image_at disks.old.first (D.moment disks.old.first)) (D.image_at disks.old.second (D.moment disks.old.second)) }
+        requires stands { HostStands self.old (image_now (D.view disks.old.first)) (image_now (D.view disks.old.second)) }
         ensures id { host_id self.new ≡ host_id self.old }
         ensures up { is_up self.new ≡ true }
-        ensures answer { IfOk result (λ o. o.answer ≡ (plan_of (site_at (host_id self.old) circuit.now) (host_cell self.old (D.image_at disks.old.first (D.moment disks.old.first)) (D.image_at disks.old.second (D.moment disks.old.second)) circuit.now) event.now).answer) }
-        ensures sends { IfOk result (λ o. o.sends ≡ (plan_of (site_at (host_id self.old) circuit.now) (host_cell self.old (D.image_at disks.old.first (D.moment disks.old.first)) (D.image_at disks.old.second (D.moment disks.old.second)) circuit.now) event.now).sends) }
+        ensures answer { IfOk result (λ o. o.answer
+            ≡ (plan_of (site_at (host_id self.old) circuit.now)
+            (host_cell self.old (image_now (D.view disks.old.first)) (image_now (D.view disks.old.second)) circuit.now) event.now).answer) }
+        ensures sends { IfOk result (λ o. o.sends
+            ≡ (plan_of (site_at (host_id self.old) circuit.now)
+            (host_cell self.old (image_now (D.view disks.old.first)) (image_now (D.view disks.old.second)) circuit.now) event.now).sends) }
         ensures legal { IfOk result (λ o. are_legal o.sends ≡ true) }
         ensures sendable { IfOk result (λ o. AllSendable o.sends) }
 
         // The plan is carried out at the cell of the circuit, and the other cells stay.
-        ensures cells { OnOk result ((first second : Option Image) (c : CircuitId) → host_cell self.new first second c ≡ cells_after (host_id self.old) (host_cell self.old (D.image_at disks.old.first (D.moment disks.old.first)) (D.image_at disks.old.second (D.moment disks.old.second))) circuit.now event.now c) }
-        ensures stands { OnOk result (HostStands self.new (D.image_at disks.new.first (D.moment disks.new.first)) (D.image_at disks.new.second (D.moment disks.new.second))) }
-        ensures told_first { OnOk result (TellsAs (D.image_at disks.old.first (D.moment disks.old.first)) (D.image_at disks.new.first (D.moment disks.new.first))) }
-        ensures told_second { OnOk result (TellsAs (D.image_at disks.old.second (D.moment disks.old.second)) (D.image_at disks.new.second (D.moment disks.new.second))) }
+        ensures cells { OnOk result ((first second : Option Image) (c : CircuitId)
+            → host_cell self.new first second c ≡ cells_after (host_id self.old)
+            (host_cell self.old (image_now (D.view disks.old.first)) (image_now (D.view disks.old.second))) circuit.now event.now c) }
+        ensures stands { OnOk result (HostStands self.new (image_now (D.view disks.new.first)) (image_now (D.view disks.new.second))) }
+        ensures told { OnOk result (PairTellsAs (pair_view D.view disks.old) (pair_view D.view disks.new)) }
 
         // A stop at any moment of the call leaves disks that stand for the cells before the event or for those after it.
-        ensures any_moment { IfBoth (D.image_at disks.old.first (D.moment disks.old.first)) (D.image_at disks.old.second (D.moment disks.old.second))
-            (λ i j. PairLeavesInTurn (host_second self.old) (D.image_at disks.new.first) (D.moment disks.old.first) (D.moment disks.new.first) (D.image_at disks.new.second) (D.moment disks.old.second) (D.moment disks.new.second)
-            (λ c d. StandFor (host_id self.old) (host_cell self.old (D.image_at disks.old.first (D.moment disks.old.first)) (D.image_at disks.old.second (D.moment disks.old.second))) c d
-            ⊎ StandFor (host_id self.old) (cells_after (host_id self.old) (host_cell self.old (D.image_at disks.old.first (D.moment disks.old.first)) (D.image_at disks.old.second (D.moment disks.old.second))) circuit.now event.now) c d)) }
-        ensures no_calls { (plan_of (site_at (host_id self.old) circuit.now) (host_cell self.old (D.image_at disks.old.first (D.moment disks.old.first)) (D.image_at disks.old.second (D.moment disks.old.second)) circuit.now) event.now).changes ≡ [] → disks.new ≡ disks.old }
+        ensures any_moment { IfBoth (image_now (D.view disks.old.first)) (image_now (D.view disks.old.second))
+            (λ i j. PairLeavesInTurn (host_second self.old) (pair_view D.view disks.old) (pair_view D.view disks.new)
+            (λ c d. StandFor (host_id self.old) (host_cell self.old (image_now (D.view disks.old.first)) (image_now (D.view disks.old.second))) c d
+            ⊎ StandFor (host_id self.old) (cells_after (host_id self.old)
+            (host_cell self.old (image_now (D.view disks.old.first)) (image_now (D.view disks.old.second))) circuit.now event.now) c d)) }
+        ensures no_calls { (plan_of (site_at (host_id self.old) circuit.now)
+            (host_cell self.old (image_now (D.view disks.old.first)) (image_now (D.view disks.old.second)) circuit.now) event.now).changes ≡ []
+            → disks.new ≡ disks.old }
         ensures not { (at : ℕ) → IsErrOf result (JournalFault.NotAJournal at) → ⊥ }
-        ensures failed { IsErrOf result JournalFault.Disk → Rose (D.faults disks.old.first) (D.faults disks.new.first) ⊎ Rose (D.faults disks.old.second) (D.faults disks.new.second) }
-        ensures on_first { Onward (D.image_at disks.old.first) (D.image_at disks.new.first) (D.moment disks.old.first) (D.moment disks.new.first) (D.faults disks.old.first) (D.faults disks.new.first)
-            (D.armed disks.old.first) (D.armed disks.new.first) (D.picks disks.old.first) (D.picks disks.new.first) }
-        ensures on_second { Onward (D.image_at disks.old.second) (D.image_at disks.new.second) (D.moment disks.old.second) (D.moment disks.new.second) (D.faults disks.old.second) (D.faults disks.new.second)
-            (D.armed disks.old.second) (D.armed disks.new.second) (D.picks disks.old.second) (D.picks disks.new.second) }
+        ensures failed { IsErrOf result JournalFault.Disk → HasRisen (pair_view D.view disks.old) (pair_view D.view disks.new) }
+        ensures onward { PairOnward (pair_view D.view disks.old) (pair_view D.view disks.new) }
     {
         let Some(node) = &mut self.node else {
             unreachable!();
@@ -157,26 +163,29 @@ impl Host {
         alloc: Global,
         disks: &mut Pair<D>,
     ) -> Result<(), AllocError>
-        requires stands { HostStands self.old (D.image_at disks.old.first (D.moment disks.old.first)) (D.image_at disks.old.second (D.moment disks.old.second)) }
+        requires stands { HostStands self.old (image_now (D.view disks.old.first)) (image_now (D.view disks.old.second)) }
         ensures id { host_id self.new ≡ host_id self.old }
         ensures down { OnOk result (is_up self.new ≡ false) }
-        ensures stands { OnOk result (HostStands self.new (D.image_at disks.new.first (D.moment disks.new.first)) (D.image_at disks.new.second (D.moment disks.new.second))) }
+        ensures stands { OnOk result (HostStands self.new (image_now (D.view disks.new.first)) (image_now (D.view disks.new.second))) }
 
         // A node that was up forgets its open rounds; nothing changes where it was down.
-        ensures cells { OnOk result (is_up self.old ≡ true → (c : CircuitId) → host_cell self.new (D.image_at disks.new.first (D.moment disks.new.first)) (D.image_at disks.new.second (D.moment disks.new.second)) c ≡ stopped_cell (host_cell self.old (D.image_at disks.old.first (D.moment disks.old.first)) (D.image_at disks.old.second (D.moment disks.old.second)) c)) }
+        ensures cells { OnOk result (is_up self.old ≡ true → (c : CircuitId)
+            → host_cell self.new (image_now (D.view disks.new.first)) (image_now (D.view disks.new.second)) c ≡ stopped_cell
+            (host_cell self.old (image_now (D.view disks.old.first)) (image_now (D.view disks.old.second)) c)) }
         ensures same { is_up self.old ≡ false → (self.new ≡ self.old) × (disks.new ≡ disks.old) }
 
         // Where it was up each disk picks what it had at its last sync, and these images stand for the cells.
-        ensures picks_first { OnOk result (is_up self.old ≡ true → PicksOld (D.image_at disks.old.first) (D.image_at disks.new.first) (D.moment disks.old.first) (D.moment disks.new.first) (D.faults disks.old.first) (D.faults disks.new.first)
-            (D.armed disks.old.first) (D.armed disks.new.first) (D.picks disks.old.first) (D.picks disks.new.first)) }
-        ensures picks_second { OnOk result (is_up self.old ≡ true → PicksOld (D.image_at disks.old.second) (D.image_at disks.new.second) (D.moment disks.old.second) (D.moment disks.new.second) (D.faults disks.old.second) (D.faults disks.new.second)
-            (D.armed disks.old.second) (D.armed disks.new.second) (D.picks disks.old.second) (D.picks disks.new.second)) }
-        ensures picked { OnOk result (is_up self.old ≡ true → IfBoth (D.image_at disks.new.first (D.moment disks.new.first)) (D.image_at disks.new.second (D.moment disks.new.second)) (λ i j. StandFor (host_id self.old) (host_cell self.old (D.image_at disks.old.first (D.moment disks.old.first)) (D.image_at disks.old.second (D.moment disks.old.second))) i.bytes j.bytes)) }
+        ensures picks_first { OnOk result (is_up self.old ≡ true → PicksOld (D.view disks.old.first) (D.view disks.new.first)) }
+        ensures picks_second { OnOk result (is_up self.old ≡ true → PicksOld (D.view disks.old.second) (D.view disks.new.second)) }
+        ensures picked { OnOk result (is_up self.old ≡ true → IfBoth (image_now (D.view disks.new.first)) (image_now (D.view disks.new.second))
+            (λ i j. StandFor (host_id self.old) (host_cell self.old (image_now (D.view disks.old.first)) (image_now (D.view disks.old.second)))
+            i.bytes j.bytes)) }
 
         // Whatever the result, a stop leaves what stands for the cells.
-        ensures leaves { PairLeaves (D.image_at disks.new.first) (D.moment disks.new.first) (D.moment disks.new.first) (D.image_at disks.new.second) (D.moment disks.new.second) (D.moment disks.new.second) (StandFor (host_id self.old) (host_cell self.old (D.image_at disks.old.first (D.moment disks.old.first)) (D.image_at disks.old.second (D.moment disks.old.second)))) }
-        ensures first_stays { D.faults disks.old.first ≤ D.faults disks.new.first }
-        ensures second_stays { D.faults disks.old.second ≤ D.faults disks.new.second }
+        ensures leaves { PairLeaves (pair_view D.view disks.new) (pair_view D.view disks.new)
+            (StandFor (host_id self.old) (host_cell self.old (image_now (D.view disks.old.first)) (image_now (D.view disks.old.second)))) }
+        ensures first_stays { (D.view disks.old.first).faults ≤ (D.view disks.new.first).faults }
+        ensures second_stays { (D.view disks.old.second).faults ≤ (D.view disks.new.second).faults }
     {
         if self.node.is_none() {
             return Ok(());
@@ -194,7 +203,8 @@ impl Host {
 
         // Its disks are as it takes them, and where both tell it keeps its cells but for their open rounds.
         ensures stands { (first second : Option Image) → HostStands self.old first second → HostStands self.new first second }
-        ensures cells { (first second : Option Image) → HostStands self.old first second → BothTell first second → (c : CircuitId) → host_cell self.new first second c ≡ stopped_cell (host_cell self.old first second c) }
+        ensures cells { (first second : Option Image) → HostStands self.old first second → BothTell first second → (c : CircuitId)
+            → host_cell self.new first second c ≡ stopped_cell (host_cell self.old first second c) }
     {
         self.node.take();
     }
@@ -213,32 +223,49 @@ impl Host {
         requires up { is_up self.old ≡ true }
         requires own { IfSome (option_copied event) (IsFor (site_at (host_id self.old) circuit.now)) }
         requires calls { IsStopping stopping }
-        requires stands { HostStands self.old (D.image_at disks.old.first (D.moment disks.old.first)) (D.image_at disks.old.second (D.moment disks.old.second)) }
+        requires stands { HostStands self.old (image_now (D.view disks.old.first)) (image_now (D.view disks.old.second)) }
         ensures id { host_id self.new ≡ host_id self.old }
         ensures down { OnOk result (is_up self.new ≡ false) }
-        ensures stands { OnOk result (HostStands self.new (D.image_at disks.new.first (D.moment disks.new.first)) (D.image_at disks.new.second (D.moment disks.new.second))) }
-        ensures tells { IfOk result (λ b. b ≡ has_changes (event_changes (host_id self.old) (host_cell self.old (D.image_at disks.old.first (D.moment disks.old.first)) (D.image_at disks.old.second (D.moment disks.old.second))) circuit.now (option_copied event.entry))) }
+        ensures stands { OnOk result (HostStands self.new (image_now (D.view disks.new.first)) (image_now (D.view disks.new.second))) }
+        ensures tells { IfOk result (λ b. b ≡ has_changes
+            (event_changes (host_id self.old) (host_cell self.old (image_now (D.view disks.old.first)) (image_now (D.view disks.old.second)))
+            circuit.now (option_copied event.entry))) }
 
         // The changes are made where their record is kept, and the open rounds are forgotten.
-        ensures cells { OnOk result ((c : CircuitId) → host_cell self.new (D.image_at disks.new.first (D.moment disks.new.first)) (D.image_at disks.new.second (D.moment disks.new.second)) c ≡ (cells_stopped (host_id self.old) (host_cell self.old (D.image_at disks.old.first (D.moment disks.old.first)) (D.image_at disks.old.second (D.moment disks.old.second))) circuit.now (event_changes (host_id self.old) (host_cell self.old (D.image_at disks.old.first (D.moment disks.old.first)) (D.image_at disks.old.second (D.moment disks.old.second))) circuit.now (option_copied event.entry)) (keeps stopping)) c) }
+        ensures cells { OnOk result ((c : CircuitId) → host_cell self.new (image_now (D.view disks.new.first))
+            (image_now (D.view disks.new.second)) c ≡ (cells_stopped (host_id self.old)
+            (host_cell self.old (image_now (D.view disks.old.first)) (image_now (D.view disks.old.second))) circuit.now
+            (event_changes (host_id self.old) (host_cell self.old (image_now (D.view disks.old.first)) (image_now (D.view disks.old.second)))
+            circuit.now (option_copied event.entry)) (keeps stopping)) c) }
 
         // The disk that counts is armed for the first four calls of the event, and the other for those behind them; both pick.
-        ensures counts { IfBoth (D.image_at disks.old.first (D.moment disks.old.first)) (D.image_at disks.old.second (D.moment disks.old.second)) (λ i j. second_counts i.bytes j.bytes ≡ host_second self.old) }
-        ensures picks_first { OnOk result (PicksArmed (fill_of stopping) (chosen (host_second self.old) (counting_arming stopping) (other_arming stopping)) (D.image_at disks.old.first) (D.image_at disks.new.first) (D.moment disks.old.first) (D.moment disks.new.first) (D.faults disks.old.first) (D.faults disks.new.first)
-            (D.armed disks.new.first) (D.picks disks.old.first) (D.picks disks.new.first)) }
-        ensures picks_second { OnOk result (PicksArmed (fill_of stopping) (chosen (host_second self.old) (other_arming stopping) (counting_arming stopping)) (D.image_at disks.old.second) (D.image_at disks.new.second) (D.moment disks.old.second) (D.moment disks.new.second) (D.faults disks.old.second) (D.faults disks.new.second)
-            (D.armed disks.new.second) (D.picks disks.old.second) (D.picks disks.new.second)) }
+        ensures counts { IfBoth (image_now (D.view disks.old.first)) (image_now (D.view disks.old.second))
+            (λ i j. second_counts i.bytes j.bytes ≡ host_second self.old) }
+        ensures picks_first { OnOk result (PicksArmed (fill_of stopping)
+            (chosen (host_second self.old) (counting_arming stopping) (other_arming stopping)) (D.view disks.old.first) (D.view disks.new.first)) }
+        ensures picks_second { OnOk result (PicksArmed (fill_of stopping)
+            (chosen (host_second self.old) (other_arming stopping) (counting_arming stopping)) (D.view disks.old.second) (D.view disks.new.second)) }
 
         // Whatever the result, a stop leaves what stands for the cells before the event or for those behind the stop in it.
-        ensures leaves { PairLeaves (D.image_at disks.new.first) (D.moment disks.new.first) (D.moment disks.new.first) (D.image_at disks.new.second) (D.moment disks.new.second) (D.moment disks.new.second) (StandForEither (host_id self.old) (host_cell self.old (D.image_at disks.old.first (D.moment disks.old.first)) (D.image_at disks.old.second (D.moment disks.old.second))) circuit.now (event_changes (host_id self.old) (host_cell self.old (D.image_at disks.old.first (D.moment disks.old.first)) (D.image_at disks.old.second (D.moment disks.old.second))) circuit.now (option_copied event.entry))) }
+        ensures leaves { PairLeaves (pair_view D.view disks.new) (pair_view D.view disks.new)
+            (StandForEither (host_id self.old) (host_cell self.old (image_now (D.view disks.old.first)) (image_now (D.view disks.old.second)))
+            circuit.now (event_changes (host_id self.old)
+            (host_cell self.old (image_now (D.view disks.old.first)) (image_now (D.view disks.old.second))) circuit.now
+            (option_copied event.entry))) }
 
         // Where a call that keeps the record didn't pass, a disk has failed.
-        ensures risen { OnOk result ((event_changes (host_id self.old) (host_cell self.old (D.image_at disks.old.first (D.moment disks.old.first)) (D.image_at disks.old.second (D.moment disks.old.second))) circuit.now (option_copied event.entry)) ≢ [] → passing stopping < 4 → Rose (D.faults disks.old.first) (D.faults disks.new.first) ⊎ Rose (D.faults disks.old.second) (D.faults disks.new.second)) }
+        ensures risen { OnOk result ((event_changes (host_id self.old)
+            (host_cell self.old (image_now (D.view disks.old.first)) (image_now (D.view disks.old.second))) circuit.now
+            (option_copied event.entry)) ≢ [] → passing stopping < 4 → HasRisen (pair_view D.view disks.old) (pair_view D.view disks.new)) }
 
         // Where a call of a checkpoint didn't pass, the disk that doesn't count has failed.
-        ensures risen_other { OnOk result (FillsHost self.old circuit.now (event_changes (host_id self.old) (host_cell self.old (D.image_at disks.old.first (D.moment disks.old.first)) (D.image_at disks.old.second (D.moment disks.old.second))) circuit.now (option_copied event.entry)) → IsInCheckpoint stopping → Rose (D.faults (chosen (host_second self.old) disks.old.second disks.old.first)) (D.faults (chosen (host_second self.old) disks.new.second disks.new.first))) }
-        ensures first_stays { D.faults disks.old.first ≤ D.faults disks.new.first }
-        ensures second_stays { D.faults disks.old.second ≤ D.faults disks.new.second }
+        ensures risen_other { OnOk result (FillsHost self.old circuit.now
+            (event_changes (host_id self.old) (host_cell self.old (image_now (D.view disks.old.first)) (image_now (D.view disks.old.second)))
+            circuit.now (option_copied event.entry)) → IsInCheckpoint stopping
+            → Rose (D.view (chosen (host_second self.old) disks.old.second disks.old.first)).faults
+            (D.view (chosen (host_second self.old) disks.new.second disks.new.first)).faults) }
+        ensures first_stays { (D.view disks.old.first).faults ≤ (D.view disks.new.first).faults }
+        ensures second_stays { (D.view disks.old.second).faults ≤ (D.view disks.new.second).faults }
     {
         let Some(mut node) = self.node.take() else {
             unreachable!();
@@ -252,22 +279,20 @@ impl Host {
     /// Brings the node up: its cells are those that its disks make. A node that is up stays as it
     /// is.
     pub fn start<D: Disk>(&mut self, alloc: Global, disks: &mut Pair<D>) -> Result<(), JournalFault>
-        requires stands { HostStands self.old (D.image_at disks.old.first (D.moment disks.old.first)) (D.image_at disks.old.second (D.moment disks.old.second)) }
+        requires stands { HostStands self.old (image_now (D.view disks.old.first)) (image_now (D.view disks.old.second)) }
         ensures id { host_id self.new ≡ host_id self.old }
         ensures up { OnOk result (is_up self.new ≡ true) }
-        ensures stands { OnOk result (HostStands self.new (D.image_at disks.new.first (D.moment disks.new.first)) (D.image_at disks.new.second (D.moment disks.new.second))) }
-        ensures cells { OnOk result (BothTell (D.image_at disks.old.first (D.moment disks.old.first)) (D.image_at disks.old.second (D.moment disks.old.second)) → (c : CircuitId) → host_cell self.new (D.image_at disks.new.first (D.moment disks.new.first)) (D.image_at disks.new.second (D.moment disks.new.second)) c ≡ host_cell self.old (D.image_at disks.old.first (D.moment disks.old.first)) (D.image_at disks.old.second (D.moment disks.old.second)) c) }
+        ensures stands { OnOk result (HostStands self.new (image_now (D.view disks.new.first)) (image_now (D.view disks.new.second))) }
+        ensures cells { OnOk result (BothTell (image_now (D.view disks.old.first)) (image_now (D.view disks.old.second)) → (c : CircuitId)
+            → host_cell self.new (image_now (D.view disks.new.first)) (image_now (D.view disks.new.second)) c ≡ host_cell self.old
+            (image_now (D.view disks.old.first)) (image_now (D.view disks.old.second)) c) }
         ensures same { is_up self.old ≡ true → (self.new ≡ self.old) × (disks.new ≡ disks.old) }
-        ensures not { BothTell (D.image_at disks.old.first (D.moment disks.old.first)) (D.image_at disks.old.second (D.moment disks.old.second)) → (at : ℕ) → IsErrOf result (JournalFault.NotAJournal at) → ⊥ }
-        ensures failed { IsErrOf result JournalFault.Disk → Rose (D.faults disks.old.first) (D.faults disks.new.first) ⊎ Rose (D.faults disks.old.second) (D.faults disks.new.second) }
-        ensures told_first { TellsAs (D.image_at disks.old.first (D.moment disks.old.first)) (D.image_at disks.new.first (D.moment disks.new.first)) }
-        ensures told_second { TellsAs (D.image_at disks.old.second (D.moment disks.old.second)) (D.image_at disks.new.second (D.moment disks.new.second)) }
-        ensures stays_first { Stays (D.image_at disks.old.first) (D.moment disks.old.first) (D.image_at disks.new.first) (D.moment disks.new.first) }
-        ensures stays_second { Stays (D.image_at disks.old.second) (D.moment disks.old.second) (D.image_at disks.new.second) (D.moment disks.new.second) }
-        ensures on_first { Onward (D.image_at disks.old.first) (D.image_at disks.new.first) (D.moment disks.old.first) (D.moment disks.new.first) (D.faults disks.old.first) (D.faults disks.new.first)
-            (D.armed disks.old.first) (D.armed disks.new.first) (D.picks disks.old.first) (D.picks disks.new.first) }
-        ensures on_second { Onward (D.image_at disks.old.second) (D.image_at disks.new.second) (D.moment disks.old.second) (D.moment disks.new.second) (D.faults disks.old.second) (D.faults disks.new.second)
-            (D.armed disks.old.second) (D.armed disks.new.second) (D.picks disks.old.second) (D.picks disks.new.second) }
+        ensures not { BothTell (image_now (D.view disks.old.first)) (image_now (D.view disks.old.second)) → (at : ℕ)
+            → IsErrOf result (JournalFault.NotAJournal at) → ⊥ }
+        ensures failed { IsErrOf result JournalFault.Disk → HasRisen (pair_view D.view disks.old) (pair_view D.view disks.new) }
+        ensures told { PairTellsAs (pair_view D.view disks.old) (pair_view D.view disks.new) }
+        ensures stays { PairStays (pair_view D.view disks.old) (pair_view D.view disks.new) }
+        ensures onward { PairOnward (pair_view D.view disks.old) (pair_view D.view disks.new) }
     {
         if self.node.is_some() {
             return Ok(());
@@ -282,7 +307,8 @@ impl Host {
     pub fn roll(&self, alloc: Global) -> Result<Listing<CircuitId>, AllocError>
         requires { is_up self.now ≡ true }
         ensures sorted { IfOk result (λ ids. IsStrictlySortedBy (slice_cmp nat_cmp) ids) }
-        ensures bound { IfOk result (λ ids. (first second : Option Image) (c : CircuitId) → list_any (bytes_eq c) ids ≡ is_bound (host_cell self.now first second c)) }
+        ensures bound { IfOk result (λ ids. (first second : Option Image) (c : CircuitId)
+            → list_any (bytes_eq c) ids ≡ is_bound (host_cell self.now first second c)) }
     {
         match &self.node {
             Some(node) => node.roll(alloc),
@@ -293,5 +319,6 @@ impl Host {
 
 /// The disks of a node stand for its cells, whether it is up or down.
 pub fn disks_stand_for_cells()
-    ensures { (h : Kept) (first second : Option Image) → HostStands h first second → IfBoth first second (λ i j. StandFor (host_id h) (host_cell h first second) i.bytes j.bytes) }
+    ensures { (h : Kept) (first second : Option Image) → HostStands h first second
+        → IfBoth first second (λ i j. StandFor (host_id h) (host_cell h first second) i.bytes j.bytes) }
 {}

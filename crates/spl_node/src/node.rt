@@ -1,20 +1,21 @@
 //! A node over its two disks.
-ghost use Rattle.std.specs.Prelude.{◌≡◌, ◌≢◌, ◌⊎◌, ◌<◌, ◌≤◌, ◌+◌, ◌-◌, ◌*◌, ◌^◌, [], ℕ, true, false, not, ⊤, length, IsTrue, OnOk, OnErr, IfOk, IfSome, IsOk, IsErrOf};
+ghost use Rattle.std.specs.Prelude.{◌≡◌, ◌⊎◌, ◌≢◌, ◌<◌, ◌≤◌, ◌+◌, ◌-◌, ◌*◌, ◌^◌, [], ℕ, true, false, not, ⊤, length, IsTrue, OnOk, OnErr, IfOk, IfSome, IsOk, IsErrOf};
 ghost use Rattle.std.specs.List.{list_any};
 ghost use Rattle.std.specs.List.Sorted.{IsStrictlySortedBy};
 ghost use Rattle.std.specs.Ordering.{nat_cmp};
 ghost use Rattle.std.specs.Cmp.Lexicographic.{slice_cmp};
 ghost use Rattle.std.specs.Str.{bytes_eq};
 ghost use Rattle.spl_circuit.specs.Nodes.{NodeId, CircuitId};
-ghost use Rattle.spl_edge.specs.Calls.{fails_at, IsArmed};
+ghost use Rattle.spl_edge.specs.Calls.{fails_at, IsArmed, Onward};
 ghost use Rattle.spl_edge.specs.Causes.{Rose};
 ghost use Rattle.spl_edge.specs.declared.fill.Fill.{Fill};
+ghost use Rattle.spl_edge.specs.Views.{image_now, pair_view};
 ghost use Rattle.spl_journal.specs.Gate.{ByCalls, NamesOne, opened};
 ghost use Rattle.spl_journal.specs.Journals.{end_of, len_of, base_of, epoch_of, has_room, IsFilledBy};
 ghost use Rattle.spl_journal.specs.Make.{IsBlank};
 ghost use Rattle.spl_journal.specs.Records.{blocks, sized};
 ghost use Rattle.spl_journal.specs.Stops.{is_kept};
-ghost use Rattle.spl_snapshot.specs.Counting.{chosen, IfBoth, PairLeaves, PairLeavesInTurn, TellsAs, Onward};
+ghost use Rattle.spl_snapshot.specs.Counting.{chosen, IfBoth, PairLeaves, PairLeavesInTurn, TellsAs, PairOnward, PairTellsAs, HasRisen};
 ghost use Rattle.spl_snapshot.specs.Pairs.{PairStands, is_second, journal_in};
 ghost use Rattle.spl_snapshot.specs.Stopped.{kept_on};
 ghost use Rattle.spl_wire.specs.Bounds.{AllSendable};
@@ -48,7 +49,7 @@ pub struct Node {
 }
 
 /// What an event gave: an answer, and messages in the order in which they are sent.
-#[derive(Debug, Drop)]
+#[derive(Drop)]
 pub struct Outcome {
     pub answer: Answer,
     pub sends: SendList,
@@ -64,18 +65,17 @@ impl Node {
         here: NodeId,
         disks: &mut Pair<D>,
     ) -> Result<Node, JournalFault>
-        requires first { IfSome (D.image_at disks.old.first (D.moment disks.old.first)) IsBlank }
-        requires second { IfSome (D.image_at disks.old.second (D.moment disks.old.second)) IsBlank }
+        requires first { IfSome (image_now (D.view disks.old.first)) IsBlank }
+        requires second { IfSome (image_now (D.view disks.old.second)) IsBlank }
         ensures here { IfOk result (λ n. here_of n ≡ here) }
         ensures empty { IfOk result (λ n. (c : CircuitId) → cell_of n c ≡ Empty) }
         ensures running { IfOk result (λ n. is_halted n ≡ false) }
-        ensures stands { IfOk result (λ n. NodeStands n (D.image_at disks.new.first (D.moment disks.new.first)) (D.image_at disks.new.second (D.moment disks.new.second))) }
-        ensures told_first { OnOk result (TellsAs (D.image_at disks.old.first (D.moment disks.old.first)) (D.image_at disks.new.first (D.moment disks.new.first))) }
+        ensures stands { IfOk result (λ n. NodeStands n (image_now (D.view disks.new.first)) (image_now (D.view disks.new.second))) }
+        ensures told_first { OnOk result (TellsAs (image_now (D.view disks.old.first)) (image_now (D.view disks.new.first))) }
         ensures base { IfOk result (λ n. (is_second n.pairing ≡ false) × (epoch_of (journal_in n.pairing) ≡ 1) × (base_of (journal_in n.pairing) ≡ 18)) }
         ensures not { (at : ℕ) → IsErrOf result (JournalFault.NotAJournal at) → ⊥ }
-        ensures failed { IsErrOf result JournalFault.Disk → Rose (D.faults disks.old.first) (D.faults disks.new.first) }
-        ensures on_first { Onward (D.image_at disks.old.first) (D.image_at disks.new.first) (D.moment disks.old.first) (D.moment disks.new.first) (D.faults disks.old.first) (D.faults disks.new.first)
-            (D.armed disks.old.first) (D.armed disks.new.first) (D.picks disks.old.first) (D.picks disks.new.first) }
+        ensures failed { IsErrOf result JournalFault.Disk → Rose (D.view disks.old.first).faults (D.view disks.new.first).faults }
+        ensures on_first { Onward (D.view disks.old.first) (D.view disks.new.first) }
         ensures second { disks.new.second ≡ disks.old.second }
     {
         let pairing = format_pair::<CellForm, D>(alloc, disks)?;
@@ -129,11 +129,12 @@ impl Node {
     ) -> Result<Outcome, JournalFault>
         requires running { is_halted self.old ≡ false }
         requires own { IsFor (site_at (here_of self.old) circuit.now) event.now }
-        requires pair { PairStands is_record self.old.pairing (D.image_at disks.old.first (D.moment disks.old.first)) (D.image_at disks.old.second (D.moment disks.old.second)) }
+        requires pair { PairStands is_record self.old.pairing (image_now (D.view disks.old.first)) (image_now (D.view disks.old.second)) }
         ensures here { here_of self.new ≡ here_of self.old }
         ensures answer { IfOk result (λ o. o.answer ≡ (plan_of (site_at (here_of self.old) circuit.now) (cell_of self.old circuit.now) event.now).answer) }
         ensures sends { IfOk result (λ o. o.sends ≡ (plan_of (site_at (here_of self.old) circuit.now) (cell_of self.old circuit.now) event.now).sends) }
-        ensures changed { IfOk result (λ o. o.changed ≡ has_changes (plan_of (site_at (here_of self.old) circuit.now) (cell_of self.old circuit.now) event.now).changes) }
+        ensures changed { IfOk result (λ o. o.changed ≡ has_changes
+            (plan_of (site_at (here_of self.old) circuit.now) (cell_of self.old circuit.now) event.now).changes) }
         ensures legal { IfOk result (λ o. are_legal o.sends ≡ true) }
         ensures sendable { IfOk result (λ o. AllSendable o.sends) }
 
@@ -141,59 +142,98 @@ impl Node {
         ensures cells { OnOk result ((c : CircuitId) → cell_of self.new c ≡ cells_after (here_of self.old) (cell_of self.old) circuit.now event.now c) }
 
         // A stop at any moment of the call leaves disks that stand for the cells before the event or for those after it; after Ok for those after it.
-        ensures any_moment { IfBoth (D.image_at disks.old.first (D.moment disks.old.first)) (D.image_at disks.old.second (D.moment disks.old.second)) (λ i j. StandFor (here_of self.old) (cell_of self.old) i.bytes j.bytes →
-            PairLeavesInTurn (is_second self.old.pairing) (D.image_at disks.new.first) (D.moment disks.old.first) (D.moment disks.new.first) (D.image_at disks.new.second) (D.moment disks.old.second) (D.moment disks.new.second)
-            (λ c d. StandFor (here_of self.old) (cell_of self.old) c d ⊎ StandFor (here_of self.old) (cells_after (here_of self.old) (cell_of self.old) circuit.now event.now) c d)) }
-        ensures after { OnOk result (IfBoth (D.image_at disks.old.first (D.moment disks.old.first)) (D.image_at disks.old.second (D.moment disks.old.second)) (λ i j. StandFor (here_of self.old) (cell_of self.old) i.bytes j.bytes →
-            PairLeaves (D.image_at disks.new.first) (D.moment disks.new.first) (D.moment disks.new.first) (D.image_at disks.new.second) (D.moment disks.new.second) (D.moment disks.new.second)
+        ensures any_moment { IfBoth (image_now (D.view disks.old.first)) (image_now (D.view disks.old.second))
+            (λ i j. StandFor (here_of self.old) (cell_of self.old) i.bytes j.bytes →
+            PairLeavesInTurn (is_second self.old.pairing) (pair_view D.view disks.old) (pair_view D.view disks.new)
+            (λ c d. StandFor (here_of self.old) (cell_of self.old) c d ⊎ StandFor (here_of self.old)
+            (cells_after (here_of self.old) (cell_of self.old) circuit.now event.now) c d)) }
+        ensures after { OnOk result (IfBoth (image_now (D.view disks.old.first)) (image_now (D.view disks.old.second))
+            (λ i j. StandFor (here_of self.old) (cell_of self.old) i.bytes j.bytes →
+            PairLeaves (pair_view D.view disks.new) (pair_view D.view disks.new)
             (StandFor (here_of self.old) (cells_after (here_of self.old) (cell_of self.old) circuit.now event.now)))) }
-        ensures told_first { OnOk result (TellsAs (D.image_at disks.old.first (D.moment disks.old.first)) (D.image_at disks.new.first (D.moment disks.new.first))) }
-        ensures told_second { OnOk result (TellsAs (D.image_at disks.old.second (D.moment disks.old.second)) (D.image_at disks.new.second (D.moment disks.new.second))) }
-        ensures pair { OnOk result (PairStands is_record self.new.pairing (D.image_at disks.new.first (D.moment disks.new.first)) (D.image_at disks.new.second (D.moment disks.new.second))) }
-        ensures stands { OnOk result (IfBoth (D.image_at disks.old.first (D.moment disks.old.first)) (D.image_at disks.old.second (D.moment disks.old.second)) (λ i j. StandFor (here_of self.old) (cell_of self.old) i.bytes j.bytes → NodeStands self.new (D.image_at disks.new.first (D.moment disks.new.first)) (D.image_at disks.new.second (D.moment disks.new.second)))) }
+        ensures told { OnOk result (PairTellsAs (pair_view D.view disks.old) (pair_view D.view disks.new)) }
+        ensures pair { OnOk result (PairStands is_record self.new.pairing (image_now (D.view disks.new.first)) (image_now (D.view disks.new.second))) }
+        ensures stands { OnOk result (IfBoth (image_now (D.view disks.old.first)) (image_now (D.view disks.old.second))
+            (λ i j. StandFor (here_of self.old) (cell_of self.old) i.bytes j.bytes
+            → NodeStands self.new (image_now (D.view disks.new.first)) (image_now (D.view disks.new.second)))) }
 
-        // Without changes no call of a disk is made. With changes the record of them is kept, by four calls of the disk that counts: the last of them ended the step, and the other disk is as it was; or each of them succeeded, and a stop behind the step leaves disks that stand for the cells after the event.
+        // Without changes no call of a disk is made. With changes the record of them is kept, by four calls of the
+        // disk that counts: the last of them ended the step, and the other disk is as it was; or each of them
+        // succeeded, and a stop behind the step leaves disks that stand for the cells after the event.
         ensures no_calls { (plan_of (site_at (here_of self.old) circuit.now) (cell_of self.old circuit.now) event.now).changes ≡ [] → disks.new ≡ disks.old }
         ensures by_calls { (plan_of (site_at (here_of self.old) circuit.now) (cell_of self.old circuit.now) event.now).changes ≢ [] →
-            (ByCalls 4 (D.image_at (chosen (is_second self.old.pairing) disks.new.first disks.new.second)) (D.moment (chosen (is_second self.old.pairing) disks.old.first disks.old.second)) (D.moment (chosen (is_second self.old.pairing) disks.new.first disks.new.second))
-            (opened (end_of (journal_in self.old.pairing)) (sized (record_bytes (record_of circuit.now (plan_of (site_at (here_of self.old) circuit.now) (cell_of self.old circuit.now) event.now).changes)))) (D.image_at (chosen (is_second self.old.pairing) disks.old.first disks.old.second) (D.moment (chosen (is_second self.old.pairing) disks.old.first disks.old.second))) (D.armed (chosen (is_second self.old.pairing) disks.old.first disks.old.second)) (IsOk result) (IsErrOf result JournalFault.Disk)
+            (ByCalls 4 (D.view (chosen (is_second self.old.pairing) disks.old.first disks.old.second))
+            (D.view (chosen (is_second self.old.pairing) disks.new.first disks.new.second))
+            (opened (end_of (journal_in self.old.pairing))
+            (sized (record_bytes (record_of circuit.now
+            (plan_of (site_at (here_of self.old) circuit.now) (cell_of self.old circuit.now) event.now).changes)))) (IsOk result)
+            (IsErrOf result JournalFault.Disk)
             × (chosen (is_second self.old.pairing) disks.new.second disks.new.first ≡ chosen (is_second self.old.pairing) disks.old.second disks.old.first))
-            ⊎ (ByCalls 4 (D.image_at (chosen (is_second self.old.pairing) disks.new.first disks.new.second)) (D.moment (chosen (is_second self.old.pairing) disks.old.first disks.old.second)) (D.moment (chosen (is_second self.old.pairing) disks.new.first disks.new.second))
-            (opened (end_of (journal_in self.old.pairing)) (sized (record_bytes (record_of circuit.now (plan_of (site_at (here_of self.old) circuit.now) (cell_of self.old circuit.now) event.now).changes)))) (D.image_at (chosen (is_second self.old.pairing) disks.old.first disks.old.second) (D.moment (chosen (is_second self.old.pairing) disks.old.first disks.old.second))) (D.armed (chosen (is_second self.old.pairing) disks.old.first disks.old.second)) ⊤ ⊥
-            × IfBoth (D.image_at disks.old.first (D.moment disks.old.first)) (D.image_at disks.old.second (D.moment disks.old.second)) (λ i j. StandFor (here_of self.old) (cell_of self.old) i.bytes j.bytes →
-            PairLeaves (D.image_at disks.new.first) (D.moment disks.new.first) (D.moment disks.new.first) (D.image_at disks.new.second) (D.moment disks.new.second) (D.moment disks.new.second)
+            ⊎ (ByCalls 4 (D.view (chosen (is_second self.old.pairing) disks.old.first disks.old.second))
+            (D.view (chosen (is_second self.old.pairing) disks.new.first disks.new.second))
+            (opened (end_of (journal_in self.old.pairing))
+            (sized (record_bytes (record_of circuit.now
+            (plan_of (site_at (here_of self.old) circuit.now) (cell_of self.old circuit.now) event.now).changes)))) ⊤ ⊥
+            × IfBoth (image_now (D.view disks.old.first)) (image_now (D.view disks.old.second))
+            (λ i j. StandFor (here_of self.old) (cell_of self.old) i.bytes j.bytes →
+            PairLeaves (pair_view D.view disks.new) (pair_view D.view disks.new)
             (StandFor (here_of self.old) (cells_after (here_of self.old) (cell_of self.old) circuit.now event.now)))) }
 
-        // A stop behind so many of these calls leaves disks that stand for the cells after the event where they keep the record, and for those before it otherwise.
-        ensures stopped { IsErrOf result JournalFault.Disk → (calls : ℕ) (fill : Fill) → IfBoth (D.image_at disks.old.first (D.moment disks.old.first)) (D.image_at disks.old.second (D.moment disks.old.second)) (λ i j. StandFor (here_of self.old) (cell_of self.old) i.bytes j.bytes →
-            StandFor (here_of self.old) (chosen (is_kept calls fill) (cell_of self.old) (cells_after (here_of self.old) (cell_of self.old) circuit.now event.now))
-            (kept_on (not (is_second self.old.pairing)) fill (end_of (journal_in self.old.pairing)) (sized (record_bytes (record_of circuit.now (plan_of (site_at (here_of self.old) circuit.now) (cell_of self.old circuit.now) event.now).changes))) calls i)
-            (kept_on (is_second self.old.pairing) fill (end_of (journal_in self.old.pairing)) (sized (record_bytes (record_of circuit.now (plan_of (site_at (here_of self.old) circuit.now) (cell_of self.old circuit.now) event.now).changes))) calls j)) }
+        // A stop behind so many of these calls leaves disks that stand for the cells after the event where they keep
+        // the record, and for those before it otherwise.
+        ensures stopped { IsErrOf result JournalFault.Disk → (calls : ℕ) (fill : Fill)
+            → IfBoth (image_now (D.view disks.old.first)) (image_now (D.view disks.old.second))
+            (λ i j. StandFor (here_of self.old) (cell_of self.old) i.bytes j.bytes →
+            StandFor (here_of self.old) (chosen (is_kept calls fill) (cell_of self.old)
+            (cells_after (here_of self.old) (cell_of self.old) circuit.now event.now))
+            (kept_on (not (is_second self.old.pairing)) fill (end_of (journal_in self.old.pairing))
+            (sized (record_bytes (record_of circuit.now
+            (plan_of (site_at (here_of self.old) circuit.now) (cell_of self.old circuit.now) event.now).changes))) calls i)
+            (kept_on (is_second self.old.pairing) fill (end_of (journal_in self.old.pairing))
+            (sized (record_bytes (record_of circuit.now
+            (plan_of (site_at (here_of self.old) circuit.now) (cell_of self.old circuit.now) event.now).changes))) calls j)) }
 
         // Where the record leaves no room the other disk counts behind Ok, and none of its eight calls was one that it is armed for.
-        ensures turned { OnOk result ((plan_of (site_at (here_of self.old) circuit.now) (cell_of self.old circuit.now) event.now).changes ≢ [] → 2 * base_of (journal_in self.old.pairing) + 65536 < len_of (journal_in self.old.pairing) + 5 + length (record_bytes (record_of circuit.now (plan_of (site_at (here_of self.old) circuit.now) (cell_of self.old circuit.now) event.now).changes)) → epoch_of (journal_in self.old.pairing) < 2 ^ 64 - 1
+        ensures turned { OnOk result ((plan_of (site_at (here_of self.old) circuit.now) (cell_of self.old circuit.now) event.now).changes ≢ []
+            → 2 * base_of (journal_in self.old.pairing) + 65536 < len_of (journal_in self.old.pairing) + 5 + length
+            (record_bytes (record_of circuit.now (plan_of (site_at (here_of self.old) circuit.now)
+            (cell_of self.old circuit.now) event.now).changes)) → epoch_of (journal_in self.old.pairing) < 2 ^ 64 - 1
             → is_second self.new.pairing ≡ not (is_second self.old.pairing)) }
-        ensures passed { OnOk result ((is_second self.new.pairing ≡ is_second self.old.pairing) ⊎ ((n : ℕ) → n < 8 → IsTrue (fails_at (D.armed (chosen (is_second self.old.pairing) disks.old.second disks.old.first)) (D.moment (chosen (is_second self.old.pairing) disks.old.second disks.old.first) + n)) → ⊥)) }
+        ensures passed { OnOk result ((is_second self.new.pairing ≡ is_second self.old.pairing)
+            ⊎ ((n : ℕ) → n < 8 → IsTrue (fails_at (D.view (chosen (is_second self.old.pairing) disks.old.second disks.old.first)).armed
+            ((D.view (chosen (is_second self.old.pairing) disks.old.second disks.old.first)).moment + n)) → ⊥)) }
 
         // Where it leaves room no checkpoint is made: the other disk is as it was, and doesn't count.
-        ensures no_checkpoint { (plan_of (site_at (here_of self.old) circuit.now) (cell_of self.old circuit.now) event.now).changes ≢ [] → len_of (journal_in self.old.pairing) + 5 + length (record_bytes (record_of circuit.now (plan_of (site_at (here_of self.old) circuit.now) (cell_of self.old circuit.now) event.now).changes)) ≤ 2 * base_of (journal_in self.old.pairing) + 65536
-            → (chosen (is_second self.old.pairing) disks.new.second disks.new.first ≡ chosen (is_second self.old.pairing) disks.old.second disks.old.first) × (is_second self.new.pairing ≡ is_second self.old.pairing) }
+        ensures no_checkpoint { (plan_of (site_at (here_of self.old) circuit.now) (cell_of self.old circuit.now) event.now).changes ≢ []
+            → len_of (journal_in self.old.pairing) + 5 + length
+            (record_bytes (record_of circuit.now (plan_of (site_at (here_of self.old) circuit.now)
+            (cell_of self.old circuit.now) event.now).changes)) ≤ 2 * base_of (journal_in self.old.pairing) + 65536
+            → (chosen (is_second self.old.pairing) disks.new.second disks.new.first ≡ chosen
+            (is_second self.old.pairing) disks.old.second disks.old.first) × (is_second self.new.pairing ≡ is_second self.old.pairing) }
 
-        // Where it leaves no room, the disk that counts is armed for none of its four calls, and the other for one of its eight, the other has failed, unless memory was wanting.
-        ensures risen { (plan_of (site_at (here_of self.old) circuit.now) (cell_of self.old circuit.now) event.now).changes ≢ [] → IsFilledBy (length (record_bytes (record_of circuit.now (plan_of (site_at (here_of self.old) circuit.now) (cell_of self.old circuit.now) event.now).changes))) (journal_in self.old.pairing) → IsArmed (D.armed (chosen (is_second self.old.pairing) disks.old.first disks.old.second)) → (NamesOne (D.armed (chosen (is_second self.old.pairing) disks.old.first disks.old.second)) (D.moment (chosen (is_second self.old.pairing) disks.old.first disks.old.second)) 4 → ⊥) → NamesOne (D.armed (chosen (is_second self.old.pairing) disks.old.second disks.old.first)) (D.moment (chosen (is_second self.old.pairing) disks.old.second disks.old.first)) 8
-            → IsErrOf result JournalFault.NoMemory ⊎ Rose (D.faults (chosen (is_second self.old.pairing) disks.old.second disks.old.first)) (D.faults (chosen (is_second self.old.pairing) disks.new.second disks.new.first)) }
+        // Where it leaves no room, the disk that counts is armed for none of its four calls, and the other for one
+        // of its eight, the other has failed, unless memory was wanting.
+        ensures risen { (plan_of (site_at (here_of self.old) circuit.now) (cell_of self.old circuit.now) event.now).changes ≢ []
+            → IsFilledBy (length (record_bytes (record_of circuit.now
+            (plan_of (site_at (here_of self.old) circuit.now) (cell_of self.old circuit.now) event.now).changes))) (journal_in self.old.pairing)
+            → IsArmed (D.view (chosen (is_second self.old.pairing) disks.old.first disks.old.second)).armed
+            → (NamesOne (D.view (chosen (is_second self.old.pairing) disks.old.first disks.old.second)).armed
+            (D.view (chosen (is_second self.old.pairing) disks.old.first disks.old.second)).moment 4 → ⊥)
+            → NamesOne (D.view (chosen (is_second self.old.pairing) disks.old.second disks.old.first)).armed
+            (D.view (chosen (is_second self.old.pairing) disks.old.second disks.old.first)).moment 8
+            → IsErrOf result JournalFault.NoMemory ⊎ Rose (D.view (chosen (is_second self.old.pairing) disks.old.second disks.old.first)).faults
+            (D.view (chosen (is_second self.old.pairing) disks.new.second disks.new.first)).faults }
 
         // The journal that counts is within its bound: it has room, and its base is what it was or the length of the packed cells.
-        ensures room { OnOk result ((plan_of (site_at (here_of self.old) circuit.now) (cell_of self.old circuit.now) event.now).changes ≢ [] → epoch_of (journal_in self.new.pairing) < 2 ^ 64 - 1 → has_room (journal_in self.new.pairing) ≡ true) }
-        ensures base { OnOk result ((base_of (journal_in self.new.pairing) ≡ base_of (journal_in self.old.pairing)) ⊎ (base_of (journal_in self.new.pairing) ≡ 18 + length (blocks (packed_node self.new.cells.entries)))) }
+        ensures room { OnOk result ((plan_of (site_at (here_of self.old) circuit.now) (cell_of self.old circuit.now) event.now).changes ≢ []
+            → epoch_of (journal_in self.new.pairing) < 2 ^ 64 - 1 → has_room (journal_in self.new.pairing) ≡ true) }
+        ensures base { OnOk result ((base_of (journal_in self.new.pairing) ≡ base_of (journal_in self.old.pairing))
+            ⊎ (base_of (journal_in self.new.pairing) ≡ 18 + length (blocks (packed_node self.new.cells.entries)))) }
         ensures halted { OnErr result (is_halted self.new ≡ true) }
         ensures running { OnOk result (is_halted self.new ≡ false) }
         ensures not { (at : ℕ) → IsErrOf result (JournalFault.NotAJournal at) → ⊥ }
-        ensures failed { IsErrOf result JournalFault.Disk → Rose (D.faults disks.old.first) (D.faults disks.new.first) ⊎ Rose (D.faults disks.old.second) (D.faults disks.new.second) }
-        ensures on_first { Onward (D.image_at disks.old.first) (D.image_at disks.new.first) (D.moment disks.old.first) (D.moment disks.new.first) (D.faults disks.old.first) (D.faults disks.new.first)
-            (D.armed disks.old.first) (D.armed disks.new.first) (D.picks disks.old.first) (D.picks disks.new.first) }
-        ensures on_second { Onward (D.image_at disks.old.second) (D.image_at disks.new.second) (D.moment disks.old.second) (D.moment disks.new.second) (D.faults disks.old.second) (D.faults disks.new.second)
-            (D.armed disks.old.second) (D.armed disks.new.second) (D.picks disks.old.second) (D.picks disks.new.second) }
+        ensures failed { IsErrOf result JournalFault.Disk → HasRisen (pair_view D.view disks.old) (pair_view D.view disks.new) }
+        ensures onward { PairOnward (pair_view D.view disks.old) (pair_view D.view disks.new) }
     {
         let done = match self.cells.handle(alloc, *circuit, event) {
             Ok(done) => done,

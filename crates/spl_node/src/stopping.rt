@@ -1,9 +1,10 @@
 //! How a node is stopped in an event.
-ghost use Rattle.std.specs.Prelude.{◌≡◌, ◌≢◌, ◌<◌, ◌⊎◌, [], false, Some, IfOk, IfSome, OnOk};
+ghost use Rattle.std.specs.Prelude.{◌≡◌, ◌≢◌, ◌<◌, [], false, Some, IfOk, IfSome, OnOk};
 ghost use Rattle.std.specs.Option.{option_copied};
 ghost use Rattle.spl_edge.specs.Calls.{armed_with};
 ghost use Rattle.spl_edge.specs.Causes.{Rose};
-ghost use Rattle.spl_snapshot.specs.Counting.{chosen, IfBoth, PairLeaves, Onward};
+ghost use Rattle.spl_edge.specs.Views.{image_now, pair_view};
+ghost use Rattle.spl_snapshot.specs.Counting.{chosen, IfBoth, PairLeaves, PairOnward, HasRisen};
 ghost use Rattle.spl_snapshot.specs.Pairs.{is_second};
 ghost use Rattle.spl_rules.specs.Plans.{plan_of};
 ghost use Rattle.spl_rules.specs.Valid.{IsFor};
@@ -20,7 +21,7 @@ use spl_wire::Event;
 use std::alloc::{AllocError, Global};
 
 /// How a node is stopped in an event (docs/RULES.md, Stops in an event).
-#[derive(Clone, Copy, Debug, PartialEq, Eq)]
+#[derive(Clone, Copy, PartialEq, Eq)]
 pub enum Stopping {
     /// So many calls of its disks pass, and none behind them. The disks keep this of what wasn't
     /// synced.
@@ -43,8 +44,7 @@ impl Stopping {
 
 /// Arms the disk that counts, which has the first four calls of an event.
 fn arm_counting<D: StopDisk>(disk: &mut D, stopping: Stopping)
-    ensures { Arms (counting_arming stopping) (D.image_at disk.old) (D.image_at disk.new) (D.moment disk.old) (D.moment disk.new) (D.faults disk.old) (D.faults disk.new)
-        (D.armed disk.new) (D.picks disk.old) (D.picks disk.new) }
+    ensures { Arms (counting_arming stopping) (D.view disk.old) (D.view disk.new) }
 {
     match stopping {
         Stopping::Cut { calls, .. } => disk.stop_after(u32::from(calls)),
@@ -60,8 +60,7 @@ fn arm_counting<D: StopDisk>(disk: &mut D, stopping: Stopping)
 
 /// Arms the other disk, which has the calls behind them.
 fn arm_other<D: StopDisk>(disk: &mut D, stopping: Stopping)
-    ensures { Arms (other_arming stopping) (D.image_at disk.old) (D.image_at disk.new) (D.moment disk.old) (D.moment disk.new) (D.faults disk.old) (D.faults disk.new)
-        (D.armed disk.new) (D.picks disk.old) (D.picks disk.new) }
+    ensures { Arms (other_arming stopping) (D.view disk.old) (D.view disk.new) }
 {
     match stopping {
         Stopping::Cut { calls, .. } => disk.stop_after(u32::from(calls.saturating_sub(4))),
@@ -77,10 +76,8 @@ fn arm_other<D: StopDisk>(disk: &mut D, stopping: Stopping)
 
 /// Arms both disks, of which the second counts where this is true.
 pub(crate) fn arm<D: StopDisk>(disks: &mut Pair<D>, second: bool, stopping: Stopping)
-    ensures first { Arms (chosen second (counting_arming stopping) (other_arming stopping)) (D.image_at disks.old.first) (D.image_at disks.new.first) (D.moment disks.old.first) (D.moment disks.new.first) (D.faults disks.old.first) (D.faults disks.new.first)
-        (D.armed disks.new.first) (D.picks disks.old.first) (D.picks disks.new.first) }
-    ensures second { Arms (chosen second (other_arming stopping) (counting_arming stopping)) (D.image_at disks.old.second) (D.image_at disks.new.second) (D.moment disks.old.second) (D.moment disks.new.second) (D.faults disks.old.second) (D.faults disks.new.second)
-        (D.armed disks.new.second) (D.picks disks.old.second) (D.picks disks.new.second) }
+    ensures first { Arms (chosen second (counting_arming stopping) (other_arming stopping)) (D.view disks.old.first) (D.view disks.new.first) }
+    ensures second { Arms (chosen second (other_arming stopping) (counting_arming stopping)) (D.view disks.old.second) (D.view disks.new.second) }
 {
     if second {
         arm_other(&mut disks.first, stopping);
@@ -97,15 +94,13 @@ pub(crate) fn pick_both<D: StopDisk>(
     disks: &mut Pair<D>,
     fill: Fill,
 ) -> Result<(), AllocError>
-    ensures first { OnOk result (PicksWith fill (D.image_at disks.old.first) (D.image_at disks.new.first) (D.moment disks.old.first) (D.moment disks.new.first) (D.faults disks.old.first) (D.faults disks.new.first)
-        (D.armed disks.old.first) (D.armed disks.new.first) (D.picks disks.old.first) (D.picks disks.new.first)) }
-    ensures second { OnOk result (PicksWith fill (D.image_at disks.old.second) (D.image_at disks.new.second) (D.moment disks.old.second) (D.moment disks.new.second) (D.faults disks.old.second) (D.faults disks.new.second)
-        (D.armed disks.old.second) (D.armed disks.new.second) (D.picks disks.old.second) (D.picks disks.new.second)) }
+    ensures first { OnOk result (PicksWith fill (D.view disks.old.first) (D.view disks.new.first)) }
+    ensures second { OnOk result (PicksWith fill (D.view disks.old.second) (D.view disks.new.second)) }
     // Whatever the result, a stop leaves nothing of a disk that it couldn't leave before.
-    ensures first_left { IfBoth (D.image_at disks.old.first (D.moment disks.old.first)) (D.image_at disks.new.first (D.moment disks.new.first)) LeavesNoMore }
-    ensures second_left { IfBoth (D.image_at disks.old.second (D.moment disks.old.second)) (D.image_at disks.new.second (D.moment disks.new.second)) LeavesNoMore }
-    ensures first_faults { D.faults disks.new.first ≡ D.faults disks.old.first }
-    ensures second_faults { D.faults disks.new.second ≡ D.faults disks.old.second }
+    ensures first_left { IfBoth (image_now (D.view disks.old.first)) (image_now (D.view disks.new.first)) LeavesNoMore }
+    ensures second_left { IfBoth (image_now (D.view disks.old.second)) (image_now (D.view disks.new.second)) LeavesNoMore }
+    ensures first_faults { (D.view disks.new.first).faults ≡ (D.view disks.old.first).faults }
+    ensures second_faults { (D.view disks.new.second).faults ≡ (D.view disks.old.second).faults }
 {
     disks.first.pick(alloc, fill)?;
     disks.second.pick(alloc, fill)
@@ -124,20 +119,28 @@ fn step_armed<D: StopDisk>(
     requires running { is_halted node.old ≡ false }
     requires own { IsFor (site_at (here_of node.old) circuit.now) event.now }
     requires calls { IsStopping stopping }
-    requires stands { NodeStands node.old (D.image_at disks.old.first (D.moment disks.old.first)) (D.image_at disks.old.second (D.moment disks.old.second)) }
-    requires armed { D.armed (chosen (is_second node.old.pairing) disks.old.first disks.old.second) ≡ armed_with (counting_arming stopping) (D.moment (chosen (is_second node.old.pairing) disks.old.first disks.old.second)) }
-    requires other { D.armed (chosen (is_second node.old.pairing) disks.old.second disks.old.first) ≡ armed_with (other_arming stopping) (D.moment (chosen (is_second node.old.pairing) disks.old.second disks.old.first)) }
+    requires stands { NodeStands node.old (image_now (D.view disks.old.first)) (image_now (D.view disks.old.second)) }
+    requires armed { (D.view (chosen (is_second node.old.pairing) disks.old.first disks.old.second)).armed ≡ armed_with (counting_arming stopping)
+        (D.view (chosen (is_second node.old.pairing) disks.old.first disks.old.second)).moment }
+    requires other { (D.view (chosen (is_second node.old.pairing) disks.old.second disks.old.first)).armed ≡ armed_with (other_arming stopping)
+        (D.view (chosen (is_second node.old.pairing) disks.old.second disks.old.first)).moment }
     ensures tells { IfOk result (λ b. b ≡ has_changes (plan_of (site_at (here_of node.old) circuit.now) (cell_of node.old circuit.now) event.now).changes) }
-    ensures left { OnOk result (IfBoth (D.image_at disks.new.first (D.moment disks.new.first)) (D.image_at disks.new.second (D.moment disks.new.second)) (PicksMake (fill_of stopping) (here_of node.old) (cells_stopped (here_of node.old) (cell_of node.old) circuit.now (plan_of (site_at (here_of node.old) circuit.now) (cell_of node.old circuit.now) event.now).changes (keeps stopping)))) }
+    ensures left { OnOk result (IfBoth (image_now (D.view disks.new.first)) (image_now (D.view disks.new.second))
+        (PicksMake (fill_of stopping) (here_of node.old)
+        (cells_stopped (here_of node.old) (cell_of node.old) circuit.now
+        (plan_of (site_at (here_of node.old) circuit.now) (cell_of node.old circuit.now) event.now).changes (keeps stopping)))) }
     // Whatever the result, a stop leaves what stands for the cells before the event or for those behind the stop in it.
-    ensures leaves { PairLeaves (D.image_at disks.new.first) (D.moment disks.new.first) (D.moment disks.new.first) (D.image_at disks.new.second) (D.moment disks.new.second) (D.moment disks.new.second) (StandForEither (here_of node.old) (cell_of node.old) circuit.now (plan_of (site_at (here_of node.old) circuit.now) (cell_of node.old circuit.now) event.now).changes) }
-    ensures risen { OnOk result ((plan_of (site_at (here_of node.old) circuit.now) (cell_of node.old circuit.now) event.now).changes ≢ [] → passing stopping < 4 → Rose (D.faults disks.old.first) (D.faults disks.new.first) ⊎ Rose (D.faults disks.old.second) (D.faults disks.new.second)) }
+    ensures leaves { PairLeaves (pair_view D.view disks.new) (pair_view D.view disks.new)
+        (StandForEither (here_of node.old) (cell_of node.old) circuit.now
+        (plan_of (site_at (here_of node.old) circuit.now) (cell_of node.old circuit.now) event.now).changes) }
+    ensures risen { OnOk result ((plan_of (site_at (here_of node.old) circuit.now) (cell_of node.old circuit.now) event.now).changes ≢ []
+        → passing stopping < 4 → HasRisen (pair_view D.view disks.old) (pair_view D.view disks.new)) }
     // Where a call of a checkpoint didn't pass, the disk that doesn't count has failed.
-    ensures risen_other { OnOk result (FillsJournal (Some node.old) circuit.now (plan_of (site_at (here_of node.old) circuit.now) (cell_of node.old circuit.now) event.now).changes → IsInCheckpoint stopping → Rose (D.faults (chosen (is_second node.old.pairing) disks.old.second disks.old.first)) (D.faults (chosen (is_second node.old.pairing) disks.new.second disks.new.first))) }
-    ensures on_first { Onward (D.image_at disks.old.first) (D.image_at disks.new.first) (D.moment disks.old.first) (D.moment disks.new.first) (D.faults disks.old.first) (D.faults disks.new.first)
-        (D.armed disks.old.first) (D.armed disks.new.first) (D.picks disks.old.first) (D.picks disks.new.first) }
-    ensures on_second { Onward (D.image_at disks.old.second) (D.image_at disks.new.second) (D.moment disks.old.second) (D.moment disks.new.second) (D.faults disks.old.second) (D.faults disks.new.second)
-        (D.armed disks.old.second) (D.armed disks.new.second) (D.picks disks.old.second) (D.picks disks.new.second) }
+    ensures risen_other { OnOk result (FillsJournal (Some node.old) circuit.now
+        (plan_of (site_at (here_of node.old) circuit.now) (cell_of node.old circuit.now) event.now).changes → IsInCheckpoint stopping
+        → Rose (D.view (chosen (is_second node.old.pairing) disks.old.second disks.old.first)).faults
+        (D.view (chosen (is_second node.old.pairing) disks.new.second disks.new.first)).faults) }
+    ensures onward { PairOnward (pair_view D.view disks.old) (pair_view D.view disks.new) }
 {
     match node.step(alloc, disks, circuit, event) {
         Ok(outcome) => Ok(outcome.changed),
@@ -158,18 +161,26 @@ pub(crate) fn handle_armed<D: StopDisk>(
     requires running { is_halted node.old ≡ false }
     requires own { IfSome (option_copied event) (IsFor (site_at (here_of node.old) circuit.now)) }
     requires calls { IsStopping stopping }
-    requires stands { NodeStands node.old (D.image_at disks.old.first (D.moment disks.old.first)) (D.image_at disks.old.second (D.moment disks.old.second)) }
-    requires armed { D.armed (chosen (is_second node.old.pairing) disks.old.first disks.old.second) ≡ armed_with (counting_arming stopping) (D.moment (chosen (is_second node.old.pairing) disks.old.first disks.old.second)) }
-    requires other { D.armed (chosen (is_second node.old.pairing) disks.old.second disks.old.first) ≡ armed_with (other_arming stopping) (D.moment (chosen (is_second node.old.pairing) disks.old.second disks.old.first)) }
+    requires stands { NodeStands node.old (image_now (D.view disks.old.first)) (image_now (D.view disks.old.second)) }
+    requires armed { (D.view (chosen (is_second node.old.pairing) disks.old.first disks.old.second)).armed ≡ armed_with (counting_arming stopping)
+        (D.view (chosen (is_second node.old.pairing) disks.old.first disks.old.second)).moment }
+    requires other { (D.view (chosen (is_second node.old.pairing) disks.old.second disks.old.first)).armed ≡ armed_with (other_arming stopping)
+        (D.view (chosen (is_second node.old.pairing) disks.old.second disks.old.first)).moment }
     ensures tells { IfOk result (λ b. b ≡ has_changes (event_changes (here_of node.old) (cell_of node.old) circuit.now (option_copied event.entry))) }
-    ensures left { OnOk result (IfBoth (D.image_at disks.new.first (D.moment disks.new.first)) (D.image_at disks.new.second (D.moment disks.new.second)) (PicksMake (fill_of stopping) (here_of node.old) (cells_stopped (here_of node.old) (cell_of node.old) circuit.now (event_changes (here_of node.old) (cell_of node.old) circuit.now (option_copied event.entry)) (keeps stopping)))) }
-    ensures leaves { PairLeaves (D.image_at disks.new.first) (D.moment disks.new.first) (D.moment disks.new.first) (D.image_at disks.new.second) (D.moment disks.new.second) (D.moment disks.new.second) (StandForEither (here_of node.old) (cell_of node.old) circuit.now (event_changes (here_of node.old) (cell_of node.old) circuit.now (option_copied event.entry))) }
-    ensures risen { OnOk result ((event_changes (here_of node.old) (cell_of node.old) circuit.now (option_copied event.entry)) ≢ [] → passing stopping < 4 → Rose (D.faults disks.old.first) (D.faults disks.new.first) ⊎ Rose (D.faults disks.old.second) (D.faults disks.new.second)) }
-    ensures risen_other { OnOk result (FillsJournal (Some node.old) circuit.now (event_changes (here_of node.old) (cell_of node.old) circuit.now (option_copied event.entry)) → IsInCheckpoint stopping → Rose (D.faults (chosen (is_second node.old.pairing) disks.old.second disks.old.first)) (D.faults (chosen (is_second node.old.pairing) disks.new.second disks.new.first))) }
-    ensures on_first { Onward (D.image_at disks.old.first) (D.image_at disks.new.first) (D.moment disks.old.first) (D.moment disks.new.first) (D.faults disks.old.first) (D.faults disks.new.first)
-        (D.armed disks.old.first) (D.armed disks.new.first) (D.picks disks.old.first) (D.picks disks.new.first) }
-    ensures on_second { Onward (D.image_at disks.old.second) (D.image_at disks.new.second) (D.moment disks.old.second) (D.moment disks.new.second) (D.faults disks.old.second) (D.faults disks.new.second)
-        (D.armed disks.old.second) (D.armed disks.new.second) (D.picks disks.old.second) (D.picks disks.new.second) }
+    ensures left { OnOk result (IfBoth (image_now (D.view disks.new.first)) (image_now (D.view disks.new.second))
+        (PicksMake (fill_of stopping) (here_of node.old)
+        (cells_stopped (here_of node.old) (cell_of node.old) circuit.now
+        (event_changes (here_of node.old) (cell_of node.old) circuit.now (option_copied event.entry)) (keeps stopping)))) }
+    ensures leaves { PairLeaves (pair_view D.view disks.new) (pair_view D.view disks.new)
+        (StandForEither (here_of node.old) (cell_of node.old) circuit.now
+        (event_changes (here_of node.old) (cell_of node.old) circuit.now (option_copied event.entry))) }
+    ensures risen { OnOk result ((event_changes (here_of node.old) (cell_of node.old) circuit.now (option_copied event.entry)) ≢ []
+        → passing stopping < 4 → HasRisen (pair_view D.view disks.old) (pair_view D.view disks.new)) }
+    ensures risen_other { OnOk result (FillsJournal (Some node.old) circuit.now
+        (event_changes (here_of node.old) (cell_of node.old) circuit.now (option_copied event.entry)) → IsInCheckpoint stopping
+        → Rose (D.view (chosen (is_second node.old.pairing) disks.old.second disks.old.first)).faults
+        (D.view (chosen (is_second node.old.pairing) disks.new.second disks.new.first)).faults) }
+    ensures onward { PairOnward (pair_view D.view disks.old) (pair_view D.view disks.new) }
 {
     match event {
         None => Ok(false),

@@ -46,7 +46,7 @@ pub enum Requested<V> {
 }
 
 /// What a request leads to where a round is promised.
-#[derive(Clone, Copy, Debug, PartialEq, Eq)]
+#[derive(Clone, Copy, PartialEq, Eq)]
 pub enum Again {
     /// It is the promised round: the vote is yes again.
     Yes,

@@ -15,7 +15,7 @@ use Rattle.spl_sched.specs.declared.line.Step.{Step}
 use Rattle.spl_sched.specs.declared.line.Step.TheVariants as step
 use Rattle.spl_sched.specs.Grammar.{step_node}
 use Rattle.spl_rules.specs.Changes.{made, stopped_cell, after_plan}
-use Rattle.spl_model.specs.Worlds.{Sent, World, site_at, first_world, put_at, on_pair, messages, posted, delivery, step_plan, carried_out, step_world, stopped, started, halted, Occurrence, Steps, Stops, Starts, Halts, happens, occur}
+use Rattle.spl_model.specs.Worlds.{Sent, Origin, World, site_at, first_world, put_at, on_pair, messages, posted, delivery, step_plan, carried_out, step_world, stopped, started, halted, Occurrence, Steps, Stops, Starts, Halts, happens, occur}
 use Rattle.spl_model.specs.Projection.{proposed_members, step_concerns}
 use Rattle.spl_model.specs.Plain.{IsPlainEvent, IsPlainStep}
 use Rattle.spl_model.proofs.Nodes.{node_cases}
@@ -43,8 +43,8 @@ module _ (ns : List NodeId) where
     pub cells : (n : NodeId) → IsCellWithin ns n (w.at n)
     pub sent : AllSent w.sent
 
-  pub confined-first : (all : List NodeId) → IsConfined (first_world all)
-  confined-first all = record { cells = λ n. tt; sent = refl }
+  pub confined-first : (o : Origin) (c : CircuitId) → ((n : NodeId) → IsCellWithin ns n (o.kept c n)) → IsConfined (first_world o c)
+  confined-first o c h = record { cells = h; sent = refl }
 
   all-sent : (xs ys : List Sent) → AllSent xs → AllSent ys → AllSent (xs ++ ys)
   all-sent [] ys h k = k

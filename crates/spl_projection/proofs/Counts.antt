@@ -5,7 +5,7 @@ use Rattle.spl_circuit.specs.Nodes.{NodeId, CircuitId}
 use Rattle.spl_circuit.specs.Same.{node_same, node_is}
 use Rattle.spl_sched.specs.declared.line.Line.{Line}
 use Rattle.spl_sched.specs.declared.line.Line.TheVariants as line
-use Rattle.spl_model.specs.Worlds.{World, Occurrence, first_world}
+use Rattle.spl_model.specs.Worlds.{Origin, IsOrigin, World, Occurrence, first_world}
 use Rattle.spl_model.specs.Projection.{Ran, lines_fit, names, concerned}
 use Rattle.spl_model.specs.Calm.{calm}
 use Rattle.spl_model.specs.Answers.{occurrences_in, world_before}
@@ -23,25 +23,25 @@ events-same ns ws vs (line.Calm c k) h =
     ap (λ (es : List Occurrence). length es) (calm-alike (ns c) c (ws c) (vs c) k p.alike p.confined).happened
 events-same ns ws vs _ h = refl
 
-events-append : (ns : List NodeId) (before xs : List Ran) (r : Ran) → events_behind ns before (xs ++ r ∷ []) ≡ events_behind ns before xs + line_events (λ c. world_before ns c (before ++ xs) r) r.line
-events-append ns before [] r =
-    let same : line_events (λ c. world_before ns c before r) r.line ≡ line_events (λ c. world_before ns c (before ++ []) r) r.line = ap (λ (bs : List Ran). line_events (λ c. world_before ns c bs r) r.line) (sym (append-nil before)) in
+events-append : (o : Origin) (before xs : List Ran) (r : Ran) → events_behind o before (xs ++ r ∷ []) ≡ events_behind o before xs + line_events (λ c. world_before o c (before ++ xs) r) r.line
+events-append o before [] r =
+    let same : line_events (λ c. world_before o c before r) r.line ≡ line_events (λ c. world_before o c (before ++ []) r) r.line = ap (λ (bs : List Ran). line_events (λ c. world_before o c bs r) r.line) (sym (append-nil before)) in
     omega (arith, same)
-events-append ns before (x ∷ xs) r =
-    let rest = events-append ns (before ++ x ∷ []) xs r in
-    let same : line_events (λ c. world_before ns c ((before ++ x ∷ []) ++ xs) r) r.line ≡ line_events (λ c. world_before ns c (before ++ x ∷ xs) r) r.line = ap (λ (bs : List Ran). line_events (λ c. world_before ns c bs r) r.line) (append_assoc before (x ∷ []) xs) in
+events-append o before (x ∷ xs) r =
+    let rest = events-append o (before ++ x ∷ []) xs r in
+    let same : line_events (λ c. world_before o c ((before ++ x ∷ []) ++ xs) r) r.line ≡ line_events (λ c. world_before o c (before ++ x ∷ xs) r) r.line = ap (λ (bs : List Ran). line_events (λ c. world_before o c bs r) r.line) (append_assoc before (x ∷ []) xs) in
     omega (arith, rest, same)
 
-line-whole : (ns : List NodeId) (before : List Ran) (r : Ran) → lines_fit (before ++ r ∷ []) ≡ true → line_events (λ c. world_before ns c before r) r.line ≡ line_events (λ c. whole_world ns c before) r.line
-line-whole ns before r f = events-same (λ c. concerned c (before ++ r ∷ [])) (λ c. world_before ns c before r) (λ c. whole_world ns c before) r.line (λ c q. pair-before ns c before r f)
+line-whole : (o : Origin) (before : List Ran) (r : Ran) → IsOrigin o → lines_fit (before ++ r ∷ []) ≡ true → line_events (λ c. world_before o c before r) r.line ≡ line_events (λ c. whole_world o c before) r.line
+line-whole o before r i f = events-same (λ c. concerned o c (before ++ r ∷ [])) (λ c. world_before o c before r) (λ c. whole_world o c before) r.line (λ c q. pair-before o c before r i f)
 
-pub events-none : (ns : List NodeId) → events_of ns [] ≡ 0
+pub events-none : (o : Origin) → events_of o [] ≡ 0
 unfolding events_of
-events-none ns = refl
+events-none o = refl
 
-pub events-more : (ns : List NodeId) (before : List Ran) (r : Ran) → lines_fit (before ++ r ∷ []) ≡ true → events_of ns (before ++ r ∷ []) ≡ events_of ns before + line_events (λ c. whole_world ns c before) r.line
+pub events-more : (o : Origin) (before : List Ran) (r : Ran) → IsOrigin o → lines_fit (before ++ r ∷ []) ≡ true → events_of o (before ++ r ∷ []) ≡ events_of o before + line_events (λ c. whole_world o c before) r.line
 unfolding events_of
-events-more ns before r f = events-append ns [] before r ∙ ap (λ (n : ℕ). events_behind ns [] before + n) (line-whole ns before r f)
+events-more o before r i f = events-append o [] before r ∙ ap (λ (n : ℕ). events_behind o [] before + n) (line-whole o before r i f)
 
 -- ---- what happens in the world of a circuit
 
@@ -66,15 +66,15 @@ few-named worlds c (line.Fail call s) kept q = omega arith
 few-in : (worlds : CircuitId → World) (c : CircuitId) (r : Ran) → length (happened_in c (worlds c) r) ≤ line_events worlds r.line
 few-in worlds c r = if_holds (λ (es : List Occurrence). length es ≤ line_events worlds r.line) (names c r.line) _ _ (λ q. few-named worlds c r.line r.kept q) (λ q. few-beside worlds r.line)
 
-few-behind : (ns : List NodeId) (c : CircuitId) (before rs : List Ran) → lines_fit (before ++ rs) ≡ true → length (happened_from c (whole_world ns c before) rs) ≤ events_behind ns before rs
-few-behind ns c before [] f = omega arith
-few-behind ns c before (r ∷ rs) f =
+few-behind : (o : Origin) (c : CircuitId) (before rs : List Ran) → IsOrigin o → lines_fit (before ++ rs) ≡ true → length (happened_from c (whole_world o c before) rs) ≤ events_behind o before rs
+few-behind o c before [] i f = omega arith
+few-behind o c before (r ∷ rs) i f =
     let all : lines_fit ((before ++ r ∷ []) ++ rs) ≡ true = subst (λ (xs : List Ran). lines_fit xs ≡ true) (sym (append_assoc before (r ∷ []) rs)) f in
-    let same : line_events (λ d. world_before ns d before r) r.line ≡ line_events (λ d. whole_world ns d before) r.line = line-whole ns before r (fits-left (before ++ r ∷ []) rs all) in
-    let next : whole_world ns c (before ++ r ∷ []) ≡ world_after c (whole_world ns c before) r = whole_from-append c (first_world ns) before (r ∷ []) in
-    let rest : length (happened_from c (world_after c (whole_world ns c before) r) rs) ≤ events_behind ns (before ++ r ∷ []) rs = subst (λ (w : World). length (happened_from c w rs) ≤ events_behind ns (before ++ r ∷ []) rs) next (few-behind ns c (before ++ r ∷ []) rs all) in
-    omega (arith, same, rest, few-in (λ d. whole_world ns d before) c r, length-append (happened_in c (whole_world ns c before) r) (happened_from c (world_after c (whole_world ns c before) r) rs))
+    let same : line_events (λ d. world_before o d before r) r.line ≡ line_events (λ d. whole_world o d before) r.line = line-whole o before r i (fits-left (before ++ r ∷ []) rs all) in
+    let next : whole_world o c (before ++ r ∷ []) ≡ world_after c (whole_world o c before) r = whole_from-append c (first_world o c) before (r ∷ []) in
+    let rest : length (happened_from c (world_after c (whole_world o c before) r) rs) ≤ events_behind o (before ++ r ∷ []) rs = subst (λ (w : World). length (happened_from c w rs) ≤ events_behind o (before ++ r ∷ []) rs) next (few-behind o c (before ++ r ∷ []) rs i all) in
+    omega (arith, same, rest, few-in (λ d. whole_world o d before) c r, length-append (happened_in c (whole_world o c before) r) (happened_from c (world_after c (whole_world o c before) r) rs))
 
-pub happened-few : (ns : List NodeId) (c : CircuitId) (rs : List Ran) → lines_fit rs ≡ true → length (whole_happened ns c rs) ≤ events_of ns rs
+pub happened-few : (o : Origin) (c : CircuitId) (rs : List Ran) → IsOrigin o → lines_fit rs ≡ true → length (whole_happened o c rs) ≤ events_of o rs
 unfolding events_of
-happened-few ns c rs f = few-behind ns c [] rs f
+happened-few o c rs i f = few-behind o c [] rs i f

@@ -18,7 +18,7 @@ use Rattle.spl_wire.specs.declared.answer.Bit.TheVariants as bit
 use Rattle.spl_sched.specs.declared.line.Step.TheVariants as step
 use Rattle.spl_sched.specs.declared.line.Line.{Line}
 use Rattle.spl_sched.specs.declared.line.Line.TheVariants as line
-use Rattle.spl_model.specs.Worlds.{put_at}
+use Rattle.spl_model.specs.Worlds.{put_at, blank}
 use Rattle.spl_model.specs.Projection.{own}
 use Rattle.spl_model.specs.Outcomes.{all_by_rule}
 use Rattle.spl_model.specs.Answers.{answer_to, answers}
@@ -60,7 +60,7 @@ abbrev hands : NodeId → NodeId → ℕ → Line
 hands from to k = line.Step (step.Deliver from to first k)
 
 abbrev run : List Line → List Answer
-run ls = answers registered [] (all_by_rule ls)
+run ls = answers (blank registered) [] (all_by_rule ls)
 
 -- a stop forgets an open round, and its number isn't used again
 stop_and_start : run (at alpha first (event.Propose (trade first)) ∷ at alpha first event.Tick ∷ line.Stop alpha ∷ line.Start alpha ∷ hands alpha beta 1 ∷ hands beta alpha 1 ∷ at beta first event.Tick ∷ hands beta alpha 2 ∷ hands alpha beta 2 ∷ at alpha first event.Tick ∷ [])
@@ -110,7 +110,7 @@ kept_in_another = refl
 abbrev one_circuit : List Line
 one_circuit = at alpha first (event.Propose (trade first)) ∷ at alpha first event.Tick ∷ line.Stop alpha ∷ line.Start alpha ∷ at alpha first event.Tick ∷ []
 
-own_lines : own first (all_by_rule (two_circuits 1)) ≡ own first (all_by_rule one_circuit)
+own_lines : own (blank registered) first (all_by_rule (two_circuits 1)) ≡ own (blank registered) first (all_by_rule one_circuit)
 own_lines = refl
 
 -- a node that a later line asks about: its earlier stop counts, and so does its start

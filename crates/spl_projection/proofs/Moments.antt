@@ -8,7 +8,7 @@ use Rattle.spl_sched.specs.declared.line.Step.TheVariants as step
 use Rattle.spl_sched.specs.declared.line.Line.{Line}
 use Rattle.spl_sched.specs.declared.line.Line.TheVariants as line
 use Rattle.spl_rules.specs.Cells.{Cell}
-use Rattle.spl_model.specs.Worlds.{World, messages, Occurrence, Steps, occur}
+use Rattle.spl_model.specs.Worlds.{Origin, IsOrigin, World, messages, Occurrence, Steps, occur}
 use Rattle.spl_model.specs.Calm.{Calming, calming_step, open_nodes, ticks, delivers, takes, pair_turn, to_all, from_all, pass, passes, calm}
 use Rattle.spl_model.specs.Projection.{Ran, plainly, lines_fit, names, concerned}
 use Rattle.spl_model.specs.Answers.{occurrences_in, circuit_world, world_before}
@@ -19,7 +19,7 @@ use Rattle.spl_projection.specs.Moments.{IsMoment, AreAtMoment}
 use Rattle.spl_projection.proofs.Confined.{step-here}
 use Rattle.spl_projection.proofs.Alike.{IsAlike, AllHere, run-alike, same-alike}
 use Rattle.spl_projection.proofs.Calms.{calm-alike}
-use Rattle.spl_projection.proofs.Owns.{IsPair, IsLineWithin, named-within, AllConcern, all-concern, within-same, fits-left, concern-left, pair-before, own-same}
+use Rattle.spl_projection.proofs.Owns.{IsPair, IsLineWithin, named-within, AllConcern, concerned-all, fits-left, concern-left, pair-before, own-same}
 
 module _ (ns : List NodeId) where
   -- the same happens in a line
@@ -50,24 +50,24 @@ module _ (ns : List NodeId) where
   )
 
 -- a moment of a line in the world behind all lines is one in the world of the circuit
-pub moment-whole : (ns : List NodeId) (c : CircuitId) (before : List Ran) (r : Ran) (m : World) → lines_fit (before ++ r ∷ []) ≡ true → names c r.line ≡ true → IsMoment (whole_world ns c before) r m → (n : World) × IsMoment (world_before ns c before r) r n × IsSameFor (concerned c (before ++ r ∷ [])) n m
-moment-whole ns c before r m f q i = moment-alike all (world_before ns c before r) (whole_world ns c before) m r (named-within all c r.line q (k.1.0 q)) (pair-before ns c before r f) i
+pub moment-whole : (o : Origin) (c : CircuitId) (before : List Ran) (r : Ran) (m : World) → IsOrigin o → lines_fit (before ++ r ∷ []) ≡ true → names c r.line ≡ true → IsMoment (whole_world o c before) r m → (n : World) × IsMoment (world_before o c before r) r n × IsSameFor (concerned o c (before ++ r ∷ [])) n m
+moment-whole o c before r m i f q w = moment-alike all (world_before o c before r) (whole_world o c before) m r (named-within all c r.line q (k.1.0 q)) (pair-before o c before r i f) w
   where
     all : List NodeId
-    all = concerned c (before ++ r ∷ [])
+    all = concerned o c (before ++ r ∷ [])
 
     k : AllConcern all c before × AllConcern all c (r ∷ [])
-    k = concern-left all c before (r ∷ []) (all-concern all c (before ++ r ∷ []) (within-same all))
+    k = concern-left all c before (r ∷ []) (concerned-all o c (before ++ r ∷ []))
 
 -- so what nodes keep at a moment
-pub cells-whole : (ns : List NodeId) (before : List Ran) (r : Ran) (cells : CircuitId → NodeId → Cell) → lines_fit (before ++ r ∷ []) ≡ true → AreAtMoment (λ c. whole_world ns c before) (λ c. whole_world ns c before) r cells → AreAtMoment (λ c. world_before ns c before r) (λ c. circuit_world ns c before) r cells
-cells-whole ns before r cells f k = record {
+pub cells-whole : (o : Origin) (before : List Ran) (r : Ran) (cells : CircuitId → NodeId → Cell) → IsOrigin o → lines_fit (before ++ r ∷ []) ≡ true → AreAtMoment (λ c. whole_world o c before) (λ c. whole_world o c before) r cells → AreAtMoment (λ c. world_before o c before r) (λ c. circuit_world o c before) r cells
+cells-whole o before r cells i f k = record {
   named = λ c q. named c q (k.named c q);
-  others = λ c q n. k.others c q n ∙ ap (λ (at : NodeId → Cell). at n) (sym ((own-same ns c before (fits-left before (r ∷ []) f)).at));
+  others = λ c q n. k.others c q n ∙ ap (λ (at : NodeId → Cell). at n) (sym ((own-same o c before i (fits-left before (r ∷ []) f)).at));
 }
   where
-    named : (c : CircuitId) → names c r.line ≡ true → (m : World) × IsMoment (whole_world ns c before) r m × ((n : NodeId) → cells c n ≡ m.at n) → (m : World) × IsMoment (world_before ns c before r) r m × ((n : NodeId) → cells c n ≡ m.at n)
-    named c q x = let y = moment-whole ns c before r x.0 f q x.1 in (y.0, y.1, λ n. x.2 n ∙ ap (λ (at : NodeId → Cell). at n) (sym y.2.at))
+    named : (c : CircuitId) → names c r.line ≡ true → (m : World) × IsMoment (whole_world o c before) r m × ((n : NodeId) → cells c n ≡ m.at n) → (m : World) × IsMoment (world_before o c before r) r m × ((n : NodeId) → cells c n ≡ m.at n)
+    named c q x = let y = moment-whole o c before r x.0 i f q x.1 in (y.0, y.1, λ n. x.2 n ∙ ap (λ (at : NodeId → Cell). at n) (sym y.2.at))
 
 -- ---- the moments of a calm
 

@@ -1,8 +1,12 @@
 -- A circuit's own lines, and all lines, keep two worlds alike.
 use Rattle.std.proofs.Common.{◌≡◌, ℕ, ◌^◌, ◌⊎◌, Bool, true, false, ◌&&◌, List, [], ◌∷◌, ◌++◌, append_assoc, refl, sym, ap, subst, ◌∙◌, inl, inr}
 use Rattle.std.specs.Prelude.{Option, Some, None, nat_le, nat_lt, if◌then◌else◌}
+use Rattle.std.specs.List.{list_all}
 use Rattle.std.specs.Str.{bytes_eq}
 use Rattle.spl_agree.proofs.Tests.{bool_cases, and_left, and_right, or_true}
+use Rattle.spl_circuit.specs.declared.act.ActKind.{ActKind}
+use Rattle.spl_circuit.specs.declared.act.ActKind.TheVariants as kind
+use Rattle.spl_circuit.specs.declared.act.Act.{Act}
 use Rattle.spl_circuit.specs.Nodes.{NodeId, CircuitId, has_node}
 use Rattle.spl_circuit.specs.Same.{node_is, node_same}
 use Rattle.spl_wire.specs.declared.answer.Answer.{Answer}
@@ -14,14 +18,14 @@ use Rattle.spl_sched.specs.declared.line.Step.{Step}
 use Rattle.spl_sched.specs.declared.line.Line.{Line}
 use Rattle.spl_sched.specs.declared.line.Line.TheVariants as line
 use Rattle.spl_sched.specs.Grammar.{step_node, step_circuit, is_step, is_fill, is_line, circuit_of}
-use Rattle.spl_rules.specs.Cells.{Empty}
+use Rattle.spl_rules.specs.Cells.{Cell, Empty, Held, Purged}
 use Rattle.spl_projection.specs.Same.{IsSameFor}
-use Rattle.spl_model.specs.Worlds.{World, first_world, step_plan, happens, Stops, Starts, Halts}
-use Rattle.spl_model.specs.Projection.{Ran, plainly, line_fits, lines_fit, names, names_circuit, line_concerns, concerned, at_one_of, beside, own_line, own_among}
+use Rattle.spl_model.specs.Worlds.{Origin, IsOrigin, World, first_world, step_plan, happens, Stops, Starts, Halts}
+use Rattle.spl_model.specs.Projection.{Ran, plainly, line_fits, lines_fit, names, names_circuit, line_concerns, lines_concern, kind_members, members_of_acts, kept_values, cell_concerns, cells_concern, concerned, at_one_of, beside, own_line, own_among}
 use Rattle.spl_model.specs.Answers.{bit_of, halt_answer, line_answer, line_world, lines_world, circuit_world, world_before, roll_answer, answer_to}
 use Rattle.spl_projection.specs.Whole.{world_beside, world_after, whole_from, whole_world}
 use Rattle.spl_model.proofs.LinesAsOccurrences.{plain-step}
-use Rattle.spl_projection.proofs.Within.{are_within, within-empty}
+use Rattle.spl_projection.proofs.Within.{are_within, is_kind_within, is_act_within, IsCellWithin, within-empty}
 use Rattle.spl_projection.proofs.Confined.{IsConfined, confined-first, IsStepWithin, step-here, confined-step, confined-happens}
 use Rattle.spl_projection.proofs.Alike.{IsAlike, alike-same, same-alike, up-alike, plan-alike, step-alike, happens-alike, stops-aside, starts-aside}
 use Rattle.spl_projection.proofs.Calms.{calm-alike}
@@ -39,8 +43,8 @@ module _ (ns : List NodeId) where
     pub alike : IsAlike ns w v
     pub confined : IsConfined ns v
 
-  pub pair-first : (all : List NodeId) → IsPair (first_world all) (first_world all)
-  pair-first all = record { alike = alike-same ns (first_world all); confined = confined-first ns all }
+  pub pair-first : (o : Origin) (c : CircuitId) → ((n : NodeId) → IsCellWithin ns n (o.kept c n)) → IsPair (first_world o c) (first_world o c)
+  pair-first o c h = record { alike = alike-same ns (first_world o c); confined = confined-first ns o c h }
 
   -- ---- a line that names the circuit, or is about one of the nodes
 
@@ -156,11 +160,11 @@ within-right ns [] ys h = h
 within-right ns (x ∷ xs) ys h = within-right ns xs ys (and_right (has_node ns x) (are_within ns (xs ++ ys)) h)
 
 -- what has all nodes concerned has those of each line
-pub all-concern : (ns : List NodeId) (c : CircuitId) (rs : List Ran) → are_within ns (concerned c rs) ≡ true → AllConcern ns c rs
+pub all-concern : (ns : List NodeId) (c : CircuitId) (rs : List Ran) → are_within ns (lines_concern c rs) ≡ true → AllConcern ns c rs
 all-concern ns c [] h = tt
 all-concern ns c (r ∷ rs) h = (
-  λ q. first q (within-left ns (if names c r.line then line_concerns r.line else []) (concerned c rs) h),
-  all-concern ns c rs (within-right ns (if names c r.line then line_concerns r.line else []) (concerned c rs) h),
+  λ q. first q (within-left ns (if names c r.line then line_concerns r.line else []) (lines_concern c rs) h),
+  all-concern ns c rs (within-right ns (if names c r.line then line_concerns r.line else []) (lines_concern c rs) h),
 )
   where
     first : names c r.line ≡ true → are_within ns (if names c r.line then line_concerns r.line else []) ≡ true → are_within ns (line_concerns r.line) ≡ true
@@ -174,11 +178,63 @@ within-by ns (x ∷ xs) h = rw (h x (rw (node_same x))) (within-by ns xs (λ n k
 pub within-same : (ns : List NodeId) → are_within ns ns ≡ true
 within-same ns = within-by ns ns (λ n h. h)
 
+-- ---- the cells that a run begins with
+
+-- what acts propose, one list after the other
+acts-within : (ns : List NodeId) (vs : List Act) → are_within ns (members_of_acts vs) ≡ true → list_all (is_act_within ns) vs ≡ true
+acts-within ns [] h = refl
+acts-within ns (v ∷ vs) h = rw (one v.kind (members_of_acts vs) h) (acts-within ns vs (rest v.kind (members_of_acts vs) h))
+  where
+    one : (k : ActKind) (ms : List NodeId) → are_within ns (kind_members k ++ ms) ≡ true → is_kind_within ns k ≡ true
+    one (kind.Propose d) ms x = within-left ns d.members ms x
+    one _ ms x = refl
+
+    rest : (k : ActKind) (ms : List NodeId) → are_within ns (kind_members k ++ ms) ≡ true → are_within ns ms ≡ true
+    rest k ms x = within-right ns (kind_members k) ms x
+
+all-left : {A : Type 0} (p : A → Bool) (xs ys : List A) → list_all p (xs ++ ys) ≡ true → list_all p xs ≡ true
+all-left p [] ys h = refl
+all-left p (x ∷ xs) ys h = rw (and_left (p x) (list_all p (xs ++ ys)) h) (all-left p xs ys (and_right (p x) (list_all p (xs ++ ys)) h))
+
+-- a cell is among the nodes that it concerns
+cell-within : (ns : List NodeId) (n : NodeId) (k : Cell) → are_within ns (cell_concerns n k) ≡ true → IsCellWithin ns n k
+cell-within ns n Empty h = tt
+cell-within ns n (Purged g) h = and_left (has_node ns n) (are_within ns []) h
+cell-within ns n (Held b) h =
+    let rest : are_within ns (b.definition.members ++ members_of_acts (kept_values b.acts)) ≡ true = and_right (has_node ns n) (are_within ns (b.definition.members ++ members_of_acts (kept_values b.acts))) h in (
+      and_left (has_node ns n) (are_within ns (b.definition.members ++ members_of_acts (kept_values b.acts))) h,
+      within-left ns b.definition.members (members_of_acts (kept_values b.acts)) rest,
+      all-left (is_act_within ns) b.acts.pending _ (acts-within ns (kept_values b.acts) (within-right ns b.definition.members (members_of_acts (kept_values b.acts)) rest)),
+    )
+
+-- so is each of these
+cells-within : (ns : List NodeId) (at : NodeId → Cell) (ms : List NodeId) (n : NodeId) → are_within ns (cells_concern at ms) ≡ true → has_node ms n ≡ true → IsCellWithin ns n (at n)
+cells-within ns at [] n h k = cc
+cells-within ns at (m ∷ ms) n h k = go (bool_cases (bytes_eq m n)) (cells-within ns at ms n (within-right ns (cell_concerns m (at m)) (cells_concern at ms) h))
+  where
+    go : (bytes_eq m n ≡ true) ⊎ (bytes_eq m n ≡ false) → (has_node ms n ≡ true → IsCellWithin ns n (at n)) → IsCellWithin ns n (at n)
+    go (inl q) rest = subst (λ (j : NodeId). IsCellWithin ns j (at j)) (node_is m n q) (cell-within ns m (at m) (within-left ns (cell_concerns m (at m)) (cells_concern at ms) h))
+    go (inr q) rest = rest (rw q at k)
+
+pub kept-within : (ns : List NodeId) (o : Origin) (c : CircuitId) → IsOrigin o → are_within ns (cells_concern (o.kept c) o.nodes) ≡ true → (n : NodeId) → IsCellWithin ns n (o.kept c n)
+kept-within ns o c i h n = go (bool_cases (has_node o.nodes n))
+  where
+    go : (has_node o.nodes n ≡ true) ⊎ (has_node o.nodes n ≡ false) → IsCellWithin ns n (o.kept c n)
+    go (inl q) = cells-within ns (o.kept c) o.nodes n h q
+    go (inr q) = subst (λ (k : Cell). IsCellWithin ns n k) (sym (i.only c n q)) tt
+
+-- what is concerned has all that the cells have, and what each line concerns
+pub concerned-keep : (o : Origin) (c : CircuitId) (rs : List Ran) → IsOrigin o → (n : NodeId) → IsCellWithin (concerned o c rs) n (o.kept c n)
+concerned-keep o c rs i = kept-within (concerned o c rs) o c i (within-left (concerned o c rs) (cells_concern (o.kept c) o.nodes) (lines_concern c rs) (within-same (concerned o c rs)))
+
+pub concerned-all : (o : Origin) (c : CircuitId) (rs : List Ran) → AllConcern (concerned o c rs) c rs
+concerned-all o c rs = all-concern (concerned o c rs) c rs (within-right (concerned o c rs) (cells_concern (o.kept c) o.nodes) (lines_concern c rs) (within-same (concerned o c rs)))
+
 -- ---- the laws
 
 -- the world of a circuit behind its own lines, and behind all lines
-pub own-pair : (ns : List NodeId) (c : CircuitId) (rs : List Ran) → lines_fit rs ≡ true → IsPair (concerned c rs) (circuit_world ns c rs) (whole_world ns c rs)
-own-pair ns c rs f = lines-pair (concerned c rs) c (first_world ns) (first_world ns) rs f (all-concern (concerned c rs) c rs (within-same (concerned c rs))) (pair-first (concerned c rs) ns)
+pub own-pair : (o : Origin) (c : CircuitId) (rs : List Ran) → IsOrigin o → lines_fit rs ≡ true → IsPair (concerned o c rs) (circuit_world o c rs) (whole_world o c rs)
+own-pair o c rs i f = lines-pair (concerned o c rs) c (first_world o c) (first_world o c) rs f (concerned-all o c rs) (pair-first (concerned o c rs) o c (concerned-keep o c rs i))
 
 -- own lines one list after the other
 pub own-append : (c : CircuitId) (ns : List NodeId) (xs ys : List Ran) → own_among c ns (xs ++ ys) ≡ own_among c ns xs ++ own_among c ns ys
@@ -194,14 +250,14 @@ concern-left ns c [] ys h = (tt, h)
 concern-left ns c (x ∷ xs) ys h = let k = concern-left ns c xs ys h.1 in ((h.0, k.0), k.1)
 
 -- the worlds in which a line runs, behind the own lines and behind all
-pub pair-before : (ns : List NodeId) (c : CircuitId) (before : List Ran) (r : Ran) → lines_fit (before ++ r ∷ []) ≡ true → IsPair (concerned c (before ++ r ∷ [])) (world_before ns c before r) (whole_world ns c before)
-pair-before ns c before r f = lines-pair all c (first_world ns) (first_world ns) before (fits-left before (r ∷ []) f) k.0 (pair-first all ns)
+pub pair-before : (o : Origin) (c : CircuitId) (before : List Ran) (r : Ran) → IsOrigin o → lines_fit (before ++ r ∷ []) ≡ true → IsPair (concerned o c (before ++ r ∷ [])) (world_before o c before r) (whole_world o c before)
+pair-before o c before r i f = lines-pair all c (first_world o c) (first_world o c) before (fits-left before (r ∷ []) f) k.0 (pair-first all o c (concerned-keep o c (before ++ r ∷ []) i))
   where
     all : List NodeId
-    all = concerned c (before ++ r ∷ [])
+    all = concerned o c (before ++ r ∷ [])
 
     k : AllConcern all c before × AllConcern all c (r ∷ [])
-    k = concern-left all c before (r ∷ []) (all-concern all c (before ++ r ∷ []) (within-same all))
+    k = concern-left all c before (r ∷ []) (concerned-all o c (before ++ r ∷ []))
 
 -- which circuit a line names
 pub names-is : (c : CircuitId) (l : Line) → names c l ≡ true → circuit_of l ≡ Some c
@@ -231,24 +287,24 @@ answer-alike ws vs roll (line.Fail call s) kept h =
 answer-alike ws vs roll _ kept h = refl
 
 -- among any nodes that have all that is concerned, the world behind the own lines is alike to the one behind all lines
-pub alike-for : (all ns : List NodeId) (c : CircuitId) (before : List Ran) (r : Ran) → lines_fit (before ++ r ∷ []) ≡ true → AllConcern ns c (before ++ r ∷ []) → names c r.line ≡ true → IsAlikeFor r.line (lines_world (first_world all) (own_among c ns before)) (whole_world all c before)
-alike-for all ns c before r f h q = record { nodes = ns; within = named-within ns c r.line q (k.1.0 q); alike = p.alike }
+pub alike-for : (o : Origin) (ns : List NodeId) (c : CircuitId) (before : List Ran) (r : Ran) → ((n : NodeId) → IsCellWithin ns n (o.kept c n)) → lines_fit (before ++ r ∷ []) ≡ true → AllConcern ns c (before ++ r ∷ []) → names c r.line ≡ true → IsAlikeFor r.line (lines_world (first_world o c) (own_among c ns before)) (whole_world o c before)
+alike-for o ns c before r i f h q = record { nodes = ns; within = named-within ns c r.line q (k.1.0 q); alike = p.alike }
   where
     k : AllConcern ns c before × AllConcern ns c (r ∷ [])
     k = concern-left ns c before (r ∷ []) h
 
-    p : IsPair ns (lines_world (first_world all) (own_among c ns before)) (whole_world all c before)
-    p = lines-pair ns c (first_world all) (first_world all) before (fits-left before (r ∷ []) f) k.0 (pair-first ns all)
+    p : IsPair ns (lines_world (first_world o c) (own_among c ns before)) (whole_world o c before)
+    p = lines-pair ns c (first_world o c) (first_world o c) before (fits-left before (r ∷ []) f) k.0 (pair-first ns o c i)
 
-pub answer-whole : (ns : List NodeId) (before : List Ran) (r : Ran) → lines_fit (before ++ r ∷ []) ≡ true → answer_to ns before r ≡ line_answer (λ c. whole_world ns c before) (λ n. roll_answer ns (before ++ r ∷ []) n) r.line r.kept
+pub answer-whole : (o : Origin) (before : List Ran) (r : Ran) → IsOrigin o → lines_fit (before ++ r ∷ []) ≡ true → answer_to o before r ≡ line_answer (λ c. whole_world o c before) (λ n. roll_answer o (before ++ r ∷ []) n) r.line r.kept
 unfolding answer_to
-answer-whole ns before r f = answer-alike (λ c. world_before ns c before r) (λ c. whole_world ns c before) (λ n. roll_answer ns (before ++ r ∷ []) n) r.line r.kept
-    (λ c q. alike-for ns (concerned c (before ++ r ∷ [])) c before r f (all-concern (concerned c (before ++ r ∷ [])) c (before ++ r ∷ []) (within-same (concerned c (before ++ r ∷ [])))) q)
+answer-whole o before r i f = answer-alike (λ c. world_before o c before r) (λ c. whole_world o c before) (λ n. roll_answer o (before ++ r ∷ []) n) r.line r.kept
+    (λ c q. alike-for o (concerned o c (before ++ r ∷ [])) c before r (concerned-keep o c (before ++ r ∷ []) i) f (concerned-all o c (before ++ r ∷ [])) q)
 
 -- nothing is kept at a node that isn't concerned
-pub elsewhere-empty : (ns : List NodeId) (c : CircuitId) (rs : List Ran) (n : NodeId) → lines_fit rs ≡ true → has_node (concerned c rs) n ≡ false → (whole_world ns c rs).at n ≡ Empty
-elsewhere-empty ns c rs n f h = within-empty (concerned c rs) n ((whole_world ns c rs).at n) h ((own-pair ns c rs f).confined.cells n)
+pub elsewhere-empty : (o : Origin) (c : CircuitId) (rs : List Ran) (n : NodeId) → IsOrigin o → lines_fit rs ≡ true → has_node (concerned o c rs) n ≡ false → (whole_world o c rs).at n ≡ Empty
+elsewhere-empty o c rs n i f h = within-empty (concerned o c rs) n ((whole_world o c rs).at n) h ((own-pair o c rs i f).confined.cells n)
 
 -- the two worlds
-pub own-same : (ns : List NodeId) (c : CircuitId) (rs : List Ran) → lines_fit rs ≡ true → IsSameFor (concerned c rs) (circuit_world ns c rs) (whole_world ns c rs)
-own-same ns c rs f = same-alike (concerned c rs) (circuit_world ns c rs) (whole_world ns c rs) (own-pair ns c rs f).alike
+pub own-same : (o : Origin) (c : CircuitId) (rs : List Ran) → IsOrigin o → lines_fit rs ≡ true → IsSameFor (concerned o c rs) (circuit_world o c rs) (whole_world o c rs)
+own-same o c rs i f = same-alike (concerned o c rs) (circuit_world o c rs) (whole_world o c rs) (own-pair o c rs i f).alike

@@ -12,7 +12,7 @@ use Rattle.spl_sched.specs.declared.line.Step.{Step}
 use Rattle.spl_sched.specs.declared.line.Line.{Line}
 use Rattle.spl_sched.specs.declared.line.Line.TheVariants as line
 use Rattle.spl_sched.specs.Grammar.{step_node, step_circuit}
-use Rattle.spl_model.specs.Worlds.{World, IsUnmoved, Stops, happens, step_plan}
+use Rattle.spl_model.specs.Worlds.{Origin, IsOrigin, World, IsUnmoved, Stops, happens, step_plan}
 use Rattle.spl_model.specs.Projection.{Ran, names, lines_fit}
 use Rattle.spl_model.specs.Answers.{bit_of, halt_answer, line_answer, roll_answer, answer_to}
 use Rattle.spl_model.proofs.Unmoved.{unmoved-same, unmoved-line}
@@ -21,9 +21,9 @@ use Rattle.spl_projection.specs.Apart.{moves-own, moves-beside}
 use Rattle.spl_projection.proofs.Owns.{answer-whole}
 use Rattle.spl_projection.proofs.Ups.{whole-up}
 
-module _ (ns : List NodeId) (before : List Ran) (why : Refusal) where
+module _ (o : Origin) (before : List Ran) (why : Refusal) where
   abbrev worlds : CircuitId → World
-  worlds i = whole_world ns i before
+  worlds i = whole_world o i before
 
   -- where a stop in a step is refused, its node is down already, in the world of each circuit
   unmoved-stop : (say : Bit → Answer) (s : Step) (kept : Bool) (c : CircuitId) → ((b : Bit) → say b ≡ answer.Refused why → ⊥) → halt_answer say (worlds (step_circuit s)) s kept ≡ answer.Refused why → IsUnmoved (worlds c) (happens (worlds c) (Stops (step_node s)))
@@ -34,7 +34,7 @@ module _ (ns : List NodeId) (before : List Ran) (why : Refusal) where
       here = worlds (step_circuit s)
 
       there : (worlds c).up (step_node s) ≡ true → here.up (step_node s) ≡ true
-      there q = whole-up ns (step_circuit s) before (step_node s) ∙ (sym (whole-up ns c before (step_node s)) ∙ q)
+      there q = whole-up o (step_circuit s) before (step_node s) ∙ (sym (whole-up o c before (step_node s)) ∙ q)
 
       up : here.up (step_node s) ≡ true → halt_answer say here s kept ≡ say (bit_of kept (step_plan here s).changes)
       up q = ap (λ (b : Bool). if b then say (bit_of kept (step_plan here s).changes) else answer.Refused refusal.Down) q
@@ -46,15 +46,15 @@ module _ (ns : List NodeId) (before : List Ran) (why : Refusal) where
   unmoved-beside roll (line.Fail call s) kept c h = unmoved-stop answer.Fault s kept c (λ b x. cc) h
   unmoved-beside roll _ kept c h = unmoved-same (worlds c)
 
-pub unmoved-worlds : (ns : List NodeId) (before : List Ran) (r : Ran) (why : Refusal) (c : CircuitId) → lines_fit (before ++ r ∷ []) ≡ true → answer_to ns before r ≡ answer.Refused why → IsUnmoved (whole_world ns c before) (whole_world ns c (before ++ r ∷ []))
-unmoved-worlds ns before r why c f h = go (bool_cases (names c r.line))
+pub unmoved-worlds : (o : Origin) (before : List Ran) (r : Ran) (why : Refusal) (c : CircuitId) → IsOrigin o → lines_fit (before ++ r ∷ []) ≡ true → answer_to o before r ≡ answer.Refused why → IsUnmoved (whole_world o c before) (whole_world o c (before ++ r ∷ []))
+unmoved-worlds o before r why c i f h = go (bool_cases (names c r.line))
   where
     roll : NodeId → Answer
-    roll n = roll_answer ns (before ++ r ∷ []) n
+    roll n = roll_answer o (before ++ r ∷ []) n
 
-    told : line_answer (λ i. whole_world ns i before) roll r.line r.kept ≡ answer.Refused why
-    told = sym (answer-whole ns before r f) ∙ h
+    told : line_answer (λ d. whole_world o d before) roll r.line r.kept ≡ answer.Refused why
+    told = sym (answer-whole o before r i f) ∙ h
 
-    go : (names c r.line ≡ true) ⊎ (names c r.line ≡ false) → IsUnmoved (whole_world ns c before) (whole_world ns c (before ++ r ∷ []))
-    go (inl q) = subst (λ (w : World). IsUnmoved (whole_world ns c before) w) (sym (moves-own ns before r c q)) (unmoved-line (λ i. whole_world ns i before) roll r.line r.kept why c q told)
-    go (inr q) = subst (λ (w : World). IsUnmoved (whole_world ns c before) w) (sym (moves-beside ns before r c q)) (unmoved-beside ns before why roll r.line r.kept c told)
+    go : (names c r.line ≡ true) ⊎ (names c r.line ≡ false) → IsUnmoved (whole_world o c before) (whole_world o c (before ++ r ∷ []))
+    go (inl q) = subst (λ (w : World). IsUnmoved (whole_world o c before) w) (sym (moves-own o before r c q)) (unmoved-line (λ d. whole_world o d before) roll r.line r.kept why c q told)
+    go (inr q) = subst (λ (w : World). IsUnmoved (whole_world o c before) w) (sym (moves-beside o before r c q)) (unmoved-beside o before why roll r.line r.kept c told)

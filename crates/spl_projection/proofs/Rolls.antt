@@ -11,13 +11,13 @@ use Rattle.spl_circuit.specs.Same.{node_is, node_same}
 use Rattle.spl_circuit.proofs.Order.{same_from_ties, not_below_itself}
 use Rattle.spl_circuit.proofs.Sorting.{has_sorted, weaken, ascends_on}
 use Rattle.spl_sched.specs.Grammar.{circuit_of}
-use Rattle.spl_rules.specs.Cells.{Empty, is_bound}
-use Rattle.spl_model.specs.Worlds.{World, first_world}
+use Rattle.spl_rules.specs.Cells.{Cell, Empty, is_bound}
+use Rattle.spl_model.specs.Worlds.{Origin, IsOrigin, World, first_world}
 use Rattle.spl_model.specs.Projection.{Ran, lines_fit, names, names_circuit, own_among}
-use Rattle.spl_model.specs.Answers.{lines_world, circuit_world, and_circuit, circuits_in, bound_at}
+use Rattle.spl_model.specs.Answers.{lines_world, circuit_world, and_circuit, and_circuits, circuits_in, bound_at}
 use Rattle.spl_projection.specs.Whole.{whole_world}
 use Rattle.spl_model.proofs.Nodes.{node_not}
-use Rattle.spl_projection.proofs.Within.{within-empty}
+use Rattle.spl_projection.proofs.Within.{IsCellWithin, within-empty}
 use Rattle.spl_projection.proofs.Owns.{IsPair, pair-first, AllConcern, lines-pair, own-pair}
 
 -- ---- lists of ids
@@ -164,54 +164,69 @@ has_and (Some i) cs c = go (bool_cases (has_node cs i))
     go (inr q) = rw q
 
 -- each once
-circuits-ascend : (rs : List Ran) → ascends (sorted (circuits_in rs)) ≡ true
-circuits-ascend [] = refl
-circuits-ascend (r ∷ rs) = more (circuit_of r.line) (circuits_in rs) (circuits-ascend rs)
-  where
-    more : (o : Option NodeId) (cs : List NodeId) → ascends (sorted cs) ≡ true → ascends (sorted (and_circuit o cs)) ≡ true
-    more None cs h = h
-    more (Some i) cs h = if_holds (λ (xs : List NodeId). ascends (sorted xs) ≡ true) (has_node cs i) cs (i ∷ cs) (λ q. h) (λ q. inserted-ascends i (sorted cs) (has_sorted cs i ∙ q) h)
+more-ascends : (i : Option NodeId) (cs : List NodeId) → ascends (sorted cs) ≡ true → ascends (sorted (and_circuit i cs)) ≡ true
+more-ascends None cs h = h
+more-ascends (Some i) cs h = if_holds (λ (xs : List NodeId). ascends (sorted xs) ≡ true) (has_node cs i) cs (i ∷ cs) (λ q. h) (λ q. inserted-ascends i (sorted cs) (has_sorted cs i ∙ q) h)
 
--- where no line names a circuit, its cells are empty
-unnamed : (c : CircuitId) (rs : List Ran) → has_node (circuits_in rs) c ≡ false → AllConcern [] c rs
-unnamed c [] h = tt
-unnamed c (r ∷ rs) h = ((λ q. absurd (not_named q)), unnamed c rs (or_right (names c r.line) (has_node (circuits_in rs) c) none))
+all-ascend : (ds cs : List NodeId) → ascends (sorted cs) ≡ true → ascends (sorted (and_circuits ds cs)) ≡ true
+all-ascend [] cs h = h
+all-ascend (d ∷ ds) cs h = more-ascends (Some d) (and_circuits ds cs) (all-ascend ds cs h)
+
+circuits-ascend : (o : Origin) (rs : List Ran) → ascends (sorted (circuits_in o rs)) ≡ true
+circuits-ascend o [] = all-ascend o.circuits [] refl
+circuits-ascend o (r ∷ rs) = more-ascends (circuit_of r.line) (circuits_in o rs) (circuits-ascend o rs)
+
+-- where no node keeps anything of a circuit at first and no line names it, its cells are empty
+unnamed : (o : Origin) (c : CircuitId) (rs : List Ran) → has_node (circuits_in o rs) c ≡ false → AllConcern [] c rs
+unnamed o c [] h = tt
+unnamed o c (r ∷ rs) h = ((λ q. absurd (not_named q)), unnamed o c rs (or_right (names c r.line) (has_node (circuits_in o rs) c) none))
   where
-    none : (names c r.line || has_node (circuits_in rs) c) ≡ false
-    none = sym (has_and (circuit_of r.line) (circuits_in rs) c) ∙ h
+    none : (names c r.line || has_node (circuits_in o rs) c) ≡ false
+    none = sym (has_and (circuit_of r.line) (circuits_in o rs) c) ∙ h
 
     not_named : names c r.line ≡ true → ⊥
-    not_named q = let p : names c r.line ≡ false = or_left (names c r.line) (has_node (circuits_in rs) c) none in cc
+    not_named q = let p : names c r.line ≡ false = or_left (names c r.line) (has_node (circuits_in o rs) c) none in cc
 
-unnamed-empty : (ns : List NodeId) (c : CircuitId) (rs : List Ran) (n : NodeId) → lines_fit rs ≡ true → has_node (circuits_in rs) c ≡ false → (whole_world ns c rs).at n ≡ Empty
-unnamed-empty ns c rs n f h = within-empty [] n ((whole_world ns c rs).at n) refl (p.confined.cells n)
+unkept-all : (ds cs : List NodeId) (c : CircuitId) → has_node (and_circuits ds cs) c ≡ false → has_node ds c ≡ false
+unkept-all [] cs c h = refl
+unkept-all (d ∷ ds) cs c h = or_both (bytes_eq d c) (has_node ds c) (or_left (bytes_eq d c) (has_node (and_circuits ds cs) c) none) (unkept-all ds cs c (or_right (bytes_eq d c) (has_node (and_circuits ds cs) c) none))
   where
-    p : IsPair [] (lines_world (first_world ns) (own_among c [] rs)) (whole_world ns c rs)
-    p = lines-pair [] c (first_world ns) (first_world ns) rs f (unnamed c rs h) (pair-first [] ns)
+    none : (bytes_eq d c || has_node (and_circuits ds cs) c) ≡ false
+    none = sym (has_and (Some d) (and_circuits ds cs) c) ∙ h
+
+unkept : (o : Origin) (c : CircuitId) (rs : List Ran) → has_node (circuits_in o rs) c ≡ false → has_node o.circuits c ≡ false
+unkept o c [] h = unkept-all o.circuits [] c h
+unkept o c (r ∷ rs) h = unkept o c rs (or_right (names c r.line) (has_node (circuits_in o rs) c) (sym (has_and (circuit_of r.line) (circuits_in o rs) c) ∙ h))
+
+unnamed-empty : (o : Origin) (c : CircuitId) (rs : List Ran) (n : NodeId) → IsOrigin o → lines_fit rs ≡ true → has_node (circuits_in o rs) c ≡ false → (whole_world o c rs).at n ≡ Empty
+unnamed-empty o c rs n i f h = within-empty [] n ((whole_world o c rs).at n) refl (p.confined.cells n)
+  where
+    p : IsPair [] (lines_world (first_world o c) (own_among c [] rs)) (whole_world o c rs)
+    p = lines-pair [] c (first_world o c) (first_world o c) rs f (unnamed o c rs h) (pair-first [] o c (λ m. subst (λ (k : Cell). IsCellWithin [] m k) (sym (i.listed c m (unkept o c rs h))) tt))
 
 -- ---- the roll
 
 -- the cell of a circuit is bound at a node
-abbrev is_bound_there : List NodeId → List Ran → NodeId → NodeId → Bool
-is_bound_there ns rs n c = is_bound ((whole_world ns c rs).at n)
+abbrev is_bound_there : Origin → List Ran → NodeId → NodeId → Bool
+is_bound_there o rs n c = is_bound ((whole_world o c rs).at n)
 
-pub bound-whole : (ns : List NodeId) (rs : List Ran) (n : NodeId) → lines_fit rs ≡ true → bound_at ns rs n ≡ filter (is_bound_there ns rs n) (sorted (circuits_in rs))
-bound-whole ns rs n f = ap (λ (p : NodeId → Bool). filter p (sorted (circuits_in rs))) (fun_ext (λ c. ap (λ (w : World). is_bound (w.at n)) ((own-pair ns c rs f).alike.is)))
+pub bound-whole : (o : Origin) (rs : List Ran) (n : NodeId) → IsOrigin o → lines_fit rs ≡ true → bound_at o rs n ≡ filter (is_bound_there o rs n) (sorted (circuits_in o rs))
+bound-whole o rs n i f = ap (λ (p : NodeId → Bool). filter p (sorted (circuits_in o rs))) (fun_ext (λ c. ap (λ (w : World). is_bound (w.at n)) ((own-pair o c rs i f).alike.is)))
 
-pub bound-ascends : (ns : List NodeId) (rs : List Ran) (n : NodeId) → ascends (bound_at ns rs n) ≡ true
-bound-ascends ns rs n = filter-ascends (λ c. is_bound ((circuit_world ns c rs).at n)) (sorted (circuits_in rs)) (circuits-ascend rs)
+pub bound-ascends : (o : Origin) (rs : List Ran) (n : NodeId) → ascends (bound_at o rs n) ≡ true
+bound-ascends o rs n = filter-ascends (λ c. is_bound ((circuit_world o c rs).at n)) (sorted (circuits_in o rs)) (circuits-ascend o rs)
 
-pub bound-has : (ns : List NodeId) (rs : List Ran) (n : NodeId) (c : CircuitId) → lines_fit rs ≡ true → has_node (bound_at ns rs n) c ≡ is_bound ((whole_world ns c rs).at n)
-bound-has ns rs n c f =
-    ap (λ (xs : List NodeId). has_node xs c) (bound-whole ns rs n f)
-    ∙ (has_filter (is_bound_there ns rs n) (sorted (circuits_in rs)) c
-    ∙ (ap (λ (b : Bool). b && is_bound_there ns rs n c) (has_sorted (circuits_in rs) c)
-    ∙ go (bool_cases (has_node (circuits_in rs) c))))
+pub bound-has : (o : Origin) (rs : List Ran) (n : NodeId) (c : CircuitId) → IsOrigin o → lines_fit rs ≡ true → has_node (bound_at o rs n) c ≡ is_bound ((whole_world o c rs).at n)
+bound-has o rs n c i f =
+    ap (λ (xs : List NodeId). has_node xs c) (bound-whole o rs n i f)
+    ∙ (has_filter (is_bound_there o rs n) (sorted (circuits_in o rs)) c
+    ∙ (ap (λ (b : Bool). b && is_bound_there o rs n c) (has_sorted (circuits_in o rs) c)
+    ∙ go (bool_cases (has_node (circuits_in o rs) c))))
   where
-    go : (has_node (circuits_in rs) c ≡ true) ⊎ (has_node (circuits_in rs) c ≡ false) → (has_node (circuits_in rs) c && is_bound_there ns rs n c) ≡ is_bound_there ns rs n c
+    go : (has_node (circuits_in o rs) c ≡ true) ⊎ (has_node (circuits_in o rs) c ≡ false) → (has_node (circuits_in o rs) c && is_bound_there o rs n c) ≡ is_bound_there o rs n c
     go (inl q) = rw q
-    go (inr q) = rw (q, unnamed-empty ns c rs n f q)
+    go (inr q) = rw (q, unnamed-empty o c rs n i f q)
 
 -- a list in order that has these is the roll
-pub bound-is : (ns : List NodeId) (rs : List Ran) (n : NodeId) (xs : List CircuitId) → lines_fit rs ≡ true → ascends xs ≡ true → ((c : CircuitId) → has_node xs c ≡ is_bound ((whole_world ns c rs).at n)) → xs ≡ bound_at ns rs n
-bound-is ns rs n xs f h k = ascending-same xs (bound_at ns rs n) h (bound-ascends ns rs n) (λ c. k c ∙ sym (bound-has ns rs n c f))
+pub bound-is : (o : Origin) (rs : List Ran) (n : NodeId) (xs : List CircuitId) → IsOrigin o → lines_fit rs ≡ true → ascends xs ≡ true → ((c : CircuitId) → has_node xs c ≡ is_bound ((whole_world o c rs).at n)) → xs ≡ bound_at o rs n
+bound-is o rs n xs i f h k = ascending-same xs (bound_at o rs n) h (bound-ascends o rs n) (λ c. k c ∙ sym (bound-has o rs n c i f))

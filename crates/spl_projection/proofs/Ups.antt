@@ -11,7 +11,7 @@ use Rattle.spl_sched.specs.declared.line.Step.TheVariants as step
 use Rattle.spl_sched.specs.declared.line.Line.{Line}
 use Rattle.spl_sched.specs.declared.line.Line.TheVariants as line
 use Rattle.spl_sched.specs.Grammar.{step_node}
-use Rattle.spl_model.specs.Worlds.{World, first_world, put_at, messages, step_plan, stopped, started, halted, Stops, Starts, Halts, happens}
+use Rattle.spl_model.specs.Worlds.{Origin, World, first_world, put_at, messages, step_plan, stopped, started, halted, Stops, Starts, Halts, happens}
 use Rattle.spl_model.specs.Calm.{Calming, calming_step, calming, open_nodes, ticks, delivers, pair_turn, to_all, from_all, pass, passes, calm}
 use Rattle.spl_model.specs.Projection.{Ran, names}
 use Rattle.spl_model.specs.Answers.{line_world, up_after, up_from, is_up}
@@ -92,5 +92,5 @@ whole_from-up c w [] n = refl
 whole_from-up c w (r ∷ rs) n = whole_from-up c (world_after c w r) rs n ∙ ap (λ (b : Bool). up_from n b rs) (after-up c w r n)
 
 -- a node is up in each world, or in none
-pub whole-up : (ns : List NodeId) (c : CircuitId) (rs : List Ran) (n : NodeId) → (whole_world ns c rs).up n ≡ is_up n rs
-whole-up ns c rs n = whole_from-up c (first_world ns) rs n
+pub whole-up : (o : Origin) (c : CircuitId) (rs : List Ran) (n : NodeId) → (whole_world o c rs).up n ≡ is_up n rs
+whole-up o c rs n = whole_from-up c (first_world o c) rs n

@@ -21,7 +21,7 @@ use Rattle.spl_circuit.specs.declared.act.Act.{Act}
 use Rattle.spl_circuit.specs.Nodes.{NodeId, ServiceId, has_node, position, node_or}
 use Rattle.spl_circuit.specs.Rules.{broken, admin, is_member}
 use Rattle.spl_circuit.specs.Acts.{act_rules, is_node}
-use Rattle.spl_circuit.specs.Lifecycle.{is_proposed}
+use Rattle.spl_circuit.specs.Lifecycle.{Life, is_disbanding, is_asked, current}
 use Rattle.spl_circuit.specs.Routing.{Way, route}
 use Rattle.spl_command.specs.declared.batch.Batch.{Batch}
 use Rattle.spl_command.specs.declared.receipt.Receipt.{Receipt}
@@ -39,7 +39,7 @@ use Rattle.spl_wire.specs.declared.change.Change.TheVariants as durable
 use Rattle.spl_wire.specs.declared.plan.Outgoing.{Outgoing}
 use Rattle.spl_wire.specs.declared.plan.Plan.{Plan}
 use Rattle.spl_rules.specs.Valid.{carries}
-use Rattle.spl_rules.specs.Cells.{Cell, Empty, Held, Purged, Bound, Site, Deed, Tells, Replies, Binds, Acts, Serves, Turns, admin_group, is_open, is_open_cell, own_life, is_active_here, runs, can_bind, proposes, proposes_at, votes, removes, is_act_pending, is_waiting, asked_first, forwarded_first, hears_first}
+use Rattle.spl_rules.specs.Cells.{Cell, Empty, Held, Purged, Bound, Site, Deed, Tells, Replies, Binds, Acts, Serves, Turns, admin_group, is_open, is_open_cell, own_life, is_active_here, runs, can_bind, proposes, proposes_at, vote_kind, removal_kind, submits_next, votes, removes, disbands, is_act_pending, is_waiting, asked_first, forwarded_first, hears_first}
 use Rattle.spl_rules.specs.Batches.{submits, submits_ruled, submits_known, when_active, status_kept, status_refused, receipt_kept, has_the_id, routed, way, hears_routed, serves_other}
 use Rattle.spl_rules.specs.Events.{turns, held_hears, held_does, other_does, does}
 use Rattle.spl_rules.specs.Changes.{made_one, made, moved_cell, stopped_cell, after_plan}
@@ -230,17 +230,35 @@ module _ (ns : List NodeId) where
   within-proposes site d k (Some rule) h w = tt
   within-proposes site d k None h w = if_holds IsDeedWithin (is_member d site.here) _ _ (λ q. within-proposes_at site d k h w) (λ q. tt)
 
+  within-next : (site : Site) (b : Bound) (w : ActKind) → has_node ns site.here ≡ true → are_within b.definition.members ≡ true → list_all is_act_within b.acts.pending ≡ true → is_kind_within w ≡ true → IsDeedWithin (submits_next site b w)
+  within-next site b w h i p k = if_holds IsDeedWithin (is_open b.mark) _ _ (λ q. (i, h, p, k)) (λ q. tt)
+
   within-votes : (site : Site) (b : Bound) (w : ActKind) → has_node ns site.here ≡ true → are_within b.definition.members ≡ true → list_all is_act_within b.acts.pending ≡ true → is_kind_within w ≡ true → IsDeedWithin (votes site b w)
   within-votes site b w h i p k =
       if_holds IsDeedWithin (is_act_pending site b) _ _ (λ q. tt) (λ q.
-      if_holds IsDeedWithin (not (is_proposed (own_life b).state)) _ _ (λ x. tt) (λ x.
-      if_holds IsDeedWithin (has_node (own_life b).accepted site.here) _ _ (λ y. tt) (λ y. (i, h, p, k))))
+      if_holds IsDeedWithin (not (is_asked (own_life b).state)) _ _ (λ x. tt) (λ x.
+      if_holds IsDeedWithin (has_node (current (own_life b)).accepted site.here) _ _ (λ y. tt) (λ y. within-next site b w h i p k)))
 
-  within-removes : (site : Site) (b : Bound) → has_node ns site.here ≡ true → are_within b.definition.members ≡ true → list_all is_act_within b.acts.pending ≡ true → IsDeedWithin (removes site b)
-  within-removes site b h i p =
+  within-removes : (site : Site) (b : Bound) (w : ActKind) → has_node ns site.here ≡ true → are_within b.definition.members ≡ true → list_all is_act_within b.acts.pending ≡ true → is_kind_within w ≡ true → IsDeedWithin (removes site b w)
+  within-removes site b w h i p k =
       if_holds IsDeedWithin (is_act_pending site b) _ _ (λ q. tt) (λ q.
-      if_holds IsDeedWithin (not (is_proposed (own_life b).state)) _ _ (λ x. tt) (λ x.
-      if_holds IsDeedWithin (not (is_node (own_life b).requester site.here)) _ _ (λ y. tt) (λ y. (i, h, p, refl))))
+      if_holds IsDeedWithin (not (is_asked (own_life b).state)) _ _ (λ x. tt) (λ x.
+      if_holds IsDeedWithin (not (is_node (current (own_life b)).requester site.here)) _ _ (λ y. tt) (λ y. within-next site b w h i p k)))
+
+  within-disbands : (site : Site) (b : Bound) → has_node ns site.here ≡ true → are_within b.definition.members ≡ true → list_all is_act_within b.acts.pending ≡ true → IsDeedWithin (disbands site b)
+  within-disbands site b h i p =
+      if_holds IsDeedWithin (is_act_pending site b) _ _ (λ q. tt) (λ q.
+      if_holds IsDeedWithin (not (is_active_here b)) _ _ (λ x. tt) (λ x.
+      if_holds IsDeedWithin (not (is_open b.mark)) _ _ (λ y. tt) (λ y.
+      if_holds IsDeedWithin (b.definition.version == 1) _ _ (λ z. tt) (λ z. (i, h, p, refl)))))
+
+  -- an act of the node that is no proposal names no node
+  within-vote_kind : (l : Life) (accept : Bool) → is_kind_within (vote_kind l accept) ≡ true
+  within-vote_kind l true = if_holds (λ (w : ActKind). is_kind_within w ≡ true) (is_disbanding l.state) (kind.DisbandAccept l.disband.place) kind.Accept (λ q. refl) (λ q. refl)
+  within-vote_kind l false = if_holds (λ (w : ActKind). is_kind_within w ≡ true) (is_disbanding l.state) (kind.DisbandReject l.disband.place) kind.Reject (λ q. refl) (λ q. refl)
+
+  within-removal_kind : (l : Life) → is_kind_within (removal_kind l) ≡ true
+  within-removal_kind l = if_holds (λ (w : ActKind). is_kind_within w ≡ true) (is_disbanding l.state) (kind.DisbandRemove l.disband.place) kind.Remove (λ q. refl) (λ q. refl)
 
   within-known : (site : Site) (b : Bound) (v : Batch) (o : Option Batch) → has_node ns site.here ≡ true → are_within b.definition.members ≡ true → IsDeedWithin (submits_known site b v o)
   within-known site b v None h i = if_holds IsDeedWithin (length b.batches.pending == 64) _ _ (λ q. tt) (λ q. (i, h))
@@ -251,10 +269,10 @@ module _ (ns : List NodeId) where
   within-ruled site b v None h i = within-known site b v (known batch_rules b.batches v) h i
 
   within-submits : (site : Site) (b : Bound) (v : Batch) → has_node ns site.here ≡ true → are_within b.definition.members ≡ true → IsDeedWithin (submits site b v)
-  within-submits site b v h i = if_holds IsDeedWithin (not (is_active_here b)) _ _ (λ q. tt) (λ q. if_holds IsDeedWithin (not (is_open b.mark)) _ _ (λ x. tt) (λ x. within-ruled site b v (broken_batch v) h i))
+  within-submits site b v h i = if_holds IsDeedWithin (not (runs b)) _ _ (λ q. tt) (λ q. if_holds IsDeedWithin (not (is_open b.mark)) _ _ (λ x. tt) (λ x. within-ruled site b v (broken_batch v) h i))
 
   within-active : (b : Bound) (deed : Deed) → IsDeedWithin deed → IsDeedWithin (when_active b deed)
-  within-active b deed h = if_holds IsDeedWithin (is_active_here b) _ _ (λ q. h) (λ q. tt)
+  within-active b deed h = if_holds IsDeedWithin (runs b) _ _ (λ q. h) (λ q. tt)
 
   within-status_refused : (o : Option (Batch × Reason)) → IsDeedWithin (status_refused o)
   within-status_refused None = tt
@@ -304,10 +322,10 @@ module _ (ns : List NodeId) where
   -- any event at a bound cell
   within-held : (site : Site) (b : Bound) (e : Event) → has_node ns site.here ≡ true → are_within b.definition.members ≡ true → list_all is_act_within b.acts.pending ≡ true → IsDueWithin e → IsDeedWithin (held_does site b e)
   within-held site b (event.Propose f) h i p due = within-proposes site f (Held b) (broken f) h due
-  within-held site b (event.Vote true) h i p due = within-votes site b kind.Accept h i p refl
-  within-held site b (event.Vote false) h i p due = within-votes site b kind.Reject h i p refl
-  within-held site b event.Remove h i p due = within-removes site b h i p
-  within-held site b event.Abandon h i p due = if_holds IsDeedWithin (not (is_active_here b)) _ _ (λ q. tt) (λ q. if_holds IsDeedWithin (is_open b.mark) _ _ (λ x. tt) (λ x. tt))
+  within-held site b (event.Vote accept) h i p due = within-votes site b (vote_kind (own_life b) accept) h i p (within-vote_kind (own_life b) accept)
+  within-held site b event.Remove h i p due = within-removes site b (removal_kind (own_life b)) h i p (within-removal_kind (own_life b))
+  within-held site b event.Disband h i p due = within-disbands site b h i p
+  within-held site b event.Abandon h i p due = if_holds IsDeedWithin (not (runs b)) _ _ (λ q. tt) (λ q. if_holds IsDeedWithin (is_open b.mark) _ _ (λ x. tt) (λ x. tt))
   within-held site b event.Purge h i p due = if_holds IsDeedWithin (is_open b.mark && is_waiting (own_life b).state b.acts) _ _ (λ q. tt) (λ q. tt)
   within-held site b (event.Submit v) h i p due = within-submits site b v h i
   within-held site b event.Show h i p due = tt

@@ -1,8 +1,8 @@
 -- A line moves the world of its own circuit, a stop or a start that of each; no other is moved (docs/RULES.md, Circuits as
 -- worlds).
 use Rattle.std.proofs.Common.{◌≡◌, true, false, List, [], ◌∷◌, ◌++◌, refl, ◌∙◌}
-use Rattle.spl_circuit.specs.Nodes.{NodeId, CircuitId}
-use Rattle.spl_model.specs.Worlds.{World, first_world}
+use Rattle.spl_circuit.specs.Nodes.{CircuitId}
+use Rattle.spl_model.specs.Worlds.{Origin, World, first_world}
 use Rattle.spl_model.specs.Projection.{Ran, names}
 use Rattle.spl_model.specs.Answers.{line_world}
 use Rattle.spl_projection.specs.Whole.{world_beside, world_after, whole_from, whole_world}
@@ -11,8 +11,8 @@ pub whole_from-append : (c : CircuitId) (w : World) (xs ys : List Ran) → whole
 whole_from-append c w [] ys = refl
 whole_from-append c w (x ∷ xs) ys = whole_from-append c (world_after c w x) xs ys
 
-pub moves-own : (ns : List NodeId) (before : List Ran) (r : Ran) (c : CircuitId) → names c r.line ≡ true → whole_world ns c (before ++ r ∷ []) ≡ line_world (whole_world ns c before) r.line r.kept
-moves-own ns before r c h = whole_from-append c (first_world ns) before (r ∷ []) ∙ rw h
+pub moves-own : (o : Origin) (before : List Ran) (r : Ran) (c : CircuitId) → names c r.line ≡ true → whole_world o c (before ++ r ∷ []) ≡ line_world (whole_world o c before) r.line r.kept
+moves-own o before r c h = whole_from-append c (first_world o c) before (r ∷ []) ∙ rw h
 
-pub moves-beside : (ns : List NodeId) (before : List Ran) (r : Ran) (c : CircuitId) → names c r.line ≡ false → whole_world ns c (before ++ r ∷ []) ≡ world_beside (whole_world ns c before) r.line
-moves-beside ns before r c h = whole_from-append c (first_world ns) before (r ∷ []) ∙ rw h
+pub moves-beside : (o : Origin) (before : List Ran) (r : Ran) (c : CircuitId) → names c r.line ≡ false → whole_world o c (before ++ r ∷ []) ≡ world_beside (whole_world o c before) r.line
+moves-beside o before r c h = whole_from-append c (first_world o c) before (r ∷ []) ∙ rw h

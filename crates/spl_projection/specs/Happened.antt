@@ -1,10 +1,10 @@
 -- What happens in the world of a circuit in all lines (docs/RULES.md, Circuits as worlds).
 use Rattle.std.specs.Prelude.{List, [], ◌∷◌, ◌++◌, if◌then◌else◌}
-use Rattle.spl_circuit.specs.Nodes.{NodeId, CircuitId}
+use Rattle.spl_circuit.specs.Nodes.{CircuitId}
 use Rattle.spl_sched.specs.declared.line.Line.{Line}
 use Rattle.spl_sched.specs.declared.line.Line.TheVariants as line
 use Rattle.spl_sched.specs.Grammar.{step_node}
-use Rattle.spl_model.specs.Worlds.{World, Occurrence, Stops, Starts, first_world}
+use Rattle.spl_model.specs.Worlds.{Origin, World, Occurrence, Stops, Starts, first_world}
 use Rattle.spl_model.specs.Projection.{Ran, names}
 use Rattle.spl_model.specs.Answers.{occurrences_in}
 use Rattle.spl_projection.specs.Whole.{world_after}
@@ -26,5 +26,5 @@ happened_from c w [] = []
 happened_from c w (r ∷ rs) = happened_in c w r ++ happened_from c (world_after c w r) rs
 
 -- in all lines
-abbrev pub whole_happened : List NodeId → CircuitId → List Ran → List Occurrence
-whole_happened ns c rs = happened_from c (first_world ns) rs
+abbrev pub whole_happened : Origin → CircuitId → List Ran → List Occurrence
+whole_happened o c rs = happened_from c (first_world o c) rs

@@ -1,10 +1,10 @@
 -- The world of a circuit where the stops and starts of all nodes count (docs/RULES.md, Circuits as worlds).
 use Rattle.std.specs.Prelude.{List, [], ◌∷◌, if◌then◌else◌}
-use Rattle.spl_circuit.specs.Nodes.{NodeId, CircuitId}
+use Rattle.spl_circuit.specs.Nodes.{CircuitId}
 use Rattle.spl_sched.specs.declared.line.Line.{Line}
 use Rattle.spl_sched.specs.declared.line.Line.TheVariants as line
 use Rattle.spl_sched.specs.Grammar.{step_node}
-use Rattle.spl_model.specs.Worlds.{World, Stops, Starts, first_world, happens}
+use Rattle.spl_model.specs.Worlds.{Origin, World, Stops, Starts, first_world, happens}
 use Rattle.spl_model.specs.Projection.{Ran, names}
 use Rattle.spl_model.specs.Answers.{line_world}
 
@@ -25,5 +25,5 @@ whole_from c w [] = w
 whole_from c w (r ∷ rs) = whole_from c (world_after c w r) rs
 
 -- the world of a circuit behind all lines: nodes that keep all circuits stand for this one
-abbrev pub whole_world : List NodeId → CircuitId → List Ran → World
-whole_world ns c rs = whole_from c (first_world ns) rs
+abbrev pub whole_world : Origin → CircuitId → List Ran → World
+whole_world o c rs = whole_from c (first_world o c) rs

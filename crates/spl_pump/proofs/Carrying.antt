@@ -4,9 +4,9 @@ use Rattle.std.specs.List.{list_any, filter, flat_map}
 use Rattle.std.specs.Io.KnownBytes.{append_known}
 use Rattle.std.proofs.lemmas.Bool.{eqb-true, eqb-false, eq-eqb}
 use Rattle.std.proofs.lemmas.List.Folds.{list_any-append}
+use Rattle.spl_edge.specs.Views.{Streams}
 use Rattle.spl_base.specs.FormLaws.{both_true}
 use Rattle.spl_registry.specs.Nodes.{Entry}
-use Rattle.spl_pump.specs.Moves.{Streams}
 use Rattle.spl_pump.specs.Wires.{Carried, GoesOn, Puts, PutsPart, Wire, frames_of, hand, hands, hands_if, have_met, is_between, is_on, message_frame, met_after, on_pair, wire_from, wire_of}
 use Rattle.spl_pump.proofs.Wires.{tells, never, on_this, on_other, puts_more, puts_then_part, part_no_more}
 

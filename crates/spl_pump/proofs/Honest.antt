@@ -4,7 +4,8 @@ use Rattle.std.proofs.Math.Seq.{drop-append_seam, take-length}
 use Rattle.std.specs.Option.{IsSome}
 use Rattle.std.specs.Prelude.{IfSome}
 use Rattle.spl_edge.specs.Fabrics.{AreTaken, IsHonest}
-use Rattle.spl_pump.specs.Moves.{Streams, IsFault}
+use Rattle.spl_edge.specs.Views.{Streams}
+use Rattle.spl_pump.specs.Moves.{IsFault}
 use Rattle.spl_pump.specs.declared.fault.PumpFault.{PumpFault}
 use Rattle.spl_pump.specs.declared.fault.PumpFault.TheVariants.{Link, Lied, NoMemory}
 use Rattle.spl_pump.specs.Wires.{AreTold, Ends, LiesOf}

@@ -4,7 +4,8 @@ use Rattle.std.proofs.lemmas.List.{drop-drop}
 use Rattle.spl_frame.specs.Frames.{frame}
 use Rattle.std.specs.Io.KnownBytes.{append_known}
 use Rattle.spl_edge.specs.Fabrics.{AreTaken, AreLeft, IsOtherPair}
-use Rattle.spl_pump.specs.Moves.{Streams, Grows, GrowsPart, AreDue}
+use Rattle.spl_edge.specs.Views.{Streams}
+use Rattle.spl_pump.specs.Moves.{Grows, GrowsPart, AreDue}
 
 pub known_more : (k : Option (List ℕ)) (xs ys : List ℕ) → append_known (append_known k xs) ys ≡ append_known k (xs ++ ys)
 known_more None xs ys = refl

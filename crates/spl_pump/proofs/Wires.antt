@@ -4,8 +4,9 @@ use Rattle.std.specs.Io.KnownBytes.{append_known}
 use Rattle.std.proofs.lemmas.Bool.{eqb-true, eqb-false, eq-eqb}
 use Rattle.spl_agree.specs.World.{IsPrefixOf}
 use Rattle.spl_edge.specs.Fabrics.{AreTaken, IsOtherPair}
+use Rattle.spl_edge.specs.Views.{Streams}
 use Rattle.spl_registry.specs.Nodes.{Entry}
-use Rattle.spl_pump.specs.Moves.{Streams, Grows, GrowsPart, IsLie}
+use Rattle.spl_pump.specs.Moves.{Grows, GrowsPart, IsLie}
 use Rattle.spl_pump.specs.declared.fault.PumpFault.{PumpFault}
 use Rattle.spl_pump.specs.declared.fault.PumpFault.TheVariants.{Link, Lied, NoMemory}
 use Rattle.spl_pump.specs.Wires.{Puts, PutsPart, AllTaken, Ends, LiesOf, on_pair, hands, hands_if}

@@ -3,6 +3,7 @@ use Rattle.std.specs.Prelude.{◌≡◌, ◌≢◌, ◌<◌, ◌≤◌, ◌+◌,
 use Rattle.std.specs.Io.KnownBytes.{append_known}
 use Rattle.spl_edge.specs.Causes.{Rose}
 use Rattle.spl_edge.specs.Fabrics.{AreTaken, IsOtherPair}
+use Rattle.spl_edge.specs.Views.{Streams}
 use Rattle.spl_edge.specs.declared.fault.DeviceError.{DeviceError}
 use Rattle.spl_edge.specs.declared.fault.DeviceError.TheVariants as device
 use Rattle.spl_pump.specs.declared.fault.PumpFault.{PumpFault}
@@ -12,10 +13,6 @@ use Rattle.spl_pump.specs.declared.fault.PumpFault.TheVariants.{Link, Lied, NoMe
 abbrev pub fault_of : DeviceError → PumpFault
 fault_of device.Failed = Link
 fault_of device.NoMemory = NoMemory
-
--- the bytes put, or taken, from each node to each
-abbrev pub Streams : Type 0
-Streams = ℕ → ℕ → Option (List ℕ)
 
 -- on one pair of nodes these bytes came behind the others
 pub record Grows (from to : ℕ) (bytes : List ℕ) (old new : Streams) : Type 0 where

@@ -9,7 +9,7 @@ use Rattle.spl_wire.specs.Forms.{message_form}
 use Rattle.spl_wire.specs.declared.message.Message.{Message}
 use Rattle.spl_registry.specs.Nodes.{Entry, node_at}
 use Rattle.spl_link.specs.Greetings.{greeting}
-use Rattle.spl_pump.specs.Moves.{Streams}
+use Rattle.spl_edge.specs.Views.{Streams}
 use Rattle.spl_pump.specs.declared.fault.PumpFault.{PumpFault}
 use Rattle.spl_pump.specs.declared.fault.PumpFault.TheVariants.{Link, Lied, NoMemory}
 
@@ -73,6 +73,15 @@ wire_from es met sent a b = if have_met met (min a b) (max a b) then frames_of s
 -- what messages put on the pair from one node to another
 abbrev pub Wire : Type 0
 Wire = List Carried → ℕ → ℕ → List ℕ
+
+-- what carries messages
+pub record CarryView : Type 0 where
+  -- how many nodes there are
+  pub slots : ℕ
+  -- whether it has answered a fault
+  pub failed : Bool
+  -- the bytes that carrying messages, one after another, puts on the pair from one node to another
+  pub wire : Wire
 
 -- once these messages are carried, what others put comes behind what they put
 pub record GoesOn (sent : List Carried) (old new : Wire) : Type 0 where

@@ -1,9 +1,9 @@
 //! What carries messages between nodes.
-ghost use Rattle.std.specs.Prelude.{◌≡◌, ◌≢◌, ◌<◌, ◌++◌, ℕ, Bool, true, false, List, [], IfOk, IfErr, OnOk, OnErr};
+ghost use Rattle.std.specs.Prelude.{◌≡◌, ◌≢◌, ◌<◌, ◌++◌, ℕ, true, false, List, [], IfOk, IfErr, OnOk, OnErr};
 ghost use Rattle.spl_agree.specs.World.{IsPrefixOf};
 ghost use Rattle.spl_wire.specs.Bounds.{IsSendable};
 ghost use Rattle.spl_pump.specs.Moves.{HasCause};
-ghost use Rattle.spl_pump.specs.Wires.{AllTaken, Carried, GoesOn, only};
+ghost use Rattle.spl_pump.specs.Wires.{AllTaken, Carried, CarryView, GoesOn, only};
 
 use crate::fault::PumpFault;
 use spl_base::Boxed;
@@ -15,14 +15,8 @@ use std::alloc::Global;
 pub trait Carry {
     ghost use Rattle.spl_pump.specs.Wires.{Puts, PutsPart, LiesOf};
 
-    /// How many nodes there are.
-    ghost slots: { Self → ℕ };
-
-    /// Whether it has answered a fault.
-    ghost failed: { Self → Bool };
-
-    /// The bytes that carrying messages, one after another, puts on the pair from one node to another.
-    ghost wire: { Self → List Carried → ℕ → ℕ → List ℕ };
+    /// What it tells of itself.
+    ghost view: { Self → CarryView };
 
     /// Carries a message: what comes out is equal to it. `Link` comes only where the fabric failed more often, `Lied`
     /// where other bytes were taken than were put, and any other error is want of memory. After an error a front of
@@ -36,25 +30,26 @@ pub trait Carry {
         message: &Boxed<Message>,
     ) -> Result<Boxed<Message>, PumpFault>
         requires apart { from ≢ to }
-        requires from { from < slots self.old }
-        requires to { to < slots self.old }
-        requires going { failed self.old ≡ false }
+        requires from { from < (view self.old).slots }
+        requires to { to < (view self.old).slots }
+        requires going { (view self.old).failed ≡ false }
         requires sendable { IsSendable message.now }
-        requires taken { AllTaken (F.put_on fabric.old) (F.taken_on fabric.old) }
+        requires taken { AllTaken (F.view fabric.old).put (F.view fabric.old).taken }
         ensures same { IfOk result (λ m. m ≡ message.now) }
-        ensures slots { slots self.new ≡ slots self.old }
-        ensures going { OnOk result (failed self.new ≡ false) }
-        ensures done { OnErr result (failed self.new ≡ true) }
-        ensures put { OnOk result (Puts (wire self.old (only from to message.now)) (F.put_on fabric.old) (F.put_on fabric.new)) }
-        ensures part { PutsPart (wire self.old (only from to message.now)) (F.put_on fabric.old) (F.put_on fabric.new) }
-        ensures onward { OnOk result (GoesOn (only from to message.now) (wire self.old) (wire self.new)) }
-        ensures taken { OnOk result (AllTaken (F.put_on fabric.new) (F.taken_on fabric.new)) }
-        ensures cause { HasCause (F.faults fabric.old) (F.faults fabric.new) result }
-        ensures lied { IfErr result (λ e. LiesOf e (F.put_on fabric.new) (F.taken_on fabric.new)) };
+        ensures slots { (view self.new).slots ≡ (view self.old).slots }
+        ensures going { OnOk result ((view self.new).failed ≡ false) }
+        ensures done { OnErr result ((view self.new).failed ≡ true) }
+        ensures put { OnOk result (Puts ((view self.old).wire (only from to message.now)) (F.view fabric.old).put (F.view fabric.new).put) }
+        ensures part { PutsPart ((view self.old).wire (only from to message.now)) (F.view fabric.old).put (F.view fabric.new).put }
+        ensures onward { OnOk result (GoesOn (only from to message.now) (view self.old).wire (view self.new).wire) }
+        ensures taken { OnOk result (AllTaken (F.view fabric.new).put (F.view fabric.new).taken) }
+        ensures cause { HasCause (F.view fabric.old).faults (F.view fabric.new).faults result }
+        ensures lied { IfErr result (λ e. LiesOf e (F.view fabric.new).put (F.view fabric.new).taken) };
 
     /// Where no message is carried, nothing is put.
-    ghost idle: { (carrier : Self) (a b : ℕ) → wire carrier [] a b ≡ [] };
+    ghost idle: { (carrier : Self) (a b : ℕ) → (view carrier).wire [] a b ≡ [] };
 
     /// What some messages put begins what they and later ones put.
-    ghost front: { (carrier : Self) (sent later : List Carried) (a b : ℕ) → IsPrefixOf (wire carrier sent a b) (wire carrier (sent ++ later) a b) };
+    ghost front: { (carrier : Self) (sent later : List Carried) (a b : ℕ)
+        → IsPrefixOf ((view carrier).wire sent a b) ((view carrier).wire (sent ++ later) a b) };
 }

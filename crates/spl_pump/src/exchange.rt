@@ -31,14 +31,15 @@ fn echo<F: Fabric>(
     to: u8,
     sent: Piece,
 ) -> Result<Piece, PumpFault>
-    requires taken { AreTaken (F.put_on fabric.old from to) (F.taken_on fabric.old from to) }
+    requires taken { AreTaken ((F.view fabric.old).put from to) ((F.view fabric.old).taken from to) }
     ensures same { IfOk result (λ got. got ≡ sent) }
-    ensures put { OnOk result (Grows from to sent (F.put_on fabric.old) (F.put_on fabric.new)) }
-    ensures taken { OnOk result (Grows from to sent (F.taken_on fabric.old) (F.taken_on fabric.new)) }
-    ensures all { OnOk result (AreTaken (F.put_on fabric.new from to) (F.taken_on fabric.new from to)) }
-    ensures part { GrowsPart from to sent (F.put_on fabric.old) (F.put_on fabric.new) }
-    ensures cause { HasCause (F.faults fabric.old) (F.faults fabric.new) result }
-    ensures lied { IfErr result (λ e. IsLie from to sent (F.put_on fabric.old) (F.put_on fabric.new) (F.taken_on fabric.old) (F.taken_on fabric.new) e) }
+    ensures put { OnOk result (Grows from to sent (F.view fabric.old).put (F.view fabric.new).put) }
+    ensures taken { OnOk result (Grows from to sent (F.view fabric.old).taken (F.view fabric.new).taken) }
+    ensures all { OnOk result (AreTaken ((F.view fabric.new).put from to) ((F.view fabric.new).taken from to)) }
+    ensures part { GrowsPart from to sent (F.view fabric.old).put (F.view fabric.new).put }
+    ensures cause { HasCause (F.view fabric.old).faults (F.view fabric.new).faults result }
+    ensures lied { IfErr result (λ e. IsLie from to sent (F.view fabric.old).put (F.view fabric.new).put (F.view fabric.old).taken
+        (F.view fabric.new).taken e) }
 {
     let got = transfer(alloc, fabric, from, to, sent.bytes())?;
     let got = Piece::from(alloc, got.as_slice())?;
@@ -57,14 +58,15 @@ pub(crate) fn exchange<F: Fabric>(
     body: &[u8],
 ) -> Result<Piece, PumpFault>
     requires short { IsBody body.now }
-    requires taken { AreTaken (F.put_on fabric.old from to) (F.taken_on fabric.old from to) }
+    requires taken { AreTaken ((F.view fabric.old).put from to) ((F.view fabric.old).taken from to) }
     ensures same { IfOk result (λ got. got ≡ body.now) }
-    ensures put { OnOk result (Grows from to (frame body.now) (F.put_on fabric.old) (F.put_on fabric.new)) }
-    ensures taken { OnOk result (Grows from to (frame body.now) (F.taken_on fabric.old) (F.taken_on fabric.new)) }
-    ensures all { OnOk result (AreTaken (F.put_on fabric.new from to) (F.taken_on fabric.new from to)) }
-    ensures part { GrowsPart from to (frame body.now) (F.put_on fabric.old) (F.put_on fabric.new) }
-    ensures cause { HasCause (F.faults fabric.old) (F.faults fabric.new) result }
-    ensures lied { IfErr result (λ e. IsLie from to (frame body.now) (F.put_on fabric.old) (F.put_on fabric.new) (F.taken_on fabric.old) (F.taken_on fabric.new) e) }
+    ensures put { OnOk result (Grows from to (frame body.now) (F.view fabric.old).put (F.view fabric.new).put) }
+    ensures taken { OnOk result (Grows from to (frame body.now) (F.view fabric.old).taken (F.view fabric.new).taken) }
+    ensures all { OnOk result (AreTaken ((F.view fabric.new).put from to) ((F.view fabric.new).taken from to)) }
+    ensures part { GrowsPart from to (frame body.now) (F.view fabric.old).put (F.view fabric.new).put }
+    ensures cause { HasCause (F.view fabric.old).faults (F.view fabric.new).faults result }
+    ensures lied { IfErr result (λ e. IsLie from to (frame body.now) (F.view fabric.old).put (F.view fabric.new).put (F.view fabric.old).taken
+        (F.view fabric.new).taken e) }
 {
     let sent = write_frame(alloc, body)?;
     let got = echo(alloc, fabric, from, to, sent)?;

@@ -7,7 +7,7 @@ use spl_edge::DeviceError;
 use std::alloc::{AllocError, AllocFailed};
 
 /// Why a message wasn't carried. After a fault nothing more is carried.
-#[derive(Debug, Drop)]
+#[derive(Drop)]
 pub enum PumpFault {
     /// The fabric failed.
     Link,

@@ -1,8 +1,9 @@
 //! What is known of what was put, and of lies.
 ghost use Rattle.std.specs.Prelude.{◌≡◌, ◌++◌, ℕ, List, []};
 ghost use Rattle.spl_edge.specs.Fabrics.{IsHonest};
+ghost use Rattle.spl_edge.specs.Views.{Streams};
 ghost use Rattle.spl_registry.specs.Nodes.{Entry};
-ghost use Rattle.spl_pump.specs.Moves.{Streams, IsFault};
+ghost use Rattle.spl_pump.specs.Moves.{IsFault};
 ghost use Rattle.spl_pump.specs.Wires.{AreTold, Carried, GoesOn, LiesOf, Puts, PutsPart, Wire, wire_from, wire_of};
 ghost use Rattle.spl_pump.specs.declared.fault.PumpFault.{PumpFault as Fault};
 

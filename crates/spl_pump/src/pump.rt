@@ -39,14 +39,15 @@ fn carry_message<F: Fabric>(
     message: &Message,
 ) -> Result<Message, PumpFault>
     requires sendable { IsSendable message.now }
-    requires taken { AreTaken (F.put_on fabric.old from to) (F.taken_on fabric.old from to) }
+    requires taken { AreTaken ((F.view fabric.old).put from to) ((F.view fabric.old).taken from to) }
     ensures same { IfOk result (λ m. m ≡ message.now) }
-    ensures put { OnOk result (Grows from to (frame (message_form.spell message.now)) (F.put_on fabric.old) (F.put_on fabric.new)) }
-    ensures taken { OnOk result (Grows from to (frame (message_form.spell message.now)) (F.taken_on fabric.old) (F.taken_on fabric.new)) }
-    ensures all { OnOk result (AreTaken (F.put_on fabric.new from to) (F.taken_on fabric.new from to)) }
-    ensures part { GrowsPart from to (frame (message_form.spell message.now)) (F.put_on fabric.old) (F.put_on fabric.new) }
-    ensures cause { HasCause (F.faults fabric.old) (F.faults fabric.new) result }
-    ensures lied { IfErr result (λ e. IsLie from to (frame (message_form.spell message.now)) (F.put_on fabric.old) (F.put_on fabric.new) (F.taken_on fabric.old) (F.taken_on fabric.new) e) }
+    ensures put { OnOk result (Grows from to (frame (message_form.spell message.now)) (F.view fabric.old).put (F.view fabric.new).put) }
+    ensures taken { OnOk result (Grows from to (frame (message_form.spell message.now)) (F.view fabric.old).taken (F.view fabric.new).taken) }
+    ensures all { OnOk result (AreTaken ((F.view fabric.new).put from to) ((F.view fabric.new).taken from to)) }
+    ensures part { GrowsPart from to (frame (message_form.spell message.now)) (F.view fabric.old).put (F.view fabric.new).put }
+    ensures cause { HasCause (F.view fabric.old).faults (F.view fabric.new).faults result }
+    ensures lied { IfErr result (λ e. IsLie from to (frame (message_form.spell message.now)) (F.view fabric.old).put (F.view fabric.new).put
+        (F.view fabric.old).taken (F.view fabric.new).taken e) }
 {
     let sent = message.write(alloc)?;
     let got = exchange(alloc, fabric, from, to, sent.bytes())?;
@@ -67,13 +68,14 @@ fn greet<F: Fabric>(
     requires apart { from ≢ to }
     requires from { from < length registry.now }
     requires to { to < length registry.now }
-    requires taken { AreTaken (F.put_on fabric.old from to) (F.taken_on fabric.old from to) }
-    ensures put { OnOk result (Grows from to (hand registry.now from to) (F.put_on fabric.old) (F.put_on fabric.new)) }
-    ensures taken { OnOk result (Grows from to (hand registry.now from to) (F.taken_on fabric.old) (F.taken_on fabric.new)) }
-    ensures all { OnOk result (AreTaken (F.put_on fabric.new from to) (F.taken_on fabric.new from to)) }
-    ensures part { GrowsPart from to (hand registry.now from to) (F.put_on fabric.old) (F.put_on fabric.new) }
-    ensures cause { HasCause (F.faults fabric.old) (F.faults fabric.new) result }
-    ensures lied { IfErr result (λ e. IsLie from to (hand registry.now from to) (F.put_on fabric.old) (F.put_on fabric.new) (F.taken_on fabric.old) (F.taken_on fabric.new) e) }
+    requires taken { AreTaken ((F.view fabric.old).put from to) ((F.view fabric.old).taken from to) }
+    ensures put { OnOk result (Grows from to (hand registry.now from to) (F.view fabric.old).put (F.view fabric.new).put) }
+    ensures taken { OnOk result (Grows from to (hand registry.now from to) (F.view fabric.old).taken (F.view fabric.new).taken) }
+    ensures all { OnOk result (AreTaken ((F.view fabric.new).put from to) ((F.view fabric.new).taken from to)) }
+    ensures part { GrowsPart from to (hand registry.now from to) (F.view fabric.old).put (F.view fabric.new).put }
+    ensures cause { HasCause (F.view fabric.old).faults (F.view fabric.new).faults result }
+    ensures lied { IfErr result (λ e. IsLie from to (hand registry.now from to) (F.view fabric.old).put (F.view fabric.new).put
+        (F.view fabric.old).taken (F.view fabric.new).taken e) }
 {
     a_peer_is_heard();
     let here = registry.node(from);
@@ -99,12 +101,12 @@ fn present<F: Fabric>(
     requires apart { from ≢ to }
     requires from { from < length registry.now }
     requires to { to < length registry.now }
-    requires taken { AllTaken (F.put_on fabric.old) (F.taken_on fabric.old) }
-    ensures put { OnOk result (Puts (on_pair from to (hand registry.now from to)) (F.put_on fabric.old) (F.put_on fabric.new)) }
-    ensures part { PutsPart (on_pair from to (hand registry.now from to)) (F.put_on fabric.old) (F.put_on fabric.new) }
-    ensures taken { OnOk result (AllTaken (F.put_on fabric.new) (F.taken_on fabric.new)) }
-    ensures cause { HasCause (F.faults fabric.old) (F.faults fabric.new) result }
-    ensures lied { IfErr result (λ e. LiesOf e (F.put_on fabric.new) (F.taken_on fabric.new)) }
+    requires taken { AllTaken (F.view fabric.old).put (F.view fabric.old).taken }
+    ensures put { OnOk result (Puts (on_pair from to (hand registry.now from to)) (F.view fabric.old).put (F.view fabric.new).put) }
+    ensures part { PutsPart (on_pair from to (hand registry.now from to)) (F.view fabric.old).put (F.view fabric.new).put }
+    ensures taken { OnOk result (AllTaken (F.view fabric.new).put (F.view fabric.new).taken) }
+    ensures cause { HasCause (F.view fabric.old).faults (F.view fabric.new).faults result }
+    ensures lied { IfErr result (λ e. LiesOf e (F.view fabric.new).put (F.view fabric.new).taken) }
 {
     match greet(alloc, fabric, registry, from, to) {
         Ok(()) => Ok(()),
@@ -122,13 +124,13 @@ fn send<F: Fabric>(
     message: &Message,
 ) -> Result<Message, PumpFault>
     requires sendable { IsSendable message.now }
-    requires taken { AllTaken (F.put_on fabric.old) (F.taken_on fabric.old) }
+    requires taken { AllTaken (F.view fabric.old).put (F.view fabric.old).taken }
     ensures same { IfOk result (λ m. m ≡ message.now) }
-    ensures put { OnOk result (Puts (on_pair from to (frame (message_form.spell message.now))) (F.put_on fabric.old) (F.put_on fabric.new)) }
-    ensures part { PutsPart (on_pair from to (frame (message_form.spell message.now))) (F.put_on fabric.old) (F.put_on fabric.new) }
-    ensures taken { OnOk result (AllTaken (F.put_on fabric.new) (F.taken_on fabric.new)) }
-    ensures cause { HasCause (F.faults fabric.old) (F.faults fabric.new) result }
-    ensures lied { IfErr result (λ e. LiesOf e (F.put_on fabric.new) (F.taken_on fabric.new)) }
+    ensures put { OnOk result (Puts (on_pair from to (frame (message_form.spell message.now))) (F.view fabric.old).put (F.view fabric.new).put) }
+    ensures part { PutsPart (on_pair from to (frame (message_form.spell message.now))) (F.view fabric.old).put (F.view fabric.new).put }
+    ensures taken { OnOk result (AllTaken (F.view fabric.new).put (F.view fabric.new).taken) }
+    ensures cause { HasCause (F.view fabric.old).faults (F.view fabric.new).faults result }
+    ensures lied { IfErr result (λ e. LiesOf e (F.view fabric.new).put (F.view fabric.new).taken) }
 {
     match carry_message(alloc, fabric, from, to, message) {
         Ok(copy) => Ok(copy),
@@ -146,12 +148,12 @@ fn introduce<F: Fabric>(
 ) -> Result<(), PumpFault>
     requires order { low < high }
     requires high { high < length registry.now }
-    requires taken { AllTaken (F.put_on fabric.old) (F.taken_on fabric.old) }
-    ensures put { OnOk result (Puts (hands registry.now low high) (F.put_on fabric.old) (F.put_on fabric.new)) }
-    ensures part { PutsPart (hands registry.now low high) (F.put_on fabric.old) (F.put_on fabric.new) }
-    ensures taken { OnOk result (AllTaken (F.put_on fabric.new) (F.taken_on fabric.new)) }
-    ensures cause { HasCause (F.faults fabric.old) (F.faults fabric.new) result }
-    ensures lied { IfErr result (λ e. LiesOf e (F.put_on fabric.new) (F.taken_on fabric.new)) }
+    requires taken { AllTaken (F.view fabric.old).put (F.view fabric.old).taken }
+    ensures put { OnOk result (Puts (hands registry.now low high) (F.view fabric.old).put (F.view fabric.new).put) }
+    ensures part { PutsPart (hands registry.now low high) (F.view fabric.old).put (F.view fabric.new).put }
+    ensures taken { OnOk result (AllTaken (F.view fabric.new).put (F.view fabric.new).taken) }
+    ensures cause { HasCause (F.view fabric.old).faults (F.view fabric.new).faults result }
+    ensures lied { IfErr result (λ e. LiesOf e (F.view fabric.new).put (F.view fabric.new).taken) }
 {
     present(alloc, fabric, registry, low, high)?;
     present(alloc, fabric, registry, high, low)?;
@@ -167,7 +169,7 @@ fn have_met(met: &[(u8, u8)], low: u8, high: u8) -> bool
 
 /// Carries messages as frames over a fabric. Before the first message between two nodes these name themselves to each
 /// other.
-#[derive(Debug, Drop)]
+#[derive(Drop)]
 pub struct Pump {
     registry: Registry,
     met: Vec<(u8, u8)>,
@@ -204,15 +206,15 @@ impl Pump {
     ) -> Result<(), PumpFault>
         requires order { low < high }
         requires high { high < length self.old.entries }
-        requires taken { AllTaken (F.put_on fabric.old) (F.taken_on fabric.old) }
+        requires taken { AllTaken (F.view fabric.old).put (F.view fabric.old).taken }
         ensures entries { self.new.entries ≡ self.old.entries }
         ensures failed { self.new.failed ≡ self.old.failed }
         ensures met { OnOk result (self.new.met ≡ met_after self.old.met low high) }
-        ensures put { OnOk result (Puts (hands_if self.old.entries (have_met self.old.met low high) low high) (F.put_on fabric.old) (F.put_on fabric.new)) }
-        ensures part { PutsPart (hands_if self.old.entries (have_met self.old.met low high) low high) (F.put_on fabric.old) (F.put_on fabric.new) }
-        ensures taken { OnOk result (AllTaken (F.put_on fabric.new) (F.taken_on fabric.new)) }
-        ensures cause { HasCause (F.faults fabric.old) (F.faults fabric.new) result }
-        ensures lied { IfErr result (λ e. LiesOf e (F.put_on fabric.new) (F.taken_on fabric.new)) }
+        ensures put { OnOk result (Puts (hands_if self.old.entries (have_met self.old.met low high) low high) (F.view fabric.old).put (F.view fabric.new).put) }
+        ensures part { PutsPart (hands_if self.old.entries (have_met self.old.met low high) low high) (F.view fabric.old).put (F.view fabric.new).put }
+        ensures taken { OnOk result (AllTaken (F.view fabric.new).put (F.view fabric.new).taken) }
+        ensures cause { HasCause (F.view fabric.old).faults (F.view fabric.new).faults result }
+        ensures lied { IfErr result (λ e. LiesOf e (F.view fabric.new).put (F.view fabric.new).taken) }
     {
         if have_met(self.met.as_slice(), low, high) {
             return Ok(());
@@ -235,17 +237,17 @@ impl Pump {
         requires from { from < length self.old.entries }
         requires to { to < length self.old.entries }
         requires sendable { IsSendable message.now }
-        requires taken { AllTaken (F.put_on fabric.old) (F.taken_on fabric.old) }
+        requires taken { AllTaken (F.view fabric.old).put (F.view fabric.old).taken }
         ensures same { IfOk result (λ m. m ≡ message.now) }
         ensures entries { self.new.entries ≡ self.old.entries }
         ensures failed { self.new.failed ≡ self.old.failed }
         ensures met { OnOk result (self.new.met ≡ met_after self.old.met (min from to) (max from to)) }
-        ensures put { OnOk result (Puts (wire_from self.old.entries self.old.met (only from to message.now)) (F.put_on fabric.old) (F.put_on fabric.new)) }
-        ensures part { PutsPart (wire_from self.old.entries self.old.met (only from to message.now)) (F.put_on fabric.old) (F.put_on fabric.new) }
+        ensures put { OnOk result (Puts (wire_from self.old.entries self.old.met (only from to message.now)) (F.view fabric.old).put (F.view fabric.new).put) }
+        ensures part { PutsPart (wire_from self.old.entries self.old.met (only from to message.now)) (F.view fabric.old).put (F.view fabric.new).put }
         ensures onward { OnOk result (GoesOn (only from to message.now) (wire_from self.old.entries self.old.met) (wire_from self.new.entries self.new.met)) }
-        ensures taken { OnOk result (AllTaken (F.put_on fabric.new) (F.taken_on fabric.new)) }
-        ensures cause { HasCause (F.faults fabric.old) (F.faults fabric.new) result }
-        ensures lied { IfErr result (λ e. LiesOf e (F.put_on fabric.new) (F.taken_on fabric.new)) }
+        ensures taken { OnOk result (AllTaken (F.view fabric.new).put (F.view fabric.new).taken) }
+        ensures cause { HasCause (F.view fabric.old).faults (F.view fabric.new).faults result }
+        ensures lied { IfErr result (λ e. LiesOf e (F.view fabric.new).put (F.view fabric.new).taken) }
     {
         self.meet(alloc, fabric, from.min(to), from.max(to))?;
         let got = send(alloc, fabric, from, to, message)?;
@@ -260,11 +262,7 @@ impl Carry for Pump {
     ghost use Rattle.spl_pump.specs.Idle.{idle_wire};
     ghost use Rattle.spl_pump.specs.Fronts.{wire_front};
 
-    ghost slots = { λ p. length p.entries };
-
-    ghost failed = { λ p. p.failed };
-
-    ghost wire = { λ p. wire_from p.entries p.met };
+    ghost view = { λ p. record { slots = length p.entries; failed = p.failed; wire = wire_from p.entries p.met } };
 
     ghost idle = { λ p. idle_wire p.entries p.met };
 

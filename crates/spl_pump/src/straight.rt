@@ -9,7 +9,7 @@ use spl_wire::Message;
 use std::alloc::Global;
 
 /// Gives each message without a call on the fabric.
-#[derive(Clone, Copy, Debug, Drop)]
+#[derive(Clone, Copy, Drop)]
 pub struct Straight {
     failed: bool,
 }
@@ -23,11 +23,7 @@ impl Straight {
 }
 
 impl Carry for Straight {
-    ghost slots = { λ _. 16 };
-
-    ghost failed = { λ s. s.failed };
-
-    ghost wire = { λ _ _ _ _. [] };
+    ghost view = { λ s. record { slots = 16; failed = s.failed; wire = λ sent a b. [] } };
 
     ghost idle = { λ _ _ _. refl };
 

@@ -17,12 +17,12 @@ fn take_all<F: Fabric>(
     count: usize,
 ) -> Result<Vec<u8>, PumpFault>
     requires most { count ≤ 4096 }
-    requires due { AreDue count (F.put_on fabric.old from to) (F.taken_on fabric.old from to) }
-    ensures all { OnOk result (AreTaken (F.put_on fabric.new from to) (F.taken_on fabric.new from to)) }
+    requires due { AreDue count ((F.view fabric.old).put from to) ((F.view fabric.old).taken from to) }
+    ensures all { OnOk result (AreTaken ((F.view fabric.new).put from to) ((F.view fabric.new).taken from to)) }
     ensures count { IfOk result (λ got. length got.items ≡ count) }
-    ensures taken { IfOk result (λ got. Grows from to got.items (F.taken_on fabric.old) (F.taken_on fabric.new)) }
-    ensures put { (a b : ℕ) → F.put_on fabric.new a b ≡ F.put_on fabric.old a b }
-    ensures cause { HasCause (F.faults fabric.old) (F.faults fabric.new) result }
+    ensures taken { IfOk result (λ got. Grows from to got.items (F.view fabric.old).taken (F.view fabric.new).taken) }
+    ensures put { (a b : ℕ) → (F.view fabric.new).put a b ≡ (F.view fabric.old).put a b }
+    ensures cause { HasCause (F.view fabric.old).faults (F.view fabric.new).faults result }
     ensures honest { IfErr result (λ e. IsFault e) }
 {
     let mut got = Vec::new(alloc);
@@ -55,13 +55,13 @@ fn hand_some<F: Fabric>(
 ) -> Result<Vec<u8>, PumpFault>
     requires some { 0 < length piece.now }
     requires most { length piece.now ≤ 4096 }
-    requires taken { AreTaken (F.put_on fabric.old from to) (F.taken_on fabric.old from to) }
+    requires taken { AreTaken ((F.view fabric.old).put from to) ((F.view fabric.old).taken from to) }
     ensures count { IfOk result (λ got. (0 < length got.items) × (length got.items ≤ length piece.now)) }
-    ensures put { IfOk result (λ got. Grows from to (take (length got.items) piece.now) (F.put_on fabric.old) (F.put_on fabric.new)) }
-    ensures taken { IfOk result (λ got. Grows from to got.items (F.taken_on fabric.old) (F.taken_on fabric.new)) }
-    ensures all { OnOk result (AreTaken (F.put_on fabric.new from to) (F.taken_on fabric.new from to)) }
-    ensures part { GrowsPart from to piece.now (F.put_on fabric.old) (F.put_on fabric.new) }
-    ensures cause { HasCause (F.faults fabric.old) (F.faults fabric.new) result }
+    ensures put { IfOk result (λ got. Grows from to (take (length got.items) piece.now) (F.view fabric.old).put (F.view fabric.new).put) }
+    ensures taken { IfOk result (λ got. Grows from to got.items (F.view fabric.old).taken (F.view fabric.new).taken) }
+    ensures all { OnOk result (AreTaken ((F.view fabric.new).put from to) ((F.view fabric.new).taken from to)) }
+    ensures part { GrowsPart from to piece.now (F.view fabric.old).put (F.view fabric.new).put }
+    ensures cause { HasCause (F.view fabric.old).faults (F.view fabric.new).faults result }
     ensures honest { IfErr result (λ e. IsFault e) }
 {
     let count = fabric.put(from, to, piece)?;
@@ -79,13 +79,13 @@ pub(crate) fn transfer<F: Fabric>(
     to: u8,
     bytes: &[u8],
 ) -> Result<Vec<u8>, PumpFault>
-    requires taken { AreTaken (F.put_on fabric.old from to) (F.taken_on fabric.old from to) }
+    requires taken { AreTaken ((F.view fabric.old).put from to) ((F.view fabric.old).taken from to) }
     ensures count { IfOk result (λ got. length got.items ≡ length bytes.now) }
-    ensures put { OnOk result (Grows from to bytes.now (F.put_on fabric.old) (F.put_on fabric.new)) }
-    ensures taken { IfOk result (λ got. Grows from to got.items (F.taken_on fabric.old) (F.taken_on fabric.new)) }
-    ensures all { OnOk result (AreTaken (F.put_on fabric.new from to) (F.taken_on fabric.new from to)) }
-    ensures part { GrowsPart from to bytes.now (F.put_on fabric.old) (F.put_on fabric.new) }
-    ensures cause { HasCause (F.faults fabric.old) (F.faults fabric.new) result }
+    ensures put { OnOk result (Grows from to bytes.now (F.view fabric.old).put (F.view fabric.new).put) }
+    ensures taken { IfOk result (λ got. Grows from to got.items (F.view fabric.old).taken (F.view fabric.new).taken) }
+    ensures all { OnOk result (AreTaken ((F.view fabric.new).put from to) ((F.view fabric.new).taken from to)) }
+    ensures part { GrowsPart from to bytes.now (F.view fabric.old).put (F.view fabric.new).put }
+    ensures cause { HasCause (F.view fabric.old).faults (F.view fabric.new).faults result }
     ensures honest { IfErr result (λ e. IsFault e) }
 {
     let mut got = Vec::new(alloc);

@@ -31,14 +31,14 @@ impl<K: Copy + Eq + Hash, V> Model for Queue<K, V> {
 }
 
 /// That a value was taken.
-#[derive(Clone, Copy, Debug, PartialEq, Eq)]
+#[derive(Clone, Copy, PartialEq, Eq)]
 pub enum Offered {
     /// It is the last pending one.
     Queued,
 }
 
 /// Why a value was not taken.
-#[derive(Debug, Drop)]
+#[derive(Drop)]
 pub enum OfferFault<V> {
     /// `MOST_PENDING` values are pending. The value is given back.
     Full { value: V },

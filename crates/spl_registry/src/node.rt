@@ -7,7 +7,7 @@ use std::alloc::{AllocError, Global};
 use std::marker::Model;
 
 /// A node, and where it is reached. Contracts see the bytes.
-#[derive(Debug, Drop)]
+#[derive(Drop)]
 pub struct Node {
     identity: NodeId,
     endpoint: Piece,

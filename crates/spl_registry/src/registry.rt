@@ -12,7 +12,7 @@ use std::alloc::{AllocError, Global};
 use std::marker::Model;
 
 /// At most 16 nodes of different ids, in the order of their document. Contracts see the list.
-#[derive(Debug, Drop)]
+#[derive(Drop)]
 pub struct Registry {
     nodes: Vec<Node>,
 }

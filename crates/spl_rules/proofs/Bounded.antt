@@ -21,7 +21,7 @@ use Rattle.spl_wire.specs.declared.change.Change.TheVariants as durable
 use Rattle.spl_wire.specs.Grouping.{value_in, breaks_no_rule, is_lawful, is_small, is_sized, grouped}
 use Rattle.spl_wire.proofs.Groups.{sized-grouped}
 use Rattle.spl_wire.proofs.Small.{small-change}
-use Rattle.spl_rules.specs.Cells.{Cell, Empty, Held, Site, is_active_here}
+use Rattle.spl_rules.specs.Cells.{Cell, Empty, Held, Site, keeps_batches}
 use Rattle.spl_rules.specs.Changes.{may_serve, applied}
 use Rattle.spl_rules.specs.Pack.{packed_batches, packed_mark, packed}
 use Rattle.spl_rules.proofs.Keys.{Each}
@@ -76,7 +76,7 @@ all-mark mark.Abandoned = refl
 all-mark _ = refl
 
 lawful-packed : (site : Site) (k : Cell) → Made site k → AllLawful (packed k)
-lawful-packed site (Held h) s = all-append (map durable.Admin (packed_member h.acts)) _ (all-admin (packed_member h.acts)) (all-append (packed_batches h) (packed_mark h.mark) (go (bool_cases (is_active_here h))) (all-mark h.mark))
+lawful-packed site (Held h) s = all-append (map durable.Admin (packed_member h.acts)) _ (all-admin (packed_member h.acts)) (all-append (packed_batches h) (packed_mark h.mark) (go (bool_cases (keeps_batches h))) (all-mark h.mark))
   where
     batches : Each Lawful (packed_member h.batches)
     batches = (
@@ -86,7 +86,7 @@ lawful-packed site (Held h) s = all-append (map durable.Admin (packed_member h.a
           (lawful-append (queued_each h.batches.pending) _ (lawful-queued h.batches.pending s.pending_lawful) (lawful-promised (values h.batches.history) h.batches.promise (λ e p. (s.batches.promised e p).good)))),
     )
 
-    go : (is_active_here h ≡ true) ⊎ (is_active_here h ≡ false) → AllLawful (packed_batches h)
+    go : (keeps_batches h ≡ true) ⊎ (keeps_batches h ≡ false) → AllLawful (packed_batches h)
     go (inl q) = rw q (all-service (packed_member h.batches) batches)
     go (inr q) = rw q
 lawful-packed site k s = refl

@@ -17,12 +17,12 @@ use Rattle.spl_circuit.specs.Forms.{definition}
 use Rattle.spl_circuit.specs.Nodes.{position}
 use Rattle.spl_circuit.specs.Rules.{broken, is_member}
 use Rattle.spl_circuit.specs.Acts.{act_rules}
-use Rattle.spl_circuit.specs.Lifecycle.{life, is_active}
+use Rattle.spl_circuit.specs.Lifecycle.{life, is_running}
 use Rattle.spl_command.specs.declared.batch.Batch.{Batch}
 use Rattle.spl_scabbard.specs.Checks.{batch_rules}
 use Rattle.spl_wire.specs.declared.change.Change.{Change}
 use Rattle.spl_wire.specs.declared.change.Change.TheVariants as durable
-use Rattle.spl_rules.specs.Cells.{Bound, Cell, Empty, Held, Purged, Site, fresh, admin_group, service_group, is_open, is_free, is_active_here}
+use Rattle.spl_rules.specs.Cells.{Bound, Cell, Empty, Held, Purged, Site, fresh, admin_group, service_group, is_open, is_free, runs, keeps_batches}
 use Rattle.spl_rules.specs.Changes.{turn_after, may_queue, may_serve, may_keep, fits_free, applied_one, applied, moved_cell, stopped_cell}
 use Rattle.spl_wire.specs.Grouping.{value_in, meets}
 use Rattle.spl_wire.specs.Bounds.{has_form, is_formed}
@@ -55,15 +55,15 @@ kept-admin site h x q w s =
     let fit : fits_group (act_rules h.definition) (may_queue site.here h.turn h.acts.pending) h.acts x ≡ true = and_right (is_open h.mark) _ q in
     record { ruled = s.ruled; defined = s.defined; own = s.own; member = s.member; acts = checked-changed (act_rules h.definition) (may_queue site.here h.turn h.acts.pending) h.acts x fit s.acts; batches = s.batches; formed = meets-changed (act_rules h.definition) has_form h.acts x w s.formed; lawful = s.lawful; closed = λ e. cc }
 
-kept-service : (site : Site) (h : Bound) (x : GroupChange Batch) → (is_open h.mark && (is_active_here h && (may_keep x && fits_group batch_rules may_serve h.batches x))) ≡ true → IsHeld site h → IsHeld site (record h { batches = changed batch_rules h.batches x })
+kept-service : (site : Site) (h : Bound) (x : GroupChange Batch) → (is_open h.mark && (keeps_batches h && (may_keep x && fits_group batch_rules may_serve h.batches x))) ≡ true → IsHeld site h → IsHeld site (record h { batches = changed batch_rules h.batches x })
 kept-service site h x w s =
-    let both : (may_keep x && fits_group batch_rules may_serve h.batches x) ≡ true = and_right (is_active_here h) _ (and_right (is_open h.mark) _ w) in
+    let both : (may_keep x && fits_group batch_rules may_serve h.batches x) ≡ true = and_right (keeps_batches h) _ (and_right (is_open h.mark) _ w) in
     let fit : fits_group batch_rules may_serve h.batches x ≡ true = and_right (may_keep x) _ both in
     let good : meets may_serve (value_in x) ≡ true = fitting-lawful h.batches x (and_left (may_keep x) _ both) fit s.lawful.pending in
     record { ruled = s.ruled; defined = s.defined; own = s.own; member = s.member; acts = s.acts; batches = checked-changed batch_rules may_serve h.batches x fit s.batches; formed = s.formed; lawful = meets-changed batch_rules may_serve h.batches x good s.lawful; closed = s.closed }
 
-kept-abandon : (site : Site) (h : Bound) → (is_open h.mark && is_active_here h) ≡ true → IsHeld site h → IsHeld site (record h { mark = mark.Abandoned })
-kept-abandon site h w s = record { ruled = s.ruled; defined = s.defined; own = s.own; member = s.member; acts = s.acts; batches = s.batches; formed = s.formed; lawful = s.lawful; closed = λ e. and_right (is_open h.mark) (is_active_here h) w }
+kept-abandon : (site : Site) (h : Bound) → (is_open h.mark && runs h) ≡ true → IsHeld site h → IsHeld site (record h { mark = mark.Abandoned })
+kept-abandon site h w s = record { ruled = s.ruled; defined = s.defined; own = s.own; member = s.member; acts = s.acts; batches = s.batches; formed = s.formed; lawful = s.lawful; closed = λ e. and_right (is_open h.mark) (runs h) w }
 
 kept-turn : (site : Site) (h : Bound) (t : ℕ) → IsHeld site h → IsHeld site (record h { turn = t })
 kept-turn site h t s = record { ruled = s.ruled; defined = s.defined; own = s.own; member = s.member; acts = s.acts; batches = s.batches; formed = s.formed; lawful = s.lawful; closed = s.closed }
@@ -119,7 +119,7 @@ kept-moved site h x y s =
       batches = q.checked s.batches;
       formed = p.meets has_form s.formed;
       lawful = q.meets may_serve s.lawful;
-      closed = λ e. subst (λ (w : List (ℕ × Act)). is_active (life h.definition (values w)).state ≡ true) (sym p.history) (s.closed e);
+      closed = λ e. subst (λ (w : List (ℕ × Act)). is_running (life h.definition (values w)).state ≡ true) (sym p.history) (s.closed e);
     }
 
 pub valid-moved : (site : Site) (k : Cell) (x y : OpenMove) → IsKept site k → FitsMoveAt site.here k x y → IsValid site (moved_cell site.here k x y)

@@ -23,7 +23,7 @@ use Rattle.spl_circuit.proofs.Valid.{few_members}
 use Rattle.spl_command.specs.declared.batch.Batch.{Batch}
 use Rattle.spl_wire.specs.declared.change.Change.TheVariants as durable
 use Rattle.spl_wire.specs.Bounds.{has_form}
-use Rattle.spl_rules.specs.Cells.{Bound, Cell, Held, Site, Deed, Replies, Binds, Acts, Serves, Turns, Abandons, Purges, fresh, admin_group, service_group, is_open, is_active_here}
+use Rattle.spl_rules.specs.Cells.{Bound, Cell, Held, Site, Deed, Replies, Binds, Acts, Serves, Turns, Abandons, Purges, fresh, admin_group, service_group, is_open, runs}
 use Rattle.spl_rules.specs.Plans.{admin_lane, group_row}
 use Rattle.spl_rules.specs.Changes.{may_queue, may_serve, fits_free}
 use Rattle.spl_rules.specs.Valid.{carries, is_legal}
@@ -52,15 +52,15 @@ pub record ActsAt (site : Site) (k : Cell) (h : Bound) (e : GroupEvent Act) : Ty
 pub record ServesAt (site : Site) (k : Cell) (h : Bound) (e : GroupEvent Batch) : Type 0 where
   pub held : k ≡ Held h
   pub unclosed : is_open h.mark ≡ true
-  pub active : is_active_here h ≡ true
+  pub active : runs h ≡ true
   pub fit : FitsServed site h e
   pub brings : Brings may_serve e
 
--- a tick, or an expire: it leaves the history of acts, so that the circuit stays active
+-- a tick, or an expire: it leaves the history of acts, so that the service group goes on to fit
 pub record TurnsAt (site : Site) (k : Cell) (h : Bound) (x : GroupEvent Act) (y : GroupEvent Batch) : Type 0 where
   pub held : k ≡ Held h
   pub unclosed : is_open h.mark ≡ true
-  pub active : is_active_here h ≡ true
+  pub active : runs h ≡ true
   pub fit : FitsEvent site h x
   pub still : (changed_by (act_rules h.definition) h.acts (group_row (admin_lane site h.definition) h.acts x).changes).history ≡ h.acts.history
   pub asks : Brings has_form x
@@ -70,7 +70,7 @@ pub record TurnsAt (site : Site) (k : Cell) (h : Bound) (x : GroupEvent Act) (y 
 pub record AbandonsAt (k : Cell) : Type 0 where
   pub bound : Bound
   pub held : k ≡ Held bound
-  pub active : (is_open bound.mark && is_active_here bound) ≡ true
+  pub active : (is_open bound.mark && runs bound) ≡ true
 
 pub record PurgesAt (k : Cell) : Type 0 where
   pub bound : Bound
@@ -96,10 +96,10 @@ FitsDeed site k _ = Unit {0}
 pub acts-at : (site : Site) (h : Bound) (e : GroupEvent Act) → is_open h.mark ≡ true → FitsEvent site h e → Brings has_form e → ActsAt site (Held h) h e
 acts-at site h e unclosed fit brings = record { held = refl; unclosed = unclosed; fit = fit; brings = brings }
 
-pub serves-at : (site : Site) (h : Bound) (e : GroupEvent Batch) → is_open h.mark ≡ true → is_active_here h ≡ true → FitsServed site h e → Brings may_serve e → ServesAt site (Held h) h e
+pub serves-at : (site : Site) (h : Bound) (e : GroupEvent Batch) → is_open h.mark ≡ true → runs h ≡ true → FitsServed site h e → Brings may_serve e → ServesAt site (Held h) h e
 serves-at site h e unclosed active fit brings = record { held = refl; unclosed = unclosed; active = active; fit = fit; brings = brings }
 
-pub abandons-at : (h : Bound) → is_open h.mark ≡ true → is_active_here h ≡ true → AbandonsAt (Held h)
+pub abandons-at : (h : Bound) → is_open h.mark ≡ true → runs h ≡ true → AbandonsAt (Held h)
 abandons-at h unclosed active = record { bound = h; held = refl; active = rw (unclosed, active) }
 
 pub purges-at : (h : Bound) → PurgesAt (Held h)

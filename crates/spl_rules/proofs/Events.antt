@@ -1,5 +1,5 @@
 -- The deed of each event fits its cell.
-use Rattle.std.proofs.Common.{◌≡◌, ◌≢◌, ◌⊎◌, ℕ, ◌+◌, ◌≤◌, Bool, true, false, not, ◌&&◌, IsTrue, List, [], length, refl, sym, subst, inl, inr, arith}
+use Rattle.std.proofs.Common.{◌≡◌, ◌≢◌, ◌⊎◌, ℕ, ◌+◌, ◌-◌, ◌^◌, ◌<◌, ◌≤◌, Bool, true, false, not, ◌&&◌, IsTrue, List, [], length, refl, sym, subst, inl, inr, arith}
 use Rattle.std.specs.Prelude.{Option, Some, None, ◌==◌, nat_le, is_none, is_some, if◌then◌else◌, Ok, Err}
 use Rattle.std.specs.List.{list_any}
 use Rattle.std.specs.Str.{bytes_eq}
@@ -11,18 +11,16 @@ use Rattle.spl_agree.specs.declared.message.CommitMsg.{CommitMsg}
 use Rattle.spl_agree.specs.declared.message.CommitMsg.TheVariants as msg
 use Rattle.spl_agree.specs.declared.event.GroupEvent.{GroupEvent}
 use Rattle.spl_agree.specs.declared.event.GroupEvent.TheVariants as group
-use Rattle.spl_agree.proofs.Tests.{if_holds, bool_cases, and_left, and_right, or_left, or_right, eqb_is, eqb_not}
+use Rattle.spl_agree.proofs.Tests.{length-values, lt_is, if_holds, bool_cases, and_left, and_right, or_left, or_right, eqb_is, eqb_not}
 use Rattle.spl_group.proofs.Sound.{is_none_is}
 use Rattle.spl_circuit.specs.declared.definition.Definition.{Definition}
 use Rattle.spl_circuit.specs.declared.act.ActKind.{ActKind}
 use Rattle.spl_circuit.specs.declared.act.ActKind.TheVariants as kind
 use Rattle.spl_circuit.specs.declared.act.Act.{Act}
-use Rattle.spl_circuit.specs.declared.lifecycle.Lifecycle.{Lifecycle}
-use Rattle.spl_circuit.specs.declared.lifecycle.Lifecycle.TheVariants as lifecycle
 use Rattle.spl_circuit.specs.Forms as form
 use Rattle.spl_circuit.specs.Nodes.{NodeId, ServiceId, has_node, position}
 use Rattle.spl_circuit.specs.Rules.{broken, admin, is_member}
-use Rattle.spl_circuit.specs.Lifecycle.{is_proposed, is_active}
+use Rattle.spl_circuit.specs.Lifecycle.{Life, is_disbanding, is_asked, current}
 use Rattle.spl_circuit.specs.Acts.{act_rules, is_node}
 use Rattle.spl_circuit.specs.declared.lifecycle.RouteFault.TheVariants as fault
 use Rattle.spl_circuit.specs.Routing.{Way}
@@ -38,7 +36,7 @@ use Rattle.spl_wire.specs.declared.answer.Answer.TheVariants as answer
 use Rattle.spl_wire.specs.declared.change.Change.TheVariants as durable
 use Rattle.spl_wire.specs.declared.event.Event.{Event}
 use Rattle.spl_wire.specs.declared.event.Event.TheVariants as event
-use Rattle.spl_rules.specs.Cells.{Bound, Cell, Empty, Held, Purged, Site, Deed, Tells, fresh, admin_group, is_open, is_free, is_active_here, own_life, can_bind, proposal, proposes, proposes_at, next_act, is_act_pending, votes, removes, abandons, purges, is_waiting, declines, asked_first, forwarded_first, hears_first}
+use Rattle.spl_rules.specs.Cells.{Bound, Cell, Empty, Held, Purged, Site, Deed, Tells, fresh, admin_group, is_open, is_free, is_active_here, runs, own_life, can_bind, proposal, proposes, proposes_at, next_act, is_act_pending, submits_next, vote_kind, removal_kind, votes, removes, disbands, abandons, purges, is_waiting, declines, asked_first, forwarded_first, hears_first}
 use Rattle.spl_rules.specs.Batches.{submits_known, submits_ruled, submits, when_active, root_told, history_told, value_told, listed, has_the_id, status_refused, status_kept, status_told, receipt_kept, receipt_told, routed, way, serves_other, hears_routed}
 use Rattle.spl_rules.specs.Events.{turns, hears_admin, held_hears, other_hears, held_does, other_does, does}
 use Rattle.spl_rules.specs.Plans.{admin_lane, group_row}
@@ -46,6 +44,7 @@ use Rattle.spl_rules.specs.Changes.{may_queue, may_serve, fits_free}
 use Rattle.spl_wire.specs.Bounds.{has_form}
 use Rattle.spl_rules.specs.Valid.{IsHeld, IsKept, IsNamed, IsFor, carries, is_legal}
 use Rattle.spl_circuit.specs.Same.{node_is, node_same}
+use Rattle.spl_circuit.proofs.Lives.{place_below}
 use Rattle.spl_rules.proofs.Carried.{Brings}
 use Rattle.spl_rules.proofs.Still.{still-tick, still-expire}
 use Rattle.spl_rules.proofs.Deeds.{FitsEvent, FitsServed, BindsAt, ActsAt, FitsDeed, may-other, acts-at, serves-at, abandons-at, purges-at, fits-message, fits-served}
@@ -85,32 +84,47 @@ fits-next site h k roomy free = record {
   queues = inl (rw (node_same site.here, free.none, next-turn h.turn));
 }
 
--- what isn't open is active, and so isn't proposed
-open-proposed : (site : Site) (h : Bound) → IsHeld site h → is_proposed (own_life h).state ≡ true → is_open h.mark ≡ true
-open-proposed site h s p = go (bool_cases (is_open h.mark))
-  where
-    apart : (l : Lifecycle) → is_proposed l ≡ true → is_active l ≡ true → ⊥
-    apart lifecycle.Active x y = cc
-    apart _ x y = cc
-
-    go : (is_open h.mark ≡ true) ⊎ (is_open h.mark ≡ false) → is_open h.mark ≡ true
-    go (inl q) = q
-    go (inr q) = absurd (apart (own_life h).state p (s.closed q))
-
-acts-next : (site : Site) (h : Bound) (k : ActKind) → IsNamed site → IsTrue (form.kind.fits k) → IsHeld site h → is_act_pending site h ≡ false → not (is_proposed (own_life h).state) ≡ false → ActsAt site (Held h) h (group.Submit (next_act site.here h.turn k))
-acts-next site h k n f s free proposed = acts-at site h (group.Submit (next_act site.here h.turn k)) (open-proposed site h s (not_false _ proposed)) (fits-next site h k s.acts.roomy (can-act site h free)) (rw (n.node, f))
+-- the next act of this node, where it takes part
+fits-submits_next : (site : Site) (h : Bound) (k : ActKind) → IsNamed site → IsTrue (form.kind.fits k) → IsHeld site h → is_act_pending site h ≡ false → FitsDeed site (Held h) (submits_next site h k)
+fits-submits_next site h k n f s free =
+    if_holds (FitsDeed site (Held h)) (is_open h.mark) _ _
+    (λ q. acts-at site h (group.Submit (next_act site.here h.turn k)) q (fits-next site h k s.acts.roomy (can-act site h free)) (rw (n.node, f)))
+    (λ q. tt)
 
 fits-votes : (site : Site) (h : Bound) (k : ActKind) → IsNamed site → IsTrue (form.kind.fits k) → IsHeld site h → FitsDeed site (Held h) (votes site h k)
 fits-votes site h k n f s =
     if_holds (FitsDeed site (Held h)) _ _ _ (λ q. tt) (λ free.
-    if_holds (FitsDeed site (Held h)) _ _ _ (λ q. tt) (λ proposed.
-    if_holds (FitsDeed site (Held h)) (has_node (own_life h).accepted site.here) _ _ (λ q. tt) (λ q. acts-next site h k n f s free proposed)))
+    if_holds (FitsDeed site (Held h)) (not (is_asked (own_life h).state)) _ _ (λ q. tt) (λ asked.
+    if_holds (FitsDeed site (Held h)) (has_node (current (own_life h)).accepted site.here) _ _ (λ q. tt) (λ q. fits-submits_next site h k n f s free)))
 
-fits-removes : (site : Site) (h : Bound) → IsNamed site → IsHeld site h → FitsDeed site (Held h) (removes site h)
-fits-removes site h n s =
+fits-removes : (site : Site) (h : Bound) (k : ActKind) → IsNamed site → IsTrue (form.kind.fits k) → IsHeld site h → FitsDeed site (Held h) (removes site h k)
+fits-removes site h k n f s =
     if_holds (FitsDeed site (Held h)) _ _ _ (λ q. tt) (λ free.
-    if_holds (FitsDeed site (Held h)) _ _ _ (λ q. tt) (λ proposed.
-    if_holds (FitsDeed site (Held h)) (not (is_node (own_life h).requester site.here)) _ _ (λ q. tt) (λ q. acts-next site h kind.Remove n refl s free proposed)))
+    if_holds (FitsDeed site (Held h)) (not (is_asked (own_life h).state)) _ _ (λ q. tt) (λ asked.
+    if_holds (FitsDeed site (Held h)) (not (is_node (current (own_life h)).requester site.here)) _ _ (λ q. tt) (λ q. fits-submits_next site h k n f s free)))
+
+fits-disbands : (site : Site) (h : Bound) → IsNamed site → IsHeld site h → FitsDeed site (Held h) (disbands site h)
+fits-disbands site h n s =
+    if_holds (FitsDeed site (Held h)) _ _ _ (λ q. tt) (λ free.
+    if_holds (FitsDeed site (Held h)) (not (is_active_here h)) _ _ (λ q. tt) (λ active.
+    if_holds (FitsDeed site (Held h)) (not (is_open h.mark)) _ _ (λ q. tt) (λ unclosed.
+    if_holds (FitsDeed site (Held h)) (h.definition.version == 1) _ _ (λ q. tt) (λ q.
+    acts-at site h (group.Submit (next_act site.here h.turn kind.Disband)) (not_false _ unclosed) (fits-next site h kind.Disband s.acts.roomy (can-act site h free)) (rw n.node)))))
+
+-- the place of a disband has a byte form, and so have the acts on it
+place-fits : (site : Site) (h : Bound) → IsHeld site h → IsTrue (form.word.fits (own_life h).disband.place)
+place-fits site h s =
+    let below : (own_life h).disband.place ≤ length (values h.acts.history) = place_below h.definition (values h.acts.history) in
+    let few : length h.acts.history ≤ 2 ^ 32 - 1 = s.acts.roomy.room in
+    let same : length (values h.acts.history) ≡ length h.acts.history = length-values h.acts.history in
+    lt_is (own_life h).disband.place (2 ^ 32) (omega (arith, below, few, same))
+
+fits-vote_kind : (l : Life) (accept : Bool) → IsTrue (form.word.fits l.disband.place) → IsTrue (form.kind.fits (vote_kind l accept))
+fits-vote_kind l true w = if_holds (λ (k : ActKind). IsTrue (form.kind.fits k)) (is_disbanding l.state) (kind.DisbandAccept l.disband.place) kind.Accept (λ q. rw w) (λ q. refl)
+fits-vote_kind l false w = if_holds (λ (k : ActKind). IsTrue (form.kind.fits k)) (is_disbanding l.state) (kind.DisbandReject l.disband.place) kind.Reject (λ q. rw w) (λ q. refl)
+
+fits-removal_kind : (l : Life) → IsTrue (form.word.fits l.disband.place) → IsTrue (form.kind.fits (removal_kind l))
+fits-removal_kind l w = if_holds (λ (k : ActKind). IsTrue (form.kind.fits k)) (is_disbanding l.state) (kind.DisbandRemove l.disband.place) kind.Remove (λ q. rw w) (λ q. refl)
 
 -- ---- proposals
 
@@ -205,25 +219,25 @@ fits-batch site h v roomy space unknown may = record { due = (unknown, let few :
 none_may : (v : Batch) → broken_batch v ≡ None → may_serve v ≡ true
 none_may v h = rw h
 
-fits-submits_known : (site : Site) (h : Bound) (v : Batch) (o : Option Batch) → IsHeld site h → is_open h.mark ≡ true → is_active_here h ≡ true → broken_batch v ≡ None → known batch_rules h.batches v ≡ o → FitsDeed site (Held h) (submits_known site h v o)
+fits-submits_known : (site : Site) (h : Bound) (v : Batch) (o : Option Batch) → IsHeld site h → is_open h.mark ≡ true → runs h ≡ true → broken_batch v ≡ None → known batch_rules h.batches v ≡ o → FitsDeed site (Held h) (submits_known site h v o)
 fits-submits_known site h v None s unclosed active ruled unknown =
     if_holds (FitsDeed site (Held h)) (length h.batches.pending == 64) _ _ (λ q. tt) (λ q.
     serves-at site h (group.Submit v) unclosed active (fits-batch site h v s.batches.roomy (eqb_not (length h.batches.pending) 64 q) unknown (none_may v ruled)) (none_may v ruled))
 fits-submits_known site h v (Some u) s unclosed active ruled unknown = if_holds (FitsDeed site (Held h)) (same_batch u v) _ _ (λ q. tt) (λ q. tt)
 
-fits-submits_ruled : (site : Site) (h : Bound) (v : Batch) (o : Option ℕ) → IsHeld site h → is_open h.mark ≡ true → is_active_here h ≡ true → broken_batch v ≡ o → FitsDeed site (Held h) (submits_ruled site h v o)
+fits-submits_ruled : (site : Site) (h : Bound) (v : Batch) (o : Option ℕ) → IsHeld site h → is_open h.mark ≡ true → runs h ≡ true → broken_batch v ≡ o → FitsDeed site (Held h) (submits_ruled site h v o)
 fits-submits_ruled site h v (Some rule) s unclosed active ruled = tt
 fits-submits_ruled site h v None s unclosed active ruled = fits-submits_known site h v (known batch_rules h.batches v) s unclosed active ruled refl
 
 fits-submits : (site : Site) (h : Bound) (v : Batch) → IsHeld site h → FitsDeed site (Held h) (submits site h v)
 fits-submits site h v s =
-    if_holds (FitsDeed site (Held h)) (not (is_active_here h)) _ _ (λ q. tt) (λ active.
+    if_holds (FitsDeed site (Held h)) (not (runs h)) _ _ (λ q. tt) (λ active.
     if_holds (FitsDeed site (Held h)) (not (is_open h.mark)) _ _ (λ q. tt) (λ unclosed.
     fits-submits_ruled site h v (broken_batch v) s (not_false _ unclosed) (not_false _ active) refl))
 
 -- what is told changes nothing
 fits-active : (site : Site) (k : Cell) (h : Bound) (deed : Deed) → FitsDeed site k deed → FitsDeed site k (when_active h deed)
-fits-active site k h deed w = if_holds (FitsDeed site k) (is_active_here h) _ _ (λ q. w) (λ q. tt)
+fits-active site k h deed w = if_holds (FitsDeed site k) (runs h) _ _ (λ q. w) (λ q. tt)
 
 fits-status : (site : Site) (k : Cell) (b : Member Batch) (i : ℕ) (o : Option ℕ) → FitsDeed site k (status_kept b i o)
 fits-status site k b i (Some place) = tt
@@ -241,11 +255,11 @@ fits-routes : (site : Site) (k : Cell) (w : Way) → FitsDeed site k (routed w (
 fits-routes site k (Ok x) = tt
 fits-routes site k (Err f) = tt
 
--- a routed message finds the circuit active and open
-way-runs : (site : Site) (h : Bound) (from : NodeId) (s t : ServiceId) (x : Unit {0}) → way site h from s t ≡ Ok x → (is_open h.mark && is_active_here h) ≡ true
-way-runs site h from s t x w = go (bool_cases (is_open h.mark && is_active_here h))
+-- a routed message finds the circuit running and open
+way-runs : (site : Site) (h : Bound) (from : NodeId) (s t : ServiceId) (x : Unit {0}) → way site h from s t ≡ Ok x → (is_open h.mark && runs h) ≡ true
+way-runs site h from s t x w = go (bool_cases (is_open h.mark && runs h))
   where
-    go : ((is_open h.mark && is_active_here h) ≡ true) ⊎ ((is_open h.mark && is_active_here h) ≡ false) → (is_open h.mark && is_active_here h) ≡ true
+    go : ((is_open h.mark && runs h) ≡ true) ⊎ ((is_open h.mark && runs h) ≡ false) → (is_open h.mark && runs h) ≡ true
     go (inl q) = q
     go (inr q) = absurd (let z : Err fault.CircuitDoesNotExist ≡ Ok x = rw q at w in cc)
 
@@ -256,9 +270,9 @@ fits-serves_other site k from s t _ n g h = tt
 fits-routed : (site : Site) (h : Bound) (from : NodeId) (s t : ServiceId) (x : CommitMsg Batch) (w : Way) → IsNamed site → nat_le (length s) 4 ≡ true → nat_le (length t) 4 ≡ true → IsHeld site h → bytes_eq from site.here ≡ false → carries may_serve x ≡ true → way site h from s t ≡ w → FitsDeed site (Held h) (routed w (hears_routed site h from s t x))
 fits-routed site h from s t x (Err f) n g e held apart legal w = tt
 fits-routed site h from s t x (Ok u) n g e held apart legal w =
-    let both : (is_open h.mark && is_active_here h) ≡ true = way-runs site h from s t u w in
+    let both : (is_open h.mark && runs h) ≡ true = way-runs site h from s t u w in
     if_holds (FitsDeed site (Held h)) (generation_of x == h.definition.generation) _ _
-    (λ q. serves-at site h (group.From (position h.definition.members from) x) (and_left (is_open h.mark) (is_active_here h) both) (and_right (is_open h.mark) (is_active_here h) both) (fits-served site h from x held.ruled held.member (eqb_is _ _ q) apart legal) legal)
+    (λ q. serves-at site h (group.From (position h.definition.members from) x) (and_left (is_open h.mark) (runs h) both) (and_right (is_open h.mark) (runs h) both) (fits-served site h from x held.ruled held.member (eqb_is _ _ q) apart legal) legal)
     (λ q. fits-serves_other site (Held h) from s t x n g e)
 
 -- ---- the other events
@@ -266,7 +280,7 @@ fits-routed site h from s t x (Ok u) n g e held apart legal w =
 turning : (site : Site) (h : Bound) (x : GroupEvent Act) (y : GroupEvent Batch) → FitsEvent site h x → (changed_by (act_rules h.definition) h.acts (group_row (admin_lane site h.definition) h.acts x).changes).history ≡ h.acts.history → Brings has_form x → FitsServed site h y → Brings may_serve y → FitsDeed site (Held h) (turns site h x y)
 turning site h x y fit still asks serves brings =
     if_holds (FitsDeed site (Held h)) (is_open h.mark) _ _
-    (λ unclosed. if_holds (FitsDeed site (Held h)) (is_active_here h) _ _
+    (λ unclosed. if_holds (FitsDeed site (Held h)) (runs h) _ _
     (λ active. record { held = refl; unclosed = unclosed; active = active; fit = fit; still = still; asks = asks; serves = serves; brings = brings })
     (λ q. acts-at site h x unclosed fit asks))
     (λ q. tt)
@@ -298,8 +312,9 @@ fits-other_hears site k from (message.Scabbard i s t x) n apart legal = tt
 
 fits-held : (site : Site) (h : Bound) (e : Event) → IsNamed site → IsFor site e → IsHeld site h → FitsDeed site (Held h) (held_does site h e)
 fits-held site h (event.Propose p) n own s = fits-proposes site p (Held h) (broken p) n own.1 own.0 refl
-fits-held site h (event.Vote accept) n own s = fits-votes site h (if accept then kind.Accept else kind.Reject) n (if_holds (λ (w : ActKind). IsTrue (form.kind.fits w)) accept kind.Accept kind.Reject (λ q. refl) (λ q. refl)) s
-fits-held site h event.Remove n own s = fits-removes site h n s
+fits-held site h (event.Vote accept) n own s = fits-votes site h (vote_kind (own_life h) accept) n (fits-vote_kind (own_life h) accept (place-fits site h s)) s
+fits-held site h event.Remove n own s = fits-removes site h (removal_kind (own_life h)) n (fits-removal_kind (own_life h) (place-fits site h s)) s
+fits-held site h event.Disband n own s = fits-disbands site h n s
 fits-held site h event.Abandon n own s = fits-abandons site h
 fits-held site h event.Purge n own s = fits-purges site h
 fits-held site h (event.Submit v) n own s = fits-submits site h v s

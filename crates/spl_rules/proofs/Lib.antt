@@ -18,7 +18,7 @@ pub mod Keys
 pub mod Built
 pub mod Rebuilt
 pub mod Owns
-pub mod Final
+pub mod Running
 pub mod Packed
 pub mod Written
 pub mod Bounded

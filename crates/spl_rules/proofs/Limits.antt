@@ -21,7 +21,7 @@ use Rattle.spl_wire.specs.declared.change.Change.{Change}
 use Rattle.spl_wire.specs.declared.change.Change.TheVariants as durable
 use Rattle.spl_wire.specs.Bounds.{IsWritable, has_form, is_formed}
 use Rattle.spl_wire.proofs.Bounds.{IsBrief, brief-bind, brief-admin, brief-service, brief-abandon, brief-purge, writable-none, writable-one, writable-two}
-use Rattle.spl_rules.specs.Cells.{Cell, Held, Site, Deed, Binds, Acts, Serves, Turns, Abandons, Purges, admin_group, service_group, is_active_here}
+use Rattle.spl_rules.specs.Cells.{Cell, Held, Site, Deed, Binds, Acts, Serves, Turns, Abandons, Purges, admin_group, service_group, keeps_batches}
 use Rattle.spl_rules.specs.Plans.{admin_lane, service_lane, group_row, planned}
 use Rattle.spl_rules.specs.Changes.{may_serve}
 use Rattle.spl_rules.specs.Pack.{packed_batches, packed_mark, packed}
@@ -148,9 +148,9 @@ pub bounded-packed : (site : Site) (k : Cell) → IsKept site k → AllBounded (
 bounded-packed site (Held h) s =
     and_true (definition.bounded h.definition) _ (brief-bind h.definition s.defined).bounded
     (bounded-append (map durable.Admin (packed_member h.acts)) _ (bounded-acts (packed_member h.acts) (meet-packed has_form h.acts s.formed))
-    (bounded-append (packed_batches h) (packed_mark h.mark) (go (bool_cases (is_active_here h))) (bounded-mark h.mark)))
+    (bounded-append (packed_batches h) (packed_mark h.mark) (go (bool_cases (keeps_batches h))) (bounded-mark h.mark)))
   where
-    go : (is_active_here h ≡ true) ⊎ (is_active_here h ≡ false) → AllBounded (packed_batches h)
+    go : (keeps_batches h ≡ true) ⊎ (keeps_batches h ≡ false) → AllBounded (packed_batches h)
     go (inl q) = rw q (bounded-batches (packed_member h.batches) (meet-packed may_serve h.batches s.lawful))
     go (inr q) = rw q
 bounded-packed site k s = refl

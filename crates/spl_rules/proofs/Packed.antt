@@ -1,5 +1,5 @@
 -- The packed form of a cell that changes have made of an empty one makes that cell again.
-use Rattle.std.proofs.Common.{◌≡◌, ◌⊎◌, ℕ, ◌<◌, true, false, ◌&&◌, List, [], ◌∷◌, ◌++◌, refl, sym, ap, subst, ◌∙◌, inl, inr, arith}
+use Rattle.std.proofs.Common.{◌≡◌, ◌⊎◌, ℕ, ◌<◌, true, false, ◌&&◌, ◌||◌, List, [], ◌∷◌, ◌++◌, refl, sym, ap, subst, ◌∙◌, inl, inr, arith}
 use Rattle.std.specs.Prelude.{map, Option, Some, None, nat_lt, nat_le, is_none, ◌==◌}
 use Rattle.std.specs.List.{list_all}
 use Rattle.std.specs.Str.{bytes_eq}
@@ -27,7 +27,7 @@ use Rattle.spl_command.specs.Equality.{same_list, same_transaction}
 use Rattle.spl_scabbard.specs.Checks.{batch_rules}
 use Rattle.spl_wire.specs.declared.change.Change.{Change}
 use Rattle.spl_wire.specs.declared.change.Change.TheVariants as durable
-use Rattle.spl_rules.specs.Cells.{Bound, Cell, Empty, Held, Purged, Site, fresh, is_open, is_free, is_active_here}
+use Rattle.spl_rules.specs.Cells.{Bound, Cell, Empty, Held, Purged, Site, fresh, is_open, is_free, runs, keeps_batches}
 use Rattle.spl_rules.specs.Changes.{turn_after, may_queue, may_serve, may_keep, fits_free, applied_one, applied, stopped_cell}
 use Rattle.spl_rules.specs.Pack.{packed_batches, packed_mark, packed}
 use Rattle.spl_rules.proofs.Members.{pending-changed}
@@ -37,7 +37,7 @@ use Rattle.spl_rules.proofs.Keys.{Each, each-more, HasKeys}
 use Rattle.spl_rules.proofs.Built.{IsBuilt, built-new, built-changed, is-fresh}
 use Rattle.spl_rules.proofs.Rebuilt.{FitInTurn, MayInTurn, Leads, rebuilt}
 use Rattle.spl_rules.proofs.Owns.{Mine, mine-changed, mine-may}
-use Rattle.spl_rules.proofs.Final.{runs-changed}
+use Rattle.spl_rules.proofs.Running.{keeps-changed}
 
 -- ---- the keys of acts and of batches
 
@@ -64,16 +64,16 @@ pub record IsMade (site : Site) (h : Bound) : Type 0 where
   pub ruled : broken h.definition ≡ None
   pub own : bytes_eq h.definition.id site.circuit ≡ true
   pub member : is_member h.definition site.here ≡ true
-  -- it is open or abandoned, and what is abandoned is active
+  -- it is open or abandoned, and what is abandoned runs
   pub marked : is_open h.mark ≡ false → h.mark ≡ mark.Abandoned
-  pub closed : is_open h.mark ≡ false → is_active_here h ≡ true
+  pub closed : is_open h.mark ≡ false → runs h ≡ true
   pub acts : IsBuilt (act_rules h.definition) h.acts
   pub batches : IsBuilt batch_rules h.batches
   pub mine : Mine site.here h.turn [] h.acts.pending
   pub pending_lawful : list_all may_serve h.batches.pending ≡ true
   pub refused_lawful : Each Lawful h.batches.refused
-  -- there are batches only where the circuit is active
-  pub idle : is_active_here h ≡ false → h.batches ≡ new_member
+  -- there are batches only where the circuit runs, or has run
+  pub idle : keeps_batches h ≡ false → h.batches ≡ new_member
 
 abbrev pub Made : Site → Cell → Type 0
 Made site Empty = Unit {0}
@@ -84,9 +84,9 @@ Made site (Purged old) = 0 < old
 
 -- a valid definition has a generation from 1 on
 first_generation : (d : Definition) → broken d ≡ None → 0 < d.generation
-first_generation d h = go (bool_cases (d.version == 1)) (bool_cases (nat_le 1 d.generation))
+first_generation d h = go (bool_cases (d.version == 1 || d.version == 2)) (bool_cases (nat_le 1 d.generation))
   where
-    go : ((d.version == 1) ≡ true) ⊎ ((d.version == 1) ≡ false) → (nat_le 1 d.generation ≡ true) ⊎ (nat_le 1 d.generation ≡ false) → 0 < d.generation
+    go : ((d.version == 1 || d.version == 2) ≡ true) ⊎ ((d.version == 1 || d.version == 2) ≡ false) → (nat_le 1 d.generation ≡ true) ⊎ (nat_le 1 d.generation ≡ false) → 0 < d.generation
     go (inr p) q = absurd (let z : Some 1 ≡ None = rw p at h in cc)
     go (inl p) (inr q) = absurd (let z : Some 2 ≡ None = rw (p, q) at h in cc)
     go (inl p) (inl q) = grind (arith, nat_tests)
@@ -124,11 +124,11 @@ made-admin site h x w s =
       mine = mine-changed site.here h.definition h.turn h.acts x fit s.mine;
       pending_lawful = s.pending_lawful;
       refused_lawful = s.refused_lawful;
-      idle = λ e. go fit e (bool_cases (is_active_here h));
+      idle = λ e. go fit e (bool_cases (keeps_batches h));
     }
   where
-    go : fits_group (act_rules h.definition) (may_queue site.here h.turn h.acts.pending) h.acts x ≡ true → is_active_here (record h { acts = changed (act_rules h.definition) h.acts x }) ≡ false → (is_active_here h ≡ true) ⊎ (is_active_here h ≡ false) → h.batches ≡ new_member
-    go fit e (inl q) = absurd (let z : is_active_here (record h { acts = changed (act_rules h.definition) h.acts x }) ≡ true = runs-changed h (may_queue site.here h.turn h.acts.pending) x q fit in cc)
+    go : fits_group (act_rules h.definition) (may_queue site.here h.turn h.acts.pending) h.acts x ≡ true → keeps_batches (record h { acts = changed (act_rules h.definition) h.acts x }) ≡ false → (keeps_batches h ≡ true) ⊎ (keeps_batches h ≡ false) → h.batches ≡ new_member
+    go fit e (inl q) = absurd (let z : keeps_batches (record h { acts = changed (act_rules h.definition) h.acts x }) ≡ true = keeps-changed h (may_queue site.here h.turn h.acts.pending) x q fit in cc)
     go fit e (inr q) = s.idle q
 
 refused-lawful : (b : Member Batch) (x : GroupChange Batch) → may_keep x ≡ true → fits_group batch_rules may_serve b x ≡ true → list_all may_serve b.pending ≡ true → Each Lawful b.refused → Each Lawful (changed batch_rules b x).refused
@@ -136,11 +136,11 @@ refused-lawful b (change.Refuse v why) k h p r = each-more Lawful b.refused (v, 
 refused-lawful b (change.Kept v why) k h p r = each-more Lawful b.refused (v, why) r k
 refused-lawful b _ k h p r = r
 
-made-service : (site : Site) (h : Bound) (x : GroupChange Batch) → (is_open h.mark && (is_active_here h && (may_keep x && fits_group batch_rules may_serve h.batches x))) ≡ true → IsMade site h → IsMade site (record h { batches = changed batch_rules h.batches x })
+made-service : (site : Site) (h : Bound) (x : GroupChange Batch) → (is_open h.mark && (keeps_batches h && (may_keep x && fits_group batch_rules may_serve h.batches x))) ≡ true → IsMade site h → IsMade site (record h { batches = changed batch_rules h.batches x })
 made-service site h x w s =
-    let active : (is_active_here h && (may_keep x && fits_group batch_rules may_serve h.batches x)) ≡ true = and_right (is_open h.mark) _ w in
-    let running : is_active_here h ≡ true = and_left (is_active_here h) _ active in
-    let both : (may_keep x && fits_group batch_rules may_serve h.batches x) ≡ true = and_right (is_active_here h) _ active in
+    let active : (keeps_batches h && (may_keep x && fits_group batch_rules may_serve h.batches x)) ≡ true = and_right (is_open h.mark) _ w in
+    let running : keeps_batches h ≡ true = and_left (keeps_batches h) _ active in
+    let both : (may_keep x && fits_group batch_rules may_serve h.batches x) ≡ true = and_right (keeps_batches h) _ active in
     let fit : fits_group batch_rules may_serve h.batches x ≡ true = and_right (may_keep x) _ both in
     record {
       ruled = s.ruled;
@@ -156,13 +156,13 @@ made-service site h x w s =
       idle = λ e. cc;
     }
 
-made-abandon : (site : Site) (h : Bound) → (is_open h.mark && is_active_here h) ≡ true → IsMade site h → IsMade site (record h { mark = mark.Abandoned })
+made-abandon : (site : Site) (h : Bound) → (is_open h.mark && runs h) ≡ true → IsMade site h → IsMade site (record h { mark = mark.Abandoned })
 made-abandon site h w s = record {
   ruled = s.ruled;
   own = s.own;
   member = s.member;
   marked = λ e. refl;
-  closed = λ e. and_right (is_open h.mark) (is_active_here h) w;
+  closed = λ e. and_right (is_open h.mark) (runs h) w;
   acts = s.acts;
   batches = s.batches;
   mine = s.mine;
@@ -264,7 +264,7 @@ admin-leads site h (x ∷ xs) o f t =
     let one : applied_one site (Held h) (durable.Admin x) ≡ Held (record h { acts = changed (act_rules h.definition) h.acts x }) = rw (o, f.0, t.0) in
     ap (λ (k : Cell). applied site k (map durable.Admin xs)) one ∙ admin-leads site (record h { acts = changed (act_rules h.definition) h.acts x }) xs o f.1 t.1
 
-service-leads : (site : Site) (h : Bound) (xs : List (GroupChange Batch)) → h.mark ≡ mark.Open → is_active_here h ≡ true → FitInTurn batch_rules (λ us. may_serve) h.batches xs → Each MayKeep xs → applied site (Held h) (map durable.Service xs) ≡ Held (record h { batches = changed_by batch_rules h.batches xs })
+service-leads : (site : Site) (h : Bound) (xs : List (GroupChange Batch)) → h.mark ≡ mark.Open → keeps_batches h ≡ true → FitInTurn batch_rules (λ us. may_serve) h.batches xs → Each MayKeep xs → applied site (Held h) (map durable.Service xs) ≡ Held (record h { batches = changed_by batch_rules h.batches xs })
 service-leads site h [] o active f t = refl
 service-leads site h (x ∷ xs) o active f t =
     let one : applied_one site (Held h) (durable.Service x) ≡ Held (record h { batches = changed batch_rules h.batches x }) = rw (o, active, t.0, f.0) in
@@ -294,9 +294,9 @@ module _ (site : Site) (h : Bound) (s : IsMade site h) where
       admin-leads site begun (packed_member h.acts) refl l.fit (stays-packed site.here h.turn h.acts s.mine) ∙ ap (λ (z : Member Act). Held (record acted { acts = z })) l.gives
 
   leads-batches : applied site (Held acted) (packed_batches h) ≡ Held served
-  leads-batches = go (bool_cases (is_active_here h))
+  leads-batches = go (bool_cases (keeps_batches h))
     where
-      go : (is_active_here h ≡ true) ⊎ (is_active_here h ≡ false) → applied site (Held acted) (packed_batches h) ≡ Held served
+      go : (keeps_batches h ≡ true) ⊎ (keeps_batches h ≡ false) → applied site (Held acted) (packed_batches h) ≡ Held served
       go (inl q) =
           let l : Leads batch_rules (λ us. may_serve) new_member h.batches (packed_member h.batches) = rebuilt batch_rules (λ us. may_serve) h.batches s.batches (any-may [] h.batches.pending s.pending_lawful) in
           rw q (service-leads site acted (packed_member h.batches) refl q l.fit (keeps-packed h.batches s.refused_lawful) ∙ ap (λ (z : Member Batch). Held (record served { batches = z })) l.gives)
@@ -305,7 +305,7 @@ module _ (site : Site) (h : Bound) (s : IsMade site h) where
   leads-mark : applied site (Held served) (packed_mark h.mark) ≡ Held h
   leads-mark = go h.mark s.marked s.closed
     where
-      go : (m : Mark) → (is_open m ≡ false → m ≡ mark.Abandoned) → (is_open m ≡ false → is_active_here h ≡ true) → applied site (Held served) (packed_mark m) ≡ Held (record h { mark = m })
+      go : (m : Mark) → (is_open m ≡ false → m ≡ mark.Abandoned) → (is_open m ≡ false → runs h ≡ true) → applied site (Held served) (packed_mark m) ≡ Held (record h { mark = m })
       go mark.Open marked closed = refl
       go mark.Abandoned marked closed = rw (closed refl)
       go mark.Purged marked closed = absurd (let z : mark.Purged ≡ mark.Abandoned = marked refl in cc)

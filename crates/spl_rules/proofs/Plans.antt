@@ -19,14 +19,14 @@ use Rattle.spl_circuit.specs.declared.act.Act.{Act}
 use Rattle.spl_circuit.specs.Nodes.{NodeId, position, node_or}
 use Rattle.spl_agree.specs.declared.message.CommitMsg.{CommitMsg}
 use Rattle.spl_circuit.specs.Acts.{act_rules}
-use Rattle.spl_circuit.specs.Lifecycle.{life, is_active}
+use Rattle.spl_circuit.specs.Lifecycle.{life, has_run}
 use Rattle.spl_command.specs.declared.batch.Batch.{Batch}
 use Rattle.spl_scabbard.specs.Checks.{batch_rules}
 use Rattle.spl_scabbard.specs.Same.{same_batches}
 use Rattle.spl_wire.specs.declared.plan.Outgoing.{Outgoing}
 use Rattle.spl_wire.specs.declared.change.Change.{Change}
 use Rattle.spl_wire.specs.declared.change.Change.TheVariants as durable
-use Rattle.spl_rules.specs.Cells.{Bound, Cell, Held, Site, Deed, Replies, Binds, Acts, Serves, Turns, Abandons, Purges, fresh, admin_group, service_group, is_open, is_active_here}
+use Rattle.spl_rules.specs.Cells.{Bound, Cell, Held, Site, Deed, Replies, Binds, Acts, Serves, Turns, Abandons, Purges, fresh, admin_group, service_group, is_open, runs, keeps_batches}
 use Rattle.spl_rules.specs.Plans.{Lane, admin_lane, service_lane, group_row, group_changes, group_sends, both_plans, planned}
 use Rattle.spl_rules.specs.Changes.{turn_after, may_queue, may_serve, may_keep, fits_free, made_one, made, applied_one, applied}
 use Rattle.spl_wire.specs.Bounds.{has_form}
@@ -36,6 +36,7 @@ use Rattle.spl_rules.proofs.Members.{checked-new, meets-new}
 use Rattle.spl_rules.proofs.Services.{short-service_on}
 use Rattle.spl_rules.proofs.Events.{short-circuit}
 use Rattle.spl_rules.proofs.Carried.{AllCarry, Brings, send_carries, carry-row}
+use Rattle.spl_rules.proofs.Running.{running-keeps}
 use Rattle.spl_rules.proofs.Deeds.{FitsRow, FitsEvent, FitsServed, ActsAt, ServesAt, TurnsAt, AbandonsAt, PurgesAt, FitsDeed}
 
 -- each change of a plan fits behind those before it, and the moves fit behind them
@@ -96,7 +97,7 @@ keep-planned : (x : GroupChange Batch) → IsPlanned x → may_keep x ≡ true
 keep-planned (change.Kept v why) p = absurd p
 keep-planned _ p = refl
 
-service-applied : (site : Site) (h : Bound) (xs : List (GroupChange Batch)) → IsSingle xs → is_open h.mark ≡ true → is_active_here h ≡ true → AllFit batch_rules may_serve h.batches xs → applied site (Held h) (map durable.Service xs) ≡ made site.here (Held h) (map durable.Service xs)
+service-applied : (site : Site) (h : Bound) (xs : List (GroupChange Batch)) → IsSingle xs → is_open h.mark ≡ true → keeps_batches h ≡ true → AllFit batch_rules may_serve h.batches xs → applied site (Held h) (map durable.Service xs) ≡ made site.here (Held h) (map durable.Service xs)
 service-applied site h [] single unclosed active fit = refl
 service-applied site h (x ∷ []) single unclosed active fit = rw (unclosed, active, keep-planned x single, fit.0)
 service-applied site h (x ∷ y ∷ zs) single unclosed active fit = absurd single
@@ -124,25 +125,25 @@ module _ (site : Site) (h : Bound) where
         (row-moves (admin_group h.definition) (may_queue site.here h.turn h.acts.pending) spot h.acts e act_same (sound (admin_group h.definition) spot h.acts k s.0) k.roomy f, kept-settled (service_group h.definition) spot h.batches s.1);
   }
 
-  serves-fit : IsKeptMember batch_rules h.batches → IsSettledCell site.here (Held h) → is_open h.mark ≡ true → is_active_here h ≡ true → (e : GroupEvent Batch) → FitsServed site h e → PlanFits site (Held h) (map durable.Service (batch_changes e)) move.Keep (group_row (service_lane site h.definition) h.batches e).opening
+  serves-fit : IsKeptMember batch_rules h.batches → IsSettledCell site.here (Held h) → is_open h.mark ≡ true → runs h ≡ true → (e : GroupEvent Batch) → FitsServed site h e → PlanFits site (Held h) (map durable.Service (batch_changes e)) move.Keep (group_row (service_lane site h.definition) h.batches e).opening
   serves-fit k s unclosed active e f = record {
-    changes = service-applied site h (batch_changes e) (single-row (service_group h.definition) spot h.batches e) unclosed active (row-fits (service_group h.definition) may_serve spot h.batches e batch_same (sound (service_group h.definition) spot h.batches k s.1) k.roomy f);
+    changes = service-applied site h (batch_changes e) (single-row (service_group h.definition) spot h.batches e) unclosed (running-keeps h active) (row-fits (service_group h.definition) may_serve spot h.batches e batch_same (sound (service_group h.definition) spot h.batches k s.1) k.roomy f);
     moves = subst (λ (z : Cell). FitsMoveAt site.here z move.Keep (group_row (service_lane site h.definition) h.batches e).opening) (sym (service-made site (batch_changes e) h))
         (kept-settled (admin_group h.definition) spot h.acts s.0, row-moves (service_group h.definition) may_serve spot h.batches e batch_same (sound (service_group h.definition) spot h.batches k s.1) k.roomy f);
   }
 
-  -- the admin group goes first, and leaves the circuit active
+  -- the admin group goes first, and leaves the acts as they are
   turns-fit : (x : GroupEvent Act) (y : GroupEvent Batch) → IsValid site (Held h) → TurnsAt site (Held h) h x y → PlanFits site (Held h) (map durable.Admin (act_changes x) ++ map durable.Service (batch_changes y)) (group_row (admin_lane site h.definition) h.acts x).opening (group_row (service_lane site h.definition) h.batches y).opening
   turns-fit x y v f =
       let xs : List (GroupChange Act) = act_changes x in
       let ys : List (GroupChange Batch) = batch_changes y in
       let first : PlanFits site (Held h) (map durable.Admin xs) (group_row (admin_lane site h.definition) h.acts x).opening move.Keep = acts-fit v.kept.acts v.settled f.unclosed x f.fit in
       let behind : (t : ℕ) × (made site.here (Held h) (map durable.Admin xs) ≡ Held (with_acts xs t)) = admin-made site xs h in
-      let still_active : is_active_here (with_acts xs behind.0) ≡ true = subst (λ (z : List (ℕ × Act)). is_active (life h.definition (values z)).state ≡ true) (sym f.still) f.active in
+      let still_keeps : keeps_batches (with_acts xs behind.0) ≡ true = subst (λ (z : List (ℕ × Act)). has_run (life h.definition (values z)).state ≡ true) (sym f.still) (running-keeps h f.active) in
       let ready : IsSound (service_group h.definition) spot h.batches = sound (service_group h.definition) spot h.batches v.kept.batches v.settled.1 in
       let all : AllFit batch_rules may_serve h.batches ys = row-fits (service_group h.definition) may_serve spot h.batches y batch_same ready v.kept.batches.roomy f.serves in
       let last : applied site (Held (with_acts xs behind.0)) (map durable.Service ys) ≡ made site.here (Held (with_acts xs behind.0)) (map durable.Service ys)
-      = service-applied site (with_acts xs behind.0) ys (single-row (service_group h.definition) spot h.batches y) f.unclosed still_active all in
+      = service-applied site (with_acts xs behind.0) ys (single-row (service_group h.definition) spot h.batches y) f.unclosed still_keeps all in
       let final : made site.here (Held h) (map durable.Admin xs ++ map durable.Service ys) ≡ Held (record h { turn = behind.0; acts = changed_by (act_rules h.definition) h.acts xs; batches = changed_by batch_rules h.batches ys })
       = made-append site (Held h) (map durable.Admin xs) (map durable.Service ys) ∙ (ap (λ (k : Cell). made site.here k (map durable.Service ys)) behind.1 ∙ service-made site ys (with_acts xs behind.0)) in
       record {

@@ -26,7 +26,7 @@ use Rattle.spl_wire.specs.Bodies.{long, reason}
 use Rattle.spl_wire.specs.Changes.{fits_change, change_form}
 use Rattle.spl_wire.specs.declared.change.Change.{Change}
 use Rattle.spl_wire.specs.declared.change.Change.TheVariants as durable
-use Rattle.spl_rules.specs.Cells.{Bound, Cell, Empty, Held, Purged, Site, fresh, is_open, is_active_here}
+use Rattle.spl_rules.specs.Cells.{Bound, Cell, Empty, Held, Purged, Site, fresh, is_open, runs, keeps_batches}
 use Rattle.spl_rules.specs.Changes.{turn_after, held_after, may_queue, may_serve, may_keep, applied_one, applied}
 use Rattle.spl_rules.specs.Pack.{packed_batches, packed_mark, packed}
 use Rattle.spl_rules.proofs.Keys.{Each, each-more, each-without}
@@ -146,8 +146,8 @@ written-turn here turn _ w h = h
 written-held : (site : Site) (h : Bound) (x : Change) → IsTrue (change_form.fits x) → IsWrittenHeld h → IsWritten (applied_one site (Held h) x)
 written-held site h (durable.Bind e) w s = s
 written-held site h (durable.Admin x) w s = if_holds IsWritten _ (held_after site.here h (durable.Admin x)) (Held h) (λ q. record { defined = s.defined; turned = written-turn site.here h.turn x (fits-admin x w) s.turned; acts = written-changed act (act_rules h.definition) (may_queue site.here h.turn h.acts.pending) h.acts x (and_right (is_open h.mark) _ q) (fits-admin x w) s.acts; batches = s.batches }) (λ q. s)
-written-held site h (durable.Service x) w s = if_holds IsWritten _ (held_after site.here h (durable.Service x)) (Held h) (λ q. record { defined = s.defined; turned = s.turned; acts = s.acts; batches = written-changed batch batch_rules may_serve h.batches x (and_right (may_keep x) _ (and_right (is_active_here h) _ (and_right (is_open h.mark) _ q))) (fits-service x w) s.batches }) (λ q. s)
-written-held site h durable.Abandon w s = if_holds IsWritten (is_open h.mark && is_active_here h) (held_after site.here h durable.Abandon) (Held h) (λ q. record { defined = s.defined; turned = s.turned; acts = s.acts; batches = s.batches }) (λ q. s)
+written-held site h (durable.Service x) w s = if_holds IsWritten _ (held_after site.here h (durable.Service x)) (Held h) (λ q. record { defined = s.defined; turned = s.turned; acts = s.acts; batches = written-changed batch batch_rules may_serve h.batches x (and_right (may_keep x) _ (and_right (keeps_batches h) _ (and_right (is_open h.mark) _ q))) (fits-service x w) s.batches }) (λ q. s)
+written-held site h durable.Abandon w s = if_holds IsWritten (is_open h.mark && runs h) (held_after site.here h durable.Abandon) (Held h) (λ q. record { defined = s.defined; turned = s.turned; acts = s.acts; batches = s.batches }) (λ q. s)
 written-held site h durable.Purge w s = generation-fits h.definition s.defined
 written-held site h (durable.Turn t) w s = if_holds IsWritten (is_new h.acts) (held_after site.here h (durable.Turn t)) (Held h) (λ q. record { defined = s.defined; turned = w; acts = s.acts; batches = s.batches }) (λ q. s)
 written-held site h (durable.Gone old) w s = s
@@ -193,8 +193,8 @@ written-packed (Purged old) s = and_true (word.fits old) true s refl
 written-packed (Held h) s =
     and_true (definition.fits h.definition) _ s.defined (and_true (word.fits h.turn) _ s.turned
     (all-append (map durable.Admin (packed_member h.acts)) _ (all-admin (packed_member h.acts) (writes-packed act h.acts s.acts))
-    (all-append (packed_batches h) (packed_mark h.mark) (go (bool_cases (is_active_here h))) (all-mark h.mark))))
+    (all-append (packed_batches h) (packed_mark h.mark) (go (bool_cases (keeps_batches h))) (all-mark h.mark))))
   where
-    go : (is_active_here h ≡ true) ⊎ (is_active_here h ≡ false) → AllWritten (packed_batches h)
+    go : (keeps_batches h ≡ true) ⊎ (keeps_batches h ≡ false) → AllWritten (packed_batches h)
     go (inl q) = rw q (all-service (packed_member h.batches) (writes-packed batch h.batches s.batches))
     go (inr q) = rw q

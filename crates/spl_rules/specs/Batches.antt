@@ -28,7 +28,7 @@ use Rattle.spl_wire.specs.declared.answer.BatchStatus.TheVariants as status
 use Rattle.spl_wire.specs.declared.answer.Refusal.TheVariants as refusal
 use Rattle.spl_wire.specs.declared.answer.Answer.{Answer}
 use Rattle.spl_wire.specs.declared.answer.Answer.TheVariants as answer
-use Rattle.spl_rules.specs.Cells.{Bound, Site, Deed, Refuses, Tells, Replies, Serves, Submitted, Delivered, ignores, is_open, is_active_here, runs}
+use Rattle.spl_rules.specs.Cells.{Bound, Site, Deed, Refuses, Tells, Replies, Serves, Submitted, Delivered, ignores, is_open, runs}
 
 -- ---- submit
 
@@ -47,15 +47,15 @@ submits_ruled site h v None = submits_known site h v (known batch_rules h.batche
 
 abbrev pub submits : Site → Bound → Batch → Deed
 submits site h v =
-    if not (is_active_here h) then Refuses refusal.NotActive
+    if not (runs h) then Refuses refusal.NotActive
     else (if not (is_open h.mark) then Refuses refusal.Closed
     else submits_ruled site h v (broken_batch v))
 
 -- ---- what is told of the batches that are committed here
 
--- only of an active circuit
+-- only of a circuit that runs
 abbrev pub when_active : Bound → Deed → Deed
-when_active h deed = if is_active_here h then deed else Refuses refusal.NotActive
+when_active h deed = if runs h then deed else Refuses refusal.NotActive
 
 abbrev pub state_here : Member Batch → List Entry
 state_here b = state_of (values b.history)

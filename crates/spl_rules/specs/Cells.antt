@@ -21,7 +21,7 @@ use Rattle.spl_circuit.specs.declared.lifecycle.Lifecycle.TheVariants as lifecyc
 use Rattle.spl_circuit.specs.Forms.{definition}
 use Rattle.spl_circuit.specs.Nodes.{NodeId, CircuitId, has_node, position}
 use Rattle.spl_circuit.specs.Rules.{broken, admin, service, is_member}
-use Rattle.spl_circuit.specs.Lifecycle.{Life, life, is_proposed, is_active}
+use Rattle.spl_circuit.specs.Lifecycle.{Life, life, is_active, is_disbanding, is_asked, is_running, has_run, current}
 use Rattle.spl_circuit.specs.Acts.{reason, is_node, act_rules}
 use Rattle.spl_command.specs.declared.batch.Batch.{Batch}
 use Rattle.spl_scabbard.specs.Checks.{batch_rules}
@@ -90,13 +90,13 @@ own_life h = life h.definition (values h.acts.history)
 abbrev pub is_active_here : Bound → Bool
 is_active_here h = is_active (own_life h).state
 
--- its service group runs: messages are routed, and the group is ticked
+-- its service group runs: batches are taken and told, messages are routed, and the group is ticked
 abbrev pub runs : Bound → Bool
-runs h = is_active_here h
+runs h = is_running (own_life h).state
 
--- durable changes of its service group fit
+-- durable changes of its service group fit: it runs, or has run until the circuit was disbanded
 abbrev pub keeps_batches : Bound → Bool
-keeps_batches h = is_active_here h
+keeps_batches h = has_run (own_life h).state
 
 -- how a note of a group is answered: what was queued, what a message did, and what the admin group did where no service
 -- group runs
@@ -161,7 +161,7 @@ abbrev pub proposes : Site → Definition → Cell → Option ℕ → Deed
 proposes site d k (Some rule) = Refuses (refusal.BadDefinition rule)
 proposes site d k None = if is_member d site.here then proposes_at site d k else Refuses refusal.NotMember
 
--- ---- vote, remove
+-- ---- vote, remove, disband
 
 -- the next act of this node
 abbrev pub next_act : NodeId → ℕ → ActKind → Act
@@ -173,25 +173,47 @@ is_act_pending site h =
     list_any (λ v. bytes_eq v.node site.here) h.acts.pending || (length h.acts.pending == 64
     || (is_some (known (act_rules h.definition) h.acts (next_act site.here h.turn kind.Accept)) || h.turn == 2 ^ 32 - 1))
 
+-- the next act of this node is submitted, where it takes part
+abbrev pub submits_next : Site → Bound → ActKind → Deed
+submits_next site h k = if is_open h.mark then Acts Submitted h site.here (group.Submit (next_act site.here h.turn k)) else Refuses refusal.Closed
+
+-- how a node accepts or rejects what is asked for
+abbrev pub vote_kind : Life → Bool → ActKind
+vote_kind l accept =
+    if is_disbanding l.state then (if accept then kind.DisbandAccept l.disband.place else kind.DisbandReject l.disband.place)
+    else (if accept then kind.Accept else kind.Reject)
+
+-- how a node takes back what it asked for
+abbrev pub removal_kind : Life → ActKind
+removal_kind l = if is_disbanding l.state then kind.DisbandRemove l.disband.place else kind.Remove
+
 abbrev pub votes : Site → Bound → ActKind → Deed
 votes site h k =
     if is_act_pending site h then Refuses refusal.ActPending
-    else (if not (is_proposed (own_life h).state) then Refuses refusal.NoProposal
-    else (if has_node (own_life h).accepted site.here then Refuses refusal.AlreadyVoted
-    else Acts Submitted h site.here (group.Submit (next_act site.here h.turn k))))
+    else (if not (is_asked (own_life h).state) then Refuses refusal.NoProposal
+    else (if has_node (current (own_life h)).accepted site.here then Refuses refusal.AlreadyVoted
+    else submits_next site h k))
 
-abbrev pub removes : Site → Bound → Deed
-removes site h =
+abbrev pub removes : Site → Bound → ActKind → Deed
+removes site h k =
     if is_act_pending site h then Refuses refusal.ActPending
-    else (if not (is_proposed (own_life h).state) then Refuses refusal.NoProposal
-    else (if not (is_node (own_life h).requester site.here) then Refuses refusal.NotRequester
-    else Acts Submitted h site.here (group.Submit (next_act site.here h.turn kind.Remove))))
+    else (if not (is_asked (own_life h).state) then Refuses refusal.NoProposal
+    else (if not (is_node (current (own_life h)).requester site.here) then Refuses refusal.NotRequester
+    else submits_next site h k))
+
+abbrev pub disbands : Site → Bound → Deed
+disbands site h =
+    if is_act_pending site h then Refuses refusal.ActPending
+    else (if not (is_active_here h) then Refuses refusal.NotActive
+    else (if not (is_open h.mark) then Refuses refusal.Closed
+    else (if h.definition.version == 1 then Refuses refusal.VersionTooLow
+    else Acts Submitted h site.here (group.Submit (next_act site.here h.turn kind.Disband)))))
 
 -- ---- abandon, purge
 
 abbrev pub abandons : Bound → Deed
 abandons h =
-    if not (is_active_here h) then Refuses refusal.NotActive
+    if not (runs h) then Refuses refusal.NotActive
     else (if is_open h.mark then Abandons else Refuses refusal.Closed)
 
 -- what keeps an open cell from being purged
@@ -199,6 +221,7 @@ abbrev pub is_waiting : Lifecycle → Member Act → Bool
 is_waiting lifecycle.None a = nat_lt 0 (length a.pending) || is_some a.promise
 is_waiting lifecycle.Rejected a = false
 is_waiting lifecycle.Removed a = false
+is_waiting lifecycle.Disbanded a = false
 is_waiting _ a = true
 
 abbrev pub purges : Bound → Deed
@@ -206,15 +229,15 @@ purges h = if is_open h.mark && is_waiting (own_life h).state h.acts then Refuse
 
 -- ---- show, detail
 
--- the members that have accepted, in member order
+-- the members that have accepted what is told of, in member order
 abbrev pub accepted_in_order : Bound → List NodeId
-accepted_in_order h = filter (λ m. has_node (own_life h).accepted m) h.definition.members
+accepted_in_order h = filter (λ m. has_node (current (own_life h)).accepted m) h.definition.members
 
 abbrev pub shows : Bound → Answer
 shows h = answer.Show h.definition.generation (own_life h).state h.mark (accepted_in_order h) (length h.acts.history) (length h.acts.pending) (length h.batches.history) (length h.batches.pending)
 
 abbrev pub details : Bound → Answer
-details h = answer.Detail h.definition (sha256 (definition.spell h.definition)) (own_life h).state h.mark (accepted_in_order h) (own_life h).requester
+details h = answer.Detail h.definition (sha256 (definition.spell h.definition)) (own_life h).state h.mark (accepted_in_order h) (own_life h).circuit.requester
 
 -- ---- messages
 

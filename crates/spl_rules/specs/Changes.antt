@@ -18,7 +18,7 @@ use Rattle.spl_scabbard.specs.Checks.{batch_rules}
 use Rattle.spl_wire.specs.declared.change.Change.{Change}
 use Rattle.spl_wire.specs.declared.change.Change.TheVariants as durable
 use Rattle.spl_wire.specs.declared.plan.Plan.{Plan}
-use Rattle.spl_rules.specs.Cells.{Bound, Cell, Held, Purged, Site, fresh, is_empty_cell, admin_group, service_group, is_open, is_free, is_active_here, keeps_batches}
+use Rattle.spl_rules.specs.Cells.{Bound, Cell, Held, Purged, Site, fresh, is_empty_cell, admin_group, service_group, is_open, is_free, runs, keeps_batches}
 
 -- ---- the effect of a change
 
@@ -69,7 +69,7 @@ may_keep _ = true
 abbrev pub fits_held : Site → Bound → Change → Bool
 fits_held site h (durable.Admin x) = is_open h.mark && fits_group (act_rules h.definition) (may_queue site.here h.turn h.acts.pending) h.acts x
 fits_held site h (durable.Service x) = is_open h.mark && (keeps_batches h && (may_keep x && fits_group batch_rules may_serve h.batches x))
-fits_held site h durable.Abandon = is_open h.mark && is_active_here h
+fits_held site h durable.Abandon = is_open h.mark && runs h
 fits_held site h durable.Purge = true
 fits_held site h (durable.Turn t) = is_new h.acts
 fits_held site h _ = false

@@ -4,7 +4,6 @@ use Rattle.spl_agree.specs.declared.message.CommitMsg.{CommitMsg}
 use Rattle.spl_agree.specs.declared.event.GroupEvent.{GroupEvent}
 use Rattle.spl_agree.specs.declared.event.GroupEvent.TheVariants as group
 use Rattle.spl_agree.specs.Fits.{generation_of}
-use Rattle.spl_circuit.specs.declared.act.ActKind.TheVariants as kind
 use Rattle.spl_circuit.specs.declared.act.Act.{Act}
 use Rattle.spl_circuit.specs.Nodes.{NodeId, position}
 use Rattle.spl_circuit.specs.Rules.{broken}
@@ -16,12 +15,12 @@ use Rattle.spl_wire.specs.declared.event.Event.{Event}
 use Rattle.spl_wire.specs.declared.event.Event.TheVariants as event
 use Rattle.spl_wire.specs.declared.answer.Refusal.TheVariants as refusal
 use Rattle.spl_wire.specs.declared.answer.Answer.TheVariants as answer
-use Rattle.spl_rules.specs.Cells.{Bound, Cell, Held, Site, Deed, Refuses, Tells, Acts, Turns, Delivered, Alone, is_open, runs, proposes, votes, removes, abandons, purges, shows, details, hears_first}
+use Rattle.spl_rules.specs.Cells.{Bound, Cell, Held, Site, Deed, Refuses, Tells, Acts, Turns, Delivered, Alone, is_open, runs, own_life, proposes, vote_kind, removal_kind, votes, removes, disbands, abandons, purges, shows, details, hears_first}
 use Rattle.spl_rules.specs.Batches.{submits, when_active, root_told, history_told, value_told, listed, status_told, receipt_told, routed, way, hears_service}
 
 -- ---- tick, expire
 
--- the service group goes on where the circuit is active here
+-- the service group goes on where it runs here
 abbrev pub turns : Site → Bound → GroupEvent Act → GroupEvent Batch → Deed
 turns site h x y =
     if is_open h.mark then (if runs h then Turns h x y else Acts Alone h site.here x)
@@ -51,8 +50,9 @@ other_hears site k from (message.Scabbard i s t x) = routed (route None false fr
 -- at a bound cell
 abbrev pub held_does : Site → Bound → Event → Deed
 held_does site h (event.Propose e) = proposes site e (Held h) (broken e)
-held_does site h (event.Vote accept) = votes site h (if accept then kind.Accept else kind.Reject)
-held_does site h event.Remove = removes site h
+held_does site h (event.Vote accept) = votes site h (vote_kind (own_life h) accept)
+held_does site h event.Remove = removes site h (removal_kind (own_life h))
+held_does site h event.Disband = disbands site h
 held_does site h event.Abandon = abandons h
 held_does site h event.Purge = purges h
 held_does site h (event.Submit v) = submits site h v

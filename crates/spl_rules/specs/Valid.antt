@@ -21,7 +21,7 @@ use Rattle.spl_wire.specs.declared.event.Event.TheVariants as event
 use Rattle.spl_wire.specs.declared.change.Change.{Change}
 use Rattle.spl_wire.specs.Messages.{circuit_of}
 use Rattle.spl_wire.specs.Bounds.{has_form, is_formed}
-use Rattle.spl_rules.specs.Cells.{Bound, Cell, Held, Site, admin_group, service_group, is_open, is_active_here}
+use Rattle.spl_rules.specs.Cells.{Bound, Cell, Held, Site, admin_group, service_group, is_open, runs}
 use Rattle.spl_rules.specs.Changes.{may_serve}
 
 -- what a cell keeps of a group: each committed and promised value had a good check, and the numbers are in their bounds
@@ -38,7 +38,7 @@ pub record AllMeet {V : Type 0} (may : V → Bool) (a : Member V) : Type 0 where
   pub promise : (e : ℕ × V) → a.promise ≡ Some e → may e.1 ≡ true
 
 -- a bound cell: its definition is valid, has a byte form and is the circuit's own, and the node is a member; what it keeps
--- of each group; its acts have byte forms, and its batches break no rule; what was abandoned is active
+-- of each group; its acts have byte forms, and its batches break no rule; what was abandoned runs
 pub record IsHeld (site : Site) (h : Bound) : Type 0 where
   pub ruled : broken h.definition ≡ None
   pub defined : IsTrue (definition.fits h.definition)
@@ -48,7 +48,7 @@ pub record IsHeld (site : Site) (h : Bound) : Type 0 where
   pub batches : IsKeptMember batch_rules h.batches
   pub formed : AllMeet has_form h.acts
   pub lawful : AllMeet may_serve h.batches
-  pub closed : is_open h.mark ≡ false → is_active_here h ≡ true
+  pub closed : is_open h.mark ≡ false → runs h ≡ true
 
 abbrev pub IsKept : Site → Cell → Type 0
 IsKept site (Held h) = IsHeld site h

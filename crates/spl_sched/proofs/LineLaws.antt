@@ -129,6 +129,7 @@ step_seen (At n id (event.Route from sender recipient)) h =
     (home_fits n id _ _ (way_fits (is_node_id from) (is_service_id sender) (is_service_id recipient)) h) refl refl
 step_seen (At n id (event.Deliver from message)) h = absurd (let no = and_parts (is_node_id n && is_circuit_id id) false h in let never : false ≡ true = no.1 in cc)
 step_seen (At n id event.Remove) h = seen (codes "remove") (home end) (plain event.Remove) (sound_home end sound_end) refl (λ xs. refl) (λ xs. refl) (n, (id, tt)) _ (home_fits n id true true (λ k. k) h) refl refl
+step_seen (At n id event.Disband) h = seen (codes "disband") (home end) (plain event.Disband) (sound_home end sound_end) refl (λ xs. refl) (λ xs. refl) (n, (id, tt)) _ (home_fits n id true true (λ k. k) h) refl refl
 step_seen (At n id event.Abandon) h = seen (codes "abandon") (home end) (plain event.Abandon) (sound_home end sound_end) refl (λ xs. refl) (λ xs. refl) (n, (id, tt)) _ (home_fits n id true true (λ k. k) h) refl refl
 step_seen (At n id event.Purge) h = seen (codes "purge") (home end) (plain event.Purge) (sound_home end sound_end) refl (λ xs. refl) (λ xs. refl) (n, (id, tt)) _ (home_fits n id true true (λ k. k) h) refl refl
 step_seen (At n id event.Show) h = seen (codes "show") (home end) (plain event.Show) (sound_home end sound_end) refl (λ xs. refl) (λ xs. refl) (n, (id, tt)) _ (home_fits n id true true (λ k. k) h) refl refl
@@ -180,6 +181,7 @@ all_steps =
     ▹ plain_is event.Tick (λ x. refl) (λ x. refl)
     ▹ plain_is event.Expire (λ x. refl) (λ x. refl)
     ▹ plain_is event.Remove (λ x. refl) (λ x. refl)
+    ▹ plain_is event.Disband (λ x. refl) (λ x. refl)
     ▹ plain_is event.Abandon (λ x. refl) (λ x. refl)
     ▹ plain_is event.Purge (λ x. refl) (λ x. refl)
     ▹ plain_is event.Detail (λ x. refl) (λ x. refl)

@@ -44,6 +44,7 @@ abbrev pub event_name : Event → List ℕ
 event_name (event.Propose d) = codes "propose"
 event_name (event.Vote accept) = codes "vote"
 event_name event.Remove = codes "remove"
+event_name event.Disband = codes "disband"
 event_name event.Abandon = codes "abandon"
 event_name event.Purge = codes "purge"
 event_name (event.Submit batch) = codes "submit"
@@ -293,7 +294,7 @@ delivered x = Deliver x.0 x.1.0 x.1.1.0 x.1.1.1.0
 
 -- the events that have no words behind node and circuit
 abbrev pub plain_events : List Event
-plain_events = event.Show ∷ event.Root ∷ event.History ∷ event.Tick ∷ event.Expire ∷ event.Remove ∷ event.Abandon ∷ event.Purge ∷ event.Detail ∷ []
+plain_events = event.Show ∷ event.Root ∷ event.History ∷ event.Tick ∷ event.Expire ∷ event.Remove ∷ event.Disband ∷ event.Abandon ∷ event.Purge ∷ event.Detail ∷ []
 
 abbrev pub plain_kind : Event → Kind Step
 plain_kind e = kind (event_name e) (home end) (plain e)

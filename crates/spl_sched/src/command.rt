@@ -1,5 +1,5 @@
 //! Commands, as words.
-ghost use Rattle.std.specs.Prelude.{◌≡◌};
+ghost use Rattle.std.specs.Prelude.{◌≡◌, ◌++◌, OnOk};
 ghost use Rattle.std.specs.List.{list_all};
 ghost use Rattle.std.specs.Option.{option_map};
 ghost use Rattle.spl_command.specs.declared.batch.Command.TheVariants as command;
@@ -73,6 +73,22 @@ fn read_event(alloc: Global, bytes: &[u8]) -> Result<Command, LineFault>
     Ok(Command::Event(kind, data))
 }
 
+/// Appends these bytes and a word.
+fn put_behind<T: Spelled>(front: &[u8], word: &T, w: &mut Writer) -> Result<(), AllocError>
+    ensures { OnOk result (w.new ≡ w.old ++ (front.now ++ T.word.spell word.now)) }
+{
+    w.put_raw(front)?;
+    word.put(w)
+}
+
+/// Appends these bytes, and the type of an event or a text.
+fn put_tag(front: &[u8], tag: &Label, w: &mut Writer) -> Result<(), AllocError>
+    ensures { OnOk result (w.new ≡ w.old ++ (front.now ++ tag.now)) }
+{
+    w.put_raw(front)?;
+    w.put_raw(tag.bytes())
+}
+
 impl Spelled for Command {
     ghost use Rattle.spl_sched.specs.Transactions.{command_word};
 
@@ -101,37 +117,18 @@ impl Spelled for Command {
     fn put(&self, w: &mut Writer) -> Result<(), AllocError> {
         match self {
             Command::Set(address, value) => {
-                w.put_raw(b"set:")?;
-                address.put(w)?;
-                w.put_u8(b'=')?;
-                value.put(w)
+                put_behind(b"set:", address, w)?;
+                put_behind(b"=", value, w)
             }
-            Command::Get(address) => {
-                w.put_raw(b"get:")?;
-                address.put(w)
-            }
-            Command::Delete(address) => {
-                w.put_raw(b"del:")?;
-                address.put(w)
-            }
+            Command::Get(address) => put_behind(b"get:", address, w),
+            Command::Delete(address) => put_behind(b"del:", address, w),
             Command::Event(kind, data) => {
-                w.put_raw(b"event:")?;
-                w.put_raw(kind.bytes())?;
-                w.put_u8(b'=')?;
-                data.put(w)
+                put_tag(b"event:", kind, w)?;
+                put_behind(b"=", data, w)
             }
-            Command::Data(data) => {
-                w.put_raw(b"data:")?;
-                data.put(w)
-            }
-            Command::Invalid(text) => {
-                w.put_raw(b"invalid:")?;
-                w.put_raw(text.bytes())
-            }
-            Command::Error(text) => {
-                w.put_raw(b"error:")?;
-                w.put_raw(text.bytes())
-            }
+            Command::Data(data) => put_behind(b"data:", data, w),
+            Command::Invalid(text) => put_tag(b"invalid:", text, w),
+            Command::Error(text) => put_tag(b"error:", text, w),
         }
     }
 }

@@ -10,7 +10,7 @@ use spl_wire::Event;
 pub const MOST_PASSES: u8 = 64;
 
 /// A step of a schedule.
-#[derive(Debug, Drop)]
+#[derive(Drop)]
 pub enum Step {
     /// The event comes at the node's cell of this circuit. It is no delivery, and a definition that
     /// is proposed has the circuit's id.
@@ -30,7 +30,7 @@ pub enum Step {
 }
 
 /// A line of a schedule (docs/RULES.md, Schedules).
-#[derive(Debug, Drop)]
+#[derive(Drop)]
 pub enum Line {
     Step(Step),
     /// The circuit goes on by itself for so many passes.

@@ -1,5 +1,5 @@
 //! Reading a step.
-ghost use Rattle.std.specs.Prelude.{◌≡◌, None, nat_le, ◌^◌};
+ghost use Rattle.std.specs.Prelude.{◌≡◌, ◌∷◌, [], None, nat_le, ◌^◌};
 ghost use Rattle.std.specs.Option.{option_map};
 ghost use Rattle.spl_wire.specs.declared.event.Event.TheVariants as event;
 ghost use Rattle.spl_sched.specs.Words.{Reads, Takes, read_first, read_kind, that, number, end};
@@ -213,6 +213,28 @@ fn read_delivery(alloc: Global, words: &mut WordReader) -> Result<Step, LineFaul
     })
 }
 
+/// The event of this name, where it is one of the later five of those that `plain_event` tells.
+fn later_event(name: &[u8]) -> Option<Event>
+    ensures { result ≡ named (event.Remove ∷ event.Disband ∷ event.Abandon ∷ event.Purge ∷ event.Detail ∷ []) name.now }
+{
+    if name == b"remove".as_slice() {
+        return Some(Event::Remove);
+    }
+    if name == b"disband".as_slice() {
+        return Some(Event::Disband);
+    }
+    if name == b"abandon".as_slice() {
+        return Some(Event::Abandon);
+    }
+    if name == b"purge".as_slice() {
+        return Some(Event::Purge);
+    }
+    if name == b"detail".as_slice() {
+        return Some(Event::Detail);
+    }
+    None
+}
+
 /// The event of this name, where it is one without words behind node and circuit.
 fn plain_event(name: &[u8]) -> Option<Event>
     ensures { result ≡ named plain_events name.now }
@@ -232,19 +254,7 @@ fn plain_event(name: &[u8]) -> Option<Event>
     if name == b"expire".as_slice() {
         return Some(Event::Expire);
     }
-    if name == b"remove".as_slice() {
-        return Some(Event::Remove);
-    }
-    if name == b"abandon".as_slice() {
-        return Some(Event::Abandon);
-    }
-    if name == b"purge".as_slice() {
-        return Some(Event::Purge);
-    }
-    if name == b"detail".as_slice() {
-        return Some(Event::Detail);
-    }
-    None
+    later_event(name)
 }
 
 /// The step that the words behind its name spell, where it is one with such words.

@@ -14,7 +14,7 @@ use spl_state::Prefix;
 use std::alloc::{AllocError, Global};
 
 /// What one word of a transaction says.
-#[derive(Debug, Drop)]
+#[derive(Drop)]
 pub(crate) enum Part {
     /// The transaction reads under the prefix.
     Input(Prefix),

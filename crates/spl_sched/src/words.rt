@@ -30,7 +30,7 @@ pub(crate) fn behind<'a>(front: &[u8], word: &'a [u8]) -> Option<&'a [u8]>
 }
 
 /// Takes words from the front of bytes that have one byte between each two words.
-#[derive(Debug, Drop)]
+#[derive(Drop)]
 pub(crate) struct WordReader<'a> {
     rest: &'a [u8],
     more: bool,

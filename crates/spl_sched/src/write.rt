@@ -57,6 +57,7 @@ fn event_name(event: &Event) -> &'static [u8]
         Event::Propose(_) => b"propose",
         Event::Vote { .. } => b"vote",
         Event::Remove => b"remove",
+        Event::Disband => b"disband",
         Event::Abandon => b"abandon",
         Event::Purge => b"purge",
         Event::Submit(_) => b"submit",

@@ -2,18 +2,18 @@
 use Rattle.std.proofs.Common.{◌≡◌, ℕ, List, [], ◌∷◌, ◌++◌, Bool, true, false, Option, None, Some, IfSome, Ok, refl, sym, ◌∙◌, ap, subst, arith}
 use Rattle.spl_edge.specs.Image.{Image, MayLeave}
 use Rattle.spl_journal.specs.Clear.{IsAtRest}
-use Rattle.spl_journal.specs.Gate.{LeavesSince}
+use Rattle.spl_journal.specs.Gate.{LeavesBetween}
 use Rattle.spl_journal.specs.Records.{records, records_of, IsBeforeOrAfter, SameHead, Standing}
 use Rattle.spl_journal.proofs.Heads.{standing_open}
-use Rattle.spl_snapshot.specs.Counting.{second_counts, pair_records_of, HaveRecords, HaveEither, IfBoth, PairLeaves}
+use Rattle.spl_snapshot.specs.Counting.{second_counts, pair_records_of, HaveRecords, HaveEither, IfBoth, PairLeavesBetween}
 use Rattle.spl_snapshot.proofs.Counts.{same_first, same_second, of_first, of_second, those_of_first, those_of_second, appended_first, appended_second}
 use Rattle.spl_snapshot.proofs.Leaves.{pair_leaves, leaves_two, leaves_rest}
 
 module _ (fits : List ℕ → Bool) (r : List ℕ) (end extent epoch other : ℕ) where
   -- the first disk counts
   pub first_any : (o p : Option Image) (at other_at : ℕ → Option Image) (m last n : ℕ) → IfSome o (Standing fits end extent epoch) → IfSome p (IsAtRest other) → IfBoth o p (λ i j. second_counts i.bytes j.bytes ≡ false) → other_at n ≡ p
-      → IfSome o (λ i. LeavesSince at m last (IsBeforeOrAfter fits (records_of fits i.bytes) r)) → IfSome o (λ i. LeavesSince at m last (SameHead i.bytes))
-      → IfBoth o p (λ i j. PairLeaves at m last other_at n n (HaveEither fits (pair_records_of fits i.bytes j.bytes) (pair_records_of fits i.bytes j.bytes ++ r ∷ [])))
+      → IfSome o (λ i. LeavesBetween at m last (IsBeforeOrAfter fits (records_of fits i.bytes) r)) → IfSome o (λ i. LeavesBetween at m last (SameHead i.bytes))
+      → IfBoth o p (λ i j. PairLeavesBetween at m last other_at n n (HaveEither fits (pair_records_of fits i.bytes j.bytes) (pair_records_of fits i.bytes j.bytes ++ r ∷ [])))
   first_any None p at other_at m last n stands rest counts here left head = tt
   first_any (Some i) None at other_at m last n stands rest counts here left head = tt
   first_any (Some i) (Some j) at other_at m last n stands rest counts here left head =
@@ -23,8 +23,8 @@ module _ (fits : List ℕ → Bool) (r : List ℕ) (end extent epoch other : ℕ
 
   -- the second disk counts
   pub second_any : (o p : Option Image) (other_at at : ℕ → Option Image) (n m last : ℕ) → IfSome p (Standing fits end extent epoch) → IfSome o (IsAtRest other) → IfBoth o p (λ i j. second_counts i.bytes j.bytes ≡ true) → other_at n ≡ o
-      → IfSome p (λ j. LeavesSince at m last (IsBeforeOrAfter fits (records_of fits j.bytes) r)) → IfSome p (λ j. LeavesSince at m last (SameHead j.bytes))
-      → IfBoth o p (λ i j. PairLeaves other_at n n at m last (HaveEither fits (pair_records_of fits i.bytes j.bytes) (pair_records_of fits i.bytes j.bytes ++ r ∷ [])))
+      → IfSome p (λ j. LeavesBetween at m last (IsBeforeOrAfter fits (records_of fits j.bytes) r)) → IfSome p (λ j. LeavesBetween at m last (SameHead j.bytes))
+      → IfBoth o p (λ i j. PairLeavesBetween other_at n n at m last (HaveEither fits (pair_records_of fits i.bytes j.bytes) (pair_records_of fits i.bytes j.bytes ++ r ∷ [])))
   second_any None p other_at at n m last stands rest counts here left head = tt
   second_any (Some i) None other_at at n m last stands rest counts here left head = tt
   second_any (Some i) (Some j) other_at at n m last stands rest counts here left head =
@@ -36,13 +36,13 @@ module _ (fits : List ℕ → Bool) (r : List ℕ) (end extent epoch other : ℕ
     -- the disk that counts stands with one record more
     pub first_after : (o p : Option Image) (at other_at : ℕ → Option Image) (last n : ℕ) → IfSome o (Standing fits end extent epoch) → IfSome p (IsAtRest other) → IfBoth o p (λ i j. second_counts i.bytes j.bytes ≡ false) → other_at n ≡ p
         → IfSome (at last) (Standing fits new_end new_extent epoch) → IfSome o (λ i. IfSome (at last) (λ k. records fits k.bytes ≡ Ok (records_of fits i.bytes ++ r ∷ [])))
-        → IfBoth o p (λ i j. PairLeaves at last last other_at n n (HaveRecords fits (pair_records_of fits i.bytes j.bytes ++ r ∷ [])))
+        → IfBoth o p (λ i j. PairLeavesBetween at last last other_at n n (HaveRecords fits (pair_records_of fits i.bytes j.bytes ++ r ∷ [])))
     first_after None p at other_at last n stands rest counts here now all = tt
     first_after (Some i) None at other_at last n stands rest counts here now all = tt
     first_after (Some i) (Some j) at other_at last n stands rest counts here now all = by (at last) refl now all
       where
         goal : Type 0
-        goal = PairLeaves at last last other_at n n (HaveRecords fits (pair_records_of fits i.bytes j.bytes ++ r ∷ []))
+        goal = PairLeavesBetween at last last other_at n n (HaveRecords fits (pair_records_of fits i.bytes j.bytes ++ r ∷ []))
 
         by : (x : Option Image) → at last ≡ x → IfSome x (Standing fits new_end new_extent epoch) → IfSome x (λ k. records fits k.bytes ≡ Ok (records_of fits i.bytes ++ r ∷ [])) → goal
         by None is s a = λ k l low high low2 high2. let same : k ≡ last = omega arith in subst (λ (y : Option Image). IfBoth y (other_at l) (λ u v. (c d : List ℕ) → MayLeave u c → MayLeave v d → HaveRecords fits (pair_records_of fits i.bytes j.bytes ++ r ∷ []) c d)) (sym (ap at same ∙ is)) tt
@@ -56,13 +56,13 @@ module _ (fits : List ℕ → Bool) (r : List ℕ) (end extent epoch other : ℕ
 
     pub second_after : (o p : Option Image) (other_at at : ℕ → Option Image) (n last : ℕ) → IfSome p (Standing fits end extent epoch) → IfSome o (IsAtRest other) → IfBoth o p (λ i j. second_counts i.bytes j.bytes ≡ true) → other_at n ≡ o
         → IfSome (at last) (Standing fits new_end new_extent epoch) → IfSome p (λ j. IfSome (at last) (λ k. records fits k.bytes ≡ Ok (records_of fits j.bytes ++ r ∷ [])))
-        → IfBoth o p (λ i j. PairLeaves other_at n n at last last (HaveRecords fits (pair_records_of fits i.bytes j.bytes ++ r ∷ [])))
+        → IfBoth o p (λ i j. PairLeavesBetween other_at n n at last last (HaveRecords fits (pair_records_of fits i.bytes j.bytes ++ r ∷ [])))
     second_after None p other_at at n last stands rest counts here now all = tt
     second_after (Some i) None other_at at n last stands rest counts here now all = tt
     second_after (Some i) (Some j) other_at at n last stands rest counts here now all = by (at last) refl now all
       where
         goal : Type 0
-        goal = PairLeaves other_at n n at last last (HaveRecords fits (pair_records_of fits i.bytes j.bytes ++ r ∷ []))
+        goal = PairLeavesBetween other_at n n at last last (HaveRecords fits (pair_records_of fits i.bytes j.bytes ++ r ∷ []))
 
         by : (x : Option Image) → at last ≡ x → IfSome x (Standing fits new_end new_extent epoch) → IfSome x (λ k. records fits k.bytes ≡ Ok (records_of fits j.bytes ++ r ∷ [])) → goal
         by None is s a = λ l k low2 high2 low high. let same : k ≡ last = omega arith in none (other_at l) (at k) (ap at same ∙ is)

@@ -3,14 +3,14 @@ use Rattle.std.proofs.Common.{◌≡◌, inl, inr, ℕ, ◌+◌, ◌-◌, ◌<�
 use Rattle.std.specs.Option.{option_map}
 use Rattle.std.proofs.lemmas.Bool.{cases_lt}
 use Rattle.spl_edge.specs.Image.{Image, MayLeave, settled_at}
-use Rattle.spl_edge.specs.Calls.{SamePast, fails_at}
+use Rattle.spl_edge.specs.Calls.{fails_at}
 use Rattle.spl_edge.specs.declared.disk.Armed.{Armed}
 use Rattle.spl_journal.specs.Clear.{IsShortOrSame, IsCleared}
-use Rattle.spl_journal.specs.Gate.{LeavesSince}
+use Rattle.spl_journal.specs.Gate.{LeavesBetween}
 use Rattle.spl_journal.specs.Records.{closed_front, records, Standing, IsClosedOrFilled}
 use Rattle.spl_journal.proofs.Heads.{standing_open, standing_records, leaves_join}
 use Rattle.spl_snapshot.specs.Anew.{IsSameOrAnew}
-use Rattle.spl_snapshot.specs.Counting.{second_counts, pair_records_of, HaveRecords, HaveEither, IfBoth, PairLeaves}
+use Rattle.spl_snapshot.specs.Counting.{second_counts, pair_records_of, HaveRecords, HaveEither, IfBoth, PairLeavesBetween}
 use Rattle.spl_snapshot.proofs.Counts.{second_above, first_above, of_first, of_second, anew_first, anew_second}
 use Rattle.spl_snapshot.proofs.Leaves.{pair_leaves, leaves_map, leaves_rest}
 
@@ -21,15 +21,15 @@ is_cleared epoch None new is = subst (λ (o : Option Image). IfSome o (IsCleared
 is_cleared epoch (Some i) new is = subst (λ (o : Option Image). IfSome o (IsCleared epoch)) (sym is) refl
 
 module _ (fits : List ℕ → Bool) (epoch : ℕ) (rs : List (List ℕ)) where
-  pub clear_leaves : (told : Option Image) (at : ℕ → Option Image) (first last : ℕ) → IfSome told (λ i. LeavesSince at first last (IsShortOrSame i.bytes)) → IfSome told (λ i. LeavesSince at first last (IsSameOrAnew fits epoch rs i.bytes))
+  pub clear_leaves : (told : Option Image) (at : ℕ → Option Image) (first last : ℕ) → IfSome told (λ i. LeavesBetween at first last (IsShortOrSame i.bytes)) → IfSome told (λ i. LeavesBetween at first last (IsSameOrAnew fits epoch rs i.bytes))
   clear_leaves None at first last left = tt
   clear_leaves (Some i) at first last left = leaves_map at first last (IsShortOrSame i.bytes) (IsSameOrAnew fits epoch rs i.bytes) (λ c short. inl short) left
 
-  pub fill_leaves : (told : Option Image) (at later : ℕ → Option Image) (first m last : ℕ) → IfSome told (λ i. LeavesSince at first m (IsShortOrSame i.bytes)) → at m ≡ option_map (λ i. settled_at (closed_front epoch)) told
-      → SamePast at m later → IfSome (at m) (λ i. LeavesSince later m last (IsClosedOrFilled fits epoch rs)) → IfSome told (λ i. LeavesSince later first last (IsSameOrAnew fits epoch rs i.bytes))
+  pub fill_leaves : (told : Option Image) (at later : ℕ → Option Image) (first m last : ℕ) → IfSome told (λ i. LeavesBetween at first m (IsShortOrSame i.bytes)) → at m ≡ option_map (λ i. settled_at (closed_front epoch)) told
+      → ((t : ℕ) → t ≤ m → later t ≡ at t) → IfSome (at m) (λ i. LeavesBetween later m last (IsClosedOrFilled fits epoch rs)) → IfSome told (λ i. LeavesBetween later first last (IsSameOrAnew fits epoch rs i.bytes))
   fill_leaves None at later first m last left is past filled = tt
   fill_leaves (Some i) at later first m last left is past filled =
-      let behind : LeavesSince later m last (IsClosedOrFilled fits epoch rs) = subst (λ (o : Option Image). IfSome o (λ j. LeavesSince later m last (IsClosedOrFilled fits epoch rs))) is filled in
+      let behind : LeavesBetween later m last (IsClosedOrFilled fits epoch rs) = subst (λ (o : Option Image). IfSome o (λ j. LeavesBetween later m last (IsClosedOrFilled fits epoch rs))) is filled in
       leaves_join at later first m last (IsSameOrAnew fits epoch rs i.bytes)
       (leaves_map at first m (IsShortOrSame i.bytes) (IsSameOrAnew fits epoch rs i.bytes) (λ c short. inl short) left) past
       (leaves_map later m last (IsClosedOrFilled fits epoch rs) (IsSameOrAnew fits epoch rs i.bytes) (λ c full. inr full) behind)
@@ -48,8 +48,8 @@ eight_passed armed then first m place same before behind n lt due = ⊎_elim
 module _ (fits : List ℕ → Bool) (rs : List (List ℕ)) (end extent epoch other : ℕ) where
   -- the first disk counts, and the second is written anew
   pub second_anew : (o p : Option Image) (at other_at : ℕ → Option Image) (m n last : ℕ) → IfSome o (Standing fits end extent epoch) → IfBoth o p (λ i j. second_counts i.bytes j.bytes ≡ false) → at m ≡ o
-      → IfSome p (λ j. LeavesSince other_at n last (IsSameOrAnew fits (epoch + 1) rs j.bytes))
-      → IfBoth o p (λ i j. PairLeaves at m m other_at n last (HaveEither fits (pair_records_of fits i.bytes j.bytes) rs))
+      → IfSome p (λ j. LeavesBetween other_at n last (IsSameOrAnew fits (epoch + 1) rs j.bytes))
+      → IfBoth o p (λ i j. PairLeavesBetween at m m other_at n last (HaveEither fits (pair_records_of fits i.bytes j.bytes) rs))
   second_anew None p at other_at m n last stands counts here left = tt
   second_anew (Some i) None at other_at m n last stands counts here left = tt
   second_anew (Some i) (Some j) at other_at m n last stands counts here left =
@@ -60,8 +60,8 @@ module _ (fits : List ℕ → Bool) (rs : List (List ℕ)) (end extent epoch oth
 
   -- the second disk counts, and the first is written anew
   pub first_anew : (o p : Option Image) (other_at at : ℕ → Option Image) (n last m : ℕ) → IfSome p (Standing fits end extent epoch) → IfBoth o p (λ i j. second_counts i.bytes j.bytes ≡ true) → at m ≡ p
-      → IfSome o (λ i. LeavesSince other_at n last (IsSameOrAnew fits (epoch + 1) rs i.bytes))
-      → IfBoth o p (λ i j. PairLeaves other_at n last at m m (HaveEither fits (pair_records_of fits i.bytes j.bytes) rs))
+      → IfSome o (λ i. LeavesBetween other_at n last (IsSameOrAnew fits (epoch + 1) rs i.bytes))
+      → IfBoth o p (λ i j. PairLeavesBetween other_at n last at m m (HaveEither fits (pair_records_of fits i.bytes j.bytes) rs))
   first_anew None p other_at at n last m stands counts here left = tt
   first_anew (Some i) None other_at at n last m stands counts here left = tt
   first_anew (Some i) (Some j) other_at at n last m stands counts here left =
@@ -90,10 +90,10 @@ module _ (fits : List ℕ → Bool) (rs : List (List ℕ)) (end extent epoch oth
 
     -- and has the records
     pub second_records : (at other_at : ℕ → Option Image) (m last : ℕ) → IfSome (at m) (Standing fits end extent epoch) → IfSome (other_at last) (Standing fits new_end new_extent (epoch + 1)) → IfSome (other_at last) (λ k. records fits k.bytes ≡ Ok rs)
-        → PairLeaves at m m other_at last last (HaveRecords fits rs)
+        → PairLeavesBetween at m m other_at last last (HaveRecords fits rs)
     second_records at other_at m last old new all = by (at m) (other_at last) refl refl old new all
       where
-        by : (x y : Option Image) → at m ≡ x → other_at last ≡ y → IfSome x (Standing fits end extent epoch) → IfSome y (Standing fits new_end new_extent (epoch + 1)) → IfSome y (λ k. records fits k.bytes ≡ Ok rs) → PairLeaves at m m other_at last last (HaveRecords fits rs)
+        by : (x y : Option Image) → at m ≡ x → other_at last ≡ y → IfSome x (Standing fits end extent epoch) → IfSome y (Standing fits new_end new_extent (epoch + 1)) → IfSome y (λ k. records fits k.bytes ≡ Ok rs) → PairLeavesBetween at m m other_at last last (HaveRecords fits rs)
         by None y is_x is_y o n a = λ k l low high low2 high2. let same : k ≡ m = omega arith in subst (λ (z : Option Image). IfBoth z (other_at l) (λ u v. (c d : List ℕ) → MayLeave u c → MayLeave v d → HaveRecords fits rs c d)) (sym (ap at same ∙ is_x)) tt
         by (Some i) None is_x is_y o n a = λ k l low high low2 high2. let same : l ≡ last = omega arith in none (at k) (other_at l) (ap other_at same ∙ is_y)
           where
@@ -105,10 +105,10 @@ module _ (fits : List ℕ → Bool) (rs : List (List ℕ)) (end extent epoch oth
             (leaves_rest at m i is_x o.holds.settled) (leaves_rest other_at last k is_y n.holds.settled)
 
     pub first_records : (other_at at : ℕ → Option Image) (last m : ℕ) → IfSome (at m) (Standing fits end extent epoch) → IfSome (other_at last) (Standing fits new_end new_extent (epoch + 1)) → IfSome (other_at last) (λ k. records fits k.bytes ≡ Ok rs)
-        → PairLeaves other_at last last at m m (HaveRecords fits rs)
+        → PairLeavesBetween other_at last last at m m (HaveRecords fits rs)
     first_records other_at at last m old new all = by (other_at last) (at m) refl refl new old all
       where
-        by : (x y : Option Image) → other_at last ≡ x → at m ≡ y → IfSome x (Standing fits new_end new_extent (epoch + 1)) → IfSome y (Standing fits end extent epoch) → IfSome x (λ k. records fits k.bytes ≡ Ok rs) → PairLeaves other_at last last at m m (HaveRecords fits rs)
+        by : (x y : Option Image) → other_at last ≡ x → at m ≡ y → IfSome x (Standing fits new_end new_extent (epoch + 1)) → IfSome y (Standing fits end extent epoch) → IfSome x (λ k. records fits k.bytes ≡ Ok rs) → PairLeavesBetween other_at last last at m m (HaveRecords fits rs)
         by None y is_x is_y n o a = λ k l low high low2 high2. let same : k ≡ last = omega arith in subst (λ (z : Option Image). IfBoth z (at l) (λ u v. (c d : List ℕ) → MayLeave u c → MayLeave v d → HaveRecords fits rs c d)) (sym (ap other_at same ∙ is_x)) tt
         by (Some k) None is_x is_y n o a = λ x y low high low2 high2. let same : y ≡ m = omega arith in none (other_at x) (at y) (ap at same ∙ is_y)
           where

@@ -1,9 +1,10 @@
 -- Which of two disks counts, and what a stop may leave of both (docs/RULES.md, Journals).
 use Rattle.std.specs.Prelude.{◌≡◌, ◌⊎◌, ◌≤◌, ℕ, List, Bool, true, false, not, ◌&&◌, ◌||◌, nat_lt, if◌then◌else◌, Option, is_some, IfSome, Result, Ok}
 use Rattle.spl_edge.specs.Image.{Image, MayLeave}
-use Rattle.spl_edge.specs.Calls.{SamePast}
-use Rattle.spl_edge.specs.Picks.{Picked}
-use Rattle.spl_edge.specs.declared.disk.Armed.{Armed}
+use Rattle.spl_edge.specs.Calls.{Onward}
+use Rattle.spl_edge.specs.Causes.{Rose}
+use Rattle.spl_edge.specs.Views.{PairView, image_now}
+use Rattle.spl_journal.specs.Reads.{Stays}
 use Rattle.spl_journal.specs.Records.{is_open, epoch_in, records, records_of}
 
 -- the second is open, and the first isn't or has a lower epoch
@@ -39,9 +40,13 @@ abbrev pub TellsAs : Option Image → Option Image → Type 0
 TellsAs old new = is_some new ≡ is_some old
 
 -- a stop that leaves any image of the first disk at one of these moments, and any of the second at one of those, leaves what has P
-abbrev pub PairLeaves : (ℕ → Option Image) → ℕ → ℕ → (ℕ → Option Image) → ℕ → ℕ → (List ℕ → List ℕ → Type 0) → Type 0
-PairLeaves first_at first_from first_to second_at second_from second_to P = (k l : ℕ) → first_from ≤ k → k ≤ first_to → second_from ≤ l → l ≤ second_to
+abbrev pub PairLeavesBetween : (ℕ → Option Image) → ℕ → ℕ → (ℕ → Option Image) → ℕ → ℕ → (List ℕ → List ℕ → Type 0) → Type 0
+PairLeavesBetween first_at first_from first_to second_at second_from second_to P = (k l : ℕ) → first_from ≤ k → k ≤ first_to → second_from ≤ l → l ≤ second_to
     → IfBoth (first_at k) (second_at l) (λ i j. (c d : List ℕ) → MayLeave i c → MayLeave j d → P c d)
+
+-- so it did while two disks went from p to q
+abbrev pub PairLeaves : PairView → PairView → (List ℕ → List ℕ → Type 0) → Type 0
+PairLeaves p q P = PairLeavesBetween q.first.image_at p.first.moment q.first.moment q.second.image_at p.second.moment q.second.moment P
 
 -- the disk that counts goes on first, and then the other: the second first where this is true
 abbrev pub IsInTurn : Bool → (k first_from first_to l second_from second_to : ℕ) → Type 0
@@ -49,9 +54,12 @@ IsInTurn false k first_from first_to l second_from second_to = (l ≡ second_fro
 IsInTurn true k first_from first_to l second_from second_to = (k ≡ first_from) ⊎ (l ≡ second_to)
 
 -- the same where one disk is called after the other, as in an append and then a checkpoint
-abbrev pub PairLeavesInTurn : Bool → (ℕ → Option Image) → ℕ → ℕ → (ℕ → Option Image) → ℕ → ℕ → (List ℕ → List ℕ → Type 0) → Type 0
-PairLeavesInTurn second first_at first_from first_to second_at second_from second_to P = (k l : ℕ) → first_from ≤ k → k ≤ first_to → second_from ≤ l → l ≤ second_to
+abbrev pub PairLeavesBetweenInTurn : Bool → (ℕ → Option Image) → ℕ → ℕ → (ℕ → Option Image) → ℕ → ℕ → (List ℕ → List ℕ → Type 0) → Type 0
+PairLeavesBetweenInTurn second first_at first_from first_to second_at second_from second_to P = (k l : ℕ) → first_from ≤ k → k ≤ first_to → second_from ≤ l → l ≤ second_to
     → IsInTurn second k first_from first_to l second_from second_to → IfBoth (first_at k) (second_at l) (λ i j. (c d : List ℕ) → MayLeave i c → MayLeave j d → P c d)
+
+abbrev pub PairLeavesInTurn : Bool → PairView → PairView → (List ℕ → List ℕ → Type 0) → Type 0
+PairLeavesInTurn second p q P = PairLeavesBetweenInTurn second q.first.image_at p.first.moment q.first.moment q.second.image_at p.second.moment q.second.moment P
 
 -- they are these records
 abbrev pub HaveRecords : (List ℕ → Bool) → List (List ℕ) → List ℕ → List ℕ → Type 0
@@ -65,10 +73,20 @@ HaveEither fits before after first second = HaveRecords fits before first second
 abbrev pub HaveOneOf : (List ℕ → Bool) → List (List ℕ) → List (List ℕ) → List (List ℕ) → List ℕ → List ℕ → Type 0
 HaveOneOf fits before after packed first second = HaveRecords fits before first second ⊎ (HaveRecords fits after first second ⊎ HaveRecords fits packed first second)
 
--- a disk went on: earlier moments are as they were, no count fell, and it is armed and has picked as before
-pub record Onward (at new_at : ℕ → Option Image) (before now : ℕ) (faults risen : ℕ) (was_armed is_armed : Armed) (had_picked has_picked : List Picked) : Type 0 where
-  pub past : SamePast at before new_at
-  pub later : before ≤ now
-  pub no_less : faults ≤ risen
-  pub armed : is_armed ≡ was_armed
-  pub picks : has_picked ≡ had_picked
+-- both disks of a node went on
+pub record PairOnward (p q : PairView) : Type 0 where
+  pub first : Onward p.first q.first
+  pub second : Onward p.second q.second
+
+-- both hold what they held
+pub record PairStays (p q : PairView) : Type 0 where
+  pub first : Stays p.first q.first
+  pub second : Stays p.second q.second
+
+-- each of the two tells exactly where it did
+abbrev pub PairTellsAs : PairView → PairView → Type 0
+PairTellsAs p q = TellsAs (image_now p.first) (image_now q.first) × TellsAs (image_now p.second) (image_now q.second)
+
+-- one of the two has failed more often
+abbrev pub HasRisen : PairView → PairView → Type 0
+HasRisen p q = Rose p.first.faults q.first.faults ⊎ Rose p.second.faults q.second.faults

@@ -2,6 +2,8 @@
 ghost use Rattle.std.specs.Prelude.{◌≡◌, ◌≤◌, ℕ, Err, [], IfOk, IfSome, IsErrOf, Option};
 ghost use Rattle.spl_edge.specs.Causes.{Rose};
 ghost use Rattle.spl_edge.specs.Image.{Image, IsSettled};
+ghost use Rattle.spl_edge.specs.Views.{image_now};
+ghost use Rattle.spl_edge.specs.Calls.{Onward};
 ghost use Rattle.spl_journal.specs.Reads.{Stays};
 ghost use Rattle.spl_snapshot.specs.Choices.{IsFound};
 ghost use Rattle.spl_snapshot.specs.Counting.{pair_records};
@@ -20,14 +22,12 @@ pub enum Found<R> {
 
 /// Looks at the head of a disk.
 pub(crate) fn look<R: Form, D: Disk>(disk: &mut D) -> Result<Found<R>, JournalFault>
-    requires settled { IfSome (D.image_at disk.old (D.moment disk.old)) IsSettled }
-    ensures found { IfOk result (λ f. IfSome (D.image_at disk.old (D.moment disk.old)) (IsFound R.is_record f)) }
+    requires settled { IfSome (image_now (D.view disk.old)) IsSettled }
+    ensures found { IfOk result (λ f. IfSome (image_now (D.view disk.old)) (IsFound R.is_record f)) }
     ensures not { (at : ℕ) → IsErrOf result (JournalFault.NotAJournal at) → ⊥ }
-    ensures stays { Stays (D.image_at disk.old) (D.moment disk.old) (D.image_at disk.new) (D.moment disk.new) }
-    ensures failed { IsErrOf result JournalFault.Disk → Rose (D.faults disk.old) (D.faults disk.new) }
-    ensures no_less { D.faults disk.old ≤ D.faults disk.new }
-    ensures armed { D.armed disk.new ≡ D.armed disk.old }
-    ensures picks { D.picks disk.new ≡ D.picks disk.old }
+    ensures stays { Stays (D.view disk.old) (D.view disk.new) }
+    ensures failed { IsErrOf result JournalFault.Disk → Rose (D.view disk.old).faults (D.view disk.new).faults }
+    ensures onward { Onward (D.view disk.old) (D.view disk.new) }
 {
     let at = match Journal::<R>::walk(disk) {
         Ok(walk) => return Ok(Found::Open(walk)),
@@ -46,8 +46,10 @@ pub(crate) fn choose<R: Form>(
     first: Found<R>,
     second: Found<R>,
 ) -> Result<PairWalk<R>, JournalFault>
-    ensures walks { IfOk result (λ w. (i j : Option Image) → IfSome i (IsFound R.is_record first) → IfSome j (IsFound R.is_record second) → PairWalks R.is_record w i j) }
-    ensures start { IfOk result (λ w. (i j : Image) → IsFound R.is_record first i → IsFound R.is_record second j → pair_given R.is_record w i.bytes j.bytes ≡ []) }
+    ensures walks { IfOk result (λ w. (i j : Option Image) → IfSome i (IsFound R.is_record first) → IfSome j (IsFound R.is_record second)
+        → PairWalks R.is_record w i j) }
+    ensures start { IfOk result (λ w. (i j : Image) → IsFound R.is_record first i → IsFound R.is_record second j
+        → pair_given R.is_record w i.bytes j.bytes ≡ []) }
     ensures not { (at : ℕ) → IsErrOf result (JournalFault.NotAJournal at) → (i j : Image) → IsFound R.is_record first i → IsFound R.is_record second j
         → pair_records R.is_record i.bytes j.bytes ≡ Err at }
     ensures disk { IsErrOf result JournalFault.Disk → ⊥ }

@@ -2,10 +2,11 @@
 ghost use Rattle.std.specs.Prelude.{◌≡◌, ◌⊎◌, ◌≤◌, ◌<◌, ◌+◌, ◌-◌, ◌*◌, ◌^◌, ◌++◌, ◌∷◌, [], List, ℕ, true, false, not, ⊤, length, IsTrue, OnOk, OnErr, IfOk, IsOk, IsErrOf};
 ghost use Rattle.spl_edge.specs.Calls.{fails_at, IsArmed};
 ghost use Rattle.spl_edge.specs.Causes.{Rose};
+ghost use Rattle.spl_edge.specs.Views.{image_now, pair_view};
 ghost use Rattle.spl_journal.specs.Gate.{ByCalls, NamesOne, opened};
 ghost use Rattle.spl_journal.specs.Journals.{end_of, len_of, base_of, epoch_of, has_room, IsFilledBy};
 ghost use Rattle.spl_journal.specs.Records.{blocks, sized, IsGood, AreGood};
-ghost use Rattle.spl_snapshot.specs.Counting.{chosen, pair_records_of, HaveEither, HaveOneOf, IfBoth, PairLeaves, PairLeavesInTurn, TellsAs, Onward};
+ghost use Rattle.spl_snapshot.specs.Counting.{chosen, pair_records_of, HaveEither, HaveOneOf, IfBoth, PairLeaves, PairLeavesInTurn, PairOnward, PairTellsAs, HasRisen};
 ghost use Rattle.spl_snapshot.specs.Pairs.{PairStands, is_second, journal_in, is_halted};
 
 use crate::Pairing;
@@ -34,51 +35,62 @@ impl<R: Form> Pairing<R> {
         requires running { is_halted self.old ≡ false }
         requires good { IsGood R.is_record bytes.now }
         requires packed { AreGood R.is_record (P.packed state.now) }
-        requires stands { PairStands R.is_record self.old (D.image_at disks.old.first (D.moment disks.old.first)) (D.image_at disks.old.second (D.moment disks.old.second)) }
-        ensures stands { OnOk result (PairStands R.is_record self.new (D.image_at disks.new.first (D.moment disks.new.first)) (D.image_at disks.new.second (D.moment disks.new.second))) }
+        requires stands { PairStands R.is_record self.old (image_now (D.view disks.old.first)) (image_now (D.view disks.old.second)) }
+        ensures stands { OnOk result (PairStands R.is_record self.new (image_now (D.view disks.new.first)) (image_now (D.view disks.new.second))) }
 
         // A stop at any moment leaves the records from before it, those and the new one, or the packed ones; after Ok one of the last two.
-        ensures any_moment { IfBoth (D.image_at disks.old.first (D.moment disks.old.first)) (D.image_at disks.old.second (D.moment disks.old.second)) (λ i j.
-            PairLeavesInTurn (is_second self.old) (D.image_at disks.new.first) (D.moment disks.old.first) (D.moment disks.new.first) (D.image_at disks.new.second) (D.moment disks.old.second) (D.moment disks.new.second)
-            (HaveOneOf R.is_record (pair_records_of R.is_record i.bytes j.bytes) (pair_records_of R.is_record i.bytes j.bytes ++ bytes.now ∷ []) (P.packed state.now))) }
-        ensures after { OnOk result (IfBoth (D.image_at disks.old.first (D.moment disks.old.first)) (D.image_at disks.old.second (D.moment disks.old.second)) (λ i j.
-            PairLeaves (D.image_at disks.new.first) (D.moment disks.new.first) (D.moment disks.new.first) (D.image_at disks.new.second) (D.moment disks.new.second) (D.moment disks.new.second)
+        ensures any_moment { IfBoth (image_now (D.view disks.old.first)) (image_now (D.view disks.old.second)) (λ i j.
+            PairLeavesInTurn (is_second self.old) (pair_view D.view disks.old) (pair_view D.view disks.new)
+            (HaveOneOf R.is_record (pair_records_of R.is_record i.bytes j.bytes) (pair_records_of R.is_record i.bytes j.bytes ++ bytes.now ∷ [])
+            (P.packed state.now))) }
+        ensures after { OnOk result (IfBoth (image_now (D.view disks.old.first)) (image_now (D.view disks.old.second)) (λ i j.
+            PairLeaves (pair_view D.view disks.new) (pair_view D.view disks.new)
             (HaveEither R.is_record (pair_records_of R.is_record i.bytes j.bytes ++ bytes.now ∷ []) (P.packed state.now)))) }
-        ensures told_first { OnOk result (TellsAs (D.image_at disks.old.first (D.moment disks.old.first)) (D.image_at disks.new.first (D.moment disks.new.first))) }
-        ensures told_second { OnOk result (TellsAs (D.image_at disks.old.second (D.moment disks.old.second)) (D.image_at disks.new.second (D.moment disks.new.second))) }
+        ensures told { OnOk result (PairTellsAs (pair_view D.view disks.old) (pair_view D.view disks.new)) }
         ensures room { OnOk result (epoch_of (journal_in self.new) < 2 ^ 64 - 1 → has_room (journal_in self.new) ≡ true) }
-        ensures base { OnOk result ((base_of (journal_in self.new) ≡ base_of (journal_in self.old)) ⊎ (base_of (journal_in self.new) ≡ 18 + length (blocks (P.packed state.now)))) }
+        ensures base { OnOk result ((base_of (journal_in self.new) ≡ base_of (journal_in self.old))
+            ⊎ (base_of (journal_in self.new) ≡ 18 + length (blocks (P.packed state.now)))) }
 
-        // The append comes first: it ended the call, and the other disk is as it was; or each of its four calls succeeded, and a stop behind the call leaves the new record or the packed ones.
-        ensures by_calls { (ByCalls 4 (D.image_at (chosen (is_second self.old) disks.new.first disks.new.second)) (D.moment (chosen (is_second self.old) disks.old.first disks.old.second)) (D.moment (chosen (is_second self.old) disks.new.first disks.new.second))
-            (opened (end_of (journal_in self.old)) (sized bytes.now)) (D.image_at (chosen (is_second self.old) disks.old.first disks.old.second) (D.moment (chosen (is_second self.old) disks.old.first disks.old.second))) (D.armed (chosen (is_second self.old) disks.old.first disks.old.second)) (IsOk result) (IsErrOf result JournalFault.Disk)
+        // The append comes first: it ended the call, and the other disk is as it was; or each of its four calls
+        // succeeded, and a stop behind the call leaves the new record or the packed ones.
+        ensures by_calls { (ByCalls 4 (D.view (chosen (is_second self.old) disks.old.first disks.old.second))
+            (D.view (chosen (is_second self.old) disks.new.first disks.new.second)) (opened (end_of (journal_in self.old)) (sized bytes.now))
+            (IsOk result) (IsErrOf result JournalFault.Disk)
             × (chosen (is_second self.old) disks.new.second disks.new.first ≡ chosen (is_second self.old) disks.old.second disks.old.first))
-            ⊎ (ByCalls 4 (D.image_at (chosen (is_second self.old) disks.new.first disks.new.second)) (D.moment (chosen (is_second self.old) disks.old.first disks.old.second)) (D.moment (chosen (is_second self.old) disks.new.first disks.new.second))
-            (opened (end_of (journal_in self.old)) (sized bytes.now)) (D.image_at (chosen (is_second self.old) disks.old.first disks.old.second) (D.moment (chosen (is_second self.old) disks.old.first disks.old.second))) (D.armed (chosen (is_second self.old) disks.old.first disks.old.second)) ⊤ ⊥
-            × IfBoth (D.image_at disks.old.first (D.moment disks.old.first)) (D.image_at disks.old.second (D.moment disks.old.second)) (λ i j.
-            PairLeaves (D.image_at disks.new.first) (D.moment disks.new.first) (D.moment disks.new.first) (D.image_at disks.new.second) (D.moment disks.new.second) (D.moment disks.new.second)
+            ⊎ (ByCalls 4 (D.view (chosen (is_second self.old) disks.old.first disks.old.second))
+            (D.view (chosen (is_second self.old) disks.new.first disks.new.second)) (opened (end_of (journal_in self.old)) (sized bytes.now)) ⊤ ⊥
+            × IfBoth (image_now (D.view disks.old.first)) (image_now (D.view disks.old.second)) (λ i j.
+            PairLeaves (pair_view D.view disks.new) (pair_view D.view disks.new)
             (HaveEither R.is_record (pair_records_of R.is_record i.bytes j.bytes ++ bytes.now ∷ []) (P.packed state.now)))) }
 
         // Where it leaves no room the other disk counts behind Ok, and none of its eight calls was one that it is armed for.
-        ensures turned { OnOk result (2 * base_of (journal_in self.old) + 65536 < len_of (journal_in self.old) + 5 + length bytes.now → epoch_of (journal_in self.old) < 2 ^ 64 - 1
+        ensures turned { OnOk result (2 * base_of (journal_in self.old) + 65536 < len_of (journal_in self.old) + 5 + length bytes.now
+            → epoch_of (journal_in self.old) < 2 ^ 64 - 1
             → is_second self.new ≡ not (is_second self.old)) }
-        ensures passed { OnOk result ((is_second self.new ≡ is_second self.old) ⊎ ((n : ℕ) → n < 8 → IsTrue (fails_at (D.armed (chosen (is_second self.old) disks.old.second disks.old.first)) (D.moment (chosen (is_second self.old) disks.old.second disks.old.first) + n)) → ⊥)) }
+        ensures passed { OnOk result ((is_second self.new ≡ is_second self.old)
+            ⊎ ((n : ℕ) → n < 8 → IsTrue (fails_at (D.view (chosen (is_second self.old) disks.old.second disks.old.first)).armed
+            ((D.view (chosen (is_second self.old) disks.old.second disks.old.first)).moment + n)) → ⊥)) }
 
         // Where it leaves room no checkpoint is made: the other disk is as it was, and doesn't count.
         ensures no_checkpoint { len_of (journal_in self.old) + 5 + length bytes.now ≤ 2 * base_of (journal_in self.old) + 65536
-            → (chosen (is_second self.old) disks.new.second disks.new.first ≡ chosen (is_second self.old) disks.old.second disks.old.first) × (is_second self.new ≡ is_second self.old) }
+            → (chosen (is_second self.old) disks.new.second disks.new.first ≡ chosen (is_second self.old) disks.old.second disks.old.first)
+            × (is_second self.new ≡ is_second self.old) }
 
-        // Where it leaves no room, the disk that counts is armed for none of its four calls, and the other for one of its eight, the other has failed, unless memory was wanting.
-        ensures risen { IsFilledBy (length bytes.now) (journal_in self.old) → IsArmed (D.armed (chosen (is_second self.old) disks.old.first disks.old.second)) → (NamesOne (D.armed (chosen (is_second self.old) disks.old.first disks.old.second)) (D.moment (chosen (is_second self.old) disks.old.first disks.old.second)) 4 → ⊥) → NamesOne (D.armed (chosen (is_second self.old) disks.old.second disks.old.first)) (D.moment (chosen (is_second self.old) disks.old.second disks.old.first)) 8
-            → IsErrOf result JournalFault.NoMemory ⊎ Rose (D.faults (chosen (is_second self.old) disks.old.second disks.old.first)) (D.faults (chosen (is_second self.old) disks.new.second disks.new.first)) }
+        // Where it leaves no room, the disk that counts is armed for none of its four calls, and the other for one
+        // of its eight, the other has failed, unless memory was wanting.
+        ensures risen { IsFilledBy (length bytes.now) (journal_in self.old)
+            → IsArmed (D.view (chosen (is_second self.old) disks.old.first disks.old.second)).armed
+            → (NamesOne (D.view (chosen (is_second self.old) disks.old.first disks.old.second)).armed
+            (D.view (chosen (is_second self.old) disks.old.first disks.old.second)).moment 4 → ⊥)
+            → NamesOne (D.view (chosen (is_second self.old) disks.old.second disks.old.first)).armed
+            (D.view (chosen (is_second self.old) disks.old.second disks.old.first)).moment 8
+            → IsErrOf result JournalFault.NoMemory ⊎ Rose (D.view (chosen (is_second self.old) disks.old.second disks.old.first)).faults
+            (D.view (chosen (is_second self.old) disks.new.second disks.new.first)).faults }
         ensures halted { OnErr result (is_halted self.new ≡ true) }
         ensures running { OnOk result (is_halted self.new ≡ false) }
         ensures not { (at : ℕ) → IsErrOf result (JournalFault.NotAJournal at) → ⊥ }
-        ensures failed { IsErrOf result JournalFault.Disk → Rose (D.faults disks.old.first) (D.faults disks.new.first) ⊎ Rose (D.faults disks.old.second) (D.faults disks.new.second) }
-        ensures on_first { Onward (D.image_at disks.old.first) (D.image_at disks.new.first) (D.moment disks.old.first) (D.moment disks.new.first) (D.faults disks.old.first) (D.faults disks.new.first)
-            (D.armed disks.old.first) (D.armed disks.new.first) (D.picks disks.old.first) (D.picks disks.new.first) }
-        ensures on_second { Onward (D.image_at disks.old.second) (D.image_at disks.new.second) (D.moment disks.old.second) (D.moment disks.new.second) (D.faults disks.old.second) (D.faults disks.new.second)
-            (D.armed disks.old.second) (D.armed disks.new.second) (D.picks disks.old.second) (D.picks disks.new.second) }
+        ensures failed { IsErrOf result JournalFault.Disk → HasRisen (pair_view D.view disks.old) (pair_view D.view disks.new) }
+        ensures onward { PairOnward (pair_view D.view disks.old) (pair_view D.view disks.new) }
     {
         if let Err(fault) = self.append(alloc, disks, bytes) {
             return Err(fault);

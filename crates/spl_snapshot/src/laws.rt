@@ -14,7 +14,8 @@ use spl_journal::appends_are_kept_or_lost;
 pub fn appends_to_pairs_are_kept_or_lost()
     ensures { (fits : List ℕ → Bool) (second : Bool) (end extent epoch : ℕ) (i j : Image) (r : List ℕ) (calls : ℕ) (fill : Fill)
         → Standing fits end extent epoch (chosen second i j) → second_counts i.bytes j.bytes ≡ second → IsGood fits r
-        → HaveRecords fits (kept_records (is_kept calls fill) (pair_records_of fits i.bytes j.bytes) r) (kept_on (not second) fill end (sized r) calls i) (kept_on second fill end (sized r) calls j) }
+        → HaveRecords fits (kept_records (is_kept calls fill) (pair_records_of fits i.bytes j.bytes) r)
+        (kept_on (not second) fill end (sized r) calls i) (kept_on second fill end (sized r) calls j) }
 {
     appends_are_kept_or_lost();
 }

@@ -1,12 +1,13 @@
 //! The journals of two disks, of which one counts.
 ghost use Rattle.std.specs.Prelude.{◌≡◌, ◌≤◌, ◌<◌, ◌+◌, ◌-◌, ◌^◌, ◌++◌, ◌∷◌, [], ℕ, true, false, not, length, IsTrue, OnOk, OnErr, IfOk, IfSome, IsOk, IsErrOf};
-ghost use Rattle.spl_edge.specs.Calls.{fails_at};
+ghost use Rattle.spl_edge.specs.Calls.{fails_at, Onward};
 ghost use Rattle.spl_edge.specs.Causes.{Rose};
+ghost use Rattle.spl_edge.specs.Views.{image_now, pair_view};
 ghost use Rattle.spl_journal.specs.Gate.{ByCalls, opened};
 ghost use Rattle.spl_journal.specs.Journals.{end_of, len_of, base_of, epoch_of, has_room};
 ghost use Rattle.spl_journal.specs.Make.{IsBlank};
 ghost use Rattle.spl_journal.specs.Records.{blocks, sized, IsGood, AreGood};
-ghost use Rattle.spl_snapshot.specs.Counting.{chosen, pair_records_of, HaveRecords, HaveEither, IfBoth, PairLeaves, TellsAs, Onward};
+ghost use Rattle.spl_snapshot.specs.Counting.{chosen, pair_records_of, HaveRecords, HaveEither, IfBoth, PairLeaves, TellsAs, PairOnward, PairTellsAs};
 ghost use Rattle.spl_snapshot.specs.Pairs.{PairStands, is_second, journal_in, is_halted};
 
 use crate::anew::write_anew;
@@ -30,16 +31,17 @@ pub fn format_pair<R: Form, D: Disk>(
     alloc: Global,
     disks: &mut Pair<D>,
 ) -> Result<Pairing<R>, JournalFault>
-    requires first { IfSome (D.image_at disks.old.first (D.moment disks.old.first)) IsBlank }
-    requires second { IfSome (D.image_at disks.old.second (D.moment disks.old.second)) IsBlank }
-    ensures stands { IfOk result (λ p. PairStands R.is_record p (D.image_at disks.new.first (D.moment disks.new.first)) (D.image_at disks.new.second (D.moment disks.new.second))) }
-    ensures empty { OnOk result (IfBoth (D.image_at disks.new.first (D.moment disks.new.first)) (D.image_at disks.new.second (D.moment disks.new.second)) (λ i j. HaveRecords R.is_record [] i.bytes j.bytes)) }
-    ensures fresh { IfOk result (λ p. (is_second p ≡ false) × (is_halted p ≡ false) × (epoch_of (journal_in p) ≡ 1) × (len_of (journal_in p) ≡ 18) × (base_of (journal_in p) ≡ 18)) }
-    ensures told_first { OnOk result (TellsAs (D.image_at disks.old.first (D.moment disks.old.first)) (D.image_at disks.new.first (D.moment disks.new.first))) }
+    requires first { IfSome (image_now (D.view disks.old.first)) IsBlank }
+    requires second { IfSome (image_now (D.view disks.old.second)) IsBlank }
+    ensures stands { IfOk result (λ p. PairStands R.is_record p (image_now (D.view disks.new.first)) (image_now (D.view disks.new.second))) }
+    ensures empty { OnOk result (IfBoth (image_now (D.view disks.new.first)) (image_now (D.view disks.new.second))
+        (λ i j. HaveRecords R.is_record [] i.bytes j.bytes)) }
+    ensures fresh { IfOk result (λ p. (is_second p ≡ false) × (is_halted p ≡ false) × (epoch_of (journal_in p) ≡ 1) × (len_of (journal_in p) ≡ 18)
+        × (base_of (journal_in p) ≡ 18)) }
+    ensures told_first { OnOk result (TellsAs (image_now (D.view disks.old.first)) (image_now (D.view disks.new.first))) }
     ensures not { (at : ℕ) → IsErrOf result (JournalFault.NotAJournal at) → ⊥ }
-    ensures failed { IsErrOf result JournalFault.Disk → Rose (D.faults disks.old.first) (D.faults disks.new.first) }
-    ensures on_first { Onward (D.image_at disks.old.first) (D.image_at disks.new.first) (D.moment disks.old.first) (D.moment disks.new.first) (D.faults disks.old.first) (D.faults disks.new.first)
-        (D.armed disks.old.first) (D.armed disks.new.first) (D.picks disks.old.first) (D.picks disks.new.first) }
+    ensures failed { IsErrOf result JournalFault.Disk → Rose (D.view disks.old.first).faults (D.view disks.new.first).faults }
+    ensures on_first { Onward (D.view disks.old.first) (D.view disks.new.first) }
     ensures second { disks.new.second ≡ disks.old.second }
 {
     let journal = match format::<R, D>(alloc, &mut disks.first, 1) {
@@ -106,37 +108,34 @@ impl<R: Form> Pairing<R> {
     ) -> Result<(), JournalFault>
         requires running { is_halted self.old ≡ false }
         requires good { IsGood R.is_record bytes.now }
-        requires stands { PairStands R.is_record self.old (D.image_at disks.old.first (D.moment disks.old.first)) (D.image_at disks.old.second (D.moment disks.old.second)) }
-        ensures stands { OnOk result (PairStands R.is_record self.new (D.image_at disks.new.first (D.moment disks.new.first)) (D.image_at disks.new.second (D.moment disks.new.second))) }
+        requires stands { PairStands R.is_record self.old (image_now (D.view disks.old.first)) (image_now (D.view disks.old.second)) }
+        ensures stands { OnOk result (PairStands R.is_record self.new (image_now (D.view disks.new.first)) (image_now (D.view disks.new.second))) }
 
         // A stop at any moment of the call leaves the records from before it, or those and the new one; after Ok those and the new one.
-        ensures any_moment { IfBoth (D.image_at disks.old.first (D.moment disks.old.first)) (D.image_at disks.old.second (D.moment disks.old.second)) (λ i j.
-            PairLeaves (D.image_at disks.new.first) (D.moment disks.old.first) (D.moment disks.new.first) (D.image_at disks.new.second) (D.moment disks.old.second) (D.moment disks.new.second)
+        ensures any_moment { IfBoth (image_now (D.view disks.old.first)) (image_now (D.view disks.old.second)) (λ i j.
+            PairLeaves (pair_view D.view disks.old) (pair_view D.view disks.new)
             (HaveEither R.is_record (pair_records_of R.is_record i.bytes j.bytes) (pair_records_of R.is_record i.bytes j.bytes ++ bytes.now ∷ []))) }
-        ensures after { OnOk result (IfBoth (D.image_at disks.old.first (D.moment disks.old.first)) (D.image_at disks.old.second (D.moment disks.old.second)) (λ i j.
-            PairLeaves (D.image_at disks.new.first) (D.moment disks.new.first) (D.moment disks.new.first) (D.image_at disks.new.second) (D.moment disks.new.second) (D.moment disks.new.second)
+        ensures after { OnOk result (IfBoth (image_now (D.view disks.old.first)) (image_now (D.view disks.old.second)) (λ i j.
+            PairLeaves (pair_view D.view disks.new) (pair_view D.view disks.new)
             (HaveRecords R.is_record (pair_records_of R.is_record i.bytes j.bytes ++ bytes.now ∷ [])))) }
 
         // After Ok each disk tells where it did.
-        ensures told_first { OnOk result (TellsAs (D.image_at disks.old.first (D.moment disks.old.first)) (D.image_at disks.new.first (D.moment disks.new.first))) }
-        ensures told_second { OnOk result (TellsAs (D.image_at disks.old.second (D.moment disks.old.second)) (D.image_at disks.new.second (D.moment disks.new.second))) }
-        ensures by_calls { ByCalls 4 (D.image_at (chosen (is_second self.old) disks.new.first disks.new.second))
-            (D.moment (chosen (is_second self.old) disks.old.first disks.old.second)) (D.moment (chosen (is_second self.old) disks.new.first disks.new.second))
-            (opened (end_of (journal_in self.old)) (sized bytes.now))
-            (D.image_at (chosen (is_second self.old) disks.old.first disks.old.second) (D.moment (chosen (is_second self.old) disks.old.first disks.old.second)))
-            (D.armed (chosen (is_second self.old) disks.old.first disks.old.second)) (IsOk result) (IsErrOf result JournalFault.Disk) }
+        ensures told { OnOk result (PairTellsAs (pair_view D.view disks.old) (pair_view D.view disks.new)) }
+        ensures by_calls { ByCalls 4 (D.view (chosen (is_second self.old) disks.old.first disks.old.second))
+            (D.view (chosen (is_second self.old) disks.new.first disks.new.second)) (opened (end_of (journal_in self.old)) (sized bytes.now))
+            (IsOk result) (IsErrOf result JournalFault.Disk) }
         ensures other { chosen (is_second self.old) disks.new.second disks.new.first ≡ chosen (is_second self.old) disks.old.second disks.old.first }
-        ensures four { OnOk result (D.moment (chosen (is_second self.old) disks.new.first disks.new.second) ≡ D.moment (chosen (is_second self.old) disks.old.first disks.old.second) + 4) }
+        ensures four { OnOk result ((D.view (chosen (is_second self.old) disks.new.first disks.new.second)).moment
+            ≡ (D.view (chosen (is_second self.old) disks.old.first disks.old.second)).moment + 4) }
         ensures halted { OnErr result (is_halted self.new ≡ true) }
         ensures running { OnOk result (is_halted self.new ≡ false) }
         ensures len { OnOk result (len_of (journal_in self.new) ≡ len_of (journal_in self.old) + 5 + length bytes.now) }
-        ensures same { (is_second self.new ≡ is_second self.old) × (base_of (journal_in self.new) ≡ base_of (journal_in self.old)) × (epoch_of (journal_in self.new) ≡ epoch_of (journal_in self.old)) }
+        ensures same { (is_second self.new ≡ is_second self.old) × (base_of (journal_in self.new) ≡ base_of (journal_in self.old))
+            × (epoch_of (journal_in self.new) ≡ epoch_of (journal_in self.old)) }
         ensures not { (at : ℕ) → IsErrOf result (JournalFault.NotAJournal at) → ⊥ }
-        ensures failed { IsErrOf result JournalFault.Disk → Rose (D.faults (chosen (is_second self.old) disks.old.first disks.old.second)) (D.faults (chosen (is_second self.old) disks.new.first disks.new.second)) }
-        ensures on_first { Onward (D.image_at disks.old.first) (D.image_at disks.new.first) (D.moment disks.old.first) (D.moment disks.new.first) (D.faults disks.old.first) (D.faults disks.new.first)
-            (D.armed disks.old.first) (D.armed disks.new.first) (D.picks disks.old.first) (D.picks disks.new.first) }
-        ensures on_second { Onward (D.image_at disks.old.second) (D.image_at disks.new.second) (D.moment disks.old.second) (D.moment disks.new.second) (D.faults disks.old.second) (D.faults disks.new.second)
-            (D.armed disks.old.second) (D.armed disks.new.second) (D.picks disks.old.second) (D.picks disks.new.second) }
+        ensures failed { IsErrOf result JournalFault.Disk → Rose (D.view (chosen (is_second self.old) disks.old.first disks.old.second)).faults
+            (D.view (chosen (is_second self.old) disks.new.first disks.new.second)).faults }
+        ensures onward { PairOnward (pair_view D.view disks.old) (pair_view D.view disks.new) }
     {
         self.halted = true;
         if self.second {
@@ -176,36 +175,35 @@ impl<R: Form> Pairing<R> {
         requires running { is_halted self.old ≡ false }
         requires epoch { epoch_of (journal_in self.old) < 2 ^ 64 - 1 }
         requires good { AreGood R.is_record contents.now }
-        requires stands { PairStands R.is_record self.old (D.image_at disks.old.first (D.moment disks.old.first)) (D.image_at disks.old.second (D.moment disks.old.second)) }
-        ensures stands { OnOk result (PairStands R.is_record self.new (D.image_at disks.new.first (D.moment disks.new.first)) (D.image_at disks.new.second (D.moment disks.new.second))) }
+        requires stands { PairStands R.is_record self.old (image_now (D.view disks.old.first)) (image_now (D.view disks.old.second)) }
+        ensures stands { OnOk result (PairStands R.is_record self.new (image_now (D.view disks.new.first)) (image_now (D.view disks.new.second))) }
 
         // A stop at any moment of the call leaves the records from before it or those handed in; after Ok those handed in.
-        ensures any_moment { IfBoth (D.image_at disks.old.first (D.moment disks.old.first)) (D.image_at disks.old.second (D.moment disks.old.second)) (λ i j.
-            PairLeaves (D.image_at disks.new.first) (D.moment disks.old.first) (D.moment disks.new.first) (D.image_at disks.new.second) (D.moment disks.old.second) (D.moment disks.new.second)
+        ensures any_moment { IfBoth (image_now (D.view disks.old.first)) (image_now (D.view disks.old.second)) (λ i j.
+            PairLeaves (pair_view D.view disks.old) (pair_view D.view disks.new)
             (HaveEither R.is_record (pair_records_of R.is_record i.bytes j.bytes) contents.now)) }
-        ensures after { OnOk result (IfBoth (D.image_at disks.old.first (D.moment disks.old.first)) (D.image_at disks.old.second (D.moment disks.old.second)) (λ i j.
-            PairLeaves (D.image_at disks.new.first) (D.moment disks.new.first) (D.moment disks.new.first) (D.image_at disks.new.second) (D.moment disks.new.second) (D.moment disks.new.second)
+        ensures after { OnOk result (IfBoth (image_now (D.view disks.old.first)) (image_now (D.view disks.old.second)) (λ i j.
+            PairLeaves (pair_view D.view disks.new) (pair_view D.view disks.new)
             (HaveRecords R.is_record contents.now))) }
-        ensures told_first { OnOk result (TellsAs (D.image_at disks.old.first (D.moment disks.old.first)) (D.image_at disks.new.first (D.moment disks.new.first))) }
-        ensures told_second { OnOk result (TellsAs (D.image_at disks.old.second (D.moment disks.old.second)) (D.image_at disks.new.second (D.moment disks.new.second))) }
+        ensures told { OnOk result (PairTellsAs (pair_view D.view disks.old) (pair_view D.view disks.new)) }
         ensures counting { chosen (is_second self.old) disks.new.first disks.new.second ≡ chosen (is_second self.old) disks.old.first disks.old.second }
-        ensures eight { OnOk result (D.moment (chosen (is_second self.old) disks.new.second disks.new.first) ≡ D.moment (chosen (is_second self.old) disks.old.second disks.old.first) + 8) }
+        ensures eight { OnOk result ((D.view (chosen (is_second self.old) disks.new.second disks.new.first)).moment
+            ≡ (D.view (chosen (is_second self.old) disks.old.second disks.old.first)).moment + 8) }
 
         // It answers Ok only where the other disk was armed for none of its eight calls.
-        ensures passed { OnOk result ((n : ℕ) → n < 8 → IsTrue (fails_at (D.armed (chosen (is_second self.old) disks.old.second disks.old.first))
-            (D.moment (chosen (is_second self.old) disks.old.second disks.old.first) + n)) → ⊥) }
+        ensures passed { OnOk result ((n : ℕ) → n < 8 → IsTrue (fails_at (D.view (chosen (is_second self.old) disks.old.second disks.old.first)).armed
+            ((D.view (chosen (is_second self.old) disks.old.second disks.old.first)).moment + n)) → ⊥) }
         ensures halted { OnErr result (is_halted self.new ≡ true) }
         ensures running { OnOk result (is_halted self.new ≡ false) }
         ensures turned { OnOk result (is_second self.new ≡ not (is_second self.old)) }
         ensures epoch { OnOk result (epoch_of (journal_in self.new) ≡ epoch_of (journal_in self.old) + 1) }
-        ensures base { OnOk result ((base_of (journal_in self.new) ≡ 18 + length (blocks contents.now)) × (len_of (journal_in self.new) ≡ base_of (journal_in self.new))) }
+        ensures base { OnOk result ((base_of (journal_in self.new) ≡ 18 + length (blocks contents.now))
+            × (len_of (journal_in self.new) ≡ base_of (journal_in self.new))) }
         ensures same { OnErr result ((journal_in self.new ≡ journal_in self.old) × (is_second self.new ≡ is_second self.old)) }
         ensures not { (at : ℕ) → IsErrOf result (JournalFault.NotAJournal at) → ⊥ }
-        ensures failed { IsErrOf result JournalFault.Disk → Rose (D.faults (chosen (not (is_second self.old)) disks.old.first disks.old.second)) (D.faults (chosen (not (is_second self.old)) disks.new.first disks.new.second)) }
-        ensures on_first { Onward (D.image_at disks.old.first) (D.image_at disks.new.first) (D.moment disks.old.first) (D.moment disks.new.first) (D.faults disks.old.first) (D.faults disks.new.first)
-            (D.armed disks.old.first) (D.armed disks.new.first) (D.picks disks.old.first) (D.picks disks.new.first) }
-        ensures on_second { Onward (D.image_at disks.old.second) (D.image_at disks.new.second) (D.moment disks.old.second) (D.moment disks.new.second) (D.faults disks.old.second) (D.faults disks.new.second)
-            (D.armed disks.old.second) (D.armed disks.new.second) (D.picks disks.old.second) (D.picks disks.new.second) }
+        ensures failed { IsErrOf result JournalFault.Disk → Rose (D.view (chosen (not (is_second self.old)) disks.old.first disks.old.second)).faults
+            (D.view (chosen (not (is_second self.old)) disks.new.first disks.new.second)).faults }
+        ensures onward { PairOnward (pair_view D.view disks.old) (pair_view D.view disks.new) }
     {
         self.halted = true;
         let epoch = self.journal.epoch() + 1;

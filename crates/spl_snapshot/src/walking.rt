@@ -1,11 +1,10 @@
 //! The journal that counts of two disks, read one record after another.
-ghost use Rattle.std.specs.Prelude.{◌≡◌, ◌⊎◌, ◌≤◌, ◌<◌, ◌++◌, ◌∷◌, [], ℕ, true, false, Ok, Err, Option, OnErr, IfOk, IfSome, IfNone, IsErrOf};
-ghost use Rattle.spl_edge.specs.Causes.{Rose};
+ghost use Rattle.std.specs.Prelude.{◌≡◌, ◌≤◌, ◌<◌, ◌++◌, ◌∷◌, [], ℕ, true, false, Ok, Err, Option, OnErr, IfOk, IfSome, IfNone, IsErrOf};
 ghost use Rattle.spl_edge.specs.Image.{Image, IsSettled};
+ghost use Rattle.spl_edge.specs.Views.{image_now, pair_view};
 ghost use Rattle.spl_journal.specs.Journals.{base_of, epoch_of, has_ended, left_of, epoch_walked};
-ghost use Rattle.spl_journal.specs.Reads.{Stays};
 ghost use Rattle.spl_journal.specs.Records.{IsGood};
-ghost use Rattle.spl_snapshot.specs.Counting.{IfBoth, pair_records, HaveRecords, Onward};
+ghost use Rattle.spl_snapshot.specs.Counting.{IfBoth, pair_records, HaveRecords, PairOnward, PairStays, HasRisen};
 ghost use Rattle.spl_snapshot.specs.Pairs.{PairWalks, PairStands, pair_given, walk_in, walks_second, journal_in, is_second, is_halted};
 
 use crate::Pairing;
@@ -26,18 +25,17 @@ pub struct PairWalk<R> {
 
 /// Begins to read the journal that counts. Where neither disk is open, it isn't a journal at the place where the first isn't.
 pub fn walk_pair<R: Form, D: Disk>(disks: &mut Pair<D>) -> Result<PairWalk<R>, JournalFault>
-    requires first { IfSome (D.image_at disks.old.first (D.moment disks.old.first)) IsSettled }
-    requires second { IfSome (D.image_at disks.old.second (D.moment disks.old.second)) IsSettled }
-    ensures walks { IfOk result (λ w. PairWalks R.is_record w (D.image_at disks.old.first (D.moment disks.old.first)) (D.image_at disks.old.second (D.moment disks.old.second))) }
-    ensures start { IfOk result (λ w. IfBoth (D.image_at disks.old.first (D.moment disks.old.first)) (D.image_at disks.old.second (D.moment disks.old.second)) (λ i j. pair_given R.is_record w i.bytes j.bytes ≡ [])) }
-    ensures not { (at : ℕ) → IsErrOf result (JournalFault.NotAJournal at) → IfBoth (D.image_at disks.old.first (D.moment disks.old.first)) (D.image_at disks.old.second (D.moment disks.old.second)) (λ i j. pair_records R.is_record i.bytes j.bytes ≡ Err at) }
-    ensures stays_first { Stays (D.image_at disks.old.first) (D.moment disks.old.first) (D.image_at disks.new.first) (D.moment disks.new.first) }
-    ensures stays_second { Stays (D.image_at disks.old.second) (D.moment disks.old.second) (D.image_at disks.new.second) (D.moment disks.new.second) }
-    ensures failed { IsErrOf result JournalFault.Disk → (Rose (D.faults disks.old.first) (D.faults disks.new.first) ⊎ Rose (D.faults disks.old.second) (D.faults disks.new.second)) }
-    ensures on_first { Onward (D.image_at disks.old.first) (D.image_at disks.new.first) (D.moment disks.old.first) (D.moment disks.new.first) (D.faults disks.old.first) (D.faults disks.new.first)
-        (D.armed disks.old.first) (D.armed disks.new.first) (D.picks disks.old.first) (D.picks disks.new.first) }
-    ensures on_second { Onward (D.image_at disks.old.second) (D.image_at disks.new.second) (D.moment disks.old.second) (D.moment disks.new.second) (D.faults disks.old.second) (D.faults disks.new.second)
-        (D.armed disks.old.second) (D.armed disks.new.second) (D.picks disks.old.second) (D.picks disks.new.second) }
+    requires first { IfSome (image_now (D.view disks.old.first)) IsSettled }
+    requires second { IfSome (image_now (D.view disks.old.second)) IsSettled }
+    ensures walks { IfOk result (λ w. PairWalks R.is_record w (image_now (D.view disks.old.first)) (image_now (D.view disks.old.second))) }
+    ensures start { IfOk result (λ w. IfBoth (image_now (D.view disks.old.first)) (image_now (D.view disks.old.second))
+        (λ i j. pair_given R.is_record w i.bytes j.bytes ≡ [])) }
+    ensures not { (at : ℕ) → IsErrOf result (JournalFault.NotAJournal at)
+        → IfBoth (image_now (D.view disks.old.first)) (image_now (D.view disks.old.second))
+        (λ i j. pair_records R.is_record i.bytes j.bytes ≡ Err at) }
+    ensures stays { PairStays (pair_view D.view disks.old) (pair_view D.view disks.new) }
+    ensures failed { IsErrOf result JournalFault.Disk → HasRisen (pair_view D.view disks.old) (pair_view D.view disks.new) }
+    ensures onward { PairOnward (pair_view D.view disks.old) (pair_view D.view disks.new) }
 {
     let first = match look::<R, D>(&mut disks.first) {
         Ok(found) => found,
@@ -60,24 +58,22 @@ impl<R: Form> PairWalk<R> {
         alloc: Global,
         disks: &mut Pair<D>,
     ) -> Result<Option<R::Read>, JournalFault>
-        requires walks { PairWalks R.is_record self.old (D.image_at disks.old.first (D.moment disks.old.first)) (D.image_at disks.old.second (D.moment disks.old.second)) }
-        ensures walks { PairWalks R.is_record self.new (D.image_at disks.old.first (D.moment disks.old.first)) (D.image_at disks.old.second (D.moment disks.old.second)) }
+        requires walks { PairWalks R.is_record self.old (image_now (D.view disks.old.first)) (image_now (D.view disks.old.second)) }
+        ensures walks { PairWalks R.is_record self.new (image_now (D.view disks.old.first)) (image_now (D.view disks.old.second)) }
         ensures good { IfOk result (λ found. IfSome found (λ r. IsGood R.is_record (R.bytes_of r))) }
-        ensures next { IfOk result (λ found. IfSome found (λ r. IfBoth (D.image_at disks.old.first (D.moment disks.old.first)) (D.image_at disks.old.second (D.moment disks.old.second)) (λ i j.
+        ensures next { IfOk result (λ found. IfSome found (λ r. IfBoth (image_now (D.view disks.old.first)) (image_now (D.view disks.old.second)) (λ i j.
             pair_given R.is_record self.new i.bytes j.bytes ≡ pair_given R.is_record self.old i.bytes j.bytes ++ R.bytes_of r ∷ []))) }
         ensures shorter { IfOk result (λ found. IfSome found (λ r. left_of (walk_in self.new) < left_of (walk_in self.old))) }
-        ensures none { IfOk result (λ found. IfNone found (IfBoth (D.image_at disks.old.first (D.moment disks.old.first)) (D.image_at disks.old.second (D.moment disks.old.second)) (λ i j.
+        ensures none { IfOk result (λ found. IfNone found (IfBoth (image_now (D.view disks.old.first)) (image_now (D.view disks.old.second)) (λ i j.
             HaveRecords R.is_record (pair_given R.is_record self.old i.bytes j.bytes) i.bytes j.bytes))) }
         ensures ended { IfOk result (λ found. IfNone found (has_ended (walk_in self.new) ≡ true)) }
-        ensures not { (at : ℕ) → IsErrOf result (JournalFault.NotAJournal at) → IfBoth (D.image_at disks.old.first (D.moment disks.old.first)) (D.image_at disks.old.second (D.moment disks.old.second)) (λ i j. pair_records R.is_record i.bytes j.bytes ≡ Err at) }
+        ensures not { (at : ℕ) → IsErrOf result (JournalFault.NotAJournal at)
+            → IfBoth (image_now (D.view disks.old.first)) (image_now (D.view disks.old.second))
+            (λ i j. pair_records R.is_record i.bytes j.bytes ≡ Err at) }
         ensures unmoved { OnErr result (self.new ≡ self.old) }
-        ensures stays_first { Stays (D.image_at disks.old.first) (D.moment disks.old.first) (D.image_at disks.new.first) (D.moment disks.new.first) }
-        ensures stays_second { Stays (D.image_at disks.old.second) (D.moment disks.old.second) (D.image_at disks.new.second) (D.moment disks.new.second) }
-        ensures failed { IsErrOf result JournalFault.Disk → (Rose (D.faults disks.old.first) (D.faults disks.new.first) ⊎ Rose (D.faults disks.old.second) (D.faults disks.new.second)) }
-        ensures on_first { Onward (D.image_at disks.old.first) (D.image_at disks.new.first) (D.moment disks.old.first) (D.moment disks.new.first) (D.faults disks.old.first) (D.faults disks.new.first)
-            (D.armed disks.old.first) (D.armed disks.new.first) (D.picks disks.old.first) (D.picks disks.new.first) }
-        ensures on_second { Onward (D.image_at disks.old.second) (D.image_at disks.new.second) (D.moment disks.old.second) (D.moment disks.new.second) (D.faults disks.old.second) (D.faults disks.new.second)
-            (D.armed disks.old.second) (D.armed disks.new.second) (D.picks disks.old.second) (D.picks disks.new.second) }
+        ensures stays { PairStays (pair_view D.view disks.old) (pair_view D.view disks.new) }
+        ensures failed { IsErrOf result JournalFault.Disk → HasRisen (pair_view D.view disks.old) (pair_view D.view disks.new) }
+        ensures onward { PairOnward (pair_view D.view disks.old) (pair_view D.view disks.new) }
     {
         if self.second {
             return self.walk.next(alloc, &mut disks.second);

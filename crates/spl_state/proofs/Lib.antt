@@ -10,3 +10,5 @@ pub mod Covers
 pub mod Runs
 pub mod Thin
 pub mod Drafts
+pub mod Feet
+pub mod Turned

@@ -17,7 +17,7 @@ all_kept : (f : Entry → Bool) (es : List Entry) → ((e : Entry) → f e ≡ t
 all_kept f [] h = refl
 all_kept f (e ∷ es) h = ap (λ b. cond b (e ∷ filter f es) (filter f es)) (h e) ∙ ap (λ r. e ∷ r) (all_kept f es h)
 
-shares_all : (m d : ℕ) (a : Address) (es : List Entry) → m ≤ d → shares m d a es ≡ es
+pub shares_all : (m d : ℕ) (a : Address) (es : List Entry) → m ≤ d → shares m d a es ≡ es
 unfolding shares
 shares_all m d a es h = all_kept (λ e. same_digits (m - d) d a e.0) es (λ e. same_none m d a e.0 h)
 
@@ -28,15 +28,19 @@ shares_branch m d j a es h at =
     (λ e. same_more m d a e.0 h ∙ ap (λ x. (digit_of e.0.0 d == x) && same_digits (m - (d + 1)) (d + 1) a e.0) (sym at)) es
     ∙ filter_both (λ e. digit_of e.0.0 d == j) (λ e. same_digits (m - (d + 1)) (d + 1) a e.0) es
 
+-- what lies below in a part is what does in the whole
+pub shares_below : (m d i k : ℕ) (a : Address) (es : List Entry) (ss : List Part) (old : Part) → IsInner d ss → i ≡ digit_of a.0 d → i < length ss → old ≡ get_or ss i old → d < m → d ≡ k → all_entries ss ≡ es
+    → shares m old.depth a old.entries ≡ shares m k a es
+shares_below m d i k a es ss old h at low is deep depth all =
+    ap (λ n. shares m n a old.entries) (depth_of d i ss old h low is) ∙ ap (λ s. shares m (d + 1) a s.entries) is
+    ∙ ap (shares m (d + 1) a) (sym (branch_parts d 0 i i ss old h.sorted (sym (zero-add i)) low))
+    ∙ sym (shares_branch m d i a (all_entries ss) deep at)
+    ∙ ap (λ n. shares m n a (all_entries ss)) depth ∙ ap (λ xs. shares m k a xs) all
+
 -- what a part answers is what the whole does
 pub digest_below : (m d i k : ℕ) (a : Address) (es : List Entry) (ss : List Part) (old : Part) (r : List ℕ) → r ≡ node_of (70 - m) m (shares m old.depth a old.entries)
     → IsInner d ss → i ≡ digit_of a.0 d → i < length ss → old ≡ get_or ss i old → d < m → d ≡ k → all_entries ss ≡ es → r ≡ node_of (70 - m) m (shares m k a es)
-digest_below m d i k a es ss old r e h at low is deep depth all =
-    e ∙ ap (node_of (70 - m) m)
-    (ap (λ n. shares m n a old.entries) (depth_of d i ss old h low is) ∙ ap (λ s. shares m (d + 1) a s.entries) is
-    ∙ ap (shares m (d + 1) a) (sym (branch_parts d 0 i i ss old h.sorted (sym (zero-add i)) low))
-    ∙ sym (shares_branch m d i a (all_entries ss) deep at)
-    ∙ ap (λ n. shares m n a (all_entries ss)) depth ∙ ap (λ xs. shares m k a xs) all)
+digest_below m d i k a es ss old r e h at low is deep depth all = e ∙ ap (node_of (70 - m) m) (shares_below m d i k a es ss old h at low is deep depth all)
 
 -- a lone entry with these digits, and one without
 pub digest_one : (m d k n : ℕ) (a : Address) (e : Entry) (es : List Entry) (r : List ℕ) → r ≡ node_of (70 - n) n es → e ∷ [] ≡ es → same_digits (m - d) d a e.0 ≡ true → d ≡ k → r ≡ node_of (70 - m) m (shares m k a es)
@@ -70,9 +74,13 @@ digits_long : (n k : ℕ) (a : List ℕ) → length (digits_of n k a) ≡ n
 digits_long zero k a = refl
 digits_long (suc n) k a = ap suc (digits_long n (k + 1) a)
 
-pub node_under : (m : ℕ) (a : Address) (es : List Entry) → node_at (70 - m) (digits_of m 0 a.0) es ≡ node_of (70 - m) m (shares m 0 a es)
+pub under_shares : (m : ℕ) (a : Address) (es : List Entry) → under (digits_of m 0 a.0) es ≡ shares m 0 a es
 unfolding shares
-node_under m a es =
+under_shares m a es =
     let none : m ≡ m - 0 = omega arith in
+    filter_same (λ e. agrees 0 (digits_of m 0 a.0) e.0.0) (λ e. same_digits (m - 0) 0 a e.0) (λ e. agrees_same m 0 a e.0 ∙ ap (λ n. same_digits n 0 a e.0) none) es
+
+pub node_under : (m : ℕ) (a : Address) (es : List Entry) → node_at (70 - m) (digits_of m 0 a.0) es ≡ node_of (70 - m) m (shares m 0 a es)
+node_under m a es =
     node_at_is (70 - m) (digits_of m 0 a.0) es ∙ ap (λ k. node_of (70 - m) k (under (digits_of m 0 a.0) es)) (digits_long m 0 a.0)
-    ∙ ap (node_of (70 - m) m) (filter_same (λ e. agrees 0 (digits_of m 0 a.0) e.0.0) (λ e. same_digits (m - 0) 0 a e.0) (λ e. agrees_same m 0 a e.0 ∙ ap (λ n. same_digits n 0 a e.0) none) es)
+    ∙ ap (node_of (70 - m) m) (under_shares m a es)

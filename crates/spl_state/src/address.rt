@@ -1,23 +1,35 @@
 //! Addresses: where a value lies in a state.
-ghost use Rattle.std.specs.Prelude.{◌≡◌, ◌≤◌, ◌<◌, ◌-◌, ◌*◌, ◌/◌, ◌%◌, true, IfSome, IfNone, if◌then◌else◌};
+ghost use Rattle.std.specs.Prelude.{◌≡◌, ◌≤◌, ◌<◌, ◌+◌, ◌-◌, ◌*◌, ◌/◌, ◌%◌, ◌++◌, ◌∷◌, [], true, IfSome, IfNone, if◌then◌else◌};
 ghost use Rattle.std.specs.Ordering.{is_eq};
 ghost use Rattle.spl_state.specs.Digits.{tail_cmp, same_digits};
 ghost use Rattle.spl_state.specs.Runs.{IsFirstApart};
-ghost use Rattle.spl_state.specs.Root.{digit_of};
+ghost use Rattle.spl_state.specs.Root.{digit_of, digits_of};
 
 /// 35 bytes, ordered by these; as 70 hexadecimal digits it is a path down the tree
 /// (docs/RULES.md, State).
-#[derive(Clone, Copy, Debug, PartialEq, Eq, PartialOrd, Ord, Hash)]
+#[derive(Clone, Copy, PartialEq, Eq, PartialOrd, Ord, Hash)]
 pub struct Address(pub [u8; 35]);
 
 impl Address {
     /// The hexadecimal digit `k`.
-    pub(crate) fn digit(&self, k: usize) -> u8
+    pub fn digit(&self, k: usize) -> u8
         requires { k < 70 }
         ensures value { result ≡ digit_of self.now.0 k }
         ensures small { result < 16 }
     {
         half(self.0[k / 2], k % 2 == 0)
+    }
+
+    /// The address with another digit `k`.
+    #[tactic(auto, using(crate::proofs::Turned::digits_turned))]
+    pub fn with_digit(&self, k: usize, digit: u8) -> Address
+        requires place { k < 70 }
+        requires small { digit < 16 }
+        ensures { digits_of (k + 1) 0 result.0 ≡ digits_of k 0 self.now.0 ++ digit ∷ [] }
+    {
+        let mut bytes = self.0;
+        bytes[k / 2] = with_half(bytes[k / 2], k % 2 == 0, digit);
+        Address(bytes)
     }
 
     /// Whether both have the same digits from `from` on.
@@ -96,4 +108,16 @@ pub(crate) fn half(byte: u8, first: bool) -> u8
     ensures small { result < 16 }
 {
     if first { byte / 16 } else { byte % 16 }
+}
+
+/// The byte with another of its two digits, the high one first.
+fn with_half(byte: u8, first: bool, digit: u8) -> u8
+    requires { digit < 16 }
+    ensures { result ≡ (if first then digit * 16 + byte % 16 else byte / 16 * 16 + digit) }
+{
+    if first {
+        digit * 16 + byte % 16
+    } else {
+        byte / 16 * 16 + digit
+    }
 }

@@ -10,7 +10,7 @@ use crate::address::{Address, half};
 use std::marker::Model;
 
 /// At most 35 bytes (docs/RULES.md, State). Contracts see them as a list.
-#[derive(Clone, Copy, Debug)]
+#[derive(Clone, Copy)]
 pub struct Prefix {
     cells: [u8; 35],
     len: u8,

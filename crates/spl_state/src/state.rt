@@ -1,11 +1,11 @@
 //! States: finite maps from addresses to bytes, with their roots.
-ghost use Rattle.std.specs.Prelude.{◌≡◌, ◌≤◌, ◌-◌, [], IfOk, OnOk, OnErr, IsTrue, option_copied, is_some};
+ghost use Rattle.std.specs.Prelude.{◌≡◌, ◌≤◌, ◌<◌, ◌-◌, ◌∷◌, [], ℕ, length, IfOk, OnOk, OnErr, MatchOption, IsTrue, option_copied, is_some};
 ghost use Rattle.std.specs.FinMap.Entries.{is_sorted};
 ghost use Rattle.std.specs.Map.{lookup, remove_entry};
 ghost use Rattle.std.specs.BTreeMap.{insert_entry, is_at};
 ghost use Rattle.spl_state.specs.Drafts.{over, put_back};
 ghost use Rattle.spl_state.specs.Entries.{address_cmp, covered};
-ghost use Rattle.spl_state.specs.Root.{node_at, digits_of};
+ghost use Rattle.spl_state.specs.Root.{node_at, digits_of, under};
 
 use crate::address::Address;
 use crate::piece::Piece;
@@ -148,6 +148,17 @@ impl State {
         ensures { result ≡ node_at (70 - digits) (digits_of digits 0 address.now.0) self.now }
     {
         self.tree.digest_at(address, digits as usize)
+    }
+
+    /// The least number of digits of an address under which at most one entry lies, and that entry;
+    /// without memory.
+    pub fn foot(&self, address: &Address) -> (u8, Option<(Address, &[u8])>)
+        ensures high { result.0 ≤ 70 }
+        ensures lone { let left = under (digits_of result.0 0 address.now.0) self.now in MatchOption result.1 (left ≡ []) (λ e. left ≡ (e.0, e.1.now) ∷ []) }
+        ensures many { (i : ℕ) → i < result.0 → 2 ≤ length (under (digits_of i 0 address.now.0) self.now) }
+    {
+        let (digits, entry) = self.tree.foot(address);
+        (digits as u8, entry)
     }
 
     /// Makes each stale digest anew, so that the next root costs nothing. The entries stay. Most of

@@ -1,4 +1,5 @@
 //! A 16-way tree over addresses, which keeps the digests of its parts.
+mod foot;
 mod read;
 mod write;
 

@@ -22,7 +22,8 @@ use Rattle.spl_wire.specs.declared.change.Change.TheVariants.{Bind, Admin, Servi
 use Rattle.spl_wire.specs.Grouping.{value_in, meets, breaks_no_rule}
 use Rattle.spl_wire.specs.Bounds.{IsWritable, has_form}
 use Rattle.spl_wire.proofs.Short.{short-definition, short-node_id, short-kind}
-use Rattle.spl_wire.proofs.Small.{short-group, short-batch, spelled-admin, spelled-service}
+use Rattle.spl_wire.proofs.Small.{short-group, short-batch}
+use Rattle.spl_wire.proofs.Tags.{spelled-admin, spelled-service}
 use Rattle.spl_wire.proofs.Sizes.{size-of}
 
 -- ---- values

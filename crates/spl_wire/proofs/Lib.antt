@@ -4,3 +4,5 @@ pub mod Small
 pub mod Sizes
 pub mod Packs
 pub mod Bounds
+pub mod Tags
+pub mod Written

@@ -8,7 +8,7 @@ use Rattle.std.proofs.lemmas.Bool.{leb-true, and_parts}
 use Rattle.spl_base.specs.Form.{Form, number, number_bytes, raw, text, ◌&◌, list_of}
 use Rattle.spl_base.specs.FormLaws.{IsWide, wide8, wide16, wide32, wide64}
 use Rattle.spl_circuit.specs.Forms.{node_id, label, service_id, circuit_id, byte, word, service, lists, definition, kind, act}
-use Rattle.spl_circuit.specs.declared.act.ActKind.TheVariants.{Propose, Accept, Reject, Remove}
+use Rattle.spl_circuit.specs.declared.act.ActKind.TheVariants.{Propose, Accept, Reject, Remove, Disband, DisbandAccept, DisbandReject, DisbandRemove}
 use Rattle.spl_agree.specs.declared.reason.Reason.{Reason}
 use Rattle.spl_wire.specs.Bodies.{reason}
 
@@ -78,6 +78,10 @@ short-kind (Propose d) h =
 short-kind Accept h = omega (arith, wide8.len 2, length-append (number_bytes w8 2) [])
 short-kind Reject h = omega (arith, wide8.len 3, length-append (number_bytes w8 3) [])
 short-kind Remove h = omega (arith, wide8.len 4, length-append (number_bytes w8 4) [])
+short-kind Disband h = omega (arith, wide8.len 5, length-append (number_bytes w8 5) [])
+short-kind (DisbandAccept p) h = omega (arith, wide8.len 6, wide32.len p, length-append (number_bytes w8 6) (word.spell p))
+short-kind (DisbandReject p) h = omega (arith, wide8.len 7, wide32.len p, length-append (number_bytes w8 7) (word.spell p))
+short-kind (DisbandRemove p) h = omega (arith, wide8.len 8, wide32.len p, length-append (number_bytes w8 8) (word.spell p))
 
 pub short-act : IsShort act 3551
 short-act x h = short-and node_id (word & kind) 34 3517 short-node_id (short-and word kind 4 3513 short-word short-kind) (x.node, (x.turn, x.kind)) h

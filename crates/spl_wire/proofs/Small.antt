@@ -22,6 +22,7 @@ use Rattle.spl_wire.specs.declared.record.TheConstants.{MOST_CHANGES}
 use Rattle.spl_wire.specs.declared.change.Change.{Change}
 use Rattle.spl_wire.specs.declared.change.Change.TheVariants.{Bind, Admin, Service, Abandon, Purge, Turn, Gone}
 use Rattle.spl_wire.specs.Grouping.{most_bytes, record_of, record_size, value_in, breaks_no_rule, is_lawful, is_small}
+use Rattle.spl_wire.proofs.Tags.{spelled-admin, spelled-service}
 use Rattle.spl_wire.proofs.Short.{short-word, short-long, short-definition, short-act, short-circuit_id, short-reason}
 
 pub short-batch : (b : Batch) → is_none (broken_batch b) ≡ true → length (batch.spell b) ≤ LONGEST_BATCH
@@ -55,14 +56,6 @@ module _ {V : Type 0} (f : Form V) where
       omega (arith, short-fields most x s, wide8.len tag, wide8.len group, length-append (number_bytes w8 tag) (number_bytes w8 group ++ spelled), length-append (number_bytes w8 group) spelled)
 
 -- ---- all changes
-
-pub spelled-admin : (x : GroupChange Act) → change_form.spell (Admin x) ≡ number_bytes w8 (tag_of x) ++ (number_bytes w8 1 ++ (fields act).spell (fields_of x))
-spelled-admin (Queue v) = refl
-spelled-admin x = refl
-
-pub spelled-service : (x : GroupChange Batch) → change_form.spell (Service x) ≡ number_bytes w8 (tag_of x) ++ (number_bytes w8 2 ++ (fields batch).spell (fields_of x))
-spelled-service (Queue v) = refl
-spelled-service x = refl
 
 fits-admin : (x : GroupChange Act) → IsTrue (change_form.fits (Admin x)) → IsTrue (fits_change act x)
 fits-admin (Queue v) h = h

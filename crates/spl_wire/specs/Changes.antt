@@ -1,9 +1,9 @@
 -- The byte forms of durable changes (docs/RULES.md, Byte forms).
-use Rattle.std.specs.Prelude.{◌≡◌, ℕ, ◌⊎◌, List, ◌++◌, Bool, Ok, refl}
+use Rattle.std.specs.Prelude.{◌≡◌, ℕ, zero, suc, ◌⊎◌, List, ◌++◌, Bool, ◌&&◌, ◌||◌, nat_eq, nat_le, if◌then◌else◌, Ok, Err, refl}
 use Rattle.std.proofs.Common.{inl, inr}
 use Rattle.std.specs.Int.{w8}
-use Rattle.spl_base.specs.Input.{Input, ◌>>=◌}
-use Rattle.spl_base.specs.Form.{Form, Parsed, IsExact, ◌&◌, via, Cases, nothing, no_case, ◌or◌, by_tag, tagged, number_bytes}
+use Rattle.spl_base.specs.Input.{Input, ◌>>=◌, number_at}
+use Rattle.spl_base.specs.Form.{Form, Parsed, IsExact, located, ◌&◌, via, Cases, nothing, no_case, ◌or◌, tagged, number_bytes}
 use Rattle.spl_base.specs.FormLaws.{exact_and, exact_via, exact_nothing, exact_no_case, exact_or, exact_tagged}
 use Rattle.spl_agree.specs.declared.reason.Reason.{Reason}
 use Rattle.spl_agree.specs.declared.event.GroupChange.{GroupChange}
@@ -159,9 +159,40 @@ kinds =
 abbrev pub change_form : Form Change
 change_form = via change_of kind_of (tagged kinds)
 
--- what stands behind a tag of `kinds`
+-- ---- a change of a group, read by its tag
+
+-- what was read, as another type has it
+abbrev pub made : {A B : Type 0} → (A → B) → Parsed A → Parsed B
+made to r = r >>= λ x. Ok (to x.0, x.1)
+
+-- the tags that a group follows
+abbrev pub is_of_group : ℕ → Bool
+is_of_group tag = (nat_le 2 tag && nat_le tag 8) || (nat_eq tag 11 || nat_eq tag 12)
+
+-- the fields of a change with such a tag
+abbrev pub behind_group : {V : Type 0} → Form V → ℕ → Input → Parsed (GroupChange V)
+behind_group value tag s =
+    if nat_eq tag 2 then made (λ v. Queue v) (value.parse s)
+    else if nat_eq tag 3 then made (λ y. Refuse y.0 y.1) ((value & reason).parse s)
+    else if nat_eq tag 4 then made (λ n. Begin n) (long.parse s)
+    else if nat_eq tag 5 then made (λ n. Seen n) (long.parse s)
+    else if nat_eq tag 6 then made (λ y. Promise y.0 y.1) ((long & value).parse s)
+    else if nat_eq tag 7 then Ok (Abort, s)
+    else if nat_eq tag 8 then made (λ y. Commit y.0 y.1) ((long & value).parse s)
+    else if nat_eq tag 11 then made (λ y. Restore y.0 y.1) ((long & long).parse s)
+    else if nat_eq tag 12 then made (λ y. Kept y.0 y.1) ((value & reason).parse s)
+    else Err s.place
+
+-- the fields behind the number of a group
+abbrev pub of_number : ℕ → ℕ → ℕ → Input → Parsed Change
+of_number tag zero at s = Err at
+of_number tag (suc zero) at s = made (λ c. Admin c) (behind_group act tag s)
+of_number tag (suc (suc zero)) at s = made (λ c. Service c) (behind_group batch tag s)
+of_number tag (suc (suc (suc n))) at s = Err at
+
+-- the number of a group behind such a tag, and the fields
 abbrev pub behind_tag : ℕ → Input → Parsed Change
-behind_tag n s = by_tag kinds n s.place s >>= λ x. Ok (change_of x.0, x.1)
+behind_tag tag s = located (number_at w8 s) >>= λ n. of_number tag n.0 s.place n.1
 
 -- ---- they are read back, and nothing else is read
 

@@ -8,7 +8,7 @@ use spl_state::Address;
 
 /// Why an event is refused. A refused event changes nothing and sends nothing (docs/RULES.md,
 /// Cells).
-#[derive(Clone, Copy, Debug, PartialEq, Eq)]
+#[derive(Clone, Copy, PartialEq, Eq)]
 pub enum Refusal {
     /// The node is down.
     Down,
@@ -24,13 +24,13 @@ pub enum Refusal {
     CircuitHeld,
     /// An act of this node is pending here or its next one is known here, or no further one may be.
     ActPending,
-    /// The circuit isn't proposed.
+    /// The circuit is neither proposed nor disbanding.
     NoProposal,
-    /// This node has accepted.
+    /// This node has accepted what is asked for.
     AlreadyVoted,
-    /// This node isn't the one that proposed the circuit.
+    /// This node isn't the one that asked for it.
     NotRequester,
-    /// The circuit isn't active.
+    /// The circuit doesn't run; where it shall be disbanded: it isn't active.
     NotActive,
     /// The node takes no further part.
     Closed,
@@ -48,10 +48,12 @@ pub enum Refusal {
     NotRouted(RouteFault),
     /// No batch of the id is known here; of a receipt: none is committed here.
     UnknownId,
+    /// The circuit's version is 1, in which it can't be disbanded.
+    VersionTooLow,
 }
 
 /// Where a batch stands at a node.
-#[derive(Clone, Copy, Debug, PartialEq, Eq)]
+#[derive(Clone, Copy, PartialEq, Eq)]
 pub enum BatchStatus {
     /// It is at this place of the agreed list.
     Committed(Place),
@@ -61,7 +63,7 @@ pub enum BatchStatus {
 }
 
 /// An entry of a state.
-#[derive(Debug, Drop)]
+#[derive(Drop)]
 pub struct Entry {
     pub address: Address,
     pub value: Piece,
@@ -71,7 +73,7 @@ pub struct Entry {
 pub type Entries = Listing<Entry>;
 
 /// What became of the record of an event in which its node stopped.
-#[derive(Clone, Copy, Debug, PartialEq, Eq)]
+#[derive(Clone, Copy, PartialEq, Eq)]
 pub enum Bit {
     /// The disks have it.
     Kept,
@@ -82,7 +84,7 @@ pub enum Bit {
 }
 
 /// The answer to a line (docs/RULES.md, Answers).
-#[derive(Debug, Drop)]
+#[derive(Drop)]
 pub enum Answer {
     /// The value is pending, or it was known here already, with equal content.
     Submitted {

@@ -1,6 +1,6 @@
 //! The bodies of messages, and the reasons in them.
 ghost use Rattle.std.specs.Prelude.{◌≡◌, ◌++◌, IsTrue, OnOk};
-ghost use Rattle.spl_base.specs.Form.{Reads};
+ghost use Rattle.spl_base.specs.Form.{Reads, ◌&◌};
 ghost use Rattle.spl_wire.specs.Bodies as form;
 
 use spl_agree::{CommitMsg, Generation, Place, Reason, Round};
@@ -21,6 +21,29 @@ pub(crate) fn take_reason(alloc: Global, r: &mut Reader) -> Result<Reason, Malfo
     let code = u8::take_parts(alloc, r)?;
     let at = u8::take_parts(alloc, r)?;
     Ok(Reason { code, at })
+}
+
+/// Appends two values, one behind the other.
+pub(crate) fn put_two<A: Field, B: Field>(a: &A, b: &B, w: &mut Writer) -> Result<(), AllocError>
+    requires first { IsTrue (A.form.bounded a.now) }
+    requires second { IsTrue (B.form.bounded b.now) }
+    ensures ok { OnOk result (w.new ≡ w.old ++ (A.form & B.form).spell (a.now, b.now)) }
+    ensures fits { OnOk result (IsTrue ((A.form & B.form).fits (a.now, b.now))) }
+{
+    a.put_parts(w)?;
+    b.put_parts(w)
+}
+
+/// Reads two values, one behind the other.
+pub(crate) fn take_two<A: Field, B: Field>(
+    alloc: Global,
+    r: &mut Reader,
+) -> Result<(A, B), Malformed>
+    ensures { Reads (λ x. x) result r.new ((A.form & B.form).parse r.old) }
+{
+    let first = A::take_parts(alloc, r)?;
+    let second = B::take_parts(alloc, r)?;
+    Ok((first, second))
 }
 
 /// Appends the byte form of a body.

@@ -3,7 +3,7 @@ ghost use Rattle.std.specs.Prelude.{◌≡◌, ◌++◌, IsTrue, OnOk};
 ghost use Rattle.spl_base.specs.Form.{Reads, ◌&◌};
 ghost use Rattle.spl_wire.specs.Bodies as form;
 
-use crate::body::{put_reason, take_reason};
+use crate::body::{put_reason, put_two, take_reason, take_two};
 use spl_agree::{Generation, GroupChange, Reason, Round};
 use spl_base::{Boxed, Field, Malformed, Reader, Writer};
 use spl_circuit::{Act, Definition};
@@ -11,7 +11,7 @@ use spl_command::Batch;
 use std::alloc::{AllocError, Global};
 
 /// A durable change of a cell.
-#[derive(Debug, Drop)]
+#[derive(Drop)]
 pub enum Change {
     /// The cell is bound to the definition, open and fresh.
     Bind(Boxed<Definition>),
@@ -29,6 +29,15 @@ pub enum Change {
     Gone(Generation),
 }
 
+fn put_refused<V: Field>(value: &V, reason: Reason, w: &mut Writer) -> Result<(), AllocError>
+    requires { IsTrue (V.form.bounded value.now) }
+    ensures ok { OnOk result (w.new ≡ w.old ++ (V.form & form.reason).spell (value.now, reason)) }
+    ensures fits { OnOk result (IsTrue ((V.form & form.reason).fits (value.now, reason))) }
+{
+    value.put_parts(w)?;
+    put_reason(reason, w)
+}
+
 fn take_refused<V: Field>(alloc: Global, r: &mut Reader) -> Result<(V, Reason), Malformed>
     ensures { Reads (λ x. x) result r.new ((V.form & form.reason).parse r.old) }
 {
@@ -37,18 +46,46 @@ fn take_refused<V: Field>(alloc: Global, r: &mut Reader) -> Result<(V, Reason), 
     Ok((value, reason))
 }
 
-fn take_rounded<V: Field>(alloc: Global, r: &mut Reader) -> Result<(u64, V), Malformed>
-    ensures { Reads (λ x. x) result r.new ((form.long & V.form).parse r.old) }
-{
-    let round = u64::take_parts(alloc, r)?;
-    let value = V::take_parts(alloc, r)?;
-    Ok((round, value))
-}
-
 impl Change {
     ghost use Rattle.std.specs.Prelude.{◌≡◌, ◌++◌, IsTrue, OnOk};
     ghost use Rattle.spl_base.specs.Form.{Reads};
-    ghost use Rattle.spl_wire.specs.Changes.{group_change, fits_change, bounded_change, behind_tag};
+    ghost use Rattle.spl_wire.specs.Changes.{tag_of, fields, fields_of, group_change, fits_change, bounded_change, behind_group, behind_tag};
+
+    /// The tag of a change of a group.
+    fn tag<V: Field>(change: &GroupChange<V>) -> u8
+        ensures { result ≡ tag_of change.now }
+    {
+        match change {
+            GroupChange::Queue(_) => 2,
+            GroupChange::Refuse(_, _) => 3,
+            GroupChange::Begin(_) => 4,
+            GroupChange::Seen(_) => 5,
+            GroupChange::Promise(_, _) => 6,
+            GroupChange::Abort => 7,
+            GroupChange::Commit(_, _) => 8,
+            GroupChange::Restore { .. } => 11,
+            GroupChange::Kept(_, _) => 12,
+        }
+    }
+
+    /// Appends the fields of a change of a group.
+    fn put_fields<V: Field>(change: &GroupChange<V>, w: &mut Writer) -> Result<(), AllocError>
+        requires { IsTrue (bounded_change V.form change.now) }
+        ensures ok { OnOk result (w.new ≡ w.old ++ (fields V.form).spell (fields_of change.now)) }
+        ensures fits { OnOk result (IsTrue (fits_change V.form change.now)) }
+    {
+        match change {
+            GroupChange::Queue(value) => value.put_parts(w),
+            GroupChange::Refuse(value, reason) => put_refused(value, *reason, w),
+            GroupChange::Begin(round) => round.0.put_parts(w),
+            GroupChange::Seen(round) => round.0.put_parts(w),
+            GroupChange::Promise(round, value) => put_two(&round.0, value, w),
+            GroupChange::Abort => Ok(()),
+            GroupChange::Commit(round, value) => put_two(&round.0, value, w),
+            GroupChange::Restore { next, seen } => put_two(&next.0, &seen.0, w),
+            GroupChange::Kept(value, reason) => put_refused(value, *reason, w),
+        }
+    }
 
     /// Appends the byte form of a change of the group of this number.
     fn put_group<V: Field>(
@@ -60,186 +97,59 @@ impl Change {
         ensures ok { OnOk result (w.new ≡ w.old ++ group_change V.form group change.now) }
         ensures fits { OnOk result (IsTrue (fits_change V.form change.now)) }
     {
-        match change {
-            GroupChange::Queue(value) => {
-                2u8.put_parts(w)?;
-                group.put_parts(w)?;
-                value.put_parts(w)
-            }
-            GroupChange::Refuse(value, reason) => {
-                3u8.put_parts(w)?;
-                group.put_parts(w)?;
-                value.put_parts(w)?;
-                put_reason(*reason, w)
-            }
-            GroupChange::Begin(round) => {
-                4u8.put_parts(w)?;
-                group.put_parts(w)?;
-                round.0.put_parts(w)
-            }
-            GroupChange::Seen(round) => {
-                5u8.put_parts(w)?;
-                group.put_parts(w)?;
-                round.0.put_parts(w)
-            }
-            GroupChange::Promise(round, value) => {
-                6u8.put_parts(w)?;
-                group.put_parts(w)?;
-                round.0.put_parts(w)?;
-                value.put_parts(w)
-            }
-            GroupChange::Abort => {
-                7u8.put_parts(w)?;
-                group.put_parts(w)
-            }
-            GroupChange::Commit(round, value) => {
-                8u8.put_parts(w)?;
-                group.put_parts(w)?;
-                round.0.put_parts(w)?;
-                value.put_parts(w)
-            }
-            GroupChange::Restore { next, seen } => {
-                11u8.put_parts(w)?;
-                group.put_parts(w)?;
-                next.0.put_parts(w)?;
-                seen.0.put_parts(w)
-            }
-            GroupChange::Kept(value, reason) => {
-                12u8.put_parts(w)?;
-                group.put_parts(w)?;
-                value.put_parts(w)?;
-                put_reason(*reason, w)
-            }
-        }
+        put_two(&Change::tag(change), &group, w)?;
+        Change::put_fields(change, w)
     }
 
-    fn take_queue(alloc: Global, r: &mut Reader) -> Result<Change, Malformed>
-        ensures { Reads (λ x. x) result r.new (behind_tag 2 r.old) }
+    /// Reads the fields of a change of a group with this tag.
+    fn take_fields<V: Field>(
+        tag: u8,
+        alloc: Global,
+        r: &mut Reader,
+    ) -> Result<GroupChange<V>, Malformed>
+        ensures { Reads (λ x. x) result r.new (behind_group V.form tag r.old) }
     {
         let at = r.place();
-        match u8::take_parts(alloc, r)? {
-            1 => Ok(Change::Admin(GroupChange::Queue(Act::take_parts(alloc, r)?))),
-            2 => Ok(Change::Service(GroupChange::Queue(Batch::take_parts(alloc, r)?))),
-            _ => Err(Malformed::At { at }),
-        }
-    }
-
-    fn take_refuse(alloc: Global, r: &mut Reader) -> Result<Change, Malformed>
-        ensures { Reads (λ x. x) result r.new (behind_tag 3 r.old) }
-    {
-        let at = r.place();
-        match u8::take_parts(alloc, r)? {
-            1 => {
+        match tag {
+            2 => Ok(GroupChange::Queue(V::take_parts(alloc, r)?)),
+            3 => {
                 let (value, reason) = take_refused(alloc, r)?;
-                Ok(Change::Admin(GroupChange::Refuse(value, reason)))
+                Ok(GroupChange::Refuse(value, reason))
             }
-            2 => {
+            4 => Ok(GroupChange::Begin(Round(u64::take_parts(alloc, r)?))),
+            5 => Ok(GroupChange::Seen(Round(u64::take_parts(alloc, r)?))),
+            6 => {
+                let (round, value) = take_two(alloc, r)?;
+                Ok(GroupChange::Promise(Round(round), value))
+            }
+            7 => Ok(GroupChange::Abort),
+            8 => {
+                let (round, value) = take_two(alloc, r)?;
+                Ok(GroupChange::Commit(Round(round), value))
+            }
+            11 => {
+                let (next, seen) = take_two(alloc, r)?;
+                Ok(GroupChange::Restore {
+                    next: Round(next),
+                    seen: Round(seen),
+                })
+            }
+            12 => {
                 let (value, reason) = take_refused(alloc, r)?;
-                Ok(Change::Service(GroupChange::Refuse(value, reason)))
+                Ok(GroupChange::Kept(value, reason))
             }
             _ => Err(Malformed::At { at }),
         }
     }
 
-    fn take_begin(alloc: Global, r: &mut Reader) -> Result<Change, Malformed>
-        ensures { Reads (λ x. x) result r.new (behind_tag 4 r.old) }
+    /// Reads the group of a change with this tag, and its fields.
+    fn take_group(tag: u8, alloc: Global, r: &mut Reader) -> Result<Change, Malformed>
+        ensures { Reads (λ x. x) result r.new (behind_tag tag r.old) }
     {
         let at = r.place();
         match u8::take_parts(alloc, r)? {
-            1 => Ok(Change::Admin(GroupChange::Begin(Round(u64::take_parts(alloc, r)?)))),
-            2 => Ok(Change::Service(GroupChange::Begin(Round(u64::take_parts(alloc, r)?)))),
-            _ => Err(Malformed::At { at }),
-        }
-    }
-
-    fn take_seen(alloc: Global, r: &mut Reader) -> Result<Change, Malformed>
-        ensures { Reads (λ x. x) result r.new (behind_tag 5 r.old) }
-    {
-        let at = r.place();
-        match u8::take_parts(alloc, r)? {
-            1 => Ok(Change::Admin(GroupChange::Seen(Round(u64::take_parts(alloc, r)?)))),
-            2 => Ok(Change::Service(GroupChange::Seen(Round(u64::take_parts(alloc, r)?)))),
-            _ => Err(Malformed::At { at }),
-        }
-    }
-
-    fn take_promise(alloc: Global, r: &mut Reader) -> Result<Change, Malformed>
-        ensures { Reads (λ x. x) result r.new (behind_tag 6 r.old) }
-    {
-        let at = r.place();
-        match u8::take_parts(alloc, r)? {
-            1 => {
-                let (round, value) = take_rounded(alloc, r)?;
-                Ok(Change::Admin(GroupChange::Promise(Round(round), value)))
-            }
-            2 => {
-                let (round, value) = take_rounded(alloc, r)?;
-                Ok(Change::Service(GroupChange::Promise(Round(round), value)))
-            }
-            _ => Err(Malformed::At { at }),
-        }
-    }
-
-    fn take_abort(alloc: Global, r: &mut Reader) -> Result<Change, Malformed>
-        ensures { Reads (λ x. x) result r.new (behind_tag 7 r.old) }
-    {
-        let at = r.place();
-        match u8::take_parts(alloc, r)? {
-            1 => Ok(Change::Admin(GroupChange::Abort)),
-            2 => Ok(Change::Service(GroupChange::Abort)),
-            _ => Err(Malformed::At { at }),
-        }
-    }
-
-    fn take_commit(alloc: Global, r: &mut Reader) -> Result<Change, Malformed>
-        ensures { Reads (λ x. x) result r.new (behind_tag 8 r.old) }
-    {
-        let at = r.place();
-        match u8::take_parts(alloc, r)? {
-            1 => {
-                let (round, value) = take_rounded(alloc, r)?;
-                Ok(Change::Admin(GroupChange::Commit(Round(round), value)))
-            }
-            2 => {
-                let (round, value) = take_rounded(alloc, r)?;
-                Ok(Change::Service(GroupChange::Commit(Round(round), value)))
-            }
-            _ => Err(Malformed::At { at }),
-        }
-    }
-
-    fn take_restore(alloc: Global, r: &mut Reader) -> Result<Change, Malformed>
-        ensures { Reads (λ x. x) result r.new (behind_tag 11 r.old) }
-    {
-        let at = r.place();
-        match u8::take_parts(alloc, r)? {
-            1 => {
-                let next = Round(u64::take_parts(alloc, r)?);
-                let seen = Round(u64::take_parts(alloc, r)?);
-                Ok(Change::Admin(GroupChange::Restore { next, seen }))
-            }
-            2 => {
-                let next = Round(u64::take_parts(alloc, r)?);
-                let seen = Round(u64::take_parts(alloc, r)?);
-                Ok(Change::Service(GroupChange::Restore { next, seen }))
-            }
-            _ => Err(Malformed::At { at }),
-        }
-    }
-
-    fn take_kept(alloc: Global, r: &mut Reader) -> Result<Change, Malformed>
-        ensures { Reads (λ x. x) result r.new (behind_tag 12 r.old) }
-    {
-        let at = r.place();
-        match u8::take_parts(alloc, r)? {
-            1 => {
-                let (value, reason) = take_refused(alloc, r)?;
-                Ok(Change::Admin(GroupChange::Kept(value, reason)))
-            }
-            2 => {
-                let (value, reason) = take_refused(alloc, r)?;
-                Ok(Change::Service(GroupChange::Kept(value, reason)))
-            }
+            1 => Ok(Change::Admin(Change::take_fields(tag, alloc, r)?)),
+            2 => Ok(Change::Service(Change::take_fields(tag, alloc, r)?)),
             _ => Err(Malformed::At { at }),
         }
     }
@@ -273,19 +183,12 @@ impl Field for Change {
 
     fn take_parts(alloc: Global, r: &mut Reader) -> Result<Change, Malformed> {
         let at = r.place();
-        match u8::take_parts(alloc, r)? {
+        let tag = u8::take_parts(alloc, r)?;
+        match tag {
             1 => Ok(Change::Bind(Boxed::take_parts(alloc, r)?)),
-            2 => Change::take_queue(alloc, r),
-            3 => Change::take_refuse(alloc, r),
-            4 => Change::take_begin(alloc, r),
-            5 => Change::take_seen(alloc, r),
-            6 => Change::take_promise(alloc, r),
-            7 => Change::take_abort(alloc, r),
-            8 => Change::take_commit(alloc, r),
+            2..=8 | 11 | 12 => Change::take_group(tag, alloc, r),
             9 => Ok(Change::Abandon),
             10 => Ok(Change::Purge),
-            11 => Change::take_restore(alloc, r),
-            12 => Change::take_kept(alloc, r),
             13 => Ok(Change::Turn(u32::take_parts(alloc, r)?)),
             14 => Ok(Change::Gone(Generation(u32::take_parts(alloc, r)?))),
             _ => Err(Malformed::At { at }),

@@ -7,16 +7,18 @@ use spl_command::Batch;
 use spl_state::{Address, Prefix};
 
 /// An event at a cell (docs/RULES.md, Cells).
-#[derive(Debug, Drop)]
+#[derive(Drop)]
 pub enum Event {
     /// The node proposes the circuit with this definition, whose id is that of the cell.
     Propose(Boxed<Definition>),
-    /// The node accepts or rejects the circuit that was proposed.
+    /// The node accepts or rejects what is asked for: the circuit, or its disband.
     Vote {
         accept: bool,
     },
-    /// The node takes back the circuit that it proposed.
+    /// The node takes back what it asked for.
     Remove,
+    /// The node asks the members to disband the circuit.
+    Disband,
     /// The node takes no further part.
     Abandon,
     /// The node forgets the circuit, all but its generation.

@@ -10,7 +10,7 @@ use spl_command::Batch;
 use std::alloc::{AllocError, Global};
 
 /// A message from one node to another.
-#[derive(Debug, Drop)]
+#[derive(Drop)]
 pub enum Message {
     /// A message of the admin group of a circuit.
     Admin {

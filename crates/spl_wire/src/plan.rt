@@ -7,7 +7,7 @@ use spl_agree::OpenMove;
 use spl_base::{Boxed, Listing, NodeId};
 
 /// A message to a node.
-#[derive(Debug, Drop)]
+#[derive(Drop)]
 pub struct Outgoing {
     pub to: NodeId,
     pub message: Boxed<Message>,
@@ -18,7 +18,7 @@ pub type SendList = Listing<Outgoing>;
 
 /// What an event gives at a cell: an answer, durable changes, a move of the open round of each
 /// group, and messages (docs/RULES.md, Cells).
-#[derive(Debug, Drop)]
+#[derive(Drop)]
 pub struct Plan {
     pub answer: Answer,
     pub changes: ChangeList,

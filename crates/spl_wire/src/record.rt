@@ -15,7 +15,7 @@ pub const MOST_CHANGES: u16 = 64;
 pub type ChangeList = Listing<Change>;
 
 /// The changes of one event at the cell of a circuit.
-#[derive(Debug, Drop)]
+#[derive(Drop)]
 pub struct Record {
     pub circuit: CircuitId,
     pub changes: ChangeList,

@@ -9,7 +9,7 @@ use Rattle.spl_agree.specs.declared.message.CommitMsg.TheVariants as msg
 use Rattle.spl_agree.specs.declared.event.GroupEvent.{GroupEvent}
 use Rattle.spl_agree.specs.declared.event.GroupEvent.TheVariants as group
 use Rattle.spl_agree.specs.Fits.{generation_of}
-use Rattle.spl_circuit.specs.Lifecycle.{is_proposed}
+use Rattle.spl_circuit.specs.Lifecycle.{is_asked, current}
 use Rattle.spl_circuit.specs.Acts.{is_node}
 use Rattle.spl_wire.specs.declared.answer.Refusal.{Refusal}
 use Rattle.spl_wire.specs.declared.answer.Refusal.TheVariants as refusal
@@ -36,7 +36,7 @@ use Rattle.spl_command.specs.Rules.{broken_batch}
 use Rattle.spl_command.specs.Equality.{same_batch}
 use Rattle.spl_scabbard.specs.Checks.{batch_rules}
 use Rattle.spl_scabbard.specs.Readers.{place_of, receipts_of}
-use Rattle.spl_rules.specs.Cells.{Bound, Cell, Held, Purged, Site, Deed, Refuses, Tells, Replies, Binds, Acts, Serves, Turns, Abandons, Purges, Submitted, Delivered, Alone, hears_first, asked_first, forwarded_first, proposes, proposes_at, votes, removes, abandons, can_bind, proposal, declines, returns_unbound, is_act_pending, own_life, next_act, is_active_here, runs, is_open, is_waiting}
+use Rattle.spl_rules.specs.Cells.{Bound, Cell, Held, Purged, Site, Deed, Refuses, Tells, Replies, Binds, Acts, Serves, Turns, Abandons, Purges, Submitted, Delivered, Alone, hears_first, asked_first, forwarded_first, proposes, proposes_at, vote_kind, removal_kind, submits_next, votes, removes, disbands, abandons, can_bind, proposal, declines, returns_unbound, is_act_pending, own_life, next_act, is_active_here, runs, is_open, is_waiting}
 use Rattle.spl_rules.specs.Batches.{submits, submits_ruled, submits_known, when_active, root_told, history_told, value_told, listed, has_the_id, status_refused, status_kept, status_told, receipt_kept, receipt_told, routed, way, serves_other, hears_routed}
 use Rattle.spl_rules.specs.Events.{does, held_does, other_does, held_hears, other_hears, turns}
 use Rattle.spl_rules.specs.Plans.{Lane, admin_lane, service_lane, group_row, group_sends, outgoing, planned, plan_of}
@@ -90,22 +90,34 @@ module _ (site : Site) where
   hears_first_about k from (msg.Forward gen v) = forwarded_about k from gen v v.kind
   hears_first_about k from _ = tt
 
+  next_about : (h : Bound) (k : ActKind) → IsAbout (submits_next site h k)
+  next_about h k = either site.circuit (is_open h.mark) (Acts Submitted h site.here (group.Submit (next_act site.here h.turn k))) (Refuses refusal.Closed) tt tt
+
   votes_about : (h : Bound) (k : ActKind) → IsAbout (votes site h k)
   votes_about h k =
-      let last : Deed = if has_node (own_life h).accepted site.here then Refuses refusal.AlreadyVoted else Acts Submitted h site.here (group.Submit (next_act site.here h.turn k)) in
-      refuses site.circuit (is_act_pending site h) refusal.ActPending (if not (is_proposed (own_life h).state) then Refuses refusal.NoProposal else last)
-      (refuses site.circuit (not (is_proposed (own_life h).state)) refusal.NoProposal last
-      (refuses site.circuit (has_node (own_life h).accepted site.here) refusal.AlreadyVoted (Acts Submitted h site.here (group.Submit (next_act site.here h.turn k))) tt))
+      let last : Deed = if has_node (current (own_life h)).accepted site.here then Refuses refusal.AlreadyVoted else submits_next site h k in
+      refuses site.circuit (is_act_pending site h) refusal.ActPending (if not (is_asked (own_life h).state) then Refuses refusal.NoProposal else last)
+      (refuses site.circuit (not (is_asked (own_life h).state)) refusal.NoProposal last
+      (refuses site.circuit (has_node (current (own_life h)).accepted site.here) refusal.AlreadyVoted (submits_next site h k) (next_about h k)))
 
-  removes_about : (h : Bound) → IsAbout (removes site h)
-  removes_about h =
-      let last : Deed = if not (is_node (own_life h).requester site.here) then Refuses refusal.NotRequester else Acts Submitted h site.here (group.Submit (next_act site.here h.turn kind.Remove)) in
-      refuses site.circuit (is_act_pending site h) refusal.ActPending (if not (is_proposed (own_life h).state) then Refuses refusal.NoProposal else last)
-      (refuses site.circuit (not (is_proposed (own_life h).state)) refusal.NoProposal last
-      (refuses site.circuit (not (is_node (own_life h).requester site.here)) refusal.NotRequester (Acts Submitted h site.here (group.Submit (next_act site.here h.turn kind.Remove))) tt))
+  removes_about : (h : Bound) (k : ActKind) → IsAbout (removes site h k)
+  removes_about h k =
+      let last : Deed = if not (is_node (current (own_life h)).requester site.here) then Refuses refusal.NotRequester else submits_next site h k in
+      refuses site.circuit (is_act_pending site h) refusal.ActPending (if not (is_asked (own_life h).state) then Refuses refusal.NoProposal else last)
+      (refuses site.circuit (not (is_asked (own_life h).state)) refusal.NoProposal last
+      (refuses site.circuit (not (is_node (current (own_life h)).requester site.here)) refusal.NotRequester (submits_next site h k) (next_about h k)))
+
+  disbands_about : (h : Bound) → IsAbout (disbands site h)
+  disbands_about h =
+      let last : Deed = if h.definition.version == 1 then Refuses refusal.VersionTooLow else Acts Submitted h site.here (group.Submit (next_act site.here h.turn kind.Disband)) in
+      let open_last : Deed = if not (is_open h.mark) then Refuses refusal.Closed else last in
+      refuses site.circuit (is_act_pending site h) refusal.ActPending (if not (is_active_here h) then Refuses refusal.NotActive else open_last)
+      (refuses site.circuit (not (is_active_here h)) refusal.NotActive open_last
+      (refuses site.circuit (not (is_open h.mark)) refusal.Closed last
+      (refuses site.circuit (h.definition.version == 1) refusal.VersionTooLow (Acts Submitted h site.here (group.Submit (next_act site.here h.turn kind.Disband))) tt)))
 
   abandons_about : (h : Bound) → IsAbout (abandons h)
-  abandons_about h = refuses site.circuit (not (is_active_here h)) refusal.NotActive (if is_open h.mark then Abandons else Refuses refusal.Closed) (either site.circuit (is_open h.mark) Abandons (Refuses refusal.Closed) tt tt)
+  abandons_about h = refuses site.circuit (not (runs h)) refusal.NotActive (if is_open h.mark then Abandons else Refuses refusal.Closed) (either site.circuit (is_open h.mark) Abandons (Refuses refusal.Closed) tt tt)
 
   turns_about : (h : Bound) (x : GroupEvent Act) (y : GroupEvent Batch) → IsAbout (turns site h x y)
   turns_about h x y = either site.circuit (is_open h.mark) (if runs h then Turns h x y else Acts Alone h site.here x) (Refuses refusal.Closed) (either site.circuit (runs h) (Turns h x y) (Acts Alone h site.here x) tt tt) tt
@@ -114,7 +126,7 @@ module _ (site : Site) where
 
   submits_about : (h : Bound) (v : Batch) → IsAbout (submits site h v)
   submits_about h v =
-      refuses site.circuit (not (is_active_here h)) refusal.NotActive (if not (is_open h.mark) then Refuses refusal.Closed else submits_ruled site h v (broken_batch v))
+      refuses site.circuit (not (runs h)) refusal.NotActive (if not (is_open h.mark) then Refuses refusal.Closed else submits_ruled site h v (broken_batch v))
       (refuses site.circuit (not (is_open h.mark)) refusal.Closed (submits_ruled site h v (broken_batch v)) (ruled (broken_batch v)))
     where
       known_by : (o : Option Batch) → IsAbout (submits_known site h v o)
@@ -126,7 +138,7 @@ module _ (site : Site) where
       ruled (Some rule) = tt
 
   active_about : (h : Bound) (x : Deed) → IsAbout x → IsAbout (when_active h x)
-  active_about h x about = either site.circuit (is_active_here h) x (Refuses refusal.NotActive) about tt
+  active_about h x about = either site.circuit (runs h) x (Refuses refusal.NotActive) about tt
 
   status_about : (b : Member Batch) (i : ℕ) (o : Option ℕ) → IsAbout (status_kept b i o)
   status_about b i (Some place) = tt
@@ -162,8 +174,9 @@ module _ (site : Site) where
 
   held_about : (h : Bound) (e : Event) → IsAbout (held_does site h e)
   held_about h (event.Propose d) = proposes_about d (Held h) (broken d)
-  held_about h (event.Vote accept) = votes_about h (if accept then kind.Accept else kind.Reject)
-  held_about h event.Remove = removes_about h
+  held_about h (event.Vote accept) = votes_about h (vote_kind (own_life h) accept)
+  held_about h event.Remove = removes_about h (removal_kind (own_life h))
+  held_about h event.Disband = disbands_about h
   held_about h event.Abandon = abandons_about h
   held_about h event.Purge = refuses site.circuit (is_open h.mark && is_waiting (own_life h).state h.acts) refusal.NotPurgeable Purges tt
   held_about h (event.Submit v) = submits_about h v

@@ -5,6 +5,7 @@ use Rattle.std.specs.Str.{bytes_eq}
 use Rattle.spl_circuit.specs.Nodes.{NodeId, CircuitId}
 use Rattle.spl_edge.specs.Image.{Image, IsSettled}
 use Rattle.spl_edge.specs.declared.bench.Pair.{Pair}
+use Rattle.spl_edge.specs.Views.{image_now, DiskView, pair_view}
 use Rattle.spl_journal.proofs.Images.{only_settled}
 use Rattle.spl_model.specs.Puts.{put_at-here}
 use Rattle.spl_model.specs.Worlds.{World as CircuitWorld, Halts, carried_out, happens, site_at}
@@ -21,7 +22,7 @@ use Rattle.spl_node.specs.Stopping.{cells_stopped, event_changes}
 use Rattle.spl_rules.specs.Cells.{Cell}
 use Rattle.spl_rules.specs.Changes.{after_plan, stopped_cell}
 use Rattle.spl_rules.specs.Plans.{plan_of}
-use Rattle.spl_snapshot.specs.Counting.{IfBoth, PairLeaves, PairLeavesInTurn}
+use Rattle.spl_snapshot.specs.Counting.{IfBoth, PairLeavesInTurn, PairLeavesBetween, PairLeavesBetweenInTurn}
 use Rattle.spl_sched.specs.Grammar.{step_circuit, step_node}
 use Rattle.spl_sched.specs.declared.line.Step.{Step}
 use Rattle.spl_wire.specs.declared.event.Event.{Event}
@@ -43,35 +44,35 @@ use Rattle.spl_base.specs.Booleans.{bytes_are, bytes_same}
 
 -- ---- two disks
 
-pub left_last : (at other : ℕ → Option Image) (m n : ℕ) (P : List ℕ → List ℕ → Type 0) → PairLeaves at m m other n n P → LeaveNow P (at m, other n)
+pub left_last : (at other : ℕ → Option Image) (m n : ℕ) (P : List ℕ → List ℕ → Type 0) → PairLeavesBetween at m m other n n P → LeaveNow P (at m, other n)
 left_last at other m n P left = left m n (omega arith) (omega arith) (omega arith) (omega arith)
 
 -- what a stop at any moment leaves it leaves at the last
-pub left_in_turn : (second : Bool) (o p : Option Image) (at other : ℕ → Option Image) (k m l n : ℕ) (P : List ℕ → List ℕ → Type 0) → IsSome o → IsSome p → k ≤ m → l ≤ n → IfBoth o p (λ i j. PairLeavesInTurn second at k m other l n P) → LeaveNow P (at m, other n)
+pub left_in_turn : (second : Bool) (o p : Option Image) (at other : ℕ → Option Image) (k m l n : ℕ) (P : List ℕ → List ℕ → Type 0) → IsSome o → IsSome p → k ≤ m → l ≤ n → IfBoth o p (λ i j. PairLeavesBetweenInTurn second at k m other l n P) → LeaveNow P (at m, other n)
 left_in_turn second o p at other k m l n P told other_told low other_low h =
-    both_told o p (λ i j. PairLeavesInTurn second at k m other l n P) (LeaveNow P (at m, other n)) told other_told h
+    both_told o p (λ i j. PairLeavesBetweenInTurn second at k m other l n P) (LeaveNow P (at m, other n)) told other_told h
     (λ i j is other_is left. left_last at other m n P (leaves_last second at other k m l n P low other_low left))
 
 -- an event at a host
-pub host_left : {D : Type 0} (image_at : D → ℕ → Option Image) (moment : D → ℕ) (h : Host) (old new : Pair D) (c : CircuitId) (e : Event) → IsSome (image_at old.first (moment old.first)) → IsSome (image_at old.second (moment old.second)) → moment old.first ≤ moment new.first → moment old.second ≤ moment new.second
-    → IfBoth (image_at old.first (moment old.first)) (image_at old.second (moment old.second)) (λ i j. PairLeavesInTurn (host_second h) (image_at new.first) (moment old.first) (moment new.first) (image_at new.second) (moment old.second) (moment new.second)
-    (λ x y. StandFor (host_id h) (host_cell h (image_at old.first (moment old.first)) (image_at old.second (moment old.second))) x y ⊎ StandFor (host_id h) (cells_after (host_id h) (host_cell h (image_at old.first (moment old.first)) (image_at old.second (moment old.second))) c e) x y))
-    → LeaveEither (host_id h) (host_cell h (image_at old.first (moment old.first)) (image_at old.second (moment old.second))) (cells_after (host_id h) (host_cell h (image_at old.first (moment old.first)) (image_at old.second (moment old.second))) c e) (images_of image_at moment new)
-host_left image_at moment h old new c e told other_told low other_low left =
-    left_in_turn (host_second h) (image_at old.first (moment old.first)) (image_at old.second (moment old.second)) (image_at new.first) (image_at new.second) (moment old.first) (moment new.first) (moment old.second) (moment new.second)
-    (λ x y. StandFor (host_id h) (host_cell h (image_at old.first (moment old.first)) (image_at old.second (moment old.second))) x y ⊎ StandFor (host_id h) (cells_after (host_id h) (host_cell h (image_at old.first (moment old.first)) (image_at old.second (moment old.second))) c e) x y)
+pub host_left : {D : Type 0} (view : D → DiskView) (h : Host) (old new : Pair D) (c : CircuitId) (e : Event) → IsSome (image_now (view old.first)) → IsSome (image_now (view old.second)) → (view old.first).moment ≤ (view new.first).moment → (view old.second).moment ≤ (view new.second).moment
+    → IfBoth (image_now (view old.first)) (image_now (view old.second)) (λ i j. PairLeavesInTurn (host_second h) (pair_view view old) (pair_view view new)
+    (λ x y. StandFor (host_id h) (host_cell h (image_now (view old.first)) (image_now (view old.second))) x y ⊎ StandFor (host_id h) (cells_after (host_id h) (host_cell h (image_now (view old.first)) (image_now (view old.second))) c e) x y))
+    → LeaveEither (host_id h) (host_cell h (image_now (view old.first)) (image_now (view old.second))) (cells_after (host_id h) (host_cell h (image_now (view old.first)) (image_now (view old.second))) c e) (images_of view new)
+host_left view h old new c e told other_told low other_low left =
+    left_in_turn (host_second h) (image_now (view old.first)) (image_now (view old.second)) (view new.first).image_at (view new.second).image_at (view old.first).moment (view new.first).moment (view old.second).moment (view new.second).moment
+    (λ x y. StandFor (host_id h) (host_cell h (image_now (view old.first)) (image_now (view old.second))) x y ⊎ StandFor (host_id h) (cells_after (host_id h) (host_cell h (image_now (view old.first)) (image_now (view old.second))) c e) x y)
     told other_told low other_low left
 
-pub held_still : {D : Type 0} (image_at : D → ℕ → Option Image) (moment : D → ℕ) (old new : Pair D) → Stays (image_at old.first) (moment old.first) (image_at new.first) (moment new.first) → Stays (image_at old.second) (moment old.second) (image_at new.second) (moment new.second) → images_of image_at moment new ≡ images_of image_at moment old
-held_still image_at moment old new s t =
-    let one : image_at new.first (moment new.first) ≡ image_at old.first (moment old.first) = s.still (moment new.first) s.later (omega arith) in
-    let other : image_at new.second (moment new.second) ≡ image_at old.second (moment old.second) = t.still (moment new.second) t.later (omega arith) in
+pub held_still : {D : Type 0} (view : D → DiskView) (old new : Pair D) → Stays (view old.first) (view new.first) → Stays (view old.second) (view new.second) → images_of view new ≡ images_of view old
+held_still view old new s t =
+    let one : image_now (view new.first) ≡ image_now (view old.first) = s.still (view new.first).moment s.later (omega arith) in
+    let other : image_now (view new.second) ≡ image_now (view old.second) = t.still (view new.second).moment t.later (omega arith) in
     cc
 
-pub same_images : {D : Type 0} (image_at : D → ℕ → Option Image) (moment : D → ℕ) (ps : List (Pair D)) (k : ℕ) (p r : Pair D) → slice_get ps k ≡ Some p → images_of image_at moment r ≡ images_of image_at moment p → images image_at moment (slice_set ps k r) ≡ images image_at moment ps
-same_images image_at moment ps k p r pair e =
-    images_set image_at moment ps k r ∙ ap (λ (q : Images). slice_set (images image_at moment ps) k q) e
-    ∙ set_same (images image_at moment ps) k (images_of image_at moment p) (images_here image_at moment ps k p pair)
+pub same_images : {D : Type 0} (view : D → DiskView) (ps : List (Pair D)) (k : ℕ) (p r : Pair D) → slice_get ps k ≡ Some p → images_of view r ≡ images_of view p → images view (slice_set ps k r) ≡ images view ps
+same_images view ps k p r pair e =
+    images_set view ps k r ∙ ap (λ (q : Images). slice_set (images view ps) k q) e
+    ∙ set_same (images view ps) k (images_of view p) (images_here view ps k p pair)
 
 left_settled : (P : List ℕ → List ℕ → Type 0) (o p : Option Image) → IfSome o IsSettled → IfSome p IsSettled → IfBoth o p (λ i j. P i.bytes j.bytes) → LeaveNow P (o, p)
 left_settled P None p a b h = tt
@@ -142,31 +143,31 @@ module _ (c : CircuitId) (behind : CircuitWorld) (xs : Nodes) (is : List Images)
     others = inr (record { index = i; slot = s; there = there; place = λ k q. place k (ap (failed A) q); others = others; own = own });
   }
 
-module _ {D : Type 0} (image_at : D → ℕ → Option Image) (moment : D → ℕ) (ss : List Slot) (ps : List (Pair D)) (i : ℕ) (s : Slot) (sits : Sits (record { slots = ss; disks = images image_at moment ps })) (there : slice_get ss i ≡ Some s) where
+module _ {D : Type 0} (view : D → DiskView) (ss : List Slot) (ps : List (Pair D)) (i : ℕ) (s : Slot) (sits : Sits (record { slots = ss; disks = images view ps })) (there : slice_get ss i ≡ Some s) where
   abbrev nodes : Nodes
-  nodes = record { slots = ss; disks = images image_at moment ps }
+  nodes = record { slots = ss; disks = images view ps }
 
   module _ (k : ℕ) (place : k ≡ s.position) (p : Pair D) (pair : slice_get ps k ≡ Some p) (t : Slot) (r : Pair D) where
-    else_disks : (j : ℕ) → (j ≡ s.position → ⊥) → images_at (images image_at moment (slice_set ps k r)) j ≡ images_at (images image_at moment ps) j
-    else_disks j off = ap (λ (is : List Images). images_at is j) (images_set image_at moment ps k r) ∙ ap images_or_none (set_else (images image_at moment ps) k j (images_of image_at moment r) (λ e. off (sym e ∙ place)))
+    else_disks : (j : ℕ) → (j ≡ s.position → ⊥) → images_at (images view (slice_set ps k r)) j ≡ images_at (images view ps) j
+    else_disks j off = ap (λ (is : List Images). images_at is j) (images_set view ps k r) ∙ ap images_or_none (set_else (images view ps) k j (images_of view r) (λ e. off (sym e ∙ place)))
 
-    own_disks : images_at (images image_at moment (slice_set ps k r)) s.position ≡ images_of image_at moment r
+    own_disks : images_at (images view (slice_set ps k r)) s.position ≡ images_of view r
     own_disks =
-        let q : Images = images_of image_at moment r in
-        ap (λ (is : List Images). images_at is s.position) (sym (disks_are image_at moment ss ps i s sits there k place p pair t r))
-        ∙ pair_here (slice_set (images image_at moment ps) s.position q) s.position q (set_here (images image_at moment ps) s.position q (sits.below i s there))
+        let q : Images = images_of view r in
+        ap (λ (is : List Images). images_at is s.position) (sym (disks_are view ss ps i s sits there k place p pair t r))
+        ∙ pair_here (slice_set (images view ps) s.position q) s.position q (set_here (images view ps) s.position q (sits.below i s there))
 
     -- a stop found no memory at a node over its own pair
     own_memory : (c : CircuitId) (behind : CircuitWorld) (later : CircuitId → Cell) → ((d : CircuitId) → stopped_cell (later d) ≡ stopped_cell (cells_in c behind (slot_id s) (view_in nodes s).cells d))
-        → LeaveEither (slot_id s) (view_in nodes s).cells later (images_of image_at moment r) → EventEnds c behind NoMemory nodes (images image_at moment (slice_set ps k r))
+        → LeaveEither (slot_id s) (view_in nodes s).cells later (images_of view r) → EventEnds c behind NoMemory nodes (images view (slice_set ps k r))
     own_memory c behind later same left =
-        one_ended c behind nodes (images image_at moment (slice_set ps k r)) i s there (failed (Unit {0}) NoMemory) (λ which q. cc) (λ j q. cc) else_disks
+        one_ended c behind nodes (images view (slice_set ps k r)) i s there (failed (Unit {0}) NoMemory) (λ which q. cc) (λ j q. cc) else_disks
         (subst (λ (is : Images). LeaveEither (slot_id s) (view_in nodes s).cells (cells_in c behind (slot_id s) (view_in nodes s).cells) is) (sym own_disks)
-        (either_stands (slot_id s) (view_in nodes s).cells later (cells_in c behind (slot_id s) (view_in nodes s).cells) same (images_of image_at moment r) left))
+        (either_stands (slot_id s) (view_in nodes s).cells later (cells_in c behind (slot_id s) (view_in nodes s).cells) same (images_of view r) left))
 
-    pub own_stopped : (c : CircuitId) (m : CircuitWorld) → Holds c m nodes → LeaveNow (StandFor (slot_id s) (node_view s (images_of image_at moment p)).cells) (images_of image_at moment r) → EventEnds c m NoMemory nodes (images image_at moment (slice_set ps k r))
-    own_stopped c m h left = own_memory c m (view_in nodes s).cells (λ d. ap stopped_cell (same d)) (left_either (slot_id s) (view_in nodes s).cells (images_of image_at moment r)
-        (subst (λ (v : NodeView). LeaveNow (StandFor (slot_id s) v.cells) (images_of image_at moment r)) (sym (own_view image_at moment ss ps i s sits there k place p pair)) left))
+    pub own_stopped : (c : CircuitId) (m : CircuitWorld) → Holds c m nodes → LeaveNow (StandFor (slot_id s) (node_view s (images_of view p)).cells) (images_of view r) → EventEnds c m NoMemory nodes (images view (slice_set ps k r))
+    own_stopped c m h left = own_memory c m (view_in nodes s).cells (λ d. ap stopped_cell (same d)) (left_either (slot_id s) (view_in nodes s).cells (images_of view r)
+        (subst (λ (v : NodeView). LeaveNow (StandFor (slot_id s) v.cells) (images_of view r)) (sym (own_view view ss ps i s sits there k place p pair)) left))
       where
         same : (d : CircuitId) → (view_in nodes s).cells d ≡ cells_in c m (slot_id s) (view_in nodes s).cells d
         same d = go (bool_cases (bytes_eq c d))
@@ -176,11 +177,11 @@ module _ {D : Type 0} (image_at : D → ℕ → Option Image) (moment : D → �
             go (inr q) = ap (λ (b : Bool). if b then m.at (slot_id s) else (view_in nodes s).cells d) (sym q)
 
     pub own_halted : (c : CircuitId) (e : Option Event) (m : CircuitWorld) (t : Step) → Holds c m nodes → slot_up s ≡ true → slot_id s ≡ step_node t → step_circuit t ≡ c → IsEventOf e m t
-        → LeaveEither (slot_id s) (node_view s (images_of image_at moment p)).cells (cells_stopped (slot_id s) (node_view s (images_of image_at moment p)).cells c (event_changes (slot_id s) (node_view s (images_of image_at moment p)).cells c e) true) (images_of image_at moment r)
-        → EventEnds c (happens m (Halts true t)) NoMemory nodes (images image_at moment (slice_set ps k r))
+        → LeaveEither (slot_id s) (node_view s (images_of view p)).cells (cells_stopped (slot_id s) (node_view s (images_of view p)).cells c (event_changes (slot_id s) (node_view s (images_of view p)).cells c e) true) (images_of view r)
+        → EventEnds c (happens m (Halts true t)) NoMemory nodes (images view (slice_set ps k r))
     own_halted c e m t h up id about is left = own_memory c (happens m (Halts true t)) (cells_stopped (slot_id s) (view_in nodes s).cells c (event_changes (slot_id s) (view_in nodes s).cells c e) true)
         (behind_halt nodes i s m t c e h there id about is up)
-        (subst (λ (v : NodeView). LeaveEither (slot_id s) v.cells (cells_stopped (slot_id s) v.cells c (event_changes (slot_id s) v.cells c e) true) (images_of image_at moment r)) (sym (own_view image_at moment ss ps i s sits there k place p pair)) left)
+        (subst (λ (v : NodeView). LeaveEither (slot_id s) v.cells (cells_stopped (slot_id s) v.cells c (event_changes (slot_id s) v.cells c e) true) (images_of view r)) (sym (own_view view ss ps i s sits there k place p pair)) left)
 
     module _ (c : CircuitId) (n : NodeId) (e : Event) (m : CircuitWorld) (at : slice_get (slot_ids ss) i ≡ Some n) (h : Holds c m nodes) where
       abbrev behind : CircuitWorld
@@ -201,10 +202,10 @@ module _ {D : Type 0} (image_at : D → ℕ → Option Image) (moment : D → �
 
       -- an event at a node over its own pair
       pub own_ended : {A : Type 0} (x : Result A WorldFault) → ((which : ℕ) → IsErrOf x (TooMany which) → ⊥) → ((slot : ℕ) → IsErrOf x (Disk slot) → slot ≡ s.position)
-          → LeaveEither (slot_id s) (node_view s (images_of image_at moment p)).cells (cells_after (slot_id s) (node_view s (images_of image_at moment p)).cells c e) (images_of image_at moment r)
-          → IfErr x (λ f. EventEnds c behind f nodes (images image_at moment (slice_set ps k r)))
+          → LeaveEither (slot_id s) (node_view s (images_of view p)).cells (cells_after (slot_id s) (node_view s (images_of view p)).cells c e) (images_of view r)
+          → IfErr x (λ f. EventEnds c behind f nodes (images view (slice_set ps k r)))
       own_ended x few failed left =
-          one_ended c behind nodes (images image_at moment (slice_set ps k r)) i s there x few failed else_disks
-          (either_as (slot_id s) old_cells (cells_after (slot_id s) old_cells c e) old_cells (cells_in c behind (slot_id s) old_cells) (λ d. refl) cells_behind (images_at (images image_at moment (slice_set ps k r)) s.position)
+          one_ended c behind nodes (images view (slice_set ps k r)) i s there x few failed else_disks
+          (either_as (slot_id s) old_cells (cells_after (slot_id s) old_cells c e) old_cells (cells_in c behind (slot_id s) old_cells) (λ d. refl) cells_behind (images_at (images view (slice_set ps k r)) s.position)
           (subst (λ (is : Images). LeaveEither (slot_id s) old_cells (cells_after (slot_id s) old_cells c e) is) (sym own_disks)
-          (subst (λ (v : NodeView). LeaveEither (slot_id s) v.cells (cells_after (slot_id s) v.cells c e) (images_of image_at moment r)) (sym (own_view image_at moment ss ps i s sits there k place p pair)) left)))
+          (subst (λ (v : NodeView). LeaveEither (slot_id s) v.cells (cells_after (slot_id s) v.cells c e) (images_of view r)) (sym (own_view view ss ps i s sits there k place p pair)) left)))

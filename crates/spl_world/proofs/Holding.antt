@@ -5,9 +5,12 @@ use Rattle.std.proofs.lemmas.Option.{slice_get_within, slice_get-get_or}
 use Rattle.spl_circuit.specs.Nodes.{NodeId}
 use Rattle.spl_edge.specs.Picks.{Picked}
 use Rattle.spl_edge.specs.declared.disk.Armed.{Armed}
+use Rattle.spl_edge.specs.Views.{DiskView, PairView}
+use Rattle.spl_edge.specs.Calls.{Onward}
+use Rattle.spl_snapshot.specs.Counting.{PairOnward, HasRisen}
 use Rattle.spl_model.specs.Answers.{is_up}
 use Rattle.spl_model.specs.Projection.{Ran}
-use Rattle.spl_world.specs.Disks.{DiskView, PairView, GoesOn, HasRisen, IsUnarmed, PairGoesOn, AllGoOn, RoseAt}
+use Rattle.spl_world.specs.Disks.{IsUnarmed, AllGoOn, RoseAt}
 use Rattle.spl_world.specs.Held.{AllPickBy, AllPicked, AllUnpicked, ArePickedAt, ArePicksAt, AreUnpicked, EachPair, FailedSince, HasFailedSince, HasPicked, IsCounted, IsUnpicked, KeepsPicks, PicksBy, PicksOnce, Point, last_count, picks_at, pick_points, point_at, stops_at}
 use Rattle.spl_world.specs.Views.{IsPlace, ids_of, places_of, slot_id, slot_ids, slot_places}
 use Rattle.spl_world.specs.declared.slot.Slot.{Slot}
@@ -140,7 +143,7 @@ module _ (start : List PairView) (before : List Ran) (r : Ran) (w v : World) (ol
       let picked = h i n k s (get_or old k q) at place first was in
       one_by (ids_of w) before r n s (get_or old k q) q picked (by.each i n k (get_or old k q) q at place was there (picked.first.off, picked.second.off)))
 
-  keeps_on : (p q : PairView) → PairGoesOn p q → KeepsPicks p q
+  keeps_on : (p q : PairView) → PairOnward p q → KeepsPicks p q
   keeps_on p q on = record { first_picks = on.first.picks; second_picks = on.second.picks; first_armed = on.first.armed; second_armed = on.second.armed; first_count = on.first.no_less; second_count = on.second.no_less }
 
   -- a line that stops no node that is up lets all go on
@@ -160,14 +163,14 @@ stops_none before r n e = ap (λ (b : Bool). b && is_up n before) e
 -- ---- the first moment
 
 -- nothing was picked from two disks that go on
-pub pair_unpicked : (ns : List NodeId) (n : NodeId) (s p : PairView) → AreUnpicked s → PairGoesOn s p → HasPicked ns [] n s p
+pub pair_unpicked : (ns : List NodeId) (n : NodeId) (s p : PairView) → AreUnpicked s → PairOnward s p → HasPicked ns [] n s p
 pair_unpicked ns n s p u g = record {
   picks = picked_as ns n s.first.faults s.second.faults [] [] [] [] p.first.picks p.second.picks refl (g.first.picks ∙ u.first.picks) (g.second.picks ∙ u.second.picks) tt;
   first = counted_first s.first p.first u.first g.first;
   second = counted_first s.second p.second u.second g.second;
 }
   where
-    counted_first : (x y : DiskView) → IsUnpicked x → GoesOn x y → IsCounted x y
+    counted_first : (x y : DiskView) → IsUnpicked x → Onward x y → IsCounted x y
     counted_first x y u g =
         let last : last_count x.faults y.picks ≡ x.faults = ap (last_count x.faults) (g.picks ∙ u.picks) in
         record { off = ap (λ (a : Armed). a.arming) g.armed ∙ u.off; later = omega (arith, last, g.no_less) }
@@ -177,7 +180,7 @@ none_picked w start now h on = λ i n k s p at place was there. pair_unpicked (i
 
 -- ---- disks that go on
 
-picked_still : (ns : List NodeId) (rs : List Ran) (n : NodeId) (s p q : PairView) → PairGoesOn p q → HasPicked ns rs n s p → HasPicked ns rs n s q
+picked_still : (ns : List NodeId) (rs : List Ran) (n : NodeId) (s p q : PairView) → PairOnward p q → HasPicked ns rs n s p → HasPicked ns rs n s q
 picked_still ns rs n s p q on h = record {
   picks = picked_as ns n s.first.faults s.second.faults (pick_points n [] rs) (pick_points n [] rs) p.first.picks p.second.picks q.first.picks q.second.picks refl on.first.picks on.second.picks h.picks;
   first = counted_on s.first p.first q.first on.first.picks on.first.armed on.first.no_less h.first;
@@ -192,7 +195,7 @@ all_picked_still ns places rs start old new on h = λ i n k s q at place first t
 
 -- ---- disks that fail
 
-failed_since : (s p q : PairView) → IsCounted s.first p.first → IsCounted s.second p.second → PairGoesOn p q → HasRisen p q → HasFailedSince s q
+failed_since : (s p q : PairView) → IsCounted s.first p.first → IsCounted s.second p.second → PairOnward p q → HasRisen p q → HasFailedSince s q
 failed_since s p q one other on (inl rose) =
     let last : last_count s.first.faults q.first.picks ≡ last_count s.first.faults p.first.picks = ap (last_count s.first.faults) on.first.picks in
     inl (omega (arith, last, one.later, rose))

@@ -3,15 +3,15 @@ use Rattle.std.proofs.Common.{◌≡◌, ℕ, true, false, true≢false, List, [
 use Rattle.std.specs.Prelude.{IsErrOf}
 use Rattle.spl_circuit.specs.Nodes.{NodeId}
 use Rattle.spl_edge.specs.Image.{Image}
-use Rattle.spl_edge.specs.Picks.{Picked}
 use Rattle.spl_edge.specs.declared.bench.Pair.{Pair}
-use Rattle.spl_edge.specs.declared.disk.Armed.{Armed}
+use Rattle.spl_edge.specs.Views.{DiskView, PairView, bench}
+use Rattle.spl_model.specs.Worlds.{blank}
 use Rattle.spl_model.specs.Outcomes.{by_rule}
 use Rattle.spl_model.specs.Projection.{Ran}
 use Rattle.spl_projection.specs.Whole.{whole_world}
 use Rattle.spl_sched.specs.declared.line.Line.{Line}
 use Rattle.spl_sched.specs.declared.line.Line.TheVariants as line
-use Rattle.spl_world.specs.Disks.{AllGoOn, AllUnarmed, Images, LeavesDisks, PairView, bench, images}
+use Rattle.spl_world.specs.Disks.{AllGoOn, AllUnarmed, Images, LeavesDisks, images}
 use Rattle.spl_world.specs.Held.{AllHeld, AllPicked, AllUnpicked, FailedSince, HigherAt, IsInCheckpointIn, StopsBy, StopsPair, cells_behind, stopping_of, stops_at}
 use Rattle.spl_world.specs.Lines.{stops}
 use Rattle.spl_world.specs.Views.{IsPlace, Nodes, Stands, ids_of, over, places_of, slot_id, slot_up}
@@ -35,16 +35,16 @@ pub unarmed_halt : {A : Type 0} (x : Result A WorldFault) (l : Line) (xs : Nodes
 unarmed_halt (Ok a) l xs old new s off = unarmed_behind _ _ s.slot.slot.position old new s.slot.stop (λ p q picked h. let both = picked h in (both.first_is.disarmed, both.second_is.disarmed)) off
 unarmed_halt (Err e) l xs old new s off = tt
 
-module _ {D : Type 0} (image_at : D → ℕ → Option Image) (moment faults : D → ℕ) (armed : D → Armed) (picks : D → List Picked) where
+module _ {D : Type 0} (view : D → DiskView) where
   abbrev told : List (Pair D) → List PairView
-  told ps = bench image_at moment faults armed picks ps
+  told ps = bench view ps
 
   abbrev kept : List (Pair D) → List Images
-  kept ps = images image_at moment ps
+  kept ps = images view ps
 
   -- nothing ran yet
   pub held_first : (w : World) (old new : List (Pair D)) → Stands [] w (kept new) → AllUnpicked (told old) → AllGoOn (told old) (told new) → AllHeld (told old) [] w (told new)
-  held_first w old new stands h on = all_held image_at moment faults armed picks (told old) [] w new stands (none_picked w (told old) (told new) h on)
+  held_first w old new stands h on = all_held view (told old) [] w new stands (none_picked w (told old) (told new) h on)
 
   picked_in : (start : List PairView) (rs : List Ran) (w : World) (ps : List PairView) → AllHeld start rs w ps → AllPicked start rs w ps
   picked_in start rs w ps h = λ i n k s p at place was there. (h i n k s p at place was there).picked
@@ -56,7 +56,7 @@ module _ {D : Type 0} (image_at : D → ℕ → Option Image) (moment faults : D
     -- a line that stops no node
     pub held_step : {A : Type 0} (x : Result A WorldFault) (start : List PairView) → AllHeld start before w (told old) → ((n : NodeId) → stops_at n l ≡ false) → OnOk x (Stands behind v (kept new)) → LeavesDisks x (told old) (told new) → OnOk x (AllHeld start behind v (told new))
     held_step (Ok a) start held none after leaves =
-        all_held image_at moment faults armed picks start behind v new after
+        all_held view start behind v new after
         (all_picked_on start before (by_rule l) w v (told old) (told new) same put (λ n. stops_none before (by_rule l) n (none n)) leaves.onward (picked_in start before w (told old) held))
     held_step (Err e) start held none after leaves = tt
 
@@ -67,16 +67,16 @@ module _ {D : Type 0} (image_at : D → ℕ → Option Image) (moment faults : D
     -- a line that stops one
     pub held_halt : {A : Type 0} (x : Result A WorldFault) (start : List PairView) → AllHeld start before w (told old) → Stands before w (kept old) → OnOk x (Stands behind v (kept new)) → OnOk x (StopsBy l (over w (kept old)) (told old) (told new)) → OnOk x (AllHeld start behind v (told new))
     held_halt (Ok a) start held stands after stop =
-        all_held image_at moment faults armed picks start behind v new after
-        (picked_behind_stop image_at moment faults armed picks before (by_rule l) w v old new same put stands after stop start (picked_in start before w (told old) held))
+        all_held view start behind v new after
+        (picked_behind_stop view before (by_rule l) w v old new same put stands after stop start (picked_in start before w (told old) held))
     held_halt (Err e) start held stands after stop = tt
 
-    pub higher_halt : {A : Type 0} (x : Result A WorldFault) → Stands before w (kept old) → OnOk x (Stands behind v (kept new)) → OnOk x (StopsBy l (over w (kept old)) (told old) (told new)) → (i : ℕ) (s : Slot) → slice_get w.slots.items i ≡ Some s → stops_at (slot_id s) l ≡ true → IsInCheckpointIn (λ c. whole_world (ids_of w) c before) l s
+    pub higher_halt : {A : Type 0} (x : Result A WorldFault) → Stands before w (kept old) → OnOk x (Stands behind v (kept new)) → OnOk x (StopsBy l (over w (kept old)) (told old) (told new)) → (i : ℕ) (s : Slot) → slice_get w.slots.items i ≡ Some s → stops_at (slot_id s) l ≡ true → IsInCheckpointIn (λ c. whole_world (blank (ids_of w)) c before) l s
         → OnOk x (HigherAt s.position (told old) (told new))
-    higher_halt (Ok a) stands after stop i s at e within = stops_higher image_at moment faults armed picks before (by_rule l) w v old new same put stands after stop i s at e within
+    higher_halt (Ok a) stands after stop i s at e within = stops_higher view before (by_rule l) w v old new same put stands after stop i s at e within
     higher_halt (Err f) stands after stop i s at e within = tt
 
     pub picks_halt : {A : Type 0} (x : Result A WorldFault) → Stands before w (kept old) → OnOk x (Stands behind v (kept new)) → OnOk x (StopsBy l (over w (kept old)) (told old) (told new)) → (i : ℕ) (s : Slot) → slice_get w.slots.items i ≡ Some s → AllUnarmed (told old) → stops_at (slot_id s) l ≡ true
         → OnOk x (StopsPair (slot_id s) (slot_up s) (stopping_of l) (cells_behind (ids_of w) behind (slot_id s)) s.position (told old) (told new))
-    picks_halt (Ok a) stands after stop i s at off e = stops_pair image_at moment faults armed picks before (by_rule l) w v old new same put stands after stop i s at off e
+    picks_halt (Ok a) stands after stop i s at off e = stops_pair view before (by_rule l) w v old new same put stands after stop i s at off e
     picks_halt (Err f) stands after stop i s at off e = tt

@@ -3,9 +3,8 @@ use Rattle.std.proofs.Common.{◌≡◌, ℕ, zero, suc, List, [], ◌∷◌, sl
 use Rattle.std.specs.Result.{IsOkAnd}
 use Rattle.spl_circuit.specs.Nodes.{NodeId, CircuitId}
 use Rattle.spl_edge.specs.Image.{Image}
-use Rattle.spl_edge.specs.Picks.{Picked}
 use Rattle.spl_edge.specs.declared.bench.Pair.{Pair}
-use Rattle.spl_edge.specs.declared.disk.Armed.{Armed}
+use Rattle.spl_edge.specs.Views.{DiskView, PairView, pair_view, bench, image_now}
 use Rattle.spl_model.specs.Projection.{Ran}
 use Rattle.spl_node.specs.Hosts.{host_cell}
 use Rattle.spl_node.specs.Records.{is_record}
@@ -14,7 +13,7 @@ use Rattle.spl_node.proofs.Hosting.{kept_stand}
 use Rattle.spl_rules.specs.Cells.{Cell}
 use Rattle.spl_rules.specs.Changes.{stopped_cell}
 use Rattle.spl_snapshot.specs.Counting.{IfBoth, pair_records}
-use Rattle.spl_world.specs.Disks.{Images, PairView, bench, images, images_at, pair_view}
+use Rattle.spl_world.specs.Disks.{Images, images, images_at}
 use Rattle.spl_world.specs.Held.{AllHeld, AllPicked, cells_behind}
 use Rattle.spl_world.specs.Views.{Stands, ids_of, places_of, slot_id, slot_ids, slot_places}
 use Rattle.spl_world.specs.declared.slot.Slot.{Slot}
@@ -53,27 +52,27 @@ slot_there [] i n k e f = absurd cc
 slot_there (s ∷ ss) zero n k e f = let id : slot_id s ≡ n = cc in let place : s.position ≡ k = cc in (s, record { there = refl; id_is = id; place_is = place })
 slot_there (s ∷ ss) (suc i) n k e f = let r = slot_there ss i n k e f in (r.0, record { there = r.1.there; id_is = r.1.id_is; place_is = r.1.place_is })
 
-module _ {D : Type 0} (image_at : D → ℕ → Option Image) (moment faults : D → ℕ) (armed : D → Armed) (picks : D → List Picked) where
+module _ {D : Type 0} (view : D → DiskView) where
   abbrev told : List (Pair D) → List PairView
-  told ps = bench image_at moment faults armed picks ps
+  told ps = bench view ps
 
   -- what a pair tells is what it holds
-  pub told_images : (ps : List (Pair D)) (k : ℕ) (p : PairView) → slice_get (told ps) k ≡ Some p → images_at (images image_at moment ps) k ≡ (p.first.image_at p.first.moment, p.second.image_at p.second.moment)
+  pub told_images : (ps : List (Pair D)) (k : ℕ) (p : PairView) → slice_get (told ps) k ≡ Some p → images_at (images view ps) k ≡ (image_now p.first, image_now p.second)
   told_images [] k p e = absurd cc
-  told_images (r ∷ ps) zero p e = let same : pair_view image_at moment faults armed picks r ≡ p = cc in ap (λ (v : PairView). (v.first.image_at v.first.moment, v.second.image_at v.second.moment)) same
+  told_images (r ∷ ps) zero p e = let same : pair_view view r ≡ p = cc in ap (λ (v : PairView). (image_now v.first, image_now v.second)) same
   told_images (r ∷ ps) (suc k) p e = told_images ps k p e
 
-  pub pair_held : (rs : List Ran) (w : World) (ps : List (Pair D)) → Stands rs w (images image_at moment ps) → (i : ℕ) (n : NodeId) (k : ℕ) (p : PairView) → slice_get (ids_of w) i ≡ Some n → slice_get (places_of w) i ≡ Some k → slice_get (told ps) k ≡ Some p
+  pub pair_held : (rs : List Ran) (w : World) (ps : List (Pair D)) → Stands rs w (images view ps) → (i : ℕ) (n : NodeId) (k : ℕ) (p : PairView) → slice_get (ids_of w) i ≡ Some n → slice_get (places_of w) i ≡ Some k → slice_get (told ps) k ≡ Some p
       → IfBoth (p.first.image_at p.first.moment) (p.second.image_at p.second.moment) (λ i j. StandFor n (cells_behind (ids_of w) rs n) i.bytes j.bytes)
   pair_held rs w ps stands i n k p at place there =
       let f = slot_there w.slots.items i n k at place in
       let s = f.0 in
       let is : IsSlot w.slots.items i n k s = f.1 in
-      let q : images_at (images image_at moment ps) s.position ≡ (p.first.image_at p.first.moment, p.second.image_at p.second.moment) = ap (images_at (images image_at moment ps)) is.place_is ∙ told_images ps k p there in
+      let q : images_at (images view ps) s.position ≡ (image_now p.first, image_now p.second) = ap (images_at (images view ps)) is.place_is ∙ told_images ps k p there in
       subst (λ (m : NodeId). IfBoth (p.first.image_at p.first.moment) (p.second.image_at p.second.moment) (λ i j. StandFor m (cells_behind (ids_of w) rs m) i.bytes j.bytes)) is.id_is
       (subst (λ (x : Images). IfBoth x.0 x.1 (λ i j. StandFor (slot_id s) (cells_behind (ids_of w) rs (slot_id s)) i.bytes j.bytes)) q
-      (slot_held rs w (images image_at moment ps) stands i s is.there))
+      (slot_held rs w (images view ps) stands i s is.there))
 
   -- the disks of all nodes hold what the nodes keep
-  pub all_held : (start : List PairView) (rs : List Ran) (w : World) (ps : List (Pair D)) → Stands rs w (images image_at moment ps) → AllPicked start rs w (told ps) → AllHeld start rs w (told ps)
+  pub all_held : (start : List PairView) (rs : List Ran) (w : World) (ps : List (Pair D)) → Stands rs w (images view ps) → AllPicked start rs w (told ps) → AllHeld start rs w (told ps)
   all_held start rs w ps stands picked = λ i n k s p at place was there. record { picked = picked i n k s p at place was there; now = pair_held rs w ps stands i n k p at place there }

@@ -4,12 +4,12 @@ use Rattle.std.proofs.lemmas.Option.{slice_get_within, slice_get-get_or, slice_g
 use Rattle.std.specs.List.{AllPairs, position_from}
 use Rattle.std.specs.Option.{option_map_or}
 use Rattle.std.specs.Str.{bytes_eq}
+use Rattle.spl_edge.specs.Views.{PairView}
 use Rattle.spl_agree.proofs.Tests.{ltb_is, ltb_not}
 use Rattle.spl_circuit.specs.Nodes.{NodeId, has_node, sorted}
 use Rattle.spl_circuit.proofs.Sorting.{has_sorted}
 use Rattle.spl_model.specs.Projection.{Ran}
 use Rattle.spl_registry.specs.Nodes.{Entry, ids_of as registered, is_of, node_at}
-use Rattle.spl_world.specs.Disks.{PairView}
 use Rattle.spl_world.specs.Held.{AllHeld, AreHeld}
 use Rattle.spl_world.specs.Links.{Places, seat_of}
 use Rattle.spl_world.specs.Views.{ArePlaced, ids_of, places_of, slot_ids, slot_places}

@@ -4,20 +4,19 @@ use Rattle.std.specs.Str.{bytes_eq}
 use Rattle.spl_agree.proofs.Tests.{eqb_is, eqb_not}
 use Rattle.spl_circuit.specs.Nodes.{NodeId, CircuitId}
 use Rattle.spl_edge.specs.Image.{Image, settled_at}
-use Rattle.spl_edge.specs.Picks.{Picked}
 use Rattle.spl_edge.specs.declared.bench.Pair.{Pair}
-use Rattle.spl_edge.specs.declared.disk.Armed.{Armed}
+use Rattle.spl_edge.specs.Views.{image_now, DiskView, PairView, bench}
 use Rattle.spl_model.specs.Answers.{is_up}
 use Rattle.spl_model.specs.Projection.{Ran}
-use Rattle.spl_model.specs.Worlds.{World as CircuitWorld}
+use Rattle.spl_model.specs.Worlds.{blank, World as CircuitWorld}
 use Rattle.spl_node.specs.Stands.{StandFor}
 use Rattle.spl_projection.proofs.Ups.{whole-up}
 use Rattle.spl_projection.specs.Whole.{whole_world}
 use Rattle.spl_sched.specs.declared.line.Line.{Line}
 use Rattle.spl_sched.specs.declared.line.Line.TheVariants as line
-use Rattle.spl_snapshot.specs.Counting.{IfBoth, chosen}
-use Rattle.spl_world.specs.Disks.{AllUnarmed, HasRisen, Images, IsPairUnarmed, PairView, RoseAt, bench, images}
-use Rattle.spl_world.specs.Held.{AllPicked, FailsIn, HavePicked, HigherAt, IsInCheckpointIn, IsTorn, IsTornIn, KeepsPicks, PickUnarmed, PicksBy, PicksOnce, Point, StopsAt, StopsBy, StopsPair, armed_counting, armed_other, behind_point, cells_behind, image_now, pick_fill, picks_at, stopping_of, stops_at}
+use Rattle.spl_snapshot.specs.Counting.{IfBoth, chosen, HasRisen}
+use Rattle.spl_world.specs.Disks.{AllUnarmed, Images, IsPairUnarmed, RoseAt, images}
+use Rattle.spl_world.specs.Held.{AllPicked, FailsIn, HavePicked, HigherAt, IsInCheckpointIn, IsTorn, IsTornIn, KeepsPicks, PickUnarmed, PicksBy, PicksOnce, Point, StopsAt, StopsBy, StopsPair, armed_counting, armed_other, behind_point, cells_behind, pick_fill, picks_at, stopping_of, stops_at}
 use Rattle.spl_world.specs.Views.{Stands, ids_of, over, places_of, slot_id, slot_ids, slot_up}
 use Rattle.spl_world.specs.declared.slot.Slot.{Slot}
 use Rattle.spl_world.specs.declared.world.World.{World}
@@ -96,12 +95,12 @@ other_failed worlds (line.Cut calls f s) x xs ys fails within = fails.checkpoint
 other_failed worlds (line.Fail call s) x xs ys fails within = fails.checkpoint within
 other_failed worlds _ x xs ys fails within = absurd within
 
-module _ {D : Type 0} (image_at : D → ℕ → Option Image) (moment faults : D → ℕ) (armed : D → Armed) (picks : D → List Picked) where
+module _ {D : Type 0} (view : D → DiskView) where
   abbrev told : List (Pair D) → List PairView
-  told ps = bench image_at moment faults armed picks ps
+  told ps = bench view ps
 
   abbrev held : List (Pair D) → List Images
-  held ps = images image_at moment ps
+  held ps = images view ps
 
   module _ (before : List Ran) (r : Ran) (w v : World) (old new : List (Pair D)) (same : ids_of v ≡ ids_of w) (put : places_of v ≡ places_of w) (stands : Stands before w (held old)) (after : Stands (before ++ r ∷ []) v (held new))
       (stopped : StopsBy r.line (over w (held old)) (told old) (told new)) where
@@ -123,7 +122,7 @@ module _ {D : Type 0} (image_at : D → ℕ → Option Image) (moment faults : D
     -- what its disks hold behind the line
     stand_behind : (q : PairView) → slice_get (told new) x.position ≡ Some q → IfBoth (image_now q.first) (image_now q.second) (λ i j. StandFor (slot_id x) (cells_behind (ids_of w) (before ++ r ∷ []) (slot_id x)) i.bytes j.bytes)
     stand_behind q is =
-        let now = pair_held image_at moment faults armed picks (before ++ r ∷ []) v new after i (slot_id x) x.position q (ap (λ (ns : List NodeId). slice_get ns i) same ∙ id_at w.slots.items i x there) (ap (λ (ks : List ℕ). slice_get ks i) put ∙ place_at w.slots.items i x there) is in
+        let now = pair_held view (before ++ r ∷ []) v new after i (slot_id x) x.position q (ap (λ (ns : List NodeId). slice_get ns i) same ∙ id_at w.slots.items i x there) (ap (λ (ks : List ℕ). slice_get ks i) put ∙ place_at w.slots.items i x there) is in
         subst (λ (ns : List NodeId). IfBoth (image_now q.first) (image_now q.second) (λ i j. StandFor (slot_id x) (cells_behind ns (before ++ r ∷ []) (slot_id x)) i.bytes j.bytes)) same now
 
     -- any slot of the node is that one
@@ -133,9 +132,9 @@ module _ {D : Type 0} (image_at : D → ℕ → Option Image) (moment faults : D
         let index : j ≡ i = once (ids_of w) i j (slot_id x) (stands.each []).ordered (id_at w.slots.items i x there) (id_at w.slots.items j s at ∙ ap Some id) in
         same_slot w.slots.items i j x s there at index
 
-    pub stops_higher : (j : ℕ) (s : Slot) → slice_get w.slots.items j ≡ Some s → stops_at (slot_id s) r.line ≡ true → IsInCheckpointIn (λ c. whole_world (ids_of w) c before) r.line s → HigherAt s.position (told old) (told new)
+    pub stops_higher : (j : ℕ) (s : Slot) → slice_get w.slots.items j ≡ Some s → stops_at (slot_id s) r.line ≡ true → IsInCheckpointIn (λ c. whole_world (blank (ids_of w)) c before) r.line s → HigherAt s.position (told old) (told new)
     stops_higher j s at e within =
-        let worlds : CircuitId → CircuitWorld = λ c. whole_world (ids_of w) c before in
+        let worlds : CircuitId → CircuitWorld = λ c. whole_world (blank (ids_of w)) c before in
         other_failed worlds r.line s (told old) (told new) (subst (λ (u : Slot). FailsIn worlds r.line u (told old) (told new)) (own_slot j s at e) (stopped.slot.risen worlds stands.each)) within
 
     pub stops_pair : (j : ℕ) (s : Slot) → slice_get w.slots.items j ≡ Some s → AllUnarmed (told old) → stops_at (slot_id s) r.line ≡ true → StopsPair (slot_id s) (slot_up s) (stopping_of r.line) (cells_behind (ids_of w) (before ++ r ∷ []) (slot_id s)) s.position (told old) (told new)
@@ -149,7 +148,7 @@ module _ {D : Type 0} (image_at : D → ℕ → Option Image) (moment faults : D
         })
 
     up_is : is_up (slot_id x) before ≡ slot_up x
-    up_is = sym (whole-up (ids_of w) [] before (slot_id x)) ∙ sym ((stands.each []).each i x there).up
+    up_is = sym (whole-up (blank (ids_of w)) [] before (slot_id x)) ∙ sym ((stands.each []).each i x there).up
 
     picks_else : (n : NodeId) → bytes_eq n (slot_id x) ≡ false → picks_at n before r ≡ false
     picks_else n off = ap (λ (b : Bool). b && is_up n before) (at_x n ∙ off)
@@ -170,7 +169,7 @@ module _ {D : Type 0} (image_at : D → ℕ → Option Image) (moment faults : D
       by_own : (p q : PairView) → slice_get (told old) x.position ≡ Some p → slice_get (told new) x.position ≡ Some q → IsPairUnarmed p → PicksBy (ids_of w) before r (slot_id x) p q
       by_own p q was is off = record {
         stopped = λ e. picked_once (ids_of w) (record { before = before; ran = r }) (slot_id x) p q (stop.picks up p q was is off)
-            (λ torn. (torn_failed (λ c. whole_world (ids_of w) c before) r.line x (told old) (told new) (stopped.slot.risen (λ c. whole_world (ids_of w) c before) stands.each) torn).rose p q was is) (stand_behind q is);
+            (λ torn. (torn_failed (λ c. whole_world (blank (ids_of w)) c before) r.line x (told old) (told new) (stopped.slot.risen (λ c. whole_world (blank (ids_of w)) c before) stands.each) torn).rose p q was is) (stand_behind q is);
         went_on = λ e. absurd (true≢false (sym picks_here ∙ e));
       }
 

@@ -4,25 +4,26 @@ use Rattle.std.specs.Prelude.{IfErr, IsErr, IsErrOf}
 use Rattle.std.specs.Result.{IsErrAnd}
 use Rattle.std.proofs.lemmas.Option.{slice_get_within}
 use Rattle.spl_edge.specs.Image.{Image}
-use Rattle.spl_edge.specs.Picks.{Picked}
 use Rattle.spl_edge.specs.declared.bench.Pair.{Pair}
-use Rattle.spl_edge.specs.declared.disk.Armed.{Armed}
+use Rattle.spl_edge.specs.Views.{DiskView, PairView, pair_view, bench}
+use Rattle.spl_edge.specs.Calls.{Onward}
+use Rattle.spl_snapshot.specs.Counting.{PairOnward, HasRisen}
 use Rattle.spl_world.specs.Views.{IsPlace}
 use Rattle.spl_world.specs.declared.fault.WorldFault.{WorldFault}
 use Rattle.spl_world.specs.declared.fault.WorldFault.TheVariants.{Disk, NoMemory, NotAJournal, TooMany}
-use Rattle.spl_world.specs.Disks.{DiskView, PairView, GoesOn, PairGoesOn, AllGoOn, HasRisen, RoseAt, LeavesDisks, bench, is_of_journal, pair_view}
+use Rattle.spl_world.specs.Disks.{AllGoOn, RoseAt, LeavesDisks, is_of_journal}
 use Rattle.spl_world.proofs.Counting.{failed}
 use Rattle.spl_world.proofs.Slots.{set_cases, set_length}
 
 -- ---- disks that go on
 
-on_itself : (x : DiskView) → GoesOn x x
+on_itself : (x : DiskView) → Onward x x
 on_itself x = record { past = λ t h. refl; later = omega arith; no_less = omega arith; armed = refl; picks = refl }
 
-pair_itself : (p : PairView) → PairGoesOn p p
+pair_itself : (p : PairView) → PairOnward p p
 pair_itself p = record { first = on_itself p.first; second = on_itself p.second }
 
-on_then : (x y z : DiskView) → GoesOn x y → GoesOn y z → GoesOn x z
+on_then : (x y z : DiskView) → Onward x y → Onward y z → Onward x z
 on_then x y z a b = record {
   past = λ t h. (let later : t ≤ y.moment = omega (arith, h, a.later) in b.past t later ∙ a.past t h);
   later = omega (arith, a.later, b.later);
@@ -31,7 +32,7 @@ on_then x y z a b = record {
   picks = b.picks ∙ a.picks;
 }
 
-pub pair_then : (p q r : PairView) → PairGoesOn p q → PairGoesOn q r → PairGoesOn p r
+pub pair_then : (p q r : PairView) → PairOnward p q → PairOnward q r → PairOnward p r
 pair_then p q r a b = record { first = on_then p.first q.first r.first a.first b.first; second = on_then p.second q.second r.second a.second b.second }
 
 pub some_at : {X : Type 0} (xs : List X) (i : ℕ) → i < length xs → (x : X) × (slice_get xs i ≡ Some x)
@@ -43,7 +44,7 @@ pub same_there : {X : Type 0} (xs : List X) (i : ℕ) (x y : X) → slice_get xs
 same_there xs i x y e f = let q : Some x ≡ Some y = sym e ∙ f in cc
 
 pub all_itself : (xs : List PairView) → AllGoOn xs xs
-all_itself xs = record { as_many = refl; each = λ i p q e f. subst (PairGoesOn p) (same_there xs i p q e f) (pair_itself p) }
+all_itself xs = record { as_many = refl; each = λ i p q e f. subst (PairOnward p) (same_there xs i p q e f) (pair_itself p) }
 
 -- the pair between
 between : (xs ys : List PairView) (i : ℕ) (p : PairView) → AllGoOn xs ys → slice_get xs i ≡ Some p → (m : PairView) × (slice_get ys i ≡ Some m)
@@ -55,7 +56,7 @@ all_then xs ys zs a b = record {
   each = λ i p q e f. let m = between xs ys i p a e in pair_then p m.0 q (a.each i p m.0 e m.1) (b.each i m.0 q m.1 f);
 }
 
-rose_then : (p m q : PairView) → PairGoesOn p m → HasRisen m q → HasRisen p q
+rose_then : (p m q : PairView) → PairOnward p m → HasRisen m q → HasRisen p q
 rose_then p m q a (inl r) = let less = a.first.no_less in inl (omega (arith, r, less))
 rose_then p m q a (inr r) = let less = a.second.no_less in inr (omega (arith, r, less))
 
@@ -142,12 +143,12 @@ journal_from {A} (Err y) f e slot at q = let is : y ≡ f = e.1 in let fault : f
 
 -- ---- one pair
 
-module _ {D : Type 0} (image_at : D → ℕ → Option Image) (moment faults : D → ℕ) (armed : D → Armed) (picks : D → List Picked) where
+module _ {D : Type 0} (view : D → DiskView) where
   abbrev told : List (Pair D) → List PairView
-  told ps = bench image_at moment faults armed picks ps
+  told ps = bench view ps
 
   abbrev one : Pair D → PairView
-  one p = pair_view image_at moment faults armed picks p
+  one p = pair_view view p
 
   pub bench_set : (ps : List (Pair D)) (k : ℕ) (p : Pair D) → told (slice_set ps k p) ≡ slice_set (told ps) k (one p)
   bench_set [] k p = refl
@@ -160,13 +161,13 @@ module _ {D : Type 0} (image_at : D → ℕ → Option Image) (moment faults : D
   bench_here (r ∷ ps) (suc k) p e = bench_here ps k p e
 
 -- one pair went on
-on_one : (xs : List PairView) (k : ℕ) (x y : PairView) → slice_get xs k ≡ Some x → PairGoesOn x y → (i : ℕ) (p q : PairView) → slice_get xs i ≡ Some p → ((i ≡ k) × (y ≡ q)) ⊎ ((i ≡ k → ⊥) × (slice_get xs i ≡ Some q)) → PairGoesOn p q
+on_one : (xs : List PairView) (k : ℕ) (x y : PairView) → slice_get xs k ≡ Some x → PairOnward x y → (i : ℕ) (p q : PairView) → slice_get xs i ≡ Some p → ((i ≡ k) × (y ≡ q)) ⊎ ((i ≡ k → ⊥) × (slice_get xs i ≡ Some q)) → PairOnward p q
 on_one xs k x y there on i p q e (inl c) =
     let is : x ≡ p = same_there xs k x p there (ap (λ (j : ℕ). slice_get xs j) (sym c.0) ∙ e) in
-    subst (λ (z : PairView). PairGoesOn z q) is (subst (PairGoesOn x) c.1 on)
-on_one xs k x y there on i p q e (inr c) = subst (PairGoesOn p) (same_there xs i p q e c.1) (pair_itself p)
+    subst (λ (z : PairView). PairOnward z q) is (subst (PairOnward x) c.1 on)
+on_one xs k x y there on i p q e (inr c) = subst (PairOnward p) (same_there xs i p q e c.1) (pair_itself p)
 
-pub all_one : (xs : List PairView) (k : ℕ) (x y : PairView) → slice_get xs k ≡ Some x → PairGoesOn x y → AllGoOn xs (slice_set xs k y)
+pub all_one : (xs : List PairView) (k : ℕ) (x y : PairView) → slice_get xs k ≡ Some x → PairOnward x y → AllGoOn xs (slice_set xs k y)
 all_one xs k x y there on = record {
   as_many = set_length xs k y;
   each = λ i p q e f. on_one xs k x y there on i p q e (set_cases xs k i y q f);
@@ -180,7 +181,7 @@ pub rose_at : (xs : List PairView) (k : ℕ) (x y : PairView) → slice_get xs k
 rose_at xs k x y there rose = record { below = slice_get_within xs k x there; rose = λ p z e h. rose_one xs k x y there rose p z e (set_cases xs k k y z h) }
 
 -- a call of one pair
-pub leaves_one : {A : Type 0} (r : Result A WorldFault) (xs : List PairView) (k : ℕ) (x y : PairView) → slice_get xs k ≡ Some x → PairGoesOn x y → ((slot : ℕ) → IsErrOf r (Disk slot) → (slot ≡ k) × HasRisen x y) → LeavesDisks r xs (slice_set xs k y)
+pub leaves_one : {A : Type 0} (r : Result A WorldFault) (xs : List PairView) (k : ℕ) (x y : PairView) → slice_get xs k ≡ Some x → PairOnward x y → ((slot : ℕ) → IsErrOf r (Disk slot) → (slot ≡ k) × HasRisen x y) → LeavesDisks r xs (slice_set xs k y)
 leaves_one r xs k x y there on f = record {
   onward = all_one xs k x y there on;
   failed = λ slot q. let g = f slot q in subst (λ (i : ℕ). RoseAt i xs (slice_set xs k y)) (sym g.0) (rose_at xs k x y there g.1);

@@ -7,9 +7,9 @@ use Rattle.std.proofs.lemmas.List.Folds.{list_any-append}
 use Rattle.spl_pump.proofs.Carrying.{goes_on_none, goes_on_more, puts_on, puts_on_part, same_puts}
 use Rattle.spl_agree.specs.World.{IsPrefixOf}
 use Rattle.spl_pump.proofs.Wires.{part_of_more, puts_nothing, puts_nothing_part, puts_part}
-use Rattle.spl_pump.specs.Moves.{Streams}
 use Rattle.std.proofs.lemmas.Bool.{eq-eqb, or_left, or_right}
 use Rattle.spl_edge.specs.Causes.{Rose}
+use Rattle.spl_edge.specs.Views.{Streams}
 use Rattle.spl_pump.specs.Wires.{Carried, LiesOf, Puts, PutsPart, is_on, only}
 use Rattle.spl_pump.specs.declared.fault.PumpFault.{PumpFault}
 use Rattle.spl_pump.specs.declared.fault.PumpFault.TheVariants as pump

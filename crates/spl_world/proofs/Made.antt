@@ -7,7 +7,7 @@ use Rattle.spl_circuit.specs.Nodes.{NodeId, CircuitId, has_node, is_below, sorte
 use Rattle.spl_circuit.specs.Rules.{ascends}
 use Rattle.spl_circuit.proofs.Order.{not_below_itself}
 use Rattle.spl_circuit.proofs.Sorting.{has_sorted}
-use Rattle.spl_model.specs.Worlds.{first_world}
+use Rattle.spl_model.specs.Worlds.{blank, first_world}
 use Rattle.spl_node.specs.Hosts.{HostStands}
 use Rattle.spl_registry.specs.Nodes.{Entry, ids_of, is_of, node_at}
 use Rattle.spl_world.specs.Disks.{AllTell, Images, Tell, TellAs, images_at, images_or_none}
@@ -166,7 +166,7 @@ module _ (es : List Entry) (ns : List NodeId) (k : ℕ) (ss : List Slot) (start 
     each = made.stands;
   }
 
-  pub made_holds : AllTell (length es) start → (c : CircuitId) → Holds c (first_world (slot_ids ss)) (record { slots = ss; disks = now })
+  pub made_holds : AllTell (length es) start → (c : CircuitId) → Holds c (first_world (blank (slot_ids ss)) c) (record { slots = ss; disks = now })
   made_holds tell c = record {
     ordered = ap ascends all ∙ order;
     nodes = refl;

@@ -2,6 +2,7 @@
 use Rattle.std.proofs.Common.{◌≡◌, ℕ, zero, suc, ◌<◌, ◌⊎◌, inl, inr, List, [], ◌∷◌, length, slice_get, slice_set, Option, Some, refl, ap, sym, ◌∙◌, subst, arith}
 use Rattle.spl_edge.specs.Image.{Image}
 use Rattle.spl_edge.specs.declared.bench.Pair.{Pair}
+use Rattle.spl_edge.specs.Views.{DiskView}
 use Rattle.spl_node.specs.Hosts.{HostStands}
 use Rattle.spl_world.specs.Disks.{Images, Tell, images, images_at, images_of, images_or_none}
 use Rattle.spl_world.specs.Views.{Nodes, Sits, node_view, view_in}
@@ -10,27 +11,27 @@ use Rattle.spl_world.proofs.Slots.{set_cases, set_length, set_here, set_else, se
 
 -- ---- what the pairs hold
 
-pub images_set : {D : Type 0} (image_at : D → ℕ → Option Image) (moment : D → ℕ) (ps : List (Pair D)) (k : ℕ) (p : Pair D) → images image_at moment (slice_set ps k p) ≡ slice_set (images image_at moment ps) k (images_of image_at moment p)
-images_set image_at moment [] k p = refl
-images_set image_at moment (r ∷ ps) zero p = refl
-images_set image_at moment (r ∷ ps) (suc k) p = ap (λ (is : List Images). images_of image_at moment r ∷ is) (images_set image_at moment ps k p)
+pub images_set : {D : Type 0} (view : D → DiskView) (ps : List (Pair D)) (k : ℕ) (p : Pair D) → images view (slice_set ps k p) ≡ slice_set (images view ps) k (images_of view p)
+images_set view [] k p = refl
+images_set view (r ∷ ps) zero p = refl
+images_set view (r ∷ ps) (suc k) p = ap (λ (is : List Images). images_of view r ∷ is) (images_set view ps k p)
 
-pub images_here : {D : Type 0} (image_at : D → ℕ → Option Image) (moment : D → ℕ) (ps : List (Pair D)) (k : ℕ) (p : Pair D) → slice_get ps k ≡ Some p → slice_get (images image_at moment ps) k ≡ Some (images_of image_at moment p)
-images_here image_at moment [] k p e = absurd cc
-images_here image_at moment (r ∷ ps) zero p e = let same : r ≡ p = cc in ap (λ (z : Pair _). Some (images_of image_at moment z)) same
-images_here image_at moment (r ∷ ps) (suc k) p e = images_here image_at moment ps k p e
+pub images_here : {D : Type 0} (view : D → DiskView) (ps : List (Pair D)) (k : ℕ) (p : Pair D) → slice_get ps k ≡ Some p → slice_get (images view ps) k ≡ Some (images_of view p)
+images_here view [] k p e = absurd cc
+images_here view (r ∷ ps) zero p e = let same : r ≡ p = cc in ap (λ (z : Pair _). Some (images_of view z)) same
+images_here view (r ∷ ps) (suc k) p e = images_here view ps k p e
 
-pub images_length : {D : Type 0} (image_at : D → ℕ → Option Image) (moment : D → ℕ) (ps : List (Pair D)) → length (images image_at moment ps) ≡ length ps
-images_length image_at moment [] = refl
-images_length image_at moment (r ∷ ps) = ap suc (images_length image_at moment ps)
+pub images_length : {D : Type 0} (view : D → DiskView) (ps : List (Pair D)) → length (images view ps) ≡ length ps
+images_length view [] = refl
+images_length view (r ∷ ps) = ap suc (images_length view ps)
 
 -- a pair at its position
 pub pair_here : (is : List Images) (k : ℕ) (q : Images) → slice_get is k ≡ Some q → images_at is k ≡ q
 pair_here is k q e = ap images_or_none e
 
 -- so the images of its disks
-pub own_images : {D : Type 0} (image_at : D → ℕ → Option Image) (moment : D → ℕ) (ps : List (Pair D)) (k : ℕ) (p : Pair D) → slice_get ps k ≡ Some p → (slot : ℕ) → k ≡ slot → images_at (images image_at moment ps) slot ≡ images_of image_at moment p
-own_images image_at moment ps k p pair slot place = ap (images_at (images image_at moment ps)) (sym place) ∙ pair_here (images image_at moment ps) k (images_of image_at moment p) (images_here image_at moment ps k p pair)
+pub own_images : {D : Type 0} (view : D → DiskView) (ps : List (Pair D)) (k : ℕ) (p : Pair D) → slice_get ps k ≡ Some p → (slot : ℕ) → k ≡ slot → images_at (images view ps) slot ≡ images_of view p
+own_images view ps k p pair slot place = ap (images_at (images view ps)) (sym place) ∙ pair_here (images view ps) k (images_of view p) (images_here view ps k p pair)
 
 pub pair_there : (is : List Images) (k : ℕ) → k < length is → slice_get is k ≡ Some (images_at is k)
 pair_there [] k below = absurd (omega (arith, below))

@@ -4,15 +4,16 @@ use Rattle.std.proofs.lemmas.Option.{slice_get_within}
 use Rattle.spl_edge.specs.Image.{Image}
 use Rattle.spl_edge.specs.Picks.{Picked}
 use Rattle.spl_edge.specs.declared.bench.Pair.{Pair}
-use Rattle.spl_edge.specs.declared.disk.Armed.{Armed}
 use Rattle.spl_edge.specs.declared.disk.Arming.{Arming}
 use Rattle.spl_edge.specs.declared.disk.Arming.TheVariants.{Off}
 use Rattle.spl_edge.specs.declared.fill.Fill.{Fill}
 use Rattle.spl_edge.specs.declared.fill.Fill.TheVariants.{Old}
+use Rattle.spl_edge.specs.Views.{image_now, DiskView, PairView, pair_view, bench}
+use Rattle.spl_node.specs.Stopping.{PicksArmed}
 use Rattle.spl_node.specs.Hosts.{PicksOld}
-use Rattle.spl_snapshot.specs.Counting.{IfBoth, chosen, second_counts}
-use Rattle.spl_world.specs.Disks.{DiskView, HasRisen, IsPairUnarmed, IsUnarmed, NoneForgotten, PairView, RoseAt, bench, pair_view}
-use Rattle.spl_world.specs.Held.{HasArmedPick, HavePicked, HigherAt, OtherPicksHigher, PicksHigher, StopsAt, image_now}
+use Rattle.spl_snapshot.specs.Counting.{IfBoth, chosen, second_counts, HasRisen}
+use Rattle.spl_world.specs.Disks.{IsPairUnarmed, IsUnarmed, NoneForgotten, RoseAt}
+use Rattle.spl_world.specs.Held.{HavePicked, HigherAt, OtherPicksHigher, PicksHigher, StopsAt}
 use Rattle.spl_world.proofs.Leaving.{bench_here, bench_set, rose_at, same_there}
 use Rattle.spl_world.proofs.Slots.{set_cases, set_else, set_here, set_length, set_same}
 
@@ -29,7 +30,7 @@ chosen_same true x = refl
 chosen_same false x = refl
 
 -- a disk that wasn't armed picked what was synced
-plain : (b : Bool) (x y : DiskView) → IsUnarmed x → PicksOld x.image_at y.image_at x.moment y.moment x.faults y.faults x.armed y.armed x.picks y.picks → HasArmedPick Old (chosen b Off Off) x y
+plain : (b : Bool) (x y : DiskView) → IsUnarmed x → PicksOld x y → PicksArmed Old (chosen b Off Off) x y
 plain b x y off one = record {
   image = one.picks.image.synced;
   kept = one.picks.kept ∙ ap (λ (a : Arming). more a x.faults) (off ∙ sym (chosen_same b Off)) ∙ ap (λ (f : ℕ). more (chosen b Off Off) f) (sym one.faults_stay);
@@ -43,8 +44,8 @@ plain b x y off one = record {
     more : Arming → ℕ → List Picked
     more a f = x.picks ++ record { image = one.picks.image.synced; fill = Old; arming = a; faults = f } ∷ []
 
-pub plain_picks : (p q : PairView) → IsPairUnarmed p → PicksOld p.first.image_at q.first.image_at p.first.moment q.first.moment p.first.faults q.first.faults p.first.armed q.first.armed p.first.picks q.first.picks
-    → PicksOld p.second.image_at q.second.image_at p.second.moment q.second.moment p.second.faults q.second.faults p.second.armed q.second.armed p.second.picks q.second.picks → HavePicked None p q
+pub plain_picks : (p q : PairView) → IsPairUnarmed p → PicksOld p.first q.first
+    → PicksOld p.second q.second → HavePicked None p q
 plain_picks p q off one other =
     let b = counting (image_now p.first) (image_now p.second) in
     record { second = b.0; counts = b.1; first_is = plain b.0 p.first q.first off.0 one; second_is = plain b.0 p.second q.second off.1 other }
@@ -52,10 +53,10 @@ plain_picks p q off one other =
 -- ---- a stop in a checkpoint
 
 -- a disk that failed before it picked
-higher : (fill : Fill) (arming : Arming) (x y : DiskView) → HasArmedPick fill arming x y → x.faults < y.faults → PicksHigher x y
+higher : (fill : Fill) (arming : Arming) (x y : DiskView) → PicksArmed fill arming x y → x.faults < y.faults → PicksHigher x y
 higher fill arming x y one rose = record { pick = record { image = one.image; fill = fill; arming = arming; faults = y.faults }; picks = one.kept; higher = rose }
 
-pub other_higher : (p q : PairView) (second : Bool) (fill : Fill) (k l : Arming) → IfBoth (image_now p.first) (image_now p.second) (λ i j. second_counts i.bytes j.bytes ≡ second) → HasArmedPick fill k p.first q.first → HasArmedPick fill l p.second q.second
+pub other_higher : (p q : PairView) (second : Bool) (fill : Fill) (k l : Arming) → IfBoth (image_now p.first) (image_now p.second) (λ i j. second_counts i.bytes j.bytes ≡ second) → PicksArmed fill k p.first q.first → PicksArmed fill l p.second q.second
     → (chosen second p.second p.first).faults < (chosen second q.second q.first).faults → OtherPicksHigher p q
 other_higher p q second fill k l counts one other rose = go (image_now p.first) (image_now p.second) counts
   where
@@ -114,24 +115,24 @@ stops_none P up k xs down = record { as_many = refl; others = λ i off. refl; pi
 -- ---- by the pair itself
 
 -- the count of the disk that doesn't count, as it is told
-pub count_seen : {D : Type 0} (image_at : D → ℕ → Option Image) (moment faults : D → ℕ) (armed : D → Armed) (picks : D → List Picked) (second : Bool) (p r : Pair D) → faults (chosen second p.second p.first) < faults (chosen second r.second r.first)
-    → (chosen second (pair_view image_at moment faults armed picks p).second (pair_view image_at moment faults armed picks p).first).faults < (chosen second (pair_view image_at moment faults armed picks r).second (pair_view image_at moment faults armed picks r).first).faults
-count_seen image_at moment faults armed picks true p r h = h
-count_seen image_at moment faults armed picks false p r h = h
+pub count_seen : {D : Type 0} (view : D → DiskView) (second : Bool) (p r : Pair D) → (view (chosen second p.second p.first)).faults < (view (chosen second r.second r.first)).faults
+    → (chosen second (pair_view view p).second (pair_view view p).first).faults < (chosen second (pair_view view r).second (pair_view view r).first).faults
+count_seen view true p r h = h
+count_seen view false p r h = h
 
-module _ {D : Type 0} (image_at : D → ℕ → Option Image) (moment faults : D → ℕ) (armed : D → Armed) (picks : D → List Picked) (ps : List (Pair D)) (k : ℕ) (p r : Pair D) (pair : slice_get ps k ≡ Some p) where
+module _ {D : Type 0} (view : D → DiskView) (ps : List (Pair D)) (k : ℕ) (p r : Pair D) (pair : slice_get ps k ≡ Some p) where
   abbrev told : List (Pair D) → List PairView
-  told qs = bench image_at moment faults armed picks qs
+  told qs = bench view qs
 
   abbrev one : Pair D → PairView
-  one q = pair_view image_at moment faults armed picks q
+  one q = pair_view view q
 
   there : slice_get (told ps) k ≡ Some (one p)
-  there = bench_here image_at moment faults armed picks ps k p pair
+  there = bench_here view ps k p pair
 
   -- what is said of all pairs behind the write
   behind : (P : List PairView → Type 0) → P (slice_set (told ps) k (one r)) → P (told (slice_set ps k r))
-  behind P h = subst P (sym (bench_set image_at moment faults armed picks ps k r)) h
+  behind P h = subst P (sym (bench_set view ps k r)) h
 
   pub one_stops : (P : PairView → PairView → Type 0) (up : Bool) (position : ℕ) → k ≡ position → (up ≡ true → P (one p) (one r)) → (up ≡ false → r ≡ p) → StopsAt P up position (told ps) (told (slice_set ps k r))
   one_stops P up position place picked none = subst (λ (n : ℕ). StopsAt P up n (told ps) (told (slice_set ps k r))) place
@@ -141,7 +142,7 @@ module _ {D : Type 0} (image_at : D → ℕ → Option Image) (moment faults : D
   pub one_higher : (position : ℕ) → k ≡ position → OtherPicksHigher (one p) (one r) → HigherAt position (told ps) (told (slice_set ps k r))
   one_higher position place h = (one_stops OtherPicksHigher true position place (λ u. h) (λ down. absurd (true≢false down))).picks refl
 
-  pub one_forgets : faults p.first ≤ faults r.first → faults p.second ≤ faults r.second → NoneForgotten (told ps) (told (slice_set ps k r))
+  pub one_forgets : (view p.first).faults ≤ (view r.first).faults → (view p.second).faults ≤ (view r.second).faults → NoneForgotten (told ps) (told (slice_set ps k r))
   one_forgets a b = behind (NoneForgotten (told ps)) (forgets_one (told ps) k (one p) (one r) there a b)
 
   pub one_rose : (position : ℕ) → k ≡ position → HasRisen (one p) (one r) → RoseAt position (told ps) (told (slice_set ps k r))

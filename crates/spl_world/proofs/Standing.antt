@@ -9,7 +9,8 @@ use Rattle.spl_sched.specs.declared.line.Step.{Step}
 use Rattle.spl_sched.specs.declared.line.Line.{Line}
 use Rattle.spl_sched.specs.declared.line.Line.TheVariants as line
 use Rattle.spl_sched.specs.Grammar.{circuit_of, step_circuit, is_line}
-use Rattle.spl_model.specs.Worlds.{World as CircuitWorld, step_plan}
+use Rattle.spl_model.specs.Origins.{is-blank}
+use Rattle.spl_model.specs.Worlds.{blank, World as CircuitWorld, step_plan}
 use Rattle.spl_model.specs.Projection.{Ran, lines_fit, names, names_circuit}
 use Rattle.spl_model.specs.Outcomes.{by_rule, keeps_record}
 use Rattle.spl_model.specs.Answers.{line_world, answer_to, line_answer, roll_answer}
@@ -38,17 +39,17 @@ pub fits_after : (before : List Ran) (l : Line) → lines_fit before ≡ true �
 fits_after before l h k = fit-append before (by_rule l ∷ []) h (rw k)
 
 -- the events of lines, and of one more, which are so many in the world behind all lines
-pub events_after : (old : World) (was : List Images) (before : List Ran) (l : Line) (n : ℕ) → Stands before old was → is_line l ≡ true → line_events (λ c. whole_world (ids_of old) c before) l ≡ n → events_of (ids_of old) (before ++ by_rule l ∷ []) ≡ old.events + n
+pub events_after : (old : World) (was : List Images) (before : List Ran) (l : Line) (n : ℕ) → Stands before old was → is_line l ≡ true → line_events (λ c. whole_world (blank (ids_of old)) c before) l ≡ n → events_of (blank (ids_of old)) (before ++ by_rule l ∷ []) ≡ old.events + n
 events_after old was before l n stands fits e =
-    events-more (ids_of old) before (by_rule l) (fits_after before l stands.fit fits)
-    ∙ ap (λ (k : ℕ). k + line_events (λ c. whole_world (ids_of old) c before) l) (sym stands.counted) ∙ ap (λ (k : ℕ). old.events + k) e
+    events-more (blank (ids_of old)) before (by_rule l) (is-blank (ids_of old)) (fits_after before l stands.fit fits)
+    ∙ ap (λ (k : ℕ). k + line_events (λ c. whole_world (blank (ids_of old)) c before) l) (sym stands.counted) ∙ ap (λ (k : ℕ). old.events + k) e
 
 -- they are counted
-pub counted_line : (new : ℕ) (old : World) (was : List Images) (before : List Ran) (l : Line) (n : ℕ) → Stands before old was → is_line l ≡ true → line_events (λ c. whole_world (ids_of old) c before) l ≡ n → new + 0 ≡ old.events + n → new ≡ events_of (ids_of old) (before ++ by_rule l ∷ [])
+pub counted_line : (new : ℕ) (old : World) (was : List Images) (before : List Ran) (l : Line) (n : ℕ) → Stands before old was → is_line l ≡ true → line_events (λ c. whole_world (blank (ids_of old)) c before) l ≡ n → new + 0 ≡ old.events + n → new ≡ events_of (blank (ids_of old)) (before ++ by_rule l ∷ [])
 counted_line new old was before l n stands fits e k = let sum : new ≡ old.events + n = omega (arith, k) in sum ∙ sym (events_after old was before l n stands fits e)
 
 -- or they are too many
-pub over_line : {A : Type 0} (r : Result A WorldFault) (new which : ℕ) (old : World) (was : List Images) (before : List Ran) (l : Line) (n : ℕ) → Stands before old was → is_line l ≡ true → line_events (λ c. whole_world (ids_of old) c before) l ≡ n → Counts r old.events new 0 n → IsErrOf r (TooMany which) → (which ≡ 1) × (MOST_EVENTS < events_of (ids_of old) (before ++ by_rule l ∷ []))
+pub over_line : {A : Type 0} (r : Result A WorldFault) (new which : ℕ) (old : World) (was : List Images) (before : List Ran) (l : Line) (n : ℕ) → Stands before old was → is_line l ≡ true → line_events (λ c. whole_world (blank (ids_of old)) c before) l ≡ n → Counts r old.events new 0 n → IsErrOf r (TooMany which) → (which ≡ 1) × (MOST_EVENTS < events_of (blank (ids_of old)) (before ++ by_rule l ∷ []))
 over_line r new which old was before l n stands fits e k q =
     let p = k.many which q in
     let over : MOST_EVENTS < old.events + n = omega (arith, p.1) in
@@ -63,34 +64,34 @@ pub no_stop : (before : List Ran) (r : Ran) (old new : ℕ) → line_stops r.lin
 no_stop before r old new none same e = let more = stops_after before r in omega (arith, more, none, same, e)
 
 -- a line of a circuit moved its world, and no other, and was counted
-pub stands_after : (before : List Ran) (l : Line) (c : CircuitId) (old new : World) (was is : List Images) → circuit_of l ≡ Some c → is_line l ≡ true → ((w : CircuitWorld) → world_beside w l ≡ w) → line_stops l ≡ 0 → new.stops ≡ old.stops → ids_of new ≡ ids_of old → Stands before old was → new.events ≡ events_of (ids_of old) (before ++ by_rule l ∷ []) → Moves c (λ m. line_world m l (keeps_record l)) (over old was) (over new is) → Sits (over new is) → Stands (before ++ by_rule l ∷ []) new is
+pub stands_after : (before : List Ran) (l : Line) (c : CircuitId) (old new : World) (was is : List Images) → circuit_of l ≡ Some c → is_line l ≡ true → ((w : CircuitWorld) → world_beside w l ≡ w) → line_stops l ≡ 0 → new.stops ≡ old.stops → ids_of new ≡ ids_of old → Stands before old was → new.events ≡ events_of (blank (ids_of old)) (before ++ by_rule l ∷ []) → Moves c (λ m. line_world m l (keeps_record l)) (over old was) (over new is) → Sits (over new is) → Stands (before ++ by_rule l ∷ []) new is
 stands_after before l c old new was is about fits still none stops ids stands counted moves sits = record {
   fit = fits_after before l stands.fit fits;
-  counted = counted ∙ ap (λ (ns : List NodeId). events_of ns (before ++ by_rule l ∷ [])) (sym ids);
+  counted = counted ∙ ap (λ (ns : List NodeId). events_of (blank ns) (before ++ by_rule l ∷ [])) (sym ids);
   stopped = no_stop before (by_rule l) old.stops new.stops none stops stands.stopped;
-  each = λ d. subst (λ (ns : List NodeId). Holds d (whole_world ns d (before ++ by_rule l ∷ [])) (over new is)) (sym ids) (go d (bool_cases (bytes_eq c d)));
+  each = λ d. subst (λ (ns : List NodeId). Holds d (whole_world (blank ns) d (before ++ by_rule l ∷ [])) (over new is)) (sym ids) (go d (bool_cases (bytes_eq c d)));
   sits = sits;
 }
   where
     ns : List NodeId
     ns = ids_of old
 
-    go : (d : CircuitId) → (bytes_eq c d ≡ true) ⊎ (bytes_eq c d ≡ false) → Holds d (whole_world ns d (before ++ by_rule l ∷ [])) (over new is)
+    go : (d : CircuitId) → (bytes_eq c d ≡ true) ⊎ (bytes_eq c d ≡ false) → Holds d (whole_world (blank ns) d (before ++ by_rule l ∷ [])) (over new is)
     go d (inl q) =
         let hit : names d l ≡ true = ap (names_circuit d) about ∙ q in
-        subst (λ (m : CircuitWorld). Holds d m (over new is)) (sym (moves-own ns before (by_rule l) d hit))
-        (subst (λ (e : NodeId). Holds e (line_world (whole_world ns e before) l (keeps_record l)) (over new is)) (bytes_are c d q) (moves.own (whole_world ns c before) (stands.each c)))
+        subst (λ (m : CircuitWorld). Holds d m (over new is)) (sym (moves-own (blank ns) before (by_rule l) d hit))
+        (subst (λ (e : NodeId). Holds e (line_world (whole_world (blank ns) e before) l (keeps_record l)) (over new is)) (bytes_are c d q) (moves.own (whole_world (blank ns) c before) (stands.each c)))
     go d (inr q) =
         let miss : names d l ≡ false = ap (names_circuit d) about ∙ q in
-        subst (λ (m : CircuitWorld). Holds d m (over new is)) (sym (moves-beside ns before (by_rule l) d miss ∙ still (whole_world ns d before))) (moves.others d (whole_world ns d before) q (stands.each d))
+        subst (λ (m : CircuitWorld). Holds d m (over new is)) (sym (moves-beside (blank ns) before (by_rule l) d miss ∙ still (whole_world (blank ns) d before))) (moves.others d (whole_world (blank ns) d before) q (stands.each d))
 
 -- whether the world is halted says nothing of what stands
 pub stands_still : (before : List Ran) (w : World) (is : List Images) (b : Bool) → Stands before w is → Stands before (record w { halted = b }) is
 stands_still before w is b stands = record { fit = stands.fit; counted = stands.counted; stopped = stands.stopped; each = stands.each; sits = stands.sits }
 
 -- lines that stand are within the limit
-pub within_line : (before : List Ran) (w : World) (is : List Images) (ns : List NodeId) → ids_of w ≡ ns → Stands before w is → w.events ≤ MOST_EVENTS → events_of ns before ≤ MOST_EVENTS
-within_line before w is ns ids stands within = subst (λ (xs : List NodeId). events_of xs before ≤ MOST_EVENTS) ids (subst (λ (k : ℕ). k ≤ MOST_EVENTS) stands.counted within)
+pub within_line : (before : List Ran) (w : World) (is : List Images) (ns : List NodeId) → ids_of w ≡ ns → Stands before w is → w.events ≤ MOST_EVENTS → events_of (blank ns) before ≤ MOST_EVENTS
+within_line before w is ns ids stands within = subst (λ (xs : List NodeId). events_of (blank xs) before ≤ MOST_EVENTS) ids (subst (λ (k : ℕ). k ≤ MOST_EVENTS) stands.counted within)
 
 pub within_stops : (before : List Ran) (w : World) (is : List Images) → Stands before w is → w.stops ≤ MOST_STOPS → stops_of before ≤ MOST_STOPS
 within_stops before w is stands within = subst (λ (k : ℕ). k ≤ MOST_STOPS) stands.stopped within
@@ -125,21 +126,21 @@ limit_is (Ok b) f n which e is q = absurd e.1
 limit_is (Err y) f n which e is q = let same : y ≡ f = e.1 in cc
 
 -- a line that starts or stops a node is answered so
-pub power_answered : (ns : List NodeId) (before : List Ran) (l : Line) → lines_fit before ≡ true → is_line l ≡ true → answer_to ns before (by_rule l) ≡ line_answer (λ c. whole_world ns c before) (λ n. roll_answer ns (before ++ by_rule l ∷ []) n) l (keeps_record l)
-power_answered ns before l fit fits = answer-whole ns before (by_rule l) (fits_after before l fit fits)
+pub power_answered : (ns : List NodeId) (before : List Ran) (l : Line) → lines_fit before ≡ true → is_line l ≡ true → answer_to (blank ns) before (by_rule l) ≡ line_answer (λ c. whole_world (blank ns) c before) (λ n. roll_answer (blank ns) (before ++ by_rule l ∷ []) n) l (keeps_record l)
+power_answered ns before l fit fits = answer-whole (blank ns) before (by_rule l) (is-blank ns) (fits_after before l fit fits)
 
 -- a step is answered in the world of its circuit
-pub step_answered : (ns : List NodeId) (before : List Ran) (s : Step) → lines_fit (before ++ by_rule (line.Step s) ∷ []) ≡ true → answer_to ns before (by_rule (line.Step s)) ≡ (step_plan (whole_world ns (step_circuit s) before) s).answer
-step_answered ns before s fits = answer-whole ns before (by_rule (line.Step s)) fits
+pub step_answered : (ns : List NodeId) (before : List Ran) (s : Step) → lines_fit (before ++ by_rule (line.Step s) ∷ []) ≡ true → answer_to (blank ns) before (by_rule (line.Step s)) ≡ (step_plan (whole_world (blank ns) (step_circuit s) before) s).answer
+step_answered ns before s fits = answer-whole (blank ns) before (by_rule (line.Step s)) (is-blank ns) fits
 
 -- so is the result of one
-pub step_result : {E : Type 0} (r : Result Answer E) (ns : List NodeId) (before : List Ran) (l : Line) (s : Step) → l ≡ line.Step s → lines_fit before ≡ true → is_line l ≡ true → IfOk r (λ a. a ≡ (step_plan (whole_world ns (step_circuit s) before) s).answer) → IfOk r (λ a. a ≡ answer_to ns before (by_rule l))
+pub step_result : {E : Type 0} (r : Result Answer E) (ns : List NodeId) (before : List Ran) (l : Line) (s : Step) → l ≡ line.Step s → lines_fit before ≡ true → is_line l ≡ true → IfOk r (λ a. a ≡ (step_plan (whole_world (blank ns) (step_circuit s) before) s).answer) → IfOk r (λ a. a ≡ answer_to (blank ns) before (by_rule l))
 step_result r ns before l s is fit fits told =
-    subst (λ (x : Line). IfOk r (λ a. a ≡ answer_to ns before (by_rule x))) (sym is)
+    subst (λ (x : Line). IfOk r (λ a. a ≡ answer_to (blank ns) before (by_rule x))) (sym is)
     (when_ok r (λ a e. e ∙ sym (step_answered ns before s (fits_after before (line.Step s) fit (subst (λ (x : Line). is_line x ≡ true) is fits)))) told)
 
 -- a calm is answered with its passes
-pub calm_answered : (ns : List NodeId) (before : List Ran) (l : Line) (c : CircuitId) (k : ℕ) → l ≡ line.Calm c k → lines_fit before ≡ true → is_line l ≡ true → answer.Calm k ≡ answer_to ns before (by_rule l)
+pub calm_answered : (ns : List NodeId) (before : List Ran) (l : Line) (c : CircuitId) (k : ℕ) → l ≡ line.Calm c k → lines_fit before ≡ true → is_line l ≡ true → answer.Calm k ≡ answer_to (blank ns) before (by_rule l)
 calm_answered ns before l c k is fit fits =
-    subst (λ (x : Line). answer.Calm k ≡ answer_to ns before (by_rule x)) (sym is)
-    (sym (answer-whole ns before (by_rule (line.Calm c k)) (fits_after before (line.Calm c k) fit (subst (λ (x : Line). is_line x ≡ true) is fits))))
+    subst (λ (x : Line). answer.Calm k ≡ answer_to (blank ns) before (by_rule x)) (sym is)
+    (sym (answer-whole (blank ns) before (by_rule (line.Calm c k)) (is-blank ns) (fits_after before (line.Calm c k) fit (subst (λ (x : Line). is_line x ≡ true) is fits))))

@@ -3,6 +3,7 @@ use Rattle.std.proofs.Common.{ℕ, zero, suc, ◌<◌, ◌≤◌, List, [], ◌�
 use Rattle.std.specs.Prelude.{IsSome}
 use Rattle.spl_edge.specs.Image.{Image}
 use Rattle.spl_edge.specs.declared.bench.Pair.{Pair}
+use Rattle.spl_edge.specs.Views.{image_now, DiskView}
 use Rattle.spl_world.specs.Disks.{AllTell, Images, Tell, TellAs, images, images_at}
 
 -- disks that tell as others did, which told
@@ -10,11 +11,11 @@ pub told_as : (is js : Images) → TellAs is js → Tell is → Tell js
 told_as is js same h = (same.0 ∙ h.0, same.1 ∙ h.1)
 
 -- of disks each of which tells all pairs do
-module _ {D : Type 0} (image_at : D → ℕ → Option Image) (moment : D → ℕ) (tells : (d : D) → IsSome (image_at d (moment d))) where
-  each_tells : (ps : List (Pair D)) (i : ℕ) → i < length ps → Tell (images_at (images image_at moment ps) i)
+module _ {D : Type 0} (view : D → DiskView) (tells : (d : D) → IsSome (image_now (view d))) where
+  each_tells : (ps : List (Pair D)) (i : ℕ) → i < length ps → Tell (images_at (images view ps) i)
   each_tells [] i below = absurd (omega (arith, below))
   each_tells (p ∷ ps) zero below = (tells p.first, tells p.second)
   each_tells (p ∷ ps) (suc i) below = let rest : i < length ps = omega (arith, below) in each_tells ps i rest
 
-  pub all_tell : (ps : List (Pair D)) (n : ℕ) → n ≤ length ps → AllTell n (images image_at moment ps)
+  pub all_tell : (ps : List (Pair D)) (n : ℕ) → n ≤ length ps → AllTell n (images view ps)
   all_tell ps n few i below = let within : i < length ps = omega (arith, few, below) in each_tells ps i within

@@ -6,7 +6,7 @@ use Rattle.spl_circuit.specs.Nodes.{NodeId, CircuitId}
 use Rattle.spl_circuit.specs.Rules.{ascends}
 use Rattle.spl_sched.specs.declared.line.Step.TheVariants as step
 use Rattle.spl_wire.specs.declared.event.Event.TheVariants as event
-use Rattle.spl_model.specs.Worlds.{World as CircuitWorld, first_world, messages, step_world}
+use Rattle.spl_model.specs.Worlds.{World as CircuitWorld, empty_world, messages, step_world}
 use Rattle.spl_model.specs.Calm.{Calming, calming_step, delivers, ticks, pair_turn, to_all, from_all}
 use Rattle.spl_model.proofs.Quiet.{turn-length}
 use Rattle.spl_world.specs.Views.{Nodes, Holds, Moves}
@@ -221,4 +221,4 @@ rows_same f g ids rows h k i a r at e = k i a r at e ∙ row_same f g a ids (h a
 
 -- any state of a calm with these numbers
 abbrev pub some_calming : ℕ → Calming
-some_calming t = record { world = first_world []; taken = λ a b. t; happened = [] }
+some_calming t = record { world = empty_world []; taken = λ a b. t; happened = [] }

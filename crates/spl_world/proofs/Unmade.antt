@@ -3,13 +3,12 @@ use Rattle.std.proofs.Common.{◌≡◌, ◌⊎◌, inl, inr, ⊎_elim, ℕ, zer
 use Rattle.std.proofs.lemmas.Bool.{cases_eq}
 use Rattle.spl_circuit.specs.Nodes.{NodeId}
 use Rattle.spl_edge.specs.Image.{Image}
-use Rattle.spl_edge.specs.Picks.{Picked}
 use Rattle.spl_edge.specs.declared.bench.Pair.{Pair}
-use Rattle.spl_edge.specs.declared.disk.Armed.{Armed}
+use Rattle.spl_edge.specs.Views.{DiskView, PairView, bench}
 use Rattle.spl_node.specs.Hosts.{HostStands}
 use Rattle.spl_registry.specs.Nodes.{Entry, node_at}
 use Rattle.spl_rules.specs.Cells.{Empty}
-use Rattle.spl_world.specs.Disks.{AllGoOn, Images, PairView, bench, images, images_at, images_of, images_or_none}
+use Rattle.spl_world.specs.Disks.{AllGoOn, Images, images, images_at, images_of, images_or_none}
 use Rattle.spl_world.specs.Held.{AllUnpicked}
 use Rattle.spl_world.specs.Making.{AreMadeBut, HoldNothing, images_now}
 use Rattle.spl_world.specs.Views.{node_view, slot_id}
@@ -72,17 +71,17 @@ module _ (es : List Entry) (ns : List NodeId) (m : ℕ) (ss : List Slot) (start 
 
 -- ---- the making of the next one
 
-module _ {D : Type 0} (image_at : D → ℕ → Option Image) (moment faults : D → ℕ) (armed : D → Armed) (picks : D → List Picked) where
+module _ {D : Type 0} (view : D → DiskView) where
   abbrev told : List (Pair D) → List PairView
-  told ps = bench image_at moment faults armed picks ps
+  told ps = bench view ps
 
   abbrev kept : List (Pair D) → List Images
-  kept ps = images image_at moment ps
+  kept ps = images view ps
 
   -- it changes no other disk
   pub else_still : (ps : List (Pair D)) (one : ℕ) (r : Pair D) (k : ℕ) → (k ≡ one → ⊥) → images_at (kept (slice_set ps one r)) k ≡ images_at (kept ps) k
   else_still ps one r k off =
-      ap (λ (is : List Images). images_at is k) (images_set image_at moment ps one r) ∙ ap images_or_none (set_else (kept ps) one k (images_of image_at moment r) (λ same. off (sym same)))
+      ap (λ (is : List Images). images_at is k) (images_set view ps one r) ∙ ap images_or_none (set_else (kept ps) one k (images_of view r) (λ same. off (sym same)))
 
   -- and ends with an error
   pub made_but : (ids : List NodeId) (es : List Entry) (ns : List NodeId) (m : ℕ) (ss : List Slot) (e : WorldFault) (old ps new : List (Pair D)) → AreMade es ns m ss (kept old) (kept ps) → AllUnpicked (told old) → AllGoOn (told old) (told new)
@@ -92,8 +91,8 @@ module _ {D : Type 0} (image_at : D → ℕ → Option Image) (moment faults : D
     one = one;
     named = named;
     others = λ k n s p at was there off.
-        let before = told_images image_at moment faults armed picks old k s was in
-        let behind = told_images image_at moment faults armed picks new k p there in
+        let before = told_images view old k s was in
+        let behind = told_images view new k p there in
         ⊎_elim
         (λ same. inl (sym behind ∙ still k off ∙ same ∙ before))
         (λ nothing. inr (subst (HoldNothing n) (sym (still k off) ∙ behind) nothing))

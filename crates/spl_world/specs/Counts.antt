@@ -1,6 +1,7 @@
 -- How a call counts the events of a line (docs/RULES.md, Limits).
 use Rattle.std.specs.Prelude.{◌≡◌, ◌⊎◌, ◌+◌, ◌<◌, ◌≤◌, ℕ, Bool, true, false, List, Result, OnOk, IsErrOf}
 use Rattle.spl_circuit.specs.Nodes.{NodeId}
+use Rattle.spl_model.specs.Worlds.{blank}
 use Rattle.spl_model.specs.declared.TheConstants.{MOST_EVENTS, MOST_STOPS}
 use Rattle.spl_model.specs.Counts.{events_of, stops_of}
 use Rattle.spl_model.specs.Projection.{Ran}
@@ -20,4 +21,4 @@ is_of_limit _ = false
 
 -- lines have more events than a run may, which is limit 1; or no more, and stop more often than it may, which is limit 2
 abbrev pub IsOver : List NodeId → List Ran → ℕ → Type 0
-IsOver ns rs which = ((which ≡ 1) × (MOST_EVENTS < events_of ns rs)) ⊎ ((which ≡ 2) × (events_of ns rs ≤ MOST_EVENTS) × (MOST_STOPS < stops_of rs))
+IsOver ns rs which = ((which ≡ 1) × (MOST_EVENTS < events_of (blank ns) rs)) ⊎ ((which ≡ 2) × (events_of (blank ns) rs ≤ MOST_EVENTS) × (MOST_STOPS < stops_of rs))

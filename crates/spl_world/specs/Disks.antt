@@ -1,14 +1,12 @@
 -- What the disks of the nodes tell, and how a call leaves them.
 use Rattle.std.specs.Prelude.{◌≡◌, ◌⊎◌, ◌<◌, ◌≤◌, ℕ, Bool, true, false, List, [], ◌∷◌, length, slice_get, Option, Some, None, Result, IsErrOf, IfSome}
-use Rattle.spl_edge.specs.Causes.{Rose}
 use Rattle.spl_edge.specs.Image.{Image}
-use Rattle.spl_edge.specs.Picks.{Picked}
+use Rattle.spl_edge.specs.Views.{DiskView, PairView, image_now}
 use Rattle.spl_edge.specs.declared.bench.Pair.{Pair}
-use Rattle.spl_edge.specs.declared.disk.Armed.{Armed}
 use Rattle.spl_edge.specs.declared.disk.Arming.TheVariants.{Off}
 use Rattle.spl_journal.specs.Make.{IsBlank}
 use Rattle.spl_node.specs.Hosts.{BothTell}
-use Rattle.spl_snapshot.specs.Counting.{Onward, TellsAs}
+use Rattle.spl_snapshot.specs.Counting.{HasRisen, PairOnward, TellsAs}
 use Rattle.spl_world.specs.declared.fault.WorldFault.{WorldFault}
 use Rattle.spl_world.specs.declared.fault.WorldFault.TheVariants.{Disk, NotAJournal}
 
@@ -16,13 +14,13 @@ use Rattle.spl_world.specs.declared.fault.WorldFault.TheVariants.{Disk, NotAJour
 abbrev pub Images : Type 0
 Images = Option Image × Option Image
 
-abbrev pub images_of : {D : Type 0} → (D → ℕ → Option Image) → (D → ℕ) → Pair D → Images
-images_of image_at moment p = (image_at p.first (moment p.first), image_at p.second (moment p.second))
+abbrev pub images_of : {D : Type 0} → (D → DiskView) → Pair D → Images
+images_of view p = (image_now (view p.first), image_now (view p.second))
 
 -- what each pair holds
-abbrev pub images : {D : Type 0} → (D → ℕ → Option Image) → (D → ℕ) → List (Pair D) → List Images
-images image_at moment [] = []
-images image_at moment (p ∷ ps) = images_of image_at moment p ∷ images image_at moment ps
+abbrev pub images : {D : Type 0} → (D → DiskView) → List (Pair D) → List Images
+images view [] = []
+images view (p ∷ ps) = images_of view p ∷ images view ps
 
 abbrev pub images_or_none : Option Images → Images
 images_or_none None = (None, None)
@@ -51,46 +49,12 @@ pub record AreBlank (is : Images) : Type 0 where
 
 -- ---- how a disk goes on
 
--- what a disk tells of itself
-pub record DiskView : Type 0 where
-  pub image_at : ℕ → Option Image
-  pub moment : ℕ
-  pub faults : ℕ
-  pub armed : Armed
-  pub picks : List Picked
-
-pub record PairView : Type 0 where
-  pub first : DiskView
-  pub second : DiskView
-
-abbrev pub disk_view : {D : Type 0} → (D → ℕ → Option Image) → (D → ℕ) → (D → ℕ) → (D → Armed) → (D → List Picked) → D → DiskView
-disk_view image_at moment faults armed picks d = record { image_at = image_at d; moment = moment d; faults = faults d; armed = armed d; picks = picks d }
-
-abbrev pub pair_view : {D : Type 0} → (D → ℕ → Option Image) → (D → ℕ) → (D → ℕ) → (D → Armed) → (D → List Picked) → Pair D → PairView
-pair_view image_at moment faults armed picks p = record { first = disk_view image_at moment faults armed picks p.first; second = disk_view image_at moment faults armed picks p.second }
-
--- what each pair tells
-abbrev pub bench : {D : Type 0} → (D → ℕ → Option Image) → (D → ℕ) → (D → ℕ) → (D → Armed) → (D → List Picked) → List (Pair D) → List PairView
-bench image_at moment faults armed picks [] = []
-bench image_at moment faults armed picks (p ∷ ps) = pair_view image_at moment faults armed picks p ∷ bench image_at moment faults armed picks ps
-
--- a disk went on: nothing of its past changed, no fault is forgotten, and it was neither armed nor picked from
-abbrev pub GoesOn : DiskView → DiskView → Type 0
-GoesOn x y = Onward x.image_at y.image_at x.moment y.moment x.faults y.faults x.armed y.armed x.picks y.picks
-
-pub record PairGoesOn (p q : PairView) : Type 0 where
-  pub first : GoesOn p.first q.first
-  pub second : GoesOn p.second q.second
-
--- so did all pairs
+-- all pairs went on: nothing of the past of a disk changed, no fault is forgotten, and none was armed or picked from
 pub record AllGoOn (old new : List PairView) : Type 0 where
   pub as_many : length new ≡ length old
-  pub each : (i : ℕ) (p q : PairView) → slice_get old i ≡ Some p → slice_get new i ≡ Some q → PairGoesOn p q
+  pub each : (i : ℕ) (p q : PairView) → slice_get old i ≡ Some p → slice_get new i ≡ Some q → PairOnward p q
 
--- a disk of the pair has failed more often
-abbrev pub HasRisen : PairView → PairView → Type 0
-HasRisen p q = Rose p.first.faults q.first.faults ⊎ Rose p.second.faults q.second.faults
-
+-- a disk of the pair at this position has failed more often
 pub record RoseAt (i : ℕ) (old new : List PairView) : Type 0 where
   pub below : i < length old
   pub rose : (p q : PairView) → slice_get old i ≡ Some p → slice_get new i ≡ Some q → HasRisen p q

@@ -8,9 +8,10 @@ use Rattle.spl_edge.specs.declared.disk.Arming.{Arming}
 use Rattle.spl_edge.specs.declared.disk.Arming.TheVariants.{Off}
 use Rattle.spl_edge.specs.declared.fill.Fill.{Fill}
 use Rattle.spl_edge.specs.declared.fill.Fill.TheVariants.{Old}
+use Rattle.spl_edge.specs.Views.{image_now, DiskView, PairView}
 use Rattle.spl_model.specs.Answers.{is_up}
 use Rattle.spl_model.specs.Projection.{Ran}
-use Rattle.spl_model.specs.Worlds.{World as CircuitWorld, step_plan}
+use Rattle.spl_model.specs.Worlds.{blank, World as CircuitWorld, step_plan}
 use Rattle.spl_node.specs.Stands.{StandFor}
 use Rattle.spl_node.specs.Stopping.{FillsHost, IsInCheckpoint, PicksArmed, counting_arming, other_arming, fill_of, passing}
 use Rattle.spl_node.specs.declared.stopping.Stopping.{Stopping}
@@ -23,14 +24,14 @@ use Rattle.spl_sched.specs.declared.line.Line.TheVariants as line
 use Rattle.spl_sched.specs.declared.line.Step.{Step}
 use Rattle.spl_sched.specs.Grammar.{step_circuit, step_node}
 use Rattle.spl_snapshot.specs.Counting.{chosen, second_counts, IfBoth}
-use Rattle.spl_world.specs.Disks.{DiskView, PairView, IsPairUnarmed, IsUnarmed, RoseAt}
+use Rattle.spl_world.specs.Disks.{IsPairUnarmed, IsUnarmed, RoseAt}
 use Rattle.spl_world.specs.Views.{Holds, Nodes, ids_of, places_of, slot_id, slot_up}
 use Rattle.spl_world.specs.declared.slot.Slot.{Slot}
 use Rattle.spl_world.specs.declared.world.World.{World}
 
 -- what a node keeps of each circuit behind these lines
 abbrev pub cells_behind : List NodeId → List Ran → NodeId → CircuitId → Cell
-cells_behind ns rs n c = (whole_world ns c rs).at n
+cells_behind ns rs n c = (whole_world (blank ns) c rs).at n
 
 -- ---- lines that stop a node
 
@@ -84,7 +85,7 @@ IsInCheckpointIn worlds _ x = ⊥
 
 -- so was that of a line behind these lines
 abbrev pub IsTorn : List NodeId → List Ran → Line → Type 0
-IsTorn ns before l = IsTornIn (λ c. whole_world ns c before) l
+IsTorn ns before l = IsTornIn (λ c. whole_world (blank ns) c before) l
 
 -- ---- picks
 
@@ -155,23 +156,16 @@ pub record HasPicked (ns : List NodeId) (rs : List Ran) (n : NodeId) (s p : Pair
 -- the disks of the node hold what it keeps behind these lines, and so did what they picked at its stops
 pub record IsHeld (ns : List NodeId) (rs : List Ran) (n : NodeId) (s p : PairView) : Type 0 where
   pub picked : HasPicked ns rs n s p
-  pub now : IfBoth (p.first.image_at p.first.moment) (p.second.image_at p.second.moment) (λ i j. StandFor n (cells_behind ns rs n) i.bytes j.bytes)
+  pub now : IfBoth (image_now p.first) (image_now p.second) (λ i j. StandFor n (cells_behind ns rs n) i.bytes j.bytes)
 
 -- ---- how disks are picked from
 
-abbrev pub image_now : DiskView → Option Image
-image_now x = x.image_at x.moment
-
--- a disk that was armed so picked with this fill, and isn't armed any more; nothing of its past changed, and no fault is forgotten
-abbrev pub HasArmedPick : Fill → Arming → DiskView → DiskView → Type 0
-HasArmedPick fill arming x y = PicksArmed fill arming x.image_at y.image_at x.moment y.moment x.faults y.faults y.armed x.picks y.picks
-
--- so did both disks of a node; `second` is whether the second disk counted
+-- both disks of a node picked, armed so, and aren't armed any more; `second` is whether the second disk counted
 pub record HavePicked (how : Option Stopping) (p q : PairView) : Type 0 where
   pub second : Bool
   pub counts : IfBoth (image_now p.first) (image_now p.second) (λ i j. second_counts i.bytes j.bytes ≡ second)
-  pub first_is : HasArmedPick (pick_fill how) (chosen second (armed_counting how) (armed_other how)) p.first q.first
-  pub second_is : HasArmedPick (pick_fill how) (chosen second (armed_other how) (armed_counting how)) p.second q.second
+  pub first_is : PicksArmed (pick_fill how) (chosen second (armed_counting how) (armed_other how)) p.first q.first
+  pub second_is : PicksArmed (pick_fill how) (chosen second (armed_other how) (armed_counting how)) p.second q.second
 
 -- a disk picked once more, and keeps with that a higher count of faults than it had
 pub record PicksHigher (x y : DiskView) : Type 0 where

@@ -5,10 +5,10 @@ use Rattle.std.specs.List.{list_any}
 use Rattle.std.specs.Option.{option_map_or}
 use Rattle.spl_circuit.specs.Nodes.{NodeId, CircuitId}
 use Rattle.spl_edge.specs.Causes.{Rose}
+use Rattle.spl_edge.specs.Views.{Streams, FabricView}
 use Rattle.spl_model.specs.Calm.{Calming, calm}
 use Rattle.spl_model.specs.Worlds.{World as CircuitWorld, Occurrence, Steps, happens, messages}
-use Rattle.spl_pump.specs.Moves.{Streams}
-use Rattle.spl_pump.specs.Wires.{AllTaken, Carried, GoesOn, LiesOf, Puts, PutsPart, Wire, is_on, only}
+use Rattle.spl_pump.specs.Wires.{AllTaken, CarryView, Carried, GoesOn, LiesOf, Puts, PutsPart, Wire, is_on, only}
 use Rattle.spl_pump.specs.declared.fault.PumpFault.{PumpFault}
 use Rattle.spl_pump.specs.declared.fault.PumpFault.TheVariants as pump
 use Rattle.spl_registry.specs.Nodes.{Entry, slot_of}
@@ -64,8 +64,8 @@ pub record LinkView : Type 0 where
   pub taken : Streams
   pub faults : ℕ
 
-abbrev pub link_view : {C F : Type 0} → (C → ℕ) → (C → Bool) → (C → Wire) → (F → Streams) → (F → Streams) → (F → ℕ) → C → F → LinkView
-link_view slots failed wire put taken faults c f = record { slots = slots c; failed = failed c; wire = wire c; put = put f; taken = taken f; faults = faults f }
+abbrev pub link_view : CarryView → FabricView → LinkView
+link_view c f = record { slots = c.slots; failed = c.failed; wire = c.wire; put = f.put; taken = f.taken; faults = f.faults }
 
 -- there is a slot for each of these places, no fault was answered, and all bytes put were taken
 pub record IsReady (places : List ℕ) (x : LinkView) : Type 0 where

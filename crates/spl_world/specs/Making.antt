@@ -1,12 +1,13 @@
 -- What the disks of the nodes of a registry hold where not all of them were made (docs/RULES.md, Journals).
 use Rattle.std.specs.Prelude.{◌≡◌, ◌⊎◌, ℕ, List, [], slice_get, Some}
+use Rattle.spl_edge.specs.Views.{image_now, PairView}
 use Rattle.spl_circuit.specs.Nodes.{NodeId}
 use Rattle.spl_node.specs.Stands.{StandFor}
 use Rattle.spl_registry.specs.Nodes.{Entry, node_at}
 use Rattle.spl_rules.specs.Cells.{Empty}
 use Rattle.spl_snapshot.specs.Counting.{IfBoth}
-use Rattle.spl_world.specs.Disks.{Images, PairView}
-use Rattle.spl_world.specs.Held.{HasPicked, image_now}
+use Rattle.spl_world.specs.Disks.{Images}
+use Rattle.spl_world.specs.Held.{HasPicked}
 use Rattle.spl_world.specs.declared.fault.WorldFault.{WorldFault}
 use Rattle.spl_world.specs.declared.fault.WorldFault.TheVariants.{Disk}
 

@@ -5,7 +5,8 @@ use Rattle.spl_circuit.specs.Nodes.{NodeId, CircuitId, has_node}
 use Rattle.spl_circuit.specs.Rules.{ascends}
 use Rattle.spl_edge.specs.Image.{Image}
 use Rattle.spl_edge.specs.declared.bench.Pair.{Pair}
-use Rattle.spl_model.specs.Worlds.{World as CircuitWorld, on_pair}
+use Rattle.spl_edge.specs.Views.{DiskView}
+use Rattle.spl_model.specs.Worlds.{blank, World as CircuitWorld, on_pair}
 use Rattle.spl_model.specs.Projection.{Ran, lines_fit}
 use Rattle.spl_model.specs.Counts.{events_of, stops_of}
 use Rattle.spl_node.specs.Hosts.{HostStands, host_id, host_cell, is_up}
@@ -85,8 +86,8 @@ abbrev pub over : World → List Images → Nodes
 over w is = record { slots = w.slots.items; disks = is }
 
 -- and over its pairs
-abbrev pub seen : {D : Type 0} → (D → ℕ → Option Image) → (D → ℕ) → World → List (Pair D) → Nodes
-seen image_at moment w ps = over w (images image_at moment ps)
+abbrev pub seen : {D : Type 0} → (D → DiskView) → World → List (Pair D) → Nodes
+seen view w ps = over w (images view ps)
 
 abbrev pub ids_in : Nodes → List NodeId
 ids_in xs = slot_ids xs.slots
@@ -135,9 +136,9 @@ pub record Holds (c : CircuitId) (m : CircuitWorld) (xs : Nodes) : Type 0 where
 -- what it sent to each other is what was sent in that world. Their events and their stops are counted. Each node stands over its own disks
 pub record Stands (before : List Ran) (w : World) (is : List Images) : Type 0 where
   pub fit : lines_fit before ≡ true
-  pub counted : w.events ≡ events_of (ids_of w) before
+  pub counted : w.events ≡ events_of (blank (ids_of w)) before
   pub stopped : w.stops ≡ stops_of before
-  pub each : (c : CircuitId) → Holds c (whole_world (ids_of w) c before) (over w is)
+  pub each : (c : CircuitId) → Holds c (whole_world (blank (ids_of w)) c before) (over w is)
   pub sits : Sits (over w is)
 
 -- the worlds of the other circuits stay

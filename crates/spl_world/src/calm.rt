@@ -2,13 +2,14 @@
 ghost use Rattle.std.specs.Prelude.{◌≡◌, ◌+◌, ◌-◌, ◌<◌, List, length, false, true, IfErr, IfOk, OnOk, ℕ, IsErrOf};
 ghost use Rattle.std.specs.List.{AllByRecursion};
 ghost use Rattle.std.specs.Str.{bytes_eq};
+ghost use Rattle.spl_edge.specs.Views.{bench};
 ghost use Rattle.spl_circuit.specs.Nodes.{NodeId as Id};
 ghost use Rattle.spl_model.specs.Worlds.{World as CircuitWorld};
 ghost use Rattle.spl_model.specs.Calm.{Calming, calming, ticks, open_nodes, delivers, pair_turn, to_all, from_all, pass, calm};
 ghost use Rattle.spl_model.specs.Quiet.{IsIdleAt, IsQuiet};
 ghost use Rattle.spl_world.specs.Calms.{tick_at, tick_count, IsIdleTick, AreRows, IsSquare, row_of, sent_count};
 ghost use Rattle.spl_world.specs.Counts.{Counts};
-ghost use Rattle.spl_world.specs.Disks.{Images, LeavesDisks, bench, images, is_of_journal};
+ghost use Rattle.spl_world.specs.Disks.{Images, LeavesDisks, images, is_of_journal};
 ghost use Rattle.spl_world.specs.Ended.{EventEnds, PartEnds};
 ghost use Rattle.spl_world.specs.Links.{Delivers, IsReady, PartDelivers, Places, carried_in, is_of_links, link_view};
 ghost use Rattle.spl_world.specs.Links.{LeavesLinks};
@@ -27,7 +28,8 @@ impl World {
     fn row(&self, alloc: Global, circuit: &CircuitId, from: usize) -> Result<Vec<usize>, AllocError>
         requires below { from < length self.now.slots.items }
         ensures wide { IfOk result (λ r. length r.items ≡ length self.now.slots.items) }
-        ensures counts { (is : List Images) (m : CircuitWorld) (a : Id) → Holds circuit.now m (over self.now is) → IsAt self.now from a → IfOk result (λ r. r.items ≡ row_of (sent_count m) a (ids_of self.now)) }
+        ensures counts { (is : List Images) (m : CircuitWorld) (a : Id) → Holds circuit.now m (over self.now is) → IsAt self.now from a
+            → IfOk result (λ r. r.items ≡ row_of (sent_count m) a (ids_of self.now)) }
     {
         let mut row = Vec::with_capacity(alloc, self.len())?;
         if self.slots[from].is_silent(circuit) {
@@ -43,7 +45,8 @@ impl World {
     // The same for all nodes.
     fn rows(&self, alloc: Global, circuit: &CircuitId) -> Result<Vec<Vec<usize>>, AllocError>
         ensures square { IfOk result (λ rs. IsSquare (length self.now.slots.items) rs.items) }
-        ensures counts { (is : List Images) (m : CircuitWorld) → Holds circuit.now m (over self.now is) → IfOk result (λ rs. AreRows (sent_count m) (ids_of self.now) rs.items) }
+        ensures counts { (is : List Images) (m : CircuitWorld) → Holds circuit.now m (over self.now is)
+            → IfOk result (λ rs. AreRows (sent_count m) (ids_of self.now) rs.items) }
     {
         let mut rows = Vec::new(alloc);
         for from in 0..self.len() {
@@ -62,18 +65,22 @@ impl World {
         slot: usize,
     ) -> Result<bool, WorldFault>
         requires below { slot < length self.old.slots.items }
-        requires sits { Sits (seen D.image_at D.moment self.old pairs.old.items) }
+        requires sits { Sits (seen D.view self.old pairs.old.items) }
         ensures ids { ids_of self.new ≡ ids_of self.old }
         ensures places { places_of self.new ≡ places_of self.old }
         ensures stops { self.new.stops ≡ self.old.stops }
-        ensures counts { (m : CircuitWorld) (n : Id) → Holds circuit m (seen D.image_at D.moment self.old pairs.old.items) → IsAt self.old slot n → Counts result self.old.events self.new.events 0 (tick_count m n) }
-        ensures idle { (m : CircuitWorld) (n : Id) → Holds circuit m (seen D.image_at D.moment self.old pairs.old.items) → IsAt self.old slot n → IfOk result (λ moved. moved ≡ false → IsIdleTick circuit m n) }
-        ensures moves { (n : Id) → IsAt self.old slot n → OnOk result (Moves circuit (tick_at circuit n) (seen D.image_at D.moment self.old pairs.old.items) (seen D.image_at D.moment self.new pairs.new.items)) }
-        ensures sits { OnOk result (Sits (seen D.image_at D.moment self.new pairs.new.items)) }
-        ensures disks { LeavesDisks result (bench D.image_at D.moment D.faults D.armed D.picks pairs.old.items) (bench D.image_at D.moment D.faults D.armed D.picks pairs.new.items) }
+        ensures counts { (m : CircuitWorld) (n : Id) → Holds circuit m (seen D.view self.old pairs.old.items) → IsAt self.old slot n
+            → Counts result self.old.events self.new.events 0 (tick_count m n) }
+        ensures idle { (m : CircuitWorld) (n : Id) → Holds circuit m (seen D.view self.old pairs.old.items) → IsAt self.old slot n
+            → IfOk result (λ moved. moved ≡ false → IsIdleTick circuit m n) }
+        ensures moves { (n : Id) → IsAt self.old slot n → OnOk result
+            (Moves circuit (tick_at circuit n) (seen D.view self.old pairs.old.items) (seen D.view self.new pairs.new.items)) }
+        ensures sits { OnOk result (Sits (seen D.view self.new pairs.new.items)) }
+        ensures disks { LeavesDisks result (bench D.view pairs.old.items) (bench D.view pairs.new.items) }
         ensures place { (slot : ℕ) → IsErrOf result (WorldFault.Disk slot) → IsPlace (places_of self.old) slot }
         ensures sound { IfErr result (λ e. is_of_journal e ≡ false) }
-        ensures ended { (m : CircuitWorld) (n : Id) → Holds circuit m (seen D.image_at D.moment self.old pairs.old.items) → IsAt self.old slot n → IfErr result (λ e. EventEnds circuit (tick_at circuit n m) e (seen D.image_at D.moment self.old pairs.old.items) (images D.image_at D.moment pairs.new.items)) }
+        ensures ended { (m : CircuitWorld) (n : Id) → Holds circuit m (seen D.view self.old pairs.old.items) → IsAt self.old slot n
+            → IfErr result (λ e. EventEnds circuit (tick_at circuit n m) e (seen D.view self.old pairs.old.items) (images D.view pairs.new.items)) }
         ensures unlinked { IfErr result (λ e. is_of_links e ≡ false) }
     {
         let Some(due) = self.due(slot, &circuit) else {
@@ -95,18 +102,24 @@ impl World {
         pairs: &mut Vec<Pair<D>>,
         circuit: CircuitId,
     ) -> Result<bool, WorldFault>
-        requires sits { Sits (seen D.image_at D.moment self.old pairs.old.items) }
+        requires sits { Sits (seen D.view self.old pairs.old.items) }
         ensures ids { ids_of self.new ≡ ids_of self.old }
         ensures places { places_of self.new ≡ places_of self.old }
         ensures stops { self.new.stops ≡ self.old.stops }
-        ensures counts { (m : CircuitWorld) → Holds circuit m (seen D.image_at D.moment self.old pairs.old.items) → Counts result self.old.events self.new.events 0 (length (open_nodes m (ids_of self.old))) }
-        ensures idle { (m : CircuitWorld) → Holds circuit m (seen D.image_at D.moment self.old pairs.old.items) → IfOk result (λ moved. moved ≡ false → AllByRecursion (IsIdleAt circuit m) (open_nodes m (ids_of self.old))) }
-        ensures moves { (z : Calming) → OnOk result (Moves circuit (λ m. (ticks circuit (record z { world = m }) (open_nodes m (ids_of self.old))).world) (seen D.image_at D.moment self.old pairs.old.items) (seen D.image_at D.moment self.new pairs.new.items)) }
-        ensures sits { OnOk result (Sits (seen D.image_at D.moment self.new pairs.new.items)) }
-        ensures disks { LeavesDisks result (bench D.image_at D.moment D.faults D.armed D.picks pairs.old.items) (bench D.image_at D.moment D.faults D.armed D.picks pairs.new.items) }
+        ensures counts { (m : CircuitWorld) → Holds circuit m (seen D.view self.old pairs.old.items)
+            → Counts result self.old.events self.new.events 0 (length (open_nodes m (ids_of self.old))) }
+        ensures idle { (m : CircuitWorld) → Holds circuit m (seen D.view self.old pairs.old.items)
+            → IfOk result (λ moved. moved ≡ false → AllByRecursion (IsIdleAt circuit m) (open_nodes m (ids_of self.old))) }
+        ensures moves { (z : Calming) → OnOk result
+            (Moves circuit (λ m. (ticks circuit (record z { world = m }) (open_nodes m (ids_of self.old))).world)
+            (seen D.view self.old pairs.old.items) (seen D.view self.new pairs.new.items)) }
+        ensures sits { OnOk result (Sits (seen D.view self.new pairs.new.items)) }
+        ensures disks { LeavesDisks result (bench D.view pairs.old.items) (bench D.view pairs.new.items) }
         ensures place { (slot : ℕ) → IsErrOf result (WorldFault.Disk slot) → IsPlace (places_of self.old) slot }
         ensures sound { IfErr result (λ e. is_of_journal e ≡ false) }
-        ensures ended { (z : Calming) → Holds circuit z.world (seen D.image_at D.moment self.old pairs.old.items) → IfErr result (λ e. PartEnds circuit z (ticks circuit z (open_nodes z.world (ids_of self.old))) e (seen D.image_at D.moment self.old pairs.old.items) (images D.image_at D.moment pairs.new.items)) }
+        ensures ended { (z : Calming) → Holds circuit z.world (seen D.view self.old pairs.old.items)
+            → IfErr result (λ e. PartEnds circuit z (ticks circuit z (open_nodes z.world (ids_of self.old))) e (seen D.view self.old pairs.old.items)
+            (images D.view pairs.new.items)) }
         ensures unlinked { IfErr result (λ e. is_of_links e ≡ false) }
     {
         let mut moved = false;
@@ -134,21 +147,28 @@ impl World {
         requires to_below { to < length self.old.slots.items }
         requires apart { (a b : Id) → IsAt self.old from a → IsAt self.old to b → bytes_eq a b ≡ false }
         requires up { IsUp self.old to }
-        requires sits { Sits (seen D.image_at D.moment self.old pairs.old.items) }
-        requires ready { IsReady (places_of self.old) (link_view C.slots C.failed C.wire F.put_on F.taken_on F.faults carrier.old fabric.old) }
+        requires sits { Sits (seen D.view self.old pairs.old.items) }
+        requires ready { IsReady (places_of self.old) (link_view (C.view carrier.old) (F.view fabric.old)) }
         ensures ids { ids_of self.new ≡ ids_of self.old }
         ensures places { places_of self.new ≡ places_of self.old }
         ensures stops { self.new.stops ≡ self.old.stops }
         ensures counts { Counts result self.old.events self.new.events 0 (all - taken) }
-        ensures moves { (z : Calming) (a b : Id) → IsAt self.old from a → IsAt self.old to b → OnOk result (Moves circuit (λ m. (delivers circuit (record z { world = m }) a b (taken + 1) (all - taken)).world) (seen D.image_at D.moment self.old pairs.old.items) (seen D.image_at D.moment self.new pairs.new.items)) }
-        ensures sits { OnOk result (Sits (seen D.image_at D.moment self.new pairs.new.items)) }
-        ensures disks { LeavesDisks result (bench D.image_at D.moment D.faults D.armed D.picks pairs.old.items) (bench D.image_at D.moment D.faults D.armed D.picks pairs.new.items) }
+        ensures moves { (z : Calming) (a b : Id) → IsAt self.old from a → IsAt self.old to b
+            → OnOk result (Moves circuit (λ m. (delivers circuit (record z { world = m }) a b (taken + 1) (all - taken)).world)
+            (seen D.view self.old pairs.old.items) (seen D.view self.new pairs.new.items)) }
+        ensures sits { OnOk result (Sits (seen D.view self.new pairs.new.items)) }
+        ensures disks { LeavesDisks result (bench D.view pairs.old.items) (bench D.view pairs.new.items) }
         ensures place { (slot : ℕ) → IsErrOf result (WorldFault.Disk slot) → IsPlace (places_of self.old) slot }
         ensures sound { IfErr result (λ e. is_of_journal e ≡ false) }
-        ensures ended { (z : Calming) (a b : Id) → Holds circuit z.world (seen D.image_at D.moment self.old pairs.old.items) → IsAt self.old from a → IsAt self.old to b → IfErr result (λ e. PartEnds circuit z (delivers circuit z a b (taken + 1) (all - taken)) e (seen D.image_at D.moment self.old pairs.old.items) (images D.image_at D.moment pairs.new.items)) }
-        ensures ready { OnOk result (IsReady (places_of self.new) (link_view C.slots C.failed C.wire F.put_on F.taken_on F.faults carrier.new fabric.new)) }
-        ensures links { (place : Id → ℕ) (z : Calming) (a b : Id) → Places place (ids_of self.old) (places_of self.old) → Holds circuit z.world (seen D.image_at D.moment self.old pairs.old.items) → IsAt self.old from a → IsAt self.old to b → PartDelivers result place z (delivers circuit z a b (taken + 1) (all - taken)) (link_view C.slots C.failed C.wire F.put_on F.taken_on F.faults carrier.old fabric.old) (link_view C.slots C.failed C.wire F.put_on F.taken_on F.faults carrier.new fabric.new) }
-        ensures faults { LeavesLinks result (link_view C.slots C.failed C.wire F.put_on F.taken_on F.faults carrier.old fabric.old) (link_view C.slots C.failed C.wire F.put_on F.taken_on F.faults carrier.new fabric.new) }
+        ensures ended { (z : Calming) (a b : Id) → Holds circuit z.world (seen D.view self.old pairs.old.items) → IsAt self.old from a
+            → IsAt self.old to b → IfErr result (λ e. PartEnds circuit z (delivers circuit z a b (taken + 1) (all - taken)) e
+            (seen D.view self.old pairs.old.items) (images D.view pairs.new.items)) }
+        ensures ready { OnOk result (IsReady (places_of self.new) (link_view (C.view carrier.new) (F.view fabric.new))) }
+        ensures links { (place : Id → ℕ) (z : Calming) (a b : Id) → Places place (ids_of self.old) (places_of self.old)
+            → Holds circuit z.world (seen D.view self.old pairs.old.items) → IsAt self.old from a → IsAt self.old to b
+            → PartDelivers result place z (delivers circuit z a b (taken + 1) (all - taken)) (link_view (C.view carrier.old) (F.view fabric.old))
+            (link_view (C.view carrier.new) (F.view fabric.new)) }
+        ensures faults { LeavesLinks result (link_view (C.view carrier.old) (F.view fabric.old)) (link_view (C.view carrier.new) (F.view fabric.new)) }
     {
         for index in taken..all {
             self.events.add(1)?;
@@ -172,22 +192,33 @@ impl World {
     ) -> Result<usize, WorldFault>
         requires from_below { from < length self.old.slots.items }
         requires to_below { to < length self.old.slots.items }
-        requires sits { Sits (seen D.image_at D.moment self.old pairs.old.items) }
-        requires ready { IsReady (places_of self.old) (link_view C.slots C.failed C.wire F.put_on F.taken_on F.faults carrier.old fabric.old) }
+        requires sits { Sits (seen D.view self.old pairs.old.items) }
+        requires ready { IsReady (places_of self.old) (link_view (C.view carrier.old) (F.view fabric.old)) }
         ensures ids { ids_of self.new ≡ ids_of self.old }
         ensures places { places_of self.new ≡ places_of self.old }
         ensures stops { self.new.stops ≡ self.old.stops }
-        ensures counts { (z : Calming) (a b : Id) → Holds circuit z.world (seen D.image_at D.moment self.old pairs.old.items) → IsAt self.old from a → IsAt self.old to b → z.taken a b ≡ taken → Counts result self.old.events self.new.events (length z.happened) (length (pair_turn circuit z a b).happened) }
-        ensures count { (z : Calming) (a b : Id) → Holds circuit z.world (seen D.image_at D.moment self.old pairs.old.items) → IsAt self.old from a → IsAt self.old to b → z.taken a b ≡ taken → IfOk result (λ k. k ≡ (pair_turn circuit z a b).taken a b) }
-        ensures moves { (z : Calming) (a b : Id) → IsAt self.old from a → IsAt self.old to b → z.taken a b ≡ taken → OnOk result (Moves circuit (λ m. (pair_turn circuit (record z { world = m }) a b).world) (seen D.image_at D.moment self.old pairs.old.items) (seen D.image_at D.moment self.new pairs.new.items)) }
-        ensures sits { OnOk result (Sits (seen D.image_at D.moment self.new pairs.new.items)) }
-        ensures disks { LeavesDisks result (bench D.image_at D.moment D.faults D.armed D.picks pairs.old.items) (bench D.image_at D.moment D.faults D.armed D.picks pairs.new.items) }
+        ensures counts { (z : Calming) (a b : Id) → Holds circuit z.world (seen D.view self.old pairs.old.items) → IsAt self.old from a
+            → IsAt self.old to b → z.taken a b ≡ taken → Counts result self.old.events self.new.events (length z.happened)
+            (length (pair_turn circuit z a b).happened) }
+        ensures count { (z : Calming) (a b : Id) → Holds circuit z.world (seen D.view self.old pairs.old.items) → IsAt self.old from a
+            → IsAt self.old to b → z.taken a b ≡ taken → IfOk result (λ k. k ≡ (pair_turn circuit z a b).taken a b) }
+        ensures moves { (z : Calming) (a b : Id) → IsAt self.old from a → IsAt self.old to b → z.taken a b ≡ taken
+            → OnOk result (Moves circuit (λ m. (pair_turn circuit (record z { world = m }) a b).world) (seen D.view self.old pairs.old.items)
+            (seen D.view self.new pairs.new.items)) }
+        ensures sits { OnOk result (Sits (seen D.view self.new pairs.new.items)) }
+        ensures disks { LeavesDisks result (bench D.view pairs.old.items) (bench D.view pairs.new.items) }
         ensures place { (slot : ℕ) → IsErrOf result (WorldFault.Disk slot) → IsPlace (places_of self.old) slot }
         ensures sound { IfErr result (λ e. is_of_journal e ≡ false) }
-        ensures ended { (z : Calming) (a b : Id) → Holds circuit z.world (seen D.image_at D.moment self.old pairs.old.items) → IsAt self.old from a → IsAt self.old to b → z.taken a b ≡ taken → IfErr result (λ e. PartEnds circuit z (pair_turn circuit z a b) e (seen D.image_at D.moment self.old pairs.old.items) (images D.image_at D.moment pairs.new.items)) }
-        ensures ready { OnOk result (IsReady (places_of self.new) (link_view C.slots C.failed C.wire F.put_on F.taken_on F.faults carrier.new fabric.new)) }
-        ensures links { (place : Id → ℕ) (z : Calming) (a b : Id) → Places place (ids_of self.old) (places_of self.old) → Holds circuit z.world (seen D.image_at D.moment self.old pairs.old.items) → IsAt self.old from a → IsAt self.old to b → z.taken a b ≡ taken → PartDelivers result place z (pair_turn circuit z a b) (link_view C.slots C.failed C.wire F.put_on F.taken_on F.faults carrier.old fabric.old) (link_view C.slots C.failed C.wire F.put_on F.taken_on F.faults carrier.new fabric.new) }
-        ensures faults { LeavesLinks result (link_view C.slots C.failed C.wire F.put_on F.taken_on F.faults carrier.old fabric.old) (link_view C.slots C.failed C.wire F.put_on F.taken_on F.faults carrier.new fabric.new) }
+        ensures ended { (z : Calming) (a b : Id) → Holds circuit z.world (seen D.view self.old pairs.old.items) → IsAt self.old from a
+            → IsAt self.old to b → z.taken a b ≡ taken
+            → IfErr result (λ e. PartEnds circuit z (pair_turn circuit z a b) e (seen D.view self.old pairs.old.items)
+            (images D.view pairs.new.items)) }
+        ensures ready { OnOk result (IsReady (places_of self.new) (link_view (C.view carrier.new) (F.view fabric.new))) }
+        ensures links { (place : Id → ℕ) (z : Calming) (a b : Id) → Places place (ids_of self.old) (places_of self.old)
+            → Holds circuit z.world (seen D.view self.old pairs.old.items) → IsAt self.old from a → IsAt self.old to b → z.taken a b ≡ taken
+            → PartDelivers result place z (pair_turn circuit z a b) (link_view (C.view carrier.old) (F.view fabric.old))
+            (link_view (C.view carrier.new) (F.view fabric.new)) }
+        ensures faults { LeavesLinks result (link_view (C.view carrier.old) (F.view fabric.old)) (link_view (C.view carrier.new) (F.view fabric.new)) }
     {
         if !self.is_up(to) {
             return Ok(taken);
@@ -213,23 +244,34 @@ impl World {
     ) -> Result<(), WorldFault>
         requires below { from < length self.old.slots.items }
         requires wide { length row.old.items ≡ length self.old.slots.items }
-        requires sits { Sits (seen D.image_at D.moment self.old pairs.old.items) }
-        requires ready { IsReady (places_of self.old) (link_view C.slots C.failed C.wire F.put_on F.taken_on F.faults carrier.old fabric.old) }
+        requires sits { Sits (seen D.view self.old pairs.old.items) }
+        requires ready { IsReady (places_of self.old) (link_view (C.view carrier.old) (F.view fabric.old)) }
         ensures ids { ids_of self.new ≡ ids_of self.old }
         ensures places { places_of self.new ≡ places_of self.old }
         ensures stops { self.new.stops ≡ self.old.stops }
         ensures wide { length row.new.items ≡ length row.old.items }
-        ensures counts { (z : Calming) (a : Id) → Holds circuit z.world (seen D.image_at D.moment self.old pairs.old.items) → IsAt self.old from a → row.old.items ≡ row_of z.taken a (ids_of self.old) → Counts result self.old.events self.new.events (length z.happened) (length (to_all circuit z a (ids_of self.old)).happened) }
-        ensures own { (z : Calming) (a : Id) → Holds circuit z.world (seen D.image_at D.moment self.old pairs.old.items) → IsAt self.old from a → row.old.items ≡ row_of z.taken a (ids_of self.old) → OnOk result (Holds circuit (to_all circuit z a (ids_of self.old)).world (seen D.image_at D.moment self.new pairs.new.items) × (row.new.items ≡ row_of (to_all circuit z a (ids_of self.old)).taken a (ids_of self.old))) }
-        ensures others { OnOk result (Spares circuit (seen D.image_at D.moment self.old pairs.old.items) (seen D.image_at D.moment self.new pairs.new.items)) }
-        ensures sits { OnOk result (Sits (seen D.image_at D.moment self.new pairs.new.items)) }
-        ensures disks { LeavesDisks result (bench D.image_at D.moment D.faults D.armed D.picks pairs.old.items) (bench D.image_at D.moment D.faults D.armed D.picks pairs.new.items) }
+        ensures counts { (z : Calming) (a : Id) → Holds circuit z.world (seen D.view self.old pairs.old.items) → IsAt self.old from a
+            → row.old.items ≡ row_of z.taken a (ids_of self.old) → Counts result self.old.events self.new.events (length z.happened)
+            (length (to_all circuit z a (ids_of self.old)).happened) }
+        ensures own { (z : Calming) (a : Id) → Holds circuit z.world (seen D.view self.old pairs.old.items) → IsAt self.old from a
+            → row.old.items ≡ row_of z.taken a (ids_of self.old) → OnOk result
+            (Holds circuit (to_all circuit z a (ids_of self.old)).world (seen D.view self.new pairs.new.items)
+            × (row.new.items ≡ row_of (to_all circuit z a (ids_of self.old)).taken a (ids_of self.old))) }
+        ensures others { OnOk result (Spares circuit (seen D.view self.old pairs.old.items) (seen D.view self.new pairs.new.items)) }
+        ensures sits { OnOk result (Sits (seen D.view self.new pairs.new.items)) }
+        ensures disks { LeavesDisks result (bench D.view pairs.old.items) (bench D.view pairs.new.items) }
         ensures place { (slot : ℕ) → IsErrOf result (WorldFault.Disk slot) → IsPlace (places_of self.old) slot }
         ensures sound { IfErr result (λ e. is_of_journal e ≡ false) }
-        ensures ended { (z : Calming) (a : Id) → Holds circuit z.world (seen D.image_at D.moment self.old pairs.old.items) → IsAt self.old from a → row.old.items ≡ row_of z.taken a (ids_of self.old) → IfErr result (λ e. PartEnds circuit z (to_all circuit z a (ids_of self.old)) e (seen D.image_at D.moment self.old pairs.old.items) (images D.image_at D.moment pairs.new.items)) }
-        ensures ready { OnOk result (IsReady (places_of self.new) (link_view C.slots C.failed C.wire F.put_on F.taken_on F.faults carrier.new fabric.new)) }
-        ensures links { (place : Id → ℕ) (z : Calming) (a : Id) → Places place (ids_of self.old) (places_of self.old) → Holds circuit z.world (seen D.image_at D.moment self.old pairs.old.items) → IsAt self.old from a → row.old.items ≡ row_of z.taken a (ids_of self.old) → PartDelivers result place z (to_all circuit z a (ids_of self.old)) (link_view C.slots C.failed C.wire F.put_on F.taken_on F.faults carrier.old fabric.old) (link_view C.slots C.failed C.wire F.put_on F.taken_on F.faults carrier.new fabric.new) }
-        ensures faults { LeavesLinks result (link_view C.slots C.failed C.wire F.put_on F.taken_on F.faults carrier.old fabric.old) (link_view C.slots C.failed C.wire F.put_on F.taken_on F.faults carrier.new fabric.new) }
+        ensures ended { (z : Calming) (a : Id) → Holds circuit z.world (seen D.view self.old pairs.old.items) → IsAt self.old from a
+            → row.old.items ≡ row_of z.taken a (ids_of self.old) → IfErr result
+            (λ e. PartEnds circuit z (to_all circuit z a (ids_of self.old)) e (seen D.view self.old pairs.old.items)
+            (images D.view pairs.new.items)) }
+        ensures ready { OnOk result (IsReady (places_of self.new) (link_view (C.view carrier.new) (F.view fabric.new))) }
+        ensures links { (place : Id → ℕ) (z : Calming) (a : Id) → Places place (ids_of self.old) (places_of self.old)
+            → Holds circuit z.world (seen D.view self.old pairs.old.items) → IsAt self.old from a
+            → row.old.items ≡ row_of z.taken a (ids_of self.old) → PartDelivers result place z (to_all circuit z a (ids_of self.old))
+            (link_view (C.view carrier.old) (F.view fabric.old)) (link_view (C.view carrier.new) (F.view fabric.new)) }
+        ensures faults { LeavesLinks result (link_view (C.view carrier.old) (F.view fabric.old)) (link_view (C.view carrier.new) (F.view fabric.new)) }
     {
         for to in 0..self.len() {
             row[to] = self.pair_turn(alloc, pairs, carrier, fabric, circuit, from, to, row[to])?;
@@ -248,23 +290,33 @@ impl World {
         rows: &mut Vec<Vec<usize>>,
     ) -> Result<(), WorldFault>
         requires square { IsSquare (length self.old.slots.items) rows.old.items }
-        requires sits { Sits (seen D.image_at D.moment self.old pairs.old.items) }
-        requires ready { IsReady (places_of self.old) (link_view C.slots C.failed C.wire F.put_on F.taken_on F.faults carrier.old fabric.old) }
+        requires sits { Sits (seen D.view self.old pairs.old.items) }
+        requires ready { IsReady (places_of self.old) (link_view (C.view carrier.old) (F.view fabric.old)) }
         ensures ids { ids_of self.new ≡ ids_of self.old }
         ensures places { places_of self.new ≡ places_of self.old }
         ensures stops { self.new.stops ≡ self.old.stops }
         ensures square { IsSquare (length self.old.slots.items) rows.new.items }
-        ensures counts { (z : Calming) → Holds circuit z.world (seen D.image_at D.moment self.old pairs.old.items) → AreRows z.taken (ids_of self.old) rows.old.items → Counts result self.old.events self.new.events (length z.happened) (length (from_all circuit z (ids_of self.old) (ids_of self.old)).happened) }
-        ensures own { (z : Calming) → Holds circuit z.world (seen D.image_at D.moment self.old pairs.old.items) → AreRows z.taken (ids_of self.old) rows.old.items → OnOk result (Holds circuit (from_all circuit z (ids_of self.old) (ids_of self.old)).world (seen D.image_at D.moment self.new pairs.new.items) × AreRows (from_all circuit z (ids_of self.old) (ids_of self.old)).taken (ids_of self.old) rows.new.items) }
-        ensures others { OnOk result (Spares circuit (seen D.image_at D.moment self.old pairs.old.items) (seen D.image_at D.moment self.new pairs.new.items)) }
-        ensures sits { OnOk result (Sits (seen D.image_at D.moment self.new pairs.new.items)) }
-        ensures disks { LeavesDisks result (bench D.image_at D.moment D.faults D.armed D.picks pairs.old.items) (bench D.image_at D.moment D.faults D.armed D.picks pairs.new.items) }
+        ensures counts { (z : Calming) → Holds circuit z.world (seen D.view self.old pairs.old.items)
+            → AreRows z.taken (ids_of self.old) rows.old.items → Counts result self.old.events self.new.events (length z.happened)
+            (length (from_all circuit z (ids_of self.old) (ids_of self.old)).happened) }
+        ensures own { (z : Calming) → Holds circuit z.world (seen D.view self.old pairs.old.items) → AreRows z.taken (ids_of self.old) rows.old.items
+            → OnOk result (Holds circuit (from_all circuit z (ids_of self.old) (ids_of self.old)).world (seen D.view self.new pairs.new.items)
+            × AreRows (from_all circuit z (ids_of self.old) (ids_of self.old)).taken (ids_of self.old) rows.new.items) }
+        ensures others { OnOk result (Spares circuit (seen D.view self.old pairs.old.items) (seen D.view self.new pairs.new.items)) }
+        ensures sits { OnOk result (Sits (seen D.view self.new pairs.new.items)) }
+        ensures disks { LeavesDisks result (bench D.view pairs.old.items) (bench D.view pairs.new.items) }
         ensures place { (slot : ℕ) → IsErrOf result (WorldFault.Disk slot) → IsPlace (places_of self.old) slot }
         ensures sound { IfErr result (λ e. is_of_journal e ≡ false) }
-        ensures ended { (z : Calming) → Holds circuit z.world (seen D.image_at D.moment self.old pairs.old.items) → AreRows z.taken (ids_of self.old) rows.old.items → IfErr result (λ e. PartEnds circuit z (from_all circuit z (ids_of self.old) (ids_of self.old)) e (seen D.image_at D.moment self.old pairs.old.items) (images D.image_at D.moment pairs.new.items)) }
-        ensures ready { OnOk result (IsReady (places_of self.new) (link_view C.slots C.failed C.wire F.put_on F.taken_on F.faults carrier.new fabric.new)) }
-        ensures links { (place : Id → ℕ) (z : Calming) → Places place (ids_of self.old) (places_of self.old) → Holds circuit z.world (seen D.image_at D.moment self.old pairs.old.items) → AreRows z.taken (ids_of self.old) rows.old.items → PartDelivers result place z (from_all circuit z (ids_of self.old) (ids_of self.old)) (link_view C.slots C.failed C.wire F.put_on F.taken_on F.faults carrier.old fabric.old) (link_view C.slots C.failed C.wire F.put_on F.taken_on F.faults carrier.new fabric.new) }
-        ensures faults { LeavesLinks result (link_view C.slots C.failed C.wire F.put_on F.taken_on F.faults carrier.old fabric.old) (link_view C.slots C.failed C.wire F.put_on F.taken_on F.faults carrier.new fabric.new) }
+        ensures ended { (z : Calming) → Holds circuit z.world (seen D.view self.old pairs.old.items)
+            → AreRows z.taken (ids_of self.old) rows.old.items → IfErr result
+            (λ e. PartEnds circuit z (from_all circuit z (ids_of self.old) (ids_of self.old)) e (seen D.view self.old pairs.old.items)
+            (images D.view pairs.new.items)) }
+        ensures ready { OnOk result (IsReady (places_of self.new) (link_view (C.view carrier.new) (F.view fabric.new))) }
+        ensures links { (place : Id → ℕ) (z : Calming) → Places place (ids_of self.old) (places_of self.old)
+            → Holds circuit z.world (seen D.view self.old pairs.old.items) → AreRows z.taken (ids_of self.old) rows.old.items
+            → PartDelivers result place z (from_all circuit z (ids_of self.old) (ids_of self.old))
+            (link_view (C.view carrier.old) (F.view fabric.old)) (link_view (C.view carrier.new) (F.view fabric.new)) }
+        ensures faults { LeavesLinks result (link_view (C.view carrier.old) (F.view fabric.old)) (link_view (C.view carrier.new) (F.view fabric.new)) }
     {
         for from in 0..self.len() {
             self.to_all(
@@ -291,24 +343,34 @@ impl World {
         rows: &mut Vec<Vec<usize>>,
     ) -> Result<bool, WorldFault>
         requires square { IsSquare (length self.old.slots.items) rows.old.items }
-        requires sits { Sits (seen D.image_at D.moment self.old pairs.old.items) }
-        requires ready { IsReady (places_of self.old) (link_view C.slots C.failed C.wire F.put_on F.taken_on F.faults carrier.old fabric.old) }
+        requires sits { Sits (seen D.view self.old pairs.old.items) }
+        requires ready { IsReady (places_of self.old) (link_view (C.view carrier.old) (F.view fabric.old)) }
         ensures ids { ids_of self.new ≡ ids_of self.old }
         ensures places { places_of self.new ≡ places_of self.old }
         ensures stops { self.new.stops ≡ self.old.stops }
         ensures square { IsSquare (length self.old.slots.items) rows.new.items }
-        ensures counts { (z : Calming) → Holds circuit z.world (seen D.image_at D.moment self.old pairs.old.items) → AreRows z.taken (ids_of self.old) rows.old.items → Counts result self.old.events self.new.events (length z.happened) (length (pass circuit (ids_of self.old) z).happened) }
-        ensures quiet { (z : Calming) → Holds circuit z.world (seen D.image_at D.moment self.old pairs.old.items) → AreRows z.taken (ids_of self.old) rows.old.items → IfOk result (λ moved. moved ≡ false → IsQuiet circuit (ids_of self.old) z) }
-        ensures own { (z : Calming) → Holds circuit z.world (seen D.image_at D.moment self.old pairs.old.items) → AreRows z.taken (ids_of self.old) rows.old.items → OnOk result (Holds circuit (pass circuit (ids_of self.old) z).world (seen D.image_at D.moment self.new pairs.new.items) × AreRows (pass circuit (ids_of self.old) z).taken (ids_of self.old) rows.new.items) }
-        ensures others { OnOk result (Spares circuit (seen D.image_at D.moment self.old pairs.old.items) (seen D.image_at D.moment self.new pairs.new.items)) }
-        ensures sits { OnOk result (Sits (seen D.image_at D.moment self.new pairs.new.items)) }
-        ensures disks { LeavesDisks result (bench D.image_at D.moment D.faults D.armed D.picks pairs.old.items) (bench D.image_at D.moment D.faults D.armed D.picks pairs.new.items) }
+        ensures counts { (z : Calming) → Holds circuit z.world (seen D.view self.old pairs.old.items)
+            → AreRows z.taken (ids_of self.old) rows.old.items → Counts result self.old.events self.new.events (length z.happened)
+            (length (pass circuit (ids_of self.old) z).happened) }
+        ensures quiet { (z : Calming) → Holds circuit z.world (seen D.view self.old pairs.old.items)
+            → AreRows z.taken (ids_of self.old) rows.old.items → IfOk result (λ moved. moved ≡ false → IsQuiet circuit (ids_of self.old) z) }
+        ensures own { (z : Calming) → Holds circuit z.world (seen D.view self.old pairs.old.items) → AreRows z.taken (ids_of self.old) rows.old.items
+            → OnOk result (Holds circuit (pass circuit (ids_of self.old) z).world (seen D.view self.new pairs.new.items)
+            × AreRows (pass circuit (ids_of self.old) z).taken (ids_of self.old) rows.new.items) }
+        ensures others { OnOk result (Spares circuit (seen D.view self.old pairs.old.items) (seen D.view self.new pairs.new.items)) }
+        ensures sits { OnOk result (Sits (seen D.view self.new pairs.new.items)) }
+        ensures disks { LeavesDisks result (bench D.view pairs.old.items) (bench D.view pairs.new.items) }
         ensures place { (slot : ℕ) → IsErrOf result (WorldFault.Disk slot) → IsPlace (places_of self.old) slot }
         ensures sound { IfErr result (λ e. is_of_journal e ≡ false) }
-        ensures ended { (z : Calming) → Holds circuit z.world (seen D.image_at D.moment self.old pairs.old.items) → AreRows z.taken (ids_of self.old) rows.old.items → IfErr result (λ e. PartEnds circuit z (pass circuit (ids_of self.old) z) e (seen D.image_at D.moment self.old pairs.old.items) (images D.image_at D.moment pairs.new.items)) }
-        ensures ready { OnOk result (IsReady (places_of self.new) (link_view C.slots C.failed C.wire F.put_on F.taken_on F.faults carrier.new fabric.new)) }
-        ensures links { (place : Id → ℕ) (z : Calming) → Places place (ids_of self.old) (places_of self.old) → Holds circuit z.world (seen D.image_at D.moment self.old pairs.old.items) → AreRows z.taken (ids_of self.old) rows.old.items → PartDelivers result place z (pass circuit (ids_of self.old) z) (link_view C.slots C.failed C.wire F.put_on F.taken_on F.faults carrier.old fabric.old) (link_view C.slots C.failed C.wire F.put_on F.taken_on F.faults carrier.new fabric.new) }
-        ensures faults { LeavesLinks result (link_view C.slots C.failed C.wire F.put_on F.taken_on F.faults carrier.old fabric.old) (link_view C.slots C.failed C.wire F.put_on F.taken_on F.faults carrier.new fabric.new) }
+        ensures ended { (z : Calming) → Holds circuit z.world (seen D.view self.old pairs.old.items)
+            → AreRows z.taken (ids_of self.old) rows.old.items → IfErr result
+            (λ e. PartEnds circuit z (pass circuit (ids_of self.old) z) e (seen D.view self.old pairs.old.items) (images D.view pairs.new.items)) }
+        ensures ready { OnOk result (IsReady (places_of self.new) (link_view (C.view carrier.new) (F.view fabric.new))) }
+        ensures links { (place : Id → ℕ) (z : Calming) → Places place (ids_of self.old) (places_of self.old)
+            → Holds circuit z.world (seen D.view self.old pairs.old.items) → AreRows z.taken (ids_of self.old) rows.old.items
+            → PartDelivers result place z (pass circuit (ids_of self.old) z) (link_view (C.view carrier.old) (F.view fabric.old))
+            (link_view (C.view carrier.new) (F.view fabric.new)) }
+        ensures faults { LeavesLinks result (link_view (C.view carrier.old) (F.view fabric.old)) (link_view (C.view carrier.new) (F.view fabric.new)) }
     {
         let moved = self.tick_all(alloc, pairs, circuit)?;
         let ticked = self.events.count();
@@ -328,21 +390,27 @@ impl World {
         circuit: CircuitId,
         passes: u8,
     ) -> Result<(), WorldFault>
-        requires sits { Sits (seen D.image_at D.moment self.old pairs.old.items) }
-        requires ready { IsReady (places_of self.old) (link_view C.slots C.failed C.wire F.put_on F.taken_on F.faults carrier.old fabric.old) }
+        requires sits { Sits (seen D.view self.old pairs.old.items) }
+        requires ready { IsReady (places_of self.old) (link_view (C.view carrier.old) (F.view fabric.old)) }
         ensures ids { ids_of self.new ≡ ids_of self.old }
         ensures places { places_of self.new ≡ places_of self.old }
         ensures stops { self.new.stops ≡ self.old.stops }
-        ensures counts { (m : CircuitWorld) → Holds circuit m (seen D.image_at D.moment self.old pairs.old.items) → Counts result self.old.events self.new.events 0 (length (calm circuit m passes).happened) }
-        ensures moves { OnOk result (Moves circuit (λ m. (calm circuit m passes).world) (seen D.image_at D.moment self.old pairs.old.items) (seen D.image_at D.moment self.new pairs.new.items)) }
-        ensures sits { OnOk result (Sits (seen D.image_at D.moment self.new pairs.new.items)) }
-        ensures disks { LeavesDisks result (bench D.image_at D.moment D.faults D.armed D.picks pairs.old.items) (bench D.image_at D.moment D.faults D.armed D.picks pairs.new.items) }
+        ensures counts { (m : CircuitWorld) → Holds circuit m (seen D.view self.old pairs.old.items)
+            → Counts result self.old.events self.new.events 0 (length (calm circuit m passes).happened) }
+        ensures moves { OnOk result (Moves circuit (λ m. (calm circuit m passes).world) (seen D.view self.old pairs.old.items)
+            (seen D.view self.new pairs.new.items)) }
+        ensures sits { OnOk result (Sits (seen D.view self.new pairs.new.items)) }
+        ensures disks { LeavesDisks result (bench D.view pairs.old.items) (bench D.view pairs.new.items) }
         ensures place { (slot : ℕ) → IsErrOf result (WorldFault.Disk slot) → IsPlace (places_of self.old) slot }
         ensures sound { IfErr result (λ e. is_of_journal e ≡ false) }
-        ensures ended { (m : CircuitWorld) → Holds circuit m (seen D.image_at D.moment self.old pairs.old.items) → IfErr result (λ e. PartEnds circuit (calming m) (calm circuit m passes) e (seen D.image_at D.moment self.old pairs.old.items) (images D.image_at D.moment pairs.new.items)) }
-        ensures ready { OnOk result (IsReady (places_of self.new) (link_view C.slots C.failed C.wire F.put_on F.taken_on F.faults carrier.new fabric.new)) }
-        ensures links { (place : Id → ℕ) (m : CircuitWorld) → Places place (ids_of self.old) (places_of self.old) → Holds circuit m (seen D.image_at D.moment self.old pairs.old.items) → Delivers result (carried_in place m (calm circuit m passes).happened) (link_view C.slots C.failed C.wire F.put_on F.taken_on F.faults carrier.old fabric.old) (link_view C.slots C.failed C.wire F.put_on F.taken_on F.faults carrier.new fabric.new) }
-        ensures faults { LeavesLinks result (link_view C.slots C.failed C.wire F.put_on F.taken_on F.faults carrier.old fabric.old) (link_view C.slots C.failed C.wire F.put_on F.taken_on F.faults carrier.new fabric.new) }
+        ensures ended { (m : CircuitWorld) → Holds circuit m (seen D.view self.old pairs.old.items)
+            → IfErr result (λ e. PartEnds circuit (calming m) (calm circuit m passes) e (seen D.view self.old pairs.old.items)
+            (images D.view pairs.new.items)) }
+        ensures ready { OnOk result (IsReady (places_of self.new) (link_view (C.view carrier.new) (F.view fabric.new))) }
+        ensures links { (place : Id → ℕ) (m : CircuitWorld) → Places place (ids_of self.old) (places_of self.old)
+            → Holds circuit m (seen D.view self.old pairs.old.items) → Delivers result (carried_in place m (calm circuit m passes).happened)
+            (link_view (C.view carrier.old) (F.view fabric.old)) (link_view (C.view carrier.new) (F.view fabric.new)) }
+        ensures faults { LeavesLinks result (link_view (C.view carrier.old) (F.view fabric.old)) (link_view (C.view carrier.new) (F.view fabric.new)) }
     {
         let mut rows = self.rows(alloc, &circuit)?;
         for done in 0..passes {

@@ -30,17 +30,18 @@ fn carry<C: Carry, F: Fabric>(
     message: &Boxed<Message>,
 ) -> Result<Boxed<Message>, WorldFault>
     requires apart { from ≢ to }
-    requires from { from < C.slots carrier.old }
-    requires to { to < C.slots carrier.old }
-    requires going { C.failed carrier.old ≡ false }
+    requires from { from < (C.view carrier.old).slots }
+    requires to { to < (C.view carrier.old).slots }
+    requires going { (C.view carrier.old).failed ≡ false }
     requires sendable { IsSendable message.now }
-    requires taken { AllTaken (F.put_on fabric.old) (F.taken_on fabric.old) }
+    requires taken { AllTaken (F.view fabric.old).put (F.view fabric.old).taken }
     ensures same { IfOk result (λ m. m ≡ message.now) }
-    ensures slots { C.slots carrier.new ≡ C.slots carrier.old }
-    ensures going { OnOk result (C.failed carrier.new ≡ false) }
-    ensures taken { OnOk result (AllTaken (F.put_on fabric.new) (F.taken_on fabric.new)) }
-    ensures links { Delivers result (only from to message.now) (link_view C.slots C.failed C.wire F.put_on F.taken_on F.faults carrier.old fabric.old) (link_view C.slots C.failed C.wire F.put_on F.taken_on F.faults carrier.new fabric.new) }
-    ensures faults { LeavesLinks result (link_view C.slots C.failed C.wire F.put_on F.taken_on F.faults carrier.old fabric.old) (link_view C.slots C.failed C.wire F.put_on F.taken_on F.faults carrier.new fabric.new) }
+    ensures slots { (C.view carrier.new).slots ≡ (C.view carrier.old).slots }
+    ensures going { OnOk result ((C.view carrier.new).failed ≡ false) }
+    ensures taken { OnOk result (AllTaken (F.view fabric.new).put (F.view fabric.new).taken) }
+    ensures links { Delivers result (only from to message.now) (link_view (C.view carrier.old) (F.view fabric.old))
+        (link_view (C.view carrier.new) (F.view fabric.new)) }
+    ensures faults { LeavesLinks result (link_view (C.view carrier.old) (F.view fabric.old)) (link_view (C.view carrier.new) (F.view fabric.new)) }
     ensures few { (which : ℕ) → IsErrOf result (WorldFault.TooMany which) → ⊥ }
     ensures disk { (slot : ℕ) → IsErrOf result (WorldFault.Disk slot) → ⊥ }
     ensures sound { IfErr result (λ e. is_of_journal e ≡ false) }
@@ -68,12 +69,16 @@ impl World {
         requires to_below { to < length self.now.slots.items }
         requires apart { (a b : Id) → IsAt self.now from a → IsAt self.now to b → bytes_eq a b ≡ false }
         requires seats { (x y : ℕ) → slice_get (places_of self.now) from ≡ Some x → slice_get (places_of self.now) to ≡ Some y → x ≢ y }
-        requires ready { IsReady (places_of self.now) (link_view C.slots C.failed C.wire F.put_on F.taken_on F.faults carrier.old fabric.old) }
-        ensures event { (is : List Images) (m : CircuitWorld) (a b : Id) → Holds circuit.now m (over self.now is) → IsAt self.now from a → IsAt self.now to b → IfOk result (λ e. e ≡ delivery_of a (slice_get (messages m a b) index)) }
+        requires ready { IsReady (places_of self.now) (link_view (C.view carrier.old) (F.view fabric.old)) }
+        ensures event { (is : List Images) (m : CircuitWorld) (a b : Id) → Holds circuit.now m (over self.now is) → IsAt self.now from a
+            → IsAt self.now to b → IfOk result (λ e. e ≡ delivery_of a (slice_get (messages m a b) index)) }
         ensures own { (n : Id) → IsAt self.now to n → IfOk result (λ e. IfSome e (IsFor (site_at n circuit.now))) }
-        ensures ready { OnOk result (IsReady (places_of self.now) (link_view C.slots C.failed C.wire F.put_on F.taken_on F.faults carrier.new fabric.new)) }
-        ensures links { (place : Id → ℕ) (is : List Images) (m : CircuitWorld) (a b : Id) → Places place (ids_of self.now) (places_of self.now) → Holds circuit.now m (over self.now is) → IsAt self.now from a → IsAt self.now to b → Delivers result (carried_of (place a) (place b) (slice_get (messages m a b) index)) (link_view C.slots C.failed C.wire F.put_on F.taken_on F.faults carrier.old fabric.old) (link_view C.slots C.failed C.wire F.put_on F.taken_on F.faults carrier.new fabric.new) }
-        ensures faults { LeavesLinks result (link_view C.slots C.failed C.wire F.put_on F.taken_on F.faults carrier.old fabric.old) (link_view C.slots C.failed C.wire F.put_on F.taken_on F.faults carrier.new fabric.new) }
+        ensures ready { OnOk result (IsReady (places_of self.now) (link_view (C.view carrier.new) (F.view fabric.new))) }
+        ensures links { (place : Id → ℕ) (is : List Images) (m : CircuitWorld) (a b : Id) → Places place (ids_of self.now) (places_of self.now)
+            → Holds circuit.now m (over self.now is) → IsAt self.now from a → IsAt self.now to b
+            → Delivers result (carried_of (place a) (place b) (slice_get (messages m a b) index))
+            (link_view (C.view carrier.old) (F.view fabric.old)) (link_view (C.view carrier.new) (F.view fabric.new)) }
+        ensures faults { LeavesLinks result (link_view (C.view carrier.old) (F.view fabric.old)) (link_view (C.view carrier.new) (F.view fabric.new)) }
         ensures few { (which : ℕ) → IsErrOf result (WorldFault.TooMany which) → ⊥ }
         ensures disk { (slot : ℕ) → IsErrOf result (WorldFault.Disk slot) → ⊥ }
         ensures sound { IfErr result (λ e. is_of_journal e ≡ false) }

@@ -3,6 +3,7 @@ ghost use Rattle.std.specs.Prelude.{◌≡◌, ◌<◌, List, Some, true, false,
 ghost use Rattle.std.specs.List.{list_all};
 ghost use Rattle.std.specs.Option.{option_copied};
 ghost use Rattle.std.specs.Str.{bytes_eq};
+ghost use Rattle.spl_edge.specs.Views.{bench};
 ghost use Rattle.spl_circuit.specs.Nodes.{NodeId as Id, has_node};
 ghost use Rattle.spl_model.specs.Answers.{bit_of};
 ghost use Rattle.spl_model.specs.Outcomes.{opens};
@@ -11,7 +12,7 @@ ghost use Rattle.spl_node.specs.Stopping.{IsStopping, has_changes, keeps};
 ghost use Rattle.spl_rules.specs.Valid.{IsFor};
 ghost use Rattle.spl_sched.specs.Grammar.{is_step, step_circuit, step_node, step_nodes};
 ghost use Rattle.spl_wire.specs.declared.change.Change.{Change};
-ghost use Rattle.spl_world.specs.Disks.{NoneForgotten, bench, images};
+ghost use Rattle.spl_world.specs.Disks.{NoneForgotten, images};
 ghost use Rattle.spl_world.specs.Ended.{EventEnds};
 ghost use Rattle.spl_world.specs.Halts.{IsEventOf, bit_in};
 ghost use Rattle.spl_world.specs.Held.{FailsBy, PickUnarmed, StopsAt, StopsSlot};
@@ -75,19 +76,31 @@ impl World {
         requires up { IsUp self.old slot }
         requires own { (n : Id) → IsAt self.old slot n → IfSome (option_copied event) (IsFor (site_at n circuit.now)) }
         requires calls { IsStopping stopping }
-        requires sits { Sits (seen D.image_at D.moment self.old pairs.old.items) }
+        requires sits { Sits (seen D.view self.old pairs.old.items) }
         ensures ids { ids_of self.new ≡ ids_of self.old }
         ensures places { places_of self.new ≡ places_of self.old }
         ensures stops { self.new.stops ≡ self.old.stops }
         ensures events { self.new.events ≡ self.old.events }
-        ensures tells { (m : CircuitWorld) (s : Step) → IsAt self.old slot (step_node s) → step_circuit s ≡ circuit.now → IsEventOf (option_copied event.entry) m s → Holds circuit.now m (seen D.image_at D.moment self.old pairs.old.items) → IfOk result (λ b. b ≡ has_changes (step_plan m s).changes) }
-        ensures own { (m : CircuitWorld) (s : Step) → IsAt self.old slot (step_node s) → step_circuit s ≡ circuit.now → IsEventOf (option_copied event.entry) m s → Holds circuit.now m (seen D.image_at D.moment self.old pairs.old.items) → OnOk result (Holds circuit.now (happens m (Halts (keeps stopping) s)) (seen D.image_at D.moment self.new pairs.new.items)) }
-        ensures others { (d n : Id) (m : CircuitWorld) → IsAt self.old slot n → bytes_eq circuit.now d ≡ false → Holds d m (seen D.image_at D.moment self.old pairs.old.items) → OnOk result (Holds d (happens m (Stops n)) (seen D.image_at D.moment self.new pairs.new.items)) }
-        ensures sits { OnOk result (Sits (seen D.image_at D.moment self.new pairs.new.items)) }
-        ensures picks { (t : Seat) → slice_get self.old.slots.items slot ≡ Some t → OnOk result (StopsAt (PickUnarmed (Some stopping)) (slot_up t) t.position (bench D.image_at D.moment D.faults D.armed D.picks pairs.old.items) (bench D.image_at D.moment D.faults D.armed D.picks pairs.new.items)) }
-        ensures risen { (t : Seat) (m : CircuitWorld) (s : Step) → slice_get self.old.slots.items slot ≡ Some t → IsAt self.old slot (step_node s) → step_circuit s ≡ circuit.now → IsEventOf (option_copied event.entry) m s → Holds circuit.now m (seen D.image_at D.moment self.old pairs.old.items) → OnOk result (FailsBy m stopping s t (bench D.image_at D.moment D.faults D.armed D.picks pairs.old.items) (bench D.image_at D.moment D.faults D.armed D.picks pairs.new.items)) }
-        ensures ended { (m : CircuitWorld) (s : Step) → IsAt self.old slot (step_node s) → step_circuit s ≡ circuit.now → IsEventOf (option_copied event.entry) m s → Holds circuit.now m (seen D.image_at D.moment self.old pairs.old.items) → OnErr result (EventEnds circuit.now (happens m (Halts true s)) WorldFault.NoMemory (seen D.image_at D.moment self.old pairs.old.items) (images D.image_at D.moment pairs.new.items)) }
-        ensures onward { NoneForgotten (bench D.image_at D.moment D.faults D.armed D.picks pairs.old.items) (bench D.image_at D.moment D.faults D.armed D.picks pairs.new.items) }
+        ensures tells { (m : CircuitWorld) (s : Step) → IsAt self.old slot (step_node s) → step_circuit s ≡ circuit.now
+            → IsEventOf (option_copied event.entry) m s → Holds circuit.now m (seen D.view self.old pairs.old.items)
+            → IfOk result (λ b. b ≡ has_changes (step_plan m s).changes) }
+        ensures own { (m : CircuitWorld) (s : Step) → IsAt self.old slot (step_node s) → step_circuit s ≡ circuit.now
+            → IsEventOf (option_copied event.entry) m s → Holds circuit.now m (seen D.view self.old pairs.old.items)
+            → OnOk result (Holds circuit.now (happens m (Halts (keeps stopping) s)) (seen D.view self.new pairs.new.items)) }
+        ensures others { (d n : Id) (m : CircuitWorld) → IsAt self.old slot n → bytes_eq circuit.now d ≡ false
+            → Holds d m (seen D.view self.old pairs.old.items) → OnOk result (Holds d (happens m (Stops n)) (seen D.view self.new pairs.new.items)) }
+        ensures sits { OnOk result (Sits (seen D.view self.new pairs.new.items)) }
+        ensures picks { (t : Seat) → slice_get self.old.slots.items slot ≡ Some t
+            → OnOk result (StopsAt (PickUnarmed (Some stopping)) (slot_up t) t.position (bench D.view pairs.old.items)
+            (bench D.view pairs.new.items)) }
+        ensures risen { (t : Seat) (m : CircuitWorld) (s : Step) → slice_get self.old.slots.items slot ≡ Some t → IsAt self.old slot (step_node s)
+            → step_circuit s ≡ circuit.now → IsEventOf (option_copied event.entry) m s → Holds circuit.now m (seen D.view self.old pairs.old.items)
+            → OnOk result (FailsBy m stopping s t (bench D.view pairs.old.items) (bench D.view pairs.new.items)) }
+        ensures ended { (m : CircuitWorld) (s : Step) → IsAt self.old slot (step_node s) → step_circuit s ≡ circuit.now
+            → IsEventOf (option_copied event.entry) m s → Holds circuit.now m (seen D.view self.old pairs.old.items)
+            → OnErr result (EventEnds circuit.now (happens m (Halts true s)) WorldFault.NoMemory (seen D.view self.old pairs.old.items)
+            (images D.view pairs.new.items)) }
+        ensures onward { NoneForgotten (bench D.view pairs.old.items) (bench D.view pairs.new.items) }
     {
         let here = &mut self.slots[slot];
         let disks = &mut pairs[here.position()];
@@ -110,19 +123,28 @@ impl World {
         requires known { list_all (has_node (ids_of self.old)) (step_nodes step.now) ≡ true }
         requires fits { is_step step.now ≡ true }
         requires calls { IsStopping stopping }
-        requires sits { Sits (seen D.image_at D.moment self.old pairs.old.items) }
+        requires sits { Sits (seen D.view self.old pairs.old.items) }
         ensures ids { ids_of self.new ≡ ids_of self.old }
         ensures places { places_of self.new ≡ places_of self.old }
         ensures stops { self.new.stops ≡ self.old.stops }
         ensures events { self.new.events ≡ self.old.events }
-        ensures tells { (m : CircuitWorld) → Holds (step_circuit step.now) m (seen D.image_at D.moment self.old pairs.old.items) → IfOk result (λ b. b ≡ has_changes (step_plan m step.now).changes) }
-        ensures own { (m : CircuitWorld) → Holds (step_circuit step.now) m (seen D.image_at D.moment self.old pairs.old.items) → OnOk result (Holds (step_circuit step.now) (happens m (Halts (keeps stopping) step.now)) (seen D.image_at D.moment self.new pairs.new.items)) }
-        ensures others { (d : Id) (m : CircuitWorld) → bytes_eq (step_circuit step.now) d ≡ false → Holds d m (seen D.image_at D.moment self.old pairs.old.items) → OnOk result (Holds d (happens m (Stops (step_node step.now))) (seen D.image_at D.moment self.new pairs.new.items)) }
-        ensures sits { OnOk result (Sits (seen D.image_at D.moment self.new pairs.new.items)) }
-        ensures picks { (t : Seat) → slice_get self.old.slots.items slot ≡ Some t → OnOk result (StopsAt (PickUnarmed (Some stopping)) (slot_up t) t.position (bench D.image_at D.moment D.faults D.armed D.picks pairs.old.items) (bench D.image_at D.moment D.faults D.armed D.picks pairs.new.items)) }
-        ensures risen { (t : Seat) (m : CircuitWorld) → slice_get self.old.slots.items slot ≡ Some t → Holds (step_circuit step.now) m (seen D.image_at D.moment self.old pairs.old.items) → OnOk result (FailsBy m stopping step.now t (bench D.image_at D.moment D.faults D.armed D.picks pairs.old.items) (bench D.image_at D.moment D.faults D.armed D.picks pairs.new.items)) }
-        ensures ended { (m : CircuitWorld) → Holds (step_circuit step.now) m (seen D.image_at D.moment self.old pairs.old.items) → OnErr result (EventEnds (step_circuit step.now) (happens m (Halts true step.now)) WorldFault.NoMemory (seen D.image_at D.moment self.old pairs.old.items) (images D.image_at D.moment pairs.new.items)) }
-        ensures onward { NoneForgotten (bench D.image_at D.moment D.faults D.armed D.picks pairs.old.items) (bench D.image_at D.moment D.faults D.armed D.picks pairs.new.items) }
+        ensures tells { (m : CircuitWorld) → Holds (step_circuit step.now) m (seen D.view self.old pairs.old.items)
+            → IfOk result (λ b. b ≡ has_changes (step_plan m step.now).changes) }
+        ensures own { (m : CircuitWorld) → Holds (step_circuit step.now) m (seen D.view self.old pairs.old.items)
+            → OnOk result (Holds (step_circuit step.now) (happens m (Halts (keeps stopping) step.now)) (seen D.view self.new pairs.new.items)) }
+        ensures others { (d : Id) (m : CircuitWorld) → bytes_eq (step_circuit step.now) d ≡ false → Holds d m (seen D.view self.old pairs.old.items)
+            → OnOk result (Holds d (happens m (Stops (step_node step.now))) (seen D.view self.new pairs.new.items)) }
+        ensures sits { OnOk result (Sits (seen D.view self.new pairs.new.items)) }
+        ensures picks { (t : Seat) → slice_get self.old.slots.items slot ≡ Some t
+            → OnOk result (StopsAt (PickUnarmed (Some stopping)) (slot_up t) t.position (bench D.view pairs.old.items)
+            (bench D.view pairs.new.items)) }
+        ensures risen { (t : Seat) (m : CircuitWorld) → slice_get self.old.slots.items slot ≡ Some t
+            → Holds (step_circuit step.now) m (seen D.view self.old pairs.old.items)
+            → OnOk result (FailsBy m stopping step.now t (bench D.view pairs.old.items) (bench D.view pairs.new.items)) }
+        ensures ended { (m : CircuitWorld) → Holds (step_circuit step.now) m (seen D.view self.old pairs.old.items)
+            → OnErr result (EventEnds (step_circuit step.now) (happens m (Halts true step.now)) WorldFault.NoMemory
+            (seen D.view self.old pairs.old.items) (images D.view pairs.new.items)) }
+        ensures onward { NoneForgotten (bench D.view pairs.old.items) (bench D.view pairs.new.items) }
     {
         match step {
             Step::At { circuit, event, .. } => {
@@ -159,18 +181,25 @@ impl World {
         requires known { list_all (has_node (ids_of self.old)) (step_nodes step.now) ≡ true }
         requires fits { is_step step.now ≡ true }
         requires calls { IsStopping stopping }
-        requires sits { Sits (seen D.image_at D.moment self.old pairs.old.items) }
+        requires sits { Sits (seen D.view self.old pairs.old.items) }
         ensures ids { ids_of self.new ≡ ids_of self.old }
         ensures places { places_of self.new ≡ places_of self.old }
         ensures stops { self.new.stops ≡ self.old.stops }
         ensures events { self.new.events ≡ self.old.events }
-        ensures bit { (m : CircuitWorld) → Holds (step_circuit step.now) m (seen D.image_at D.moment self.old pairs.old.items) → IfOk result (λ b. b ≡ bit_in m step.now (keeps stopping)) }
-        ensures own { (m : CircuitWorld) → Holds (step_circuit step.now) m (seen D.image_at D.moment self.old pairs.old.items) → OnOk result (Holds (step_circuit step.now) (happens m (Halts (keeps stopping) step.now)) (seen D.image_at D.moment self.new pairs.new.items)) }
-        ensures others { (d : Id) (m : CircuitWorld) → bytes_eq (step_circuit step.now) d ≡ false → Holds d m (seen D.image_at D.moment self.old pairs.old.items) → OnOk result (Holds d (happens m (Stops (step_node step.now))) (seen D.image_at D.moment self.new pairs.new.items)) }
-        ensures sits { OnOk result (Sits (seen D.image_at D.moment self.new pairs.new.items)) }
-        ensures slot { OnOk result (StopsSlot (step_node step.now) (Some stopping) (λ worlds. FailsBy (worlds (step_circuit step.now)) stopping step.now) (seen D.image_at D.moment self.old pairs.old.items) (bench D.image_at D.moment D.faults D.armed D.picks pairs.old.items) (bench D.image_at D.moment D.faults D.armed D.picks pairs.new.items)) }
-        ensures ended { (m : CircuitWorld) → Holds (step_circuit step.now) m (seen D.image_at D.moment self.old pairs.old.items) → OnErr result (EventEnds (step_circuit step.now) (happens m (Halts true step.now)) WorldFault.NoMemory (seen D.image_at D.moment self.old pairs.old.items) (images D.image_at D.moment pairs.new.items)) }
-        ensures onward { NoneForgotten (bench D.image_at D.moment D.faults D.armed D.picks pairs.old.items) (bench D.image_at D.moment D.faults D.armed D.picks pairs.new.items) }
+        ensures bit { (m : CircuitWorld) → Holds (step_circuit step.now) m (seen D.view self.old pairs.old.items)
+            → IfOk result (λ b. b ≡ bit_in m step.now (keeps stopping)) }
+        ensures own { (m : CircuitWorld) → Holds (step_circuit step.now) m (seen D.view self.old pairs.old.items)
+            → OnOk result (Holds (step_circuit step.now) (happens m (Halts (keeps stopping) step.now)) (seen D.view self.new pairs.new.items)) }
+        ensures others { (d : Id) (m : CircuitWorld) → bytes_eq (step_circuit step.now) d ≡ false → Holds d m (seen D.view self.old pairs.old.items)
+            → OnOk result (Holds d (happens m (Stops (step_node step.now))) (seen D.view self.new pairs.new.items)) }
+        ensures sits { OnOk result (Sits (seen D.view self.new pairs.new.items)) }
+        ensures slot { OnOk result (StopsSlot (step_node step.now) (Some stopping)
+            (λ worlds. FailsBy (worlds (step_circuit step.now)) stopping step.now) (seen D.view self.old pairs.old.items)
+            (bench D.view pairs.old.items) (bench D.view pairs.new.items)) }
+        ensures ended { (m : CircuitWorld) → Holds (step_circuit step.now) m (seen D.view self.old pairs.old.items)
+            → OnErr result (EventEnds (step_circuit step.now) (happens m (Halts true step.now)) WorldFault.NoMemory
+            (seen D.view self.old pairs.old.items) (images D.view pairs.new.items)) }
+        ensures onward { NoneForgotten (bench D.view pairs.old.items) (bench D.view pairs.new.items) }
     {
         let slot = self.slot(&step.node());
         if !self.is_up(slot) {

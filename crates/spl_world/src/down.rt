@@ -5,7 +5,7 @@ ghost use Rattle.spl_model.specs.Answers.{answer_to};
 ghost use Rattle.spl_model.specs.Counts.{events_of, stops_of};
 ghost use Rattle.spl_model.specs.Outcomes.{by_rule};
 ghost use Rattle.spl_model.specs.Projection.{Ran};
-ghost use Rattle.spl_model.specs.Worlds.{World as CircuitWorld, Stops, happens};
+ghost use Rattle.spl_model.specs.Worlds.{blank, World as CircuitWorld, Stops, happens};
 ghost use Rattle.spl_projection.specs.Whole.{whole_world};
 ghost use Rattle.spl_sched.specs.declared.line.Line.TheVariants as line;
 ghost use Rattle.spl_world.specs.Counts.{IsOver, is_of_limit};
@@ -30,16 +30,23 @@ impl World {
         requires known { has_node (ids_of self.old) node.now ≡ true }
         ensures ids { ids_of self.new ≡ ids_of self.old }
         ensures places { places_of self.new ≡ places_of self.old }
-        ensures answer { (is : List Images) (before : List Ran) → Stands before self.old is → IfOk result (λ a. a ≡ answer_to (ids_of self.old) before (by_rule (line.Stop node.now))) }
+        ensures answer { (is : List Images) (before : List Ran) → Stands before self.old is
+            → IfOk result (λ a. a ≡ answer_to (blank (ids_of self.old)) before (by_rule (line.Stop node.now))) }
         // Whatever the disks hold, the nodes go on standing for what they hold.
-        ensures stands { (is : List Images) (before : List Ran) → Stands before self.old is → OnOk result (Stands (before ++ by_rule (line.Stop node.now) ∷ []) self.new is) }
+        ensures stands { (is : List Images) (before : List Ran) → Stands before self.old is
+            → OnOk result (Stands (before ++ by_rule (line.Stop node.now) ∷ []) self.new is) }
         ensures sits { (is : List Images) → Sits (over self.old is) → Sits (over self.new is) }
-        ensures many { (is : List Images) (before : List Ran) (which : ℕ) → Stands before self.old is → IsErrOf result (WorldFault.TooMany which) → IsOver (ids_of self.old) (before ++ by_rule (line.Stop node.now) ∷ []) which }
-        ensures few { (is : List Images) (before : List Ran) → Stands before self.old is → OnOk result (events_of (ids_of self.old) (before ++ by_rule (line.Stop node.now) ∷ []) ≤ MOST_EVENTS) }
-        ensures fewer { (is : List Images) (before : List Ran) → Stands before self.old is → OnOk result (stops_of (before ++ by_rule (line.Stop node.now) ∷ []) ≤ MOST_STOPS) }
+        ensures many { (is : List Images) (before : List Ran) (which : ℕ) → Stands before self.old is → IsErrOf result (WorldFault.TooMany which)
+            → IsOver (ids_of self.old) (before ++ by_rule (line.Stop node.now) ∷ []) which }
+        ensures few { (is : List Images) (before : List Ran) → Stands before self.old is
+            → OnOk result (events_of (blank (ids_of self.old)) (before ++ by_rule (line.Stop node.now) ∷ []) ≤ MOST_EVENTS) }
+        ensures fewer { (is : List Images) (before : List Ran) → Stands before self.old is
+            → OnOk result (stops_of (before ++ by_rule (line.Stop node.now) ∷ []) ≤ MOST_STOPS) }
         ensures only { IfErr result (λ e. is_of_limit e ≡ true) }
         // Where it ends with an error, the disks of all nodes go on holding what the nodes keep.
-        ensures ended { (is : List Images) (before : List Ran) → Stands before self.old is → IfErr result (λ e. LineEnds (λ c. whole_world (ids_of self.old) c before) (line.Stop node.now) e (ids_of self.old) (places_of self.old) is) }
+        ensures ended { (is : List Images) (before : List Ran) → Stands before self.old is
+            → IfErr result (λ e. LineEnds (λ c. whole_world (blank (ids_of self.old)) c before) (line.Stop node.now) e (ids_of self.old)
+            (places_of self.old) is) }
         ensures running { OnOk result (is_halted self.new ≡ false) }
         ensures halted { OnErr result (is_halted self.new ≡ true) }
     {
@@ -56,10 +63,13 @@ impl World {
         requires known { has_node (ids_of self.old) node.now ≡ true }
         ensures ids { ids_of self.new ≡ ids_of self.old }
         ensures places { places_of self.new ≡ places_of self.old }
-        ensures answer { (is : List Images) (before : List Ran) → Stands before self.old is → IfOk result (λ a. a ≡ answer_to (ids_of self.old) before (by_rule (line.Stop node.now))) }
-        ensures stands { (is : List Images) (before : List Ran) → Stands before self.old is → OnOk result (Stands (before ++ by_rule (line.Stop node.now) ∷ []) self.new is) }
+        ensures answer { (is : List Images) (before : List Ran) → Stands before self.old is
+            → IfOk result (λ a. a ≡ answer_to (blank (ids_of self.old)) before (by_rule (line.Stop node.now))) }
+        ensures stands { (is : List Images) (before : List Ran) → Stands before self.old is
+            → OnOk result (Stands (before ++ by_rule (line.Stop node.now) ∷ []) self.new is) }
         ensures sits { (is : List Images) → Sits (over self.old is) → Sits (over self.new is) }
-        ensures many { (is : List Images) (before : List Ran) (which : ℕ) → Stands before self.old is → IsErrOf result (WorldFault.TooMany which) → IsOver (ids_of self.old) (before ++ by_rule (line.Stop node.now) ∷ []) which }
+        ensures many { (is : List Images) (before : List Ran) (which : ℕ) → Stands before self.old is → IsErrOf result (WorldFault.TooMany which)
+            → IsOver (ids_of self.old) (before ++ by_rule (line.Stop node.now) ∷ []) which }
         ensures only { IfErr result (λ e. is_of_limit e ≡ true) }
     {
         // The bytes of an id are such as a line may have.
@@ -78,7 +88,8 @@ impl World {
         ensures places { places_of self.new ≡ places_of self.old }
         ensures stops { self.new.stops ≡ self.old.stops }
         ensures events { self.new.events ≡ self.old.events }
-        ensures holds { (is : List Images) (c n : Id) (m : CircuitWorld) → IsAt self.old slot n → Sits (over self.old is) → Holds c m (over self.old is) → Holds c (happens m (Stops n)) (over self.new is) }
+        ensures holds { (is : List Images) (c n : Id) (m : CircuitWorld) → IsAt self.old slot n → Sits (over self.old is)
+            → Holds c m (over self.old is) → Holds c (happens m (Stops n)) (over self.new is) }
         ensures sits { (is : List Images) → Sits (over self.old is) → Sits (over self.new is) }
     {
         let here = &mut self.slots[slot];

@@ -1,16 +1,17 @@
 //! A line that stops a node.
 ghost use Rattle.std.specs.Prelude.{◌≡◌, ◌++◌, ◌∷◌, [], ℕ, ◌≤◌, List, Some, slice_get, true, false, IsTrue, IfErr, IfOk, OnOk, OnErr, IsErrOf};
 ghost use Rattle.std.specs.List.{list_all};
+ghost use Rattle.spl_edge.specs.Views.{PairView, bench};
 ghost use Rattle.spl_circuit.specs.Nodes.{NodeId as Id, has_node};
 ghost use Rattle.spl_model.specs.Answers.{answer_to, line_answer};
 ghost use Rattle.spl_model.specs.Counts.{events_of, stops_of};
 ghost use Rattle.spl_model.specs.Outcomes.{by_rule, keeps_record};
 ghost use Rattle.spl_model.specs.Projection.{Ran};
-ghost use Rattle.spl_model.specs.Worlds.{World as CircuitWorld};
+ghost use Rattle.spl_model.specs.Worlds.{blank, World as CircuitWorld};
 ghost use Rattle.spl_projection.specs.Whole.{whole_world, world_after};
 ghost use Rattle.spl_sched.specs.Grammar.{nodes_of, is_line};
 ghost use Rattle.spl_world.specs.Counts.{IsOver};
-ghost use Rattle.spl_world.specs.Disks.{AllUnarmed, NoneForgotten, PairView, bench, images, is_of_journal};
+ghost use Rattle.spl_world.specs.Disks.{AllUnarmed, NoneForgotten, images, is_of_journal};
 ghost use Rattle.spl_world.specs.Ended.{LineEnds};
 ghost use Rattle.spl_world.specs.Halts.{said};
 ghost use Rattle.spl_world.specs.Held.{AllHeld, HigherAt, IsInCheckpointIn, StopsBy, StopsPair, cells_behind, stopping_of, stops_at};
@@ -63,30 +64,46 @@ impl World {
         requires known { IsTrue (list_all (has_node (ids_of self.old)) (nodes_of line.now)) }
         requires fits { IsTrue (is_line line.now) }
         requires stops { stops line.now ≡ true }
-        requires sits { Sits (seen D.image_at D.moment self.old pairs.old.items) }
+        requires sits { Sits (seen D.view self.old pairs.old.items) }
         ensures ids { ids_of self.new ≡ ids_of self.old }
         ensures places { places_of self.new ≡ places_of self.old }
-        ensures answer { (before : List Ran) → Stands before self.old (images D.image_at D.moment pairs.old.items) → IfOk result (λ a. a ≡ answer_to (ids_of self.old) before (by_rule line.now)) }
-        ensures stands { (before : List Ran) → Stands before self.old (images D.image_at D.moment pairs.old.items) → OnOk result (Stands (before ++ by_rule line.now ∷ []) self.new (images D.image_at D.moment pairs.new.items)) }
-        ensures many { (before : List Ran) (which : ℕ) → Stands before self.old (images D.image_at D.moment pairs.old.items) → IsErrOf result (WorldFault.TooMany which) → IsOver (ids_of self.old) (before ++ by_rule line.now ∷ []) which }
+        ensures answer { (before : List Ran) → Stands before self.old (images D.view pairs.old.items)
+            → IfOk result (λ a. a ≡ answer_to (blank (ids_of self.old)) before (by_rule line.now)) }
+        ensures stands { (before : List Ran) → Stands before self.old (images D.view pairs.old.items)
+            → OnOk result (Stands (before ++ by_rule line.now ∷ []) self.new (images D.view pairs.new.items)) }
+        ensures many { (before : List Ran) (which : ℕ) → Stands before self.old (images D.view pairs.old.items)
+            → IsErrOf result (WorldFault.TooMany which) → IsOver (ids_of self.old) (before ++ by_rule line.now ∷ []) which }
         ensures kept { (which : ℕ) → IsErrOf result (WorldFault.TooMany which) → pairs.new ≡ pairs.old }
         ensures disk { (slot : ℕ) → IsErrOf result (WorldFault.Disk slot) → ⊥ }
-        ensures few { (before : List Ran) → Stands before self.old (images D.image_at D.moment pairs.old.items) → OnOk result (events_of (ids_of self.old) (before ++ by_rule line.now ∷ []) ≤ MOST_EVENTS) }
-        ensures fewer { (before : List Ran) → Stands before self.old (images D.image_at D.moment pairs.old.items) → OnOk result (stops_of (before ++ by_rule line.now ∷ []) ≤ MOST_STOPS) }
+        ensures few { (before : List Ran) → Stands before self.old (images D.view pairs.old.items)
+            → OnOk result (events_of (blank (ids_of self.old)) (before ++ by_rule line.now ∷ []) ≤ MOST_EVENTS) }
+        ensures fewer { (before : List Ran) → Stands before self.old (images D.view pairs.old.items)
+            → OnOk result (stops_of (before ++ by_rule line.now ∷ []) ≤ MOST_STOPS) }
         // Where the node was up each of its two disks has one pick more; no other disk changed.
-        ensures picks { (i : ℕ) (s : Seat) → slice_get self.old.slots.items i ≡ Some s → (before : List Ran) → Stands before self.old (images D.image_at D.moment pairs.old.items) → AllUnarmed (bench D.image_at D.moment D.faults D.armed D.picks pairs.old.items) → stops_at (slot_id s) line.now ≡ true → OnOk result (StopsPair (slot_id s) (slot_up s) (stopping_of line.now) (cells_behind (ids_of self.old) (before ++ by_rule line.now ∷ []) (slot_id s)) s.position (bench D.image_at D.moment D.faults D.armed D.picks pairs.old.items) (bench D.image_at D.moment D.faults D.armed D.picks pairs.new.items)) }
+        ensures picks { (i : ℕ) (s : Seat) → slice_get self.old.slots.items i ≡ Some s → (before : List Ran)
+            → Stands before self.old (images D.view pairs.old.items) → AllUnarmed (bench D.view pairs.old.items)
+            → stops_at (slot_id s) line.now ≡ true → OnOk result
+            (StopsPair (slot_id s) (slot_up s) (stopping_of line.now) (cells_behind (ids_of self.old) (before ++ by_rule line.now ∷ []) (slot_id s))
+            s.position (bench D.view pairs.old.items) (bench D.view pairs.new.items)) }
         // Where it stops a node in a checkpoint that its event brings about, the disk that didn't count keeps a higher count of
         // faults with its pick than it had.
-        ensures risen_other { (i : ℕ) (s : Seat) → slice_get self.old.slots.items i ≡ Some s → (before : List Ran) → Stands before self.old (images D.image_at D.moment pairs.old.items) → stops_at (slot_id s) line.now ≡ true → IsInCheckpointIn (λ c. whole_world (ids_of self.old) c before) line.now s → OnOk result (HigherAt s.position (bench D.image_at D.moment D.faults D.armed D.picks pairs.old.items) (bench D.image_at D.moment D.faults D.armed D.picks pairs.new.items)) }
-        ensures sits { OnOk result (Sits (seen D.image_at D.moment self.new pairs.new.items)) }
+        ensures risen_other { (i : ℕ) (s : Seat) → slice_get self.old.slots.items i ≡ Some s → (before : List Ran)
+            → Stands before self.old (images D.view pairs.old.items) → stops_at (slot_id s) line.now ≡ true
+            → IsInCheckpointIn (λ c. whole_world (blank (ids_of self.old)) c before) line.now s
+            → OnOk result (HigherAt s.position (bench D.view pairs.old.items) (bench D.view pairs.new.items)) }
+        ensures sits { OnOk result (Sits (seen D.view self.new pairs.new.items)) }
         // What the disks hold stands for what the nodes keep, and so does what they picked.
-        ensures held { (start : List PairView) (before : List Ran) → Stands before self.old (images D.image_at D.moment pairs.old.items) → AllHeld start before self.old (bench D.image_at D.moment D.faults D.armed D.picks pairs.old.items) → OnOk result (AllHeld start (before ++ by_rule line.now ∷ []) self.new (bench D.image_at D.moment D.faults D.armed D.picks pairs.new.items)) }
+        ensures held { (start : List PairView) (before : List Ran) → Stands before self.old (images D.view pairs.old.items)
+            → AllHeld start before self.old (bench D.view pairs.old.items)
+            → OnOk result (AllHeld start (before ++ by_rule line.now ∷ []) self.new (bench D.view pairs.new.items)) }
         // Where it ends with an error, the disks of all nodes hold what the nodes keep, but for one node where memory was wanting;
         // what a stop leaves of the disks of that node stands for what it keeps or for what it has behind the line, with the
         // changes of the line's event.
-        ensures ended { (before : List Ran) → Stands before self.old (images D.image_at D.moment pairs.old.items) → IfErr result (λ e. LineEnds (λ c. whole_world (ids_of self.old) c before) line.now e (ids_of self.old) (places_of self.old) (images D.image_at D.moment pairs.new.items)) }
-        ensures onward { NoneForgotten (bench D.image_at D.moment D.faults D.armed D.picks pairs.old.items) (bench D.image_at D.moment D.faults D.armed D.picks pairs.new.items) }
-        ensures unarmed { AllUnarmed (bench D.image_at D.moment D.faults D.armed D.picks pairs.old.items) → OnOk result (AllUnarmed (bench D.image_at D.moment D.faults D.armed D.picks pairs.new.items)) }
+        ensures ended { (before : List Ran) → Stands before self.old (images D.view pairs.old.items)
+            → IfErr result (λ e. LineEnds (λ c. whole_world (blank (ids_of self.old)) c before) line.now e (ids_of self.old) (places_of self.old)
+            (images D.view pairs.new.items)) }
+        ensures onward { NoneForgotten (bench D.view pairs.old.items) (bench D.view pairs.new.items) }
+        ensures unarmed { AllUnarmed (bench D.view pairs.old.items) → OnOk result (AllUnarmed (bench D.view pairs.new.items)) }
         ensures running { OnOk result (is_halted self.new ≡ false) }
         ensures halted { OnErr result (is_halted self.new ≡ true) }
         ensures sound { IfErr result (λ e. is_of_journal e ≡ false) }
@@ -110,18 +127,23 @@ impl World {
         requires known { IsTrue (list_all (has_node (ids_of self.old)) (nodes_of line.now)) }
         requires fits { IsTrue (is_line line.now) }
         requires stops { stops line.now ≡ true }
-        requires sits { Sits (seen D.image_at D.moment self.old pairs.old.items) }
+        requires sits { Sits (seen D.view self.old pairs.old.items) }
         ensures ids { ids_of self.new ≡ ids_of self.old }
         ensures places { places_of self.new ≡ places_of self.old }
-        ensures answer { (before : List Ran) → Stands before self.old (images D.image_at D.moment pairs.old.items) → IfOk result (λ a. a ≡ answer_to (ids_of self.old) before (by_rule line.now)) }
-        ensures stands { (before : List Ran) → Stands before self.old (images D.image_at D.moment pairs.old.items) → OnOk result (Stands (before ++ by_rule line.now ∷ []) self.new (images D.image_at D.moment pairs.new.items)) }
-        ensures many { (before : List Ran) (which : ℕ) → Stands before self.old (images D.image_at D.moment pairs.old.items) → IsErrOf result (WorldFault.TooMany which) → IsOver (ids_of self.old) (before ++ by_rule line.now ∷ []) which }
+        ensures answer { (before : List Ran) → Stands before self.old (images D.view pairs.old.items)
+            → IfOk result (λ a. a ≡ answer_to (blank (ids_of self.old)) before (by_rule line.now)) }
+        ensures stands { (before : List Ran) → Stands before self.old (images D.view pairs.old.items)
+            → OnOk result (Stands (before ++ by_rule line.now ∷ []) self.new (images D.view pairs.new.items)) }
+        ensures many { (before : List Ran) (which : ℕ) → Stands before self.old (images D.view pairs.old.items)
+            → IsErrOf result (WorldFault.TooMany which) → IsOver (ids_of self.old) (before ++ by_rule line.now ∷ []) which }
         ensures kept { (which : ℕ) → IsErrOf result (WorldFault.TooMany which) → pairs.new ≡ pairs.old }
         ensures disk { (slot : ℕ) → IsErrOf result (WorldFault.Disk slot) → ⊥ }
-        ensures sits { OnOk result (Sits (seen D.image_at D.moment self.new pairs.new.items)) }
-        ensures slot { OnOk result (StopsBy line.now (seen D.image_at D.moment self.old pairs.old.items) (bench D.image_at D.moment D.faults D.armed D.picks pairs.old.items) (bench D.image_at D.moment D.faults D.armed D.picks pairs.new.items)) }
-        ensures ended { (before : List Ran) → Stands before self.old (images D.image_at D.moment pairs.old.items) → IfErr result (λ e. LineEnds (λ c. whole_world (ids_of self.old) c before) line.now e (ids_of self.old) (places_of self.old) (images D.image_at D.moment pairs.new.items)) }
-        ensures onward { NoneForgotten (bench D.image_at D.moment D.faults D.armed D.picks pairs.old.items) (bench D.image_at D.moment D.faults D.armed D.picks pairs.new.items) }
+        ensures sits { OnOk result (Sits (seen D.view self.new pairs.new.items)) }
+        ensures slot { OnOk result (StopsBy line.now (seen D.view self.old pairs.old.items) (bench D.view pairs.old.items) (bench D.view pairs.new.items)) }
+        ensures ended { (before : List Ran) → Stands before self.old (images D.view pairs.old.items)
+            → IfErr result (λ e. LineEnds (λ c. whole_world (blank (ids_of self.old)) c before) line.now e (ids_of self.old) (places_of self.old)
+            (images D.view pairs.new.items)) }
+        ensures onward { NoneForgotten (bench D.view pairs.old.items) (bench D.view pairs.new.items) }
         ensures sound { IfErr result (λ e. is_of_journal e ≡ false) }
         ensures unlinked { IfErr result (λ e. is_of_links e ≡ false) }
     {
@@ -140,17 +162,20 @@ impl World {
         requires known { IsTrue (list_all (has_node (ids_of self.old)) (nodes_of line.now)) }
         requires fits { IsTrue (is_line line.now) }
         requires stops { stops line.now ≡ true }
-        requires sits { Sits (seen D.image_at D.moment self.old pairs.old.items) }
+        requires sits { Sits (seen D.view self.old pairs.old.items) }
         ensures ids { ids_of self.new ≡ ids_of self.old }
         ensures places { places_of self.new ≡ places_of self.old }
         ensures stops { self.new.stops ≡ self.old.stops }
         ensures events { self.new.events ≡ self.old.events }
-        ensures answer { (worlds : Id → CircuitWorld) (roll : Id → Answer) → ((c : Id) → Holds c (worlds c) (seen D.image_at D.moment self.old pairs.old.items)) → IfOk result (λ a. a ≡ line_answer worlds roll line.now (keeps_record line.now)) }
-        ensures holds { (c : Id) (m : CircuitWorld) → Holds c m (seen D.image_at D.moment self.old pairs.old.items) → OnOk result (Holds c (world_after c m (by_rule line.now)) (seen D.image_at D.moment self.new pairs.new.items)) }
-        ensures sits { OnOk result (Sits (seen D.image_at D.moment self.new pairs.new.items)) }
-        ensures slot { OnOk result (StopsBy line.now (seen D.image_at D.moment self.old pairs.old.items) (bench D.image_at D.moment D.faults D.armed D.picks pairs.old.items) (bench D.image_at D.moment D.faults D.armed D.picks pairs.new.items)) }
-        ensures ended { (worlds : Id → CircuitWorld) → ((c : Id) → Holds c (worlds c) (seen D.image_at D.moment self.old pairs.old.items)) → OnErr result (LineEnds worlds line.now WorldFault.NoMemory (ids_of self.old) (places_of self.old) (images D.image_at D.moment pairs.new.items)) }
-        ensures onward { NoneForgotten (bench D.image_at D.moment D.faults D.armed D.picks pairs.old.items) (bench D.image_at D.moment D.faults D.armed D.picks pairs.new.items) }
+        ensures answer { (worlds : Id → CircuitWorld) (roll : Id → Answer) → ((c : Id) → Holds c (worlds c) (seen D.view self.old pairs.old.items))
+            → IfOk result (λ a. a ≡ line_answer worlds roll line.now (keeps_record line.now)) }
+        ensures holds { (c : Id) (m : CircuitWorld) → Holds c m (seen D.view self.old pairs.old.items)
+            → OnOk result (Holds c (world_after c m (by_rule line.now)) (seen D.view self.new pairs.new.items)) }
+        ensures sits { OnOk result (Sits (seen D.view self.new pairs.new.items)) }
+        ensures slot { OnOk result (StopsBy line.now (seen D.view self.old pairs.old.items) (bench D.view pairs.old.items) (bench D.view pairs.new.items)) }
+        ensures ended { (worlds : Id → CircuitWorld) → ((c : Id) → Holds c (worlds c) (seen D.view self.old pairs.old.items))
+            → OnErr result (LineEnds worlds line.now WorldFault.NoMemory (ids_of self.old) (places_of self.old) (images D.view pairs.new.items)) }
+        ensures onward { NoneForgotten (bench D.view pairs.old.items) (bench D.view pairs.new.items) }
     {
         match line {
             Line::Stop(node) => {

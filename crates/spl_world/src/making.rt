@@ -1,10 +1,11 @@
 //! The nodes of a registry, where nothing happened yet.
 ghost use Rattle.std.specs.Prelude.{◌≡◌, ◌≢◌, ◌≤◌, ◌<◌, ◌++◌, ◌∷◌, ℕ, [], length, true, false, IfErr, IfOk, OnOk, IsErrOf};
 ghost use Rattle.std.specs.List.{AllPairs};
+ghost use Rattle.spl_edge.specs.Views.{bench};
 ghost use Rattle.spl_circuit.specs.Nodes.{sorted};
 ghost use Rattle.spl_circuit.specs.Rules.{ascends};
 ghost use Rattle.spl_registry.specs.Nodes.{ids_of as registered};
-ghost use Rattle.spl_world.specs.Disks.{AllTell, AreBlank, LeavesDisks, bench, images, images_at, is_of_journal};
+ghost use Rattle.spl_world.specs.Disks.{AllTell, AreBlank, LeavesDisks, images, images_at, is_of_journal};
 ghost use Rattle.spl_world.specs.Held.{AllHeld, AllUnpicked};
 ghost use Rattle.spl_world.specs.Links.{is_of_links};
 ghost use Rattle.spl_world.specs.Making.{AreMadeBut};
@@ -50,7 +51,7 @@ impl World {
         pairs: &mut Vec<Pair<D>>,
     ) -> Result<World, WorldFault>
         requires room { length registry.now ≤ length pairs.old.items }
-        requires blank { (i : ℕ) → i < length registry.now → AreBlank (images_at (images D.image_at D.moment pairs.old.items) i) }
+        requires blank { (i : ℕ) → i < length registry.now → AreBlank (images_at (images D.view pairs.old.items) i) }
         ensures ids { IfOk result (λ w. ids_of w ≡ sorted (registered registry.now)) }
         ensures few { (which : ℕ) → IsErrOf result (WorldFault.TooMany which) → ⊥ }
         ensures sound { IfErr result (λ e. is_of_journal e ≡ false) }
@@ -60,12 +61,14 @@ impl World {
         ensures below { IfOk result (λ w. (k : ℕ) → IsPlace (places_of w) k → k < length registry.now) }
         ensures running { IfOk result (λ w. is_halted w ≡ false) }
         // Whatever the disks tell, each node stands over its own.
-        ensures sits { IfOk result (λ w. Sits (seen D.image_at D.moment w pairs.new.items)) }
-        ensures stands { AllTell (length registry.now) (images D.image_at D.moment pairs.old.items) → IfOk result (λ w. Stands [] w (images D.image_at D.moment pairs.new.items)) }
-        ensures held { AllTell (length registry.now) (images D.image_at D.moment pairs.old.items) → AllUnpicked (bench D.image_at D.moment D.faults D.armed D.picks pairs.old.items) → IfOk result (λ w. AllHeld (bench D.image_at D.moment D.faults D.armed D.picks pairs.old.items) [] w (bench D.image_at D.moment D.faults D.armed D.picks pairs.new.items)) }
-        ensures disks { LeavesDisks result (bench D.image_at D.moment D.faults D.armed D.picks pairs.old.items) (bench D.image_at D.moment D.faults D.armed D.picks pairs.new.items) }
+        ensures sits { IfOk result (λ w. Sits (seen D.view w pairs.new.items)) }
+        ensures stands { AllTell (length registry.now) (images D.view pairs.old.items) → IfOk result (λ w. Stands [] w (images D.view pairs.new.items)) }
+        ensures held { AllTell (length registry.now) (images D.view pairs.old.items) → AllUnpicked (bench D.view pairs.old.items)
+            → IfOk result (λ w. AllHeld (bench D.view pairs.old.items) [] w (bench D.view pairs.new.items)) }
+        ensures disks { LeavesDisks result (bench D.view pairs.old.items) (bench D.view pairs.new.items) }
         // Where it ends with an error one node may be half made, and each other is made or not begun.
-        ensures unmade { AllUnpicked (bench D.image_at D.moment D.faults D.armed D.picks pairs.old.items) → IfErr result (λ e. AreMadeBut (sorted (registered registry.now)) registry.now e (bench D.image_at D.moment D.faults D.armed D.picks pairs.old.items) (bench D.image_at D.moment D.faults D.armed D.picks pairs.new.items)) }
+        ensures unmade { AllUnpicked (bench D.view pairs.old.items) → IfErr result
+            (λ e. AreMadeBut (sorted (registered registry.now)) registry.now e (bench D.view pairs.old.items) (bench D.view pairs.new.items)) }
     {
         let ids = sorted_ids(alloc, registry)?;
         let mut slots = Vec::new(alloc);

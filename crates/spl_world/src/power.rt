@@ -1,14 +1,15 @@
 //! Nodes that go down and come up, and what is bound at one.
 ghost use Rattle.std.specs.Prelude.{◌≡◌, ◌++◌, ◌∷◌, [], ◌<◌, ℕ, List, Some, None, true, false, length, slice_get, IfErr, IfOk, OnOk, OnErr, IsErrOf};
+ghost use Rattle.spl_edge.specs.Views.{bench};
 ghost use Rattle.spl_circuit.specs.Nodes.{NodeId as Id};
 ghost use Rattle.spl_model.specs.Answers.{roll_answer};
 ghost use Rattle.spl_model.specs.Outcomes.{by_rule};
 ghost use Rattle.spl_model.specs.Projection.{Ran, lines_fit};
 ghost use Rattle.spl_projection.specs.Whole.{whole_world};
-ghost use Rattle.spl_model.specs.Worlds.{World as CircuitWorld, Starts, Stops, happens};
+ghost use Rattle.spl_model.specs.Worlds.{blank, World as CircuitWorld, Starts, Stops, happens};
 ghost use Rattle.spl_sched.specs.Grammar.{is_line};
 ghost use Rattle.spl_sched.specs.declared.line.Line.TheVariants as line;
-ghost use Rattle.spl_world.specs.Disks.{Images, LeavesDisks, NoneForgotten, bench, images};
+ghost use Rattle.spl_world.specs.Disks.{Images, LeavesDisks, NoneForgotten, images};
 ghost use Rattle.spl_world.specs.Ended.{EventEnds};
 ghost use Rattle.spl_world.specs.Links.{is_of_links};
 ghost use Rattle.spl_world.specs.Held.{PickUnarmed, StopsAt};
@@ -30,18 +31,20 @@ impl World {
         slot: usize,
     ) -> Result<(), WorldFault>
         requires below { slot < length self.old.slots.items }
-        requires sits { Sits (seen D.image_at D.moment self.old pairs.old.items) }
+        requires sits { Sits (seen D.view self.old pairs.old.items) }
         ensures ids { ids_of self.new ≡ ids_of self.old }
         ensures places { places_of self.new ≡ places_of self.old }
         ensures stops { self.new.stops ≡ self.old.stops }
         ensures events { self.new.events ≡ self.old.events }
-        ensures holds { (c n : Id) (m : CircuitWorld) → IsAt self.old slot n → Holds c m (seen D.image_at D.moment self.old pairs.old.items) → OnOk result (Holds c (happens m (Starts n)) (seen D.image_at D.moment self.new pairs.new.items)) }
-        ensures sits { OnOk result (Sits (seen D.image_at D.moment self.new pairs.new.items)) }
-        ensures disks { LeavesDisks result (bench D.image_at D.moment D.faults D.armed D.picks pairs.old.items) (bench D.image_at D.moment D.faults D.armed D.picks pairs.new.items) }
+        ensures holds { (c n : Id) (m : CircuitWorld) → IsAt self.old slot n → Holds c m (seen D.view self.old pairs.old.items)
+            → OnOk result (Holds c (happens m (Starts n)) (seen D.view self.new pairs.new.items)) }
+        ensures sits { OnOk result (Sits (seen D.view self.new pairs.new.items)) }
+        ensures disks { LeavesDisks result (bench D.view pairs.old.items) (bench D.view pairs.new.items) }
         ensures place { (slot : ℕ) → IsErrOf result (WorldFault.Disk slot) → IsPlace (places_of self.old) slot }
-        ensures sound { (c : Id) (m : CircuitWorld) (slot at : ℕ) → Holds c m (seen D.image_at D.moment self.old pairs.old.items) → IsErrOf result (WorldFault.NotAJournal slot at) → ⊥ }
+        ensures sound { (c : Id) (m : CircuitWorld) (slot at : ℕ) → Holds c m (seen D.view self.old pairs.old.items)
+            → IsErrOf result (WorldFault.NotAJournal slot at) → ⊥ }
         ensures journal { (position at : ℕ) → IsErrOf result (WorldFault.NotAJournal position at) → slice_get (places_of self.old) slot ≡ Some position }
-        ensures same { images D.image_at D.moment pairs.new.items ≡ images D.image_at D.moment pairs.old.items }
+        ensures same { images D.view pairs.new.items ≡ images D.view pairs.old.items }
         ensures few { (which : ℕ) → IsErrOf result (WorldFault.TooMany which) → ⊥ }
         ensures unlinked { IfErr result (λ e. is_of_links e ≡ false) }
     {
@@ -58,16 +61,19 @@ impl World {
         slot: usize,
     ) -> Result<(), AllocError>
         requires below { slot < length self.old.slots.items }
-        requires sits { Sits (seen D.image_at D.moment self.old pairs.old.items) }
+        requires sits { Sits (seen D.view self.old pairs.old.items) }
         ensures ids { ids_of self.new ≡ ids_of self.old }
         ensures places { places_of self.new ≡ places_of self.old }
         ensures stops { self.new.stops ≡ self.old.stops }
         ensures events { self.new.events ≡ self.old.events }
-        ensures holds { (c n : Id) (m : CircuitWorld) → IsAt self.old slot n → Holds c m (seen D.image_at D.moment self.old pairs.old.items) → OnOk result (Holds c (happens m (Stops n)) (seen D.image_at D.moment self.new pairs.new.items)) }
-        ensures sits { OnOk result (Sits (seen D.image_at D.moment self.new pairs.new.items)) }
-        ensures picks { (s : Seat) → slice_get self.old.slots.items slot ≡ Some s → OnOk result (StopsAt (PickUnarmed None) (slot_up s) s.position (bench D.image_at D.moment D.faults D.armed D.picks pairs.old.items) (bench D.image_at D.moment D.faults D.armed D.picks pairs.new.items)) }
-        ensures ended { (c : Id) (m : CircuitWorld) → Holds c m (seen D.image_at D.moment self.old pairs.old.items) → OnErr result (EventEnds c m WorldFault.NoMemory (seen D.image_at D.moment self.old pairs.old.items) (images D.image_at D.moment pairs.new.items)) }
-        ensures onward { NoneForgotten (bench D.image_at D.moment D.faults D.armed D.picks pairs.old.items) (bench D.image_at D.moment D.faults D.armed D.picks pairs.new.items) }
+        ensures holds { (c n : Id) (m : CircuitWorld) → IsAt self.old slot n → Holds c m (seen D.view self.old pairs.old.items)
+            → OnOk result (Holds c (happens m (Stops n)) (seen D.view self.new pairs.new.items)) }
+        ensures sits { OnOk result (Sits (seen D.view self.new pairs.new.items)) }
+        ensures picks { (s : Seat) → slice_get self.old.slots.items slot ≡ Some s
+            → OnOk result (StopsAt (PickUnarmed None) (slot_up s) s.position (bench D.view pairs.old.items) (bench D.view pairs.new.items)) }
+        ensures ended { (c : Id) (m : CircuitWorld) → Holds c m (seen D.view self.old pairs.old.items)
+            → OnErr result (EventEnds c m WorldFault.NoMemory (seen D.view self.old pairs.old.items) (images D.view pairs.new.items)) }
+        ensures onward { NoneForgotten (bench D.view pairs.old.items) (bench D.view pairs.new.items) }
     {
         let here = &mut self.slots[slot];
         let disks = &mut pairs[here.position()];
@@ -77,7 +83,9 @@ impl World {
     // What is bound at the node of this index, where it is up.
     pub(crate) fn roll_at(&self, alloc: Global, slot: usize) -> Result<Answer, AllocError>
         requires below { slot < length self.now.slots.items }
-        ensures { (is : List Images) (before : List Ran) (n : Id) → is_line (line.Roll n) ≡ true → lines_fit before ≡ true → ((c : Id) → Holds c (whole_world (ids_of self.now) c before) (over self.now is)) → IsAt self.now slot n → IfOk result (λ a. a ≡ roll_answer (ids_of self.now) (before ++ by_rule (line.Roll n) ∷ []) n) }
+        ensures { (is : List Images) (before : List Ran) (n : Id) → is_line (line.Roll n) ≡ true → lines_fit before ≡ true
+            → ((c : Id) → Holds c (whole_world (blank (ids_of self.now)) c before) (over self.now is)) → IsAt self.now slot n
+            → IfOk result (λ a. a ≡ roll_answer (blank (ids_of self.now)) (before ++ by_rule (line.Roll n) ∷ []) n) }
     {
         if !self.is_up(slot) {
             return Ok(Answer::Refused(Refusal::Down));

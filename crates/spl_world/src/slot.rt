@@ -6,6 +6,8 @@ ghost use Rattle.std.specs.List.Sorted.{IsStrictlySortedBy};
 ghost use Rattle.std.specs.Ordering.{nat_cmp};
 ghost use Rattle.std.specs.Cmp.Lexicographic.{slice_cmp};
 ghost use Rattle.std.specs.Str.{bytes_eq};
+ghost use Rattle.spl_edge.specs.Views.{image_now, pair_view};
+ghost use Rattle.spl_snapshot.specs.Counting.{PairOnward, HasRisen};
 ghost use Rattle.spl_circuit.specs.Nodes.{NodeId as Id};
 ghost use Rattle.spl_cell.specs.Due.{due};
 ghost use Rattle.spl_model.specs.Worlds.{site_at};
@@ -16,7 +18,7 @@ ghost use Rattle.spl_rules.specs.Plans.{plan_of};
 ghost use Rattle.spl_rules.specs.Valid.{IsFor};
 ghost use Rattle.spl_node.specs.Stands.{StandFor};
 ghost use Rattle.spl_node.specs.Stopping.{FillsHost, IsInCheckpoint, IsStopping, cells_stopped, event_changes, has_changes, keeps, passing};
-ghost use Rattle.spl_world.specs.Disks.{AreBlank, HasRisen, Images, PairGoesOn, Tell, TellAs, images_of, is_of_journal, pair_view};
+ghost use Rattle.spl_world.specs.Disks.{AreBlank, Images, Tell, TellAs, images_of, is_of_journal};
 ghost use Rattle.spl_world.specs.Held.{HavePicked, OtherPicksHigher, PickUnarmed};
 ghost use Rattle.spl_node.specs.Kept.{cells_after};
 ghost use Rattle.spl_world.specs.Ended.{LeaveEither, LeaveNow};
@@ -49,14 +51,15 @@ impl Slot {
         position: u8,
         disks: &mut Pair<D>,
     ) -> Result<Slot, WorldFault>
-        requires blank { AreBlank (images_of D.image_at D.moment disks.old) }
+        requires blank { AreBlank (images_of D.view disks.old) }
         ensures id { IfOk result (λ s. slot_id s ≡ id) }
         ensures position { IfOk result (λ s. s.position ≡ position) }
         ensures fresh { IfOk result IsFresh }
-        ensures stands { IfOk result (λ s. HostStands s.host (D.image_at disks.new.first (D.moment disks.new.first)) (D.image_at disks.new.second (D.moment disks.new.second))) }
-        ensures tells { OnOk result (TellAs (images_of D.image_at D.moment disks.old) (images_of D.image_at D.moment disks.new)) }
-        ensures onward { PairGoesOn (pair_view D.image_at D.moment D.faults D.armed D.picks disks.old) (pair_view D.image_at D.moment D.faults D.armed D.picks disks.new) }
-        ensures failed { (slot : ℕ) → IsErrOf result (WorldFault.Disk slot) → (slot ≡ position) × HasRisen (pair_view D.image_at D.moment D.faults D.armed D.picks disks.old) (pair_view D.image_at D.moment D.faults D.armed D.picks disks.new) }
+        ensures stands { IfOk result (λ s. HostStands s.host (image_now (D.view disks.new.first)) (image_now (D.view disks.new.second))) }
+        ensures tells { OnOk result (TellAs (images_of D.view disks.old) (images_of D.view disks.new)) }
+        ensures onward { PairOnward (pair_view D.view disks.old) (pair_view D.view disks.new) }
+        ensures failed { (slot : ℕ) → IsErrOf result (WorldFault.Disk slot)
+            → (slot ≡ position) × HasRisen (pair_view D.view disks.old) (pair_view D.view disks.new) }
         ensures few { (which : ℕ) → IsErrOf result (WorldFault.TooMany which) → ⊥ }
         ensures sound { IfErr result (λ e. is_of_journal e ≡ false) }
         ensures unlinked { IfErr result (λ e. is_of_links e ≡ false) }
@@ -95,7 +98,8 @@ impl Slot {
     /// Whether a tick has anything to do at the cell of a circuit; None where the node is down, or
     /// the cell isn't bound and open.
     pub fn due(&self, circuit: &CircuitId) -> Option<bool>
-        ensures due { (is : Images) → HostStands self.now.host is.0 is.1 → result ≡ (if slot_up self.now then due (site_at (slot_id self.now) circuit.now) ((node_view self.now is).cells circuit.now) else None) }
+        ensures due { (is : Images) → HostStands self.now.host is.0 is.1
+            → result ≡ (if slot_up self.now then due (site_at (slot_id self.now) circuit.now) ((node_view self.now is).cells circuit.now) else None) }
         ensures up { is_some result ≡ true → slot_up self.now ≡ true }
     {
         self.host.due(circuit)
@@ -122,21 +126,27 @@ impl Slot {
     ) -> Result<Answer, WorldFault>
         requires up { slot_up self.old ≡ true }
         requires own { IsFor (site_at (slot_id self.old) circuit.now) event.now }
-        requires stands { HostStands self.old.host (D.image_at disks.old.first (D.moment disks.old.first)) (D.image_at disks.old.second (D.moment disks.old.second)) }
+        requires stands { HostStands self.old.host (image_now (D.view disks.old.first)) (image_now (D.view disks.old.second)) }
         ensures id { slot_id self.new ≡ slot_id self.old }
         ensures up { slot_up self.new ≡ slot_up self.old }
         ensures position { self.new.position ≡ self.old.position }
-        ensures answer { IfOk result (λ a. a ≡ (plan_of (site_at (slot_id self.old) circuit.now) ((node_view self.old (images_of D.image_at D.moment disks.old)).cells circuit.now) event.now).answer) }
-        ensures done { OnOk result (IsDone (slot_id self.old) (plan_of (site_at (slot_id self.old) circuit.now) ((node_view self.old (images_of D.image_at D.moment disks.old)).cells circuit.now) event.now)
-            (place_of (node_view self.old (images_of D.image_at D.moment disks.old)) circuit.now) (place_of (node_view self.new (images_of D.image_at D.moment disks.new)) circuit.now)) }
-        ensures others { OnOk result ((c : Id) → bytes_eq circuit.now c ≡ false → place_of (node_view self.new (images_of D.image_at D.moment disks.new)) c ≡ place_of (node_view self.old (images_of D.image_at D.moment disks.old)) c) }
-        ensures stands { OnOk result (HostStands self.new.host (D.image_at disks.new.first (D.moment disks.new.first)) (D.image_at disks.new.second (D.moment disks.new.second))) }
-        ensures tells { OnOk result (TellAs (images_of D.image_at D.moment disks.old) (images_of D.image_at D.moment disks.new)) }
-        ensures onward { PairGoesOn (pair_view D.image_at D.moment D.faults D.armed D.picks disks.old) (pair_view D.image_at D.moment D.faults D.armed D.picks disks.new) }
+        ensures answer { IfOk result (λ a. a ≡ (plan_of (site_at (slot_id self.old) circuit.now)
+            ((node_view self.old (images_of D.view disks.old)).cells circuit.now) event.now).answer) }
+        ensures done { OnOk result (IsDone (slot_id self.old)
+            (plan_of (site_at (slot_id self.old) circuit.now) ((node_view self.old (images_of D.view disks.old)).cells circuit.now) event.now)
+            (place_of (node_view self.old (images_of D.view disks.old)) circuit.now) (place_of (node_view self.new (images_of D.view disks.new)) circuit.now)) }
+        ensures others { OnOk result ((c : Id) → bytes_eq circuit.now c ≡ false
+            → place_of (node_view self.new (images_of D.view disks.new)) c ≡ place_of (node_view self.old (images_of D.view disks.old)) c) }
+        ensures stands { OnOk result (HostStands self.new.host (image_now (D.view disks.new.first)) (image_now (D.view disks.new.second))) }
+        ensures tells { OnOk result (TellAs (images_of D.view disks.old) (images_of D.view disks.new)) }
+        ensures onward { PairOnward (pair_view D.view disks.old) (pair_view D.view disks.new) }
         // Whatever the result, a stop leaves what stands for the cells before the event or for those after it, where the disks
         // told before it.
-        ensures leaves { Tell (images_of D.image_at D.moment disks.old) → LeaveEither (slot_id self.old) (node_view self.old (images_of D.image_at D.moment disks.old)).cells (cells_after (slot_id self.old) (node_view self.old (images_of D.image_at D.moment disks.old)).cells circuit.now event.now) (images_of D.image_at D.moment disks.new) }
-        ensures failed { (slot : ℕ) → IsErrOf result (WorldFault.Disk slot) → (slot ≡ self.old.position) × HasRisen (pair_view D.image_at D.moment D.faults D.armed D.picks disks.old) (pair_view D.image_at D.moment D.faults D.armed D.picks disks.new) }
+        ensures leaves { Tell (images_of D.view disks.old) → LeaveEither (slot_id self.old) (node_view self.old (images_of D.view disks.old)).cells
+            (cells_after (slot_id self.old) (node_view self.old (images_of D.view disks.old)).cells circuit.now event.now)
+            (images_of D.view disks.new) }
+        ensures failed { (slot : ℕ) → IsErrOf result (WorldFault.Disk slot)
+            → (slot ≡ self.old.position) × HasRisen (pair_view D.view disks.old) (pair_view D.view disks.new) }
         ensures few { (which : ℕ) → IsErrOf result (WorldFault.TooMany which) → ⊥ }
         ensures sound { IfErr result (λ e. is_of_journal e ≡ false) }
         ensures unlinked { IfErr result (λ e. is_of_links e ≡ false) }
@@ -152,19 +162,21 @@ impl Slot {
 
     /// The node comes up, with the cells that it had. One that is up stays so.
     pub fn start<D: Disk>(&mut self, alloc: Global, disks: &mut Pair<D>) -> Result<(), WorldFault>
-        requires stands { HostStands self.old.host (D.image_at disks.old.first (D.moment disks.old.first)) (D.image_at disks.old.second (D.moment disks.old.second)) }
+        requires stands { HostStands self.old.host (image_now (D.view disks.old.first)) (image_now (D.view disks.old.second)) }
         ensures id { slot_id self.new ≡ slot_id self.old }
         ensures position { self.new.position ≡ self.old.position }
         ensures posts { self.new.posts ≡ self.old.posts }
         ensures up { OnOk result (slot_up self.new ≡ true) }
-        ensures cells { OnOk result (Tell (images_of D.image_at D.moment disks.old) → (c : Id) → (node_view self.new (images_of D.image_at D.moment disks.new)).cells c ≡ (node_view self.old (images_of D.image_at D.moment disks.old)).cells c) }
-        ensures stands { OnOk result (HostStands self.new.host (D.image_at disks.new.first (D.moment disks.new.first)) (D.image_at disks.new.second (D.moment disks.new.second))) }
-        ensures onward { PairGoesOn (pair_view D.image_at D.moment D.faults D.armed D.picks disks.old) (pair_view D.image_at D.moment D.faults D.armed D.picks disks.new) }
+        ensures cells { OnOk result (Tell (images_of D.view disks.old) → (c : Id)
+            → (node_view self.new (images_of D.view disks.new)).cells c ≡ (node_view self.old (images_of D.view disks.old)).cells c) }
+        ensures stands { OnOk result (HostStands self.new.host (image_now (D.view disks.new.first)) (image_now (D.view disks.new.second))) }
+        ensures onward { PairOnward (pair_view D.view disks.old) (pair_view D.view disks.new) }
         // Whatever the result, its disks hold what they held.
-        ensures same { images_of D.image_at D.moment disks.new ≡ images_of D.image_at D.moment disks.old }
-        ensures failed { (slot : ℕ) → IsErrOf result (WorldFault.Disk slot) → (slot ≡ self.old.position) × HasRisen (pair_view D.image_at D.moment D.faults D.armed D.picks disks.old) (pair_view D.image_at D.moment D.faults D.armed D.picks disks.new) }
+        ensures same { images_of D.view disks.new ≡ images_of D.view disks.old }
+        ensures failed { (slot : ℕ) → IsErrOf result (WorldFault.Disk slot)
+            → (slot ≡ self.old.position) × HasRisen (pair_view D.view disks.old) (pair_view D.view disks.new) }
         // What disks that tell hold is a journal.
-        ensures sound { Tell (images_of D.image_at D.moment disks.old) → (slot at : ℕ) → IsErrOf result (WorldFault.NotAJournal slot at) → ⊥ }
+        ensures sound { Tell (images_of D.view disks.old) → (slot at : ℕ) → IsErrOf result (WorldFault.NotAJournal slot at) → ⊥ }
         ensures journal { (slot at : ℕ) → IsErrOf result (WorldFault.NotAJournal slot at) → slot ≡ self.old.position }
         ensures few { (which : ℕ) → IsErrOf result (WorldFault.TooMany which) → ⊥ }
         ensures unlinked { IfErr result (λ e. is_of_links e ≡ false) }
@@ -182,21 +194,23 @@ impl Slot {
         alloc: Global,
         disks: &mut Pair<D>,
     ) -> Result<(), AllocError>
-        requires stands { HostStands self.old.host (D.image_at disks.old.first (D.moment disks.old.first)) (D.image_at disks.old.second (D.moment disks.old.second)) }
+        requires stands { HostStands self.old.host (image_now (D.view disks.old.first)) (image_now (D.view disks.old.second)) }
         ensures id { slot_id self.new ≡ slot_id self.old }
         ensures position { self.new.position ≡ self.old.position }
         ensures posts { self.new.posts ≡ self.old.posts }
         ensures down { OnOk result (slot_up self.new ≡ false) }
-        ensures stopped { OnOk result (slot_up self.old ≡ true → (c : Id) → (node_view self.new (images_of D.image_at D.moment disks.new)).cells c ≡ stopped_cell ((node_view self.old (images_of D.image_at D.moment disks.old)).cells c)) }
-        ensures same { slot_up self.old ≡ false → (c : Id) → (node_view self.new (images_of D.image_at D.moment disks.new)).cells c ≡ (node_view self.old (images_of D.image_at D.moment disks.old)).cells c }
+        ensures stopped { OnOk result (slot_up self.old ≡ true → (c : Id)
+            → (node_view self.new (images_of D.view disks.new)).cells c ≡ stopped_cell ((node_view self.old (images_of D.view disks.old)).cells c)) }
+        ensures same { slot_up self.old ≡ false → (c : Id) → (node_view self.new (images_of D.view disks.new)).cells c
+            ≡ (node_view self.old (images_of D.view disks.old)).cells c }
         ensures none { slot_up self.old ≡ false → disks.new ≡ disks.old }
-        ensures stands { OnOk result (HostStands self.new.host (D.image_at disks.new.first (D.moment disks.new.first)) (D.image_at disks.new.second (D.moment disks.new.second))) }
+        ensures stands { OnOk result (HostStands self.new.host (image_now (D.view disks.new.first)) (image_now (D.view disks.new.second))) }
         // Whatever the result, a stop leaves what stands for its cells.
-        ensures leaves { LeaveNow (StandFor (slot_id self.old) (node_view self.old (images_of D.image_at D.moment disks.old)).cells) (images_of D.image_at D.moment disks.new) }
+        ensures leaves { LeaveNow (StandFor (slot_id self.old) (node_view self.old (images_of D.view disks.old)).cells) (images_of D.view disks.new) }
         // Where it was up both disks picked what they had.
-        ensures picks { OnOk result (slot_up self.old ≡ true → PickUnarmed None (pair_view D.image_at D.moment D.faults D.armed D.picks disks.old) (pair_view D.image_at D.moment D.faults D.armed D.picks disks.new)) }
-        ensures first_stays { D.faults disks.old.first ≤ D.faults disks.new.first }
-        ensures second_stays { D.faults disks.old.second ≤ D.faults disks.new.second }
+        ensures picks { OnOk result (slot_up self.old ≡ true → PickUnarmed None (pair_view D.view disks.old) (pair_view D.view disks.new)) }
+        ensures first_stays { (D.view disks.old.first).faults ≤ (D.view disks.new.first).faults }
+        ensures second_stays { (D.view disks.old.second).faults ≤ (D.view disks.new.second).faults }
     {
         self.host.stop(alloc, disks)
     }
@@ -209,7 +223,8 @@ impl Slot {
         ensures posts { self.new.posts ≡ self.old.posts }
         ensures down { slot_up self.new ≡ false }
         // Where its disks tell it keeps its cells but for the open rounds.
-        ensures stopped { slot_up self.old ≡ true → (is : Images) → HostStands self.old.host is.0 is.1 → Tell is → (c : Id) → (node_view self.new is).cells c ≡ stopped_cell ((node_view self.old is).cells c) }
+        ensures stopped { slot_up self.old ≡ true → (is : Images) → HostStands self.old.host is.0 is.1 → Tell is → (c : Id)
+            → (node_view self.new is).cells c ≡ stopped_cell ((node_view self.old is).cells c) }
         ensures same { slot_up self.old ≡ false → (is : Images) (c : Id) → (node_view self.new is).cells c ≡ (node_view self.old is).cells c }
         ensures stands { (is : Images) → HostStands self.old.host is.0 is.1 → HostStands self.new.host is.0 is.1 }
     {
@@ -230,23 +245,33 @@ impl Slot {
         requires up { slot_up self.old ≡ true }
         requires own { IfSome (option_copied event) (IsFor (site_at (slot_id self.old) circuit.now)) }
         requires calls { IsStopping stopping }
-        requires stands { HostStands self.old.host (D.image_at disks.old.first (D.moment disks.old.first)) (D.image_at disks.old.second (D.moment disks.old.second)) }
+        requires stands { HostStands self.old.host (image_now (D.view disks.old.first)) (image_now (D.view disks.old.second)) }
         ensures id { slot_id self.new ≡ slot_id self.old }
         ensures position { self.new.position ≡ self.old.position }
         ensures posts { self.new.posts ≡ self.old.posts }
         ensures down { OnOk result (slot_up self.new ≡ false) }
-        ensures tells { IfOk result (λ b. b ≡ has_changes (event_changes (slot_id self.old) (node_view self.old (images_of D.image_at D.moment disks.old)).cells circuit.now (option_copied event.entry))) }
-        ensures stopped { OnOk result ((c : Id) → (node_view self.new (images_of D.image_at D.moment disks.new)).cells c ≡ (cells_stopped (slot_id self.old) (node_view self.old (images_of D.image_at D.moment disks.old)).cells circuit.now (event_changes (slot_id self.old) (node_view self.old (images_of D.image_at D.moment disks.old)).cells circuit.now (option_copied event.entry)) (keeps stopping)) c) }
-        ensures stands { OnOk result (HostStands self.new.host (D.image_at disks.new.first (D.moment disks.new.first)) (D.image_at disks.new.second (D.moment disks.new.second))) }
+        ensures tells { IfOk result (λ b. b ≡ has_changes
+            (event_changes (slot_id self.old) (node_view self.old (images_of D.view disks.old)).cells circuit.now (option_copied event.entry))) }
+        ensures stopped { OnOk result ((c : Id) → (node_view self.new (images_of D.view disks.new)).cells c
+            ≡ (cells_stopped (slot_id self.old) (node_view self.old (images_of D.view disks.old)).cells circuit.now
+            (event_changes (slot_id self.old) (node_view self.old (images_of D.view disks.old)).cells circuit.now (option_copied event.entry))
+            (keeps stopping)) c) }
+        ensures stands { OnOk result (HostStands self.new.host (image_now (D.view disks.new.first)) (image_now (D.view disks.new.second))) }
         // Whatever the result, a stop leaves what stands for its cells before the event or for those behind the stop in it.
-        ensures leaves { LeaveEither (slot_id self.old) (node_view self.old (images_of D.image_at D.moment disks.old)).cells (cells_stopped (slot_id self.old) (node_view self.old (images_of D.image_at D.moment disks.old)).cells circuit.now (event_changes (slot_id self.old) (node_view self.old (images_of D.image_at D.moment disks.old)).cells circuit.now (option_copied event.entry)) true) (images_of D.image_at D.moment disks.new) }
-        ensures picks { OnOk result (HavePicked (Some stopping) (pair_view D.image_at D.moment D.faults D.armed D.picks disks.old) (pair_view D.image_at D.moment D.faults D.armed D.picks disks.new)) }
+        ensures leaves { LeaveEither (slot_id self.old) (node_view self.old (images_of D.view disks.old)).cells
+            (cells_stopped (slot_id self.old) (node_view self.old (images_of D.view disks.old)).cells circuit.now
+            (event_changes (slot_id self.old) (node_view self.old (images_of D.view disks.old)).cells circuit.now (option_copied event.entry)) true)
+            (images_of D.view disks.new) }
+        ensures picks { OnOk result (HavePicked (Some stopping) (pair_view D.view disks.old) (pair_view D.view disks.new)) }
         // Where a call that keeps the record didn't pass, a disk has failed.
-        ensures risen { OnOk result ((event_changes (slot_id self.old) (node_view self.old (images_of D.image_at D.moment disks.old)).cells circuit.now (option_copied event.entry)) ≢ [] → passing stopping < 4 → HasRisen (pair_view D.image_at D.moment D.faults D.armed D.picks disks.old) (pair_view D.image_at D.moment D.faults D.armed D.picks disks.new)) }
+        ensures risen { OnOk result ((event_changes (slot_id self.old) (node_view self.old (images_of D.view disks.old)).cells circuit.now
+            (option_copied event.entry)) ≢ [] → passing stopping < 4 → HasRisen (pair_view D.view disks.old) (pair_view D.view disks.new)) }
         // Where a call of a checkpoint didn't pass, the disk that doesn't count keeps a higher count of faults.
-        ensures risen_other { OnOk result (FillsHost self.old.host circuit.now (event_changes (slot_id self.old) (node_view self.old (images_of D.image_at D.moment disks.old)).cells circuit.now (option_copied event.entry)) → IsInCheckpoint stopping → OtherPicksHigher (pair_view D.image_at D.moment D.faults D.armed D.picks disks.old) (pair_view D.image_at D.moment D.faults D.armed D.picks disks.new)) }
-        ensures first_stays { D.faults disks.old.first ≤ D.faults disks.new.first }
-        ensures second_stays { D.faults disks.old.second ≤ D.faults disks.new.second }
+        ensures risen_other { OnOk result (FillsHost self.old.host circuit.now
+            (event_changes (slot_id self.old) (node_view self.old (images_of D.view disks.old)).cells circuit.now (option_copied event.entry))
+            → IsInCheckpoint stopping → OtherPicksHigher (pair_view D.view disks.old) (pair_view D.view disks.new)) }
+        ensures first_stays { (D.view disks.old.first).faults ≤ (D.view disks.new.first).faults }
+        ensures second_stays { (D.view disks.old.second).faults ≤ (D.view disks.new.second).faults }
     {
         self.host.stop_in(alloc, disks, circuit, event, stopping)
     }

@@ -1,7 +1,8 @@
 //! A line of a schedule in the world.
 ghost use Rattle.std.specs.Prelude.{◌≡◌, ◌++◌, ◌∷◌, [], ℕ, ◌<◌, ◌≤◌, List, true, false, IsTrue, IfErr, IfOk, OnOk, OnErr, IsErrOf};
 ghost use Rattle.std.specs.List.{list_all};
-ghost use Rattle.spl_calm.specs.Settled.{acts_kept, batches_kept, IsActiveAll, IsSettled, IsWhole};
+ghost use Rattle.spl_edge.specs.Views.{PairView, bench};
+ghost use Rattle.spl_calm.specs.Settled.{acts_kept, batches_kept, IsRunningAll, IsSettled, IsWhole};
 ghost use Rattle.spl_circuit.specs.Nodes.{CircuitId, NodeId as Id, has_node};
 ghost use Rattle.spl_circuit.specs.Rules.{admin, service};
 ghost use Rattle.spl_circuit.specs.declared.act.Act.{Act};
@@ -10,11 +11,11 @@ ghost use Rattle.spl_command.specs.declared.batch.Batch.{Batch};
 ghost use Rattle.spl_model.specs.Projection.{Ran};
 ghost use Rattle.spl_model.specs.Outcomes.{by_rule};
 ghost use Rattle.spl_sched.specs.Grammar.{nodes_of, step_nodes, step_circuit, is_line, is_step};
-ghost use Rattle.spl_model.specs.Worlds.{World as CircuitWorld, Steps, step_plan, step_world};
+ghost use Rattle.spl_model.specs.Worlds.{blank, World as CircuitWorld, Steps, step_plan, step_world};
 ghost use Rattle.spl_model.specs.Answers.{answer_to};
 ghost use Rattle.spl_model.specs.Counts.{events_of};
 ghost use Rattle.spl_world.specs.Lines.{starts, stops};
-ghost use Rattle.spl_world.specs.Disks.{LeavesDisks, PairView, bench, images, is_of_journal};
+ghost use Rattle.spl_world.specs.Disks.{LeavesDisks, images, is_of_journal};
 ghost use Rattle.spl_world.specs.Held.{AllHeld, FailedSince};
 ghost use Rattle.spl_projection.specs.Whole.{whole_world};
 ghost use Rattle.spl_world.specs.Ended.{EventEnds, LineEnds};
@@ -43,23 +44,30 @@ impl World {
     ) -> Result<Answer, WorldFault>
         requires known { list_all (has_node (ids_of self.old)) (step_nodes step.now) ≡ true }
         requires fits { is_step step.now ≡ true }
-        requires sits { Sits (seen D.image_at D.moment self.old pairs.old.items) }
-        requires ready { IsReady (places_of self.old) (link_view C.slots C.failed C.wire F.put_on F.taken_on F.faults carrier.old fabric.old) }
+        requires sits { Sits (seen D.view self.old pairs.old.items) }
+        requires ready { IsReady (places_of self.old) (link_view (C.view carrier.old) (F.view fabric.old)) }
         ensures ids { ids_of self.new ≡ ids_of self.old }
         ensures places { places_of self.new ≡ places_of self.old }
         ensures stops { self.new.stops ≡ self.old.stops }
         ensures events { self.new.events ≡ self.old.events }
-        ensures answer { (m : CircuitWorld) → Holds (step_circuit step.now) m (seen D.image_at D.moment self.old pairs.old.items) → IfOk result (λ a. a ≡ (step_plan m step.now).answer) }
-        ensures moves { OnOk result (Moves (step_circuit step.now) (λ m. step_world m step.now) (seen D.image_at D.moment self.old pairs.old.items) (seen D.image_at D.moment self.new pairs.new.items)) }
-        ensures sits { OnOk result (Sits (seen D.image_at D.moment self.new pairs.new.items)) }
-        ensures disks { LeavesDisks result (bench D.image_at D.moment D.faults D.armed D.picks pairs.old.items) (bench D.image_at D.moment D.faults D.armed D.picks pairs.new.items) }
+        ensures answer { (m : CircuitWorld) → Holds (step_circuit step.now) m (seen D.view self.old pairs.old.items)
+            → IfOk result (λ a. a ≡ (step_plan m step.now).answer) }
+        ensures moves { OnOk result (Moves (step_circuit step.now) (λ m. step_world m step.now) (seen D.view self.old pairs.old.items)
+            (seen D.view self.new pairs.new.items)) }
+        ensures sits { OnOk result (Sits (seen D.view self.new pairs.new.items)) }
+        ensures disks { LeavesDisks result (bench D.view pairs.old.items) (bench D.view pairs.new.items) }
         ensures place { (slot : ℕ) → IsErrOf result (WorldFault.Disk slot) → IsPlace (places_of self.old) slot }
         ensures sound { IfErr result (λ e. is_of_journal e ≡ false) }
         ensures few { (which : ℕ) → IsErrOf result (WorldFault.TooMany which) → ⊥ }
-        ensures ended { (m : CircuitWorld) → Holds (step_circuit step.now) m (seen D.image_at D.moment self.old pairs.old.items) → IfErr result (λ e. EventEnds (step_circuit step.now) (step_world m step.now) e (seen D.image_at D.moment self.old pairs.old.items) (images D.image_at D.moment pairs.new.items)) }
-        ensures ready { OnOk result (IsReady (places_of self.new) (link_view C.slots C.failed C.wire F.put_on F.taken_on F.faults carrier.new fabric.new)) }
-        ensures links { (place : CircuitId → ℕ) (m : CircuitWorld) → Places place (ids_of self.old) (places_of self.old) → Holds (step_circuit step.now) m (seen D.image_at D.moment self.old pairs.old.items) → Delivers result (carried_at place m (Steps step.now)) (link_view C.slots C.failed C.wire F.put_on F.taken_on F.faults carrier.old fabric.old) (link_view C.slots C.failed C.wire F.put_on F.taken_on F.faults carrier.new fabric.new) }
-        ensures faults { LeavesLinks result (link_view C.slots C.failed C.wire F.put_on F.taken_on F.faults carrier.old fabric.old) (link_view C.slots C.failed C.wire F.put_on F.taken_on F.faults carrier.new fabric.new) }
+        ensures ended { (m : CircuitWorld) → Holds (step_circuit step.now) m (seen D.view self.old pairs.old.items)
+            → IfErr result (λ e. EventEnds (step_circuit step.now) (step_world m step.now) e (seen D.view self.old pairs.old.items)
+            (images D.view pairs.new.items)) }
+        ensures ready { OnOk result (IsReady (places_of self.new) (link_view (C.view carrier.new) (F.view fabric.new))) }
+        ensures links { (place : CircuitId → ℕ) (m : CircuitWorld) → Places place (ids_of self.old) (places_of self.old)
+            → Holds (step_circuit step.now) m (seen D.view self.old pairs.old.items)
+            → Delivers result (carried_at place m (Steps step.now)) (link_view (C.view carrier.old) (F.view fabric.old))
+            (link_view (C.view carrier.new) (F.view fabric.new)) }
+        ensures faults { LeavesLinks result (link_view (C.view carrier.old) (F.view fabric.old)) (link_view (C.view carrier.new) (F.view fabric.new)) }
     {
         match step {
             Step::At {
@@ -112,41 +120,64 @@ impl World {
         requires known { IsTrue (list_all (has_node (ids_of self.old)) (nodes_of line.now)) }
         requires fits { IsTrue (is_line line.now) }
         requires steps { stops line.now ≡ false }
-        requires sits { Sits (seen D.image_at D.moment self.old pairs.old.items) }
-        requires ready { IsReady (places_of self.old) (link_view C.slots C.failed C.wire F.put_on F.taken_on F.faults carrier.old fabric.old) }
+        requires sits { Sits (seen D.view self.old pairs.old.items) }
+        requires ready { IsReady (places_of self.old) (link_view (C.view carrier.old) (F.view fabric.old)) }
         ensures ids { ids_of self.new ≡ ids_of self.old }
         ensures places { places_of self.new ≡ places_of self.old }
-        ensures answer { (before : List Ran) → Stands before self.old (images D.image_at D.moment pairs.old.items) → IfOk result (λ a. a ≡ answer_to (ids_of self.old) before (by_rule line.now)) }
-        ensures stands { (before : List Ran) → Stands before self.old (images D.image_at D.moment pairs.old.items) → OnOk result (Stands (before ++ by_rule line.now ∷ []) self.new (images D.image_at D.moment pairs.new.items)) }
-        ensures few { (before : List Ran) → Stands before self.old (images D.image_at D.moment pairs.old.items) → OnOk result (events_of (ids_of self.old) (before ++ by_rule line.now ∷ []) ≤ MOST_EVENTS) }
-        ensures many { (before : List Ran) (which : ℕ) → Stands before self.old (images D.image_at D.moment pairs.old.items) → IsErrOf result (WorldFault.TooMany which) → (which ≡ 1) × (MOST_EVENTS < events_of (ids_of self.old) (before ++ by_rule line.now ∷ [])) }
+        ensures answer { (before : List Ran) → Stands before self.old (images D.view pairs.old.items)
+            → IfOk result (λ a. a ≡ answer_to (blank (ids_of self.old)) before (by_rule line.now)) }
+        ensures stands { (before : List Ran) → Stands before self.old (images D.view pairs.old.items)
+            → OnOk result (Stands (before ++ by_rule line.now ∷ []) self.new (images D.view pairs.new.items)) }
+        ensures few { (before : List Ran) → Stands before self.old (images D.view pairs.old.items)
+            → OnOk result (events_of (blank (ids_of self.old)) (before ++ by_rule line.now ∷ []) ≤ MOST_EVENTS) }
+        ensures many { (before : List Ran) (which : ℕ) → Stands before self.old (images D.view pairs.old.items)
+            → IsErrOf result (WorldFault.TooMany which)
+            → (which ≡ 1) × (MOST_EVENTS < events_of (blank (ids_of self.old)) (before ++ by_rule line.now ∷ [])) }
         // Where a line is refused, whatever the refusal, no node keeps anything else, and nothing is
         // sent.
-        ensures refused { (why : Refusal) → IfOk result (λ a. a ≡ Answer.Refused why → Stays (seen D.image_at D.moment self.old pairs.old.items) (seen D.image_at D.moment self.new pairs.new.items)) }
-        ensures sits { OnOk result (Sits (seen D.image_at D.moment self.new pairs.new.items)) }
-        ensures disks { LeavesDisks result (bench D.image_at D.moment D.faults D.armed D.picks pairs.old.items) (bench D.image_at D.moment D.faults D.armed D.picks pairs.new.items) }
+        ensures refused { (why : Refusal) → IfOk result
+            (λ a. a ≡ Answer.Refused why → Stays (seen D.view self.old pairs.old.items) (seen D.view self.new pairs.new.items)) }
+        ensures sits { OnOk result (Sits (seen D.view self.new pairs.new.items)) }
+        ensures disks { LeavesDisks result (bench D.view pairs.old.items) (bench D.view pairs.new.items) }
         // What the disks hold stands for what the nodes keep, and so does what they picked.
-        ensures held { (start : List PairView) (before : List Ran) → Stands before self.old (images D.image_at D.moment pairs.old.items) → AllHeld start before self.old (bench D.image_at D.moment D.faults D.armed D.picks pairs.old.items) → OnOk result (AllHeld start (before ++ by_rule line.now ∷ []) self.new (bench D.image_at D.moment D.faults D.armed D.picks pairs.new.items)) }
-        ensures failed { (start : List PairView) (before : List Ran) (slot : ℕ) → IsErrOf result (WorldFault.Disk slot) → AllHeld start before self.old (bench D.image_at D.moment D.faults D.armed D.picks pairs.old.items) → FailedSince slot start (bench D.image_at D.moment D.faults D.armed D.picks pairs.new.items) }
+        ensures held { (start : List PairView) (before : List Ran) → Stands before self.old (images D.view pairs.old.items)
+            → AllHeld start before self.old (bench D.view pairs.old.items)
+            → OnOk result (AllHeld start (before ++ by_rule line.now ∷ []) self.new (bench D.view pairs.new.items)) }
+        ensures failed { (start : List PairView) (before : List Ran) (slot : ℕ) → IsErrOf result (WorldFault.Disk slot)
+            → AllHeld start before self.old (bench D.view pairs.old.items) → FailedSince slot start (bench D.view pairs.new.items) }
         ensures place { (slot : ℕ) → IsErrOf result (WorldFault.Disk slot) → IsPlace (places_of self.old) slot }
         // Only a line that starts a node ends because its disks hold no journal, and over disks that tell none does.
-        ensures sound { (before : List Ran) (slot at : ℕ) → Stands before self.old (images D.image_at D.moment pairs.old.items) → IsErrOf result (WorldFault.NotAJournal slot at) → ⊥ }
+        ensures sound { (before : List Ran) (slot at : ℕ) → Stands before self.old (images D.view pairs.old.items)
+            → IsErrOf result (WorldFault.NotAJournal slot at) → ⊥ }
         ensures journal { (slot at : ℕ) → IsErrOf result (WorldFault.NotAJournal slot at) → IsPlace (places_of self.old) slot × (starts line.now ≡ true) }
         ensures own { (n : Id) (slot at : ℕ) → line.now ≡ Line.Start n → IsErrOf result (WorldFault.NotAJournal slot at) → HasPlace self.old n slot }
         ensures running { OnOk result (is_halted self.new ≡ false) }
         ensures halted { OnErr result (is_halted self.new ≡ true) }
         // A calm of six passes or more settles the first pending act, and the first pending batch, of a
         // circuit whose members are all up, bound and open.
-        ensures settles_acts { (before : List Ran) (c : CircuitId) (k : ℕ) (d : Definition) (v : Act) (rest : List Act) → Stands before self.old (images D.image_at D.moment pairs.old.items) → line.now ≡ Line.Calm c k → 6 ≤ k → IsWhole (whole_world (ids_of self.old) c before) d → (acts_kept (whole_world (ids_of self.old) c before) (admin d)).pending ≡ v ∷ rest → OnOk result (IsSettled d (admin d) v (acts_kept (whole_world (ids_of self.old) c (before ++ by_rule line.now ∷ [])))) }
-        ensures settles_batches { (before : List Ran) (c : CircuitId) (k : ℕ) (d : Definition) (v : Batch) (rest : List Batch) → Stands before self.old (images D.image_at D.moment pairs.old.items) → line.now ≡ Line.Calm c k → 6 ≤ k → IsWhole (whole_world (ids_of self.old) c before) d → IsActiveAll (whole_world (ids_of self.old) c before) d → (batches_kept (whole_world (ids_of self.old) c before) (service d)).pending ≡ v ∷ rest → OnOk result (IsSettled d (service d) v (batches_kept (whole_world (ids_of self.old) c (before ++ by_rule line.now ∷ [])))) }
+        ensures settles_acts { (before : List Ran) (c : CircuitId) (k : ℕ) (d : Definition) (v : Act) (rest : List Act)
+            → Stands before self.old (images D.view pairs.old.items) → line.now ≡ Line.Calm c k → 6 ≤ k
+            → IsWhole (whole_world (blank (ids_of self.old)) c before) d
+            → (acts_kept (whole_world (blank (ids_of self.old)) c before) (admin d)).pending ≡ v ∷ rest
+            → OnOk result (IsSettled d (admin d) v (acts_kept (whole_world (blank (ids_of self.old)) c (before ++ by_rule line.now ∷ [])))) }
+        ensures settles_batches { (before : List Ran) (c : CircuitId) (k : ℕ) (d : Definition) (v : Batch) (rest : List Batch)
+            → Stands before self.old (images D.view pairs.old.items) → line.now ≡ Line.Calm c k → 6 ≤ k
+            → IsWhole (whole_world (blank (ids_of self.old)) c before) d → IsRunningAll (whole_world (blank (ids_of self.old)) c before) d
+            → (batches_kept (whole_world (blank (ids_of self.old)) c before) (service d)).pending ≡ v ∷ rest
+            → OnOk result (IsSettled d (service d) v (batches_kept (whole_world (blank (ids_of self.old)) c (before ++ by_rule line.now ∷ [])))) }
         // Where it ends with an error, the disks of all nodes hold what the nodes keep at one moment of the line, but for one node
         // where a disk failed or memory was wanting, and those of that node hold what it keeps at that moment or another.
-        ensures ended { (before : List Ran) → Stands before self.old (images D.image_at D.moment pairs.old.items) → IfErr result (λ e. LineEnds (λ c. whole_world (ids_of self.old) c before) line.now e (ids_of self.old) (places_of self.old) (images D.image_at D.moment pairs.new.items)) }
+        ensures ended { (before : List Ran) → Stands before self.old (images D.view pairs.old.items)
+            → IfErr result (λ e. LineEnds (λ c. whole_world (blank (ids_of self.old)) c before) line.now e (ids_of self.old) (places_of self.old)
+            (images D.view pairs.new.items)) }
         // Each message of the line that is delivered is carried from place to place, in their order, and nothing else is. Where it
         // ends with an error, the first of them are carried, and maybe a part of the last of these.
-        ensures ready { OnOk result (IsReady (places_of self.new) (link_view C.slots C.failed C.wire F.put_on F.taken_on F.faults carrier.new fabric.new)) }
-        ensures links { (place : CircuitId → ℕ) (before : List Ran) → Places place (ids_of self.old) (places_of self.old) → Stands before self.old (images D.image_at D.moment pairs.old.items) → Delivers result (line_carried place (λ c. whole_world (ids_of self.old) c before) line.now) (link_view C.slots C.failed C.wire F.put_on F.taken_on F.faults carrier.old fabric.old) (link_view C.slots C.failed C.wire F.put_on F.taken_on F.faults carrier.new fabric.new) }
-        ensures faults { LeavesLinks result (link_view C.slots C.failed C.wire F.put_on F.taken_on F.faults carrier.old fabric.old) (link_view C.slots C.failed C.wire F.put_on F.taken_on F.faults carrier.new fabric.new) }
+        ensures ready { OnOk result (IsReady (places_of self.new) (link_view (C.view carrier.new) (F.view fabric.new))) }
+        ensures links { (place : CircuitId → ℕ) (before : List Ran) → Places place (ids_of self.old) (places_of self.old)
+            → Stands before self.old (images D.view pairs.old.items) → Delivers result
+            (line_carried place (λ c. whole_world (blank (ids_of self.old)) c before) line.now) (link_view (C.view carrier.old) (F.view fabric.old))
+            (link_view (C.view carrier.new) (F.view fabric.new)) }
+        ensures faults { LeavesLinks result (link_view (C.view carrier.old) (F.view fabric.old)) (link_view (C.view carrier.new) (F.view fabric.new)) }
     {
         self.calms_settle();
         let answered = self.run_line(alloc, pairs, carrier, fabric, line);
@@ -168,25 +199,36 @@ impl World {
         requires known { IsTrue (list_all (has_node (ids_of self.old)) (nodes_of line.now)) }
         requires fits { IsTrue (is_line line.now) }
         requires steps { stops line.now ≡ false }
-        requires sits { Sits (seen D.image_at D.moment self.old pairs.old.items) }
-        requires ready { IsReady (places_of self.old) (link_view C.slots C.failed C.wire F.put_on F.taken_on F.faults carrier.old fabric.old) }
+        requires sits { Sits (seen D.view self.old pairs.old.items) }
+        requires ready { IsReady (places_of self.old) (link_view (C.view carrier.old) (F.view fabric.old)) }
         ensures ids { ids_of self.new ≡ ids_of self.old }
         ensures places { places_of self.new ≡ places_of self.old }
         ensures stops { self.new.stops ≡ self.old.stops }
-        ensures answer { (before : List Ran) → Stands before self.old (images D.image_at D.moment pairs.old.items) → IfOk result (λ a. a ≡ answer_to (ids_of self.old) before (by_rule line.now)) }
-        ensures stands { (before : List Ran) → Stands before self.old (images D.image_at D.moment pairs.old.items) → OnOk result (Stands (before ++ by_rule line.now ∷ []) self.new (images D.image_at D.moment pairs.new.items)) }
-        ensures many { (before : List Ran) (which : ℕ) → Stands before self.old (images D.image_at D.moment pairs.old.items) → IsErrOf result (WorldFault.TooMany which) → (which ≡ 1) × (MOST_EVENTS < events_of (ids_of self.old) (before ++ by_rule line.now ∷ [])) }
-        ensures sits { OnOk result (Sits (seen D.image_at D.moment self.new pairs.new.items)) }
-        ensures refused { (why : Refusal) → IfOk result (λ a. a ≡ Answer.Refused why → Stays (seen D.image_at D.moment self.old pairs.old.items) (seen D.image_at D.moment self.new pairs.new.items)) }
-        ensures disks { LeavesDisks result (bench D.image_at D.moment D.faults D.armed D.picks pairs.old.items) (bench D.image_at D.moment D.faults D.armed D.picks pairs.new.items) }
+        ensures answer { (before : List Ran) → Stands before self.old (images D.view pairs.old.items)
+            → IfOk result (λ a. a ≡ answer_to (blank (ids_of self.old)) before (by_rule line.now)) }
+        ensures stands { (before : List Ran) → Stands before self.old (images D.view pairs.old.items)
+            → OnOk result (Stands (before ++ by_rule line.now ∷ []) self.new (images D.view pairs.new.items)) }
+        ensures many { (before : List Ran) (which : ℕ) → Stands before self.old (images D.view pairs.old.items)
+            → IsErrOf result (WorldFault.TooMany which)
+            → (which ≡ 1) × (MOST_EVENTS < events_of (blank (ids_of self.old)) (before ++ by_rule line.now ∷ [])) }
+        ensures sits { OnOk result (Sits (seen D.view self.new pairs.new.items)) }
+        ensures refused { (why : Refusal) → IfOk result
+            (λ a. a ≡ Answer.Refused why → Stays (seen D.view self.old pairs.old.items) (seen D.view self.new pairs.new.items)) }
+        ensures disks { LeavesDisks result (bench D.view pairs.old.items) (bench D.view pairs.new.items) }
         ensures place { (slot : ℕ) → IsErrOf result (WorldFault.Disk slot) → IsPlace (places_of self.old) slot }
-        ensures sound { (before : List Ran) (slot at : ℕ) → Stands before self.old (images D.image_at D.moment pairs.old.items) → IsErrOf result (WorldFault.NotAJournal slot at) → ⊥ }
+        ensures sound { (before : List Ran) (slot at : ℕ) → Stands before self.old (images D.view pairs.old.items)
+            → IsErrOf result (WorldFault.NotAJournal slot at) → ⊥ }
         ensures journal { (slot at : ℕ) → IsErrOf result (WorldFault.NotAJournal slot at) → IsPlace (places_of self.old) slot × (starts line.now ≡ true) }
         ensures own { (n : Id) (slot at : ℕ) → line.now ≡ Line.Start n → IsErrOf result (WorldFault.NotAJournal slot at) → HasPlace self.old n slot }
-        ensures ended { (before : List Ran) → Stands before self.old (images D.image_at D.moment pairs.old.items) → IfErr result (λ e. LineEnds (λ c. whole_world (ids_of self.old) c before) line.now e (ids_of self.old) (places_of self.old) (images D.image_at D.moment pairs.new.items)) }
-        ensures ready { OnOk result (IsReady (places_of self.new) (link_view C.slots C.failed C.wire F.put_on F.taken_on F.faults carrier.new fabric.new)) }
-        ensures links { (place : CircuitId → ℕ) (before : List Ran) → Places place (ids_of self.old) (places_of self.old) → Stands before self.old (images D.image_at D.moment pairs.old.items) → Delivers result (line_carried place (λ c. whole_world (ids_of self.old) c before) line.now) (link_view C.slots C.failed C.wire F.put_on F.taken_on F.faults carrier.old fabric.old) (link_view C.slots C.failed C.wire F.put_on F.taken_on F.faults carrier.new fabric.new) }
-        ensures faults { LeavesLinks result (link_view C.slots C.failed C.wire F.put_on F.taken_on F.faults carrier.old fabric.old) (link_view C.slots C.failed C.wire F.put_on F.taken_on F.faults carrier.new fabric.new) }
+        ensures ended { (before : List Ran) → Stands before self.old (images D.view pairs.old.items)
+            → IfErr result (λ e. LineEnds (λ c. whole_world (blank (ids_of self.old)) c before) line.now e (ids_of self.old) (places_of self.old)
+            (images D.view pairs.new.items)) }
+        ensures ready { OnOk result (IsReady (places_of self.new) (link_view (C.view carrier.new) (F.view fabric.new))) }
+        ensures links { (place : CircuitId → ℕ) (before : List Ran) → Places place (ids_of self.old) (places_of self.old)
+            → Stands before self.old (images D.view pairs.old.items) → Delivers result
+            (line_carried place (λ c. whole_world (blank (ids_of self.old)) c before) line.now) (link_view (C.view carrier.old) (F.view fabric.old))
+            (link_view (C.view carrier.new) (F.view fabric.new)) }
+        ensures faults { LeavesLinks result (link_view (C.view carrier.old) (F.view fabric.old)) (link_view (C.view carrier.new) (F.view fabric.new)) }
     {
         match line {
             Line::Step(step) => {

@@ -3,13 +3,14 @@ ghost use Rattle.std.specs.Prelude.{◌≡◌, ◌+◌, ◌<◌, ℕ, List, Some
 ghost use Rattle.std.specs.List.{position_from};
 ghost use Rattle.std.specs.Option.{option_copied};
 ghost use Rattle.std.specs.Str.{bytes_eq};
+ghost use Rattle.spl_edge.specs.Views.{bench};
 ghost use Rattle.spl_circuit.specs.Nodes.{NodeId as Id, has_node};
 ghost use Rattle.spl_sched.specs.declared.line.Step.TheVariants as step;
 ghost use Rattle.spl_rules.specs.Plans.{plan_of};
 ghost use Rattle.spl_rules.specs.Valid.{IsFor};
 ghost use Rattle.spl_model.specs.Worlds.{site_at, World as CircuitWorld, Steps, messages, carried_out, step_plan, step_world};
 ghost use Rattle.spl_world.specs.Calms.{due_at};
-ghost use Rattle.spl_world.specs.Disks.{Images, LeavesDisks, bench, images, is_of_journal};
+ghost use Rattle.spl_world.specs.Disks.{Images, LeavesDisks, images, is_of_journal};
 ghost use Rattle.spl_world.specs.Halts.{delivery_of};
 ghost use Rattle.spl_world.specs.Ended.{EventEnds};
 ghost use Rattle.spl_world.specs.Kept.{belongs};
@@ -98,18 +99,23 @@ impl World {
         requires below { slot < length self.old.slots.items }
         requires up { IsUp self.old slot }
         requires own { (n : Id) → IsAt self.old slot n → IsFor (site_at n circuit) event.now }
-        requires sits { Sits (seen D.image_at D.moment self.old pairs.old.items) }
+        requires sits { Sits (seen D.view self.old pairs.old.items) }
         ensures ids { ids_of self.new ≡ ids_of self.old }
         ensures places { places_of self.new ≡ places_of self.old }
         ensures stops { self.new.stops ≡ self.old.stops }
         ensures ups { ups_of self.new ≡ ups_of self.old }
         ensures events { self.new.events ≡ self.old.events }
-        ensures answer { (m : CircuitWorld) (n : Id) → Holds circuit m (seen D.image_at D.moment self.old pairs.old.items) → IsAt self.old slot n → IfOk result (λ a. a ≡ (plan_of (site_at n circuit) (m.at n) event.now).answer) }
-        ensures moves { (n : Id) → IsAt self.old slot n → OnOk result (Moves circuit (λ m. carried_out m n (plan_of (site_at n circuit) (m.at n) event.now)) (seen D.image_at D.moment self.old pairs.old.items) (seen D.image_at D.moment self.new pairs.new.items)) }
-        ensures sits { OnOk result (Sits (seen D.image_at D.moment self.new pairs.new.items)) }
-        ensures disks { LeavesDisks result (bench D.image_at D.moment D.faults D.armed D.picks pairs.old.items) (bench D.image_at D.moment D.faults D.armed D.picks pairs.new.items) }
+        ensures answer { (m : CircuitWorld) (n : Id) → Holds circuit m (seen D.view self.old pairs.old.items) → IsAt self.old slot n
+            → IfOk result (λ a. a ≡ (plan_of (site_at n circuit) (m.at n) event.now).answer) }
+        ensures moves { (n : Id) → IsAt self.old slot n → OnOk result
+            (Moves circuit (λ m. carried_out m n (plan_of (site_at n circuit) (m.at n) event.now)) (seen D.view self.old pairs.old.items)
+            (seen D.view self.new pairs.new.items)) }
+        ensures sits { OnOk result (Sits (seen D.view self.new pairs.new.items)) }
+        ensures disks { LeavesDisks result (bench D.view pairs.old.items) (bench D.view pairs.new.items) }
         ensures place { (slot : ℕ) → IsErrOf result (WorldFault.Disk slot) → IsPlace (places_of self.old) slot }
-        ensures ended { (m : CircuitWorld) (n : Id) → Holds circuit m (seen D.image_at D.moment self.old pairs.old.items) → IsAt self.old slot n → IfErr result (λ e. EventEnds circuit (carried_out m n (plan_of (site_at n circuit) (m.at n) event.now)) e (seen D.image_at D.moment self.old pairs.old.items) (images D.image_at D.moment pairs.new.items)) }
+        ensures ended { (m : CircuitWorld) (n : Id) → Holds circuit m (seen D.view self.old pairs.old.items) → IsAt self.old slot n
+            → IfErr result (λ e. EventEnds circuit (carried_out m n (plan_of (site_at n circuit) (m.at n) event.now)) e
+            (seen D.view self.old pairs.old.items) (images D.view pairs.new.items)) }
         ensures sound { IfErr result (λ e. is_of_journal e ≡ false) }
         ensures few { (which : ℕ) → IsErrOf result (WorldFault.TooMany which) → ⊥ }
         ensures unlinked { IfErr result (λ e. is_of_links e ≡ false) }
@@ -134,7 +140,8 @@ impl World {
     // the node is down, or the cell isn't bound and open.
     pub(crate) fn due(&self, slot: usize, circuit: &CircuitId) -> Option<bool>
         requires below { slot < length self.now.slots.items }
-        ensures world { (is : List Images) (m : CircuitWorld) (n : Id) → Sits (over self.now is) → Holds circuit.now m (over self.now is) → IsAt self.now slot n → result ≡ due_at circuit.now m n }
+        ensures world { (is : List Images) (m : CircuitWorld) (n : Id) → Sits (over self.now is) → Holds circuit.now m (over self.now is)
+            → IsAt self.now slot n → result ≡ due_at circuit.now m n }
         ensures up { is_some result ≡ true → IsUp self.now slot }
     {
         self.slots[slot].due(circuit)
@@ -153,7 +160,8 @@ impl World {
     pub(crate) fn count(&self, from: usize, to: usize, circuit: &CircuitId) -> usize
         requires from_below { from < length self.now.slots.items }
         requires to_below { to < length self.now.slots.items }
-        ensures { (is : List Images) (m : CircuitWorld) (a b : Id) → Holds circuit.now m (over self.now is) → IsAt self.now from a → IsAt self.now to b → result ≡ length (messages m a b) }
+        ensures { (is : List Images) (m : CircuitWorld) (a b : Id) → Holds circuit.now m (over self.now is) → IsAt self.now from a
+            → IsAt self.now to b → result ≡ length (messages m a b) }
     {
         if from == to {
             return 0;
@@ -174,7 +182,8 @@ impl World {
         requires from_below { from < length self.now.slots.items }
         requires to_below { to < length self.now.slots.items }
         requires apart { (a b : Id) → IsAt self.now from a → IsAt self.now to b → bytes_eq a b ≡ false }
-        ensures value { (is : List Images) (m : CircuitWorld) (a b : Id) → Holds circuit.now m (over self.now is) → IsAt self.now from a → IsAt self.now to b → option_copied result ≡ slice_get (messages m a b) index }
+        ensures value { (is : List Images) (m : CircuitWorld) (a b : Id) → Holds circuit.now m (over self.now is) → IsAt self.now from a
+            → IsAt self.now to b → option_copied result ≡ slice_get (messages m a b) index }
         ensures belongs { IfSome (option_copied result) (λ x. belongs circuit.now x ≡ true) }
     {
         let recipient = self.slots[to].id();
@@ -194,7 +203,8 @@ impl World {
         requires from_below { from < length self.now.slots.items }
         requires to_below { to < length self.now.slots.items }
         requires apart { (a b : Id) → IsAt self.now from a → IsAt self.now to b → bytes_eq a b ≡ false }
-        ensures event { (is : List Images) (m : CircuitWorld) (a b : Id) → Holds circuit.now m (over self.now is) → IsAt self.now from a → IsAt self.now to b → IfOk result (λ e. e ≡ delivery_of a (slice_get (messages m a b) index)) }
+        ensures event { (is : List Images) (m : CircuitWorld) (a b : Id) → Holds circuit.now m (over self.now is) → IsAt self.now from a
+            → IsAt self.now to b → IfOk result (λ e. e ≡ delivery_of a (slice_get (messages m a b) index)) }
         ensures own { (n : Id) → IsAt self.now to n → IfOk result (λ e. IfSome e (IsFor (site_at n circuit.now))) }
     {
         let sender = self.slots[from].id();
@@ -225,24 +235,32 @@ impl World {
         requires to_below { to < length self.old.slots.items }
         requires apart { (a b : Id) → IsAt self.old from a → IsAt self.old to b → bytes_eq a b ≡ false }
         requires up { IsUp self.old to }
-        requires sits { Sits (seen D.image_at D.moment self.old pairs.old.items) }
-        requires ready { IsReady (places_of self.old) (link_view C.slots C.failed C.wire F.put_on F.taken_on F.faults carrier.old fabric.old) }
+        requires sits { Sits (seen D.view self.old pairs.old.items) }
+        requires ready { IsReady (places_of self.old) (link_view (C.view carrier.old) (F.view fabric.old)) }
         ensures ids { ids_of self.new ≡ ids_of self.old }
         ensures places { places_of self.new ≡ places_of self.old }
         ensures stops { self.new.stops ≡ self.old.stops }
         ensures ups { ups_of self.new ≡ ups_of self.old }
         ensures events { self.new.events ≡ self.old.events }
-        ensures answer { (m : CircuitWorld) (a b : Id) → Holds circuit m (seen D.image_at D.moment self.old pairs.old.items) → IsAt self.old from a → IsAt self.old to b → IfOk result (λ r. r ≡ (step_plan m (step.Deliver a b circuit (index + 1))).answer) }
-        ensures moves { (a b : Id) → IsAt self.old from a → IsAt self.old to b → OnOk result (Moves circuit (λ m. step_world m (step.Deliver a b circuit (index + 1))) (seen D.image_at D.moment self.old pairs.old.items) (seen D.image_at D.moment self.new pairs.new.items)) }
-        ensures sits { OnOk result (Sits (seen D.image_at D.moment self.new pairs.new.items)) }
-        ensures disks { LeavesDisks result (bench D.image_at D.moment D.faults D.armed D.picks pairs.old.items) (bench D.image_at D.moment D.faults D.armed D.picks pairs.new.items) }
+        ensures answer { (m : CircuitWorld) (a b : Id) → Holds circuit m (seen D.view self.old pairs.old.items) → IsAt self.old from a
+            → IsAt self.old to b → IfOk result (λ r. r ≡ (step_plan m (step.Deliver a b circuit (index + 1))).answer) }
+        ensures moves { (a b : Id) → IsAt self.old from a → IsAt self.old to b
+            → OnOk result (Moves circuit (λ m. step_world m (step.Deliver a b circuit (index + 1))) (seen D.view self.old pairs.old.items)
+            (seen D.view self.new pairs.new.items)) }
+        ensures sits { OnOk result (Sits (seen D.view self.new pairs.new.items)) }
+        ensures disks { LeavesDisks result (bench D.view pairs.old.items) (bench D.view pairs.new.items) }
         ensures place { (slot : ℕ) → IsErrOf result (WorldFault.Disk slot) → IsPlace (places_of self.old) slot }
-        ensures ended { (m : CircuitWorld) (a b : Id) → Holds circuit m (seen D.image_at D.moment self.old pairs.old.items) → IsAt self.old from a → IsAt self.old to b → IfErr result (λ e. EventEnds circuit (step_world m (step.Deliver a b circuit (index + 1))) e (seen D.image_at D.moment self.old pairs.old.items) (images D.image_at D.moment pairs.new.items)) }
+        ensures ended { (m : CircuitWorld) (a b : Id) → Holds circuit m (seen D.view self.old pairs.old.items) → IsAt self.old from a
+            → IsAt self.old to b → IfErr result (λ e. EventEnds circuit (step_world m (step.Deliver a b circuit (index + 1))) e
+            (seen D.view self.old pairs.old.items) (images D.view pairs.new.items)) }
         ensures sound { IfErr result (λ e. is_of_journal e ≡ false) }
         ensures few { (which : ℕ) → IsErrOf result (WorldFault.TooMany which) → ⊥ }
-        ensures ready { OnOk result (IsReady (places_of self.new) (link_view C.slots C.failed C.wire F.put_on F.taken_on F.faults carrier.new fabric.new)) }
-        ensures links { (place : Id → ℕ) (m : CircuitWorld) (a b : Id) → Places place (ids_of self.old) (places_of self.old) → Holds circuit m (seen D.image_at D.moment self.old pairs.old.items) → IsAt self.old from a → IsAt self.old to b → Delivers result (carried_at place m (Steps (step.Deliver a b circuit (index + 1)))) (link_view C.slots C.failed C.wire F.put_on F.taken_on F.faults carrier.old fabric.old) (link_view C.slots C.failed C.wire F.put_on F.taken_on F.faults carrier.new fabric.new) }
-        ensures faults { LeavesLinks result (link_view C.slots C.failed C.wire F.put_on F.taken_on F.faults carrier.old fabric.old) (link_view C.slots C.failed C.wire F.put_on F.taken_on F.faults carrier.new fabric.new) }
+        ensures ready { OnOk result (IsReady (places_of self.new) (link_view (C.view carrier.new) (F.view fabric.new))) }
+        ensures links { (place : Id → ℕ) (m : CircuitWorld) (a b : Id) → Places place (ids_of self.old) (places_of self.old)
+            → Holds circuit m (seen D.view self.old pairs.old.items) → IsAt self.old from a → IsAt self.old to b
+            → Delivers result (carried_at place m (Steps (step.Deliver a b circuit (index + 1))))
+            (link_view (C.view carrier.old) (F.view fabric.old)) (link_view (C.view carrier.new) (F.view fabric.new)) }
+        ensures faults { LeavesLinks result (link_view (C.view carrier.old) (F.view fabric.old)) (link_view (C.view carrier.new) (F.view fabric.new)) }
     {
         let delivery = self.carried(alloc, carrier, fabric, from, to, &circuit, index)?;
         match delivery {

@@ -14,7 +14,7 @@ returns-clause-empty g c =
     let ps = c.args.pairs.now.items in
     let below : c.from.result < length ps = omega (arith, c.from.ensures, c.requires) in
     let there = slice_get_read ps (length ps) c.from.result c.index_mut.result.now refl below c.index_mut.ensures.value in
-    let own = own_images g.E.Disk.image_at g.E.Disk.moment ps c.from.result c.index_mut.result.now there c.args.slot c.from.ensures in
+    let own = own_images g.E.Disk.view ps c.from.result c.index_mut.result.now there c.args.slot c.from.ensures in
     subst (λ (is : Images). IfOk c.are_empty.result (λ empty. empty ≡ true → AreEmpty is)) (sym own) c.are_empty.ensures.empty
 
 pub returns-clause-bytes : goal.returns-clause-bytes
@@ -22,7 +22,7 @@ returns-clause-bytes g c =
     let ps = c.args.pairs.now.items in
     let below : c.from.result < length ps = omega (arith, c.from.ensures, c.requires) in
     let there = slice_get_read ps (length ps) c.from.result c.index_mut.result.now refl below c.index_mut.ensures.value in
-    let own = own_images g.E.Disk.image_at g.E.Disk.moment ps c.from.result c.index_mut.result.now there c.args.slot c.from.ensures in
+    let own = own_images g.E.Disk.view ps c.from.result c.index_mut.result.now there c.args.slot c.from.ensures in
     subst (λ (is : Images). IfOk c.are_empty.result (λ empty. empty ≡ false → HaveBytes is)) (sym own) c.are_empty.ensures.bytes
 
 pub returns-clause-same : goal.returns-clause-same
@@ -30,18 +30,18 @@ returns-clause-same g c =
     let ps = c.args.pairs.now.items in
     let below : c.from.result < length ps = omega (arith, c.from.ensures, c.requires) in
     let there = slice_get_read ps (length ps) c.from.result c.index_mut.result.now refl below c.index_mut.ensures.value in
-    images_stay g.E.Disk.image_at g.E.Disk.moment ps c.from.result c.index_mut.result.now c.are_empty.new.pair there c.are_empty.ensures.same
+    images_stay g.E.Disk.view ps c.from.result c.index_mut.result.now c.are_empty.new.pair there c.are_empty.ensures.same
 
 pub returns-clause-onward : goal.returns-clause-onward
 returns-clause-onward g c =
     let ps = c.args.pairs.now.items in
     let below : c.from.result < length ps = omega (arith, c.from.ensures, c.requires) in
     let there = slice_get_read ps (length ps) c.from.result c.index_mut.result.now refl below c.index_mut.ensures.value in
-    one_onward g.E.Disk.image_at g.E.Disk.moment g.E.Disk.faults g.E.Disk.armed g.E.Disk.picks ps c.from.result c.index_mut.result.now c.are_empty.new.pair there c.are_empty.ensures.onward
+    one_onward g.E.Disk.view ps c.from.result c.index_mut.result.now c.are_empty.new.pair there c.are_empty.ensures.onward
 
 pub returns-clause-failed : goal.returns-clause-failed
 returns-clause-failed g c = λ failed.
     let ps = c.args.pairs.now.items in
     let below : c.from.result < length ps = omega (arith, c.from.ensures, c.requires) in
     let there = slice_get_read ps (length ps) c.from.result c.index_mut.result.now refl below c.index_mut.ensures.value in
-    one_rose g.E.Disk.image_at g.E.Disk.moment g.E.Disk.faults g.E.Disk.armed g.E.Disk.picks ps c.from.result c.index_mut.result.now c.are_empty.new.pair there c.args.slot c.from.ensures (c.are_empty.ensures.failed failed)
+    one_rose g.E.Disk.view ps c.from.result c.index_mut.result.now c.are_empty.new.pair there c.args.slot c.from.ensures (c.are_empty.ensures.failed failed)

@@ -1,12 +1,13 @@
 use Rattle.std.proofs.Common.{◌≡◌, ℕ, List, rules, subst, ◌∙◌, arith}
-use Rattle.spl_world.specs.Disks.{Images, RoseAt, bench, images, images_at}
+use Rattle.spl_edge.specs.Views.{bench}
+use Rattle.spl_world.specs.Disks.{Images, RoseAt, images, images_at}
 use Rattle.spl_world.proofs.Leaving.{all_then, rose_behind}
 use Rattle.spl_app.specs.Blank.{AreEmpty}
 use Rattle.spl_app.proofs.Emptied.{as_many, one_more}
 use Rattle.spl_app.proofs.blank.check_blank.Goals as goal
 
 pub are_empty_at-requires : goal.are_empty_at-requires
-are_empty_at-requires g c = record { room = omega (arith, as_many g.E.Disk.image_at g.E.Disk.moment c.slots.pairs.items c.args.pairs.now.items c.slots.invariant.same, c.slots-test.true, c.requires.room) }
+are_empty_at-requires g c = record { room = omega (arith, as_many g.E.Disk.view c.slots.pairs.items c.args.pairs.now.items c.slots.invariant.same, c.slots-test.true, c.requires.room) }
 
 pub returns-in-Ok-false-clause-onward : goal.returns-in-Ok-false-clause-onward
 returns-in-Ok-false-clause-onward g c = all_then _ _ _ c.slots.invariant.onward c.are_empty_at.ensures.onward
@@ -16,7 +17,7 @@ returns-in-Err-Failed-clause-failed g c = λ slot is.
     let same : c.slots.slot ≡ slot = cc in
     let rose = c.in-Err-Failed.ensures.failed (search rules) in (
       omega (arith, same, c.slots-test.true),
-      subst (λ (k : ℕ). RoseAt k (bench g.E.Disk.image_at g.E.Disk.moment g.E.Disk.faults g.E.Disk.armed g.E.Disk.picks c.args.pairs.now.items) (bench g.E.Disk.image_at g.E.Disk.moment g.E.Disk.faults g.E.Disk.armed g.E.Disk.picks c.are_empty_at.new.pairs.items)) same
+      subst (λ (k : ℕ). RoseAt k (bench g.E.Disk.view c.args.pairs.now.items) (bench g.E.Disk.view c.are_empty_at.new.pairs.items)) same
           (rose_behind c.slots.slot _ _ _ c.slots.invariant.onward rose),
     )
 
@@ -31,6 +32,6 @@ slots-preserved g c = record {
   same = c.are_empty_at.ensures.same ∙ c.slots.invariant.same;
   empty =
       let here = c.in-Ok-true.ensures.empty (search rules) in
-      one_more c.slots.slot (images g.E.Disk.image_at g.E.Disk.moment c.args.pairs.now.items) c.slots.invariant.empty (subst (λ (is : List Images). AreEmpty (images_at is c.slots.slot)) c.slots.invariant.same here);
+      one_more c.slots.slot (images g.E.Disk.view c.args.pairs.now.items) c.slots.invariant.empty (subst (λ (is : List Images). AreEmpty (images_at is c.slots.slot)) c.slots.invariant.same here);
   onward = all_then _ _ _ c.slots.invariant.onward c.are_empty_at.ensures.onward;
 }

@@ -1,22 +1,30 @@
-use Rattle.std.proofs.Common.{◌≡◌, ◌≢◌, ◌<◌, ◌≤◌, ◌-◌, ℕ, List, Err, length, take, refl, sym, ap, subst, ◌∙◌, inl, arith, rules}
+use Rattle.std.proofs.Common.{◌≡◌, ◌≢◌, ◌<◌, ◌≤◌, ◌-◌, ℕ, [], Err, length, take, drop, refl, sym, ap, subst, ◌∙◌, ⊎_elim, inl, inr, append-nil, take-append-drop, arith, rules}
 use Rattle.std.specs.Io.{appended_bytes}
+use Rattle.std.proofs.KnownBytes.{Appends-nil}
+use Rattle.spl_edge.specs.Views.{bench}
 use Rattle.spl_lines.specs.Given.{run_of}
-use Rattle.spl_lines.proofs.Given.{run_given}
-use Rattle.spl_links.specs.Ends.{IsWhole}
-use Rattle.spl_links.specs.Outside.{outside}
-use Rattle.spl_links.specs.Schedule.{AreTaken}
-use Rattle.spl_links.specs.Tasks.{nodes_in, tasks}
+use Rattle.spl_links.specs.Ends.{HasRisen}
+use Rattle.spl_links.specs.Tasks.{nodes_in}
 use Rattle.spl_links.specs.declared.fault.LinkedFault.{LinkedFault}
 use Rattle.spl_links.specs.declared.fault.LinkedFault.TheVariants as linked
+use Rattle.spl_links.proofs.Schedules.{good_before}
 use Rattle.spl_pump.specs.Wires.{Pumped, wire_from, wire_of}
-use Rattle.spl_world.specs.Disks.{images}
+use Rattle.spl_world.specs.Disks.{AllTell, images}
 use Rattle.spl_world.specs.declared.fault.WorldFault.TheVariants as error
-use Rattle.spl_app.specs.Links.{fabric_view, run_view}
-use Rattle.spl_app.proofs.Linked.{gives_fault, memory_as, never_registry, never_usage, never_write, short_as, stopped_as, whole_as}
+use Rattle.spl_world.proofs.Leaving.{all_then, rose_behind}
+use Rattle.spl_app.specs.Devices.{held_on}
+use Rattle.spl_app.specs.declared.status.Status.TheVariants as status
+use Rattle.spl_app.proofs.Ending.{images_told}
+use Rattle.spl_app.proofs.LinkedHeadlines.{bad_why, comes_fault, comes_ran, comes_short, comes_write}
+use Rattle.spl_app.proofs.Since.{unmade_since}
 use Rattle.spl_app.proofs.links.run_blank.Goals as goal
 
-pub returns-in_default-clause-ended : goal.returns-in_default-clause-ended
-returns-in_default-clause-ended g c = λ tell. inl (record { written = refl; links = refl; one = 0; named = λ k q. cc; others = λ k n at off. inl refl })
+pub returns-in_default-clause-comes : goal.returns-in_default-clause-comes
+returns-in_default-clause-comes g c = λ start from same empty. record {
+  why = tt;
+  empty = λ q. empty;
+  done = λ told. inl (record { why = inl same; written = Appends-nil _; links = refl });
+}
 
 pub run_linked-requires-clause-carries : goal.run_linked-requires-clause-carries
 run_linked-requires-clause-carries g c = record {
@@ -26,41 +34,96 @@ run_linked-requires-clause-carries g c = record {
   wire = λ sent a b. subst (λ (p : Pumped). wire_from p.entries p.met sent a b ≡ wire_of c.args.registry.now sent a b) (sym c.in-Ok.ensures) refl;
 }
 
-pub returns-in-Ok-Whole-clause-ended : goal.returns-in-Ok-Whole-clause-ended
-returns-in-Ok-Whole-clause-ended g c =
-    let given = (appended_bytes (g.S.Source.taken c.args.schedule.now) (g.S.Source.taken c.run_linked.new.source)) in
+pub returns-in-Ok-Whole-clause-comes : goal.returns-in-Ok-Whole-clause-comes
+returns-in-Ok-Whole-clause-comes g c = λ start from same empty.
+    let es = c.args.registry.now in
+    let mid = (bench g.E.Disk.view c.args.pairs.now.items) in
+    let now = (bench g.E.Disk.view c.run_linked.new.pairs.items) in
+    let held = images_told g.E.Disk.view in
+    let on = all_then start mid now from c.run_linked.ensures.causes.onward in
+    let tell = λ (told : AllTell (length es) (held_on start)). subst (AllTell (length es)) (sym same ∙ held c.args.pairs.now.items) told in
+    let given = appended_bytes (g.S.Source.view c.args.schedule.now).gave (g.S.Source.view c.run_linked.new.source).gave in
     let found = c.in-Ok-Whole.ensures.whole (search rules) in
-    let same = run_given given found.1 in (
-      subst (AreTaken (nodes_in c.args.registry.now)) same c.in-Ok-Whole.ensures.good,
-      found.0,
-      found.1,
-      found.2,
-      λ tell. subst (λ (ls : List (List ℕ)). IsWhole c.args.registry.now (tasks 1 ls) (outside (g.W.Sink.written c.args.out.now) (fabric_view (g.F.Fabric.put_on c.args.fabric.now) (g.F.Fabric.taken_on c.args.fabric.now) (g.F.Fabric.faults c.args.fabric.now)) (images g.E.Disk.image_at g.E.Disk.moment c.args.pairs.now.items)) (outside (g.W.Sink.written c.run_linked.new.out) (fabric_view (g.F.Fabric.put_on c.run_linked.new.fabric) (g.F.Fabric.taken_on c.run_linked.new.fabric) (g.F.Fabric.faults c.run_linked.new.fabric)) (images g.E.Disk.image_at g.E.Disk.moment c.run_linked.new.pairs.items))) same (whole_as c.args.registry.now (tasks 1 (run_of given)) _ _ (fabric_view (g.F.Fabric.put_on c.args.fabric.now) (g.F.Fabric.taken_on c.args.fabric.now) (g.F.Fabric.faults c.args.fabric.now)) (fabric_view (g.F.Fabric.put_on c.run_linked.new.fabric) (g.F.Fabric.taken_on c.run_linked.new.fabric) (g.F.Fabric.faults c.run_linked.new.fabric)) (c.in-Ok-Whole.ensures.ran tell) refl refl),
-    )
+    comes_ran es (g.S.Source.view c.args.schedule.now) (g.S.Source.view c.run_linked.new.source) (g.W.Sink.view c.args.out.now) (g.W.Sink.view c.run_linked.new.out) start now _ _ (images g.E.Disk.view c.args.pairs.now.items) _ (sym (held c.run_linked.new.pairs.items)) on empty status.Ok (c.in-Ok-Whole.ensures.good, λ read. record { ended = found.2; short = found.1; whole = found.0 }) (run_of given) [] (sym (append-nil (run_of given))) c.in-Ok-Whole.ensures.good (λ r ran. ran) (λ old new bytes w. w) (λ told. c.in-Ok-Whole.ensures.ran (tell told))
 
-pub returns-in-Ok-TooLong-clause-ended : goal.returns-in-Ok-TooLong-clause-ended
-returns-in-Ok-TooLong-clause-ended g c =
-    let given = (appended_bytes (g.S.Source.taken c.args.schedule.now) (g.S.Source.taken c.run_linked.new.source)) in
+pub returns-in-Ok-TooLong-clause-comes : goal.returns-in-Ok-TooLong-clause-comes
+returns-in-Ok-TooLong-clause-comes g c = λ start from same empty.
+    let es = c.args.registry.now in
+    let mid = (bench g.E.Disk.view c.args.pairs.now.items) in
+    let now = (bench g.E.Disk.view c.run_linked.new.pairs.items) in
+    let held = images_told g.E.Disk.view in
+    let on = all_then start mid now from c.run_linked.ensures.causes.onward in
+    let tell = λ (told : AllTell (length es) (held_on start)). subst (AllTell (length es)) (sym same ∙ held c.args.pairs.now.items) told in
+    let given = appended_bytes (g.S.Source.view c.args.schedule.now).gave (g.S.Source.view c.run_linked.new.source).gave in
     let found = c.in-Ok-TooLong.ensures.long (search rules) in
-    (found.0, c.in-Ok-TooLong.ensures.good, found.1, λ tell. whole_as c.args.registry.now (tasks 1 (run_of given)) _ _ (fabric_view (g.F.Fabric.put_on c.args.fabric.now) (g.F.Fabric.taken_on c.args.fabric.now) (g.F.Fabric.faults c.args.fabric.now)) (fabric_view (g.F.Fabric.put_on c.run_linked.new.fabric) (g.F.Fabric.taken_on c.run_linked.new.fabric) (g.F.Fabric.faults c.run_linked.new.fabric)) (c.in-Ok-TooLong.ensures.ran tell) refl refl)
+    comes_ran es (g.S.Source.view c.args.schedule.now) (g.S.Source.view c.run_linked.new.source) (g.W.Sink.view c.args.out.now) (g.W.Sink.view c.run_linked.new.out) start now _ _ (images g.E.Disk.view c.args.pairs.now.items) _ (sym (held c.run_linked.new.pairs.items)) on empty status.TooLong (refl, c.in-Ok-TooLong.ensures.good, found.0, found.1) (run_of given) [] (sym (append-nil (run_of given))) c.in-Ok-TooLong.ensures.good (λ r ran. ran) (λ old new bytes w. w) (λ told. c.in-Ok-TooLong.ensures.ran (tell told))
 
-pub returns-in-Ok-Read-clause-ended : goal.returns-in-Ok-Read-clause-ended
-returns-in-Ok-Read-clause-ended g c =
-    let given = (appended_bytes (g.S.Source.taken c.args.schedule.now) (g.S.Source.taken c.run_linked.new.source)) in
+pub returns-in-Ok-Read-clause-comes : goal.returns-in-Ok-Read-clause-comes
+returns-in-Ok-Read-clause-comes g c = λ start from same empty.
+    let es = c.args.registry.now in
+    let mid = (bench g.E.Disk.view c.args.pairs.now.items) in
+    let now = (bench g.E.Disk.view c.run_linked.new.pairs.items) in
+    let held = images_told g.E.Disk.view in
+    let on = all_then start mid now from c.run_linked.ensures.causes.onward in
+    let tell = λ (told : AllTell (length es) (held_on start)). subst (AllTell (length es)) (sym same ∙ held c.args.pairs.now.items) told in
+    let given = appended_bytes (g.S.Source.view c.args.schedule.now).gave (g.S.Source.view c.run_linked.new.source).gave in
     let found = c.in-Ok-Read.ensures.read (search rules) in
-    let same = run_given given found.1 in (
-      found.0,
-      found.1,
-      found.2,
-      subst (AreTaken (nodes_in c.args.registry.now)) same c.in-Ok-Read.ensures.good,
-      λ tell. subst (λ (ls : List (List ℕ)). IsWhole c.args.registry.now (tasks 1 ls) (outside (g.W.Sink.written c.args.out.now) (fabric_view (g.F.Fabric.put_on c.args.fabric.now) (g.F.Fabric.taken_on c.args.fabric.now) (g.F.Fabric.faults c.args.fabric.now)) (images g.E.Disk.image_at g.E.Disk.moment c.args.pairs.now.items)) (outside (g.W.Sink.written c.run_linked.new.out) (fabric_view (g.F.Fabric.put_on c.run_linked.new.fabric) (g.F.Fabric.taken_on c.run_linked.new.fabric) (g.F.Fabric.faults c.run_linked.new.fabric)) (images g.E.Disk.image_at g.E.Disk.moment c.run_linked.new.pairs.items))) same (whole_as c.args.registry.now (tasks 1 (run_of given)) _ _ (fabric_view (g.F.Fabric.put_on c.args.fabric.now) (g.F.Fabric.taken_on c.args.fabric.now) (g.F.Fabric.faults c.args.fabric.now)) (fabric_view (g.F.Fabric.put_on c.run_linked.new.fabric) (g.F.Fabric.taken_on c.run_linked.new.fabric) (g.F.Fabric.faults c.run_linked.new.fabric)) (c.in-Ok-Read.ensures.ran tell) refl refl),
-    )
+    comes_ran es (g.S.Source.view c.args.schedule.now) (g.S.Source.view c.run_linked.new.source) (g.W.Sink.view c.args.out.now) (g.W.Sink.view c.run_linked.new.out) start now _ _ (images g.E.Disk.view c.args.pairs.now.items) _ (sym (held c.run_linked.new.pairs.items)) on empty status.ReadFault (refl, c.in-Ok-Read.ensures.good, found.0, found.1, found.2) (run_of given) [] (sym (append-nil (run_of given))) c.in-Ok-Read.ensures.good (λ r ran. ran) (λ old new bytes w. w) (λ told. c.in-Ok-Read.ensures.ran (tell told))
 
-pub returns-in-Err-BadLine-clause-ended : goal.returns-in-Err-BadLine-clause-ended
-returns-in-Err-BadLine-clause-ended g c =
-    let given = (appended_bytes (g.S.Source.taken c.args.schedule.now) (g.S.Source.taken c.run_linked.new.source)) in
-    let line = c.in-Err-BadLine.line in
-    (c.in-Err-BadLine.ensures.bad line (search rules), λ tell. whole_as c.args.registry.now (tasks 1 (take (line - 1) (run_of given))) _ _ (fabric_view (g.F.Fabric.put_on c.args.fabric.now) (g.F.Fabric.taken_on c.args.fabric.now) (g.F.Fabric.faults c.args.fabric.now)) (fabric_view (g.F.Fabric.put_on c.run_linked.new.fabric) (g.F.Fabric.taken_on c.run_linked.new.fabric) (g.F.Fabric.faults c.run_linked.new.fabric)) (c.in-Err-BadLine.ensures.bad_ran line tell (search rules)) refl refl)
+pub returns-in-Err-BadLine-clause-comes : goal.returns-in-Err-BadLine-clause-comes
+returns-in-Err-BadLine-clause-comes g c = λ start from same empty.
+    let es = c.args.registry.now in
+    let mid = (bench g.E.Disk.view c.args.pairs.now.items) in
+    let now = (bench g.E.Disk.view c.run_linked.new.pairs.items) in
+    let held = images_told g.E.Disk.view in
+    let on = all_then start mid now from c.run_linked.ensures.causes.onward in
+    let tell = λ (told : AllTell (length es) (held_on start)). subst (AllTell (length es)) (sym same ∙ held c.args.pairs.now.items) told in
+    let given = appended_bytes (g.S.Source.view c.args.schedule.now).gave (g.S.Source.view c.run_linked.new.source).gave in
+    let n = c.in-Err-BadLine.line in
+    let bad = c.in-Err-BadLine.ensures.bad n (search rules) in
+    let good = good_before (nodes_in es) given (g.S.Source.view c.run_linked.new.source).left n bad in
+    comes_ran es (g.S.Source.view c.args.schedule.now) (g.S.Source.view c.run_linked.new.source) (g.W.Sink.view c.args.out.now) (g.W.Sink.view c.run_linked.new.out) start now _ _ (images g.E.Disk.view c.args.pairs.now.items) _ (sym (held c.run_linked.new.pairs.items)) on empty (status.BadSchedule n) (refl, good, bad_why es given (g.S.Source.view c.run_linked.new.source).left n bad) (take (n - 1) (run_of given)) (drop (n - 1) (run_of given)) (sym (take-append-drop (n - 1) (run_of given))) good (λ r ran. ran) (λ old new bytes w. w) (λ told. c.in-Err-BadLine.ensures.bad_ran n (tell told) (search rules))
+
+pub returns-in-Err-World-clause-comes : goal.returns-in-Err-World-clause-comes
+returns-in-Err-World-clause-comes g c = λ start from same empty.
+    let es = c.args.registry.now in
+    let mid = (bench g.E.Disk.view c.args.pairs.now.items) in
+    let now = (bench g.E.Disk.view c.run_linked.new.pairs.items) in
+    let held = images_told g.E.Disk.view in
+    let on = all_then start mid now from c.run_linked.ensures.causes.onward in
+    let tell = λ (told : AllTell (length es) (held_on start)). subst (AllTell (length es)) (sym same ∙ held c.args.pairs.now.items) told in
+    let given = appended_bytes (g.S.Source.view c.args.schedule.now).gave (g.S.Source.view c.run_linked.new.source).gave in
+    let causes = c.in-Err-World.ensures.causes in
+    let is : c.in-Err-World.field-0 ≡ linked.World c.in-Err-World.fault = search rules in
+    let e = c.in-Err-World.fault in
+    comes_fault es (g.S.Source.view c.args.schedule.now) (g.S.Source.view c.run_linked.new.source) (g.W.Sink.view c.args.out.now) (g.W.Sink.view c.run_linked.new.out) start now _ _ (images g.E.Disk.view c.args.pairs.now.items) _ (sym (held c.run_linked.new.pairs.items)) on empty e c.fault_status.result c.fault_status.ensures
+    (λ slot q. rose_behind slot start mid now from (causes.disk slot (ap (λ (f : LinkedFault). Err f) (is ∙ ap linked.World q))).1)
+    (λ q. causes.link (ap (λ (f : LinkedFault). Err f) (is ∙ ap linked.World q)))
+    (λ a b sent got q. (causes.lied a b sent got (ap (λ (f : LinkedFault). Err f) (is ∙ ap linked.World q))).2)
+    (λ told. ⊎_elim (λ un. inl (unmade_since start mid from same e es now _ _ un)) (λ found. inr found) (c.in-Err-World.ensures.stopped e (tell told) (ap (λ (f : LinkedFault). Err f) is)))
+
+pub returns-in-Err-Write-clause-comes : goal.returns-in-Err-Write-clause-comes
+returns-in-Err-Write-clause-comes g c = λ start from same empty.
+    let es = c.args.registry.now in
+    let mid = (bench g.E.Disk.view c.args.pairs.now.items) in
+    let now = (bench g.E.Disk.view c.run_linked.new.pairs.items) in
+    let held = images_told g.E.Disk.view in
+    let on = all_then start mid now from c.run_linked.ensures.causes.onward in
+    let tell = λ (told : AllTell (length es) (held_on start)). subst (AllTell (length es)) (sym same ∙ held c.args.pairs.now.items) told in
+    let given = appended_bytes (g.S.Source.view c.args.schedule.now).gave (g.S.Source.view c.run_linked.new.source).gave in
+    comes_write es (g.S.Source.view c.args.schedule.now) (g.S.Source.view c.run_linked.new.source) (g.W.Sink.view c.args.out.now) (g.W.Sink.view c.run_linked.new.out) start now _ _ (images g.E.Disk.view c.args.pairs.now.items) _ (sym (held c.run_linked.new.pairs.items)) on empty (λ e. (e ≢ error.NoMemory) × HasRisen mid now e) (λ e kind. kind.0) (λ e kind k q. rose_behind k start mid now from (kind.1 k q)) (c.in-Err-Write.ensures.write (search rules)) (λ told. c.in-Err-Write.ensures.unwritten (tell told) (search rules))
+
+pub returns-clause-comes : goal.returns-clause-comes
+returns-clause-comes g c = λ start from same empty.
+    let es = c.args.registry.now in
+    let mid = (bench g.E.Disk.view c.args.pairs.now.items) in
+    let now = (bench g.E.Disk.view c.run_linked.new.pairs.items) in
+    let held = images_told g.E.Disk.view in
+    let on = all_then start mid now from c.run_linked.ensures.causes.onward in
+    let tell = λ (told : AllTell (length es) (held_on start)). subst (AllTell (length es)) (sym same ∙ held c.args.pairs.now.items) told in
+    let given = appended_bytes (g.S.Source.view c.args.schedule.now).gave (g.S.Source.view c.run_linked.new.source).gave in
+    comes_short es (g.S.Source.view c.args.schedule.now) (g.S.Source.view c.run_linked.new.source) (g.W.Sink.view c.args.out.now) (g.W.Sink.view c.run_linked.new.out) start now _ _ (images g.E.Disk.view c.args.pairs.now.items) _ (sym (held c.run_linked.new.pairs.items)) on empty (HasRisen mid now) (λ e kind k q. rose_behind k start mid now from (kind k q))
+    (λ told. ⊎_elim (λ un. inl (unmade_since start mid from same error.NoMemory es now _ _ un)) (λ found. inr found) (c.in-Err-NoMemory.ensures.short (tell told) (search rules)))
 
 pub fault_status-requires-clause-disk : goal.fault_status-requires-clause-disk
 fault_status-requires-clause-disk g c = λ slot is. let same : c.in-Err-World.field-0 ≡ linked.World c.in-Err-World.fault = search rules in (c.in-Err-World.ensures.causes.disk slot (ap (λ (f : LinkedFault). Err f) (same ∙ ap linked.World is))).0
@@ -74,31 +137,3 @@ fault_status-requires-clause-lied g c = λ from to sent got is.
     let found = c.in-Err-World.ensures.causes.lied from to sent got (ap (λ (f : LinkedFault). Err f) (same ∙ ap linked.World is)) in
     let slots : length c.in-Ok.pump.entries ≡ length c.args.registry.now = ap (λ (p : Pumped). length p.entries) c.in-Ok.ensures in
     (subst (λ (n : ℕ). from < n) slots found.0, subst (λ (n : ℕ). to < n) slots found.1)
-
-pub returns-in-Err-World-clause-ended : goal.returns-in-Err-World-clause-ended
-returns-in-Err-World-clause-ended g c =
-    let same : c.in-Err-World.field-0 ≡ linked.World c.in-Err-World.fault = search rules in
-    let causes = c.in-Err-World.ensures.causes in
-    gives_fault c.args.registry.now (run_view g.S.Source.taken g.S.Source.left g.S.Source.faults g.W.Sink.written g.W.Sink.faults g.F.Fabric.put_on g.F.Fabric.taken_on g.F.Fabric.faults g.E.Disk.image_at g.E.Disk.moment g.E.Disk.faults g.E.Disk.armed g.E.Disk.picks
-    c.args.schedule.now c.run_linked.new.source c.args.out.now c.run_linked.new.out c.args.fabric.now c.run_linked.new.fabric c.args.pairs.now.items c.run_linked.new.pairs.items)
-    c.in-Err-World.fault c.fault_status.result c.fault_status.ensures
-    (λ slot is. (causes.disk slot (ap (λ (f : LinkedFault). Err f) (same ∙ ap linked.World is))).1)
-    (λ is. causes.link (ap (λ (f : LinkedFault). Err f) (same ∙ ap linked.World is)))
-    (λ from to sent got is. (causes.lied from to sent got (ap (λ (f : LinkedFault). Err f) (same ∙ ap linked.World is))).2)
-    (λ tell. stopped_as g.E.Disk.image_at g.E.Disk.moment g.E.Disk.faults g.E.Disk.armed g.E.Disk.picks c.args.registry.now c.args.pairs.now.items c.run_linked.new.pairs.items c.requires.pairs causes.onward (g.W.Sink.written c.args.out.now) (g.W.Sink.written c.run_linked.new.out) _ _ c.in-Err-World.fault (tasks 1 (run_of (appended_bytes (g.S.Source.taken c.args.schedule.now) (g.S.Source.taken c.run_linked.new.source)))) (c.in-Err-World.ensures.stopped c.in-Err-World.fault tell (ap (λ (f : LinkedFault). Err f) same)))
-
-pub returns-in-Err-Write-clause-ended : goal.returns-in-Err-Write-clause-ended
-returns-in-Err-Write-clause-ended g c =
-    (c.in-Err-Write.ensures.write (search rules), λ tell. short_as c.args.registry.now (tasks 1 (run_of (appended_bytes (g.S.Source.taken c.args.schedule.now) (g.S.Source.taken c.run_linked.new.source)))) _ _ (fabric_view (g.F.Fabric.put_on c.args.fabric.now) (g.F.Fabric.taken_on c.args.fabric.now) (g.F.Fabric.faults c.args.fabric.now)) (fabric_view (g.F.Fabric.put_on c.run_linked.new.fabric) (g.F.Fabric.taken_on c.run_linked.new.fabric) (g.F.Fabric.faults c.run_linked.new.fabric)) (λ e. e ≢ error.NoMemory) (c.in-Err-Write.ensures.unwritten tell (search rules)) refl refl)
-
-pub returns-clause-ended : goal.returns-clause-ended
-returns-clause-ended g c = λ tell. memory_as g.E.Disk.image_at g.E.Disk.moment g.E.Disk.faults g.E.Disk.armed g.E.Disk.picks c.args.registry.now c.args.pairs.now.items c.run_linked.new.pairs.items c.requires.pairs c.run_linked.ensures.causes.onward (g.W.Sink.written c.args.out.now) (g.W.Sink.written c.run_linked.new.out) _ _ (λ e. Unit {0}) error.NoMemory (tasks 1 (run_of (appended_bytes (g.S.Source.taken c.args.schedule.now) (g.S.Source.taken c.run_linked.new.source)))) (c.in-Err-NoMemory.ensures.short tell (search rules))
-
-pub returns-in-Err-World-clause-words : goal.returns-in-Err-World-clause-words
-returns-in-Err-World-clause-words g c = λ is. never_usage c.args.registry.now c.in-Err-World.fault c.fault_status.result c.fault_status.ensures is
-
-pub returns-in-Err-World-clause-registry : goal.returns-in-Err-World-clause-registry
-returns-in-Err-World-clause-registry g c = λ fault is. never_registry c.args.registry.now c.in-Err-World.fault c.fault_status.result fault c.fault_status.ensures is
-
-pub returns-in-Err-World-clause-write : goal.returns-in-Err-World-clause-write
-returns-in-Err-World-clause-write g c = λ is. absurd (never_write c.args.registry.now c.in-Err-World.fault c.fault_status.result c.fault_status.ensures is)

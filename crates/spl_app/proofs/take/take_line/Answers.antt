@@ -1,6 +1,7 @@
 use Rattle.std.proofs.Common.{◌≡◌, Err, IfErr, false, inl, ap, subst, refl, ◌∙◌}
 use Rattle.spl_edge.specs.declared.bench.Pair.{Pair}
 use Rattle.std.specs.Global.{Vec}
+use Rattle.spl_model.specs.Worlds.{blank}
 use Rattle.spl_projection.specs.Whole.{whole_world}
 use Rattle.spl_world.specs.Disks.{images, is_of_journal}
 use Rattle.spl_world.specs.Ended.{LineEnds}
@@ -30,14 +31,14 @@ returns-else-stops_node-clause-unarmed g c = λ off room. unarmed_on _ _ c.step.
 pub returns-else-stops_node-clause-ended : goal.returns-else-stops_node-clause-ended
 returns-else-stops_node-clause-ended g c = λ start before stands held.
     err_then c.step.result _ _ (c.step.ensures.ended before stands) (λ e is ends.
-    step_ends g.D.Disk.image_at g.D.Disk.moment g.D.Disk.faults g.D.Disk.armed g.D.Disk.picks (ids_of c.args.world.now) (places_of c.args.world.now) before c.args.line.now start c.args.pairs.now.items c.step.new.pairs.items held e (cc) c.step.ensures.disks.onward ends)
+    step_ends g.D.Disk.view (ids_of c.args.world.now) (places_of c.args.world.now) before c.args.line.now start c.args.pairs.now.items c.step.new.pairs.items held e (cc) c.step.ensures.disks.onward ends)
 
 pub returns-then-stops_node-clause-ended : goal.returns-then-stops_node-clause-ended
 returns-then-stops_node-clause-ended g c = λ start before stands held.
     let ns = ids_of c.args.world.now in
     let places = places_of c.args.world.now in
-    err_then c.halt.result (λ e. LineEnds (λ c'. whole_world ns c' before) c.args.line.now e ns places (images g.D.Disk.image_at g.D.Disk.moment c.halt.new.pairs.items)) _ (c.halt.ensures.ended before stands) (λ e is ends.
-    halt_ends g.D.Disk.image_at g.D.Disk.moment g.D.Disk.faults g.D.Disk.armed g.D.Disk.picks ns places before c.args.line.now start c.args.pairs.now.items c.halt.new.pairs.items held e (subst (λ r. IfErr r (λ e. is_of_links e ≡ false)) is c.halt.ensures.unlinked) (subst (λ r. IfErr r (λ e. is_of_journal e ≡ false)) is c.halt.ensures.sound) (cc)
+    err_then c.halt.result (λ e. LineEnds (λ c'. whole_world (blank ns) c' before) c.args.line.now e ns places (images g.D.Disk.view c.halt.new.pairs.items)) _ (c.halt.ensures.ended before stands) (λ e is ends.
+    halt_ends g.D.Disk.view ns places before c.args.line.now start c.args.pairs.now.items c.halt.new.pairs.items held e (subst (λ r. IfErr r (λ e. is_of_links e ≡ false)) is c.halt.ensures.unlinked) (subst (λ r. IfErr r (λ e. is_of_journal e ≡ false)) is c.halt.ensures.sound) (cc)
     (λ which q. ap (λ (ps : Vec (Pair _)). ps.items) (c.halt.ensures.kept which (is ∙ ap (λ (f : WorldFault). Err f) q)))
     (λ k q. c.halt.ensures.disk k (is ∙ ap (λ (f : WorldFault). Err f) q)) ends)
 

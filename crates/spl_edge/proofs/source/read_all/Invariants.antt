@@ -4,9 +4,9 @@ use Rattle.spl_edge.proofs.source.read_all.Given as goal
 
 abbrev pub invariant-loop-buf : goal.invariant-loop-buf
 invariant-loop-buf g l = record {
-  taken : g.S.Source.taken l.source ≡ g.S.Source.taken l.initial.source ++ l.bytes.items;
-  left : Consumes (g.S.Source.left l.initial.source) (g.S.Source.left l.source) l.bytes.items;
-  later : g.S.Source.faults l.initial.source ≤ g.S.Source.faults l.source;
+  taken : (g.S.Source.view l.source).gave ≡ (g.S.Source.view l.initial.source).gave ++ l.bytes.items;
+  left : Consumes (g.S.Source.view l.initial.source).left (g.S.Source.view l.source).left l.bytes.items;
+  later : (g.S.Source.view l.initial.source).faults ≤ (g.S.Source.view l.source).faults;
 }
 
 abbrev pub decreases-loop-buf : goal.decreases-loop-buf

@@ -4,7 +4,7 @@ use Rattle.spl_node.proofs.Leaving.{no_more_asked, no_more_picked, no_more_still
 use Rattle.spl_node.proofs.stopping.pick_both.Goals as goal
 
 pub returns-in_err-pick-clause-first_left : goal.returns-in_err-pick-clause-first_left
-returns-in_err-pick-clause-first_left g c = no_more_still _ _ (ap (g.D.Disk.image_at c.pick.new.self) c.in_err-pick.ensures.err.0 ∙ c.pick.ensures.past (g.D.Disk.moment c.args.disks.now.first) (omega arith))
+returns-in_err-pick-clause-first_left g c = no_more_still _ _ (ap (g.D.Disk.view c.pick.new.self).image_at c.in_err-pick.ensures.err.0 ∙ c.pick.ensures.past (g.D.Disk.view c.args.disks.now.first).moment (omega arith))
 
 pub returns-in_err-pick-clause-second_left : goal.returns-in_err-pick-clause-second_left
 returns-in_err-pick-clause-second_left g c = no_more_still _ _ refl

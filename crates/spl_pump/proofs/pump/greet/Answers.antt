@@ -16,4 +16,4 @@ unreachable-requires g c =
 pub returns-clause-part : goal.returns-clause-part
 returns-clause-part g c =
     let spelled = c.bytes.ensures ∙ c.in_ok-hello.ensures.greeting ∙ ap (λ (s : Side). greeting s.opens s.here) c.new.ensures in
-    subst (λ (l : List ℕ). GrowsPart c.args.from c.args.to l (g.F.Fabric.put_on c.args.fabric.now) (g.F.Fabric.put_on c.exchange.new.fabric)) (ap frame spelled ∙ sym (hand_is c.args.registry.now c.args.from c.args.to c.node-here.result c.node-here.ensures)) c.exchange.ensures.part
+    subst (λ (l : List ℕ). GrowsPart c.args.from c.args.to l (g.F.Fabric.view c.args.fabric.now).put (g.F.Fabric.view c.exchange.new.fabric).put) (ap frame spelled ∙ sym (hand_is c.args.registry.now c.args.from c.args.to c.node-here.result c.node-here.ensures)) c.exchange.ensures.part

@@ -4,4 +4,4 @@ use Rattle.spl_pump.proofs.Wires.{grows_puts}
 use Rattle.spl_pump.proofs.pump.send.Goals as goal
 
 pub returns-in-Ok-clause-put : goal.returns-in-Ok-clause-put
-returns-in-Ok-clause-put g c = grows_puts c.args.from c.args.to (frame (message_form.spell c.args.message.now)) (g.F.Fabric.put_on c.args.fabric.now) (g.F.Fabric.put_on c.carry_message.new.fabric) c.in-Ok.ensures.put
+returns-in-Ok-clause-put g c = grows_puts c.args.from c.args.to (frame (message_form.spell c.args.message.now)) (g.F.Fabric.view c.args.fabric.now).put (g.F.Fabric.view c.carry_message.new.fabric).put c.in-Ok.ensures.put

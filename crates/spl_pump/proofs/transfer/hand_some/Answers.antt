@@ -2,4 +2,4 @@ use Rattle.spl_pump.proofs.Streams.{part_is}
 use Rattle.spl_pump.proofs.transfer.hand_some.Goals as goal
 
 pub returns-clause-part : goal.returns-clause-part
-returns-clause-part g c = part_is c.args.from c.args.to c.in_ok-count.count c.args.piece.now (g.F.Fabric.put_on c.args.fabric.now) (g.F.Fabric.put_on c.put.new.self) (g.F.Fabric.put_on c.take_all.new.fabric) c.in_ok-count.ensures.put c.in_ok-count.ensures.others c.take_all.ensures.put
+returns-clause-part g c = part_is c.args.from c.args.to c.in_ok-count.count c.args.piece.now (g.F.Fabric.view c.args.fabric.now).put (g.F.Fabric.view c.put.new.self).put (g.F.Fabric.view c.take_all.new.fabric).put c.in_ok-count.ensures.put c.in_ok-count.ensures.others c.take_all.ensures.put

@@ -7,10 +7,10 @@ abbrev pub invariant-pieces : goal.invariant-pieces
 invariant-pieces g l = record {
   within : length l.got.items ≤ length l.bytes;
   rest : l.rest ≡ drop (length l.got.items) l.bytes;
-  put : Grows l.from l.to (take (length l.got.items) l.bytes) (g.F.Fabric.put_on l.initial.fabric) (g.F.Fabric.put_on l.fabric);
-  taken : Grows l.from l.to l.got.items (g.F.Fabric.taken_on l.initial.fabric) (g.F.Fabric.taken_on l.fabric);
-  all : AreTaken (g.F.Fabric.put_on l.fabric l.from l.to) (g.F.Fabric.taken_on l.fabric l.from l.to);
-  later : g.F.Fabric.faults l.initial.fabric ≤ g.F.Fabric.faults l.fabric;
+  put : Grows l.from l.to (take (length l.got.items) l.bytes) (g.F.Fabric.view l.initial.fabric).put (g.F.Fabric.view l.fabric).put;
+  taken : Grows l.from l.to l.got.items (g.F.Fabric.view l.initial.fabric).taken (g.F.Fabric.view l.fabric).taken;
+  all : AreTaken ((g.F.Fabric.view l.fabric).put l.from l.to) ((g.F.Fabric.view l.fabric).taken l.from l.to);
+  later : (g.F.Fabric.view l.initial.fabric).faults ≤ (g.F.Fabric.view l.fabric).faults;
 }
 
 abbrev pub decreases-pieces : goal.decreases-pieces

@@ -1,9 +1,9 @@
 use Rattle.std.proofs.Common.{◌≡◌, take}
 use Rattle.std.specs.List.{filter}
 use Rattle.spl_circuit.specs.Nodes.{has_node}
-use Rattle.spl_circuit.specs.Lifecycle.{life}
+use Rattle.spl_circuit.specs.Lifecycle.{life, current}
 use Rattle.spl_admin.proofs.ledger.Ledger.accepted_members.Given as goal
 
 -- those of the members so far
 abbrev pub invariant-loop-member : goal.invariant-loop-member
-invariant-loop-member l = l.members ≡ filter (has_node (life l.self.definition l.self.acts).accepted) (take l.member-index l.member-items)
+invariant-loop-member l = l.members ≡ filter (has_node (current (life l.self.definition l.self.acts)).accepted) (take l.member-index l.member-items)

@@ -1,11 +1,12 @@
 use Rattle.std.proofs.Common.{◌≡◌, inl, inr, refl, Err, ◌∷◌, ◌++◌, ℕ, List, [], ap, ◌∙◌, rules, subst, sym}
 use Rattle.std.specs.Prelude.{IsErrOf}
+use Rattle.spl_edge.specs.Views.{bench}
 use Rattle.spl_circuit.specs.Nodes.{NodeId}
 use Rattle.spl_answer.specs.Texts.{text}
+use Rattle.spl_model.specs.Worlds.{blank}
 use Rattle.spl_model.specs.Outcomes.{by_rule}
 use Rattle.spl_model.specs.Answers.{answer_to}
 use Rattle.spl_world.specs.Counts.{IsOver}
-use Rattle.spl_world.specs.Disks.{bench}
 use Rattle.spl_world.specs.Views.{places_of}
 use Rattle.spl_world.specs.declared.fault.WorldFault.TheVariants.{Disk, NoMemory, TooMany}
 use Rattle.spl_world.specs.declared.fault.WorldFault.{WorldFault}
@@ -27,7 +28,7 @@ returns-in_err-answer-clause-many g c = λ before which stands is.
 pub returns-clause-text : goal.returns-clause-text
 returns-clause-text g c = λ before stands.
     c.in_ok-append_text.ensures ∙ ap (λ (l : List ℕ). l ++ text c.in_ok-answer.answer) c.clear.ensures.items ∙ ap text (c.in_ok-answer.ensures.answer before stands)
-    ∙ ap (λ (ns : List NodeId). text (answer_to ns before (by_rule c.args.said.now))) c.requires.nodes
+    ∙ ap (λ (ns : List NodeId). text (answer_to (blank ns) before (by_rule c.args.said.now))) c.requires.nodes
 
 pub returns-clause-few : goal.returns-clause-few
 returns-clause-few g c = λ before stands few.
@@ -56,13 +57,13 @@ returns-clause-unarmed g c = λ off room. c.in_ok-answer.ensures.unarmed off (λ
 
 pub returns-in_err-answer-clause-ended : goal.returns-in_err-answer-clause-ended
 returns-in_err-answer-clause-ended g c = λ start before stands held.
-    let now = (bench g.D.Disk.image_at g.D.Disk.moment g.D.Disk.faults g.D.Disk.armed g.D.Disk.picks c.take_line.new.pairs.items) in
+    let now = (bench g.D.Disk.view c.take_line.new.pairs.items) in
     err_from c.from_residual.result c.in_err-answer.field-0.0 _ c.from_residual.ensures
     (inl (subst (λ (ns : List NodeId). EndsAt ns (places_of c.args.self.now.world) before c.args.said.now c.in_err-answer.field-0.0 start now) c.requires.nodes (c.in_err-answer.ensures.ended start before stands held)))
 
 pub returns-in_err-append_text-clause-ended : goal.returns-in_err-append_text-clause-ended
 returns-in_err-append_text-clause-ended g c = λ start before stands held.
-    let now = (bench g.D.Disk.image_at g.D.Disk.moment g.D.Disk.faults g.D.Disk.armed g.D.Disk.picks c.take_line.new.pairs.items) in
+    let now = (bench g.D.Disk.view c.take_line.new.pairs.items) in
     err_from c.from_residual-in_err-append_text.result NoMemory _ c.from_residual-in_err-append_text.ensures
     (inr (
       refl,

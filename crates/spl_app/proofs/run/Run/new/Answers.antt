@@ -21,7 +21,7 @@ returns-clause-behind g c = λ start. record {
     place = seat_of c.args.registry.now;
     placed = seats_placed c.args.registry.now c.in_ok-new-2.field-0 c.in_ok-sorted_ids.ensures.apart c.in_ok-new-2.ensures.ids c.in_ok-new-2.ensures.placed;
   };
-  stands = c.in_ok-new-2.ensures.stands (all_tell g.D.Disk.image_at g.D.Disk.moment g.met.D.StopDisk.tells c.args.pairs.now.items _ c.requires.room);
+  stands = c.in_ok-new-2.ensures.stands (all_tell g.D.Disk.view g.met.D.StopDisk.tells c.args.pairs.now.items _ c.requires.room);
   few = none_within _;
   due = due_none _ c.args.skip start _ c.in_ok-new.ensures;
 }
@@ -33,7 +33,7 @@ pub returns-clause-unarmed : goal.returns-clause-unarmed
 returns-clause-unarmed g c = unarmed_on _ _ c.new-3.ensures.disks.onward (unpicked_unarmed _ c.requires.unpicked)
 
 pub returns-clause-held : goal.returns-clause-held
-returns-clause-held g c = c.in_ok-new-2.ensures.held (all_tell g.D.Disk.image_at g.D.Disk.moment g.met.D.StopDisk.tells c.args.pairs.now.items _ c.requires.room) c.requires.unpicked
+returns-clause-held g c = c.in_ok-new-2.ensures.held (all_tell g.D.Disk.view g.met.D.StopDisk.tells c.args.pairs.now.items _ c.requires.room) c.requires.unpicked
 
 pub returns-in_err-new-2-clause-unarmed : goal.returns-in_err-new-2-clause-unarmed
 returns-in_err-new-2-clause-unarmed g c = unarmed_on _ _ c.new-3.ensures.disks.onward (unpicked_unarmed _ c.requires.unpicked)

@@ -10,6 +10,9 @@ votes-requires c = record { settled = subst IsSettledHeld (sym c.deref.ensures) 
 pub removes-requires : goal.removes-requires
 removes-requires c = record { settled = subst IsSettledHeld (sym c.deref-in-Remove.ensures) (subst IsSettledState c.in-Held.is (settled_state (site_of c.args.self.now) c.args.state.now c.requires.at c.requires.valid)) }
 
+pub disbands-requires : goal.disbands-requires
+disbands-requires c = record { settled = subst IsSettledHeld (sym c.deref-in-Disband.ensures) (subst IsSettledState c.in-Held.is (settled_state (site_of c.args.self.now) c.args.state.now c.requires.at c.requires.valid)) }
+
 pub turns-requires-clause-settled : goal.turns-requires-clause-settled
 turns-requires-clause-settled c = subst IsSettledHeld (sym c.deref-in-Tick.ensures) (subst IsSettledState c.in-Held.is (settled_state (site_of c.args.self.now) c.args.state.now c.requires.at c.requires.valid))
 

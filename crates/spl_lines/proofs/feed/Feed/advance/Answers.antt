@@ -9,15 +9,15 @@ use Rattle.spl_lines.proofs.feed.Feed.advance.Goals as goal
 pub returns-then-cut-clause-line : goal.returns-then-cut-clause-line
 returns-then-cut-clause-line g c = λ is before had lines feeds.
     let found = c.cut.ensures.line c.if-cut.true in
-    feeds_line before had lines (g.S.Source.taken c.pieces.source) (g.S.Source.left c.pieces.source) c.pieces.self c.cut.new.self (last_line c.cut.new.self) (c.pieces.invariant.feeds before had lines feeds) found.0 found.1 c.cut.ensures.same
+    feeds_line before had lines (g.S.Source.view c.pieces.source).gave (g.S.Source.view c.pieces.source).left c.pieces.self c.cut.new.self (last_line c.cut.new.self) (c.pieces.invariant.feeds before had lines feeds) found.0 found.1 c.cut.ensures.same
 
 pub returns-then-seen-gt-LONGEST_LINE-clause-still : goal.returns-then-seen-gt-LONGEST_LINE-clause-still
 returns-then-seen-gt-LONGEST_LINE-clause-still g c = λ not before had lines feeds.
-    feeds_same before had lines (g.S.Source.taken c.pieces.source) (g.S.Source.left c.pieces.source) c.pieces.self c.cut.new.self (c.pieces.invariant.feeds before had lines feeds) (c.cut.ensures.none c.if-cut.false).1 c.cut.ensures.same
+    feeds_same before had lines (g.S.Source.view c.pieces.source).gave (g.S.Source.view c.pieces.source).left c.pieces.self c.cut.new.self (c.pieces.invariant.feeds before had lines feeds) (c.cut.ensures.none c.if-cut.false).1 c.cut.ensures.same
 
 pub returns-then-self-gt-MOST_BYTES-clause-still : goal.returns-then-self-gt-MOST_BYTES-clause-still
 returns-then-self-gt-MOST_BYTES-clause-still g c = λ not before had lines feeds.
-    feeds_same before had lines (g.S.Source.taken c.pieces.source) (g.S.Source.left c.pieces.source) c.pieces.self c.cut.new.self (c.pieces.invariant.feeds before had lines feeds) (c.cut.ensures.none c.if-cut.false).1 c.cut.ensures.same
+    feeds_same before had lines (g.S.Source.view c.pieces.source).gave (g.S.Source.view c.pieces.source).left c.pieces.self c.cut.new.self (c.pieces.invariant.feeds before had lines feeds) (c.cut.ensures.none c.if-cut.false).1 c.cut.ensures.same
 
 pub returns-then-self-gt-MOST_BYTES-clause-long : goal.returns-then-self-gt-MOST_BYTES-clause-long
 returns-then-self-gt-MOST_BYTES-clause-long g c = λ is. (omega (arith, limit_is), omega arith)
@@ -27,35 +27,35 @@ fill-requires-clause-within g c = omega (arith, limit_is)
 
 pub returns-in-Ok-eq0-clause-still : goal.returns-in-Ok-eq0-clause-still
 returns-in-Ok-eq0-clause-still g c = λ not before had lines feeds.
-    feeds_more before had lines (g.S.Source.taken c.pieces.source) (g.S.Source.left c.pieces.source) c.cut.new.self (g.S.Source.taken c.fill.new.source) (g.S.Source.left c.fill.new.source) c.fill.new.self
-    (appended_bytes (g.S.Source.taken c.pieces.source) (g.S.Source.taken c.fill.new.source))
-    (feeds_same before had lines (g.S.Source.taken c.pieces.source) (g.S.Source.left c.pieces.source) c.pieces.self c.cut.new.self (c.pieces.invariant.feeds before had lines feeds) (c.cut.ensures.none c.if-cut.false).1 c.cut.ensures.same)
+    feeds_more before had lines (g.S.Source.view c.pieces.source).gave (g.S.Source.view c.pieces.source).left c.cut.new.self (g.S.Source.view c.fill.new.source).gave (g.S.Source.view c.fill.new.source).left c.fill.new.self
+    (appended_bytes (g.S.Source.view c.pieces.source).gave (g.S.Source.view c.fill.new.source).gave)
+    (feeds_same before had lines (g.S.Source.view c.pieces.source).gave (g.S.Source.view c.pieces.source).left c.pieces.self c.cut.new.self (c.pieces.invariant.feeds before had lines feeds) (c.cut.ensures.none c.if-cut.false).1 c.cut.ensures.same)
     c.fill.ensures.taken c.fill.ensures.left c.fill.ensures.waits c.fill.ensures.count
 
 pub returns-in-Ok-eq0-2-clause-still : goal.returns-in-Ok-eq0-2-clause-still
 returns-in-Ok-eq0-2-clause-still g c = λ not before had lines feeds.
-    feeds_more before had lines (g.S.Source.taken c.pieces.source) (g.S.Source.left c.pieces.source) c.cut.new.self (g.S.Source.taken c.fill.new.source) (g.S.Source.left c.fill.new.source) c.fill.new.self
-    (appended_bytes (g.S.Source.taken c.pieces.source) (g.S.Source.taken c.fill.new.source))
-    (feeds_same before had lines (g.S.Source.taken c.pieces.source) (g.S.Source.left c.pieces.source) c.pieces.self c.cut.new.self (c.pieces.invariant.feeds before had lines feeds) (c.cut.ensures.none c.if-cut.false).1 c.cut.ensures.same)
+    feeds_more before had lines (g.S.Source.view c.pieces.source).gave (g.S.Source.view c.pieces.source).left c.cut.new.self (g.S.Source.view c.fill.new.source).gave (g.S.Source.view c.fill.new.source).left c.fill.new.self
+    (appended_bytes (g.S.Source.view c.pieces.source).gave (g.S.Source.view c.fill.new.source).gave)
+    (feeds_same before had lines (g.S.Source.view c.pieces.source).gave (g.S.Source.view c.pieces.source).left c.pieces.self c.cut.new.self (c.pieces.invariant.feeds before had lines feeds) (c.cut.ensures.none c.if-cut.false).1 c.cut.ensures.same)
     c.fill.ensures.taken c.fill.ensures.left c.fill.ensures.waits c.fill.ensures.count
 
 pub returns-in-Err-Failed-clause-still : goal.returns-in-Err-Failed-clause-still
 returns-in-Err-Failed-clause-still g c = λ not before had lines feeds.
-    feeds_more before had lines (g.S.Source.taken c.pieces.source) (g.S.Source.left c.pieces.source) c.cut.new.self (g.S.Source.taken c.fill.new.source) (g.S.Source.left c.fill.new.source) c.fill.new.self
-    (appended_bytes (g.S.Source.taken c.pieces.source) (g.S.Source.taken c.fill.new.source))
-    (feeds_same before had lines (g.S.Source.taken c.pieces.source) (g.S.Source.left c.pieces.source) c.pieces.self c.cut.new.self (c.pieces.invariant.feeds before had lines feeds) (c.cut.ensures.none c.if-cut.false).1 c.cut.ensures.same)
+    feeds_more before had lines (g.S.Source.view c.pieces.source).gave (g.S.Source.view c.pieces.source).left c.cut.new.self (g.S.Source.view c.fill.new.source).gave (g.S.Source.view c.fill.new.source).left c.fill.new.self
+    (appended_bytes (g.S.Source.view c.pieces.source).gave (g.S.Source.view c.fill.new.source).gave)
+    (feeds_same before had lines (g.S.Source.view c.pieces.source).gave (g.S.Source.view c.pieces.source).left c.pieces.self c.cut.new.self (c.pieces.invariant.feeds before had lines feeds) (c.cut.ensures.none c.if-cut.false).1 c.cut.ensures.same)
     c.fill.ensures.taken c.fill.ensures.left c.fill.ensures.waits c.fill.ensures.count
 
 pub returns-in-Err-NoMemory-clause-still : goal.returns-in-Err-NoMemory-clause-still
 returns-in-Err-NoMemory-clause-still g c = λ not before had lines feeds.
-    feeds_more before had lines (g.S.Source.taken c.pieces.source) (g.S.Source.left c.pieces.source) c.cut.new.self (g.S.Source.taken c.fill.new.source) (g.S.Source.left c.fill.new.source) c.fill.new.self
-    (appended_bytes (g.S.Source.taken c.pieces.source) (g.S.Source.taken c.fill.new.source))
-    (feeds_same before had lines (g.S.Source.taken c.pieces.source) (g.S.Source.left c.pieces.source) c.pieces.self c.cut.new.self (c.pieces.invariant.feeds before had lines feeds) (c.cut.ensures.none c.if-cut.false).1 c.cut.ensures.same)
+    feeds_more before had lines (g.S.Source.view c.pieces.source).gave (g.S.Source.view c.pieces.source).left c.cut.new.self (g.S.Source.view c.fill.new.source).gave (g.S.Source.view c.fill.new.source).left c.fill.new.self
+    (appended_bytes (g.S.Source.view c.pieces.source).gave (g.S.Source.view c.fill.new.source).gave)
+    (feeds_same before had lines (g.S.Source.view c.pieces.source).gave (g.S.Source.view c.pieces.source).left c.pieces.self c.cut.new.self (c.pieces.invariant.feeds before had lines feeds) (c.cut.ensures.none c.if-cut.false).1 c.cut.ensures.same)
     c.fill.ensures.taken c.fill.ensures.left c.fill.ensures.waits c.fill.ensures.count
 
 pub returns-in-Ok-eq0-clause-end : goal.returns-in-Ok-eq0-clause-end
 returns-in-Ok-eq0-clause-end g c = λ is.
-    let more = appended_bytes (g.S.Source.taken c.pieces.source) (g.S.Source.taken c.fill.new.source) in
+    let more = appended_bytes (g.S.Source.view c.pieces.source).gave (g.S.Source.view c.fill.new.source).gave in
     let none : length more ≡ 0 = omega (arith, c.in-Ok-eq0.ensures.told) in (
       c.in-Ok-eq0.ensures.end c.in-Ok-eq0.field-0-test,
       omega (arith, limit_is, c.fill.ensures.count, none),
@@ -64,7 +64,7 @@ returns-in-Ok-eq0-clause-end g c = λ is.
 
 pub returns-in-Ok-eq0-2-clause-unfinished : goal.returns-in-Ok-eq0-2-clause-unfinished
 returns-in-Ok-eq0-2-clause-unfinished g c = λ is.
-    let more = appended_bytes (g.S.Source.taken c.pieces.source) (g.S.Source.taken c.fill.new.source) in
+    let more = appended_bytes (g.S.Source.view c.pieces.source).gave (g.S.Source.view c.fill.new.source).gave in
     let none : length more ≡ 0 = omega (arith, c.in-Ok-eq0.ensures.told) in (
       c.in-Ok-eq0.ensures.end c.in-Ok-eq0.field-0-test,
       omega (arith, limit_is, c.fill.ensures.count, none),
@@ -73,21 +73,21 @@ returns-in-Ok-eq0-2-clause-unfinished g c = λ is.
 
 pub pieces-preserved : goal.pieces-preserved
 pieces-preserved g c =
-    let more = appended_bytes (g.S.Source.taken c.pieces.source) (g.S.Source.taken c.fill.new.source) in
+    let more = appended_bytes (g.S.Source.view c.pieces.source).gave (g.S.Source.view c.fill.new.source).gave in
     record {
       within = omega (arith, ap length c.fill.ensures.waits, length-append (waiting c.cut.new.self) (take (limit - count_of c.cut.new.self) more));
       none = free_front (waiting c.cut.new.self) (take (limit - count_of c.cut.new.self) more) (waiting c.fill.new.self) c.wait-seen.result c.wait-seen.ensures
           (ap has_feed (c.cut.ensures.none c.if-cut.false).1 ∙ (c.cut.ensures.none c.if-cut.false).0) c.fill.ensures.waits;
-      feeds = λ before had lines feeds. feeds_more before had lines (g.S.Source.taken c.pieces.source) (g.S.Source.left c.pieces.source) c.cut.new.self (g.S.Source.taken c.fill.new.source) (g.S.Source.left c.fill.new.source) c.fill.new.self
-          (appended_bytes (g.S.Source.taken c.pieces.source) (g.S.Source.taken c.fill.new.source))
-          (feeds_same before had lines (g.S.Source.taken c.pieces.source) (g.S.Source.left c.pieces.source) c.pieces.self c.cut.new.self (c.pieces.invariant.feeds before had lines feeds) (c.cut.ensures.none c.if-cut.false).1 c.cut.ensures.same)
+      feeds = λ before had lines feeds. feeds_more before had lines (g.S.Source.view c.pieces.source).gave (g.S.Source.view c.pieces.source).left c.cut.new.self (g.S.Source.view c.fill.new.source).gave (g.S.Source.view c.fill.new.source).left c.fill.new.self
+          (appended_bytes (g.S.Source.view c.pieces.source).gave (g.S.Source.view c.fill.new.source).gave)
+          (feeds_same before had lines (g.S.Source.view c.pieces.source).gave (g.S.Source.view c.pieces.source).left c.pieces.self c.cut.new.self (c.pieces.invariant.feeds before had lines feeds) (c.cut.ensures.none c.if-cut.false).1 c.cut.ensures.same)
           c.fill.ensures.taken c.fill.ensures.left c.fill.ensures.waits c.fill.ensures.count;
       later = search rules;
     }
 
 pub returns-in-Err-Failed-clause-read : goal.returns-in-Err-Failed-clause-read
 returns-in-Err-Failed-clause-read g c = λ is.
-    let more = appended_bytes (g.S.Source.taken c.pieces.source) (g.S.Source.taken c.fill.new.source) in (
+    let more = appended_bytes (g.S.Source.view c.pieces.source).gave (g.S.Source.view c.fill.new.source).gave in (
       search rules,
       omega (arith, limit_is, c.fill.ensures.count, ap length c.in-Err-Failed.ensures.none),
       omega (arith, ap length c.in-Err-Failed.ensures.none, ap length c.fill.ensures.waits, length-append (waiting c.cut.new.self) (take (limit - count_of c.cut.new.self) more), length-take (limit - count_of c.cut.new.self) more),

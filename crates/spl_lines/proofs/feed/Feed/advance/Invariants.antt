@@ -7,9 +7,9 @@ abbrev pub invariant-pieces : goal.invariant-pieces
 invariant-pieces g l = record {
   within : l.seen ≤ length (waiting l.self);
   none : has_feed (take l.seen (waiting l.self)) ≡ false;
-  feeds : (before : List ℕ) (had : Option (List ℕ)) (lines : List (List ℕ)) → Feeds before had lines (g.S.Source.taken l.initial.source) (g.S.Source.left l.initial.source) l.initial.self
-      → Feeds before had lines (g.S.Source.taken l.source) (g.S.Source.left l.source) l.self;
-  later : g.S.Source.faults l.initial.source ≤ g.S.Source.faults l.source;
+  feeds : (before : List ℕ) (had : Option (List ℕ)) (lines : List (List ℕ)) → Feeds before had lines (g.S.Source.view l.initial.source).gave (g.S.Source.view l.initial.source).left l.initial.self
+      → Feeds before had lines (g.S.Source.view l.source).gave (g.S.Source.view l.source).left l.self;
+  later : (g.S.Source.view l.initial.source).faults ≤ (g.S.Source.view l.source).faults;
 }
 
 abbrev pub decreases-pieces : goal.decreases-pieces

@@ -7,20 +7,20 @@ use Rattle.spl_lines.proofs.output.Output.put_behind.Goals as goal
 
 pub returns-then-number-skip-clause-ok : goal.returns-then-number-skip-clause-ok
 returns-then-number-skip-clause-ok g c =
-    let written = g.W.Sink.written c.args.sink.now in
+    let written = (g.W.Sink.view c.args.sink.now).written in
     let waiting = c.args.self.now in
     subst (IsDue written written waiting) (sym (ap (λ (l : List ℕ). waiting ++ l) (not_shown c.args.skip c.args.number c.args.text.now c.if-number-skip.true) ∙ append-nil waiting)) (due_waits written waiting)
 
 pub returns-then-number-skip-clause-part : goal.returns-then-number-skip-clause-part
 returns-then-number-skip-clause-part g c =
-    let written = g.W.Sink.written c.args.sink.now in
+    let written = (g.W.Sink.view c.args.sink.now).written in
     let waiting = c.args.self.now in
     due_whole written written waiting _ (subst (IsDue written written waiting) (sym (ap (λ (l : List ℕ). waiting ++ l) (not_shown c.args.skip c.args.number c.args.text.now c.if-number-skip.true) ∙ append-nil waiting)) (due_waits written waiting))
 
 pub returns-clause-ok : goal.returns-clause-ok
 returns-clause-ok g c = ok_then c.put.result c.put.ensures.ok (λ due.
-    subst (λ (l : List ℕ). IsDue (g.W.Sink.written c.args.sink.now) (g.W.Sink.written c.put.new.sink) c.put.new.self (c.args.self.now ++ l)) (sym (is_shown c.args.skip c.args.number c.args.text.now c.if-number-skip.false)) due)
+    subst (λ (l : List ℕ). IsDue (g.W.Sink.view c.args.sink.now).written (g.W.Sink.view c.put.new.sink).written c.put.new.self (c.args.self.now ++ l)) (sym (is_shown c.args.skip c.args.number c.args.text.now c.if-number-skip.false)) due)
 
 pub returns-clause-part : goal.returns-clause-part
 returns-clause-part g c =
-    subst (λ (l : List ℕ). IsDuePart (g.W.Sink.written c.args.sink.now) (g.W.Sink.written c.put.new.sink) c.put.new.self (c.args.self.now ++ l)) (sym (is_shown c.args.skip c.args.number c.args.text.now c.if-number-skip.false)) c.put.ensures.part
+    subst (λ (l : List ℕ). IsDuePart (g.W.Sink.view c.args.sink.now).written (g.W.Sink.view c.put.new.sink).written c.put.new.self (c.args.self.now ++ l)) (sym (is_shown c.args.skip c.args.number c.args.text.now c.if-number-skip.false)) c.put.ensures.part

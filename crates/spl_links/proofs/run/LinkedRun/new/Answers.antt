@@ -1,6 +1,7 @@
 use Rattle.std.proofs.Common.{◌≡◌, ◌∙◌, ◌<◌, true, length, Err, refl, ap, sym, arith}
 use Rattle.std.specs.Prelude.{IsErrOf}
-use Rattle.spl_world.specs.Disks.{bench, images}
+use Rattle.spl_edge.specs.Views.{bench}
+use Rattle.spl_world.specs.Disks.{images}
 use Rattle.spl_world.specs.Views.{places_of}
 use Rattle.spl_world.specs.declared.fault.WorldFault.{WorldFault}
 use Rattle.spl_world.specs.declared.fault.WorldFault.TheVariants.{NoMemory}
@@ -24,8 +25,8 @@ returns-clause-go g c = λ y can. record {
 
 pub returns-clause-behind : goal.returns-clause-behind
 returns-clause-behind g c = λ s can tell.
-    none_behind c.args.registry.now c.in_ok-new-2.field-0 c.in_ok-new.field-0 s (images g.D.Disk.image_at g.D.Disk.moment c.new-3.new.pairs.items)
-    (none_ran c.args.registry.now c.in_ok-new-2.field-0 s.links (images g.D.Disk.image_at g.D.Disk.moment c.new-3.new.pairs.items) c.in_ok-new-2.ensures.ids c.in_ok-sorted_ids.ensures.apart c.in_ok-new-2.ensures.placed (c.in_ok-new-2.ensures.stands tell) can)
+    none_behind c.args.registry.now c.in_ok-new-2.field-0 c.in_ok-new.field-0 s (images g.D.Disk.view c.new-3.new.pairs.items)
+    (none_ran c.args.registry.now c.in_ok-new-2.field-0 s.links (images g.D.Disk.view c.new-3.new.pairs.items) c.in_ok-new-2.ensures.ids c.in_ok-sorted_ids.ensures.apart c.in_ok-new-2.ensures.placed (c.in_ok-new-2.ensures.stands tell) can)
     c.in_ok-new.ensures
 
 pub returns-in_err-sorted_ids-clause-causes : goal.returns-in_err-sorted_ids-clause-causes
@@ -37,9 +38,9 @@ returns-in_err-new-clause-causes g c = λ y. memory_causes c.from_residual-in_er
 pub returns-in_err-new-2-clause-causes : goal.returns-in_err-new-2-clause-causes
 returns-in_err-new-2-clause-causes g c = λ y.
     let f = c.in_err-new-2.field-0.0 in
-    causes_if (λ e. IsErrOf (failed World f) e) (λ e. IsErrOf c.from_residual-in_err-new-2.result e) (λ k. k < length c.args.registry.now) (bench g.D.Disk.image_at g.D.Disk.moment g.D.Disk.faults g.D.Disk.armed g.D.Disk.picks c.args.pairs.now.items) (bench g.D.Disk.image_at g.D.Disk.moment g.D.Disk.faults g.D.Disk.armed g.D.Disk.picks c.new-3.new.pairs.items) y y
+    causes_if (λ e. IsErrOf (failed World f) e) (λ e. IsErrOf c.from_residual-in_err-new-2.result e) (λ k. k < length c.args.registry.now) (bench g.D.Disk.view c.args.pairs.now.items) (bench g.D.Disk.view c.new-3.new.pairs.items) y y
     (λ e is. ap (λ (h : WorldFault). Err h) (err_same c.from_residual-in_err-new-2.result f e c.from_residual-in_err-new-2.ensures is))
-    (made_causes (failed World f) (length c.args.registry.now) (bench g.D.Disk.image_at g.D.Disk.moment g.D.Disk.faults g.D.Disk.armed g.D.Disk.picks c.args.pairs.now.items) (bench g.D.Disk.image_at g.D.Disk.moment g.D.Disk.faults g.D.Disk.armed g.D.Disk.picks c.new-3.new.pairs.items) y c.in_err-new-2.ensures.disks c.in_err-new-2.ensures.place c.in_err-new-2.ensures.sound c.in_err-new-2.ensures.unlinked)
+    (made_causes (failed World f) (length c.args.registry.now) (bench g.D.Disk.view c.args.pairs.now.items) (bench g.D.Disk.view c.new-3.new.pairs.items) y c.in_err-new-2.ensures.disks c.in_err-new-2.ensures.place c.in_err-new-2.ensures.sound c.in_err-new-2.ensures.unlinked)
 
 pub returns-clause-causes : goal.returns-clause-causes
 returns-clause-causes g c = λ y.

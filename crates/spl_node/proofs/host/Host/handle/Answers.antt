@@ -1,5 +1,6 @@
 use Rattle.std.proofs.Common.{◌⊎◌, Bool, sym, ap, subst}
-use Rattle.spl_snapshot.specs.Counting.{IfBoth, PairLeavesInTurn}
+use Rattle.spl_edge.specs.Views.{image_now, pair_view}
+use Rattle.spl_snapshot.specs.Counting.{IfBoth, PairLeavesInTurn, PairTellsAs}
 use Rattle.spl_snapshot.specs.Pairs.{is_second}
 use Rattle.spl_node.specs.Hosts.{counts_second}
 use Rattle.spl_node.specs.Kept.{cells_after}
@@ -9,9 +10,9 @@ use Rattle.spl_node.proofs.host.Host.handle.Goals as goal
 
 pub returns-clause-stands : goal.returns-clause-stands
 returns-clause-stands g c = ok_map c.step.result (λ runs. record { up = runs; down = tt })
-    (runs_on c.step.result c.args.self.now.id c.in-Some.node c.step.new.self (g.D.Disk.image_at c.args.disks.now.first (g.D.Disk.moment c.args.disks.now.first)) (g.D.Disk.image_at c.args.disks.now.second (g.D.Disk.moment c.args.disks.now.second)) (g.D.Disk.image_at c.step.new.disks.first (g.D.Disk.moment c.step.new.disks.first)) (g.D.Disk.image_at c.step.new.disks.second (g.D.Disk.moment c.step.new.disks.second)) c.step.ensures.told_first c.step.ensures.told_second (up_runs c.args.self.now.id c.args.self.now.node c.in-Some.node (g.D.Disk.image_at c.args.disks.now.first (g.D.Disk.moment c.args.disks.now.first)) (g.D.Disk.image_at c.args.disks.now.second (g.D.Disk.moment c.args.disks.now.second)) c.in-Some.is c.requires.stands.up)
+    (runs_on c.step.result c.args.self.now.id c.in-Some.node c.step.new.self (image_now (g.D.Disk.view c.args.disks.now.first)) (image_now (g.D.Disk.view c.args.disks.now.second)) (image_now (g.D.Disk.view c.step.new.disks.first)) (image_now (g.D.Disk.view c.step.new.disks.second)) (ok_map c.step.result (λ (t : PairTellsAs (pair_view g.D.Disk.view c.args.disks.now) (pair_view g.D.Disk.view c.step.new.disks)). t.0) c.step.ensures.told) (ok_map c.step.result (λ (t : PairTellsAs (pair_view g.D.Disk.view c.args.disks.now) (pair_view g.D.Disk.view c.step.new.disks)). t.1) c.step.ensures.told) (up_runs c.args.self.now.id c.args.self.now.node c.in-Some.node (image_now (g.D.Disk.view c.args.disks.now.first)) (image_now (g.D.Disk.view c.args.disks.now.second)) c.in-Some.is c.requires.stands.up)
     c.step.ensures.running c.step.ensures.here c.step.ensures.pair c.step.ensures.stands)
 
 pub returns-clause-any_moment : goal.returns-clause-any_moment
-returns-clause-any_moment g c = as_host (λ here cells. IfBoth (g.D.Disk.image_at c.args.disks.now.first (g.D.Disk.moment c.args.disks.now.first)) (g.D.Disk.image_at c.args.disks.now.second (g.D.Disk.moment c.args.disks.now.second)) (λ i j. PairLeavesInTurn (counts_second c.args.self.now.node) (g.D.Disk.image_at c.step.new.disks.first) (g.D.Disk.moment c.args.disks.now.first) (g.D.Disk.moment c.step.new.disks.first) (g.D.Disk.image_at c.step.new.disks.second) (g.D.Disk.moment c.args.disks.now.second) (g.D.Disk.moment c.step.new.disks.second) (λ a b. StandFor here cells a b ⊎ StandFor here (cells_after here cells c.args.circuit.now c.args.event.now) a b))) c.args.self.now.id c.args.self.now.node c.in-Some.node (g.D.Disk.image_at c.args.disks.now.first (g.D.Disk.moment c.args.disks.now.first)) (g.D.Disk.image_at c.args.disks.now.second (g.D.Disk.moment c.args.disks.now.second)) c.in-Some.is (up_runs c.args.self.now.id c.args.self.now.node c.in-Some.node (g.D.Disk.image_at c.args.disks.now.first (g.D.Disk.moment c.args.disks.now.first)) (g.D.Disk.image_at c.args.disks.now.second (g.D.Disk.moment c.args.disks.now.second)) c.in-Some.is c.requires.stands.up).here_is
-    (subst (λ (second : Bool). IfBoth (g.D.Disk.image_at c.args.disks.now.first (g.D.Disk.moment c.args.disks.now.first)) (g.D.Disk.image_at c.args.disks.now.second (g.D.Disk.moment c.args.disks.now.second)) (λ i j. PairLeavesInTurn second (g.D.Disk.image_at c.step.new.disks.first) (g.D.Disk.moment c.args.disks.now.first) (g.D.Disk.moment c.step.new.disks.first) (g.D.Disk.image_at c.step.new.disks.second) (g.D.Disk.moment c.args.disks.now.second) (g.D.Disk.moment c.step.new.disks.second) (λ a b. StandFor (here_of c.in-Some.node) (cell_of c.in-Some.node) a b ⊎ StandFor (here_of c.in-Some.node) (cells_after (here_of c.in-Some.node) (cell_of c.in-Some.node) c.args.circuit.now c.args.event.now) a b))) (sym (ap counts_second c.in-Some.is)) (both_apply (g.D.Disk.image_at c.args.disks.now.first (g.D.Disk.moment c.args.disks.now.first)) (g.D.Disk.image_at c.args.disks.now.second (g.D.Disk.moment c.args.disks.now.second)) (λ i j. StandFor (here_of c.in-Some.node) (cell_of c.in-Some.node) i.bytes j.bytes) (λ i j. PairLeavesInTurn (is_second c.in-Some.node.pairing) (g.D.Disk.image_at c.step.new.disks.first) (g.D.Disk.moment c.args.disks.now.first) (g.D.Disk.moment c.step.new.disks.first) (g.D.Disk.image_at c.step.new.disks.second) (g.D.Disk.moment c.args.disks.now.second) (g.D.Disk.moment c.step.new.disks.second) (λ a b. StandFor (here_of c.in-Some.node) (cell_of c.in-Some.node) a b ⊎ StandFor (here_of c.in-Some.node) (cells_after (here_of c.in-Some.node) (cell_of c.in-Some.node) c.args.circuit.now c.args.event.now) a b)) (up_runs c.args.self.now.id c.args.self.now.node c.in-Some.node (g.D.Disk.image_at c.args.disks.now.first (g.D.Disk.moment c.args.disks.now.first)) (g.D.Disk.image_at c.args.disks.now.second (g.D.Disk.moment c.args.disks.now.second)) c.in-Some.is c.requires.stands.up).stands.cells c.step.ensures.any_moment))
+returns-clause-any_moment g c = as_host (λ here cells. IfBoth (image_now (g.D.Disk.view c.args.disks.now.first)) (image_now (g.D.Disk.view c.args.disks.now.second)) (λ i j. PairLeavesInTurn (counts_second c.args.self.now.node) (pair_view g.D.Disk.view c.args.disks.now) (pair_view g.D.Disk.view c.step.new.disks) (λ a b. StandFor here cells a b ⊎ StandFor here (cells_after here cells c.args.circuit.now c.args.event.now) a b))) c.args.self.now.id c.args.self.now.node c.in-Some.node (image_now (g.D.Disk.view c.args.disks.now.first)) (image_now (g.D.Disk.view c.args.disks.now.second)) c.in-Some.is (up_runs c.args.self.now.id c.args.self.now.node c.in-Some.node (image_now (g.D.Disk.view c.args.disks.now.first)) (image_now (g.D.Disk.view c.args.disks.now.second)) c.in-Some.is c.requires.stands.up).here_is
+    (subst (λ (second : Bool). IfBoth (image_now (g.D.Disk.view c.args.disks.now.first)) (image_now (g.D.Disk.view c.args.disks.now.second)) (λ i j. PairLeavesInTurn second (pair_view g.D.Disk.view c.args.disks.now) (pair_view g.D.Disk.view c.step.new.disks) (λ a b. StandFor (here_of c.in-Some.node) (cell_of c.in-Some.node) a b ⊎ StandFor (here_of c.in-Some.node) (cells_after (here_of c.in-Some.node) (cell_of c.in-Some.node) c.args.circuit.now c.args.event.now) a b))) (sym (ap counts_second c.in-Some.is)) (both_apply (image_now (g.D.Disk.view c.args.disks.now.first)) (image_now (g.D.Disk.view c.args.disks.now.second)) (λ i j. StandFor (here_of c.in-Some.node) (cell_of c.in-Some.node) i.bytes j.bytes) (λ i j. PairLeavesInTurn (is_second c.in-Some.node.pairing) (pair_view g.D.Disk.view c.args.disks.now) (pair_view g.D.Disk.view c.step.new.disks) (λ a b. StandFor (here_of c.in-Some.node) (cell_of c.in-Some.node) a b ⊎ StandFor (here_of c.in-Some.node) (cells_after (here_of c.in-Some.node) (cell_of c.in-Some.node) c.args.circuit.now c.args.event.now) a b)) (up_runs c.args.self.now.id c.args.self.now.node c.in-Some.node (image_now (g.D.Disk.view c.args.disks.now.first)) (image_now (g.D.Disk.view c.args.disks.now.second)) c.in-Some.is c.requires.stands.up).stands.cells c.step.ensures.any_moment))

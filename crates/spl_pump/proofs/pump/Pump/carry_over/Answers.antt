@@ -6,34 +6,34 @@ pub returns-in_err-meet-clause-part : goal.returns-in_err-meet-clause-part
 returns-in_err-meet-clause-part g c =
     let low : c.min.result ≡ min c.args.from c.args.to = search rules in
     let high : c.max.result ≡ max c.args.from c.args.to = search rules in
-    carried_met c.args.self.now.entries c.args.self.now.met (record { from = c.args.from; to = c.args.to; message = c.args.message.now }) c.min.result c.max.result (g.F.Fabric.put_on c.args.fabric.now) (g.F.Fabric.put_on c.meet.new.fabric) (g.F.Fabric.put_on c.meet.new.fabric) c.requires.apart low high c.meet.ensures.part
+    carried_met c.args.self.now.entries c.args.self.now.met (record { from = c.args.from; to = c.args.to; message = c.args.message.now }) c.min.result c.max.result (g.F.Fabric.view c.args.fabric.now).put (g.F.Fabric.view c.meet.new.fabric).put (g.F.Fabric.view c.meet.new.fabric).put c.requires.apart low high c.meet.ensures.part
 
 pub returns-in_err-got-clause-part : goal.returns-in_err-got-clause-part
 returns-in_err-got-clause-part g c =
     let low : c.min.result ≡ min c.args.from c.args.to = search rules in
     let high : c.max.result ≡ max c.args.from c.args.to = search rules in
-    carried_part c.args.self.now.entries c.args.self.now.met (record { from = c.args.from; to = c.args.to; message = c.args.message.now }) c.min.result c.max.result (g.F.Fabric.put_on c.args.fabric.now) (g.F.Fabric.put_on c.meet.new.fabric) (g.F.Fabric.put_on c.send.new.fabric) c.requires.apart low high c.in_ok-meet.ensures.put c.send.ensures.part
+    carried_part c.args.self.now.entries c.args.self.now.met (record { from = c.args.from; to = c.args.to; message = c.args.message.now }) c.min.result c.max.result (g.F.Fabric.view c.args.fabric.now).put (g.F.Fabric.view c.meet.new.fabric).put (g.F.Fabric.view c.send.new.fabric).put c.requires.apart low high c.in_ok-meet.ensures.put c.send.ensures.part
 
 pub returns-in_err-copy-clause-part : goal.returns-in_err-copy-clause-part
 returns-in_err-copy-clause-part g c =
     let low : c.min.result ≡ min c.args.from c.args.to = search rules in
     let high : c.max.result ≡ max c.args.from c.args.to = search rules in
-    carried_part c.args.self.now.entries c.args.self.now.met (record { from = c.args.from; to = c.args.to; message = c.args.message.now }) c.min.result c.max.result (g.F.Fabric.put_on c.args.fabric.now) (g.F.Fabric.put_on c.meet.new.fabric) (g.F.Fabric.put_on c.send.new.fabric) c.requires.apart low high c.in_ok-meet.ensures.put c.send.ensures.part
+    carried_part c.args.self.now.entries c.args.self.now.met (record { from = c.args.from; to = c.args.to; message = c.args.message.now }) c.min.result c.max.result (g.F.Fabric.view c.args.fabric.now).put (g.F.Fabric.view c.meet.new.fabric).put (g.F.Fabric.view c.send.new.fabric).put c.requires.apart low high c.in_ok-meet.ensures.put c.send.ensures.part
 
 pub returns-clause-part : goal.returns-clause-part
 returns-clause-part g c =
     let low : c.min.result ≡ min c.args.from c.args.to = search rules in
     let high : c.max.result ≡ max c.args.from c.args.to = search rules in
-    carried_part c.args.self.now.entries c.args.self.now.met (record { from = c.args.from; to = c.args.to; message = c.args.message.now }) c.min.result c.max.result (g.F.Fabric.put_on c.args.fabric.now) (g.F.Fabric.put_on c.meet.new.fabric) (g.F.Fabric.put_on c.send.new.fabric) c.requires.apart low high c.in_ok-meet.ensures.put c.send.ensures.part
+    carried_part c.args.self.now.entries c.args.self.now.met (record { from = c.args.from; to = c.args.to; message = c.args.message.now }) c.min.result c.max.result (g.F.Fabric.view c.args.fabric.now).put (g.F.Fabric.view c.meet.new.fabric).put (g.F.Fabric.view c.send.new.fabric).put c.requires.apart low high c.in_ok-meet.ensures.put c.send.ensures.part
 
 pub returns-clause-put : goal.returns-clause-put
 returns-clause-put g c =
     let low : c.min.result ≡ min c.args.from c.args.to = search rules in
     let high : c.max.result ≡ max c.args.from c.args.to = search rules in
-    carried_puts c.args.self.now.entries c.args.self.now.met (record { from = c.args.from; to = c.args.to; message = c.args.message.now }) c.min.result c.max.result (g.F.Fabric.put_on c.args.fabric.now) (g.F.Fabric.put_on c.meet.new.fabric) (g.F.Fabric.put_on c.send.new.fabric) c.requires.apart low high c.in_ok-meet.ensures.put c.in_ok-got.ensures.put
+    carried_puts c.args.self.now.entries c.args.self.now.met (record { from = c.args.from; to = c.args.to; message = c.args.message.now }) c.min.result c.max.result (g.F.Fabric.view c.args.fabric.now).put (g.F.Fabric.view c.meet.new.fabric).put (g.F.Fabric.view c.send.new.fabric).put c.requires.apart low high c.in_ok-meet.ensures.put c.in_ok-got.ensures.put
 
 pub returns-clause-onward : goal.returns-clause-onward
 returns-clause-onward g c =
     let low : c.min.result ≡ min c.args.from c.args.to = search rules in
     let high : c.max.result ≡ max c.args.from c.args.to = search rules in
-    carried_on c.args.self.now.entries c.args.self.now.met (record { from = c.args.from; to = c.args.to; message = c.args.message.now }) c.min.result c.max.result (g.F.Fabric.put_on c.args.fabric.now) (g.F.Fabric.put_on c.meet.new.fabric) (g.F.Fabric.put_on c.send.new.fabric) c.requires.apart low high _ _ c.meet.ensures.entries c.in_ok-meet.ensures.met
+    carried_on c.args.self.now.entries c.args.self.now.met (record { from = c.args.from; to = c.args.to; message = c.args.message.now }) c.min.result c.max.result (g.F.Fabric.view c.args.fabric.now).put (g.F.Fabric.view c.meet.new.fabric).put (g.F.Fabric.view c.send.new.fabric).put c.requires.apart low high _ _ c.meet.ensures.entries c.in_ok-meet.ensures.met

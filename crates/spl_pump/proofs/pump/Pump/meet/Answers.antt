@@ -8,19 +8,19 @@ pub returns-in_err-introduce-clause-part : goal.returns-in_err-introduce-clause-
 returns-in_err-introduce-clause-part g c =
     let apart : have_met c.args.self.now.met c.args.low c.args.high ≡ false = search rules in
     let same : c.self.inside.registry ≡ c.args.self.now.entries = search rules in
-    let part = subst (λ (es : List Entry). PutsPart (hands es c.args.low c.args.high) (g.F.Fabric.put_on c.args.fabric.now) (g.F.Fabric.put_on c.introduce.new.fabric)) same c.introduce.ensures.part in
-    hands_part_when c.args.self.now.entries c.args.low c.args.high (g.F.Fabric.put_on c.args.fabric.now) (g.F.Fabric.put_on c.introduce.new.fabric) (have_met c.args.self.now.met c.args.low c.args.high) apart part
+    let part = subst (λ (es : List Entry). PutsPart (hands es c.args.low c.args.high) (g.F.Fabric.view c.args.fabric.now).put (g.F.Fabric.view c.introduce.new.fabric).put) same c.introduce.ensures.part in
+    hands_part_when c.args.self.now.entries c.args.low c.args.high (g.F.Fabric.view c.args.fabric.now).put (g.F.Fabric.view c.introduce.new.fabric).put (have_met c.args.self.now.met c.args.low c.args.high) apart part
 
 pub returns-in_err-push-clause-part : goal.returns-in_err-push-clause-part
 returns-in_err-push-clause-part g c =
     let apart : have_met c.args.self.now.met c.args.low c.args.high ≡ false = search rules in
     let same : c.self.inside.registry ≡ c.args.self.now.entries = search rules in
-    let part = subst (λ (es : List Entry). PutsPart (hands es c.args.low c.args.high) (g.F.Fabric.put_on c.args.fabric.now) (g.F.Fabric.put_on c.introduce.new.fabric)) same c.introduce.ensures.part in
-    hands_part_when c.args.self.now.entries c.args.low c.args.high (g.F.Fabric.put_on c.args.fabric.now) (g.F.Fabric.put_on c.introduce.new.fabric) (have_met c.args.self.now.met c.args.low c.args.high) apart part
+    let part = subst (λ (es : List Entry). PutsPart (hands es c.args.low c.args.high) (g.F.Fabric.view c.args.fabric.now).put (g.F.Fabric.view c.introduce.new.fabric).put) same c.introduce.ensures.part in
+    hands_part_when c.args.self.now.entries c.args.low c.args.high (g.F.Fabric.view c.args.fabric.now).put (g.F.Fabric.view c.introduce.new.fabric).put (have_met c.args.self.now.met c.args.low c.args.high) apart part
 
 pub returns-clause-part : goal.returns-clause-part
 returns-clause-part g c =
     let apart : have_met c.args.self.now.met c.args.low c.args.high ≡ false = search rules in
     let same : c.self.inside.registry ≡ c.args.self.now.entries = search rules in
-    let part = subst (λ (es : List Entry). PutsPart (hands es c.args.low c.args.high) (g.F.Fabric.put_on c.args.fabric.now) (g.F.Fabric.put_on c.introduce.new.fabric)) same c.introduce.ensures.part in
-    hands_part_when c.args.self.now.entries c.args.low c.args.high (g.F.Fabric.put_on c.args.fabric.now) (g.F.Fabric.put_on c.introduce.new.fabric) (have_met c.args.self.now.met c.args.low c.args.high) apart part
+    let part = subst (λ (es : List Entry). PutsPart (hands es c.args.low c.args.high) (g.F.Fabric.view c.args.fabric.now).put (g.F.Fabric.view c.introduce.new.fabric).put) same c.introduce.ensures.part in
+    hands_part_when c.args.self.now.entries c.args.low c.args.high (g.F.Fabric.view c.args.fabric.now).put (g.F.Fabric.view c.introduce.new.fabric).put (have_met c.args.self.now.met c.args.low c.args.high) apart part

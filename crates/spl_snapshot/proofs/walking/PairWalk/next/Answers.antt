@@ -1,10 +1,11 @@
 use Rattle.std.proofs.Common.{◌≡◌, Bool, subst}
+use Rattle.spl_edge.specs.Views.{image_now}
 use Rattle.spl_snapshot.specs.Counting.{second_counts, IfBoth}
 use Rattle.spl_snapshot.proofs.Findings.{fault_first, fault_second}
 use Rattle.spl_snapshot.proofs.walking.PairWalk.next.Goals as goal
 
 pub returns-then-self-clause-not : goal.returns-then-self-clause-not
-returns-then-self-clause-not g c = λ at fault. fault_second g.R.Form.is_record at (g.D.Disk.image_at c.args.disks.now.first (g.D.Disk.moment c.args.disks.now.first)) (g.D.Disk.image_at c.args.disks.now.second (g.D.Disk.moment c.args.disks.now.second)) (c.next.ensures.not at fault) (subst (λ (b : Bool). IfBoth (g.D.Disk.image_at c.args.disks.now.first (g.D.Disk.moment c.args.disks.now.first)) (g.D.Disk.image_at c.args.disks.now.second (g.D.Disk.moment c.args.disks.now.second)) (λ i j. second_counts i.bytes j.bytes ≡ b)) c.if-self.true c.requires.walks.counts)
+returns-then-self-clause-not g c = λ at fault. fault_second g.R.Form.is_record at (image_now (g.D.Disk.view c.args.disks.now.first)) (image_now (g.D.Disk.view c.args.disks.now.second)) (c.next.ensures.not at fault) (subst (λ (b : Bool). IfBoth (image_now (g.D.Disk.view c.args.disks.now.first)) (image_now (g.D.Disk.view c.args.disks.now.second)) (λ i j. second_counts i.bytes j.bytes ≡ b)) c.if-self.true c.requires.walks.counts)
 
 pub returns-clause-not : goal.returns-clause-not
-returns-clause-not g c = λ at fault. fault_first g.R.Form.is_record at (g.D.Disk.image_at c.args.disks.now.first (g.D.Disk.moment c.args.disks.now.first)) (g.D.Disk.image_at c.args.disks.now.second (g.D.Disk.moment c.args.disks.now.second)) (c.next-2.ensures.not at fault) (subst (λ (b : Bool). IfBoth (g.D.Disk.image_at c.args.disks.now.first (g.D.Disk.moment c.args.disks.now.first)) (g.D.Disk.image_at c.args.disks.now.second (g.D.Disk.moment c.args.disks.now.second)) (λ i j. second_counts i.bytes j.bytes ≡ b)) c.if-self.false c.requires.walks.counts)
+returns-clause-not g c = λ at fault. fault_first g.R.Form.is_record at (image_now (g.D.Disk.view c.args.disks.now.first)) (image_now (g.D.Disk.view c.args.disks.now.second)) (c.next-2.ensures.not at fault) (subst (λ (b : Bool). IfBoth (image_now (g.D.Disk.view c.args.disks.now.first)) (image_now (g.D.Disk.view c.args.disks.now.second)) (λ i j. second_counts i.bytes j.bytes ≡ b)) c.if-self.false c.requires.walks.counts)

@@ -1,13 +1,13 @@
-use Rattle.spl_world.specs.Disks.{pair_view}
 use Rattle.spl_world.proofs.Ending.{left_last}
 use Rattle.spl_world.proofs.Picking.{plain_picks}
 use Rattle.spl_world.proofs.Results.{ok_both}
 use Rattle.spl_world.proofs.slot.Slot.stop.Goals as goal
+use Rattle.spl_edge.specs.Views.{pair_view}
 
 pub returns-clause-picks : goal.returns-clause-picks
 returns-clause-picks g c = ok_both c.stop.result
-    (λ one other up off. plain_picks (pair_view g.D.Disk.image_at g.D.Disk.moment g.D.Disk.faults g.D.Disk.armed g.D.Disk.picks c.args.disks.now) (pair_view g.D.Disk.image_at g.D.Disk.moment g.D.Disk.faults g.D.Disk.armed g.D.Disk.picks c.stop.new.disks) off (one up) (other up))
+    (λ one other up off. plain_picks (pair_view g.D.Disk.view c.args.disks.now) (pair_view g.D.Disk.view c.stop.new.disks) off (one up) (other up))
     c.stop.ensures.picks_first c.stop.ensures.picks_second
 
 pub returns-clause-leaves : goal.returns-clause-leaves
-returns-clause-leaves g c = left_last (g.D.Disk.image_at c.stop.new.disks.first) (g.D.Disk.image_at c.stop.new.disks.second) (g.D.Disk.moment c.stop.new.disks.first) (g.D.Disk.moment c.stop.new.disks.second) _ c.stop.ensures.leaves
+returns-clause-leaves g c = left_last (g.D.Disk.view c.stop.new.disks.first).image_at (g.D.Disk.view c.stop.new.disks.second).image_at (g.D.Disk.view c.stop.new.disks.first).moment (g.D.Disk.view c.stop.new.disks.second).moment _ c.stop.ensures.leaves

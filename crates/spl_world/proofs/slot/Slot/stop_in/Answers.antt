@@ -1,11 +1,11 @@
 use Rattle.spl_node.specs.Hosts.{host_second}
 use Rattle.spl_node.specs.Stopping.{counting_arming, fill_of, other_arming}
 use Rattle.spl_snapshot.specs.Counting.{chosen}
-use Rattle.spl_world.specs.Disks.{pair_view}
 use Rattle.spl_world.proofs.Ending.{left_last}
 use Rattle.spl_world.proofs.Picking.{count_seen, other_higher}
 use Rattle.spl_world.proofs.Results.{ok_both, ok_three}
 use Rattle.spl_world.proofs.slot.Slot.stop_in.Goals as goal
+use Rattle.spl_edge.specs.Views.{pair_view}
 
 pub returns-clause-picks : goal.returns-clause-picks
 returns-clause-picks g c = ok_both c.stop_in.result
@@ -13,14 +13,14 @@ returns-clause-picks g c = ok_both c.stop_in.result
     c.stop_in.ensures.picks_first c.stop_in.ensures.picks_second
 
 pub returns-clause-leaves : goal.returns-clause-leaves
-returns-clause-leaves g c = left_last (g.D.Disk.image_at c.stop_in.new.disks.first) (g.D.Disk.image_at c.stop_in.new.disks.second) (g.D.Disk.moment c.stop_in.new.disks.first) (g.D.Disk.moment c.stop_in.new.disks.second) _ c.stop_in.ensures.leaves
+returns-clause-leaves g c = left_last (g.D.Disk.view c.stop_in.new.disks.first).image_at (g.D.Disk.view c.stop_in.new.disks.second).image_at (g.D.Disk.view c.stop_in.new.disks.first).moment (g.D.Disk.view c.stop_in.new.disks.second).moment _ c.stop_in.ensures.leaves
 
 pub returns-clause-risen_other : goal.returns-clause-risen_other
 returns-clause-risen_other g c =
-    let p = (pair_view g.D.Disk.image_at g.D.Disk.moment g.D.Disk.faults g.D.Disk.armed g.D.Disk.picks c.args.disks.now) in
-    let q = (pair_view g.D.Disk.image_at g.D.Disk.moment g.D.Disk.faults g.D.Disk.armed g.D.Disk.picks c.stop_in.new.disks) in
+    let p = (pair_view g.D.Disk.view c.args.disks.now) in
+    let q = (pair_view g.D.Disk.view c.stop_in.new.disks) in
     let second = host_second c.args.self.now.host in
     ok_three c.stop_in.result
     (λ one other rose full within. other_higher p q second (fill_of c.args.stopping) (chosen second (counting_arming c.args.stopping) (other_arming c.args.stopping)) (chosen second (other_arming c.args.stopping) (counting_arming c.args.stopping)) c.stop_in.ensures.counts one other
-    (count_seen g.D.Disk.image_at g.D.Disk.moment g.D.Disk.faults g.D.Disk.armed g.D.Disk.picks second c.args.disks.now c.stop_in.new.disks (rose full within)))
+    (count_seen g.D.Disk.view second c.args.disks.now c.stop_in.new.disks (rose full within)))
     c.stop_in.ensures.picks_first c.stop_in.ensures.picks_second c.stop_in.ensures.risen_other

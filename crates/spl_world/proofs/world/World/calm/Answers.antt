@@ -32,7 +32,7 @@ pass-requires-clause-square g c = subst (λ (n : ℕ). IsSquare n c.loop-done.ro
 
 pub loop-done-preserved : goal.loop-done-preserved
 loop-done-preserved g c =
-    let xs = (seen g.D.Disk.image_at g.D.Disk.moment c.args.self.now c.args.pairs.now.items) in
+    let xs = (seen g.D.Disk.view c.args.self.now c.args.pairs.now.items) in
     let ids = c.pass.ensures.ids ∙ c.loop-done.invariant.1 in (
       same_length c.args.self.now.slots.items c.pass.new.self.slots.items ids,
       ids,
@@ -41,9 +41,9 @@ loop-done-preserved g c =
           let so_far = c.loop-done.invariant.3 m h in
           let y : Calming = passes c.args.circuit (ids_of c.args.self.now) c.loop-done.done (calming m) in
           let rows = subst (λ (ns : List NodeId). AreRows y.taken ns c.loop-done.rows.items) (sym c.loop-done.invariant.1) so_far.1 in
-          subst (λ (w : Calming). Holds c.args.circuit w.world (seen g.D.Disk.image_at g.D.Disk.moment c.pass.new.self c.pass.new.pairs.items) × AreRows w.taken (ids_of c.args.self.now) c.pass.new.rows.items) (sym (passes_next c.args.circuit (ids_of c.args.self.now) c.loop-done.done (calming m)))
-          (subst (λ (ns : List NodeId). Holds c.args.circuit (pass c.args.circuit ns y).world (seen g.D.Disk.image_at g.D.Disk.moment c.pass.new.self c.pass.new.pairs.items) × AreRows (pass c.args.circuit ns y).taken ns c.pass.new.rows.items) c.loop-done.invariant.1 (c.in_ok-pass.ensures.own y so_far.0 rows)),
-      spares_then c.args.circuit xs (seen g.D.Disk.image_at g.D.Disk.moment c.loop-done.self c.loop-done.pairs.items) (seen g.D.Disk.image_at g.D.Disk.moment c.pass.new.self c.pass.new.pairs.items) c.loop-done.invariant.4 c.in_ok-pass.ensures.others,
+          subst (λ (w : Calming). Holds c.args.circuit w.world (seen g.D.Disk.view c.pass.new.self c.pass.new.pairs.items) × AreRows w.taken (ids_of c.args.self.now) c.pass.new.rows.items) (sym (passes_next c.args.circuit (ids_of c.args.self.now) c.loop-done.done (calming m)))
+          (subst (λ (ns : List NodeId). Holds c.args.circuit (pass c.args.circuit ns y).world (seen g.D.Disk.view c.pass.new.self c.pass.new.pairs.items) × AreRows (pass c.args.circuit ns y).taken ns c.pass.new.rows.items) c.loop-done.invariant.1 (c.in_ok-pass.ensures.own y so_far.0 rows)),
+      spares_then c.args.circuit xs (seen g.D.Disk.view c.loop-done.self c.loop-done.pairs.items) (seen g.D.Disk.view c.pass.new.self c.pass.new.pairs.items) c.loop-done.invariant.4 c.in_ok-pass.ensures.others,
       λ m h.
           let so_far = c.loop-done.invariant.3 m h in
           let y : Calming = passes c.args.circuit (ids_of c.args.self.now) c.loop-done.done (calming m) in
@@ -57,9 +57,9 @@ loop-done-preserved g c =
       c.pass.ensures.stops ∙ c.loop-done.invariant.9,
       c.in_ok-pass.ensures.ready,
       λ place m placed h.
-          let p = (link_view g.C.Carry.slots g.C.Carry.failed g.C.Carry.wire g.F.Fabric.put_on g.F.Fabric.taken_on g.F.Fabric.faults c.args.carrier.now c.args.fabric.now) in
-          let q = (link_view g.C.Carry.slots g.C.Carry.failed g.C.Carry.wire g.F.Fabric.put_on g.F.Fabric.taken_on g.F.Fabric.faults c.loop-done.carrier c.loop-done.fabric) in
-          let s = (link_view g.C.Carry.slots g.C.Carry.failed g.C.Carry.wire g.F.Fabric.put_on g.F.Fabric.taken_on g.F.Fabric.faults c.pass.new.carrier c.pass.new.fabric) in
+          let p = (link_view (g.C.Carry.view c.args.carrier.now) (g.F.Fabric.view c.args.fabric.now)) in
+          let q = (link_view (g.C.Carry.view c.loop-done.carrier) (g.F.Fabric.view c.loop-done.fabric)) in
+          let s = (link_view (g.C.Carry.view c.pass.new.carrier) (g.F.Fabric.view c.pass.new.fabric)) in
           let ids = ids_of c.args.self.now in
           let so_far = c.loop-done.invariant.3 m h in
           let y : Calming = passes c.args.circuit ids c.loop-done.done (calming m) in
@@ -76,13 +76,13 @@ pub returns-clause-moves : goal.returns-clause-moves
 returns-clause-moves g c =
     let all : c.loop-done.done ≡ c.args.passes = omega (arith, c.loop-done.auto, c.loop-done-test.false) in
     record {
-      own = λ m h. subst (λ (ns : List NodeId). Holds c.args.circuit (passes c.args.circuit ns c.args.passes (calming m)).world (seen g.D.Disk.image_at g.D.Disk.moment c.loop-done.self c.loop-done.pairs.items)) (sym (ap sorted h.nodes ∙ sorted_already (ids_of c.args.self.now) h.ordered))
-          (subst (λ (k : ℕ). Holds c.args.circuit (passes c.args.circuit (ids_of c.args.self.now) k (calming m)).world (seen g.D.Disk.image_at g.D.Disk.moment c.loop-done.self c.loop-done.pairs.items)) all (c.loop-done.invariant.3 m h).0);
+      own = λ m h. subst (λ (ns : List NodeId). Holds c.args.circuit (passes c.args.circuit ns c.args.passes (calming m)).world (seen g.D.Disk.view c.loop-done.self c.loop-done.pairs.items)) (sym (ap sorted h.nodes ∙ sorted_already (ids_of c.args.self.now) h.ordered))
+          (subst (λ (k : ℕ). Holds c.args.circuit (passes c.args.circuit (ids_of c.args.self.now) k (calming m)).world (seen g.D.Disk.view c.loop-done.self c.loop-done.pairs.items)) all (c.loop-done.invariant.3 m h).0);
       others = c.loop-done.invariant.4;
     }
 
 pub loop-done-init : goal.loop-done-init
-loop-done-init g c = (refl, refl, c.in_ok-rows.ensures.square, λ m h. (h, c.in_ok-rows.ensures.counts (images g.D.Disk.image_at g.D.Disk.moment c.args.pairs.now.items) m h), λ d m off h. h, λ m h. refl, c.requires.sits, all_itself _, refl, refl, c.requires.ready, λ place m placed h. part_same place (calming m) (link_view g.C.Carry.slots g.C.Carry.failed g.C.Carry.wire g.F.Fabric.put_on g.F.Fabric.taken_on g.F.Fabric.faults c.args.carrier.now c.args.fabric.now) (g.met.C.Carry.idle c.args.carrier.now), links_itself _)
+loop-done-init g c = (refl, refl, c.in_ok-rows.ensures.square, λ m h. (h, c.in_ok-rows.ensures.counts (images g.D.Disk.view c.args.pairs.now.items) m h), λ d m off h. h, λ m h. refl, c.requires.sits, all_itself _, refl, refl, c.requires.ready, λ place m placed h. part_same place (calming m) (link_view (g.C.Carry.view c.args.carrier.now) (g.F.Fabric.view c.args.fabric.now)) (g.met.C.Carry.idle c.args.carrier.now), links_itself _)
 
 -- ---- how many events
 
@@ -98,14 +98,14 @@ returns-in_err-pass-clause-counts g c = λ m h.
     let next : length (passes c.args.circuit ids (c.loop-done.done + 1) (calming m)).happened ≡ length (pass c.args.circuit ids y).happened = ap (λ (w : Calming). length w.happened) (passes_next c.args.circuit ids c.loop-done.done (calming m)) in
     let counts = subst (λ (ns : List NodeId). Counts (failed Bool c.in_err-pass.field-0.0) c.loop-done.self.events c.pass.new.self.events (length y.happened) (length (pass c.args.circuit ns y).happened)) c.loop-done.invariant.1 (c.in_err-pass.ensures.counts y so_far.0 rows) in
     let most : c.loop-done.done + 1 ≤ c.args.passes = omega (arith, c.loop-done-test.true) in
-    let whole = subst (λ (w : Calming). length (pass c.args.circuit ids y).happened ≤ length w.happened) (calm_is c.args.circuit m (seen g.D.Disk.image_at g.D.Disk.moment c.args.self.now c.args.pairs.now.items) c.args.passes h) (at_most _ _ _ next (passes_front c.args.circuit ids (c.loop-done.done + 1) c.args.passes (calming m) most)) in
+    let whole = subst (λ (w : Calming). length (pass c.args.circuit ids y).happened ≤ length w.happened) (calm_is c.args.circuit m (seen g.D.Disk.view c.args.self.now c.args.pairs.now.items) c.args.passes h) (at_most _ _ _ next (passes_front c.args.circuit ids (c.loop-done.done + 1) c.args.passes (calming m) most)) in
     counts_failed c.from_residual-in_err-pass.result _ c.from_residual-in_err-pass.ensures c.args.self.now.events _ _ 0 _ _ (counts_then _ c.args.self.now.events c.loop-done.self.events _ 0 (length y.happened) _ (c.loop-done.invariant.5 m h) counts) whole
 
 pub returns-clause-counts : goal.returns-clause-counts
 returns-clause-counts g c = λ m h.
     let all : c.loop-done.done ≡ c.args.passes = omega (arith, c.loop-done.auto, c.loop-done-test.false) in
     counts_done _ c.args.self.now.events c.loop-done.self.events 0 _
-    (subst (λ (w : Calming). c.loop-done.self.events + 0 ≡ c.args.self.now.events + length w.happened) (calm_is c.args.circuit m (seen g.D.Disk.image_at g.D.Disk.moment c.args.self.now c.args.pairs.now.items) c.args.passes h)
+    (subst (λ (w : Calming). c.loop-done.self.events + 0 ≡ c.args.self.now.events + length w.happened) (calm_is c.args.circuit m (seen g.D.Disk.view c.args.self.now c.args.pairs.now.items) c.args.passes h)
     (subst (λ (k : ℕ). c.loop-done.self.events + 0 ≡ c.args.self.now.events + length (passes c.args.circuit (ids_of c.args.self.now) k (calming m)).happened) all (c.loop-done.invariant.5 m h)))
 
 -- ---- behind a quiet pass
@@ -119,7 +119,7 @@ returns-then-not-branch-clause-counts g c = λ m h.
     let quiet : IsQuiet c.args.circuit ids y = subst (λ (ns : List NodeId). IsQuiet c.args.circuit ns y) c.loop-done.invariant.1 (c.in_ok-pass.ensures.quiet y so_far.0 rows c.if-not-branch.true) in
     let passed = subst (λ (ns : List NodeId). c.pass.new.self.events + length y.happened ≡ c.loop-done.self.events + length (pass c.args.circuit ns y).happened) c.loop-done.invariant.1 (c.in_ok-pass.ensures.counts y so_far.0 rows).ok in
     let ticks : c.saturating_sub-ticks.result ≡ c.pass.new.self.events - c.loop-done.self.events = omega (arith, c.saturating_sub-ticks.ensures, c.count.ensures.count, c.count-before.ensures.count) in
-    counts_to c.add.result c.args.self.now.events _ 0 _ _ (ap (λ (w : Calming). length w.happened) (calm_is c.args.circuit m (seen g.D.Disk.image_at g.D.Disk.moment c.args.self.now c.args.pairs.now.items) c.args.passes h))
+    counts_to c.add.result c.args.self.now.events _ 0 _ _ (ap (λ (w : Calming). length w.happened) (calm_is c.args.circuit m (seen g.D.Disk.view c.args.self.now c.args.pairs.now.items) c.args.passes h))
     (left_counts c.args.circuit ids (calming m) c.loop-done.done c.args.passes c.loop-done-test.true quiet c.add.result c.args.self.now.events c.loop-done.self.events c.pass.new.self.events _ c.saturating_sub-ticks.result ((c.args.passes - c.loop-done.done) - 1) refl (c.loop-done.invariant.5 m h) passed ticks c.add.ensures.counts)
 
 pub returns-then-not-branch-clause-moves : goal.returns-then-not-branch-clause-moves
@@ -130,9 +130,9 @@ returns-then-not-branch-clause-moves g c = on_ok c.add.result (record {
       let y : Calming = passes c.args.circuit ids c.loop-done.done (calming m) in
       let rows = subst (λ (ns : List NodeId). AreRows y.taken ns c.loop-done.rows.items) (sym c.loop-done.invariant.1) so_far.1 in
       let quiet : IsQuiet c.args.circuit ids y = subst (λ (ns : List NodeId). IsQuiet c.args.circuit ns y) c.loop-done.invariant.1 (c.in_ok-pass.ensures.quiet y so_far.0 rows c.if-not-branch.true) in
-      let behind = subst (λ (ns : List NodeId). Holds c.args.circuit (pass c.args.circuit ns y).world (seen g.D.Disk.image_at g.D.Disk.moment c.pass.new.self c.pass.new.pairs.items)) c.loop-done.invariant.1 (c.in_ok-pass.ensures.own y so_far.0 rows).0 in
-      subst (λ (w : CircuitWorld). Holds c.args.circuit w (seen g.D.Disk.image_at g.D.Disk.moment c.pass.new.self c.pass.new.pairs.items)) (sym (left_world c.args.circuit ids (calming m) c.loop-done.done c.args.passes c.loop-done-test.true quiet) ∙ ap (λ (w : Calming). w.world) (calm_is c.args.circuit m (seen g.D.Disk.image_at g.D.Disk.moment c.args.self.now c.args.pairs.now.items) c.args.passes h)) behind;
-  others = spares_then c.args.circuit (seen g.D.Disk.image_at g.D.Disk.moment c.args.self.now c.args.pairs.now.items) (seen g.D.Disk.image_at g.D.Disk.moment c.loop-done.self c.loop-done.pairs.items) (seen g.D.Disk.image_at g.D.Disk.moment c.pass.new.self c.pass.new.pairs.items) c.loop-done.invariant.4 c.in_ok-pass.ensures.others;
+      let behind = subst (λ (ns : List NodeId). Holds c.args.circuit (pass c.args.circuit ns y).world (seen g.D.Disk.view c.pass.new.self c.pass.new.pairs.items)) c.loop-done.invariant.1 (c.in_ok-pass.ensures.own y so_far.0 rows).0 in
+      subst (λ (w : CircuitWorld). Holds c.args.circuit w (seen g.D.Disk.view c.pass.new.self c.pass.new.pairs.items)) (sym (left_world c.args.circuit ids (calming m) c.loop-done.done c.args.passes c.loop-done-test.true quiet) ∙ ap (λ (w : Calming). w.world) (calm_is c.args.circuit m (seen g.D.Disk.view c.args.self.now c.args.pairs.now.items) c.args.passes h)) behind;
+  others = spares_then c.args.circuit (seen g.D.Disk.view c.args.self.now c.args.pairs.now.items) (seen g.D.Disk.view c.loop-done.self c.loop-done.pairs.items) (seen g.D.Disk.view c.pass.new.self c.pass.new.pairs.items) c.loop-done.invariant.4 c.in_ok-pass.ensures.others;
 })
 
 -- ---- the disks
@@ -165,7 +165,7 @@ returns-then-not-branch-clause-place g c = λ slot q. absurd (counted_no_disk c.
 
 pub returns-in_err-rows-clause-ended : goal.returns-in_err-rows-clause-ended
 returns-in_err-rows-clause-ended g c = λ m h.
-    let old = (seen g.D.Disk.image_at g.D.Disk.moment c.args.self.now c.args.pairs.now.items) in
+    let old = (seen g.D.Disk.view c.args.self.now c.args.pairs.now.items) in
     let ids = ids_of c.args.self.now in
     let whole : Calming = calm c.args.circuit m c.args.passes in
     any_fault c.from_residual.result (λ e. PartEnds c.args.circuit (calming m) whole e old old.disks)
@@ -174,9 +174,9 @@ returns-in_err-rows-clause-ended g c = λ m h.
 
 pub returns-in_err-pass-clause-ended : goal.returns-in_err-pass-clause-ended
 returns-in_err-pass-clause-ended g c = λ m h.
-    let old = (seen g.D.Disk.image_at g.D.Disk.moment c.args.self.now c.args.pairs.now.items) in
-    let mid = seen g.D.Disk.image_at g.D.Disk.moment c.loop-done.self c.loop-done.pairs.items in
-    let is = images g.D.Disk.image_at g.D.Disk.moment c.pass.new.pairs.items in
+    let old = (seen g.D.Disk.view c.args.self.now c.args.pairs.now.items) in
+    let mid = seen g.D.Disk.view c.loop-done.self c.loop-done.pairs.items in
+    let is = images g.D.Disk.view c.pass.new.pairs.items in
     let ids = ids_of c.args.self.now in
     let whole : Calming = calm c.args.circuit m c.args.passes in
     let so_far = c.loop-done.invariant.3 m h in
@@ -191,9 +191,9 @@ returns-in_err-pass-clause-ended g c = λ m h.
 
 pub returns-then-not-branch-clause-ended : goal.returns-then-not-branch-clause-ended
 returns-then-not-branch-clause-ended g c = λ m h.
-    let old = (seen g.D.Disk.image_at g.D.Disk.moment c.args.self.now c.args.pairs.now.items) in
-    let mid = seen g.D.Disk.image_at g.D.Disk.moment c.loop-done.self c.loop-done.pairs.items in
-    let last = seen g.D.Disk.image_at g.D.Disk.moment c.pass.new.self c.pass.new.pairs.items in
+    let old = (seen g.D.Disk.view c.args.self.now c.args.pairs.now.items) in
+    let mid = seen g.D.Disk.view c.loop-done.self c.loop-done.pairs.items in
+    let last = seen g.D.Disk.view c.pass.new.self c.pass.new.pairs.items in
     let ids = ids_of c.args.self.now in
     let whole : Calming = calm c.args.circuit m c.args.passes in
     let so_far = c.loop-done.invariant.3 m h in
@@ -219,13 +219,13 @@ pub returns-then-not-branch-clause-ready : goal.returns-then-not-branch-clause-r
 returns-then-not-branch-clause-ready g c = on_ok c.add.result c.in_ok-pass.ensures.ready
 
 pub returns-in_err-rows-clause-links : goal.returns-in_err-rows-clause-links
-returns-in_err-rows-clause-links g c = λ place m placed h. fails_early c.from_residual.result NoMemory c.from_residual.ensures refl (carried_in place m (calm c.args.circuit m c.args.passes).happened) (link_view g.C.Carry.slots g.C.Carry.failed g.C.Carry.wire g.F.Fabric.put_on g.F.Fabric.taken_on g.F.Fabric.faults c.args.carrier.now c.args.fabric.now)
+returns-in_err-rows-clause-links g c = λ place m placed h. fails_early c.from_residual.result NoMemory c.from_residual.ensures refl (carried_in place m (calm c.args.circuit m c.args.passes).happened) (link_view (g.C.Carry.view c.args.carrier.now) (g.F.Fabric.view c.args.fabric.now))
 
 pub returns-in_err-pass-clause-links : goal.returns-in_err-pass-clause-links
 returns-in_err-pass-clause-links g c = λ place m placed h.
-    let p = (link_view g.C.Carry.slots g.C.Carry.failed g.C.Carry.wire g.F.Fabric.put_on g.F.Fabric.taken_on g.F.Fabric.faults c.args.carrier.now c.args.fabric.now) in
-    let q = (link_view g.C.Carry.slots g.C.Carry.failed g.C.Carry.wire g.F.Fabric.put_on g.F.Fabric.taken_on g.F.Fabric.faults c.loop-done.carrier c.loop-done.fabric) in
-    let s = (link_view g.C.Carry.slots g.C.Carry.failed g.C.Carry.wire g.F.Fabric.put_on g.F.Fabric.taken_on g.F.Fabric.faults c.pass.new.carrier c.pass.new.fabric) in
+    let p = (link_view (g.C.Carry.view c.args.carrier.now) (g.F.Fabric.view c.args.fabric.now)) in
+    let q = (link_view (g.C.Carry.view c.loop-done.carrier) (g.F.Fabric.view c.loop-done.fabric)) in
+    let s = (link_view (g.C.Carry.view c.pass.new.carrier) (g.F.Fabric.view c.pass.new.fabric)) in
     let ids = ids_of c.args.self.now in
     let so_far = c.loop-done.invariant.3 m h in
     let y : Calming = passes c.args.circuit ids c.loop-done.done (calming m) in
@@ -237,15 +237,15 @@ returns-in_err-pass-clause-links g c = λ place m placed h.
     let most : c.loop-done.done + 1 ≤ c.args.passes = omega (arith, c.loop-done-test.true) in
     let part = subst (λ (ns : List NodeId). PartDelivers (failed Bool f) place y (pass c.args.circuit ns y) q s) c.loop-done.invariant.1 (c.in_err-pass.ensures.links place y seats so_far.0 rows) in
     whole_part place c.from_residual-in_err-pass.result m (calm c.args.circuit m c.args.passes) p s
-    (part_to place c.from_residual-in_err-pass.result (calming m) all (calm c.args.circuit m c.args.passes) p s (calm_is c.args.circuit m (seen g.D.Disk.image_at g.D.Disk.moment c.args.self.now c.args.pairs.now.items) c.args.passes h)
+    (part_to place c.from_residual-in_err-pass.result (calming m) all (calm c.args.circuit m c.args.passes) p s (calm_is c.args.circuit m (seen g.D.Disk.view c.args.self.now c.args.pairs.now.items) c.args.passes h)
     (part_failed place c.from_residual-in_err-pass.result f c.from_residual-in_err-pass.ensures (calming m) all p s
     (err_then place f (calming m) y (pass c.args.circuit ids y) all p q s (g.met.C.Carry.front c.args.carrier.now) carried part (next_pass_leads c.args.circuit ids c.loop-done.done c.args.passes (calming m) most))))
 
 pub returns-then-not-branch-clause-links : goal.returns-then-not-branch-clause-links
 returns-then-not-branch-clause-links g c = λ place m placed h.
-    let p = (link_view g.C.Carry.slots g.C.Carry.failed g.C.Carry.wire g.F.Fabric.put_on g.F.Fabric.taken_on g.F.Fabric.faults c.args.carrier.now c.args.fabric.now) in
-    let q = (link_view g.C.Carry.slots g.C.Carry.failed g.C.Carry.wire g.F.Fabric.put_on g.F.Fabric.taken_on g.F.Fabric.faults c.loop-done.carrier c.loop-done.fabric) in
-    let s = (link_view g.C.Carry.slots g.C.Carry.failed g.C.Carry.wire g.F.Fabric.put_on g.F.Fabric.taken_on g.F.Fabric.faults c.pass.new.carrier c.pass.new.fabric) in
+    let p = (link_view (g.C.Carry.view c.args.carrier.now) (g.F.Fabric.view c.args.fabric.now)) in
+    let q = (link_view (g.C.Carry.view c.loop-done.carrier) (g.F.Fabric.view c.loop-done.fabric)) in
+    let s = (link_view (g.C.Carry.view c.pass.new.carrier) (g.F.Fabric.view c.pass.new.fabric)) in
     let ids = ids_of c.args.self.now in
     let so_far = c.loop-done.invariant.3 m h in
     let y : Calming = passes c.args.circuit ids c.loop-done.done (calming m) in
@@ -256,17 +256,17 @@ returns-then-not-branch-clause-links g c = λ place m placed h.
     let quiet : IsQuiet c.args.circuit ids y = subst (λ (ns : List NodeId). IsQuiet c.args.circuit ns y) c.loop-done.invariant.1 (c.in_ok-pass.ensures.quiet y so_far.0 rows c.if-not-branch.true) in
     let one = subst (λ (ns : List NodeId). PartDelivers done place y (pass c.args.circuit ns y) q s) c.loop-done.invariant.1 (c.in_ok-pass.ensures.links place y seats so_far.0 rows) in
     whole_part place c.add.result m (calm c.args.circuit m c.args.passes) p s
-    (part_to place c.add.result (calming m) all (calm c.args.circuit m c.args.passes) p s (calm_is c.args.circuit m (seen g.D.Disk.image_at g.D.Disk.moment c.args.self.now c.args.pairs.now.items) c.args.passes h)
+    (part_to place c.add.result (calming m) all (calm c.args.circuit m c.args.passes) p s (calm_is c.args.circuit m (seen g.D.Disk.view c.args.self.now c.args.pairs.now.items) c.args.passes h)
     (part_alone place c.add.result (calming m) all p s (off_limit c.add.result 1 c.add.ensures.fault)
     (part_left place c.args.circuit ids (calming m) c.loop-done.done c.args.passes p q s c.loop-done-test.true quiet (g.met.C.Carry.idle c.pass.new.carrier) carried one)))
 
 pub returns-clause-links : goal.returns-clause-links
 returns-clause-links g c = λ place m placed h.
-    let p = (link_view g.C.Carry.slots g.C.Carry.failed g.C.Carry.wire g.F.Fabric.put_on g.F.Fabric.taken_on g.F.Fabric.faults c.args.carrier.now c.args.fabric.now) in
-    let q = (link_view g.C.Carry.slots g.C.Carry.failed g.C.Carry.wire g.F.Fabric.put_on g.F.Fabric.taken_on g.F.Fabric.faults c.loop-done.carrier c.loop-done.fabric) in
+    let p = (link_view (g.C.Carry.view c.args.carrier.now) (g.F.Fabric.view c.args.fabric.now)) in
+    let q = (link_view (g.C.Carry.view c.loop-done.carrier) (g.F.Fabric.view c.loop-done.fabric)) in
     let done_all : c.loop-done.done ≡ c.args.passes = omega (arith, c.loop-done.auto, c.loop-done-test.false) in
     whole_part place done m (calm c.args.circuit m c.args.passes) p q
-    (subst (λ (w : Calming). PartDelivers done place (calming m) w p q) (calm_is c.args.circuit m (seen g.D.Disk.image_at g.D.Disk.moment c.args.self.now c.args.pairs.now.items) c.args.passes h)
+    (subst (λ (w : Calming). PartDelivers done place (calming m) w p q) (calm_is c.args.circuit m (seen g.D.Disk.view c.args.self.now c.args.pairs.now.items) c.args.passes h)
     (subst (λ (k : ℕ). PartDelivers done place (calming m) (passes c.args.circuit (ids_of c.args.self.now) k (calming m)) p q) done_all (c.loop-done.invariant.11 place m placed h)))
 
 -- ---- the faults of the links
@@ -279,7 +279,7 @@ returns-in_err-pass-clause-faults g c = faults_failed c.from_residual-in_err-pas
 
 pub returns-then-not-branch-clause-faults : goal.returns-then-not-branch-clause-faults
 returns-then-not-branch-clause-faults g c =
-    let q = (link_view g.C.Carry.slots g.C.Carry.failed g.C.Carry.wire g.F.Fabric.put_on g.F.Fabric.taken_on g.F.Fabric.faults c.loop-done.carrier c.loop-done.fabric) in
+    let q = (link_view (g.C.Carry.view c.loop-done.carrier) (g.F.Fabric.view c.loop-done.fabric)) in
     faults_then c.add.result _ q _ c.loop-done.invariant.12 (faults_off c.add.result q _ (off_limit c.add.result 1 c.add.ensures.fault) c.in_ok-pass.ensures.faults.onward)
 
 pub returns-clause-faults : goal.returns-clause-faults

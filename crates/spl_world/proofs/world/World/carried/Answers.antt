@@ -31,13 +31,13 @@ carry-requires-clause-apart g c =
 pub carry-requires-clause-from : goal.carry-requires-clause-from
 carry-requires-clause-from g c =
     let xs = c.args.self.now.slots.items in
-    ready_at xs (link_view g.C.Carry.slots g.C.Carry.failed g.C.Carry.wire g.F.Fabric.put_on g.F.Fabric.taken_on g.F.Fabric.faults c.args.carrier.now c.args.fabric.now) c.args.from c.index-2.result.now c.requires.ready
+    ready_at xs (link_view (g.C.Carry.view c.args.carrier.now) (g.F.Fabric.view c.args.fabric.now)) c.args.from c.index-2.result.now c.requires.ready
     (slice_get_read xs (length xs) c.args.from c.index-2.result.now refl c.requires.from_below c.index-2.ensures)
 
 pub carry-requires-clause-to : goal.carry-requires-clause-to
 carry-requires-clause-to g c =
     let xs = c.args.self.now.slots.items in
-    ready_at xs (link_view g.C.Carry.slots g.C.Carry.failed g.C.Carry.wire g.F.Fabric.put_on g.F.Fabric.taken_on g.F.Fabric.faults c.args.carrier.now c.args.fabric.now) c.args.to c.index-3.result.now c.requires.ready
+    ready_at xs (link_view (g.C.Carry.view c.args.carrier.now) (g.F.Fabric.view c.args.fabric.now)) c.args.to c.index-3.result.now c.requires.ready
     (slice_get_read xs (length xs) c.args.to c.index-3.result.now refl c.requires.to_below c.index-3.ensures)
 
 pub carry-requires-clause-sendable : goal.carry-requires-clause-sendable
@@ -52,7 +52,7 @@ returns-in-None-clause-event g c = λ is m a b h at to. ap (delivery_of a) (c.in
 
 pub returns-in-None-clause-links : goal.returns-in-None-clause-links
 returns-in-None-clause-links g c = λ place is m a b placed h at to.
-    let x = link_view g.C.Carry.slots g.C.Carry.failed g.C.Carry.wire g.F.Fabric.put_on g.F.Fabric.taken_on g.F.Fabric.faults c.args.carrier.now c.args.fabric.now in
+    let x = link_view (g.C.Carry.view c.args.carrier.now) (g.F.Fabric.view c.args.fabric.now) in
     delivers_as done [] (carried_of (place a) (place b) (slice_get (messages m a b) c.args.index)) x x (carried_none (place a) (place b) (slice_get (messages m a b) c.args.index) (sym (c.in-None.ensures.value is m a b h at to))) (carries_nothing x (g.met.C.Carry.idle c.args.carrier.now))
 
 -- ---- a message is there
@@ -72,8 +72,8 @@ returns-clause-own g c = λ n to.
 
 pub returns-clause-ready : goal.returns-clause-ready
 returns-clause-ready g c =
-    let x = link_view g.C.Carry.slots g.C.Carry.failed g.C.Carry.wire g.F.Fabric.put_on g.F.Fabric.taken_on g.F.Fabric.faults c.args.carrier.now c.args.fabric.now in
-    let y = link_view g.C.Carry.slots g.C.Carry.failed g.C.Carry.wire g.F.Fabric.put_on g.F.Fabric.taken_on g.F.Fabric.faults c.carry.new.carrier c.carry.new.fabric in
+    let x = link_view (g.C.Carry.view c.args.carrier.now) (g.F.Fabric.view c.args.fabric.now) in
+    let y = link_view (g.C.Carry.view c.carry.new.carrier) (g.F.Fabric.view c.carry.new.fabric) in
     moved_ready (places_of c.args.self.now) x y c.carry.ensures.slots c.in_ok-message-in-Some.ensures.going c.in_ok-message-in-Some.ensures.taken c.requires.ready
 
 pub returns-clause-links : goal.returns-clause-links
@@ -82,8 +82,8 @@ returns-clause-links g c = λ place is m a b placed h at to.
     let there = slice_get_read xs (length xs) c.args.from c.index-2.result.now refl c.requires.from_below c.index-2.ensures in
     let also = slice_get_read xs (length xs) c.args.to c.index-3.result.now refl c.requires.to_below c.index-3.ensures in
     let same = carried_between place xs c.args.from c.args.to c.index-2.result.now c.index-3.result.now a b c.in-Some.message.now (slice_get (messages m a b) c.args.index) placed there also at to (sym (c.in-Some.ensures.value is m a b h at to)) in
-    let x = link_view g.C.Carry.slots g.C.Carry.failed g.C.Carry.wire g.F.Fabric.put_on g.F.Fabric.taken_on g.F.Fabric.faults c.args.carrier.now c.args.fabric.now in
-    let y = link_view g.C.Carry.slots g.C.Carry.failed g.C.Carry.wire g.F.Fabric.put_on g.F.Fabric.taken_on g.F.Fabric.faults c.carry.new.carrier c.carry.new.fabric in
+    let x = link_view (g.C.Carry.view c.args.carrier.now) (g.F.Fabric.view c.args.fabric.now) in
+    let y = link_view (g.C.Carry.view c.carry.new.carrier) (g.F.Fabric.view c.carry.new.fabric) in
     delivers_as done (only c.index-2.result.now.position c.index-3.result.now.position c.in-Some.message.now) (carried_of (place a) (place b) (slice_get (messages m a b) c.args.index)) x y same c.in_ok-message-in-Some.ensures.links
 
 pub returns-in_err-message-in-Some-clause-links : goal.returns-in_err-message-in-Some-clause-links
@@ -92,8 +92,8 @@ returns-in_err-message-in-Some-clause-links g c = λ place is m a b placed h at 
     let there = slice_get_read xs (length xs) c.args.from c.index-2.result.now refl c.requires.from_below c.index-2.ensures in
     let also = slice_get_read xs (length xs) c.args.to c.index-3.result.now refl c.requires.to_below c.index-3.ensures in
     let same = carried_between place xs c.args.from c.args.to c.index-2.result.now c.index-3.result.now a b c.in-Some.message.now (slice_get (messages m a b) c.args.index) placed there also at to (sym (c.in-Some.ensures.value is m a b h at to)) in
-    let x = link_view g.C.Carry.slots g.C.Carry.failed g.C.Carry.wire g.F.Fabric.put_on g.F.Fabric.taken_on g.F.Fabric.faults c.args.carrier.now c.args.fabric.now in
-    let y = link_view g.C.Carry.slots g.C.Carry.failed g.C.Carry.wire g.F.Fabric.put_on g.F.Fabric.taken_on g.F.Fabric.faults c.carry.new.carrier c.carry.new.fabric in
+    let x = link_view (g.C.Carry.view c.args.carrier.now) (g.F.Fabric.view c.args.fabric.now) in
+    let y = link_view (g.C.Carry.view c.carry.new.carrier) (g.F.Fabric.view c.carry.new.fabric) in
     let one = only c.index-2.result.now.position c.index-3.result.now.position c.in-Some.message.now in
     delivers_as c.from_residual.result one (carried_of (place a) (place b) (slice_get (messages m a b) c.args.index)) x y same
     (delivers_failed c.from_residual.result c.in_err-message-in-Some.field-0.0 c.from_residual.ensures one x y c.in_err-message-in-Some.ensures.links)

@@ -42,7 +42,7 @@ deliver-requires-clause-up g c = subst (λ (us : List Bool). slice_get us c.args
 
 pub loop-index-preserved : goal.loop-index-preserved
 loop-index-preserved g c =
-    let xs = (seen g.D.Disk.image_at g.D.Disk.moment c.args.self.now c.args.pairs.now.items) in
+    let xs = (seen g.D.Disk.view c.args.self.now c.args.pairs.now.items) in
     let ids = c.deliver.ensures.ids ∙ c.loop-index.invariant.1 in (
       same_length c.args.self.now.slots.items c.deliver.new.self.slots.items ids,
       ids,
@@ -52,9 +52,9 @@ loop-index-preserved g c =
       λ z a b at to.
           let first = ap (λ (ns : List NodeId). slice_get ns c.args.from) c.loop-index.invariant.1 ∙ at in
           let second = ap (λ (ns : List NodeId). slice_get ns c.args.to) c.loop-index.invariant.1 ∙ to in
-          moves_as c.args.circuit (λ m. step_world (delivered c.args.circuit z a b (c.args.taken + 1) (c.loop-index.index - c.args.taken) m) (step.Deliver a b c.args.circuit (c.loop-index.index + 1))) (delivered c.args.circuit z a b (c.args.taken + 1) ((c.loop-index.index + 1) - c.args.taken)) xs (seen g.D.Disk.image_at g.D.Disk.moment c.deliver.new.self c.deliver.new.pairs.items)
+          moves_as c.args.circuit (λ m. step_world (delivered c.args.circuit z a b (c.args.taken + 1) (c.loop-index.index - c.args.taken) m) (step.Deliver a b c.args.circuit (c.loop-index.index + 1))) (delivered c.args.circuit z a b (c.args.taken + 1) ((c.loop-index.index + 1) - c.args.taken)) xs (seen g.D.Disk.view c.deliver.new.self c.deliver.new.pairs.items)
           (λ m h. deliver_more c.args.circuit z a b c.args.taken c.loop-index.index m c.loop-index.invariant.3)
-          (moves_then c.args.circuit (delivered c.args.circuit z a b (c.args.taken + 1) (c.loop-index.index - c.args.taken)) (λ m. step_world m (step.Deliver a b c.args.circuit (c.loop-index.index + 1))) xs (seen g.D.Disk.image_at g.D.Disk.moment c.loop-index.self c.loop-index.pairs.items) (seen g.D.Disk.image_at g.D.Disk.moment c.deliver.new.self c.deliver.new.pairs.items)
+          (moves_then c.args.circuit (delivered c.args.circuit z a b (c.args.taken + 1) (c.loop-index.index - c.args.taken)) (λ m. step_world m (step.Deliver a b c.args.circuit (c.loop-index.index + 1))) xs (seen g.D.Disk.view c.loop-index.self c.loop-index.pairs.items) (seen g.D.Disk.view c.deliver.new.self c.deliver.new.pairs.items)
           (c.loop-index.invariant.5 z a b at to) (c.in_ok-deliver.ensures.moves a b first second)),
       omega (arith, c.loop-index.invariant.3, c.loop-index.invariant.6, c.in_ok-add.ensures.counts.ok, c.deliver.ensures.events),
       c.in_ok-deliver.ensures.sits,
@@ -63,9 +63,9 @@ loop-index-preserved g c =
       c.deliver.ensures.stops ∙ c.loop-index.invariant.10,
       c.in_ok-deliver.ensures.ready,
       λ place z a b placed h at to.
-          let p = (link_view g.C.Carry.slots g.C.Carry.failed g.C.Carry.wire g.F.Fabric.put_on g.F.Fabric.taken_on g.F.Fabric.faults c.args.carrier.now c.args.fabric.now) in
-          let q = (link_view g.C.Carry.slots g.C.Carry.failed g.C.Carry.wire g.F.Fabric.put_on g.F.Fabric.taken_on g.F.Fabric.faults c.loop-index.carrier c.loop-index.fabric) in
-          let s = (link_view g.C.Carry.slots g.C.Carry.failed g.C.Carry.wire g.F.Fabric.put_on g.F.Fabric.taken_on g.F.Fabric.faults c.deliver.new.carrier c.deliver.new.fabric) in
+          let p = (link_view (g.C.Carry.view c.args.carrier.now) (g.F.Fabric.view c.args.fabric.now)) in
+          let q = (link_view (g.C.Carry.view c.loop-index.carrier) (g.F.Fabric.view c.loop-index.fabric)) in
+          let s = (link_view (g.C.Carry.view c.deliver.new.carrier) (g.F.Fabric.view c.deliver.new.fabric)) in
           let here : Calming = delivers c.args.circuit z a b (c.args.taken + 1) (c.loop-index.index - c.args.taken) in
           let next : Calming = delivers c.args.circuit z a b (c.args.taken + 1) ((c.loop-index.index + 1) - c.args.taken) in
           let one : Step = step.Deliver a b c.args.circuit (c.loop-index.index + 1) in
@@ -82,7 +82,7 @@ loop-index-preserved g c =
 pub returns-clause-moves : goal.returns-clause-moves
 returns-clause-moves g c = λ z a b at to.
     let all : c.loop-index.index - c.args.taken ≡ c.args.all - c.args.taken = omega (arith, c.loop-index.invariant.3, c.loop-index.invariant.4, c.loop-index-test.false) in
-    subst (λ (k : ℕ). Moves c.args.circuit (delivered c.args.circuit z a b (c.args.taken + 1) k) (seen g.D.Disk.image_at g.D.Disk.moment c.args.self.now c.args.pairs.now.items) (seen g.D.Disk.image_at g.D.Disk.moment c.loop-index.self c.loop-index.pairs.items)) all (c.loop-index.invariant.5 z a b at to)
+    subst (λ (k : ℕ). Moves c.args.circuit (delivered c.args.circuit z a b (c.args.taken + 1) k) (seen g.D.Disk.view c.args.self.now c.args.pairs.now.items) (seen g.D.Disk.view c.loop-index.self c.loop-index.pairs.items)) all (c.loop-index.invariant.5 z a b at to)
 
 pub returns-in_err-add-clause-counts : goal.returns-in_err-add-clause-counts
 returns-in_err-add-clause-counts g c =
@@ -101,7 +101,7 @@ returns-clause-counts g c =
 
 pub loop-index-init : goal.loop-index-init
 loop-index-init g c =
-    let xs = (seen g.D.Disk.image_at g.D.Disk.moment c.args.self.now c.args.pairs.now.items) in
+    let xs = (seen g.D.Disk.view c.args.self.now c.args.pairs.now.items) in
     let none : c.args.taken - c.args.taken ≡ 0 = omega arith in (
       refl,
       refl,
@@ -117,7 +117,7 @@ loop-index-init g c =
       refl,
       c.requires.ready,
       λ place z a b placed h at to.
-          let p = (link_view g.C.Carry.slots g.C.Carry.failed g.C.Carry.wire g.F.Fabric.put_on g.F.Fabric.taken_on g.F.Fabric.faults c.args.carrier.now c.args.fabric.now) in
+          let p = (link_view (g.C.Carry.view c.args.carrier.now) (g.F.Fabric.view c.args.fabric.now)) in
           part_to place done z z (delivers c.args.circuit z a b (c.args.taken + 1) (c.args.taken - c.args.taken)) p p (sym (ap (delivers c.args.circuit z a b (c.args.taken + 1)) none)) (part_same place z p (g.met.C.Carry.idle c.args.carrier.now)),
       links_itself _,
     )
@@ -144,8 +144,8 @@ returns-in_err-deliver-clause-place g c = disk_at _ _ c.from_residual-in_err-del
 
 pub returns-in_err-add-clause-ended : goal.returns-in_err-add-clause-ended
 returns-in_err-add-clause-ended g c = λ z a b h at to.
-    let old = (seen g.D.Disk.image_at g.D.Disk.moment c.args.self.now c.args.pairs.now.items) in
-    let mid = seen g.D.Disk.image_at g.D.Disk.moment c.loop-index.self c.loop-index.pairs.items in
+    let old = (seen g.D.Disk.view c.args.self.now c.args.pairs.now.items) in
+    let mid = seen g.D.Disk.view c.loop-index.self c.loop-index.pairs.items in
     let here : Calming = delivers c.args.circuit z a b (c.args.taken + 1) (c.loop-index.index - c.args.taken) in
     let all : Calming = delivers c.args.circuit z a b (c.args.taken + 1) (c.args.all - c.args.taken) in
     let moves = c.loop-index.invariant.5 z a b at to in
@@ -155,9 +155,9 @@ returns-in_err-add-clause-ended g c = λ z a b h at to.
 
 pub returns-in_err-deliver-clause-ended : goal.returns-in_err-deliver-clause-ended
 returns-in_err-deliver-clause-ended g c = λ z a b h at to.
-    let old = (seen g.D.Disk.image_at g.D.Disk.moment c.args.self.now c.args.pairs.now.items) in
-    let mid = seen g.D.Disk.image_at g.D.Disk.moment c.loop-index.self c.loop-index.pairs.items in
-    let is = images g.D.Disk.image_at g.D.Disk.moment c.deliver.new.pairs.items in
+    let old = (seen g.D.Disk.view c.args.self.now c.args.pairs.now.items) in
+    let mid = seen g.D.Disk.view c.loop-index.self c.loop-index.pairs.items in
+    let is = images g.D.Disk.view c.deliver.new.pairs.items in
     let here : Calming = delivers c.args.circuit z a b (c.args.taken + 1) (c.loop-index.index - c.args.taken) in
     let next : Calming = delivers c.args.circuit z a b (c.args.taken + 1) ((c.loop-index.index + 1) - c.args.taken) in
     let all : Calming = delivers c.args.circuit z a b (c.args.taken + 1) (c.args.all - c.args.taken) in
@@ -181,8 +181,8 @@ returns-clause-ready g c = c.loop-index.invariant.11
 
 pub returns-in_err-add-clause-links : goal.returns-in_err-add-clause-links
 returns-in_err-add-clause-links g c = λ place z a b placed h at to.
-    let p = (link_view g.C.Carry.slots g.C.Carry.failed g.C.Carry.wire g.F.Fabric.put_on g.F.Fabric.taken_on g.F.Fabric.faults c.args.carrier.now c.args.fabric.now) in
-    let q = (link_view g.C.Carry.slots g.C.Carry.failed g.C.Carry.wire g.F.Fabric.put_on g.F.Fabric.taken_on g.F.Fabric.faults c.loop-index.carrier c.loop-index.fabric) in
+    let p = (link_view (g.C.Carry.view c.args.carrier.now) (g.F.Fabric.view c.args.fabric.now)) in
+    let q = (link_view (g.C.Carry.view c.loop-index.carrier) (g.F.Fabric.view c.loop-index.fabric)) in
     let f = c.in_err-add.field-0.0 in
     let here : Calming = delivers c.args.circuit z a b (c.args.taken + 1) (c.loop-index.index - c.args.taken) in
     let all : Calming = delivers c.args.circuit z a b (c.args.taken + 1) (c.args.all - c.args.taken) in
@@ -192,9 +192,9 @@ returns-in_err-add-clause-links g c = λ place z a b placed h at to.
 
 pub returns-in_err-deliver-clause-links : goal.returns-in_err-deliver-clause-links
 returns-in_err-deliver-clause-links g c = λ place z a b placed h at to.
-    let p = (link_view g.C.Carry.slots g.C.Carry.failed g.C.Carry.wire g.F.Fabric.put_on g.F.Fabric.taken_on g.F.Fabric.faults c.args.carrier.now c.args.fabric.now) in
-    let q = (link_view g.C.Carry.slots g.C.Carry.failed g.C.Carry.wire g.F.Fabric.put_on g.F.Fabric.taken_on g.F.Fabric.faults c.loop-index.carrier c.loop-index.fabric) in
-    let s = (link_view g.C.Carry.slots g.C.Carry.failed g.C.Carry.wire g.F.Fabric.put_on g.F.Fabric.taken_on g.F.Fabric.faults c.deliver.new.carrier c.deliver.new.fabric) in
+    let p = (link_view (g.C.Carry.view c.args.carrier.now) (g.F.Fabric.view c.args.fabric.now)) in
+    let q = (link_view (g.C.Carry.view c.loop-index.carrier) (g.F.Fabric.view c.loop-index.fabric)) in
+    let s = (link_view (g.C.Carry.view c.deliver.new.carrier) (g.F.Fabric.view c.deliver.new.fabric)) in
     let here : Calming = delivers c.args.circuit z a b (c.args.taken + 1) (c.loop-index.index - c.args.taken) in
     let next : Calming = delivers c.args.circuit z a b (c.args.taken + 1) ((c.loop-index.index + 1) - c.args.taken) in
     let one : Step = step.Deliver a b c.args.circuit (c.loop-index.index + 1) in
@@ -213,8 +213,8 @@ returns-in_err-deliver-clause-links g c = λ place z a b placed h at to.
 
 pub returns-clause-links : goal.returns-clause-links
 returns-clause-links g c = λ place z a b placed h at to.
-    let p = (link_view g.C.Carry.slots g.C.Carry.failed g.C.Carry.wire g.F.Fabric.put_on g.F.Fabric.taken_on g.F.Fabric.faults c.args.carrier.now c.args.fabric.now) in
-    let q = (link_view g.C.Carry.slots g.C.Carry.failed g.C.Carry.wire g.F.Fabric.put_on g.F.Fabric.taken_on g.F.Fabric.faults c.loop-index.carrier c.loop-index.fabric) in
+    let p = (link_view (g.C.Carry.view c.args.carrier.now) (g.F.Fabric.view c.args.fabric.now)) in
+    let q = (link_view (g.C.Carry.view c.loop-index.carrier) (g.F.Fabric.view c.loop-index.fabric)) in
     let all : c.loop-index.index - c.args.taken ≡ c.args.all - c.args.taken = omega (arith, c.loop-index.invariant.3, c.loop-index.invariant.4, c.loop-index-test.false) in
     subst (λ (k : ℕ). PartDelivers done place z (delivers c.args.circuit z a b (c.args.taken + 1) k) p q) all (c.loop-index.invariant.12 place z a b placed h at to)
 

@@ -26,7 +26,7 @@ use Rattle.spl_world.proofs.world.World.from_all.Goals as goal
 
 pub loop-from-preserved : goal.loop-from-preserved
 loop-from-preserved g c =
-    let xs = (seen g.D.Disk.image_at g.D.Disk.moment c.args.self.now c.args.pairs.now.items) in
+    let xs = (seen g.D.Disk.view c.args.self.now c.args.pairs.now.items) in
     let ids = c.to_all.ensures.ids ∙ c.loop-from.invariant.1 in
     let below = rw (c.len-from-end.ensures) at c.loop-from-test.true in
     let sender = some_at c.args.self.now.slots.items c.loop-from.from below in
@@ -40,10 +40,10 @@ loop-from-preserved g c =
           let y : Calming = from_all c.args.circuit z (ids_of c.args.self.now) (take c.loop-from.from (ids_of c.args.self.now)) in
           let here : slice_get (ids_of c.loop-from.self) c.loop-from.from ≡ Some sender.0 = ap (λ (ns : List NodeId). slice_get ns c.loop-from.from) c.loop-from.invariant.1 ∙ sender.1 in
           let row = subst (λ (ns : List NodeId). c.index_mut.result.now.items ≡ row_of y.taken sender.0 ns) (sym c.loop-from.invariant.1) (so_far.1 c.loop-from.from sender.0 c.index_mut.result.now sender.1 there) in
-          sender_own c.args.circuit z (ids_of c.args.self.now) c.loop-from.from sender.0 (seen g.D.Disk.image_at g.D.Disk.moment c.to_all.new.self c.to_all.new.pairs.items) c.loop-from.rows.items c.to_all.new.row h.ordered sender.1 so_far.1
-          (subst (λ (ns : List NodeId). Holds c.args.circuit (to_all c.args.circuit y sender.0 ns).world (seen g.D.Disk.image_at g.D.Disk.moment c.to_all.new.self c.to_all.new.pairs.items) × (c.to_all.new.row.items ≡ row_of (to_all c.args.circuit y sender.0 ns).taken sender.0 ns)) c.loop-from.invariant.1
+          sender_own c.args.circuit z (ids_of c.args.self.now) c.loop-from.from sender.0 (seen g.D.Disk.view c.to_all.new.self c.to_all.new.pairs.items) c.loop-from.rows.items c.to_all.new.row h.ordered sender.1 so_far.1
+          (subst (λ (ns : List NodeId). Holds c.args.circuit (to_all c.args.circuit y sender.0 ns).world (seen g.D.Disk.view c.to_all.new.self c.to_all.new.pairs.items) × (c.to_all.new.row.items ≡ row_of (to_all c.args.circuit y sender.0 ns).taken sender.0 ns)) c.loop-from.invariant.1
           (c.in_ok-to_all.ensures.own y sender.0 so_far.0 here row)),
-      spares_then c.args.circuit xs (seen g.D.Disk.image_at g.D.Disk.moment c.loop-from.self c.loop-from.pairs.items) (seen g.D.Disk.image_at g.D.Disk.moment c.to_all.new.self c.to_all.new.pairs.items) c.loop-from.invariant.4 c.in_ok-to_all.ensures.others,
+      spares_then c.args.circuit xs (seen g.D.Disk.view c.loop-from.self c.loop-from.pairs.items) (seen g.D.Disk.view c.to_all.new.self c.to_all.new.pairs.items) c.loop-from.invariant.4 c.in_ok-to_all.ensures.others,
       λ z h rows.
           let y : Calming = from_all c.args.circuit z (ids_of c.args.self.now) (take c.loop-from.from (ids_of c.args.self.now)) in
           let so_far = c.loop-from.invariant.3 z h rows in
@@ -58,9 +58,9 @@ loop-from-preserved g c =
       c.to_all.ensures.stops ∙ c.loop-from.invariant.9,
       c.in_ok-to_all.ensures.ready,
       λ place z placed h rows.
-          let p = (link_view g.C.Carry.slots g.C.Carry.failed g.C.Carry.wire g.F.Fabric.put_on g.F.Fabric.taken_on g.F.Fabric.faults c.args.carrier.now c.args.fabric.now) in
-          let q = (link_view g.C.Carry.slots g.C.Carry.failed g.C.Carry.wire g.F.Fabric.put_on g.F.Fabric.taken_on g.F.Fabric.faults c.loop-from.carrier c.loop-from.fabric) in
-          let s = (link_view g.C.Carry.slots g.C.Carry.failed g.C.Carry.wire g.F.Fabric.put_on g.F.Fabric.taken_on g.F.Fabric.faults c.to_all.new.carrier c.to_all.new.fabric) in
+          let p = (link_view (g.C.Carry.view c.args.carrier.now) (g.F.Fabric.view c.args.fabric.now)) in
+          let q = (link_view (g.C.Carry.view c.loop-from.carrier) (g.F.Fabric.view c.loop-from.fabric)) in
+          let s = (link_view (g.C.Carry.view c.to_all.new.carrier) (g.F.Fabric.view c.to_all.new.fabric)) in
           let y : Calming = from_all c.args.circuit z (ids_of c.args.self.now) (take c.loop-from.from (ids_of c.args.self.now)) in
           let so_far = c.loop-from.invariant.3 z h rows in
           let here : slice_get (ids_of c.loop-from.self) c.loop-from.from ≡ Some sender.0 = ap (λ (ns : List NodeId). slice_get ns c.loop-from.from) c.loop-from.invariant.1 ∙ sender.1 in
@@ -75,12 +75,12 @@ loop-from-preserved g c =
 
 pub returns-clause-own : goal.returns-clause-own
 returns-clause-own g c = λ z h rows.
-    subst (λ (ns : List NodeId). Holds c.args.circuit (from_all c.args.circuit z (ids_of c.args.self.now) ns).world (seen g.D.Disk.image_at g.D.Disk.moment c.loop-from.self c.loop-from.pairs.items) × AreRows (from_all c.args.circuit z (ids_of c.args.self.now) ns).taken (ids_of c.args.self.now) c.loop-from.rows.items)
+    subst (λ (ns : List NodeId). Holds c.args.circuit (from_all c.args.circuit z (ids_of c.args.self.now) ns).world (seen g.D.Disk.view c.loop-from.self c.loop-from.pairs.items) × AreRows (from_all c.args.circuit z (ids_of c.args.self.now) ns).taken (ids_of c.args.self.now) c.loop-from.rows.items)
     (take_all c.loop-from.from (ids_of c.args.self.now) (subst (λ (k : ℕ). k ≤ c.loop-from.from) (c.len-from-end.ensures ∙ sym (length_ids c.args.self.now.slots.items)) c.loop-from-test.false)) (c.loop-from.invariant.3 z h rows)
 
 pub returns-in_err-to_all-clause-square : goal.returns-in_err-to_all-clause-square
 returns-in_err-to_all-clause-square g c =
-    let xs = (seen g.D.Disk.image_at g.D.Disk.moment c.args.self.now c.args.pairs.now.items) in
+    let xs = (seen g.D.Disk.view c.args.self.now c.args.pairs.now.items) in
     let below = rw (c.len-from-end.ensures) at c.loop-from-test.true in
     let there : slice_get c.loop-from.rows.items c.loop-from.from ≡ Some c.index_mut.result.now =
     slice_get_read c.loop-from.rows.items (length c.loop-from.rows.items) c.loop-from.from c.index_mut.result.now refl (subst (λ (n : ℕ). c.loop-from.from < n) (sym c.loop-from.invariant.2.tall) below) c.index_mut.ensures.value in
@@ -111,7 +111,7 @@ returns-clause-counts g c = λ z h rows.
 -- ---- the disks
 
 pub loop-from-init : goal.loop-from-init
-loop-from-init g c = (refl, refl, c.requires.square, λ z h rows. (h, rows), λ d m off h. h, λ z h rows. refl, c.requires.sits, all_itself _, refl, refl, c.requires.ready, λ place z placed h rows. part_same place z (link_view g.C.Carry.slots g.C.Carry.failed g.C.Carry.wire g.F.Fabric.put_on g.F.Fabric.taken_on g.F.Fabric.faults c.args.carrier.now c.args.fabric.now) (g.met.C.Carry.idle c.args.carrier.now), links_itself _)
+loop-from-init g c = (refl, refl, c.requires.square, λ z h rows. (h, rows), λ d m off h. h, λ z h rows. refl, c.requires.sits, all_itself _, refl, refl, c.requires.ready, λ place z placed h rows. part_same place z (link_view (g.C.Carry.view c.args.carrier.now) (g.F.Fabric.view c.args.fabric.now)) (g.met.C.Carry.idle c.args.carrier.now), links_itself _)
 
 pub to_all-requires-clause-sits : goal.to_all-requires-clause-sits
 to_all-requires-clause-sits g c = c.loop-from.invariant.6
@@ -129,9 +129,9 @@ returns-in_err-to_all-clause-place g c = disk_at _ _ c.from_residual.result _ c.
 
 pub returns-in_err-to_all-clause-ended : goal.returns-in_err-to_all-clause-ended
 returns-in_err-to_all-clause-ended g c = λ z h rows.
-    let old = (seen g.D.Disk.image_at g.D.Disk.moment c.args.self.now c.args.pairs.now.items) in
-    let mid = seen g.D.Disk.image_at g.D.Disk.moment c.loop-from.self c.loop-from.pairs.items in
-    let is = images g.D.Disk.image_at g.D.Disk.moment c.to_all.new.pairs.items in
+    let old = (seen g.D.Disk.view c.args.self.now c.args.pairs.now.items) in
+    let mid = seen g.D.Disk.view c.loop-from.self c.loop-from.pairs.items in
+    let is = images g.D.Disk.view c.to_all.new.pairs.items in
     let ids = ids_of c.args.self.now in
     let below = rw (c.len-from-end.ensures) at c.loop-from-test.true in
     let sender = some_at c.args.self.now.slots.items c.loop-from.from below in
@@ -161,9 +161,9 @@ returns-in_err-to_all-clause-links g c = λ place z placed h rows.
     let sender = some_at c.args.self.now.slots.items c.loop-from.from below in
     let there : slice_get c.loop-from.rows.items c.loop-from.from ≡ Some c.index_mut.result.now =
     slice_get_read c.loop-from.rows.items (length c.loop-from.rows.items) c.loop-from.from c.index_mut.result.now refl (subst (λ (n : ℕ). c.loop-from.from < n) (sym c.loop-from.invariant.2.tall) below) c.index_mut.ensures.value in
-    let p = (link_view g.C.Carry.slots g.C.Carry.failed g.C.Carry.wire g.F.Fabric.put_on g.F.Fabric.taken_on g.F.Fabric.faults c.args.carrier.now c.args.fabric.now) in
-    let q = (link_view g.C.Carry.slots g.C.Carry.failed g.C.Carry.wire g.F.Fabric.put_on g.F.Fabric.taken_on g.F.Fabric.faults c.loop-from.carrier c.loop-from.fabric) in
-    let s = (link_view g.C.Carry.slots g.C.Carry.failed g.C.Carry.wire g.F.Fabric.put_on g.F.Fabric.taken_on g.F.Fabric.faults c.to_all.new.carrier c.to_all.new.fabric) in
+    let p = (link_view (g.C.Carry.view c.args.carrier.now) (g.F.Fabric.view c.args.fabric.now)) in
+    let q = (link_view (g.C.Carry.view c.loop-from.carrier) (g.F.Fabric.view c.loop-from.fabric)) in
+    let s = (link_view (g.C.Carry.view c.to_all.new.carrier) (g.F.Fabric.view c.to_all.new.fabric)) in
     let y : Calming = from_all c.args.circuit z (ids_of c.args.self.now) (take c.loop-from.from (ids_of c.args.self.now)) in
     let so_far = c.loop-from.invariant.3 z h rows in
     let here : slice_get (ids_of c.loop-from.self) c.loop-from.from ≡ Some sender.0 = ap (λ (ns : List NodeId). slice_get ns c.loop-from.from) c.loop-from.invariant.1 ∙ sender.1 in
@@ -178,7 +178,7 @@ returns-in_err-to_all-clause-links g c = λ place z placed h rows.
 
 pub returns-clause-links : goal.returns-clause-links
 returns-clause-links g c = λ place z placed h rows.
-    subst (λ (ns : List NodeId). PartDelivers done place z (from_all c.args.circuit z (ids_of c.args.self.now) ns) (link_view g.C.Carry.slots g.C.Carry.failed g.C.Carry.wire g.F.Fabric.put_on g.F.Fabric.taken_on g.F.Fabric.faults c.args.carrier.now c.args.fabric.now) (link_view g.C.Carry.slots g.C.Carry.failed g.C.Carry.wire g.F.Fabric.put_on g.F.Fabric.taken_on g.F.Fabric.faults c.loop-from.carrier c.loop-from.fabric))
+    subst (λ (ns : List NodeId). PartDelivers done place z (from_all c.args.circuit z (ids_of c.args.self.now) ns) (link_view (g.C.Carry.view c.args.carrier.now) (g.F.Fabric.view c.args.fabric.now)) (link_view (g.C.Carry.view c.loop-from.carrier) (g.F.Fabric.view c.loop-from.fabric)))
     (take_all c.loop-from.from (ids_of c.args.self.now) (subst (λ (k : ℕ). k ≤ c.loop-from.from) (c.len-from-end.ensures ∙ sym (length_ids c.args.self.now.slots.items)) c.loop-from-test.false)) (c.loop-from.invariant.11 place z placed h rows)
 
 -- ---- the faults of the links

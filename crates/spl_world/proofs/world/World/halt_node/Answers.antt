@@ -53,8 +53,8 @@ returns-in_ok-bit-in-Cut-clause-answer g c = λ worlds roll h.
 pub returns-in_ok-bit-in-Cut-clause-holds : goal.returns-in_ok-bit-in-Cut-clause-holds
 returns-in_ok-bit-in-Cut-clause-holds g c = λ k m h.
     let s = c.in-Cut.step in
-    rw (c.in-Cut.is) (halted_each k m s (keeps_record (line.Cut c.in-Cut.calls c.in-Cut.fill c.in-Cut.step)) (seen g.D.Disk.image_at g.D.Disk.moment c.args.self.now c.args.pairs.now.items) (seen g.D.Disk.image_at g.D.Disk.moment c.halt_step.new.self c.halt_step.new.pairs.items) h
-    (λ w x. subst (λ (b : Bool). Holds (step_circuit s) (happens w (Halts b s)) (seen g.D.Disk.image_at g.D.Disk.moment c.halt_step.new.self c.halt_step.new.pairs.items)) (keeps_cut c.in-Cut.calls c.in-Cut.fill s) (c.in_ok-bit-in-Cut.ensures.own w x))
+    rw (c.in-Cut.is) (halted_each k m s (keeps_record (line.Cut c.in-Cut.calls c.in-Cut.fill c.in-Cut.step)) (seen g.D.Disk.view c.args.self.now c.args.pairs.now.items) (seen g.D.Disk.view c.halt_step.new.self c.halt_step.new.pairs.items) h
+    (λ w x. subst (λ (b : Bool). Holds (step_circuit s) (happens w (Halts b s)) (seen g.D.Disk.view c.halt_step.new.self c.halt_step.new.pairs.items)) (keeps_cut c.in-Cut.calls c.in-Cut.fill s) (c.in_ok-bit-in-Cut.ensures.own w x))
     c.in_ok-bit-in-Cut.ensures.others)
 
 pub returns-in_ok-bit-in-Cut-clause-slot : goal.returns-in_ok-bit-in-Cut-clause-slot
@@ -71,8 +71,8 @@ returns-in_ok-bit-in-Fail-clause-answer g c = λ worlds roll h.
 pub returns-in_ok-bit-in-Fail-clause-holds : goal.returns-in_ok-bit-in-Fail-clause-holds
 returns-in_ok-bit-in-Fail-clause-holds g c = λ k m h.
     let s = c.in-Fail.step in
-    rw (c.in-Fail.is) (halted_each k m s (keeps_record (line.Fail c.in-Fail.call c.in-Fail.step)) (seen g.D.Disk.image_at g.D.Disk.moment c.args.self.now c.args.pairs.now.items) (seen g.D.Disk.image_at g.D.Disk.moment c.halt_step-in-Fail.new.self c.halt_step-in-Fail.new.pairs.items) h
-    (λ w x. subst (λ (b : Bool). Holds (step_circuit s) (happens w (Halts b s)) (seen g.D.Disk.image_at g.D.Disk.moment c.halt_step-in-Fail.new.self c.halt_step-in-Fail.new.pairs.items)) (keeps_fail c.in-Fail.call s (fail_from_one c.in-Fail.call s (rw (c.in-Fail.is) at c.requires.fits))) (c.in_ok-bit-in-Fail.ensures.own w x))
+    rw (c.in-Fail.is) (halted_each k m s (keeps_record (line.Fail c.in-Fail.call c.in-Fail.step)) (seen g.D.Disk.view c.args.self.now c.args.pairs.now.items) (seen g.D.Disk.view c.halt_step-in-Fail.new.self c.halt_step-in-Fail.new.pairs.items) h
+    (λ w x. subst (λ (b : Bool). Holds (step_circuit s) (happens w (Halts b s)) (seen g.D.Disk.view c.halt_step-in-Fail.new.self c.halt_step-in-Fail.new.pairs.items)) (keeps_fail c.in-Fail.call s (fail_from_one c.in-Fail.call s (rw (c.in-Fail.is) at c.requires.fits))) (c.in_ok-bit-in-Fail.ensures.own w x))
     c.in_ok-bit-in-Fail.ensures.others)
 
 pub returns-in_ok-bit-in-Fail-clause-slot : goal.returns-in_ok-bit-in-Fail-clause-slot
@@ -82,12 +82,12 @@ returns-in_ok-bit-in-Fail-clause-slot g c = rw (c.in-Fail.is) (record { here = s
 
 pub returns-in_err-stop_at-in-Stop-clause-ended : goal.returns-in_err-stop_at-in-Stop-clause-ended
 returns-in_err-stop_at-in-Stop-clause-ended g c = λ worlds h. on_err c.from_residual.result
-    (ended_stop worlds (seen g.D.Disk.image_at g.D.Disk.moment c.args.self.now c.args.pairs.now.items) c.requires.sits h (images g.D.Disk.image_at g.D.Disk.moment c.stop_at.new.pairs.items) c.args.line.now c.in-Stop.node (c.in_err-stop_at-in-Stop.ensures.ended c.in-Stop.node (worlds c.in-Stop.node) (h c.in-Stop.node)))
+    (ended_stop worlds (seen g.D.Disk.view c.args.self.now c.args.pairs.now.items) c.requires.sits h (images g.D.Disk.view c.stop_at.new.pairs.items) c.args.line.now c.in-Stop.node (c.in_err-stop_at-in-Stop.ensures.ended c.in-Stop.node (worlds c.in-Stop.node) (h c.in-Stop.node)))
 
 pub returns-in_err-bit-in-Cut-clause-ended : goal.returns-in_err-bit-in-Cut-clause-ended
 returns-in_err-bit-in-Cut-clause-ended g c = λ worlds h. on_err c.from_residual-in_err-bit-in-Cut.result
-    (rw (c.in-Cut.is) (ended_cut worlds (seen g.D.Disk.image_at g.D.Disk.moment c.args.self.now c.args.pairs.now.items) c.requires.sits h (images g.D.Disk.image_at g.D.Disk.moment c.halt_step.new.pairs.items) c.in-Cut.calls c.in-Cut.fill c.in-Cut.step (c.in_err-bit-in-Cut.ensures.ended (worlds (step_circuit c.in-Cut.step)) (h (step_circuit c.in-Cut.step)))))
+    (rw (c.in-Cut.is) (ended_cut worlds (seen g.D.Disk.view c.args.self.now c.args.pairs.now.items) c.requires.sits h (images g.D.Disk.view c.halt_step.new.pairs.items) c.in-Cut.calls c.in-Cut.fill c.in-Cut.step (c.in_err-bit-in-Cut.ensures.ended (worlds (step_circuit c.in-Cut.step)) (h (step_circuit c.in-Cut.step)))))
 
 pub returns-in_err-bit-in-Fail-clause-ended : goal.returns-in_err-bit-in-Fail-clause-ended
 returns-in_err-bit-in-Fail-clause-ended g c = λ worlds h. on_err c.from_residual-in_err-bit-in-Fail.result
-    (rw (c.in-Fail.is) (ended_fail worlds (seen g.D.Disk.image_at g.D.Disk.moment c.args.self.now c.args.pairs.now.items) c.requires.sits h (images g.D.Disk.image_at g.D.Disk.moment c.halt_step-in-Fail.new.pairs.items) c.in-Fail.call c.in-Fail.step (c.in_err-bit-in-Fail.ensures.ended (worlds (step_circuit c.in-Fail.step)) (h (step_circuit c.in-Fail.step)))))
+    (rw (c.in-Fail.is) (ended_fail worlds (seen g.D.Disk.view c.args.self.now c.args.pairs.now.items) c.requires.sits h (images g.D.Disk.view c.halt_step-in-Fail.new.pairs.items) c.in-Fail.call c.in-Fail.step (c.in_err-bit-in-Fail.ensures.ended (worlds (step_circuit c.in-Fail.step)) (h (step_circuit c.in-Fail.step)))))

@@ -23,17 +23,17 @@ slot-slot-requires g c = record { known = subst (λ (n : NodeId). has_node (ids_
 pub returns-then-not-is_up-clause-bit : goal.returns-then-not-is_up-clause-bit
 returns-then-not-is_up-clause-bit g c = λ m h.
     let s = c.args.step.now in
-    sym (bit_down m s (keeps c.args.stopping) (sym (c.is_up.ensures.world (images g.D.Disk.image_at g.D.Disk.moment c.args.pairs.now.items) (step_circuit s) m (step_node s) h (c.slot-slot.ensures.at ∙ ap Some c.node.ensures)) ∙ c.if-not-is_up.true))
+    sym (bit_down m s (keeps c.args.stopping) (sym (c.is_up.ensures.world (images g.D.Disk.view c.args.pairs.now.items) (step_circuit s) m (step_node s) h (c.slot-slot.ensures.at ∙ ap Some c.node.ensures)) ∙ c.if-not-is_up.true))
 
 pub returns-then-not-is_up-clause-own : goal.returns-then-not-is_up-clause-own
 returns-then-not-is_up-clause-own g c = λ m h.
     let s = c.args.step.now in
-    halt_none (step_circuit s) m (seen g.D.Disk.image_at g.D.Disk.moment c.args.self.now c.args.pairs.now.items) s (keeps c.args.stopping) h (sym (c.is_up.ensures.world (images g.D.Disk.image_at g.D.Disk.moment c.args.pairs.now.items) (step_circuit s) m (step_node s) h (c.slot-slot.ensures.at ∙ ap Some c.node.ensures)) ∙ c.if-not-is_up.true)
+    halt_none (step_circuit s) m (seen g.D.Disk.view c.args.self.now c.args.pairs.now.items) s (keeps c.args.stopping) h (sym (c.is_up.ensures.world (images g.D.Disk.view c.args.pairs.now.items) (step_circuit s) m (step_node s) h (c.slot-slot.ensures.at ∙ ap Some c.node.ensures)) ∙ c.if-not-is_up.true)
 
 pub returns-then-not-is_up-clause-others : goal.returns-then-not-is_up-clause-others
 returns-then-not-is_up-clause-others g c = λ d m off h.
     let s = c.args.step.now in
-    stop_none d m (seen g.D.Disk.image_at g.D.Disk.moment c.args.self.now c.args.pairs.now.items) (step_node s) h (sym (c.is_up.ensures.world (images g.D.Disk.image_at g.D.Disk.moment c.args.pairs.now.items) d m (step_node s) h (c.slot-slot.ensures.at ∙ ap Some c.node.ensures)) ∙ c.if-not-is_up.true)
+    stop_none d m (seen g.D.Disk.view c.args.self.now c.args.pairs.now.items) (step_node s) h (sym (c.is_up.ensures.world (images g.D.Disk.view c.args.pairs.now.items) d m (step_node s) h (c.slot-slot.ensures.at ∙ ap Some c.node.ensures)) ∙ c.if-not-is_up.true)
 
 pub returns-then-not-is_up-clause-slot : goal.returns-then-not-is_up-clause-slot
 returns-then-not-is_up-clause-slot g c =
@@ -48,7 +48,7 @@ returns-then-not-is_up-clause-slot g c =
       id_is = same_at ss c.slot-slot.result z.0 (step_node s) z.1 at;
       stop = stops_none (PickUnarmed (Some c.args.stopping)) (slot_up z.0) z.0.position _ (slot_down ss c.slot-slot.result z.0 z.1 (c.is_up.ensures.down c.if-not-is_up.true));
       risen = λ worlds h. record {
-        torn = λ torn. absurd (down_not_torn (worlds (step_circuit s)) c.args.stopping s (sym (c.is_up.ensures.world (images g.D.Disk.image_at g.D.Disk.moment c.args.pairs.now.items) (step_circuit s) (worlds (step_circuit s)) (step_node s) (h (step_circuit s)) at) ∙ c.if-not-is_up.true) torn);
+        torn = λ torn. absurd (down_not_torn (worlds (step_circuit s)) c.args.stopping s (sym (c.is_up.ensures.world (images g.D.Disk.view c.args.pairs.now.items) (step_circuit s) (worlds (step_circuit s)) (step_node s) (h (step_circuit s)) at) ∙ c.if-not-is_up.true) torn);
         checkpoint = λ full. absurd (down_not_filled z.0.host (step_circuit s) (step_plan (worlds (step_circuit s)) s).changes (slot_down ss c.slot-slot.result z.0 z.1 (c.is_up.ensures.down c.if-not-is_up.true)) full.1);
       };
     }
@@ -60,7 +60,7 @@ returns-clause-bit g c = λ m h.
     let s = c.args.step.now in
     let kept = keeps c.args.stopping in
     let xs = (step_plan m s).changes in
-    let up = sym (c.is_up.ensures.world (images g.D.Disk.image_at g.D.Disk.moment c.args.pairs.now.items) (step_circuit s) m (step_node s) h (c.slot-slot.ensures.at ∙ ap Some c.node.ensures)) ∙ c.if-not-is_up.false in
+    let up = sym (c.is_up.ensures.world (images g.D.Disk.view c.args.pairs.now.items) (step_circuit s) m (step_node s) h (c.slot-slot.ensures.at ∙ ap Some c.node.ensures)) ∙ c.if-not-is_up.false in
     ap Some (c.bit.ensures xs (c.in_ok-changes.ensures.tells m h) ∙ ap (λ b. bit_of b xs) c.keeps.ensures) ∙ sym (bit_up m s kept up)
 
 pub returns-clause-slot : goal.returns-clause-slot

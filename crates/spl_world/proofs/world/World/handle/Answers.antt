@@ -17,7 +17,7 @@ pub index_mut-disks-requires : goal.index_mut-disks-requires
 index_mut-disks-requires g c =
     let ss = c.args.self.now.slots.items in
     let there = slice_get_read ss (length ss) c.args.slot c.index_mut-here.result.now refl c.requires.below c.index_mut-here.ensures.value ∙ ap Some (sym c.prepare.ensures) in
-    let below = pair_below g.D.Disk.image_at g.D.Disk.moment ss c.args.pairs.now.items c.args.slot c.prepare.new.self c.requires.sits there c.position.result c.position.ensures in
+    let below = pair_below g.D.Disk.view ss c.args.pairs.now.items c.args.slot c.prepare.new.self c.requires.sits there c.position.result c.position.ensures in
     omega (arith, below, c.args.pairs.now.ok.0)
 
 pub handle-requires-clause-up : goal.handle-requires-clause-up
@@ -36,8 +36,8 @@ handle-requires-clause-stands g c =
     let ps = c.args.pairs.now.items in
     let s = c.prepare.new.self in
     let there = slice_get_read ss (length ss) c.args.slot c.index_mut-here.result.now refl c.requires.below c.index_mut-here.ensures.value ∙ ap Some (sym c.prepare.ensures) in
-    let below = pair_below g.D.Disk.image_at g.D.Disk.moment ss ps c.args.slot s c.requires.sits there c.position.result c.position.ensures in
-    own_stands g.D.Disk.image_at g.D.Disk.moment ss ps c.args.slot s c.requires.sits there c.position.result c.position.ensures c.index_mut-disks.result.now (slice_get_read ps (length ps) c.position.result c.index_mut-disks.result.now refl below c.index_mut-disks.ensures.value)
+    let below = pair_below g.D.Disk.view ss ps c.args.slot s c.requires.sits there c.position.result c.position.ensures in
+    own_stands g.D.Disk.view ss ps c.args.slot s c.requires.sits there c.position.result c.position.ensures c.index_mut-disks.result.now (slice_get_read ps (length ps) c.position.result c.index_mut-disks.result.now refl below c.index_mut-disks.ensures.value)
 
 pub returns-clause-ids : goal.returns-clause-ids
 returns-clause-ids g c =
@@ -60,10 +60,10 @@ returns-clause-answer g c = λ m n h at.
     let ps = c.args.pairs.now.items in
     let s = c.prepare.new.self in
     let there = slice_get_read ss (length ss) c.args.slot c.index_mut-here.result.now refl c.requires.below c.index_mut-here.ensures.value ∙ ap Some (sym c.prepare.ensures) in
-    let below = pair_below g.D.Disk.image_at g.D.Disk.moment ss ps c.args.slot s c.requires.sits there c.position.result c.position.ensures in
+    let below = pair_below g.D.Disk.view ss ps c.args.slot s c.requires.sits there c.position.result c.position.ensures in
     let pair = slice_get_read ps (length ps) c.position.result c.index_mut-disks.result.now refl below c.index_mut-disks.ensures.value in
-    let view = own_view g.D.Disk.image_at g.D.Disk.moment ss ps c.args.slot s c.requires.sits there c.position.result c.position.ensures c.index_mut-disks.result.now pair in
-    when_ok c.handle.result (λ a e. e ∙ (ap (λ (v : NodeView). (plan_of (site_at (slot_id s) c.args.circuit) (v.cells c.args.circuit) c.args.event.now).answer) (sym view) ∙ ap (λ (p : Plan). p.answer) (same_plan (seen g.D.Disk.image_at g.D.Disk.moment c.args.self.now ps) c.args.slot s c.args.circuit n c.args.event.now m there at h))) c.handle.ensures.answer
+    let view = own_view g.D.Disk.view ss ps c.args.slot s c.requires.sits there c.position.result c.position.ensures c.index_mut-disks.result.now pair in
+    when_ok c.handle.result (λ a e. e ∙ (ap (λ (v : NodeView). (plan_of (site_at (slot_id s) c.args.circuit) (v.cells c.args.circuit) c.args.event.now).answer) (sym view) ∙ ap (λ (p : Plan). p.answer) (same_plan (seen g.D.Disk.view c.args.self.now ps) c.args.slot s c.args.circuit n c.args.event.now m there at h))) c.handle.ensures.answer
 
 pub returns-clause-moves : goal.returns-clause-moves
 returns-clause-moves g c = λ n at.
@@ -71,10 +71,10 @@ returns-clause-moves g c = λ n at.
     let ps = c.args.pairs.now.items in
     let s = c.prepare.new.self in
     let there = slice_get_read ss (length ss) c.args.slot c.index_mut-here.result.now refl c.requires.below c.index_mut-here.ensures.value ∙ ap Some (sym c.prepare.ensures) in
-    let below = pair_below g.D.Disk.image_at g.D.Disk.moment ss ps c.args.slot s c.requires.sits there c.position.result c.position.ensures in
+    let below = pair_below g.D.Disk.view ss ps c.args.slot s c.requires.sits there c.position.result c.position.ensures in
     let pair = slice_get_read ps (length ps) c.position.result c.index_mut-disks.result.now refl below c.index_mut-disks.ensures.value in
     ok_three c.handle.result
-    (λ tells done others. own_moves g.D.Disk.image_at g.D.Disk.moment ss ps c.args.slot s c.requires.sits there c.position.result c.position.ensures c.index_mut-disks.result.now pair c.handle.new.self c.handle.new.disks c.args.circuit n c.args.event.now
+    (λ tells done others. own_moves g.D.Disk.view ss ps c.args.slot s c.requires.sits there c.position.result c.position.ensures c.index_mut-disks.result.now pair c.handle.new.self c.handle.new.disks c.args.circuit n c.args.event.now
     c.handle.ensures.position c.handle.ensures.id c.handle.ensures.up at tells done others)
     c.handle.ensures.tells c.handle.ensures.done c.handle.ensures.others
 
@@ -84,9 +84,9 @@ returns-clause-sits g c =
     let ps = c.args.pairs.now.items in
     let s = c.prepare.new.self in
     let there = slice_get_read ss (length ss) c.args.slot c.index_mut-here.result.now refl c.requires.below c.index_mut-here.ensures.value ∙ ap Some (sym c.prepare.ensures) in
-    let below = pair_below g.D.Disk.image_at g.D.Disk.moment ss ps c.args.slot s c.requires.sits there c.position.result c.position.ensures in
+    let below = pair_below g.D.Disk.view ss ps c.args.slot s c.requires.sits there c.position.result c.position.ensures in
     let pair = slice_get_read ps (length ps) c.position.result c.index_mut-disks.result.now refl below c.index_mut-disks.ensures.value in
-    at_ok c.handle.result (own_sits g.D.Disk.image_at g.D.Disk.moment ss ps c.args.slot s c.requires.sits there c.position.result c.position.ensures c.index_mut-disks.result.now pair c.handle.new.self c.handle.new.disks c.handle.ensures.position) c.handle.ensures.stands
+    at_ok c.handle.result (own_sits g.D.Disk.view ss ps c.args.slot s c.requires.sits there c.position.result c.position.ensures c.index_mut-disks.result.now pair c.handle.new.self c.handle.new.disks c.handle.ensures.position) c.handle.ensures.stands
 
 pub returns-clause-disks : goal.returns-clause-disks
 returns-clause-disks g c =
@@ -94,9 +94,9 @@ returns-clause-disks g c =
     let ps = c.args.pairs.now.items in
     let s = c.prepare.new.self in
     let there = slice_get_read ss (length ss) c.args.slot c.index_mut-here.result.now refl c.requires.below c.index_mut-here.ensures.value ∙ ap Some (sym c.prepare.ensures) in
-    let below = pair_below g.D.Disk.image_at g.D.Disk.moment ss ps c.args.slot s c.requires.sits there c.position.result c.position.ensures in
+    let below = pair_below g.D.Disk.view ss ps c.args.slot s c.requires.sits there c.position.result c.position.ensures in
     let pair = slice_get_read ps (length ps) c.position.result c.index_mut-disks.result.now refl below c.index_mut-disks.ensures.value in
-    one_leaves g.D.Disk.image_at g.D.Disk.moment g.D.Disk.faults g.D.Disk.armed g.D.Disk.picks c.handle.result ps c.position.result c.index_mut-disks.result.now c.handle.new.disks s.position pair c.position.ensures c.handle.ensures.onward c.handle.ensures.failed
+    one_leaves g.D.Disk.view c.handle.result ps c.position.result c.index_mut-disks.result.now c.handle.new.disks s.position pair c.position.ensures c.handle.ensures.onward c.handle.ensures.failed
 
 pub returns-clause-place : goal.returns-clause-place
 returns-clause-place g c = λ slot q.
@@ -111,8 +111,8 @@ returns-clause-ended g c = λ m n h at.
     let ps = c.args.pairs.now.items in
     let s = c.prepare.new.self in
     let there = slice_get_read ss (length ss) c.args.slot c.index_mut-here.result.now refl c.requires.below c.index_mut-here.ensures.value ∙ ap Some (sym c.prepare.ensures) in
-    let below = pair_below g.D.Disk.image_at g.D.Disk.moment ss ps c.args.slot s c.requires.sits there c.position.result c.position.ensures in
+    let below = pair_below g.D.Disk.view ss ps c.args.slot s c.requires.sits there c.position.result c.position.ensures in
     let pair = slice_get_read ps (length ps) c.position.result c.index_mut-disks.result.now refl below c.index_mut-disks.ensures.value in
-    own_ended g.D.Disk.image_at g.D.Disk.moment ss ps c.args.slot s c.requires.sits there c.position.result c.position.ensures c.index_mut-disks.result.now pair c.handle.new.self c.handle.new.disks c.args.circuit n c.args.event.now m at h
+    own_ended g.D.Disk.view ss ps c.args.slot s c.requires.sits there c.position.result c.position.ensures c.index_mut-disks.result.now pair c.handle.new.self c.handle.new.disks c.args.circuit n c.args.event.now m at h
     c.handle.result c.handle.ensures.few (λ slot q. (c.handle.ensures.failed slot q).0)
-    (c.handle.ensures.leaves (own_told g.D.Disk.image_at g.D.Disk.moment ss ps c.args.slot s c.requires.sits there c.position.result c.position.ensures c.index_mut-disks.result.now pair c.args.circuit m h))
+    (c.handle.ensures.leaves (own_told g.D.Disk.view ss ps c.args.slot s c.requires.sits there c.position.result c.position.ensures c.index_mut-disks.result.now pair c.args.circuit m h))

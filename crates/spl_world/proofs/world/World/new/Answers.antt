@@ -1,14 +1,16 @@
 use Rattle.std.proofs.Common.{◌<◌, ◌≤◌, slice_set, ◌+◌, ◌++◌, ◌∷◌, [], ℕ, ◌∙◌, List, arith, ap, refl, sym, subst, length}
 use Rattle.std.proofs.lemmas.List.{take_all}
 use Rattle.std.proofs.lemmas.Option.{slice_get_read}
+use Rattle.spl_edge.specs.Views.{bench}
 use Rattle.spl_circuit.specs.Nodes.{sorted}
 use Rattle.spl_circuit.specs.Rules.{ascends}
+use Rattle.spl_model.specs.Worlds.{blank}
 use Rattle.spl_projection.proofs.Counts.{events-none}
 use Rattle.spl_registry.specs.Nodes.{ids_of as registered}
 use Rattle.spl_world.specs.declared.fault.WorldFault.{WorldFault}
 use Rattle.spl_world.specs.declared.fault.WorldFault.TheVariants.{NoMemory}
 use Rattle.spl_world.specs.declared.slot.Slot.{Slot}
-use Rattle.spl_world.specs.Disks.{AreBlank, Images, TellAs, bench, images, images_of}
+use Rattle.spl_world.specs.Disks.{AreBlank, Images, TellAs, images, images_of}
 use Rattle.spl_world.specs.Making.{AreMadeBut}
 use Rattle.spl_world.specs.Views.{slot_ids}
 use Rattle.spl_world.proofs.Counting.{failed}
@@ -23,8 +25,8 @@ use Rattle.spl_world.proofs.world.World.new.Goals as goal
 
 pub loop-id-init : goal.loop-id-init
 loop-id-init g c = record {
-  made = subst (λ (ss : List Slot). AreMade c.args.registry.now c.deref-id-items.result.now 0 ss (images g.D.Disk.image_at g.D.Disk.moment c.args.pairs.now.items) (images g.D.Disk.image_at g.D.Disk.moment c.args.pairs.now.items)) (sym c.new-slots.ensures.items)
-      (none_made c.args.registry.now c.deref-id-items.result.now (images g.D.Disk.image_at g.D.Disk.moment c.args.pairs.now.items));
+  made = subst (λ (ss : List Slot). AreMade c.args.registry.now c.deref-id-items.result.now 0 ss (images g.D.Disk.view c.args.pairs.now.items) (images g.D.Disk.view c.args.pairs.now.items)) (sym c.new-slots.ensures.items)
+      (none_made c.args.registry.now c.deref-id-items.result.now (images g.D.Disk.view c.args.pairs.now.items));
   onward = all_itself _;
 }
 
@@ -43,7 +45,7 @@ index_mut-disks-requires g c =
     let at = slice_get_read ns (length ns) c.loop-id.id-index n refl c.loop-id-test.true c.id-item.is in
     let entry : IsEntry es c.from.result n = subst (λ (j : ℕ). IsEntry es j n) (sym c.from.ensures) (entry_at es n c.unwrap-position.result (sym c.slot.ensures.value ∙ c.unwrap-position.ensures)) in
     let few = entry_below es c.from.result n entry in
-    let below : c.from.result < length ps = omega (arith, few, c.requires.room, c.loop-id.invariant.made.as_many, images_length g.D.Disk.image_at g.D.Disk.moment ps, images_length g.D.Disk.image_at g.D.Disk.moment c.args.pairs.now.items) in
+    let below : c.from.result < length ps = omega (arith, few, c.requires.room, c.loop-id.invariant.made.as_many, images_length g.D.Disk.view ps, images_length g.D.Disk.view c.args.pairs.now.items) in
     omega (arith, below, c.loop-id.pairs.ok.0)
 
 pub new-requires : goal.new-requires
@@ -56,10 +58,10 @@ new-requires g c =
     let at = slice_get_read ns (length ns) c.loop-id.id-index n refl c.loop-id-test.true c.id-item.is in
     let entry : IsEntry es c.from.result n = subst (λ (j : ℕ). IsEntry es j n) (sym c.from.ensures) (entry_at es n c.unwrap-position.result (sym c.slot.ensures.value ∙ c.unwrap-position.ensures)) in
     let few = entry_below es c.from.result n entry in
-    let below : c.from.result < length ps = omega (arith, few, c.requires.room, c.loop-id.invariant.made.as_many, images_length g.D.Disk.image_at g.D.Disk.moment ps, images_length g.D.Disk.image_at g.D.Disk.moment c.args.pairs.now.items) in
+    let below : c.from.result < length ps = omega (arith, few, c.requires.room, c.loop-id.invariant.made.as_many, images_length g.D.Disk.view ps, images_length g.D.Disk.view c.args.pairs.now.items) in
     let pair = slice_get_read ps (length ps) c.from.result c.index_mut-disks.result.now refl below c.index_mut-disks.ensures.value in
-    let still = still_there es ns c.loop-id.id-index c.loop-id.slots.items (images g.D.Disk.image_at g.D.Disk.moment c.args.pairs.now.items) (images g.D.Disk.image_at g.D.Disk.moment ps) n c.from.result order c.loop-id.invariant.made at entry in
-    record { blank = subst AreBlank (sym still ∙ pair_here (images g.D.Disk.image_at g.D.Disk.moment ps) c.from.result (images_of g.D.Disk.image_at g.D.Disk.moment c.index_mut-disks.result.now) (images_here g.D.Disk.image_at g.D.Disk.moment ps c.from.result c.index_mut-disks.result.now pair)) (c.requires.blank c.from.result few) }
+    let still = still_there es ns c.loop-id.id-index c.loop-id.slots.items (images g.D.Disk.view c.args.pairs.now.items) (images g.D.Disk.view ps) n c.from.result order c.loop-id.invariant.made at entry in
+    record { blank = subst AreBlank (sym still ∙ pair_here (images g.D.Disk.view ps) c.from.result (images_of g.D.Disk.view c.index_mut-disks.result.now) (images_here g.D.Disk.view ps c.from.result c.index_mut-disks.result.now pair)) (c.requires.blank c.from.result few) }
 
 pub loop-id-preserved : goal.loop-id-preserved
 loop-id-preserved g c =
@@ -71,18 +73,18 @@ loop-id-preserved g c =
     let at = slice_get_read ns (length ns) c.loop-id.id-index n refl c.loop-id-test.true c.id-item.is in
     let entry : IsEntry es c.from.result n = subst (λ (j : ℕ). IsEntry es j n) (sym c.from.ensures) (entry_at es n c.unwrap-position.result (sym c.slot.ensures.value ∙ c.unwrap-position.ensures)) in
     let few = entry_below es c.from.result n entry in
-    let below : c.from.result < length ps = omega (arith, few, c.requires.room, c.loop-id.invariant.made.as_many, images_length g.D.Disk.image_at g.D.Disk.moment ps, images_length g.D.Disk.image_at g.D.Disk.moment c.args.pairs.now.items) in
+    let below : c.from.result < length ps = omega (arith, few, c.requires.room, c.loop-id.invariant.made.as_many, images_length g.D.Disk.view ps, images_length g.D.Disk.view c.args.pairs.now.items) in
     let pair = slice_get_read ps (length ps) c.from.result c.index_mut-disks.result.now refl below c.index_mut-disks.ensures.value in
-    let start = images g.D.Disk.image_at g.D.Disk.moment c.args.pairs.now.items in
-    let now = images g.D.Disk.image_at g.D.Disk.moment ps in
+    let start = images g.D.Disk.view c.args.pairs.now.items in
+    let now = images g.D.Disk.view ps in
     let r = c.new.new.disks in
-    let tells = subst (λ (q : Images). TellAs q (images_of g.D.Disk.image_at g.D.Disk.moment r)) (sym (pair_here now c.from.result (images_of g.D.Disk.image_at g.D.Disk.moment c.index_mut-disks.result.now) (images_here g.D.Disk.image_at g.D.Disk.moment ps c.from.result c.index_mut-disks.result.now pair))) c.in_ok-slot.ensures.tells in
-    let within : c.from.result < length now = subst (λ (m : ℕ). c.from.result < m) (sym (images_length g.D.Disk.image_at g.D.Disk.moment ps)) below in
-    let more = one_more es ns c.loop-id.id-index c.loop-id.slots.items start now n c.from.result order c.loop-id.invariant.made at entry c.in_ok-slot.slot (images_of g.D.Disk.image_at g.D.Disk.moment r) c.in_ok-slot.ensures.id (c.in_ok-slot.ensures.position ∙ sym c.from.ensures) within c.in_ok-slot.ensures.fresh c.in_ok-slot.ensures.stands tells in
+    let tells = subst (λ (q : Images). TellAs q (images_of g.D.Disk.view r)) (sym (pair_here now c.from.result (images_of g.D.Disk.view c.index_mut-disks.result.now) (images_here g.D.Disk.view ps c.from.result c.index_mut-disks.result.now pair))) c.in_ok-slot.ensures.tells in
+    let within : c.from.result < length now = subst (λ (m : ℕ). c.from.result < m) (sym (images_length g.D.Disk.view ps)) below in
+    let more = one_more es ns c.loop-id.id-index c.loop-id.slots.items start now n c.from.result order c.loop-id.invariant.made at entry c.in_ok-slot.slot (images_of g.D.Disk.view r) c.in_ok-slot.ensures.id (c.in_ok-slot.ensures.position ∙ sym c.from.ensures) within c.in_ok-slot.ensures.fresh c.in_ok-slot.ensures.stands tells in
     record {
-      made = subst (λ (ss : List Slot). AreMade es ns (c.loop-id.id-index + 1) ss start (images g.D.Disk.image_at g.D.Disk.moment (slice_set ps c.from.result r))) (sym c.in_ok-join.ensures)
-          (subst (λ (is : List Images). AreMade es ns (c.loop-id.id-index + 1) (c.loop-id.slots.items ++ c.in_ok-slot.slot ∷ []) start is) (sym (images_set g.D.Disk.image_at g.D.Disk.moment ps c.from.result r)) more);
-      onward = all_then _ _ _ c.loop-id.invariant.onward (one_onward g.D.Disk.image_at g.D.Disk.moment g.D.Disk.faults g.D.Disk.armed g.D.Disk.picks ps c.from.result c.index_mut-disks.result.now r pair c.new.ensures.onward);
+      made = subst (λ (ss : List Slot). AreMade es ns (c.loop-id.id-index + 1) ss start (images g.D.Disk.view (slice_set ps c.from.result r))) (sym c.in_ok-join.ensures)
+          (subst (λ (is : List Images). AreMade es ns (c.loop-id.id-index + 1) (c.loop-id.slots.items ++ c.in_ok-slot.slot ∷ []) start is) (sym (images_set g.D.Disk.view ps c.from.result r)) more);
+      onward = all_then _ _ _ c.loop-id.invariant.onward (one_onward g.D.Disk.view ps c.from.result c.index_mut-disks.result.now r pair c.new.ensures.onward);
     }
 
 pub returns-in_err-ids-clause-disks : goal.returns-in_err-ids-clause-disks
@@ -98,10 +100,10 @@ returns-in_err-slot-clause-disks g c =
     let at = slice_get_read ns (length ns) c.loop-id.id-index n refl c.loop-id-test.true c.id-item.is in
     let entry : IsEntry es c.from.result n = subst (λ (j : ℕ). IsEntry es j n) (sym c.from.ensures) (entry_at es n c.unwrap-position.result (sym c.slot.ensures.value ∙ c.unwrap-position.ensures)) in
     let few = entry_below es c.from.result n entry in
-    let below : c.from.result < length ps = omega (arith, few, c.requires.room, c.loop-id.invariant.made.as_many, images_length g.D.Disk.image_at g.D.Disk.moment ps, images_length g.D.Disk.image_at g.D.Disk.moment c.args.pairs.now.items) in
+    let below : c.from.result < length ps = omega (arith, few, c.requires.room, c.loop-id.invariant.made.as_many, images_length g.D.Disk.view ps, images_length g.D.Disk.view c.args.pairs.now.items) in
     let pair = slice_get_read ps (length ps) c.from.result c.index_mut-disks.result.now refl below c.index_mut-disks.ensures.value in
     leaves_failed c.from_residual-in_err-slot.result _ c.from_residual-in_err-slot.ensures _ _ (leaves_then _ _ _ _ c.loop-id.invariant.onward
-    (one_leaves g.D.Disk.image_at g.D.Disk.moment g.D.Disk.faults g.D.Disk.armed g.D.Disk.picks _ ps c.from.result c.index_mut-disks.result.now c.new.new.disks c.unwrap-position.result pair c.from.ensures c.new.ensures.onward c.in_err-slot.ensures.failed))
+    (one_leaves g.D.Disk.view _ ps c.from.result c.index_mut-disks.result.now c.new.new.disks c.unwrap-position.result pair c.from.ensures c.new.ensures.onward c.in_err-slot.ensures.failed))
 
 pub returns-in_err-join-clause-disks : goal.returns-in_err-join-clause-disks
 returns-in_err-join-clause-disks g c =
@@ -113,9 +115,9 @@ returns-in_err-join-clause-disks g c =
     let at = slice_get_read ns (length ns) c.loop-id.id-index n refl c.loop-id-test.true c.id-item.is in
     let entry : IsEntry es c.from.result n = subst (λ (j : ℕ). IsEntry es j n) (sym c.from.ensures) (entry_at es n c.unwrap-position.result (sym c.slot.ensures.value ∙ c.unwrap-position.ensures)) in
     let few = entry_below es c.from.result n entry in
-    let below : c.from.result < length ps = omega (arith, few, c.requires.room, c.loop-id.invariant.made.as_many, images_length g.D.Disk.image_at g.D.Disk.moment ps, images_length g.D.Disk.image_at g.D.Disk.moment c.args.pairs.now.items) in
+    let below : c.from.result < length ps = omega (arith, few, c.requires.room, c.loop-id.invariant.made.as_many, images_length g.D.Disk.view ps, images_length g.D.Disk.view c.args.pairs.now.items) in
     let pair = slice_get_read ps (length ps) c.from.result c.index_mut-disks.result.now refl below c.index_mut-disks.ensures.value in
-    leaves_other c.from_residual-in_err-join.result _ c.from_residual-in_err-join.ensures (λ slot q. cc) _ _ (all_then _ _ _ c.loop-id.invariant.onward (one_onward g.D.Disk.image_at g.D.Disk.moment g.D.Disk.faults g.D.Disk.armed g.D.Disk.picks ps c.from.result c.index_mut-disks.result.now c.new.new.disks pair c.new.ensures.onward))
+    leaves_other c.from_residual-in_err-join.result _ c.from_residual-in_err-join.ensures (λ slot q. cc) _ _ (all_then _ _ _ c.loop-id.invariant.onward (one_onward g.D.Disk.view ps c.from.result c.index_mut-disks.result.now c.new.new.disks pair c.new.ensures.onward))
 
 pub returns-clause-ids : goal.returns-clause-ids
 returns-clause-ids g c = c.loop-id.invariant.made.ids ∙ take_all c.loop-id.id-index c.deref-id-items.result.now c.loop-id-test.false ∙ c.deref-id-items.ensures.value ∙ c.in_ok-ids.ensures.ids
@@ -130,11 +132,11 @@ pub returns-clause-sits : goal.returns-clause-sits
 returns-clause-sits g c =
     let es = c.args.registry.now in
     let ns = c.deref-id-items.result.now in
-    let start = images g.D.Disk.image_at g.D.Disk.moment c.args.pairs.now.items in
-    let now = images g.D.Disk.image_at g.D.Disk.moment c.loop-id.pairs.items in
+    let start = images g.D.Disk.view c.args.pairs.now.items in
+    let now = images g.D.Disk.view c.loop-id.pairs.items in
     let order = ap ascends c.deref-id-items.ensures.value ∙ c.in_ok-ids.ensures.ordered in
     let all = c.loop-id.invariant.made.ids ∙ take_all c.loop-id.id-index ns c.loop-id-test.false in
-    let room = subst (λ (m : ℕ). length es ≤ m) (sym (images_length g.D.Disk.image_at g.D.Disk.moment c.args.pairs.now.items)) c.requires.room in
+    let room = subst (λ (m : ℕ). length es ≤ m) (sym (images_length g.D.Disk.view c.args.pairs.now.items)) c.requires.room in
     made_sits es ns c.loop-id.id-index c.loop-id.slots.items start now order room c.loop-id.invariant.made all
 
 pub returns-clause-stands : goal.returns-clause-stands
@@ -142,14 +144,14 @@ returns-clause-stands g c = λ tell.
     let es = c.args.registry.now in
     let ns = c.deref-id-items.result.now in
     let ss = c.loop-id.slots.items in
-    let start = images g.D.Disk.image_at g.D.Disk.moment c.args.pairs.now.items in
-    let now = images g.D.Disk.image_at g.D.Disk.moment c.loop-id.pairs.items in
+    let start = images g.D.Disk.view c.args.pairs.now.items in
+    let now = images g.D.Disk.view c.loop-id.pairs.items in
     let order = ap ascends c.deref-id-items.ensures.value ∙ c.in_ok-ids.ensures.ordered in
     let all = c.loop-id.invariant.made.ids ∙ take_all c.loop-id.id-index ns c.loop-id-test.false in
-    let room = subst (λ (m : ℕ). length es ≤ m) (sym (images_length g.D.Disk.image_at g.D.Disk.moment c.args.pairs.now.items)) c.requires.room in
+    let room = subst (λ (m : ℕ). length es ≤ m) (sym (images_length g.D.Disk.view c.args.pairs.now.items)) c.requires.room in
     record {
       fit = refl;
-      counted = c.new-2.ensures ∙ sym (events-none (slot_ids ss));
+      counted = c.new-2.ensures ∙ sym (events-none (blank (slot_ids ss)));
       stopped = c.new-3.ensures;
       each = made_holds es ns c.loop-id.id-index ss start now order room c.loop-id.invariant.made all tell;
       sits = made_sits es ns c.loop-id.id-index ss start now order room c.loop-id.invariant.made all;
@@ -159,14 +161,14 @@ pub returns-clause-disks : goal.returns-clause-disks
 returns-clause-disks g c = leaves_ok _ _ _ c.loop-id.invariant.onward
 
 pub returns-clause-held : goal.returns-clause-held
-returns-clause-held g c = λ tell unpicked. held_first g.D.Disk.image_at g.D.Disk.moment g.D.Disk.faults g.D.Disk.armed g.D.Disk.picks _ c.args.pairs.now.items c.loop-id.pairs.items (returns-clause-stands g c tell) unpicked c.loop-id.invariant.onward
+returns-clause-held g c = λ tell unpicked. held_first g.D.Disk.view _ c.args.pairs.now.items c.loop-id.pairs.items (returns-clause-stands g c tell) unpicked c.loop-id.invariant.onward
 
 pub returns-in_err-ids-clause-unmade : goal.returns-in_err-ids-clause-unmade
 returns-in_err-ids-clause-unmade g c = λ unpicked.
     let es = c.args.registry.now in
     let ns = sorted (registered es) in
     let ps = c.args.pairs.now.items in
-    err_from c.from_residual.result NoMemory (λ (e : WorldFault). AreMadeBut ns es e (bench g.D.Disk.image_at g.D.Disk.moment g.D.Disk.faults g.D.Disk.armed g.D.Disk.picks ps) (bench g.D.Disk.image_at g.D.Disk.moment g.D.Disk.faults g.D.Disk.armed g.D.Disk.picks ps)) c.from_residual.ensures
+    err_from c.from_residual.result NoMemory (λ (e : WorldFault). AreMadeBut ns es e (bench g.D.Disk.view ps) (bench g.D.Disk.view ps)) c.from_residual.ensures
     (made_none ns es NoMemory _ unpicked (λ k q. cc))
 
 pub returns-in_err-slot-clause-unmade : goal.returns-in_err-slot-clause-unmade
@@ -179,16 +181,16 @@ returns-in_err-slot-clause-unmade g c = λ unpicked.
     let at = slice_get_read ns (length ns) c.loop-id.id-index n refl c.loop-id-test.true c.id-item.is in
     let entry : IsEntry es c.from.result n = subst (λ (j : ℕ). IsEntry es j n) (sym c.from.ensures) (entry_at es n c.unwrap-position.result (sym c.slot.ensures.value ∙ c.unwrap-position.ensures)) in
     let few = entry_below es c.from.result n entry in
-    let below : c.from.result < length ps = omega (arith, few, c.requires.room, c.loop-id.invariant.made.as_many, images_length g.D.Disk.image_at g.D.Disk.moment ps, images_length g.D.Disk.image_at g.D.Disk.moment c.args.pairs.now.items) in
+    let below : c.from.result < length ps = omega (arith, few, c.requires.room, c.loop-id.invariant.made.as_many, images_length g.D.Disk.view ps, images_length g.D.Disk.view c.args.pairs.now.items) in
     let pair = slice_get_read ps (length ps) c.from.result c.index_mut-disks.result.now refl below c.index_mut-disks.ensures.value in
     let old = c.args.pairs.now.items in
     let all = sorted (registered es) in
     let r = c.new.new.disks in
     let f = c.in_err-slot.field-0.0 in
-    err_from c.from_residual-in_err-slot.result f (λ (e : WorldFault). AreMadeBut all es e (bench g.D.Disk.image_at g.D.Disk.moment g.D.Disk.faults g.D.Disk.armed g.D.Disk.picks old) (bench g.D.Disk.image_at g.D.Disk.moment g.D.Disk.faults g.D.Disk.armed g.D.Disk.picks (slice_set ps c.from.result r))) c.from_residual-in_err-slot.ensures
-    (made_but g.D.Disk.image_at g.D.Disk.moment g.D.Disk.faults g.D.Disk.armed g.D.Disk.picks all es ns c.loop-id.id-index c.loop-id.slots.items f old ps (slice_set ps c.from.result r) c.loop-id.invariant.made unpicked
-    (all_then _ _ _ c.loop-id.invariant.onward (one_onward g.D.Disk.image_at g.D.Disk.moment g.D.Disk.faults g.D.Disk.armed g.D.Disk.picks ps c.from.result c.index_mut-disks.result.now r pair c.new.ensures.onward))
-    c.from.result (else_still g.D.Disk.image_at g.D.Disk.moment g.D.Disk.faults g.D.Disk.armed g.D.Disk.picks ps c.from.result r) (λ k q. (c.in_err-slot.ensures.failed k (ap (failed Slot) q)).0 ∙ sym c.from.ensures))
+    err_from c.from_residual-in_err-slot.result f (λ (e : WorldFault). AreMadeBut all es e (bench g.D.Disk.view old) (bench g.D.Disk.view (slice_set ps c.from.result r))) c.from_residual-in_err-slot.ensures
+    (made_but g.D.Disk.view all es ns c.loop-id.id-index c.loop-id.slots.items f old ps (slice_set ps c.from.result r) c.loop-id.invariant.made unpicked
+    (all_then _ _ _ c.loop-id.invariant.onward (one_onward g.D.Disk.view ps c.from.result c.index_mut-disks.result.now r pair c.new.ensures.onward))
+    c.from.result (else_still g.D.Disk.view ps c.from.result r) (λ k q. (c.in_err-slot.ensures.failed k (ap (failed Slot) q)).0 ∙ sym c.from.ensures))
 
 pub returns-in_err-join-clause-unmade : goal.returns-in_err-join-clause-unmade
 returns-in_err-join-clause-unmade g c = λ unpicked.
@@ -200,12 +202,12 @@ returns-in_err-join-clause-unmade g c = λ unpicked.
     let at = slice_get_read ns (length ns) c.loop-id.id-index n refl c.loop-id-test.true c.id-item.is in
     let entry : IsEntry es c.from.result n = subst (λ (j : ℕ). IsEntry es j n) (sym c.from.ensures) (entry_at es n c.unwrap-position.result (sym c.slot.ensures.value ∙ c.unwrap-position.ensures)) in
     let few = entry_below es c.from.result n entry in
-    let below : c.from.result < length ps = omega (arith, few, c.requires.room, c.loop-id.invariant.made.as_many, images_length g.D.Disk.image_at g.D.Disk.moment ps, images_length g.D.Disk.image_at g.D.Disk.moment c.args.pairs.now.items) in
+    let below : c.from.result < length ps = omega (arith, few, c.requires.room, c.loop-id.invariant.made.as_many, images_length g.D.Disk.view ps, images_length g.D.Disk.view c.args.pairs.now.items) in
     let pair = slice_get_read ps (length ps) c.from.result c.index_mut-disks.result.now refl below c.index_mut-disks.ensures.value in
     let old = c.args.pairs.now.items in
     let all = sorted (registered es) in
     let r = c.new.new.disks in
-    err_from c.from_residual-in_err-join.result NoMemory (λ (e : WorldFault). AreMadeBut all es e (bench g.D.Disk.image_at g.D.Disk.moment g.D.Disk.faults g.D.Disk.armed g.D.Disk.picks old) (bench g.D.Disk.image_at g.D.Disk.moment g.D.Disk.faults g.D.Disk.armed g.D.Disk.picks (slice_set ps c.from.result r))) c.from_residual-in_err-join.ensures
-    (made_but g.D.Disk.image_at g.D.Disk.moment g.D.Disk.faults g.D.Disk.armed g.D.Disk.picks all es ns c.loop-id.id-index c.loop-id.slots.items NoMemory old ps (slice_set ps c.from.result r) c.loop-id.invariant.made unpicked
-    (all_then _ _ _ c.loop-id.invariant.onward (one_onward g.D.Disk.image_at g.D.Disk.moment g.D.Disk.faults g.D.Disk.armed g.D.Disk.picks ps c.from.result c.index_mut-disks.result.now r pair c.new.ensures.onward))
-    c.from.result (else_still g.D.Disk.image_at g.D.Disk.moment g.D.Disk.faults g.D.Disk.armed g.D.Disk.picks ps c.from.result r) (λ k q. cc))
+    err_from c.from_residual-in_err-join.result NoMemory (λ (e : WorldFault). AreMadeBut all es e (bench g.D.Disk.view old) (bench g.D.Disk.view (slice_set ps c.from.result r))) c.from_residual-in_err-join.ensures
+    (made_but g.D.Disk.view all es ns c.loop-id.id-index c.loop-id.slots.items NoMemory old ps (slice_set ps c.from.result r) c.loop-id.invariant.made unpicked
+    (all_then _ _ _ c.loop-id.invariant.onward (one_onward g.D.Disk.view ps c.from.result c.index_mut-disks.result.now r pair c.new.ensures.onward))
+    c.from.result (else_still g.D.Disk.view ps c.from.result r) (λ k q. cc))

@@ -20,21 +20,21 @@ use Rattle.spl_world.proofs.world.World.pair_turn.Goals as goal
 
 -- the recipient is down
 pub returns-then-not-is_up-clause-count : goal.returns-then-not-is_up-clause-count
-returns-then-not-is_up-clause-count g c = λ z a b h at to e. sym (ap (λ (y : Calming). y.taken a b) (turn_none c.args.circuit z a b (sym (c.is_up.ensures.world (images g.D.Disk.image_at g.D.Disk.moment c.args.pairs.now.items) c.args.circuit z.world b h to) ∙ c.if-not-is_up.true)) ∙ e)
+returns-then-not-is_up-clause-count g c = λ z a b h at to e. sym (ap (λ (y : Calming). y.taken a b) (turn_none c.args.circuit z a b (sym (c.is_up.ensures.world (images g.D.Disk.view c.args.pairs.now.items) c.args.circuit z.world b h to) ∙ c.if-not-is_up.true)) ∙ e)
 
 pub returns-then-not-is_up-clause-moves : goal.returns-then-not-is_up-clause-moves
 returns-then-not-is_up-clause-moves g c = λ z a b at to e.
-    let xs = (seen g.D.Disk.image_at g.D.Disk.moment c.args.self.now c.args.pairs.now.items) in
+    let xs = (seen g.D.Disk.view c.args.self.now c.args.pairs.now.items) in
     moves_as c.args.circuit (λ m. m) (λ m. (pair_turn c.args.circuit (record z { world = m }) a b).world) xs xs
-    (λ m h. sym (ap (λ (y : Calming). y.world) (turn_none c.args.circuit (record z { world = m }) a b (sym (c.is_up.ensures.world (images g.D.Disk.image_at g.D.Disk.moment c.args.pairs.now.items) c.args.circuit m b h to) ∙ c.if-not-is_up.true)))) (moves_nothing c.args.circuit xs)
+    (λ m h. sym (ap (λ (y : Calming). y.world) (turn_none c.args.circuit (record z { world = m }) a b (sym (c.is_up.ensures.world (images g.D.Disk.view c.args.pairs.now.items) c.args.circuit m b h to) ∙ c.if-not-is_up.true)))) (moves_nothing c.args.circuit xs)
 
 -- it is up
 pub returns-then-is_same-clause-count : goal.returns-then-is_same-clause-count
-returns-then-is_same-clause-count g c = λ z a b h at to e. sym (turn_taken c.args.circuit z a b (sym (c.is_up.ensures.world (images g.D.Disk.image_at g.D.Disk.moment c.args.pairs.now.items) c.args.circuit z.world b h to) ∙ c.if-not-is_up.false) ∙ ap length (no_messages z.world a b (sym (c.is_same.ensures a b at to) ∙ c.if-is_same.true)))
+returns-then-is_same-clause-count g c = λ z a b h at to e. sym (turn_taken c.args.circuit z a b (sym (c.is_up.ensures.world (images g.D.Disk.view c.args.pairs.now.items) c.args.circuit z.world b h to) ∙ c.if-not-is_up.false) ∙ ap length (no_messages z.world a b (sym (c.is_same.ensures a b at to) ∙ c.if-is_same.true)))
 
 pub returns-then-is_same-clause-moves : goal.returns-then-is_same-clause-moves
 returns-then-is_same-clause-moves g c = λ z a b at to e.
-    let xs = (seen g.D.Disk.image_at g.D.Disk.moment c.args.self.now c.args.pairs.now.items) in
+    let xs = (seen g.D.Disk.view c.args.self.now c.args.pairs.now.items) in
     moves_as c.args.circuit (λ m. m) (λ m. (pair_turn c.args.circuit (record z { world = m }) a b).world) xs xs
     (λ m h. same_turn c.args.circuit z a b m (sym (c.is_same.ensures a b at to) ∙ c.if-is_same.true)) (moves_nothing c.args.circuit xs)
 
@@ -45,37 +45,37 @@ pub deliver_from-requires-clause-apart : goal.deliver_from-requires-clause-apart
 deliver_from-requires-clause-apart g c = λ a b at to. sym (c.is_same.ensures a b at to) ∙ c.if-is_same.false
 
 pub returns-clause-count : goal.returns-clause-count
-returns-clause-count g c = λ z a b h at to e. c.count-all.ensures (images g.D.Disk.image_at g.D.Disk.moment c.args.pairs.now.items) z.world a b h at to ∙ sym (turn_taken c.args.circuit z a b (sym (c.is_up.ensures.world (images g.D.Disk.image_at g.D.Disk.moment c.args.pairs.now.items) c.args.circuit z.world b h to) ∙ c.if-not-is_up.false))
+returns-clause-count g c = λ z a b h at to e. c.count-all.ensures (images g.D.Disk.view c.args.pairs.now.items) z.world a b h at to ∙ sym (turn_taken c.args.circuit z a b (sym (c.is_up.ensures.world (images g.D.Disk.view c.args.pairs.now.items) c.args.circuit z.world b h to) ∙ c.if-not-is_up.false))
 
 pub returns-clause-moves : goal.returns-clause-moves
 returns-clause-moves g c = λ z a b at to e.
-    let xs = (seen g.D.Disk.image_at g.D.Disk.moment c.args.self.now c.args.pairs.now.items) in
-    moves_as c.args.circuit (delivered c.args.circuit z a b (c.args.taken + 1) (c.count-all.result - c.args.taken)) (λ m. (pair_turn c.args.circuit (record z { world = m }) a b).world) xs (seen g.D.Disk.image_at g.D.Disk.moment c.deliver_from.new.self c.deliver_from.new.pairs.items)
-    (λ m h. turn_is c.args.circuit z a b m c.args.taken c.count-all.result e (c.count-all.ensures (images g.D.Disk.image_at g.D.Disk.moment c.args.pairs.now.items) m a b h at to) (sym (c.is_up.ensures.world (images g.D.Disk.image_at g.D.Disk.moment c.args.pairs.now.items) c.args.circuit m b h to) ∙ c.if-not-is_up.false)) (c.in_ok-deliver_from.ensures.moves z a b at to)
+    let xs = (seen g.D.Disk.view c.args.self.now c.args.pairs.now.items) in
+    moves_as c.args.circuit (delivered c.args.circuit z a b (c.args.taken + 1) (c.count-all.result - c.args.taken)) (λ m. (pair_turn c.args.circuit (record z { world = m }) a b).world) xs (seen g.D.Disk.view c.deliver_from.new.self c.deliver_from.new.pairs.items)
+    (λ m h. turn_is c.args.circuit z a b m c.args.taken c.count-all.result e (c.count-all.ensures (images g.D.Disk.view c.args.pairs.now.items) m a b h at to) (sym (c.is_up.ensures.world (images g.D.Disk.view c.args.pairs.now.items) c.args.circuit m b h to) ∙ c.if-not-is_up.false)) (c.in_ok-deliver_from.ensures.moves z a b at to)
 
 -- ---- how many deliveries
 
 pub returns-then-not-is_up-clause-counts : goal.returns-then-not-is_up-clause-counts
 returns-then-not-is_up-clause-counts g c = λ z a b h at to e.
-    let down : z.world.up b ≡ false = sym (c.is_up.ensures.world (images g.D.Disk.image_at g.D.Disk.moment c.args.pairs.now.items) c.args.circuit z.world b h to) ∙ c.if-not-is_up.true in
+    let down : z.world.up b ≡ false = sym (c.is_up.ensures.world (images g.D.Disk.view c.args.pairs.now.items) c.args.circuit z.world b h to) ∙ c.if-not-is_up.true in
     counts_to _ c.args.self.now.events c.args.self.now.events (length z.happened) (length z.happened) _ (sym (ap (λ (y : Calming). length y.happened) (turn_none c.args.circuit z a b down))) (counts_none _ c.args.self.now.events (length z.happened))
 
 pub returns-then-is_same-clause-counts : goal.returns-then-is_same-clause-counts
 returns-then-is_same-clause-counts g c = λ z a b h at to e.
     let none : length (messages z.world a b) ≡ 0 = ap length (no_messages z.world a b (sym (c.is_same.ensures a b at to) ∙ c.if-is_same.true)) in
-    let up : z.world.up b ≡ true = sym (c.is_up.ensures.world (images g.D.Disk.image_at g.D.Disk.moment c.args.pairs.now.items) c.args.circuit z.world b h to) ∙ c.if-not-is_up.false in
+    let up : z.world.up b ≡ true = sym (c.is_up.ensures.world (images g.D.Disk.view c.args.pairs.now.items) c.args.circuit z.world b h to) ∙ c.if-not-is_up.false in
     counts_to _ c.args.self.now.events c.args.self.now.events (length z.happened) (length z.happened) _ (none_delivered (length z.happened) c.args.taken _ (turns_count c.args.circuit z a b 0 c.args.taken up none e)) (counts_none _ c.args.self.now.events (length z.happened))
 
 pub returns-in_err-deliver_from-clause-counts : goal.returns-in_err-deliver_from-clause-counts
 returns-in_err-deliver_from-clause-counts g c = λ z a b h at to e.
-    let up : z.world.up b ≡ true = sym (c.is_up.ensures.world (images g.D.Disk.image_at g.D.Disk.moment c.args.pairs.now.items) c.args.circuit z.world b h to) ∙ c.if-not-is_up.false in
-    let all : length (messages z.world a b) ≡ c.count-all.result = sym (c.count-all.ensures (images g.D.Disk.image_at g.D.Disk.moment c.args.pairs.now.items) z.world a b h at to) in
+    let up : z.world.up b ≡ true = sym (c.is_up.ensures.world (images g.D.Disk.view c.args.pairs.now.items) c.args.circuit z.world b h to) ∙ c.if-not-is_up.false in
+    let all : length (messages z.world a b) ≡ c.count-all.result = sym (c.count-all.ensures (images g.D.Disk.view c.args.pairs.now.items) z.world a b h at to) in
     counts_failed c.from_residual.result _ c.from_residual.ensures c.args.self.now.events _ _ (length z.happened) _ _ (counts_more _ c.args.self.now.events c.args.self.now.events _ (length z.happened) (length z.happened) (c.count-all.result - c.args.taken) refl c.in_err-deliver_from.ensures.counts) (at_least _ _ (turns_count c.args.circuit z a b c.count-all.result c.args.taken up all e))
 
 pub returns-clause-counts : goal.returns-clause-counts
 returns-clause-counts g c = λ z a b h at to e.
-    let up : z.world.up b ≡ true = sym (c.is_up.ensures.world (images g.D.Disk.image_at g.D.Disk.moment c.args.pairs.now.items) c.args.circuit z.world b h to) ∙ c.if-not-is_up.false in
-    let all : length (messages z.world a b) ≡ c.count-all.result = sym (c.count-all.ensures (images g.D.Disk.image_at g.D.Disk.moment c.args.pairs.now.items) z.world a b h at to) in
+    let up : z.world.up b ≡ true = sym (c.is_up.ensures.world (images g.D.Disk.view c.args.pairs.now.items) c.args.circuit z.world b h to) ∙ c.if-not-is_up.false in
+    let all : length (messages z.world a b) ≡ c.count-all.result = sym (c.count-all.ensures (images g.D.Disk.view c.args.pairs.now.items) z.world a b h at to) in
     let done = c.in_ok-deliver_from.ensures.counts.ok in
     counts_done _ c.args.self.now.events c.deliver_from.new.self.events (length z.happened) _ (omega (arith, done, turns_count c.args.circuit z a b c.count-all.result c.args.taken up all e))
 
@@ -100,10 +100,10 @@ returns-in_err-deliver_from-clause-place g c = disk_at _ _ c.from_residual.resul
 
 pub returns-in_err-deliver_from-clause-ended : goal.returns-in_err-deliver_from-clause-ended
 returns-in_err-deliver_from-clause-ended g c = λ z a b h at to e.
-    let old = (seen g.D.Disk.image_at g.D.Disk.moment c.args.self.now c.args.pairs.now.items) in
-    let is = images g.D.Disk.image_at g.D.Disk.moment c.deliver_from.new.pairs.items in
-    let up : z.world.up b ≡ true = sym (c.is_up.ensures.world (images g.D.Disk.image_at g.D.Disk.moment c.args.pairs.now.items) c.args.circuit z.world b h to) ∙ c.if-not-is_up.false in
-    let all = c.count-all.ensures (images g.D.Disk.image_at g.D.Disk.moment c.args.pairs.now.items) z.world a b h at to in
+    let old = (seen g.D.Disk.view c.args.self.now c.args.pairs.now.items) in
+    let is = images g.D.Disk.view c.deliver_from.new.pairs.items in
+    let up : z.world.up b ≡ true = sym (c.is_up.ensures.world (images g.D.Disk.view c.args.pairs.now.items) c.args.circuit z.world b h to) ∙ c.if-not-is_up.false in
+    let all = c.count-all.ensures (images g.D.Disk.view c.args.pairs.now.items) z.world a b h at to in
     let part : Calming = delivers c.args.circuit z a b (c.args.taken + 1) (c.count-all.result - c.args.taken) in
     let whole : Calming = pair_turn c.args.circuit z a b in
     err_from c.from_residual.result _ (λ f. PartEnds c.args.circuit z whole f old is) c.from_residual.ensures
@@ -113,19 +113,19 @@ returns-in_err-deliver_from-clause-ended g c = λ z a b h at to e.
 
 pub returns-then-not-is_up-clause-links : goal.returns-then-not-is_up-clause-links
 returns-then-not-is_up-clause-links g c = λ place z a b placed h at to e.
-    part_down place c.args.circuit z a b (link_view g.C.Carry.slots g.C.Carry.failed g.C.Carry.wire g.F.Fabric.put_on g.F.Fabric.taken_on g.F.Fabric.faults c.args.carrier.now c.args.fabric.now) (sym (c.is_up.ensures.world (images g.D.Disk.image_at g.D.Disk.moment c.args.pairs.now.items) c.args.circuit z.world b h to) ∙ c.if-not-is_up.true) (g.met.C.Carry.idle c.args.carrier.now)
+    part_down place c.args.circuit z a b (link_view (g.C.Carry.view c.args.carrier.now) (g.F.Fabric.view c.args.fabric.now)) (sym (c.is_up.ensures.world (images g.D.Disk.view c.args.pairs.now.items) c.args.circuit z.world b h to) ∙ c.if-not-is_up.true) (g.met.C.Carry.idle c.args.carrier.now)
 
 pub returns-then-is_same-clause-links : goal.returns-then-is_same-clause-links
 returns-then-is_same-clause-links g c = λ place z a b placed h at to e.
-    part_own place c.args.circuit z a b (link_view g.C.Carry.slots g.C.Carry.failed g.C.Carry.wire g.F.Fabric.put_on g.F.Fabric.taken_on g.F.Fabric.faults c.args.carrier.now c.args.fabric.now) (sym (c.is_same.ensures a b at to) ∙ c.if-is_same.true) (sym (c.is_up.ensures.world (images g.D.Disk.image_at g.D.Disk.moment c.args.pairs.now.items) c.args.circuit z.world b h to) ∙ c.if-not-is_up.false) (g.met.C.Carry.idle c.args.carrier.now)
+    part_own place c.args.circuit z a b (link_view (g.C.Carry.view c.args.carrier.now) (g.F.Fabric.view c.args.fabric.now)) (sym (c.is_same.ensures a b at to) ∙ c.if-is_same.true) (sym (c.is_up.ensures.world (images g.D.Disk.view c.args.pairs.now.items) c.args.circuit z.world b h to) ∙ c.if-not-is_up.false) (g.met.C.Carry.idle c.args.carrier.now)
 
 pub returns-in_err-deliver_from-clause-links : goal.returns-in_err-deliver_from-clause-links
 returns-in_err-deliver_from-clause-links g c = λ place z a b placed h at to e.
-    let p = (link_view g.C.Carry.slots g.C.Carry.failed g.C.Carry.wire g.F.Fabric.put_on g.F.Fabric.taken_on g.F.Fabric.faults c.args.carrier.now c.args.fabric.now) in
-    let q = (link_view g.C.Carry.slots g.C.Carry.failed g.C.Carry.wire g.F.Fabric.put_on g.F.Fabric.taken_on g.F.Fabric.faults c.deliver_from.new.carrier c.deliver_from.new.fabric) in
+    let p = (link_view (g.C.Carry.view c.args.carrier.now) (g.F.Fabric.view c.args.fabric.now)) in
+    let q = (link_view (g.C.Carry.view c.deliver_from.new.carrier) (g.F.Fabric.view c.deliver_from.new.fabric)) in
     let f = c.in_err-deliver_from.field-0.0 in
-    let up : z.world.up b ≡ true = sym (c.is_up.ensures.world (images g.D.Disk.image_at g.D.Disk.moment c.args.pairs.now.items) c.args.circuit z.world b h to) ∙ c.if-not-is_up.false in
-    let all = c.count-all.ensures (images g.D.Disk.image_at g.D.Disk.moment c.args.pairs.now.items) z.world a b h at to in
+    let up : z.world.up b ≡ true = sym (c.is_up.ensures.world (images g.D.Disk.view c.args.pairs.now.items) c.args.circuit z.world b h to) ∙ c.if-not-is_up.false in
+    let all = c.count-all.ensures (images g.D.Disk.view c.args.pairs.now.items) z.world a b h at to in
     let part : Calming = delivers c.args.circuit z a b (c.args.taken + 1) (c.count-all.result - c.args.taken) in
     let whole : Calming = pair_turn c.args.circuit z a b in
     part_failed place c.from_residual.result f c.from_residual.ensures z whole p q
@@ -133,9 +133,9 @@ returns-in_err-deliver_from-clause-links g c = λ place z a b placed h at to e.
 
 pub returns-clause-links : goal.returns-clause-links
 returns-clause-links g c = λ place z a b placed h at to e.
-    let up : z.world.up b ≡ true = sym (c.is_up.ensures.world (images g.D.Disk.image_at g.D.Disk.moment c.args.pairs.now.items) c.args.circuit z.world b h to) ∙ c.if-not-is_up.false in
-    let all = c.count-all.ensures (images g.D.Disk.image_at g.D.Disk.moment c.args.pairs.now.items) z.world a b h at to in
-    part_turn place c.args.circuit done z a b c.args.taken c.count-all.result (link_view g.C.Carry.slots g.C.Carry.failed g.C.Carry.wire g.F.Fabric.put_on g.F.Fabric.taken_on g.F.Fabric.faults c.args.carrier.now c.args.fabric.now) (link_view g.C.Carry.slots g.C.Carry.failed g.C.Carry.wire g.F.Fabric.put_on g.F.Fabric.taken_on g.F.Fabric.faults c.deliver_from.new.carrier c.deliver_from.new.fabric) e all up (c.in_ok-deliver_from.ensures.links place z a b placed h at to)
+    let up : z.world.up b ≡ true = sym (c.is_up.ensures.world (images g.D.Disk.view c.args.pairs.now.items) c.args.circuit z.world b h to) ∙ c.if-not-is_up.false in
+    let all = c.count-all.ensures (images g.D.Disk.view c.args.pairs.now.items) z.world a b h at to in
+    part_turn place c.args.circuit done z a b c.args.taken c.count-all.result (link_view (g.C.Carry.view c.args.carrier.now) (g.F.Fabric.view c.args.fabric.now)) (link_view (g.C.Carry.view c.deliver_from.new.carrier) (g.F.Fabric.view c.deliver_from.new.fabric)) e all up (c.in_ok-deliver_from.ensures.links place z a b placed h at to)
 
 -- ---- the faults of the links
 

@@ -41,11 +41,11 @@ returns-clause-own g c = λ z h rows.
     let ids = ids_of c.args.self.now in
     let y : Calming = ticks c.args.circuit z (open_nodes z.world ids) in
     let taken = subst (λ (ns : List NodeId). AreRows y.taken ns c.args.rows.now.items) (sym c.tick_all.ensures.ids) (rows_same z.taken y.taken ids c.args.rows.now.items (λ a b. sym (ticks_taken c.args.circuit z (open_nodes z.world ids) a b)) rows) in
-    subst (λ (ns : List NodeId). Holds c.args.circuit (from_all c.args.circuit y ns ns).world (seen g.D.Disk.image_at g.D.Disk.moment c.from_all.new.self c.from_all.new.pairs.items) × AreRows (from_all c.args.circuit y ns ns).taken ns c.from_all.new.rows.items) c.tick_all.ensures.ids
+    subst (λ (ns : List NodeId). Holds c.args.circuit (from_all c.args.circuit y ns ns).world (seen g.D.Disk.view c.from_all.new.self c.from_all.new.pairs.items) × AreRows (from_all c.args.circuit y ns ns).taken ns c.from_all.new.rows.items) c.tick_all.ensures.ids
     (c.in_ok-from_all.ensures.own y ((c.in_ok-moved.ensures.moves z).own z.world h) taken)
 
 pub returns-clause-others : goal.returns-clause-others
-returns-clause-others g c = spares_then c.args.circuit (seen g.D.Disk.image_at g.D.Disk.moment c.args.self.now c.args.pairs.now.items) (seen g.D.Disk.image_at g.D.Disk.moment c.tick_all.new.self c.tick_all.new.pairs.items) (seen g.D.Disk.image_at g.D.Disk.moment c.from_all.new.self c.from_all.new.pairs.items) (c.in_ok-moved.ensures.moves (some_calming 0)).others c.in_ok-from_all.ensures.others
+returns-clause-others g c = spares_then c.args.circuit (seen g.D.Disk.view c.args.self.now c.args.pairs.now.items) (seen g.D.Disk.view c.tick_all.new.self c.tick_all.new.pairs.items) (seen g.D.Disk.view c.from_all.new.self c.from_all.new.pairs.items) (c.in_ok-moved.ensures.moves (some_calming 0)).others c.in_ok-from_all.ensures.others
 
 -- ---- how many events
 
@@ -105,8 +105,8 @@ returns-in_err-from_all-clause-place g c = disk_at _ _ c.from_residual-in_err-fr
 
 pub returns-in_err-moved-clause-ended : goal.returns-in_err-moved-clause-ended
 returns-in_err-moved-clause-ended g c = λ z h rows.
-    let old = (seen g.D.Disk.image_at g.D.Disk.moment c.args.self.now c.args.pairs.now.items) in
-    let is = images g.D.Disk.image_at g.D.Disk.moment c.tick_all.new.pairs.items in
+    let old = (seen g.D.Disk.view c.args.self.now c.args.pairs.now.items) in
+    let is = images g.D.Disk.view c.tick_all.new.pairs.items in
     let ids = ids_of c.args.self.now in
     let y : Calming = ticks c.args.circuit z (open_nodes z.world ids) in
     err_from c.from_residual.result _ (λ e. PartEnds c.args.circuit z (pass c.args.circuit ids z) e old is) c.from_residual.ensures
@@ -114,9 +114,9 @@ returns-in_err-moved-clause-ended g c = λ z h rows.
 
 pub returns-in_err-from_all-clause-ended : goal.returns-in_err-from_all-clause-ended
 returns-in_err-from_all-clause-ended g c = λ z h rows.
-    let old = (seen g.D.Disk.image_at g.D.Disk.moment c.args.self.now c.args.pairs.now.items) in
-    let mid = seen g.D.Disk.image_at g.D.Disk.moment c.tick_all.new.self c.tick_all.new.pairs.items in
-    let is = images g.D.Disk.image_at g.D.Disk.moment c.from_all.new.pairs.items in
+    let old = (seen g.D.Disk.view c.args.self.now c.args.pairs.now.items) in
+    let mid = seen g.D.Disk.view c.tick_all.new.self c.tick_all.new.pairs.items in
+    let is = images g.D.Disk.view c.from_all.new.pairs.items in
     let ids = ids_of c.args.self.now in
     let y : Calming = ticks c.args.circuit z (open_nodes z.world ids) in
     let whole : Calming = pass c.args.circuit ids z in
@@ -128,11 +128,11 @@ returns-in_err-from_all-clause-ended g c = λ z h rows.
 -- ---- the links
 
 pub from_all-requires-clause-ready : goal.from_all-requires-clause-ready
-from_all-requires-clause-ready g c = still_ready (places_of c.args.self.now) (places_of c.tick_all.new.self) (link_view g.C.Carry.slots g.C.Carry.failed g.C.Carry.wire g.F.Fabric.put_on g.F.Fabric.taken_on g.F.Fabric.faults c.args.carrier.now c.args.fabric.now) c.tick_all.ensures.places c.requires.ready
+from_all-requires-clause-ready g c = still_ready (places_of c.args.self.now) (places_of c.tick_all.new.self) (link_view (g.C.Carry.view c.args.carrier.now) (g.F.Fabric.view c.args.fabric.now)) c.tick_all.ensures.places c.requires.ready
 
 pub returns-in_err-moved-clause-links : goal.returns-in_err-moved-clause-links
 returns-in_err-moved-clause-links g c = λ place z placed h rows.
-    let p = (link_view g.C.Carry.slots g.C.Carry.failed g.C.Carry.wire g.F.Fabric.put_on g.F.Fabric.taken_on g.F.Fabric.faults c.args.carrier.now c.args.fabric.now) in
+    let p = (link_view (g.C.Carry.view c.args.carrier.now) (g.F.Fabric.view c.args.fabric.now)) in
     let f = c.in_err-moved.field-0.0 in
     let whole : Calming = pass c.args.circuit (ids_of c.args.self.now) z in
     part_failed place c.from_residual.result f c.from_residual.ensures z whole p p
@@ -140,8 +140,8 @@ returns-in_err-moved-clause-links g c = λ place z placed h rows.
 
 pub returns-in_err-from_all-clause-links : goal.returns-in_err-from_all-clause-links
 returns-in_err-from_all-clause-links g c = λ place z placed h rows.
-    let p = (link_view g.C.Carry.slots g.C.Carry.failed g.C.Carry.wire g.F.Fabric.put_on g.F.Fabric.taken_on g.F.Fabric.faults c.args.carrier.now c.args.fabric.now) in
-    let q = (link_view g.C.Carry.slots g.C.Carry.failed g.C.Carry.wire g.F.Fabric.put_on g.F.Fabric.taken_on g.F.Fabric.faults c.from_all.new.carrier c.from_all.new.fabric) in
+    let p = (link_view (g.C.Carry.view c.args.carrier.now) (g.F.Fabric.view c.args.fabric.now)) in
+    let q = (link_view (g.C.Carry.view c.from_all.new.carrier) (g.F.Fabric.view c.from_all.new.fabric)) in
     let f = c.in_err-from_all.field-0.0 in
     let ids = ids_of c.args.self.now in
     let y : Calming = ticks c.args.circuit z (open_nodes z.world ids) in
@@ -155,8 +155,8 @@ returns-in_err-from_all-clause-links g c = λ place z placed h rows.
 
 pub returns-clause-links : goal.returns-clause-links
 returns-clause-links g c = λ place z placed h rows.
-    let p = (link_view g.C.Carry.slots g.C.Carry.failed g.C.Carry.wire g.F.Fabric.put_on g.F.Fabric.taken_on g.F.Fabric.faults c.args.carrier.now c.args.fabric.now) in
-    let q = (link_view g.C.Carry.slots g.C.Carry.failed g.C.Carry.wire g.F.Fabric.put_on g.F.Fabric.taken_on g.F.Fabric.faults c.from_all.new.carrier c.from_all.new.fabric) in
+    let p = (link_view (g.C.Carry.view c.args.carrier.now) (g.F.Fabric.view c.args.fabric.now)) in
+    let q = (link_view (g.C.Carry.view c.from_all.new.carrier) (g.F.Fabric.view c.from_all.new.fabric)) in
     let ids = ids_of c.args.self.now in
     let y : Calming = ticks c.args.circuit z (open_nodes z.world ids) in
     let whole : Calming = pass c.args.circuit ids z in

@@ -42,14 +42,14 @@ deliver-requires-clause-apart g c = λ a b at to.
 -- ---- an event at a node
 
 pub returns-then-not-is_up-clause-answer : goal.returns-then-not-is_up-clause-answer
-returns-then-not-is_up-clause-answer g c = rw (c.in-At.is) (λ m h. sym (ap (λ (p : Plan). p.answer) (step_down m (step.At c.in-At.node c.in-At.circuit c.in-At.event) (sym (c.is_up.ensures.world (images g.D.Disk.image_at g.D.Disk.moment c.args.pairs.now.items) c.in-At.circuit m c.in-At.node h c.slot-slot.ensures.at) ∙ c.if-not-is_up.true))))
+returns-then-not-is_up-clause-answer g c = rw (c.in-At.is) (λ m h. sym (ap (λ (p : Plan). p.answer) (step_down m (step.At c.in-At.node c.in-At.circuit c.in-At.event) (sym (c.is_up.ensures.world (images g.D.Disk.view c.args.pairs.now.items) c.in-At.circuit m c.in-At.node h c.slot-slot.ensures.at) ∙ c.if-not-is_up.true))))
 
 pub returns-then-not-is_up-clause-moves : goal.returns-then-not-is_up-clause-moves
-returns-then-not-is_up-clause-moves g c = rw (c.in-At.is) (down_moves c.in-At.circuit (step.At c.in-At.node c.in-At.circuit c.in-At.event) (seen g.D.Disk.image_at g.D.Disk.moment c.args.self.now c.args.pairs.now.items) (λ m h. sym (c.is_up.ensures.world (images g.D.Disk.image_at g.D.Disk.moment c.args.pairs.now.items) c.in-At.circuit m c.in-At.node h c.slot-slot.ensures.at) ∙ c.if-not-is_up.true))
+returns-then-not-is_up-clause-moves g c = rw (c.in-At.is) (down_moves c.in-At.circuit (step.At c.in-At.node c.in-At.circuit c.in-At.event) (seen g.D.Disk.view c.args.self.now c.args.pairs.now.items) (λ m h. sym (c.is_up.ensures.world (images g.D.Disk.view c.args.pairs.now.items) c.in-At.circuit m c.in-At.node h c.slot-slot.ensures.at) ∙ c.if-not-is_up.true))
 
 pub returns-else-not-is_up-clause-answer : goal.returns-else-not-is_up-clause-answer
 returns-else-not-is_up-clause-answer g c = λ m h.
-    let same = step_up m (step.At c.in-At.node c.in-At.circuit c.in-At.event) (sym (c.is_up.ensures.world (images g.D.Disk.image_at g.D.Disk.moment c.args.pairs.now.items) c.in-At.circuit m c.in-At.node (rw (c.in-At.is) at h) c.slot-slot.ensures.at) ∙ c.if-not-is_up.false) in
+    let same = step_up m (step.At c.in-At.node c.in-At.circuit c.in-At.event) (sym (c.is_up.ensures.world (images g.D.Disk.view c.args.pairs.now.items) c.in-At.circuit m c.in-At.node (rw (c.in-At.is) at h) c.slot-slot.ensures.at) ∙ c.if-not-is_up.false) in
     rw (c.in-At.is) (when_ok c.handle.result (λ a e. e ∙ sym (ap (λ (p : Plan). p.answer) same)) (c.handle.ensures.answer m c.in-At.node (rw (c.in-At.is) at h) c.slot-slot.ensures.at))
 
 pub returns-else-not-is_up-clause-moves : goal.returns-else-not-is_up-clause-moves
@@ -57,16 +57,16 @@ returns-else-not-is_up-clause-moves g c =
     let circuit = c.in-At.circuit in
     let s = step.At c.in-At.node circuit c.in-At.event in
     rw (c.in-At.is) (at_ok c.handle.result
-    (λ moves. moves_as circuit (λ m. carried_out m c.in-At.node (plan_of (site_at c.in-At.node circuit) (m.at c.in-At.node) c.in-At.event)) (λ m. step_world m s) (seen g.D.Disk.image_at g.D.Disk.moment c.args.self.now c.args.pairs.now.items) (seen g.D.Disk.image_at g.D.Disk.moment c.handle.new.self c.handle.new.pairs.items) (λ m h. sym (world_up m s (sym (c.is_up.ensures.world (images g.D.Disk.image_at g.D.Disk.moment c.args.pairs.now.items) circuit m c.in-At.node h c.slot-slot.ensures.at) ∙ c.if-not-is_up.false))) moves)
+    (λ moves. moves_as circuit (λ m. carried_out m c.in-At.node (plan_of (site_at c.in-At.node circuit) (m.at c.in-At.node) c.in-At.event)) (λ m. step_world m s) (seen g.D.Disk.view c.args.self.now c.args.pairs.now.items) (seen g.D.Disk.view c.handle.new.self c.handle.new.pairs.items) (λ m h. sym (world_up m s (sym (c.is_up.ensures.world (images g.D.Disk.view c.args.pairs.now.items) circuit m c.in-At.node h c.slot-slot.ensures.at) ∙ c.if-not-is_up.false))) moves)
     (c.handle.ensures.moves c.in-At.node c.slot-slot.ensures.at))
 
 -- ---- a delivery
 
 pub returns-then-not-is_up-2-clause-answer : goal.returns-then-not-is_up-2-clause-answer
-returns-then-not-is_up-2-clause-answer g c = rw (c.in-Deliver.is) (λ m h. sym (ap (λ (p : Plan). p.answer) (step_down m (step.Deliver c.in-Deliver.from c.in-Deliver.to c.in-Deliver.circuit c.in-Deliver.number) (sym (c.is_up-in-Deliver.ensures.world (images g.D.Disk.image_at g.D.Disk.moment c.args.pairs.now.items) c.in-Deliver.circuit m c.in-Deliver.to h c.slot-recipient.ensures.at) ∙ c.if-not-is_up-2.true))))
+returns-then-not-is_up-2-clause-answer g c = rw (c.in-Deliver.is) (λ m h. sym (ap (λ (p : Plan). p.answer) (step_down m (step.Deliver c.in-Deliver.from c.in-Deliver.to c.in-Deliver.circuit c.in-Deliver.number) (sym (c.is_up-in-Deliver.ensures.world (images g.D.Disk.view c.args.pairs.now.items) c.in-Deliver.circuit m c.in-Deliver.to h c.slot-recipient.ensures.at) ∙ c.if-not-is_up-2.true))))
 
 pub returns-then-not-is_up-2-clause-moves : goal.returns-then-not-is_up-2-clause-moves
-returns-then-not-is_up-2-clause-moves g c = rw (c.in-Deliver.is) (down_moves c.in-Deliver.circuit (step.Deliver c.in-Deliver.from c.in-Deliver.to c.in-Deliver.circuit c.in-Deliver.number) (seen g.D.Disk.image_at g.D.Disk.moment c.args.self.now c.args.pairs.now.items) (λ m h. sym (c.is_up-in-Deliver.ensures.world (images g.D.Disk.image_at g.D.Disk.moment c.args.pairs.now.items) c.in-Deliver.circuit m c.in-Deliver.to h c.slot-recipient.ensures.at) ∙ c.if-not-is_up-2.true))
+returns-then-not-is_up-2-clause-moves g c = rw (c.in-Deliver.is) (down_moves c.in-Deliver.circuit (step.Deliver c.in-Deliver.from c.in-Deliver.to c.in-Deliver.circuit c.in-Deliver.number) (seen g.D.Disk.view c.args.self.now c.args.pairs.now.items) (λ m h. sym (c.is_up-in-Deliver.ensures.world (images g.D.Disk.view c.args.pairs.now.items) c.in-Deliver.circuit m c.in-Deliver.to h c.slot-recipient.ensures.at) ∙ c.if-not-is_up-2.true))
 
 pub returns-else-not-is_up-2-clause-answer : goal.returns-else-not-is_up-2-clause-answer
 returns-else-not-is_up-2-clause-answer g c = λ m h.
@@ -77,7 +77,7 @@ returns-else-not-is_up-2-clause-answer g c = λ m h.
 pub returns-else-not-is_up-2-clause-moves : goal.returns-else-not-is_up-2-clause-moves
 returns-else-not-is_up-2-clause-moves g c =
     let back = number_back c.in-Deliver.from c.in-Deliver.to c.in-Deliver.circuit c.in-Deliver.number (rw (c.in-Deliver.is) at c.requires.fits) in
-    rw (c.in-Deliver.is) (subst (λ (k : ℕ). OnOk c.deliver.result (Moves c.in-Deliver.circuit (λ m. step_world m (step.Deliver c.in-Deliver.from c.in-Deliver.to c.in-Deliver.circuit k)) (seen g.D.Disk.image_at g.D.Disk.moment c.args.self.now c.args.pairs.now.items) (seen g.D.Disk.image_at g.D.Disk.moment c.deliver.new.self c.deliver.new.pairs.items))) back
+    rw (c.in-Deliver.is) (subst (λ (k : ℕ). OnOk c.deliver.result (Moves c.in-Deliver.circuit (λ m. step_world m (step.Deliver c.in-Deliver.from c.in-Deliver.to c.in-Deliver.circuit k)) (seen g.D.Disk.view c.args.self.now c.args.pairs.now.items) (seen g.D.Disk.view c.deliver.new.self c.deliver.new.pairs.items))) back
     (c.deliver.ensures.moves c.in-Deliver.from c.in-Deliver.to c.slot-sender.ensures.at c.slot-recipient.ensures.at))
 
 -- ---- the disks
@@ -100,39 +100,39 @@ pub returns-else-not-is_up-clause-ended : goal.returns-else-not-is_up-clause-end
 returns-else-not-is_up-clause-ended g c = λ m h.
     let circuit = c.in-At.circuit in
     let s = step.At c.in-At.node circuit c.in-At.event in
-    let is = images g.D.Disk.image_at g.D.Disk.moment c.handle.new.pairs.items in
-    let up : m.up c.in-At.node ≡ true = sym (c.is_up.ensures.world (images g.D.Disk.image_at g.D.Disk.moment c.args.pairs.now.items) circuit m c.in-At.node (rw (c.in-At.is) at h) c.slot-slot.ensures.at) ∙ c.if-not-is_up.false in
+    let is = images g.D.Disk.view c.handle.new.pairs.items in
+    let up : m.up c.in-At.node ≡ true = sym (c.is_up.ensures.world (images g.D.Disk.view c.args.pairs.now.items) circuit m c.in-At.node (rw (c.in-At.is) at h) c.slot-slot.ensures.at) ∙ c.if-not-is_up.false in
     let same : carried_out m c.in-At.node (plan_of (site_at c.in-At.node circuit) (m.at c.in-At.node) c.in-At.event) ≡ step_world m s = sym (world_up m s up) in
-    rw (c.in-At.is) (subst (λ (w : CircuitWorld). IfErr c.handle.result (λ e. EventEnds circuit w e (seen g.D.Disk.image_at g.D.Disk.moment c.args.self.now c.args.pairs.now.items) is)) same (c.handle.ensures.ended m c.in-At.node (rw (c.in-At.is) at h) c.slot-slot.ensures.at))
+    rw (c.in-At.is) (subst (λ (w : CircuitWorld). IfErr c.handle.result (λ e. EventEnds circuit w e (seen g.D.Disk.view c.args.self.now c.args.pairs.now.items) is)) same (c.handle.ensures.ended m c.in-At.node (rw (c.in-At.is) at h) c.slot-slot.ensures.at))
 
 pub returns-else-not-is_up-2-clause-ended : goal.returns-else-not-is_up-2-clause-ended
 returns-else-not-is_up-2-clause-ended g c = λ m h.
     let back = number_back c.in-Deliver.from c.in-Deliver.to c.in-Deliver.circuit c.in-Deliver.number (rw (c.in-Deliver.is) at c.requires.fits) in
-    let is = images g.D.Disk.image_at g.D.Disk.moment c.deliver.new.pairs.items in
-    rw (c.in-Deliver.is) (subst (λ (k : ℕ). IfErr c.deliver.result (λ e. EventEnds c.in-Deliver.circuit (step_world m (step.Deliver c.in-Deliver.from c.in-Deliver.to c.in-Deliver.circuit k)) e (seen g.D.Disk.image_at g.D.Disk.moment c.args.self.now c.args.pairs.now.items) is)) back
+    let is = images g.D.Disk.view c.deliver.new.pairs.items in
+    rw (c.in-Deliver.is) (subst (λ (k : ℕ). IfErr c.deliver.result (λ e. EventEnds c.in-Deliver.circuit (step_world m (step.Deliver c.in-Deliver.from c.in-Deliver.to c.in-Deliver.circuit k)) e (seen g.D.Disk.view c.args.self.now c.args.pairs.now.items) is)) back
     (c.deliver.ensures.ended m c.in-Deliver.from c.in-Deliver.to (rw (c.in-Deliver.is) at h) c.slot-sender.ensures.at c.slot-recipient.ensures.at))
 
 -- ---- the links
 
 pub returns-else-not-is_up-clause-ready : goal.returns-else-not-is_up-clause-ready
-returns-else-not-is_up-clause-ready g c = on_ok c.handle.result (still_ready (places_of c.args.self.now) (places_of c.handle.new.self) (link_view g.C.Carry.slots g.C.Carry.failed g.C.Carry.wire g.F.Fabric.put_on g.F.Fabric.taken_on g.F.Fabric.faults c.args.carrier.now c.args.fabric.now) c.handle.ensures.places c.requires.ready)
+returns-else-not-is_up-clause-ready g c = on_ok c.handle.result (still_ready (places_of c.args.self.now) (places_of c.handle.new.self) (link_view (g.C.Carry.view c.args.carrier.now) (g.F.Fabric.view c.args.fabric.now)) c.handle.ensures.places c.requires.ready)
 
 pub returns-then-not-is_up-clause-links : goal.returns-then-not-is_up-clause-links
-returns-then-not-is_up-clause-links g c = rw (c.in-At.is) (λ place m placed h. carries_nothing (link_view g.C.Carry.slots g.C.Carry.failed g.C.Carry.wire g.F.Fabric.put_on g.F.Fabric.taken_on g.F.Fabric.faults c.args.carrier.now c.args.fabric.now) (g.met.C.Carry.idle c.args.carrier.now))
+returns-then-not-is_up-clause-links g c = rw (c.in-At.is) (λ place m placed h. carries_nothing (link_view (g.C.Carry.view c.args.carrier.now) (g.F.Fabric.view c.args.fabric.now)) (g.met.C.Carry.idle c.args.carrier.now))
 
 pub returns-else-not-is_up-clause-links : goal.returns-else-not-is_up-clause-links
-returns-else-not-is_up-clause-links g c = rw (c.in-At.is) (λ place m placed h. delivers_nothing c.handle.result (link_view g.C.Carry.slots g.C.Carry.failed g.C.Carry.wire g.F.Fabric.put_on g.F.Fabric.taken_on g.F.Fabric.faults c.args.carrier.now c.args.fabric.now) (g.met.C.Carry.idle c.args.carrier.now) c.handle.ensures.unlinked)
+returns-else-not-is_up-clause-links g c = rw (c.in-At.is) (λ place m placed h. delivers_nothing c.handle.result (link_view (g.C.Carry.view c.args.carrier.now) (g.F.Fabric.view c.args.fabric.now)) (g.met.C.Carry.idle c.args.carrier.now) c.handle.ensures.unlinked)
 
 pub returns-then-not-is_up-2-clause-links : goal.returns-then-not-is_up-2-clause-links
 returns-then-not-is_up-2-clause-links g c = rw (c.in-Deliver.is) (λ place m placed h.
-    let x = (link_view g.C.Carry.slots g.C.Carry.failed g.C.Carry.wire g.F.Fabric.put_on g.F.Fabric.taken_on g.F.Fabric.faults c.args.carrier.now c.args.fabric.now) in
-    let down : m.up c.in-Deliver.to ≡ false = sym (c.is_up-in-Deliver.ensures.world (images g.D.Disk.image_at g.D.Disk.moment c.args.pairs.now.items) c.in-Deliver.circuit m c.in-Deliver.to h c.slot-recipient.ensures.at) ∙ c.if-not-is_up-2.true in
+    let x = (link_view (g.C.Carry.view c.args.carrier.now) (g.F.Fabric.view c.args.fabric.now)) in
+    let down : m.up c.in-Deliver.to ≡ false = sym (c.is_up-in-Deliver.ensures.world (images g.D.Disk.view c.args.pairs.now.items) c.in-Deliver.circuit m c.in-Deliver.to h c.slot-recipient.ensures.at) ∙ c.if-not-is_up-2.true in
     delivers_as done [] (carried_at place m (Steps (step.Deliver c.in-Deliver.from c.in-Deliver.to c.in-Deliver.circuit c.in-Deliver.number))) x x (carried_down place m c.in-Deliver.from c.in-Deliver.to c.in-Deliver.circuit c.in-Deliver.number down) (carries_nothing x (g.met.C.Carry.idle c.args.carrier.now)))
 
 pub returns-else-not-is_up-2-clause-links : goal.returns-else-not-is_up-2-clause-links
 returns-else-not-is_up-2-clause-links g c = λ place m placed h.
-    let x = (link_view g.C.Carry.slots g.C.Carry.failed g.C.Carry.wire g.F.Fabric.put_on g.F.Fabric.taken_on g.F.Fabric.faults c.args.carrier.now c.args.fabric.now) in
-    let y = (link_view g.C.Carry.slots g.C.Carry.failed g.C.Carry.wire g.F.Fabric.put_on g.F.Fabric.taken_on g.F.Fabric.faults c.deliver.new.carrier c.deliver.new.fabric) in
+    let x = (link_view (g.C.Carry.view c.args.carrier.now) (g.F.Fabric.view c.args.fabric.now)) in
+    let y = (link_view (g.C.Carry.view c.deliver.new.carrier) (g.F.Fabric.view c.deliver.new.fabric)) in
     let back = number_back c.in-Deliver.from c.in-Deliver.to c.in-Deliver.circuit c.in-Deliver.number (rw (c.in-Deliver.is) at c.requires.fits) in
     rw (c.in-Deliver.is) (subst (λ (k : ℕ). Delivers c.deliver.result (carried_at place m (Steps (step.Deliver c.in-Deliver.from c.in-Deliver.to c.in-Deliver.circuit k))) x y) back
     (c.deliver.ensures.links place m c.in-Deliver.from c.in-Deliver.to placed (rw (c.in-Deliver.is) at h) c.slot-sender.ensures.at c.slot-recipient.ensures.at))

@@ -16,7 +16,7 @@ pub index_mut-disks-requires : goal.index_mut-disks-requires
 index_mut-disks-requires g c =
     let ss = c.args.self.now.slots.items in
     let there = slice_get_read ss (length ss) c.args.slot c.index_mut-here.result.now refl c.requires.below c.index_mut-here.ensures.value in
-    let below = pair_below g.D.Disk.image_at g.D.Disk.moment ss c.args.pairs.now.items c.args.slot c.index_mut-here.result.now c.requires.sits there c.position.result c.position.ensures in
+    let below = pair_below g.D.Disk.view ss c.args.pairs.now.items c.args.slot c.index_mut-here.result.now c.requires.sits there c.position.result c.position.ensures in
     omega (arith, below, c.args.pairs.now.ok.0)
 
 pub start-requires : goal.start-requires
@@ -25,9 +25,9 @@ start-requires g c =
     let ps = c.args.pairs.now.items in
     let s = c.index_mut-here.result.now in
     let there = slice_get_read ss (length ss) c.args.slot s refl c.requires.below c.index_mut-here.ensures.value in
-    let below = pair_below g.D.Disk.image_at g.D.Disk.moment ss ps c.args.slot s c.requires.sits there c.position.result c.position.ensures in
+    let below = pair_below g.D.Disk.view ss ps c.args.slot s c.requires.sits there c.position.result c.position.ensures in
     let pair = slice_get_read ps (length ps) c.position.result c.index_mut-disks.result.now refl below c.index_mut-disks.ensures.value in
-    record { stands = own_stands g.D.Disk.image_at g.D.Disk.moment ss ps c.args.slot s c.requires.sits there c.position.result c.position.ensures c.index_mut-disks.result.now pair }
+    record { stands = own_stands g.D.Disk.view ss ps c.args.slot s c.requires.sits there c.position.result c.position.ensures c.index_mut-disks.result.now pair }
 
 pub returns-clause-ids : goal.returns-clause-ids
 returns-clause-ids g c =
@@ -45,9 +45,9 @@ returns-clause-sits g c =
     let ps = c.args.pairs.now.items in
     let s = c.index_mut-here.result.now in
     let there = slice_get_read ss (length ss) c.args.slot s refl c.requires.below c.index_mut-here.ensures.value in
-    let below = pair_below g.D.Disk.image_at g.D.Disk.moment ss ps c.args.slot s c.requires.sits there c.position.result c.position.ensures in
+    let below = pair_below g.D.Disk.view ss ps c.args.slot s c.requires.sits there c.position.result c.position.ensures in
     let pair = slice_get_read ps (length ps) c.position.result c.index_mut-disks.result.now refl below c.index_mut-disks.ensures.value in
-    at_ok c.start.result (own_sits g.D.Disk.image_at g.D.Disk.moment ss ps c.args.slot s c.requires.sits there c.position.result c.position.ensures c.index_mut-disks.result.now pair c.start.new.self c.start.new.disks c.start.ensures.position) c.start.ensures.stands
+    at_ok c.start.result (own_sits g.D.Disk.view ss ps c.args.slot s c.requires.sits there c.position.result c.position.ensures c.index_mut-disks.result.now pair c.start.new.self c.start.new.disks c.start.ensures.position) c.start.ensures.stands
 
 pub returns-clause-holds : goal.returns-clause-holds
 returns-clause-holds g c = λ k n m at h.
@@ -55,15 +55,15 @@ returns-clause-holds g c = λ k n m at h.
     let ps = c.args.pairs.now.items in
     let s = c.index_mut-here.result.now in
     let there = slice_get_read ss (length ss) c.args.slot s refl c.requires.below c.index_mut-here.ensures.value in
-    let below = pair_below g.D.Disk.image_at g.D.Disk.moment ss ps c.args.slot s c.requires.sits there c.position.result c.position.ensures in
+    let below = pair_below g.D.Disk.view ss ps c.args.slot s c.requires.sits there c.position.result c.position.ensures in
     let pair = slice_get_read ps (length ps) c.position.result c.index_mut-disks.result.now refl below c.index_mut-disks.ensures.value in
-    let view = own_view g.D.Disk.image_at g.D.Disk.moment ss ps c.args.slot s c.requires.sits there c.position.result c.position.ensures c.index_mut-disks.result.now pair in
-    let nodes = seen g.D.Disk.image_at g.D.Disk.moment c.args.self.now ps in
-    let r = images_of g.D.Disk.image_at g.D.Disk.moment c.start.new.disks in
+    let view = own_view g.D.Disk.view ss ps c.args.slot s c.requires.sits there c.position.result c.position.ensures c.index_mut-disks.result.now pair in
+    let nodes = seen g.D.Disk.view c.args.self.now ps in
+    let r = images_of g.D.Disk.view c.start.new.disks in
     let same = same_at ss c.args.slot s n there at in
-    let tell = own_told g.D.Disk.image_at g.D.Disk.moment ss ps c.args.slot s c.requires.sits there c.position.result c.position.ensures c.index_mut-disks.result.now pair k m h in
-    ok_both c.start.result (λ up cells. subst (λ (i : NodeId). Holds k (happens m (Starts i)) (record { slots = slice_set ss c.args.slot c.start.new.self; disks = images g.D.Disk.image_at g.D.Disk.moment (slice_set ps c.position.result c.start.new.disks) })) same
-    (own_by g.D.Disk.image_at g.D.Disk.moment ss ps c.args.slot s c.requires.sits there c.position.result c.position.ensures c.index_mut-disks.result.now pair c.start.new.self c.start.new.disks (λ (xs : Nodes). Holds k (happens m (Starts (slot_id s))) xs)
+    let tell = own_told g.D.Disk.view ss ps c.args.slot s c.requires.sits there c.position.result c.position.ensures c.index_mut-disks.result.now pair k m h in
+    ok_both c.start.result (λ up cells. subst (λ (i : NodeId). Holds k (happens m (Starts i)) (record { slots = slice_set ss c.args.slot c.start.new.self; disks = images g.D.Disk.view (slice_set ps c.position.result c.start.new.disks) })) same
+    (own_by g.D.Disk.view ss ps c.args.slot s c.requires.sits there c.position.result c.position.ensures c.index_mut-disks.result.now pair c.start.new.self c.start.new.disks (λ (xs : Nodes). Holds k (happens m (Starts (slot_id s))) xs)
     (starts nodes c.args.slot s c.start.new.self r c.requires.sits there c.start.ensures.position c.start.ensures.id (subst Tell (sym c.start.ensures.same) tell) k m h up (cells tell k ∙ ap (λ (v : NodeView). v.cells k) (sym view)) c.start.ensures.posts)))
     c.start.ensures.up c.start.ensures.cells
 
@@ -73,9 +73,9 @@ returns-clause-disks g c =
     let ps = c.args.pairs.now.items in
     let s = c.index_mut-here.result.now in
     let there = slice_get_read ss (length ss) c.args.slot s refl c.requires.below c.index_mut-here.ensures.value in
-    let below = pair_below g.D.Disk.image_at g.D.Disk.moment ss ps c.args.slot s c.requires.sits there c.position.result c.position.ensures in
+    let below = pair_below g.D.Disk.view ss ps c.args.slot s c.requires.sits there c.position.result c.position.ensures in
     let pair = slice_get_read ps (length ps) c.position.result c.index_mut-disks.result.now refl below c.index_mut-disks.ensures.value in
-    one_leaves g.D.Disk.image_at g.D.Disk.moment g.D.Disk.faults g.D.Disk.armed g.D.Disk.picks c.start.result ps c.position.result c.index_mut-disks.result.now c.start.new.disks s.position pair c.position.ensures c.start.ensures.onward c.start.ensures.failed
+    one_leaves g.D.Disk.view c.start.result ps c.position.result c.index_mut-disks.result.now c.start.new.disks s.position pair c.position.ensures c.start.ensures.onward c.start.ensures.failed
 
 pub returns-clause-place : goal.returns-clause-place
 returns-clause-place g c = λ slot q.
@@ -90,9 +90,9 @@ returns-clause-sound g c = λ k m position at h q.
     let ps = c.args.pairs.now.items in
     let s = c.index_mut-here.result.now in
     let there = slice_get_read ss (length ss) c.args.slot s refl c.requires.below c.index_mut-here.ensures.value in
-    let below = pair_below g.D.Disk.image_at g.D.Disk.moment ss ps c.args.slot s c.requires.sits there c.position.result c.position.ensures in
+    let below = pair_below g.D.Disk.view ss ps c.args.slot s c.requires.sits there c.position.result c.position.ensures in
     let pair = slice_get_read ps (length ps) c.position.result c.index_mut-disks.result.now refl below c.index_mut-disks.ensures.value in
-    c.start.ensures.sound (own_told g.D.Disk.image_at g.D.Disk.moment ss ps c.args.slot s c.requires.sits there c.position.result c.position.ensures c.index_mut-disks.result.now pair k m h) position at q
+    c.start.ensures.sound (own_told g.D.Disk.view ss ps c.args.slot s c.requires.sits there c.position.result c.position.ensures c.index_mut-disks.result.now pair k m h) position at q
 
 pub returns-clause-journal : goal.returns-clause-journal
 returns-clause-journal g c = λ position at q.
@@ -107,6 +107,6 @@ returns-clause-same g c =
     let ps = c.args.pairs.now.items in
     let s = c.index_mut-here.result.now in
     let there = slice_get_read ss (length ss) c.args.slot s refl c.requires.below c.index_mut-here.ensures.value in
-    let below = pair_below g.D.Disk.image_at g.D.Disk.moment ss ps c.args.slot s c.requires.sits there c.position.result c.position.ensures in
+    let below = pair_below g.D.Disk.view ss ps c.args.slot s c.requires.sits there c.position.result c.position.ensures in
     let pair = slice_get_read ps (length ps) c.position.result c.index_mut-disks.result.now refl below c.index_mut-disks.ensures.value in
-    same_images g.D.Disk.image_at g.D.Disk.moment ps c.position.result c.index_mut-disks.result.now c.start.new.disks pair c.start.ensures.same
+    same_images g.D.Disk.view ps c.position.result c.index_mut-disks.result.now c.start.new.disks pair c.start.ensures.same

@@ -12,7 +12,7 @@ use Rattle.spl_world.proofs.Standing.{stands_still, within_line}
 use Rattle.spl_world.proofs.world.World.step.Goals as goal
 
 pub returns-clause-stands : goal.returns-clause-stands
-returns-clause-stands g c = λ before stands. at_ok c.run_line-answered.result (stands_still (before ++ by_rule c.args.line.now ∷ []) c.run_line-answered.new.self (images g.D.Disk.image_at g.D.Disk.moment c.run_line-answered.new.pairs.items) c.is_err-failed.result) (c.run_line-answered.ensures.stands before stands)
+returns-clause-stands g c = λ before stands. at_ok c.run_line-answered.result (stands_still (before ++ by_rule c.args.line.now ∷ []) c.run_line-answered.new.self (images g.D.Disk.view c.run_line-answered.new.pairs.items) c.is_err-failed.result) (c.run_line-answered.ensures.stands before stands)
 
 pub returns-clause-running : goal.returns-clause-running
 returns-clause-running g c = ok_is c.run_line-answered.result c.is_err-failed.result c.is_err-failed.ensures.value
@@ -21,24 +21,24 @@ pub returns-clause-halted : goal.returns-clause-halted
 returns-clause-halted g c = err_is c.run_line-answered.result c.is_err-failed.result c.is_err-failed.ensures.value
 
 pub returns-clause-few : goal.returns-clause-few
-returns-clause-few g c = λ before stands. at_ok c.run_line-answered.result (λ standing. within_line (before ++ by_rule c.args.line.now ∷ []) c.run_line-answered.new.self (images g.D.Disk.image_at g.D.Disk.moment c.run_line-answered.new.pairs.items) (ids_of c.args.self.now) c.run_line-answered.ensures.ids standing c.are_within.ensures) (c.run_line-answered.ensures.stands before stands)
+returns-clause-few g c = λ before stands. at_ok c.run_line-answered.result (λ standing. within_line (before ++ by_rule c.args.line.now ∷ []) c.run_line-answered.new.self (images g.D.Disk.view c.run_line-answered.new.pairs.items) (ids_of c.args.self.now) c.run_line-answered.ensures.ids standing c.are_within.ensures) (c.run_line-answered.ensures.stands before stands)
 
 pub returns-clause-held : goal.returns-clause-held
 returns-clause-held g c = λ start before stands held.
-    held_step g.D.Disk.image_at g.D.Disk.moment g.D.Disk.faults g.D.Disk.armed g.D.Disk.picks before c.args.line.now c.args.self.now c.run_line-answered.new.self c.args.pairs.now.items c.run_line-answered.new.pairs.items c.run_line-answered.ensures.ids c.run_line-answered.ensures.places
+    held_step g.D.Disk.view before c.args.line.now c.args.self.now c.run_line-answered.new.self c.args.pairs.now.items c.run_line-answered.new.pairs.items c.run_line-answered.ensures.ids c.run_line-answered.ensures.places
     c.run_line-answered.result start held (steps_none c.args.line.now c.requires.steps) (c.run_line-answered.ensures.stands before stands) c.run_line-answered.ensures.disks
 
 pub returns-clause-failed : goal.returns-clause-failed
 returns-clause-failed g c = λ start before slot e held.
-    failed_step g.D.Disk.image_at g.D.Disk.moment g.D.Disk.faults g.D.Disk.armed g.D.Disk.picks before c.args.line.now c.args.self.now c.run_line-answered.new.self c.args.pairs.now.items c.run_line-answered.new.pairs.items c.run_line-answered.ensures.ids c.run_line-answered.ensures.places
+    failed_step g.D.Disk.view before c.args.line.now c.args.self.now c.run_line-answered.new.self c.args.pairs.now.items c.run_line-answered.new.pairs.items c.run_line-answered.ensures.ids c.run_line-answered.ensures.places
     c.run_line-answered.result start slot held c.run_line-answered.ensures.disks e (c.run_line-answered.ensures.place slot e)
 
 pub returns-clause-settles_acts : goal.returns-clause-settles_acts
 returns-clause-settles_acts g c = λ before k passes d v rest stands is six whole first.
     behind_calm c.run_line-answered.result (λ (w : CircuitWorld). IsSettled d (admin d) v (acts_kept w)) (ids_of c.args.self.now) before c.args.line.now k passes is
-    (c.calms_settle.ensures.acts (images g.D.Disk.image_at g.D.Disk.moment c.args.pairs.now.items) before k passes d v rest stands six whole first)
+    (c.calms_settle.ensures.acts (images g.D.Disk.view c.args.pairs.now.items) before k passes d v rest stands six whole first)
 
 pub returns-clause-settles_batches : goal.returns-clause-settles_batches
-returns-clause-settles_batches g c = λ before k passes d v rest stands is six whole active first.
+returns-clause-settles_batches g c = λ before k passes d v rest stands is six whole running first.
     behind_calm c.run_line-answered.result (λ (w : CircuitWorld). IsSettled d (service d) v (batches_kept w)) (ids_of c.args.self.now) before c.args.line.now k passes is
-    (c.calms_settle.ensures.batches (images g.D.Disk.image_at g.D.Disk.moment c.args.pairs.now.items) before k passes d v rest stands six whole active first)
+    (c.calms_settle.ensures.batches (images g.D.Disk.view c.args.pairs.now.items) before k passes d v rest stands six whole running first)

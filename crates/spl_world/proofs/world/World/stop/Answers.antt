@@ -1,4 +1,5 @@
 use Rattle.std.proofs.Common.{◌++◌, ◌∷◌, [], ◌≡◌, ℕ, true, List, Result, Ok, Err, IfErr, refl}
+use Rattle.spl_model.specs.Worlds.{blank}
 use Rattle.spl_model.specs.Outcomes.{by_rule}
 use Rattle.spl_model.specs.Projection.{Ran}
 use Rattle.spl_projection.specs.Whole.{whole_world}
@@ -40,7 +41,7 @@ no_place ks Link h k q = absurd cc
 no_place ks (Lied from to put got) h k q = absurd cc
 no_place ks NoMemory h k q = absurd cc
 
-limit_ends : {A : Type 0} (r : Result A WorldFault) (before : List Ran) (w : World) (is : List Images) (l : Line) → Stands before w is → IfErr r (λ e. is_of_limit e ≡ true) → IfErr r (λ e. LineEnds (λ c. whole_world (ids_of w) c before) l e (ids_of w) (places_of w) is)
+limit_ends : {A : Type 0} (r : Result A WorldFault) (before : List Ran) (w : World) (is : List Images) (l : Line) → Stands before w is → IfErr r (λ e. is_of_limit e ≡ true) → IfErr r (λ e. LineEnds (λ c. whole_world (blank (ids_of w)) c before) l e (ids_of w) (places_of w) is)
 limit_ends (Ok a) before w is l stands only = tt
 limit_ends (Err e) before w is l stands only = ended_still before w is stands e (no_place (places_of w) e only) l is refl
 

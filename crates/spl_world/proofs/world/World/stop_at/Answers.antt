@@ -1,9 +1,10 @@
 use Rattle.std.proofs.Common.{◌≡◌, ◌∙◌, arith, ap, refl, sym, subst, length, Some, None, slice_set}
 use Rattle.std.proofs.lemmas.Option.{slice_get_read}
+use Rattle.spl_edge.specs.Views.{bench}
 use Rattle.spl_circuit.specs.Nodes.{NodeId}
 use Rattle.spl_model.specs.Worlds.{Stops, happens}
 use Rattle.spl_rules.specs.Changes.{stopped_cell}
-use Rattle.spl_world.specs.Disks.{bench, images, images_of}
+use Rattle.spl_world.specs.Disks.{images, images_of}
 use Rattle.spl_world.specs.Held.{PickUnarmed, StopsAt}
 use Rattle.spl_world.specs.Kept.{NodeView}
 use Rattle.spl_world.specs.Views.{Holds, Nodes, seen, slot_id, slot_up}
@@ -20,7 +21,7 @@ pub index_mut-disks-requires : goal.index_mut-disks-requires
 index_mut-disks-requires g c =
     let ss = c.args.self.now.slots.items in
     let there = slice_get_read ss (length ss) c.args.slot c.index_mut-here.result.now refl c.requires.below c.index_mut-here.ensures.value in
-    let below = pair_below g.D.Disk.image_at g.D.Disk.moment ss c.args.pairs.now.items c.args.slot c.index_mut-here.result.now c.requires.sits there c.position.result c.position.ensures in
+    let below = pair_below g.D.Disk.view ss c.args.pairs.now.items c.args.slot c.index_mut-here.result.now c.requires.sits there c.position.result c.position.ensures in
     omega (arith, below, c.args.pairs.now.ok.0)
 
 pub stop-requires : goal.stop-requires
@@ -29,9 +30,9 @@ stop-requires g c =
     let ps = c.args.pairs.now.items in
     let s = c.index_mut-here.result.now in
     let there = slice_get_read ss (length ss) c.args.slot s refl c.requires.below c.index_mut-here.ensures.value in
-    let below = pair_below g.D.Disk.image_at g.D.Disk.moment ss ps c.args.slot s c.requires.sits there c.position.result c.position.ensures in
+    let below = pair_below g.D.Disk.view ss ps c.args.slot s c.requires.sits there c.position.result c.position.ensures in
     let pair = slice_get_read ps (length ps) c.position.result c.index_mut-disks.result.now refl below c.index_mut-disks.ensures.value in
-    record { stands = own_stands g.D.Disk.image_at g.D.Disk.moment ss ps c.args.slot s c.requires.sits there c.position.result c.position.ensures c.index_mut-disks.result.now pair }
+    record { stands = own_stands g.D.Disk.view ss ps c.args.slot s c.requires.sits there c.position.result c.position.ensures c.index_mut-disks.result.now pair }
 
 pub returns-clause-ids : goal.returns-clause-ids
 returns-clause-ids g c =
@@ -49,9 +50,9 @@ returns-clause-sits g c =
     let ps = c.args.pairs.now.items in
     let s = c.index_mut-here.result.now in
     let there = slice_get_read ss (length ss) c.args.slot s refl c.requires.below c.index_mut-here.ensures.value in
-    let below = pair_below g.D.Disk.image_at g.D.Disk.moment ss ps c.args.slot s c.requires.sits there c.position.result c.position.ensures in
+    let below = pair_below g.D.Disk.view ss ps c.args.slot s c.requires.sits there c.position.result c.position.ensures in
     let pair = slice_get_read ps (length ps) c.position.result c.index_mut-disks.result.now refl below c.index_mut-disks.ensures.value in
-    at_ok c.stop.result (own_sits g.D.Disk.image_at g.D.Disk.moment ss ps c.args.slot s c.requires.sits there c.position.result c.position.ensures c.index_mut-disks.result.now pair c.stop.new.self c.stop.new.disks c.stop.ensures.position) c.stop.ensures.stands
+    at_ok c.stop.result (own_sits g.D.Disk.view ss ps c.args.slot s c.requires.sits there c.position.result c.position.ensures c.index_mut-disks.result.now pair c.stop.new.self c.stop.new.disks c.stop.ensures.position) c.stop.ensures.stands
 
 pub returns-clause-holds : goal.returns-clause-holds
 returns-clause-holds g c = λ k n m at h.
@@ -59,14 +60,14 @@ returns-clause-holds g c = λ k n m at h.
     let ps = c.args.pairs.now.items in
     let s = c.index_mut-here.result.now in
     let there = slice_get_read ss (length ss) c.args.slot s refl c.requires.below c.index_mut-here.ensures.value in
-    let below = pair_below g.D.Disk.image_at g.D.Disk.moment ss ps c.args.slot s c.requires.sits there c.position.result c.position.ensures in
+    let below = pair_below g.D.Disk.view ss ps c.args.slot s c.requires.sits there c.position.result c.position.ensures in
     let pair = slice_get_read ps (length ps) c.position.result c.index_mut-disks.result.now refl below c.index_mut-disks.ensures.value in
-    let view = own_view g.D.Disk.image_at g.D.Disk.moment ss ps c.args.slot s c.requires.sits there c.position.result c.position.ensures c.index_mut-disks.result.now pair in
-    let nodes = seen g.D.Disk.image_at g.D.Disk.moment c.args.self.now ps in
-    let r = images_of g.D.Disk.image_at g.D.Disk.moment c.stop.new.disks in
+    let view = own_view g.D.Disk.view ss ps c.args.slot s c.requires.sits there c.position.result c.position.ensures c.index_mut-disks.result.now pair in
+    let nodes = seen g.D.Disk.view c.args.self.now ps in
+    let r = images_of g.D.Disk.view c.stop.new.disks in
     let same = same_at ss c.args.slot s n there at in
-    ok_both c.stop.result (λ down stopped. subst (λ (i : NodeId). Holds k (happens m (Stops i)) (record { slots = slice_set ss c.args.slot c.stop.new.self; disks = images g.D.Disk.image_at g.D.Disk.moment (slice_set ps c.position.result c.stop.new.disks) })) same
-    (own_by g.D.Disk.image_at g.D.Disk.moment ss ps c.args.slot s c.requires.sits there c.position.result c.position.ensures c.index_mut-disks.result.now pair c.stop.new.self c.stop.new.disks (λ (xs : Nodes). Holds k (happens m (Stops (slot_id s))) xs)
+    ok_both c.stop.result (λ down stopped. subst (λ (i : NodeId). Holds k (happens m (Stops i)) (record { slots = slice_set ss c.args.slot c.stop.new.self; disks = images g.D.Disk.view (slice_set ps c.position.result c.stop.new.disks) })) same
+    (own_by g.D.Disk.view ss ps c.args.slot s c.requires.sits there c.position.result c.position.ensures c.index_mut-disks.result.now pair c.stop.new.self c.stop.new.disks (λ (xs : Nodes). Holds k (happens m (Stops (slot_id s))) xs)
     (stops nodes c.args.slot s c.stop.new.self r c.requires.sits there c.stop.ensures.position c.stop.ensures.id (g.met.D.StopDisk.tells c.stop.new.disks.first, g.met.D.StopDisk.tells c.stop.new.disks.second) k m h down (λ u. stopped u k ∙ ap (λ (v : NodeView). stopped_cell (v.cells k)) (sym view)) (λ d. c.stop.ensures.same d k ∙ ap (λ (v : NodeView). v.cells k) (sym view)) c.stop.ensures.posts)))
     c.stop.ensures.down c.stop.ensures.stopped
 
@@ -76,11 +77,11 @@ returns-clause-picks g c = λ t at.
     let ps = c.args.pairs.now.items in
     let s = c.index_mut-here.result.now in
     let there = slice_get_read ss (length ss) c.args.slot s refl c.requires.below c.index_mut-here.ensures.value in
-    let below = pair_below g.D.Disk.image_at g.D.Disk.moment ss ps c.args.slot s c.requires.sits there c.position.result c.position.ensures in
+    let below = pair_below g.D.Disk.view ss ps c.args.slot s c.requires.sits there c.position.result c.position.ensures in
     let pair = slice_get_read ps (length ps) c.position.result c.index_mut-disks.result.now refl below c.index_mut-disks.ensures.value in
     let same : s ≡ t = (let e : Some s ≡ Some t = sym there ∙ at in cc) in
-    at_ok c.stop.result (λ picked. subst (λ (u : Slot). StopsAt (PickUnarmed None) (slot_up u) u.position (bench g.D.Disk.image_at g.D.Disk.moment g.D.Disk.faults g.D.Disk.armed g.D.Disk.picks ps) (bench g.D.Disk.image_at g.D.Disk.moment g.D.Disk.faults g.D.Disk.armed g.D.Disk.picks (slice_set ps c.position.result c.stop.new.disks))) same
-    (one_stops g.D.Disk.image_at g.D.Disk.moment g.D.Disk.faults g.D.Disk.armed g.D.Disk.picks ps c.position.result c.index_mut-disks.result.now c.stop.new.disks pair (PickUnarmed None) (slot_up s) s.position c.position.ensures
+    at_ok c.stop.result (λ picked. subst (λ (u : Slot). StopsAt (PickUnarmed None) (slot_up u) u.position (bench g.D.Disk.view ps) (bench g.D.Disk.view (slice_set ps c.position.result c.stop.new.disks))) same
+    (one_stops g.D.Disk.view ps c.position.result c.index_mut-disks.result.now c.stop.new.disks pair (PickUnarmed None) (slot_up s) s.position c.position.ensures
     picked c.stop.ensures.none)) c.stop.ensures.picks
 
 pub returns-clause-onward : goal.returns-clause-onward
@@ -89,9 +90,9 @@ returns-clause-onward g c =
     let ps = c.args.pairs.now.items in
     let s = c.index_mut-here.result.now in
     let there = slice_get_read ss (length ss) c.args.slot s refl c.requires.below c.index_mut-here.ensures.value in
-    let below = pair_below g.D.Disk.image_at g.D.Disk.moment ss ps c.args.slot s c.requires.sits there c.position.result c.position.ensures in
+    let below = pair_below g.D.Disk.view ss ps c.args.slot s c.requires.sits there c.position.result c.position.ensures in
     let pair = slice_get_read ps (length ps) c.position.result c.index_mut-disks.result.now refl below c.index_mut-disks.ensures.value in
-    one_forgets g.D.Disk.image_at g.D.Disk.moment g.D.Disk.faults g.D.Disk.armed g.D.Disk.picks ps c.position.result c.index_mut-disks.result.now c.stop.new.disks pair c.stop.ensures.first_stays c.stop.ensures.second_stays
+    one_forgets g.D.Disk.view ps c.position.result c.index_mut-disks.result.now c.stop.new.disks pair c.stop.ensures.first_stays c.stop.ensures.second_stays
 
 pub returns-clause-ended : goal.returns-clause-ended
 returns-clause-ended g c = λ k m h.
@@ -99,6 +100,6 @@ returns-clause-ended g c = λ k m h.
     let ps = c.args.pairs.now.items in
     let s = c.index_mut-here.result.now in
     let there = slice_get_read ss (length ss) c.args.slot s refl c.requires.below c.index_mut-here.ensures.value in
-    let below = pair_below g.D.Disk.image_at g.D.Disk.moment ss ps c.args.slot s c.requires.sits there c.position.result c.position.ensures in
+    let below = pair_below g.D.Disk.view ss ps c.args.slot s c.requires.sits there c.position.result c.position.ensures in
     let pair = slice_get_read ps (length ps) c.position.result c.index_mut-disks.result.now refl below c.index_mut-disks.ensures.value in
-    on_err c.stop.result (own_stopped g.D.Disk.image_at g.D.Disk.moment ss ps c.args.slot s c.requires.sits there c.position.result c.position.ensures c.index_mut-disks.result.now pair c.stop.new.self c.stop.new.disks k m h c.stop.ensures.leaves)
+    on_err c.stop.result (own_stopped g.D.Disk.view ss ps c.args.slot s c.requires.sits there c.position.result c.position.ensures c.index_mut-disks.result.now pair c.stop.new.self c.stop.new.disks k m h c.stop.ensures.leaves)

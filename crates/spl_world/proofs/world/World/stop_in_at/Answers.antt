@@ -1,11 +1,12 @@
 use Rattle.std.proofs.Common.{◌≡◌, ◌∙◌, arith, ap, refl, sym, subst, length, List, Some, slice_set, true≢false}
 use Rattle.std.proofs.lemmas.Option.{slice_get_read}
 use Rattle.std.specs.Option.{option_copied}
+use Rattle.spl_edge.specs.Views.{bench}
 use Rattle.spl_circuit.specs.Nodes.{NodeId}
 use Rattle.spl_model.specs.Worlds.{Halts, Stops, happens, step_plan}
 use Rattle.spl_node.specs.Stopping.{FillsHost, cells_stopped, event_changes, has_changes, keeps}
 use Rattle.spl_rules.specs.Changes.{stopped_cell}
-use Rattle.spl_world.specs.Disks.{bench, images, images_of}
+use Rattle.spl_world.specs.Disks.{images, images_of}
 use Rattle.spl_wire.specs.declared.change.Change.{Change}
 use Rattle.spl_world.specs.Held.{FailsBy, PickUnarmed, StopsAt}
 use Rattle.spl_world.specs.Kept.{NodeView}
@@ -25,7 +26,7 @@ pub index_mut-disks-requires : goal.index_mut-disks-requires
 index_mut-disks-requires g c =
     let ss = c.args.self.now.slots.items in
     let there = slice_get_read ss (length ss) c.args.slot c.index_mut-here.result.now refl c.requires.below c.index_mut-here.ensures.value in
-    let below = pair_below g.D.Disk.image_at g.D.Disk.moment ss c.args.pairs.now.items c.args.slot c.index_mut-here.result.now c.requires.sits there c.position.result c.position.ensures in
+    let below = pair_below g.D.Disk.view ss c.args.pairs.now.items c.args.slot c.index_mut-here.result.now c.requires.sits there c.position.result c.position.ensures in
     omega (arith, below, c.args.pairs.now.ok.0)
 
 pub stop_in-requires : goal.stop_in-requires
@@ -34,9 +35,9 @@ stop_in-requires g c =
     let ps = c.args.pairs.now.items in
     let s = c.index_mut-here.result.now in
     let there = slice_get_read ss (length ss) c.args.slot s refl c.requires.below c.index_mut-here.ensures.value in
-    let below = pair_below g.D.Disk.image_at g.D.Disk.moment ss ps c.args.slot s c.requires.sits there c.position.result c.position.ensures in
+    let below = pair_below g.D.Disk.view ss ps c.args.slot s c.requires.sits there c.position.result c.position.ensures in
     let pair = slice_get_read ps (length ps) c.position.result c.index_mut-disks.result.now refl below c.index_mut-disks.ensures.value in
-    record { up = is_there_up ss c.args.slot s there c.requires.up; own = c.requires.own (slot_id s) (id_at ss c.args.slot s there); calls = c.requires.calls; stands = own_stands g.D.Disk.image_at g.D.Disk.moment ss ps c.args.slot s c.requires.sits there c.position.result c.position.ensures c.index_mut-disks.result.now pair }
+    record { up = is_there_up ss c.args.slot s there c.requires.up; own = c.requires.own (slot_id s) (id_at ss c.args.slot s there); calls = c.requires.calls; stands = own_stands g.D.Disk.view ss ps c.args.slot s c.requires.sits there c.position.result c.position.ensures c.index_mut-disks.result.now pair }
 
 pub returns-clause-ids : goal.returns-clause-ids
 returns-clause-ids g c =
@@ -54,9 +55,9 @@ returns-clause-sits g c =
     let ps = c.args.pairs.now.items in
     let s = c.index_mut-here.result.now in
     let there = slice_get_read ss (length ss) c.args.slot s refl c.requires.below c.index_mut-here.ensures.value in
-    let below = pair_below g.D.Disk.image_at g.D.Disk.moment ss ps c.args.slot s c.requires.sits there c.position.result c.position.ensures in
+    let below = pair_below g.D.Disk.view ss ps c.args.slot s c.requires.sits there c.position.result c.position.ensures in
     let pair = slice_get_read ps (length ps) c.position.result c.index_mut-disks.result.now refl below c.index_mut-disks.ensures.value in
-    at_ok c.stop_in.result (own_sits g.D.Disk.image_at g.D.Disk.moment ss ps c.args.slot s c.requires.sits there c.position.result c.position.ensures c.index_mut-disks.result.now pair c.stop_in.new.self c.stop_in.new.disks c.stop_in.ensures.position) c.stop_in.ensures.stands
+    at_ok c.stop_in.result (own_sits g.D.Disk.view ss ps c.args.slot s c.requires.sits there c.position.result c.position.ensures c.index_mut-disks.result.now pair c.stop_in.new.self c.stop_in.new.disks c.stop_in.ensures.position) c.stop_in.ensures.stands
 
 pub returns-clause-tells : goal.returns-clause-tells
 returns-clause-tells g c = λ m step at about is h.
@@ -64,10 +65,10 @@ returns-clause-tells g c = λ m step at about is h.
     let ps = c.args.pairs.now.items in
     let s = c.index_mut-here.result.now in
     let there = slice_get_read ss (length ss) c.args.slot s refl c.requires.below c.index_mut-here.ensures.value in
-    let below = pair_below g.D.Disk.image_at g.D.Disk.moment ss ps c.args.slot s c.requires.sits there c.position.result c.position.ensures in
+    let below = pair_below g.D.Disk.view ss ps c.args.slot s c.requires.sits there c.position.result c.position.ensures in
     let pair = slice_get_read ps (length ps) c.position.result c.index_mut-disks.result.now refl below c.index_mut-disks.ensures.value in
-    let view = own_view g.D.Disk.image_at g.D.Disk.moment ss ps c.args.slot s c.requires.sits there c.position.result c.position.ensures c.index_mut-disks.result.now pair in
-    let nodes = seen g.D.Disk.image_at g.D.Disk.moment c.args.self.now ps in
+    let view = own_view g.D.Disk.view ss ps c.args.slot s c.requires.sits there c.position.result c.position.ensures c.index_mut-disks.result.now pair in
+    let nodes = seen g.D.Disk.view c.args.self.now ps in
     let id = same_at ss c.args.slot s _ there at in
     when_ok c.stop_in.result (λ b told. told ∙ ap has_changes (ap (λ (v : NodeView). event_changes (slot_id s) v.cells c.args.circuit.now (option_copied c.args.event)) (sym view)
     ∙ changes_here nodes c.args.slot s m step c.args.circuit.now (option_copied c.args.event) h there id about is)) c.stop_in.ensures.tells
@@ -78,14 +79,14 @@ returns-clause-own g c = λ m step at about is h.
     let ps = c.args.pairs.now.items in
     let s = c.index_mut-here.result.now in
     let there = slice_get_read ss (length ss) c.args.slot s refl c.requires.below c.index_mut-here.ensures.value in
-    let below = pair_below g.D.Disk.image_at g.D.Disk.moment ss ps c.args.slot s c.requires.sits there c.position.result c.position.ensures in
+    let below = pair_below g.D.Disk.view ss ps c.args.slot s c.requires.sits there c.position.result c.position.ensures in
     let pair = slice_get_read ps (length ps) c.position.result c.index_mut-disks.result.now refl below c.index_mut-disks.ensures.value in
-    let view = own_view g.D.Disk.image_at g.D.Disk.moment ss ps c.args.slot s c.requires.sits there c.position.result c.position.ensures c.index_mut-disks.result.now pair in
-    let nodes = seen g.D.Disk.image_at g.D.Disk.moment c.args.self.now ps in
-    let r = images_of g.D.Disk.image_at g.D.Disk.moment c.stop_in.new.disks in
+    let view = own_view g.D.Disk.view ss ps c.args.slot s c.requires.sits there c.position.result c.position.ensures c.index_mut-disks.result.now pair in
+    let nodes = seen g.D.Disk.view c.args.self.now ps in
+    let r = images_of g.D.Disk.view c.stop_in.new.disks in
     let id = same_at ss c.args.slot s _ there at in
     let kept = keeps c.args.stopping in
-    ok_both c.stop_in.result (λ down stopped. own_by g.D.Disk.image_at g.D.Disk.moment ss ps c.args.slot s c.requires.sits there c.position.result c.position.ensures c.index_mut-disks.result.now pair c.stop_in.new.self c.stop_in.new.disks (λ (xs : Nodes). Holds c.args.circuit.now (happens m (Halts kept step)) xs)
+    ok_both c.stop_in.result (λ down stopped. own_by g.D.Disk.view ss ps c.args.slot s c.requires.sits there c.position.result c.position.ensures c.index_mut-disks.result.now pair c.stop_in.new.self c.stop_in.new.disks (λ (xs : Nodes). Holds c.args.circuit.now (happens m (Halts kept step)) xs)
     (halt_holds nodes c.args.slot s c.stop_in.new.self r c.requires.sits there c.stop_in.ensures.position c.stop_in.ensures.id (g.met.D.StopDisk.tells c.stop_in.new.disks.first, g.met.D.StopDisk.tells c.stop_in.new.disks.second) c.args.circuit.now m step kept (sym id) h (is_there_up ss c.args.slot s there c.requires.up) down
     (stopped c.args.circuit.now ∙ ap (λ (v : NodeView). cells_stopped (slot_id s) v.cells c.args.circuit.now (event_changes (slot_id s) v.cells c.args.circuit.now (option_copied c.args.event)) kept c.args.circuit.now) (sym view)
     ∙ halted_here nodes c.args.slot s m step c.args.circuit.now (option_copied c.args.event) h there id about is kept) c.stop_in.ensures.posts))
@@ -97,15 +98,15 @@ returns-clause-others g c = λ d n m at off h.
     let ps = c.args.pairs.now.items in
     let s = c.index_mut-here.result.now in
     let there = slice_get_read ss (length ss) c.args.slot s refl c.requires.below c.index_mut-here.ensures.value in
-    let below = pair_below g.D.Disk.image_at g.D.Disk.moment ss ps c.args.slot s c.requires.sits there c.position.result c.position.ensures in
+    let below = pair_below g.D.Disk.view ss ps c.args.slot s c.requires.sits there c.position.result c.position.ensures in
     let pair = slice_get_read ps (length ps) c.position.result c.index_mut-disks.result.now refl below c.index_mut-disks.ensures.value in
-    let view = own_view g.D.Disk.image_at g.D.Disk.moment ss ps c.args.slot s c.requires.sits there c.position.result c.position.ensures c.index_mut-disks.result.now pair in
-    let nodes = seen g.D.Disk.image_at g.D.Disk.moment c.args.self.now ps in
-    let r = images_of g.D.Disk.image_at g.D.Disk.moment c.stop_in.new.disks in
+    let view = own_view g.D.Disk.view ss ps c.args.slot s c.requires.sits there c.position.result c.position.ensures c.index_mut-disks.result.now pair in
+    let nodes = seen g.D.Disk.view c.args.self.now ps in
+    let r = images_of g.D.Disk.view c.stop_in.new.disks in
     let same = same_at ss c.args.slot s n there at in
-    let cells = (node_view s (images_of g.D.Disk.image_at g.D.Disk.moment c.index_mut-disks.result.now)).cells in
-    ok_both c.stop_in.result (λ down stopped. subst (λ (i : NodeId). Holds d (happens m (Stops i)) (record { slots = slice_set ss c.args.slot c.stop_in.new.self; disks = images g.D.Disk.image_at g.D.Disk.moment (slice_set ps c.position.result c.stop_in.new.disks) })) same
-    (own_by g.D.Disk.image_at g.D.Disk.moment ss ps c.args.slot s c.requires.sits there c.position.result c.position.ensures c.index_mut-disks.result.now pair c.stop_in.new.self c.stop_in.new.disks (λ (xs : Nodes). Holds d (happens m (Stops (slot_id s))) xs)
+    let cells = (node_view s (images_of g.D.Disk.view c.index_mut-disks.result.now)).cells in
+    ok_both c.stop_in.result (λ down stopped. subst (λ (i : NodeId). Holds d (happens m (Stops i)) (record { slots = slice_set ss c.args.slot c.stop_in.new.self; disks = images g.D.Disk.view (slice_set ps c.position.result c.stop_in.new.disks) })) same
+    (own_by g.D.Disk.view ss ps c.args.slot s c.requires.sits there c.position.result c.position.ensures c.index_mut-disks.result.now pair c.stop_in.new.self c.stop_in.new.disks (λ (xs : Nodes). Holds d (happens m (Stops (slot_id s))) xs)
     (stop_holds nodes c.args.slot s c.stop_in.new.self r c.requires.sits there c.stop_in.ensures.position c.stop_in.ensures.id (g.met.D.StopDisk.tells c.stop_in.new.disks.first, g.met.D.StopDisk.tells c.stop_in.new.disks.second) d m h (is_there_up ss c.args.slot s there c.requires.up) down
     (stopped d ∙ stopped_else (slot_id s) cells c.args.circuit.now (event_changes (slot_id s) cells c.args.circuit.now (option_copied c.args.event)) (keeps c.args.stopping) d off ∙ ap (λ (v : NodeView). stopped_cell (v.cells d)) (sym view)) c.stop_in.ensures.posts)))
     c.stop_in.ensures.down c.stop_in.ensures.stopped
@@ -116,12 +117,12 @@ returns-clause-picks g c = λ t at.
     let ps = c.args.pairs.now.items in
     let s = c.index_mut-here.result.now in
     let there = slice_get_read ss (length ss) c.args.slot s refl c.requires.below c.index_mut-here.ensures.value in
-    let below = pair_below g.D.Disk.image_at g.D.Disk.moment ss ps c.args.slot s c.requires.sits there c.position.result c.position.ensures in
+    let below = pair_below g.D.Disk.view ss ps c.args.slot s c.requires.sits there c.position.result c.position.ensures in
     let pair = slice_get_read ps (length ps) c.position.result c.index_mut-disks.result.now refl below c.index_mut-disks.ensures.value in
     let up = is_there_up ss c.args.slot s there c.requires.up in
     let same : s ≡ t = (let e : Some s ≡ Some t = sym there ∙ at in cc) in
-    at_ok c.stop_in.result (λ picked. subst (λ (u : Slot). StopsAt (PickUnarmed (Some c.args.stopping)) (slot_up u) u.position (bench g.D.Disk.image_at g.D.Disk.moment g.D.Disk.faults g.D.Disk.armed g.D.Disk.picks ps) (bench g.D.Disk.image_at g.D.Disk.moment g.D.Disk.faults g.D.Disk.armed g.D.Disk.picks (slice_set ps c.position.result c.stop_in.new.disks))) same
-    (one_stops g.D.Disk.image_at g.D.Disk.moment g.D.Disk.faults g.D.Disk.armed g.D.Disk.picks ps c.position.result c.index_mut-disks.result.now c.stop_in.new.disks pair (PickUnarmed (Some c.args.stopping)) (slot_up s) s.position c.position.ensures
+    at_ok c.stop_in.result (λ picked. subst (λ (u : Slot). StopsAt (PickUnarmed (Some c.args.stopping)) (slot_up u) u.position (bench g.D.Disk.view ps) (bench g.D.Disk.view (slice_set ps c.position.result c.stop_in.new.disks))) same
+    (one_stops g.D.Disk.view ps c.position.result c.index_mut-disks.result.now c.stop_in.new.disks pair (PickUnarmed (Some c.args.stopping)) (slot_up s) s.position c.position.ensures
     (λ u off. picked) (λ down. absurd (true≢false (sym up ∙ down))))) c.stop_in.ensures.picks
 
 pub returns-clause-risen : goal.returns-clause-risen
@@ -130,17 +131,17 @@ returns-clause-risen g c = λ t m step here at about is h.
     let ps = c.args.pairs.now.items in
     let s = c.index_mut-here.result.now in
     let there = slice_get_read ss (length ss) c.args.slot s refl c.requires.below c.index_mut-here.ensures.value in
-    let below = pair_below g.D.Disk.image_at g.D.Disk.moment ss ps c.args.slot s c.requires.sits there c.position.result c.position.ensures in
+    let below = pair_below g.D.Disk.view ss ps c.args.slot s c.requires.sits there c.position.result c.position.ensures in
     let pair = slice_get_read ps (length ps) c.position.result c.index_mut-disks.result.now refl below c.index_mut-disks.ensures.value in
-    let view = own_view g.D.Disk.image_at g.D.Disk.moment ss ps c.args.slot s c.requires.sits there c.position.result c.position.ensures c.index_mut-disks.result.now pair in
-    let nodes = seen g.D.Disk.image_at g.D.Disk.moment c.args.self.now ps in
+    let view = own_view g.D.Disk.view ss ps c.args.slot s c.requires.sits there c.position.result c.position.ensures c.index_mut-disks.result.now pair in
+    let nodes = seen g.D.Disk.view c.args.self.now ps in
     let id = same_at ss c.args.slot s _ there at in
     let same : s ≡ t = (let e : Some s ≡ Some t = sym there ∙ here in cc) in
     let changes = ap (λ (v : NodeView). event_changes (slot_id s) v.cells c.args.circuit.now (option_copied c.args.event)) (sym view) ∙ changes_here nodes c.args.slot s m step c.args.circuit.now (option_copied c.args.event) h there id about is in
-    ok_both c.stop_in.result (λ rose higher. subst (λ (u : Slot). FailsBy m c.args.stopping step u (bench g.D.Disk.image_at g.D.Disk.moment g.D.Disk.faults g.D.Disk.armed g.D.Disk.picks ps) (bench g.D.Disk.image_at g.D.Disk.moment g.D.Disk.faults g.D.Disk.armed g.D.Disk.picks (slice_set ps c.position.result c.stop_in.new.disks))) same
+    ok_both c.stop_in.result (λ rose higher. subst (λ (u : Slot). FailsBy m c.args.stopping step u (bench g.D.Disk.view ps) (bench g.D.Disk.view (slice_set ps c.position.result c.stop_in.new.disks))) same
     (record {
-      torn = λ torn. one_rose g.D.Disk.image_at g.D.Disk.moment g.D.Disk.faults g.D.Disk.armed g.D.Disk.picks ps c.position.result c.index_mut-disks.result.now c.stop_in.new.disks pair s.position c.position.ensures (rose (λ none. torn.1 (sym changes ∙ none)) torn.0);
-      checkpoint = λ full. one_higher g.D.Disk.image_at g.D.Disk.moment g.D.Disk.faults g.D.Disk.armed g.D.Disk.picks ps c.position.result c.index_mut-disks.result.now c.stop_in.new.disks pair s.position c.position.ensures
+      torn = λ torn. one_rose g.D.Disk.view ps c.position.result c.index_mut-disks.result.now c.stop_in.new.disks pair s.position c.position.ensures (rose (λ none. torn.1 (sym changes ∙ none)) torn.0);
+      checkpoint = λ full. one_higher g.D.Disk.view ps c.position.result c.index_mut-disks.result.now c.stop_in.new.disks pair s.position c.position.ensures
           (higher (subst (λ (xs : List Change). FillsHost s.host c.args.circuit.now xs) (sym changes) (subst (λ (d : NodeId). FillsHost s.host d (step_plan m step).changes) about full.1)) full.0);
     })) c.stop_in.ensures.risen c.stop_in.ensures.risen_other
 
@@ -150,9 +151,9 @@ returns-clause-onward g c =
     let ps = c.args.pairs.now.items in
     let s = c.index_mut-here.result.now in
     let there = slice_get_read ss (length ss) c.args.slot s refl c.requires.below c.index_mut-here.ensures.value in
-    let below = pair_below g.D.Disk.image_at g.D.Disk.moment ss ps c.args.slot s c.requires.sits there c.position.result c.position.ensures in
+    let below = pair_below g.D.Disk.view ss ps c.args.slot s c.requires.sits there c.position.result c.position.ensures in
     let pair = slice_get_read ps (length ps) c.position.result c.index_mut-disks.result.now refl below c.index_mut-disks.ensures.value in
-    one_forgets g.D.Disk.image_at g.D.Disk.moment g.D.Disk.faults g.D.Disk.armed g.D.Disk.picks ps c.position.result c.index_mut-disks.result.now c.stop_in.new.disks pair c.stop_in.ensures.first_stays c.stop_in.ensures.second_stays
+    one_forgets g.D.Disk.view ps c.position.result c.index_mut-disks.result.now c.stop_in.new.disks pair c.stop_in.ensures.first_stays c.stop_in.ensures.second_stays
 
 pub returns-clause-ended : goal.returns-clause-ended
 returns-clause-ended g c = λ m step at about is h.
@@ -160,7 +161,7 @@ returns-clause-ended g c = λ m step at about is h.
     let ps = c.args.pairs.now.items in
     let s = c.index_mut-here.result.now in
     let there = slice_get_read ss (length ss) c.args.slot s refl c.requires.below c.index_mut-here.ensures.value in
-    let below = pair_below g.D.Disk.image_at g.D.Disk.moment ss ps c.args.slot s c.requires.sits there c.position.result c.position.ensures in
+    let below = pair_below g.D.Disk.view ss ps c.args.slot s c.requires.sits there c.position.result c.position.ensures in
     let pair = slice_get_read ps (length ps) c.position.result c.index_mut-disks.result.now refl below c.index_mut-disks.ensures.value in
-    on_err c.stop_in.result (own_halted g.D.Disk.image_at g.D.Disk.moment ss ps c.args.slot s c.requires.sits there c.position.result c.position.ensures c.index_mut-disks.result.now pair c.stop_in.new.self c.stop_in.new.disks
+    on_err c.stop_in.result (own_halted g.D.Disk.view ss ps c.args.slot s c.requires.sits there c.position.result c.position.ensures c.index_mut-disks.result.now pair c.stop_in.new.self c.stop_in.new.disks
     c.args.circuit.now (option_copied c.args.event) m step h (is_there_up ss c.args.slot s there c.requires.up) (same_at ss c.args.slot s _ there at) about is c.stop_in.ensures.leaves)

@@ -23,7 +23,7 @@ returns-in-At-clause-tells g c = λ m h.
     let circuit = c.in-At.circuit in
     let k = rw (c.in-At.is) at h in
     let here = rw (c.in-At.is) at c.requires.at in
-    let is = event_at m n circuit c.in-At.event (node_up circuit m (seen g.D.Disk.image_at g.D.Disk.moment c.args.self.now c.args.pairs.now.items) c.args.slot n k here c.requires.up) in
+    let is = event_at m n circuit c.in-At.event (node_up circuit m (seen g.D.Disk.view c.args.self.now c.args.pairs.now.items) c.args.slot n k here c.requires.up) in
     rw (c.in-At.is) (c.stop_in_at.ensures.tells m (step.At n circuit c.in-At.event) here refl is k)
 
 pub returns-in-At-clause-own : goal.returns-in-At-clause-own
@@ -32,7 +32,7 @@ returns-in-At-clause-own g c = λ m h.
     let circuit = c.in-At.circuit in
     let k = rw (c.in-At.is) at h in
     let here = rw (c.in-At.is) at c.requires.at in
-    let is = event_at m n circuit c.in-At.event (node_up circuit m (seen g.D.Disk.image_at g.D.Disk.moment c.args.self.now c.args.pairs.now.items) c.args.slot n k here c.requires.up) in
+    let is = event_at m n circuit c.in-At.event (node_up circuit m (seen g.D.Disk.view c.args.self.now c.args.pairs.now.items) c.args.slot n k here c.requires.up) in
     rw (c.in-At.is) (c.stop_in_at.ensures.own m (step.At n circuit c.in-At.event) here refl is k)
 
 pub returns-in-At-clause-risen : goal.returns-in-At-clause-risen
@@ -41,7 +41,7 @@ returns-in-At-clause-risen g c = λ t m there h.
     let circuit = c.in-At.circuit in
     let k = rw (c.in-At.is) at h in
     let here = rw (c.in-At.is) at c.requires.at in
-    let is = event_at m n circuit c.in-At.event (node_up circuit m (seen g.D.Disk.image_at g.D.Disk.moment c.args.self.now c.args.pairs.now.items) c.args.slot n k here c.requires.up) in
+    let is = event_at m n circuit c.in-At.event (node_up circuit m (seen g.D.Disk.view c.args.self.now c.args.pairs.now.items) c.args.slot n k here c.requires.up) in
     rw (c.in-At.is) (c.stop_in_at.ensures.risen t m (step.At n circuit c.in-At.event) there here refl is k)
 
 pub returns-in-At-clause-ended : goal.returns-in-At-clause-ended
@@ -50,7 +50,7 @@ returns-in-At-clause-ended g c = λ m h.
     let circuit = c.in-At.circuit in
     let k = rw (c.in-At.is) at h in
     let here = rw (c.in-At.is) at c.requires.at in
-    let is = event_at m n circuit c.in-At.event (node_up circuit m (seen g.D.Disk.image_at g.D.Disk.moment c.args.self.now c.args.pairs.now.items) c.args.slot n k here c.requires.up) in
+    let is = event_at m n circuit c.in-At.event (node_up circuit m (seen g.D.Disk.view c.args.self.now c.args.pairs.now.items) c.args.slot n k here c.requires.up) in
     rw (c.in-At.is) (c.stop_in_at.ensures.ended m (step.At n circuit c.in-At.event) here refl is k)
 
 -- ---- a delivery
@@ -71,8 +71,8 @@ returns-in-Some-clause-tells g c = λ m h.
     let k = rw (c.in-Deliver.is) at h in
     let here = rw (c.in-Deliver.is) at c.requires.at in
     let back = number_back from to circuit c.in-Deliver.number (rw (c.in-Deliver.is) at c.requires.fits) in
-    let found = sym c.in-Some.is ∙ c.in_ok-delivery-in-Deliver.ensures.event (images g.D.Disk.image_at g.D.Disk.moment c.args.pairs.now.items) m from to k c.slot-sender.ensures.at here in
-    let is = subst (λ (j : ℕ). IsEventOf (Some c.in-Some.event) m (step.Deliver from to circuit j)) back (event_delivered m from to circuit (c.in-Deliver.number - 1) (Some c.in-Some.event) found (node_up circuit m (seen g.D.Disk.image_at g.D.Disk.moment c.args.self.now c.args.pairs.now.items) c.args.slot to k here c.requires.up)) in
+    let found = sym c.in-Some.is ∙ c.in_ok-delivery-in-Deliver.ensures.event (images g.D.Disk.view c.args.pairs.now.items) m from to k c.slot-sender.ensures.at here in
+    let is = subst (λ (j : ℕ). IsEventOf (Some c.in-Some.event) m (step.Deliver from to circuit j)) back (event_delivered m from to circuit (c.in-Deliver.number - 1) (Some c.in-Some.event) found (node_up circuit m (seen g.D.Disk.view c.args.self.now c.args.pairs.now.items) c.args.slot to k here c.requires.up)) in
     rw (c.in-Deliver.is) (c.stop_in_at-in-Some.ensures.tells m (step.Deliver from to circuit c.in-Deliver.number) here refl is k)
 
 pub returns-in-Some-clause-own : goal.returns-in-Some-clause-own
@@ -83,8 +83,8 @@ returns-in-Some-clause-own g c = λ m h.
     let k = rw (c.in-Deliver.is) at h in
     let here = rw (c.in-Deliver.is) at c.requires.at in
     let back = number_back from to circuit c.in-Deliver.number (rw (c.in-Deliver.is) at c.requires.fits) in
-    let found = sym c.in-Some.is ∙ c.in_ok-delivery-in-Deliver.ensures.event (images g.D.Disk.image_at g.D.Disk.moment c.args.pairs.now.items) m from to k c.slot-sender.ensures.at here in
-    let is = subst (λ (j : ℕ). IsEventOf (Some c.in-Some.event) m (step.Deliver from to circuit j)) back (event_delivered m from to circuit (c.in-Deliver.number - 1) (Some c.in-Some.event) found (node_up circuit m (seen g.D.Disk.image_at g.D.Disk.moment c.args.self.now c.args.pairs.now.items) c.args.slot to k here c.requires.up)) in
+    let found = sym c.in-Some.is ∙ c.in_ok-delivery-in-Deliver.ensures.event (images g.D.Disk.view c.args.pairs.now.items) m from to k c.slot-sender.ensures.at here in
+    let is = subst (λ (j : ℕ). IsEventOf (Some c.in-Some.event) m (step.Deliver from to circuit j)) back (event_delivered m from to circuit (c.in-Deliver.number - 1) (Some c.in-Some.event) found (node_up circuit m (seen g.D.Disk.view c.args.self.now c.args.pairs.now.items) c.args.slot to k here c.requires.up)) in
     rw (c.in-Deliver.is) (c.stop_in_at-in-Some.ensures.own m (step.Deliver from to circuit c.in-Deliver.number) here refl is k)
 
 pub returns-in-Some-clause-risen : goal.returns-in-Some-clause-risen
@@ -95,8 +95,8 @@ returns-in-Some-clause-risen g c = λ t m there h.
     let k = rw (c.in-Deliver.is) at h in
     let here = rw (c.in-Deliver.is) at c.requires.at in
     let back = number_back from to circuit c.in-Deliver.number (rw (c.in-Deliver.is) at c.requires.fits) in
-    let found = sym c.in-Some.is ∙ c.in_ok-delivery-in-Deliver.ensures.event (images g.D.Disk.image_at g.D.Disk.moment c.args.pairs.now.items) m from to k c.slot-sender.ensures.at here in
-    let is = subst (λ (j : ℕ). IsEventOf (Some c.in-Some.event) m (step.Deliver from to circuit j)) back (event_delivered m from to circuit (c.in-Deliver.number - 1) (Some c.in-Some.event) found (node_up circuit m (seen g.D.Disk.image_at g.D.Disk.moment c.args.self.now c.args.pairs.now.items) c.args.slot to k here c.requires.up)) in
+    let found = sym c.in-Some.is ∙ c.in_ok-delivery-in-Deliver.ensures.event (images g.D.Disk.view c.args.pairs.now.items) m from to k c.slot-sender.ensures.at here in
+    let is = subst (λ (j : ℕ). IsEventOf (Some c.in-Some.event) m (step.Deliver from to circuit j)) back (event_delivered m from to circuit (c.in-Deliver.number - 1) (Some c.in-Some.event) found (node_up circuit m (seen g.D.Disk.view c.args.self.now c.args.pairs.now.items) c.args.slot to k here c.requires.up)) in
     rw (c.in-Deliver.is) (c.stop_in_at-in-Some.ensures.risen t m (step.Deliver from to circuit c.in-Deliver.number) there here refl is k)
 
 pub returns-in-None-clause-tells : goal.returns-in-None-clause-tells
@@ -107,8 +107,8 @@ returns-in-None-clause-tells g c = λ m h.
     let k = rw (c.in-Deliver.is) at h in
     let here = rw (c.in-Deliver.is) at c.requires.at in
     let back = number_back from to circuit c.in-Deliver.number (rw (c.in-Deliver.is) at c.requires.fits) in
-    let found = sym c.in-None.is ∙ c.in_ok-delivery-in-Deliver.ensures.event (images g.D.Disk.image_at g.D.Disk.moment c.args.pairs.now.items) m from to k c.slot-sender.ensures.at here in
-    let is = subst (λ (j : ℕ). IsEventOf None m (step.Deliver from to circuit j)) back (event_delivered m from to circuit (c.in-Deliver.number - 1) None found (node_up circuit m (seen g.D.Disk.image_at g.D.Disk.moment c.args.self.now c.args.pairs.now.items) c.args.slot to k here c.requires.up)) in
+    let found = sym c.in-None.is ∙ c.in_ok-delivery-in-Deliver.ensures.event (images g.D.Disk.view c.args.pairs.now.items) m from to k c.slot-sender.ensures.at here in
+    let is = subst (λ (j : ℕ). IsEventOf None m (step.Deliver from to circuit j)) back (event_delivered m from to circuit (c.in-Deliver.number - 1) None found (node_up circuit m (seen g.D.Disk.view c.args.self.now c.args.pairs.now.items) c.args.slot to k here c.requires.up)) in
     rw (c.in-Deliver.is) (c.stop_in_at-in-None.ensures.tells m (step.Deliver from to circuit c.in-Deliver.number) here refl is k)
 
 pub returns-in-None-clause-own : goal.returns-in-None-clause-own
@@ -119,8 +119,8 @@ returns-in-None-clause-own g c = λ m h.
     let k = rw (c.in-Deliver.is) at h in
     let here = rw (c.in-Deliver.is) at c.requires.at in
     let back = number_back from to circuit c.in-Deliver.number (rw (c.in-Deliver.is) at c.requires.fits) in
-    let found = sym c.in-None.is ∙ c.in_ok-delivery-in-Deliver.ensures.event (images g.D.Disk.image_at g.D.Disk.moment c.args.pairs.now.items) m from to k c.slot-sender.ensures.at here in
-    let is = subst (λ (j : ℕ). IsEventOf None m (step.Deliver from to circuit j)) back (event_delivered m from to circuit (c.in-Deliver.number - 1) None found (node_up circuit m (seen g.D.Disk.image_at g.D.Disk.moment c.args.self.now c.args.pairs.now.items) c.args.slot to k here c.requires.up)) in
+    let found = sym c.in-None.is ∙ c.in_ok-delivery-in-Deliver.ensures.event (images g.D.Disk.view c.args.pairs.now.items) m from to k c.slot-sender.ensures.at here in
+    let is = subst (λ (j : ℕ). IsEventOf None m (step.Deliver from to circuit j)) back (event_delivered m from to circuit (c.in-Deliver.number - 1) None found (node_up circuit m (seen g.D.Disk.view c.args.self.now c.args.pairs.now.items) c.args.slot to k here c.requires.up)) in
     rw (c.in-Deliver.is) (c.stop_in_at-in-None.ensures.own m (step.Deliver from to circuit c.in-Deliver.number) here refl is k)
 
 pub returns-in-None-clause-risen : goal.returns-in-None-clause-risen
@@ -131,8 +131,8 @@ returns-in-None-clause-risen g c = λ t m there h.
     let k = rw (c.in-Deliver.is) at h in
     let here = rw (c.in-Deliver.is) at c.requires.at in
     let back = number_back from to circuit c.in-Deliver.number (rw (c.in-Deliver.is) at c.requires.fits) in
-    let found = sym c.in-None.is ∙ c.in_ok-delivery-in-Deliver.ensures.event (images g.D.Disk.image_at g.D.Disk.moment c.args.pairs.now.items) m from to k c.slot-sender.ensures.at here in
-    let is = subst (λ (j : ℕ). IsEventOf None m (step.Deliver from to circuit j)) back (event_delivered m from to circuit (c.in-Deliver.number - 1) None found (node_up circuit m (seen g.D.Disk.image_at g.D.Disk.moment c.args.self.now c.args.pairs.now.items) c.args.slot to k here c.requires.up)) in
+    let found = sym c.in-None.is ∙ c.in_ok-delivery-in-Deliver.ensures.event (images g.D.Disk.view c.args.pairs.now.items) m from to k c.slot-sender.ensures.at here in
+    let is = subst (λ (j : ℕ). IsEventOf None m (step.Deliver from to circuit j)) back (event_delivered m from to circuit (c.in-Deliver.number - 1) None found (node_up circuit m (seen g.D.Disk.view c.args.self.now c.args.pairs.now.items) c.args.slot to k here c.requires.up)) in
     rw (c.in-Deliver.is) (c.stop_in_at-in-None.ensures.risen t m (step.Deliver from to circuit c.in-Deliver.number) there here refl is k)
 
 pub returns-in-Some-clause-ended : goal.returns-in-Some-clause-ended
@@ -143,8 +143,8 @@ returns-in-Some-clause-ended g c = λ m h.
     let k = rw (c.in-Deliver.is) at h in
     let here = rw (c.in-Deliver.is) at c.requires.at in
     let back = number_back from to circuit c.in-Deliver.number (rw (c.in-Deliver.is) at c.requires.fits) in
-    let found = sym c.in-Some.is ∙ c.in_ok-delivery-in-Deliver.ensures.event (images g.D.Disk.image_at g.D.Disk.moment c.args.pairs.now.items) m from to k c.slot-sender.ensures.at here in
-    let is = subst (λ (j : ℕ). IsEventOf (Some c.in-Some.event) m (step.Deliver from to circuit j)) back (event_delivered m from to circuit (c.in-Deliver.number - 1) (Some c.in-Some.event) found (node_up circuit m (seen g.D.Disk.image_at g.D.Disk.moment c.args.self.now c.args.pairs.now.items) c.args.slot to k here c.requires.up)) in
+    let found = sym c.in-Some.is ∙ c.in_ok-delivery-in-Deliver.ensures.event (images g.D.Disk.view c.args.pairs.now.items) m from to k c.slot-sender.ensures.at here in
+    let is = subst (λ (j : ℕ). IsEventOf (Some c.in-Some.event) m (step.Deliver from to circuit j)) back (event_delivered m from to circuit (c.in-Deliver.number - 1) (Some c.in-Some.event) found (node_up circuit m (seen g.D.Disk.view c.args.self.now c.args.pairs.now.items) c.args.slot to k here c.requires.up)) in
     rw (c.in-Deliver.is) (c.stop_in_at-in-Some.ensures.ended m (step.Deliver from to circuit c.in-Deliver.number) here refl is k)
 
 pub returns-in-None-clause-ended : goal.returns-in-None-clause-ended
@@ -155,8 +155,8 @@ returns-in-None-clause-ended g c = λ m h.
     let k = rw (c.in-Deliver.is) at h in
     let here = rw (c.in-Deliver.is) at c.requires.at in
     let back = number_back from to circuit c.in-Deliver.number (rw (c.in-Deliver.is) at c.requires.fits) in
-    let found = sym c.in-None.is ∙ c.in_ok-delivery-in-Deliver.ensures.event (images g.D.Disk.image_at g.D.Disk.moment c.args.pairs.now.items) m from to k c.slot-sender.ensures.at here in
-    let is = subst (λ (j : ℕ). IsEventOf None m (step.Deliver from to circuit j)) back (event_delivered m from to circuit (c.in-Deliver.number - 1) None found (node_up circuit m (seen g.D.Disk.image_at g.D.Disk.moment c.args.self.now c.args.pairs.now.items) c.args.slot to k here c.requires.up)) in
+    let found = sym c.in-None.is ∙ c.in_ok-delivery-in-Deliver.ensures.event (images g.D.Disk.view c.args.pairs.now.items) m from to k c.slot-sender.ensures.at here in
+    let is = subst (λ (j : ℕ). IsEventOf None m (step.Deliver from to circuit j)) back (event_delivered m from to circuit (c.in-Deliver.number - 1) None found (node_up circuit m (seen g.D.Disk.view c.args.self.now c.args.pairs.now.items) c.args.slot to k here c.requires.up)) in
     rw (c.in-Deliver.is) (c.stop_in_at-in-None.ensures.ended m (step.Deliver from to circuit c.in-Deliver.number) here refl is k)
 
 pub returns-in_err-delivery-in-Deliver-clause-ended : goal.returns-in_err-delivery-in-Deliver-clause-ended

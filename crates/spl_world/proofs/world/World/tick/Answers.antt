@@ -22,20 +22,20 @@ use Rattle.spl_world.proofs.world.World.tick.Goals as goal
 
 pub returns-in_default-clause-counts : goal.returns-in_default-clause-counts
 returns-in_default-clause-counts g c = λ m n h at.
-    let looked : due_at c.args.circuit m n ≡ None = sym (c.due.ensures.world (images g.D.Disk.image_at g.D.Disk.moment c.args.pairs.now.items) m n c.requires.sits h at) ∙ c.in_default.is in
+    let looked : due_at c.args.circuit m n ≡ None = sym (c.due.ensures.world (images g.D.Disk.view c.args.pairs.now.items) m n c.requires.sits h at) ∙ c.in_default.is in
     let none : 0 ≡ tick_count m n = sym (ap (λ (t : Bool). if t then 1 else 0) (none_due c.args.circuit n m looked)) in
     counts_to (Ok false) c.args.self.now.events c.args.self.now.events 0 0 (tick_count m n) none (counts_none false c.args.self.now.events 0)
 
 pub returns-in_default-clause-idle : goal.returns-in_default-clause-idle
 returns-in_default-clause-idle g c = λ m n h at still ready.
-    let looked : due_at c.args.circuit m n ≡ None = sym (c.due.ensures.world (images g.D.Disk.image_at g.D.Disk.moment c.args.pairs.now.items) m n c.requires.sits h at) ∙ c.in_default.is in
+    let looked : due_at c.args.circuit m n ≡ None = sym (c.due.ensures.world (images g.D.Disk.view c.args.pairs.now.items) m n c.requires.sits h at) ∙ c.in_default.is in
     absurd (true≢false (sym ready ∙ none_due c.args.circuit n m looked))
 
 pub returns-in_default-clause-moves : goal.returns-in_default-clause-moves
 returns-in_default-clause-moves g c = λ n at.
-    let xs = (seen g.D.Disk.image_at g.D.Disk.moment c.args.self.now c.args.pairs.now.items) in
+    let xs = (seen g.D.Disk.view c.args.self.now c.args.pairs.now.items) in
     moves_as c.args.circuit (λ m. m) (tick_at c.args.circuit n) xs xs (λ m h.
-    let looked : due_at c.args.circuit m n ≡ None = sym (c.due.ensures.world (images g.D.Disk.image_at g.D.Disk.moment c.args.pairs.now.items) m n c.requires.sits h at) ∙ c.in_default.is in
+    let looked : due_at c.args.circuit m n ≡ None = sym (c.due.ensures.world (images g.D.Disk.view c.args.pairs.now.items) m n c.requires.sits h at) ∙ c.in_default.is in
     let closed : (m.up n && is_open_cell (m.at n)) ≡ false = none_due c.args.circuit n m looked in
     rw closed refl) (moves_nothing c.args.circuit xs)
 
@@ -43,7 +43,7 @@ returns-in_default-clause-moves g c = λ n at.
 
 pub returns-in_err-add-clause-counts : goal.returns-in_err-add-clause-counts
 returns-in_err-add-clause-counts g c = λ m n h at.
-    let looked : due_at c.args.circuit m n ≡ Some c.in-Some.due = sym (c.due.ensures.world (images g.D.Disk.image_at g.D.Disk.moment c.args.pairs.now.items) m n c.requires.sits h at) ∙ c.in-Some.is in
+    let looked : due_at c.args.circuit m n ≡ Some c.in-Some.due = sym (c.due.ensures.world (images g.D.Disk.view c.args.pairs.now.items) m n c.requires.sits h at) ∙ c.in-Some.is in
     let one : 1 ≤ tick_count m n = at_least 1 (tick_count m n) (sym (ap (λ (t : Bool). if t then 1 else 0) (one_due c.args.circuit n m c.in-Some.due looked))) in
     counts_failed c.from_residual.result _ c.from_residual.ensures c.args.self.now.events _ _ 0 1 (tick_count m n) c.in_err-add.ensures.counts one
 
@@ -51,35 +51,35 @@ returns-in_err-add-clause-counts g c = λ m n h at.
 
 pub returns-then-not-due-clause-counts : goal.returns-then-not-due-clause-counts
 returns-then-not-due-clause-counts g c = λ m n h at.
-    let looked : due_at c.args.circuit m n ≡ Some c.in-Some.due = sym (c.due.ensures.world (images g.D.Disk.image_at g.D.Disk.moment c.args.pairs.now.items) m n c.requires.sits h at) ∙ c.in-Some.is in
+    let looked : due_at c.args.circuit m n ≡ Some c.in-Some.due = sym (c.due.ensures.world (images g.D.Disk.view c.args.pairs.now.items) m n c.requires.sits h at) ∙ c.in-Some.is in
     let one : tick_count m n ≡ 1 = ap (λ (t : Bool). if t then 1 else 0) (one_due c.args.circuit n m c.in-Some.due looked) in
     counts_done false c.args.self.now.events c.add.new.self 0 (tick_count m n) (omega (arith, one, c.in_ok-add.ensures.counts.ok))
 
 pub returns-then-not-due-clause-idle : goal.returns-then-not-due-clause-idle
 returns-then-not-due-clause-idle g c = λ m n h at still ready.
-    let looked : due_at c.args.circuit m n ≡ Some c.in-Some.due = sym (c.due.ensures.world (images g.D.Disk.image_at g.D.Disk.moment c.args.pairs.now.items) m n c.requires.sits h at) ∙ c.in-Some.is in
+    let looked : due_at c.args.circuit m n ≡ Some c.in-Some.due = sym (c.due.ensures.world (images g.D.Disk.view c.args.pairs.now.items) m n c.requires.sits h at) ∙ c.in-Some.is in
     idle_due c.args.circuit n m (looked ∙ ap (λ (b : Bool). Some b) c.if-not-due.true)
 
 pub returns-then-not-due-clause-moves : goal.returns-then-not-due-clause-moves
 returns-then-not-due-clause-moves g c = λ n at.
-    let xs = (seen g.D.Disk.image_at g.D.Disk.moment c.args.self.now c.args.pairs.now.items) in
+    let xs = (seen g.D.Disk.view c.args.self.now c.args.pairs.now.items) in
     moves_as c.args.circuit (λ m. m) (tick_at c.args.circuit n) xs xs (λ m h.
-    let looked : due_at c.args.circuit m n ≡ Some c.in-Some.due = sym (c.due.ensures.world (images g.D.Disk.image_at g.D.Disk.moment c.args.pairs.now.items) m n c.requires.sits h at) ∙ c.in-Some.is in
+    let looked : due_at c.args.circuit m n ≡ Some c.in-Some.due = sym (c.due.ensures.world (images g.D.Disk.view c.args.pairs.now.items) m n c.requires.sits h at) ∙ c.in-Some.is in
     stays_due c.args.circuit n m (looked ∙ ap (λ (b : Bool). Some b) c.if-not-due.true)) (moves_nothing c.args.circuit xs)
 
 -- ---- and it has something to do
 
 pub returns-clause-counts : goal.returns-clause-counts
 returns-clause-counts g c = λ m n h at.
-    let looked : due_at c.args.circuit m n ≡ Some c.in-Some.due = sym (c.due.ensures.world (images g.D.Disk.image_at g.D.Disk.moment c.args.pairs.now.items) m n c.requires.sits h at) ∙ c.in-Some.is in
+    let looked : due_at c.args.circuit m n ≡ Some c.in-Some.due = sym (c.due.ensures.world (images g.D.Disk.view c.args.pairs.now.items) m n c.requires.sits h at) ∙ c.in-Some.is in
     let one : tick_count m n ≡ 1 = ap (λ (t : Bool). if t then 1 else 0) (one_due c.args.circuit n m c.in-Some.due looked) in
     counts_done true c.args.self.now.events c.handle.new.self.events 0 (tick_count m n) (omega (arith, one, c.handle.ensures.events, c.in_ok-add.ensures.counts.ok))
 
 pub returns-clause-moves : goal.returns-clause-moves
 returns-clause-moves g c = λ n at.
-    moves_as c.args.circuit (λ m. carried_out m n (plan_of (site_at n c.args.circuit) (m.at n) event.Tick)) (tick_at c.args.circuit n) (seen g.D.Disk.image_at g.D.Disk.moment c.args.self.now c.args.pairs.now.items) (seen g.D.Disk.image_at g.D.Disk.moment c.handle.new.self c.handle.new.pairs.items)
+    moves_as c.args.circuit (λ m. carried_out m n (plan_of (site_at n c.args.circuit) (m.at n) event.Tick)) (tick_at c.args.circuit n) (seen g.D.Disk.view c.args.self.now c.args.pairs.now.items) (seen g.D.Disk.view c.handle.new.self c.handle.new.pairs.items)
     (λ m h.
-    let looked : due_at c.args.circuit m n ≡ Some c.in-Some.due = sym (c.due.ensures.world (images g.D.Disk.image_at g.D.Disk.moment c.args.pairs.now.items) m n c.requires.sits h at) ∙ c.in-Some.is in
+    let looked : due_at c.args.circuit m n ≡ Some c.in-Some.due = sym (c.due.ensures.world (images g.D.Disk.view c.args.pairs.now.items) m n c.requires.sits h at) ∙ c.in-Some.is in
     let ready : (m.up n && is_open_cell (m.at n)) ≡ true = one_due c.args.circuit n m c.in-Some.due looked in
     sym (world_up m (step.At n c.args.circuit event.Tick) (and_left (m.up n) (is_open_cell (m.at n)) ready)) ∙ opened_tick c.args.circuit n m ready) (c.in_ok-handle.ensures.moves n at)
 
@@ -87,9 +87,9 @@ returns-clause-moves g c = λ n at.
 
 pub returns-in_err-handle-clause-ended : goal.returns-in_err-handle-clause-ended
 returns-in_err-handle-clause-ended g c = λ m n h at.
-    let xs = (seen g.D.Disk.image_at g.D.Disk.moment c.args.self.now c.args.pairs.now.items) in
-    let is = images g.D.Disk.image_at g.D.Disk.moment c.handle.new.pairs.items in
-    let looked : due_at c.args.circuit m n ≡ Some c.in-Some.due = sym (c.due.ensures.world (images g.D.Disk.image_at g.D.Disk.moment c.args.pairs.now.items) m n c.requires.sits h at) ∙ c.in-Some.is in
+    let xs = (seen g.D.Disk.view c.args.self.now c.args.pairs.now.items) in
+    let is = images g.D.Disk.view c.handle.new.pairs.items in
+    let looked : due_at c.args.circuit m n ≡ Some c.in-Some.due = sym (c.due.ensures.world (images g.D.Disk.view c.args.pairs.now.items) m n c.requires.sits h at) ∙ c.in-Some.is in
     let ready : (m.up n && is_open_cell (m.at n)) ≡ true = one_due c.args.circuit n m c.in-Some.due looked in
     let same : carried_out m n (plan_of (site_at n c.args.circuit) (m.at n) event.Tick) ≡ tick_at c.args.circuit n m = sym (world_up m (step.At n c.args.circuit event.Tick) (and_left (m.up n) (is_open_cell (m.at n)) ready)) ∙ opened_tick c.args.circuit n m ready in
     err_from c.from_residual-in_err-handle.result _ (λ e. EventEnds c.args.circuit (tick_at c.args.circuit n m) e xs is) c.from_residual-in_err-handle.ensures

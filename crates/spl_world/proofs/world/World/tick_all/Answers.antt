@@ -21,12 +21,12 @@ use Rattle.spl_world.proofs.world.World.tick_all.Goals as goal
 
 pub loop-slot-preserved : goal.loop-slot-preserved
 loop-slot-preserved g c =
-    let xs = (seen g.D.Disk.image_at g.D.Disk.moment c.args.self.now c.args.pairs.now.items) in (
+    let xs = (seen g.D.Disk.view c.args.self.now c.args.pairs.now.items) in (
       same_length c.args.self.now.slots.items c.tick.new.self.slots.items (c.tick.ensures.ids ∙ c.loop-slot.invariant.1),
       c.tick.ensures.ids ∙ c.loop-slot.invariant.1,
       λ z.
           let n = some_at c.args.self.now.slots.items c.loop-slot.slot (rw (c.len-slot-end.ensures) at c.loop-slot-test.true) in
-          tick_moves c.args.circuit z xs (seen g.D.Disk.image_at g.D.Disk.moment c.loop-slot.self c.loop-slot.pairs.items) (seen g.D.Disk.image_at g.D.Disk.moment c.tick.new.self c.tick.new.pairs.items) c.loop-slot.slot n.0 n.1 (c.loop-slot.invariant.2 z) (c.in_ok-one.ensures.moves n.0 (ap (λ (ns : List NodeId). slice_get ns c.loop-slot.slot) c.loop-slot.invariant.1 ∙ n.1)),
+          tick_moves c.args.circuit z xs (seen g.D.Disk.view c.loop-slot.self c.loop-slot.pairs.items) (seen g.D.Disk.view c.tick.new.self c.tick.new.pairs.items) c.loop-slot.slot n.0 n.1 (c.loop-slot.invariant.2 z) (c.in_ok-one.ensures.moves n.0 (ap (λ (ns : List NodeId). slice_get ns c.loop-slot.slot) c.loop-slot.invariant.1 ∙ n.1)),
       λ m h.
           let n = some_at c.args.self.now.slots.items c.loop-slot.slot (rw (c.len-slot-end.ensures) at c.loop-slot-test.true) in
           let there : slice_get (ids_of c.loop-slot.self) c.loop-slot.slot ≡ Some n.0 = ap (λ (ns : List NodeId). slice_get ns c.loop-slot.slot) c.loop-slot.invariant.1 ∙ n.1 in
@@ -50,12 +50,12 @@ loop-slot-preserved g c =
 
 pub returns-clause-moves : goal.returns-clause-moves
 returns-clause-moves g c = λ z.
-    let xs = (seen g.D.Disk.image_at g.D.Disk.moment c.args.self.now c.args.pairs.now.items) in
-    subst (λ (ns : List NodeId). Moves c.args.circuit (ticked c.args.circuit z ns) xs (seen g.D.Disk.image_at g.D.Disk.moment c.loop-slot.self c.loop-slot.pairs.items)) (take_all c.loop-slot.slot (ids_of c.args.self.now) (subst (λ (k : ℕ). k ≤ c.loop-slot.slot) (c.len-slot-end.ensures ∙ sym (length_ids c.args.self.now.slots.items)) c.loop-slot-test.false)) (c.loop-slot.invariant.2 z)
+    let xs = (seen g.D.Disk.view c.args.self.now c.args.pairs.now.items) in
+    subst (λ (ns : List NodeId). Moves c.args.circuit (ticked c.args.circuit z ns) xs (seen g.D.Disk.view c.loop-slot.self c.loop-slot.pairs.items)) (take_all c.loop-slot.slot (ids_of c.args.self.now) (subst (λ (k : ℕ). k ≤ c.loop-slot.slot) (c.len-slot-end.ensures ∙ sym (length_ids c.args.self.now.slots.items)) c.loop-slot-test.false)) (c.loop-slot.invariant.2 z)
 
 pub returns-in_err-one-clause-counts : goal.returns-in_err-one-clause-counts
 returns-in_err-one-clause-counts g c = λ m h.
-    let xs = (seen g.D.Disk.image_at g.D.Disk.moment c.args.self.now c.args.pairs.now.items) in
+    let xs = (seen g.D.Disk.view c.args.self.now c.args.pairs.now.items) in
     let n = some_at c.args.self.now.slots.items c.loop-slot.slot (rw (c.len-slot-end.ensures) at c.loop-slot-test.true) in
     let there : slice_get (ids_of c.loop-slot.self) c.loop-slot.slot ≡ Some n.0 = ap (λ (ns : List NodeId). slice_get ns c.loop-slot.slot) c.loop-slot.invariant.1 ∙ n.1 in
     let z : Calming = some_calming 0 in
@@ -95,9 +95,9 @@ returns-in_err-one-clause-place g c = disk_at _ _ c.from_residual.result _ c.fro
 
 pub returns-in_err-one-clause-ended : goal.returns-in_err-one-clause-ended
 returns-in_err-one-clause-ended g c = λ z h.
-    let old = (seen g.D.Disk.image_at g.D.Disk.moment c.args.self.now c.args.pairs.now.items) in
-    let mid = seen g.D.Disk.image_at g.D.Disk.moment c.loop-slot.self c.loop-slot.pairs.items in
-    let is = images g.D.Disk.image_at g.D.Disk.moment c.tick.new.pairs.items in
+    let old = (seen g.D.Disk.view c.args.self.now c.args.pairs.now.items) in
+    let mid = seen g.D.Disk.view c.loop-slot.self c.loop-slot.pairs.items in
+    let is = images g.D.Disk.view c.tick.new.pairs.items in
     let ids = ids_of c.args.self.now in
     let n = some_at c.args.self.now.slots.items c.loop-slot.slot (rw (c.len-slot-end.ensures) at c.loop-slot-test.true) in
     let there : slice_get (ids_of c.loop-slot.self) c.loop-slot.slot ≡ Some n.0 = ap (λ (ns : List NodeId). slice_get ns c.loop-slot.slot) c.loop-slot.invariant.1 ∙ n.1 in

@@ -24,7 +24,7 @@ use Rattle.spl_world.proofs.world.World.to_all.Goals as goal
 
 pub loop-to-preserved : goal.loop-to-preserved
 loop-to-preserved g c =
-    let xs = (seen g.D.Disk.image_at g.D.Disk.moment c.args.self.now c.args.pairs.now.items) in
+    let xs = (seen g.D.Disk.view c.args.self.now c.args.pairs.now.items) in
     let ids = c.pair_turn.ensures.ids ∙ c.loop-to.invariant.1 in
     let recipient = some_at c.args.self.now.slots.items c.loop-to.to (rw (c.len-to-end.ensures) at c.loop-to-test.true) in
     let sender = some_at c.args.self.now.slots.items c.args.from c.requires.below in
@@ -38,9 +38,9 @@ loop-to-preserved g c =
           let y : Calming = to_all c.args.circuit z a (take c.loop-to.to (ids_of c.args.self.now)) in
           let here : slice_get (ids_of c.loop-to.self) c.args.from ≡ Some a = ap (λ (ns : List NodeId). slice_get ns c.args.from) c.loop-to.invariant.1 ∙ at in
           let taken : y.taken a recipient.0 ≡ c.index.result.now = sym (c.index.ensures ∙ ap (λ (r : List ℕ). get_or r c.loop-to.to c.index.result.now) so_far.1 ∙ row_at y.taken a (ids_of c.args.self.now) c.loop-to.to recipient.0 c.index.result.now recipient.1) in
-          turn_own c.args.circuit z a (ids_of c.args.self.now) c.loop-to.to recipient.0 (seen g.D.Disk.image_at g.D.Disk.moment c.loop-to.self c.loop-to.pairs.items) (seen g.D.Disk.image_at g.D.Disk.moment c.pair_turn.new.self c.pair_turn.new.pairs.items) c.loop-to.row.items c.in_ok-row.field-0 h.ordered recipient.1 so_far
+          turn_own c.args.circuit z a (ids_of c.args.self.now) c.loop-to.to recipient.0 (seen g.D.Disk.view c.loop-to.self c.loop-to.pairs.items) (seen g.D.Disk.view c.pair_turn.new.self c.pair_turn.new.pairs.items) c.loop-to.row.items c.in_ok-row.field-0 h.ordered recipient.1 so_far
           (c.in_ok-row.ensures.moves y a recipient.0 here to taken) (c.in_ok-row.ensures.count y a recipient.0 so_far.0 here to taken),
-      spares_then c.args.circuit xs (seen g.D.Disk.image_at g.D.Disk.moment c.loop-to.self c.loop-to.pairs.items) (seen g.D.Disk.image_at g.D.Disk.moment c.pair_turn.new.self c.pair_turn.new.pairs.items) c.loop-to.invariant.4 (c.in_ok-row.ensures.moves (some_calming c.index.result.now) sender.0 recipient.0 from to refl).others,
+      spares_then c.args.circuit xs (seen g.D.Disk.view c.loop-to.self c.loop-to.pairs.items) (seen g.D.Disk.view c.pair_turn.new.self c.pair_turn.new.pairs.items) c.loop-to.invariant.4 (c.in_ok-row.ensures.moves (some_calming c.index.result.now) sender.0 recipient.0 from to refl).others,
       λ z a h at row.
           let y : Calming = to_all c.args.circuit z a (take c.loop-to.to (ids_of c.args.self.now)) in
           let so_far = c.loop-to.invariant.3 z a h at row in
@@ -54,9 +54,9 @@ loop-to-preserved g c =
       c.pair_turn.ensures.stops ∙ c.loop-to.invariant.9,
       c.in_ok-row.ensures.ready,
       λ place z a placed h at row.
-          let p = (link_view g.C.Carry.slots g.C.Carry.failed g.C.Carry.wire g.F.Fabric.put_on g.F.Fabric.taken_on g.F.Fabric.faults c.args.carrier.now c.args.fabric.now) in
-          let q = (link_view g.C.Carry.slots g.C.Carry.failed g.C.Carry.wire g.F.Fabric.put_on g.F.Fabric.taken_on g.F.Fabric.faults c.loop-to.carrier c.loop-to.fabric) in
-          let s = (link_view g.C.Carry.slots g.C.Carry.failed g.C.Carry.wire g.F.Fabric.put_on g.F.Fabric.taken_on g.F.Fabric.faults c.pair_turn.new.carrier c.pair_turn.new.fabric) in
+          let p = (link_view (g.C.Carry.view c.args.carrier.now) (g.F.Fabric.view c.args.fabric.now)) in
+          let q = (link_view (g.C.Carry.view c.loop-to.carrier) (g.F.Fabric.view c.loop-to.fabric)) in
+          let s = (link_view (g.C.Carry.view c.pair_turn.new.carrier) (g.F.Fabric.view c.pair_turn.new.fabric)) in
           let y : Calming = to_all c.args.circuit z a (take c.loop-to.to (ids_of c.args.self.now)) in
           let so_far = c.loop-to.invariant.3 z a h at row in
           let here : slice_get (ids_of c.loop-to.self) c.args.from ≡ Some a = ap (λ (ns : List NodeId). slice_get ns c.args.from) c.loop-to.invariant.1 ∙ at in
@@ -70,7 +70,7 @@ loop-to-preserved g c =
 
 pub returns-clause-own : goal.returns-clause-own
 returns-clause-own g c = λ z a h at row.
-    subst (λ (ns : List NodeId). Holds c.args.circuit (to_all c.args.circuit z a ns).world (seen g.D.Disk.image_at g.D.Disk.moment c.loop-to.self c.loop-to.pairs.items) × (c.loop-to.row.items ≡ row_of (to_all c.args.circuit z a ns).taken a (ids_of c.args.self.now)))
+    subst (λ (ns : List NodeId). Holds c.args.circuit (to_all c.args.circuit z a ns).world (seen g.D.Disk.view c.loop-to.self c.loop-to.pairs.items) × (c.loop-to.row.items ≡ row_of (to_all c.args.circuit z a ns).taken a (ids_of c.args.self.now)))
     (take_all c.loop-to.to (ids_of c.args.self.now) (subst (λ (k : ℕ). k ≤ c.loop-to.to) (c.len-to-end.ensures ∙ sym (length_ids c.args.self.now.slots.items)) c.loop-to-test.false)) (c.loop-to.invariant.3 z a h at row)
 
 pub returns-in_err-row-clause-counts : goal.returns-in_err-row-clause-counts
@@ -95,7 +95,7 @@ returns-clause-counts g c = λ z a h at row.
 -- ---- the disks
 
 pub loop-to-init : goal.loop-to-init
-loop-to-init g c = (refl, refl, refl, λ z a h at row. (h, row), λ d m off h. h, λ z a h at row. refl, c.requires.sits, all_itself _, refl, refl, c.requires.ready, λ place z a placed h at row. part_same place z (link_view g.C.Carry.slots g.C.Carry.failed g.C.Carry.wire g.F.Fabric.put_on g.F.Fabric.taken_on g.F.Fabric.faults c.args.carrier.now c.args.fabric.now) (g.met.C.Carry.idle c.args.carrier.now), links_itself _)
+loop-to-init g c = (refl, refl, refl, λ z a h at row. (h, row), λ d m off h. h, λ z a h at row. refl, c.requires.sits, all_itself _, refl, refl, c.requires.ready, λ place z a placed h at row. part_same place z (link_view (g.C.Carry.view c.args.carrier.now) (g.F.Fabric.view c.args.fabric.now)) (g.met.C.Carry.idle c.args.carrier.now), links_itself _)
 
 pub pair_turn-requires-clause-sits : goal.pair_turn-requires-clause-sits
 pair_turn-requires-clause-sits g c = c.loop-to.invariant.6
@@ -113,9 +113,9 @@ returns-in_err-row-clause-place g c = disk_at _ _ c.from_residual.result _ c.fro
 
 pub returns-in_err-row-clause-ended : goal.returns-in_err-row-clause-ended
 returns-in_err-row-clause-ended g c = λ z a h at row.
-    let old = (seen g.D.Disk.image_at g.D.Disk.moment c.args.self.now c.args.pairs.now.items) in
-    let mid = seen g.D.Disk.image_at g.D.Disk.moment c.loop-to.self c.loop-to.pairs.items in
-    let is = images g.D.Disk.image_at g.D.Disk.moment c.pair_turn.new.pairs.items in
+    let old = (seen g.D.Disk.view c.args.self.now c.args.pairs.now.items) in
+    let mid = seen g.D.Disk.view c.loop-to.self c.loop-to.pairs.items in
+    let is = images g.D.Disk.view c.pair_turn.new.pairs.items in
     let ids = ids_of c.args.self.now in
     let recipient = some_at c.args.self.now.slots.items c.loop-to.to (rw (c.len-to-end.ensures) at c.loop-to-test.true) in
     let to : slice_get (ids_of c.loop-to.self) c.loop-to.to ≡ Some recipient.0 = ap (λ (ns : List NodeId). slice_get ns c.loop-to.to) c.loop-to.invariant.1 ∙ recipient.1 in
@@ -140,9 +140,9 @@ pub returns-in_err-row-clause-links : goal.returns-in_err-row-clause-links
 returns-in_err-row-clause-links g c = λ place z a placed h at row.
     let recipient = some_at c.args.self.now.slots.items c.loop-to.to (rw (c.len-to-end.ensures) at c.loop-to-test.true) in
     let to : slice_get (ids_of c.loop-to.self) c.loop-to.to ≡ Some recipient.0 = ap (λ (ns : List NodeId). slice_get ns c.loop-to.to) c.loop-to.invariant.1 ∙ recipient.1 in
-    let p = (link_view g.C.Carry.slots g.C.Carry.failed g.C.Carry.wire g.F.Fabric.put_on g.F.Fabric.taken_on g.F.Fabric.faults c.args.carrier.now c.args.fabric.now) in
-    let q = (link_view g.C.Carry.slots g.C.Carry.failed g.C.Carry.wire g.F.Fabric.put_on g.F.Fabric.taken_on g.F.Fabric.faults c.loop-to.carrier c.loop-to.fabric) in
-    let s = (link_view g.C.Carry.slots g.C.Carry.failed g.C.Carry.wire g.F.Fabric.put_on g.F.Fabric.taken_on g.F.Fabric.faults c.pair_turn.new.carrier c.pair_turn.new.fabric) in
+    let p = (link_view (g.C.Carry.view c.args.carrier.now) (g.F.Fabric.view c.args.fabric.now)) in
+    let q = (link_view (g.C.Carry.view c.loop-to.carrier) (g.F.Fabric.view c.loop-to.fabric)) in
+    let s = (link_view (g.C.Carry.view c.pair_turn.new.carrier) (g.F.Fabric.view c.pair_turn.new.fabric)) in
     let y : Calming = to_all c.args.circuit z a (take c.loop-to.to (ids_of c.args.self.now)) in
     let so_far = c.loop-to.invariant.3 z a h at row in
     let here : slice_get (ids_of c.loop-to.self) c.args.from ≡ Some a = ap (λ (ns : List NodeId). slice_get ns c.args.from) c.loop-to.invariant.1 ∙ at in
@@ -156,7 +156,7 @@ returns-in_err-row-clause-links g c = λ place z a placed h at row.
 
 pub returns-clause-links : goal.returns-clause-links
 returns-clause-links g c = λ place z a placed h at row.
-    subst (λ (ns : List NodeId). PartDelivers done place z (to_all c.args.circuit z a ns) (link_view g.C.Carry.slots g.C.Carry.failed g.C.Carry.wire g.F.Fabric.put_on g.F.Fabric.taken_on g.F.Fabric.faults c.args.carrier.now c.args.fabric.now) (link_view g.C.Carry.slots g.C.Carry.failed g.C.Carry.wire g.F.Fabric.put_on g.F.Fabric.taken_on g.F.Fabric.faults c.loop-to.carrier c.loop-to.fabric))
+    subst (λ (ns : List NodeId). PartDelivers done place z (to_all c.args.circuit z a ns) (link_view (g.C.Carry.view c.args.carrier.now) (g.F.Fabric.view c.args.fabric.now)) (link_view (g.C.Carry.view c.loop-to.carrier) (g.F.Fabric.view c.loop-to.fabric)))
     (take_all c.loop-to.to (ids_of c.args.self.now) (subst (λ (k : ℕ). k ≤ c.loop-to.to) (c.len-to-end.ensures ∙ sym (length_ids c.args.self.now.slots.items)) c.loop-to-test.false)) (c.loop-to.invariant.11 place z a placed h at row)
 
 -- ---- the faults of the links
