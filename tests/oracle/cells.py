@@ -52,7 +52,10 @@ class Bound:
         return life(self.definition, self.acts.values())
 
     def runs(self):
-        return self.life().state == "active"
+        return self.life().runs()
+
+    def has_run(self):
+        return self.runs() or self.life().state == "disbanded"
 
     def admin(self, here):
         d = self.definition
@@ -129,28 +132,44 @@ class Site:
         self.post_admin(cell.definition, None, sends)
         return "ok queued"
 
-    def next_act(self, kind):
+    def next_act(self):
         cell = self.bound()
-        act = Act(self.here, cell.turn + 1, kind)
+        act = Act(self.here, cell.turn + 1, "Accept")
         own_pending = any(a.node == self.here for a in cell.acts.pending)
         known = cell.acts.known(Acts(cell.definition), act)
         if own_pending or len(cell.acts.pending) == MOST_PENDING or known or cell.turn == LAST_TURN:
             raise Refused(7)
-        if cell.life().state != "proposed":
-            raise Refused(8)
         return cell, act
 
+    def answer(self, kind, refusal, is_refused):
+        """An act about what is open: the circuit's proposal, or the disband at its place."""
+        cell, act = self.next_act()
+        now = cell.life()
+        if now.state not in ("proposed", "disbanding"):
+            raise Refused(8)
+        if is_refused(now):
+            raise Refused(refusal)
+        if not cell.is_open:
+            raise Refused(12)
+        if now.state == "disbanding":
+            return self.queue_act(cell, act._replace(kind="Disband" + kind, place=now.place))
+        return self.queue_act(cell, act._replace(kind=kind))
+
     def vote(self, kind):
-        cell, act = self.next_act(kind)
-        if self.here in cell.life().accepted:
-            raise Refused(9)
-        return self.queue_act(cell, act)
+        return self.answer(kind, 9, lambda now: self.here in now.told())
 
     def remove(self):
-        cell, act = self.next_act("Remove")
-        if self.here != cell.life().requester:
-            raise Refused(10)
-        return self.queue_act(cell, act)
+        return self.answer("Remove", 10, lambda now: self.here != now.asker())
+
+    def disband(self):
+        cell, act = self.next_act()
+        if cell.life().state != "active":
+            raise Refused(11)
+        if not cell.is_open:
+            raise Refused(12)
+        if cell.definition.version == 1:
+            raise Refused(20)
+        return self.queue_act(cell, act._replace(kind="Disband"))
 
     # ---- leaving
 
@@ -166,7 +185,7 @@ class Site:
         cell = self.bound()
         state = cell.life().state
         waits = state == "none" and (cell.acts.pending or cell.acts.promise is not None)
-        if cell.is_open and (state in ("proposed", "active") or waits):
+        if cell.is_open and (state in ("proposed", "active", "disbanding") or waits):
             raise Refused(16)
         self.cell = Purged(cell.generation)
         return "ok purged"
@@ -194,7 +213,7 @@ class Site:
     def show(self):
         cell = self.bound()
         now = cell.life()
-        accepted = ",".join(m for m in cell.definition.members if m in now.accepted) or "-"
+        accepted = ",".join(m for m in cell.definition.members if m in now.told()) or "-"
         mark = "open" if cell.is_open else "abandoned"
         counts = [len(part) for m in (cell.acts, cell.batches) for part in (m.history, m.pending)]
         return "ok circuit generation {} lifecycle {} mark {} accepted {} acts {} {} batches {} {}".format(
@@ -206,7 +225,7 @@ class Site:
         d, now = cell.definition, cell.life()
         return "ok detail " + in_json(
             {
-                "accepted": [m for m in d.members if m in now.accepted],
+                "accepted": [m for m in d.members if m in now.told()],
                 "generation": d.generation,
                 "hash": d.hash(),
                 "id": d.id,

@@ -77,7 +77,7 @@ class Draw:
         roster = sorted(zip(ids, members))
         services = ",".join(f"{id}:scabbard:{member}" for id, member in roster)
         name = self.one(["trade", "trade", "trio"])
-        return f"propose {node} {circuit} {generation} 1 grid {name} {','.join(members)} {services}"
+        return f"propose {node} {circuit} {generation} {self.one([1, 2, 2])} grid {name} {','.join(members)} {services}"
 
     def line(self):
         circuit = self.one(self.circuits)
@@ -103,12 +103,13 @@ class Draw:
     def drawn_propose(self, circuit, node):
         if self.random.random() < 0.2:
             a, b, c, *_ = self.nodes
-            version, members = self.one([(2, f"{a},{b}"), (1, f"{b},{a}"), (1, a), (1, f"{a},{c}")])
+            version, members = self.one([(3, f"{a},{b}"), (1, f"{b},{a}"), (1, a), (1, f"{a},{c}")])
             return f"propose {node} {circuit} 1 {version} grid trade {members} aaaa:scabbard:{a},bbbb:scabbard:{b}"
         return self.propose(circuit, node, self.one([self.nodes, self.nodes[:2], self.some(2)]), self.one([1, 1, 1, 2, 2, 3]))
 
     def vote(self, circuit, node):
-        return self.one([f"vote {node} {circuit} accept"] * 4 + [f"vote {node} {circuit} reject", f"remove {node} {circuit}"])
+        rare = [f"vote {node} {circuit} reject", f"remove {node} {circuit}", f"disband {node} {circuit}", f"disband {node} {circuit}"]
+        return self.one([f"vote {node} {circuit} accept"] * 5 + rare)
 
     def submit(self, circuit, node):
         count = self.random.choices([0, 1, 2, 3, 17], [1, 40, 12, 6, 1])[0]

@@ -6,7 +6,7 @@ from groups import Member
 
 MOST_CHANGES = 64
 LONGEST = 16384
-ACTS = ("Propose", "Accept", "Reject", "Remove")
+ACTS = ("Propose", "Accept", "Reject", "Remove", "Disband", "DisbandAccept", "DisbandReject", "DisbandRemove")
 COMMANDS = ("Set", "Get", "Delete", "Event", "Data", "Invalid", "Error")
 
 
@@ -30,7 +30,8 @@ def definition_form(d):
 
 def act_form(act):
     kind = ACTS.index(act.kind) + 1
-    return text(act.node) + big(act.turn, 4) + bytes([kind]) + (definition_form(act.definition) if kind == 1 else b"")
+    about = definition_form(act.definition) if kind == 1 else big(act.place, 4) if kind > 5 else b""
+    return text(act.node) + big(act.turn, 4) + bytes([kind]) + about
 
 
 def command_form(c):
@@ -108,7 +109,7 @@ def packed(circuit, cell):
     if isinstance(cell, Purged):
         return [record_of(circuit, [b"\x0e" + big(cell.generation, 4)])]
     changes = [b"\1" + definition_form(cell.definition), b"\x0d" + big(cell.turn, 4)] + packed_group(1, cell.acts)
-    if cell.runs():
+    if cell.has_run():
         changes += packed_group(2, cell.batches)
     changes += [] if cell.is_open else [b"\x09"]
     records, held = [], []

@@ -129,6 +129,7 @@ def batch_id(word):
 # What an event of a cell asks: the readers of its words, and what is called.
 EVENTS = {
     "remove": ([], Site.remove),
+    "disband": ([], Site.disband),
     "abandon": ([], Site.abandon),
     "purge": ([], Site.purge),
     "show": ([], Site.show),

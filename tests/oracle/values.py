@@ -24,7 +24,7 @@ class Definition(NamedTuple):
         """The first broken rule, or None."""
         ascends = lambda xs: all(a < b for a, b in zip(xs, xs[1:]))
         rules = (
-            self.version == 1,
+            self.version in (1, 2),
             self.generation >= 1,
             1 <= len(self.management) <= 32,
             1 <= len(self.name) <= 64,
@@ -57,26 +57,50 @@ class Act(NamedTuple):
     turn: int
     kind: str
     definition: Definition = None
+    place: int = None
 
 
 class Life(NamedTuple):
-    state: str
-    requester: str
-    accepted: tuple
+    """Where a circuit stands, who asked for it and who has accepted that; of its last disband the place and the same."""
+
+    state: str = "none"
+    requester: str = None
+    accepted: tuple = ()
+    place: int = None
+    disbander: str = None
+    leaving: tuple = ()
+
+    def runs(self):
+        return self.state in ("active", "disbanding")
+
+    def told(self):
+        """Those that have accepted what is told of: the disband, in two states, or the circuit."""
+        return self.leaving if self.state in ("disbanding", "disbanded") else self.accepted
+
+    def asker(self):
+        """The one that asked for what is open."""
+        return self.disbander if self.state == "disbanding" else self.requester
 
 
 def life(definition, acts):
     """What a list of acts has brought the circuit to."""
-    state, requester, accepted = "none", None, ()
-    for act in acts:
+    now = Life()
+    everyone = set(definition.members)
+    for place, act in enumerate(acts):
         if act.kind == "Propose":
-            state, requester, accepted = "proposed", act.node, (act.node,)
+            now = Life("proposed", act.node, (act.node,))
         elif act.kind == "Accept":
-            accepted += (act.node,)
-            state = "active" if set(definition.members) <= set(accepted) else state
+            accepted = now.accepted + (act.node,)
+            now = now._replace(accepted=accepted, state="active" if everyone <= set(accepted) else now.state)
+        elif act.kind == "Disband":
+            now = now._replace(state="disbanding", place=place, disbander=act.node, leaving=(act.node,))
+        elif act.kind == "DisbandAccept":
+            leaving = now.leaving + (act.node,)
+            now = now._replace(leaving=leaving, state="disbanded" if everyone <= set(leaving) else now.state)
         else:
-            state = {"Reject": "rejected", "Remove": "removed"}[act.kind]
-    return Life(state, requester, accepted)
+            ends = {"Reject": "rejected", "Remove": "removed", "DisbandReject": "active", "DisbandRemove": "active"}
+            now = now._replace(state=ends[act.kind])
+    return now
 
 
 class Acts:
@@ -96,11 +120,19 @@ class Acts:
             if act.definition != self.definition:
                 return Reason(5)
             return Reason(2) if acts else None
-        if now.state != "proposed":
+        if act.kind == "Disband":
+            if self.definition.version != 2:
+                return Reason(14)
+            return None if now.state == "active" else Reason(2)
+        if act.kind in ("Accept", "Reject", "Remove"):
+            admitted = now.state == "proposed"
+        else:
+            admitted = now.state == "disbanding" and act.place == now.place
+        if not admitted:
             return Reason(2)
-        if act.kind == "Remove":
-            return None if act.node == now.requester else Reason(4)
-        return Reason(3) if act.node in now.accepted else None
+        if act.kind in ("Remove", "DisbandRemove"):
+            return None if act.node == now.asker() else Reason(4)
+        return Reason(3) if act.node in now.told() else None
 
     def stray(self, act):
         return Reason(6) if act.kind == "Propose" else None
