@@ -2,6 +2,7 @@
 use Rattle.spl_rules.specs.Plans.{group_sends, admin_lane, service_lane}
 use Rattle.std.proofs.Common.{◌≡◌, ◌≢◌, ℕ, ◌<◌, ◌≤◌, ◌⊎◌, true, false, List, [], ◌∷◌, ◌++◌, length, refl, sym, ap, subst, ◌∙◌, inl, inr, arith}
 use Rattle.std.specs.Prelude.{None, ◌==◌}
+use Rattle.spl_agree.proofs.Tests.{ltb_is}
 use Rattle.spl_agree.specs.declared.event.GroupEvent.{GroupEvent}
 use Rattle.spl_agree.specs.declared.event.GroupEvent.TheVariants as event
 use Rattle.spl_agree.specs.Member.{Rules, Group, Member, restarted, known}
@@ -19,7 +20,7 @@ use Rattle.spl_wire.specs.declared.message.Message.{Message}
 use Rattle.spl_wire.specs.declared.message.Message.TheVariants as message
 use Rattle.spl_group.proofs.Fits.{good-row, not-full, may-any, sound-new_member, roomy-new_member, sound-restarted, roomy-open}
 use Rattle.spl_group.proofs.Sound.{sound-row}
-use Rattle.spl_rules.specs.Cells.{Cell, Empty, Held, Purged, Bound, fresh}
+use Rattle.spl_rules.specs.Cells.{Cell, Empty, Held, Purged, Bound, fresh, is_free}
 use Rattle.spl_rules.specs.Changes.{stopped_cell}
 use Rattle.spl_model.proofs.Nodes.{node_cases}
 use Rattle.spl_agreement.proofs.Positions.{position-apart}
@@ -250,6 +251,11 @@ abbrev pub IsFree : Cell → ℕ → Type 0
 IsFree Empty g = Unit {0}
 IsFree (Held h) g = ⊥
 IsFree (Purged old) g = old < g
+
+pub free-is : (k : Cell) (g : ℕ) → is_free k g ≡ true → IsFree k g
+free-is Empty g x = tt
+free-is (Held e) g x = cc
+free-is (Purged old) g x = ltb_is old g x
 
 -- what was bound where a cell is free is of an earlier generation
 pub free-past : (f : Definition) (k : Cell) (g : ℕ) → IsFree k g → IsPast f k → f.generation < g

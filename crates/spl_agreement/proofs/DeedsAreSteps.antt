@@ -1,6 +1,6 @@
 -- What an event does is one of the steps, and its conditions hold.
-use Rattle.std.proofs.Common.{◌≡◌, ◌≢◌, ℕ, true, false, List, [], length, refl, sym, subst, ◌∙◌}
-use Rattle.std.specs.Prelude.{Option, None, ◌==◌, is_some}
+use Rattle.std.proofs.Common.{◌≡◌, ◌≢◌, ℕ, true, false, List, [], length, refl, sym, ◌∙◌}
+use Rattle.std.specs.Prelude.{None, ◌==◌, is_some}
 use Rattle.std.specs.List.{list_any}
 use Rattle.std.specs.Str.{bytes_eq}
 use Rattle.spl_base.specs.Booleans.{none_of}
@@ -18,15 +18,15 @@ use Rattle.spl_circuit.specs.Acts.{act_rules}
 use Rattle.spl_scabbard.specs.Checks.{batch_rules}
 use Rattle.spl_wire.specs.declared.message.Message.{Message}
 use Rattle.spl_wire.specs.declared.event.Event.{Event}
+use Rattle.spl_wire.specs.declared.event.Event.TheVariants as event
 use Rattle.spl_rules.specs.Cells.{Cell, Held, Deed, Replies, Binds, Acts, Serves, Turns, Abandons, Purges, runs, is_act_pending, next_act, proposal, admin_group, Bound, Site}
 use Rattle.spl_rules.specs.Events.{does}
 use Rattle.spl_model.specs.Worlds.{Sent}
 use Rattle.spl_agreement.proofs.GroupOfDefinition.{GroupMessage, MayHear, all_committed, plan_row}
 use Rattle.spl_agreement.proofs.GroupWorlds.{WasSent, admin_said, service_said, admin_groups}
-use Rattle.spl_agreement.proofs.CoupledSteps.{IsIdle, IsFree, IsNew}
+use Rattle.spl_agreement.proofs.CoupledSteps.{IsIdle, IsFree, free-is, IsNew}
 use Rattle.spl_agree.specs.declared.event.GroupEvent.{GroupEvent}
-use Rattle.spl_agreement.proofs.Does.{IsClock, Hears, Does, Refused, Told, Replied, Proposed, Asked, Handed, Acted, Taken, Heard, Served, GoesOn, BothGoOn, Left, Forgot, does-at}
-use Rattle.spl_agreement.specs.Queued.{Value}
+use Rattle.spl_rules.proofs.Does.{IsClock, Ticks, Expires, Does, Refused, Told, Declined, Returned, Unserved, Proposed, Asked, Handed, Acted, Taken, Heard, Served, GoesOn, BothGoOn, Left, Forgot, does-is}
 
 -- what holds of a deed wherever it is done: which cell is there, and what was sent to it
 abbrev pub IsStepOf : NodeId → List Sent → Cell → Deed → Type 0
@@ -44,7 +44,8 @@ abbrev pub WasHeard : List Sent → NodeId → NodeId → Message → Type 0
 WasHeard sent n from m = WasSent (record { from = from; to = n; message = m }) sent × (from ≢ n)
 
 abbrev pub IsDue : List Sent → NodeId → Event → Type 0
-IsDue sent n e = Hears (WasHeard sent n) e
+IsDue sent n (event.Deliver from m) = WasHeard sent n from m
+IsDue sent n _ = Unit {0}
 
 -- what is handed in is queued alone
 pub submit-commits : {V : Type 0} (g : Group V) (here : ℕ) (v : V) → all_committed (on_submit g here v).changes ≡ []
@@ -60,40 +61,33 @@ next-new site b w h =
     )
 
 -- a group that goes on hears nothing, and is handed nothing
-may-clock : {V : Type 0} (d : Definition) (said : GroupMessage V → Type 0) (n back : NodeId) (e : GroupEvent V) → IsClock e → MayHear d said n back e
-may-clock d said n back group.Tick h = tt
-may-clock d said n back group.Expire h = tt
-may-clock d said n back (group.Submit v) h = absurd h
-may-clock d said n back (group.From s x) h = absurd h
+may-clock : {V : Type 0} {e : GroupEvent V} (d : Definition) (said : GroupMessage V → Type 0) (n back : NodeId) → IsClock e → MayHear d said n back e
+may-clock d said n back Ticks = tt
+may-clock d said n back Expires = tt
 
-new-clock : {V : Type 0} (rules : Rules V) (m : Member V) (e : GroupEvent V) → IsClock e → IsNew rules m e
-new-clock rules m group.Tick h = tt
-new-clock rules m group.Expire h = tt
-new-clock rules m (group.Submit v) h = absurd h
-new-clock rules m (group.From s x) h = absurd h
+new-clock : {V : Type 0} {e : GroupEvent V} (rules : Rules V) (m : Member V) → IsClock e → IsNew rules m e
+new-clock rules m Ticks = tt
+new-clock rules m Expires = tt
 
 -- what an event does is a step
-step-of : (site : Site) (sent : List Sent) (k : Cell) (o : Option Value) (deed : Deed) → Does site (WasHeard sent site.here) k o deed → IsStepOf site.here sent k deed
-step-of site sent k o deed z = go z
-  where
-    P : Deed → Type 0
-    P = IsStepOf site.here sent k
-
-    go : Does site (WasHeard sent site.here) k o deed → P deed
-    go (Refused why e) = subst P (sym e) tt
-    go (Told a e x y) = subst P (sym e) tt
-    go (Replied x to m e other idle reply) = subst P (sym e) idle
-    go (Proposed d e b brings) = subst P (sym e) (b.0, b.1, b.2, tt, (refl, refl), λ q. submit-commits (admin_group d) (position d.members site.here) (proposal site.here d))
-    go (Asked d from c gen r place v e b same leads was) = subst P (sym e) (b.0, b.1, b.2, (refl, (c, was.0), sym same, was.1), tt, λ q. absurd (was.1 (sym leads ∙ sym q)))
-    go (Handed d from c gen v e b same leads its first was brings) = subst P (sym e) (b.0, b.1, b.2, tt, (refl, refl), λ q. submit-commits (admin_group d) (position d.members site.here) v)
-    go (Acted h w e is other pending proposed brings) = subst P (sym e) (is, tt, next-new site h w pending)
-    go (Taken h v e is active unknown room brings) = subst P (sym e) (is, active, tt, (unknown, room))
-    go (Heard h from c x e is same was brings) = subst P (sym e) (is, (refl, (c, was.0), same, was.1), tt)
-    go (Served h from c s t x e is active same was brings) = subst P (sym e) (is, active, (refl, (c, s, t, was.0), same, was.1), tt)
-    go (GoesOn h x e is p) = subst P (sym e) (is, may-clock h.definition (admin_said sent) site.here site.here x p, new-clock (act_rules h.definition) h.acts x p)
-    go (BothGoOn h x y e is active p q) = subst P (sym e) (is, active, may-clock h.definition (admin_said sent) site.here site.here x p, may-clock h.definition (service_said sent) site.here site.here y q, new-clock (act_rules h.definition) h.acts x p, new-clock batch_rules h.batches y q)
-    go (Left h e is) = subst P (sym e) (h, is)
-    go (Forgot h e is) = subst P (sym e) (h, is)
+step-of : (site : Site) (sent : List Sent) (k : Cell) (e : Event) (deed : Deed) → Does site k e deed → IsDue sent site.here e → IsStepOf site.here sent k deed
+step-of site sent k e deed (Refused why) due = tt
+step-of site sent k e deed (Told a q) due = tt
+step-of site sent k e deed (Declined from i gen r place v) due = tt
+step-of site sent k e deed (Returned from i gen v d is) due = tt
+step-of site sent k e deed (Unserved from i s t gen r place v) due = tt
+step-of site sent k e deed (Proposed d b) due = (b.ruled, b.member, free-is k d.generation b.free, tt, (refl, refl), λ q. submit-commits (admin_group d) (position d.members site.here) (proposal site.here d))
+step-of site sent k e deed (Asked d from i gen r place v is b leads) due = (b.bind.ruled, b.bind.member, free-is k d.generation b.bind.free, (refl, (i, due.0), sym b.same, due.1), tt, λ q. absurd (due.1 (sym leads ∙ sym q)))
+step-of site sent k e deed (Handed d from i gen v is b leads its) due = (b.bind.ruled, b.bind.member, free-is k d.generation b.bind.free, tt, (refl, refl), λ q. submit-commits (admin_group d) (position d.members site.here) v)
+step-of site sent k e deed (Acted h f w next kept unclosed pending some) due = (refl, tt, next-new site h w pending)
+step-of site sent k e deed (Taken h v unclosed active good unknown room) due = (refl, active, tt, (unknown, room))
+step-of site sent k e deed (Heard h from i x unclosed same) due = (refl, (refl, (i, due.0), same, due.1), tt)
+step-of site sent k e deed (Served h from i s t x unclosed active same) due = (refl, active, (refl, (i, s, t, due.0), same, due.1), tt)
+step-of site sent k e deed (GoesOn h x unclosed p) due = (refl, may-clock h.definition (admin_said sent) site.here site.here p, new-clock (act_rules h.definition) h.acts p)
+step-of site sent k e deed (BothGoOn h x y unclosed active p q) due =
+    (refl, active, may-clock h.definition (admin_said sent) site.here site.here p, may-clock h.definition (service_said sent) site.here site.here q, new-clock (act_rules h.definition) h.acts p, new-clock batch_rules h.batches q)
+step-of site sent k e deed (Left h unclosed active) due = (h, refl)
+step-of site sent k e deed (Forgot h) due = (h, refl)
 
 pub steps-does : (site : Site) (sent : List Sent) (k : Cell) (e : Event) → IsDue sent site.here e → IsStepOf site.here sent k (does site k e)
-steps-does site sent k e due = step-of site sent k _ (does site k e) (does-at site (WasHeard sent site.here) k e due)
+steps-does site sent k e due = step-of site sent k e (does site k e) (does-is site k e) due

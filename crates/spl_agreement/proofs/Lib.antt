@@ -6,7 +6,6 @@ pub mod GroupBindings
 pub mod SentByRule
 pub mod GroupWorlds
 pub mod CoupledSteps
-pub mod Does
 pub mod DeedsAreSteps
 pub mod CoupledDeeds
 pub mod PendingActLists

@@ -33,8 +33,7 @@ use Rattle.spl_agreement.proofs.PendingActCells.{View, Sight, Sees, Nowhere, vie
 use Rattle.spl_agreement.proofs.PendingActMessages.{IsFew, IsNews}
 use Rattle.spl_agreement.proofs.PendingActRows.{IsReady, unknown-is}
 use Rattle.spl_agreement.proofs.PendingActSteps.{sights, step-still, step-drop, step-row}
-use Rattle.spl_agreement.proofs.PendingActsDue.{Forwards, Apt, IsNextAct, IsFirstAct}
-use Rattle.spl_agreement.proofs.Does.{IsReply, IsReplyOf}
+use Rattle.spl_agreement.proofs.PendingActsDue.{Forwards, Apt, IsNextAct, IsFirstAct, IsReplyOf, IsReply}
 
 -- the acts behind changes of the admin group, and behind changes of the service group
 pub sight-admin : (n : NodeId) (b : Bound) (xs : List (GroupChange Act)) → sight (made n (Held b) (map durable.Admin xs)) ≡ Sees b.definition (shifted_by (view b.acts) xs)

@@ -1,29 +1,33 @@
 -- What an event does with acts: what it submits is the node's next act, or a proposal that was forwarded to its coordinator.
-use Rattle.std.proofs.Common.{◌≡◌, ◌≢◌, ℕ, ◌⊎◌, true, false, List, [], ◌∷◌, refl, sym, subst, ◌∙◌, inl, inr}
-use Rattle.std.specs.Prelude.{Option}
+use Rattle.std.proofs.Common.{◌≡◌, ◌≢◌, ℕ, ◌⊎◌, true, false, List, [], ◌∷◌, refl, sym, ap, subst, ◌∙◌, inl, inr}
 use Rattle.std.specs.List.{list_any}
 use Rattle.std.specs.Str.{bytes_eq}
+use Rattle.spl_agree.specs.declared.message.CommitMsg.{CommitMsg}
 use Rattle.spl_agree.specs.declared.message.CommitMsg.TheVariants as msg
 use Rattle.spl_agree.specs.declared.event.GroupEvent.{GroupEvent}
 use Rattle.spl_agree.specs.declared.event.GroupEvent.TheVariants as group
 use Rattle.spl_agree.specs.Member.{Member}
 use Rattle.spl_agree.proofs.Tests.{or_left, or_right}
 use Rattle.spl_circuit.specs.declared.definition.Definition.{Definition}
+use Rattle.spl_circuit.specs.declared.act.ActKind.{ActKind}
+use Rattle.spl_circuit.specs.declared.act.ActKind.TheVariants as kind
 use Rattle.spl_circuit.specs.declared.act.Act.{Act}
 use Rattle.spl_circuit.specs.Nodes.{NodeId}
 use Rattle.spl_circuit.specs.Rules.{admin}
+use Rattle.spl_circuit.specs.Lifecycle.{Life}
+use Rattle.spl_wire.specs.declared.message.Message.{Message}
+use Rattle.spl_wire.specs.declared.message.Message.TheVariants as message
 use Rattle.spl_wire.specs.declared.event.Event.{Event}
-use Rattle.spl_rules.specs.Cells.{Cell, Deed, Replies, Binds, Acts, Turns, Site}
+use Rattle.spl_rules.specs.Cells.{Cell, Deed, Replies, Binds, Acts, Turns, Site, own_life}
 use Rattle.spl_rules.specs.Events.{does}
 use Rattle.spl_agreement.specs.Agreement.{is_proposal}
 use Rattle.spl_model.specs.Worlds.{Sent}
 use Rattle.spl_model.proofs.Nodes.{node_not}
 use Rattle.spl_agreement.proofs.GroupOfDefinition.{GroupMessage}
 use Rattle.spl_agreement.proofs.GroupWorlds.{admin_said}
-use Rattle.spl_agreement.proofs.DeedsAreSteps.{WasHeard, IsDue}
+use Rattle.spl_agreement.proofs.DeedsAreSteps.{IsDue}
 use Rattle.spl_agreement.proofs.PendingActLists.{Among}
-use Rattle.spl_agreement.proofs.Does.{IsReply, IsClock, Does, Refused, Told, Replied, Proposed, Asked, Handed, Acted, Taken, Heard, Served, GoesOn, BothGoOn, Left, Forgot, does-at}
-use Rattle.spl_agreement.specs.Queued.{Value}
+use Rattle.spl_rules.proofs.Does.{IsClock, Ticks, Expires, IsNextKind, Does, Refused, Told, Declined, Returned, Unserved, Proposed, Asked, Handed, Acted, Taken, Heard, Served, GoesOn, BothGoOn, Left, Forgot, does-is}
 
 -- an act that is no proposal
 abbrev pub IsOther : Act → Type 0
@@ -43,6 +47,16 @@ abbrev pub IsNextAct : NodeId → Member Act → GroupEvent Act → Type 0
 IsNextAct n a (group.Submit v) = IsOther v × (v.node ≡ n) × ((x : Act) → Among x a.pending → x.node ≢ n) × (a.history ≡ [] → ⊥)
 IsNextAct n a _ = Unit {0}
 
+-- a reply returns proposals alone, and forwards nothing
+abbrev pub IsReplyOf : CommitMsg Act → Type 0
+IsReplyOf (msg.Forward g u) = ⊥
+IsReplyOf (msg.Refused g u why) = is_proposal u.kind ≡ true
+IsReplyOf _ = Unit {0}
+
+abbrev pub IsReply : Message → Type 0
+IsReply (message.Admin i x) = IsReplyOf x
+IsReply (message.Scabbard i s t x) = Unit {0}
+
 -- what holds of a deed
 abbrev pub Apt : (GroupMessage Act → Type 0) → NodeId → Deed → Type 0
 Apt said n (Replies note to m) = IsReply m
@@ -58,36 +72,34 @@ none-pending n x (u ∷ us) h (inl e) = subst (λ (z : Act). z.node ≢ n) (sym 
 none-pending n x (u ∷ us) h (inr k) = none-pending n x us (or_right (bytes_eq u.node n) _ h) k
 
 -- a group that goes on is handed nothing
-next-clock : (n : NodeId) (a : Member Act) (e : GroupEvent Act) → IsClock e → IsNextAct n a e
-next-clock n a group.Tick h = tt
-next-clock n a group.Expire h = tt
-next-clock n a (group.Submit v) h = absurd h
-next-clock n a (group.From s x) h = absurd h
+next-clock : {e : GroupEvent Act} (n : NodeId) (a : Member Act) → IsClock e → IsNextAct n a e
+next-clock n a Ticks = tt
+next-clock n a Expires = tt
+
+next-other : (l : Life) (w : ActKind) → IsNextKind l w → is_proposal w ≡ false
+next-other l (kind.Propose d) own = absurd own
+next-other l _ own = refl
 
 -- what an event does is so
-apt-of : (site : Site) (sent : List Sent) (k : Cell) (o : Option Value) (deed : Deed) → Does site (WasHeard sent site.here) k o deed → Apt (admin_said sent) site.here deed
-apt-of site sent k o deed z = go z
-  where
-    P : Deed → Type 0
-    P = Apt (admin_said sent) site.here
-
-    go : Does site (WasHeard sent site.here) k o deed → P deed
-    go (Refused why e) = subst P (sym e) tt
-    go (Told a e x y) = subst P (sym e) tt
-    go (Replied x to m e other idle reply) = subst P (sym e) reply
-    go (Proposed d e b brings) = subst P (sym e) (refl, inl (refl, refl))
-    go (Asked d from c gen r place v e b same leads was) = subst P (sym e) tt
-    go (Handed d from c gen v e b same leads its first was brings) = subst P (sym e)
-        (first, inr (sym leads, (λ x. was.1 (sym its ∙ x)), subst (λ (g : ℕ). Forwards (admin_said sent) v.node site.here g v) (sym same) (subst (λ (z : NodeId). Forwards (admin_said sent) z site.here gen v) (sym its) (c, was.0))))
-    go (Acted h w e is other pending some brings) = subst P (sym e)
-        (other, refl, (λ x q. none-pending site.here x h.acts.pending (or_left (list_any (λ v. bytes_eq v.node site.here) h.acts.pending) _ pending) q), some)
-    go (Taken h v e is active unknown room brings) = subst P (sym e) tt
-    go (Heard h from c x e is same was brings) = subst P (sym e) tt
-    go (Served h from c s t x e is active same was brings) = subst P (sym e) tt
-    go (GoesOn h x e is p) = subst P (sym e) (next-clock site.here h.acts x p)
-    go (BothGoOn h x y e is active p q) = subst P (sym e) (next-clock site.here h.acts x p)
-    go (Left h e is) = subst P (sym e) tt
-    go (Forgot h e is) = subst P (sym e) tt
+apt-of : (site : Site) (sent : List Sent) (k : Cell) (e : Event) (deed : Deed) → Does site k e deed → IsDue sent site.here e → Apt (admin_said sent) site.here deed
+apt-of site sent k e deed (Refused why) due = tt
+apt-of site sent k e deed (Told a q) due = tt
+apt-of site sent k e deed (Declined from i gen r place v) due = tt
+apt-of site sent k e deed (Returned from i gen v d is) due = ap is_proposal is
+apt-of site sent k e deed (Unserved from i s t gen r place v) due = tt
+apt-of site sent k e deed (Proposed d b) due = (refl, inl (refl, refl))
+apt-of site sent k e deed (Asked d from i gen r place v is b leads) due = tt
+apt-of site sent k e deed (Handed d from i gen v is b leads its) due =
+    (ap is_proposal is, inr (sym leads, (λ x. due.1 (sym its ∙ x)), subst (λ (g : ℕ). Forwards (admin_said sent) v.node site.here g v) (sym b.same) (subst (λ (z : NodeId). Forwards (admin_said sent) z site.here gen v) (sym its) (i, due.0))))
+apt-of site sent k e deed (Acted h f w next kept unclosed pending some) due =
+    (next-other (own_life h) w kept, refl, (λ x q. none-pending site.here x h.acts.pending (or_left (list_any (λ v. bytes_eq v.node site.here) h.acts.pending) _ pending) q), some)
+apt-of site sent k e deed (Taken h v unclosed active good unknown room) due = tt
+apt-of site sent k e deed (Heard h from i x unclosed same) due = tt
+apt-of site sent k e deed (Served h from i s t x unclosed active same) due = tt
+apt-of site sent k e deed (GoesOn h x unclosed p) due = next-clock site.here h.acts p
+apt-of site sent k e deed (BothGoOn h x y unclosed active p q) due = next-clock site.here h.acts p
+apt-of site sent k e deed (Left h unclosed active) due = tt
+apt-of site sent k e deed (Forgot h) due = tt
 
 pub apt-does : (site : Site) (sent : List Sent) (k : Cell) (e : Event) → IsDue sent site.here e → Apt (admin_said sent) site.here (does site k e)
-apt-does site sent k e due = apt-of site sent k _ (does site k e) (does-at site (WasHeard sent site.here) k e due)
+apt-does site sent k e due = apt-of site sent k e (does site k e) (does-is site k e) due

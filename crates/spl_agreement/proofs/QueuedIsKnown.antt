@@ -1,7 +1,6 @@
 -- What an event is answered to have queued is what it brought, and the cell then knows it.
-use Rattle.std.proofs.Common.{◌≡◌, ℕ, ◌-◌, true, false, [], ◌∷◌, ◌++◌, refl, sym, subst, inl, inr}
+use Rattle.std.proofs.Common.{◌≡◌, ℕ, ◌-◌, true, false, [], ◌∷◌, ◌++◌, refl, sym, ap, subst, inl, inr}
 use Rattle.std.specs.Prelude.{Option, Some, None, slice_get, ◌==◌, is_some}
-use Rattle.spl_agree.specs.declared.event.Note.{Note}
 use Rattle.spl_agree.specs.declared.event.Note.TheVariants as note
 use Rattle.spl_agree.specs.declared.event.GroupEvent.TheVariants as group
 use Rattle.spl_agree.specs.declared.event.GroupChange.TheVariants as change
@@ -13,6 +12,7 @@ use Rattle.spl_agree.specs.Member.{Member, new_member, known}
 use Rattle.spl_agree.specs.Rows.{row}
 use Rattle.spl_agree.proofs.Tests.{if_holds, eqb_same}
 use Rattle.spl_circuit.specs.declared.definition.Definition.{Definition}
+use Rattle.spl_circuit.specs.declared.act.ActKind.{ActKind}
 use Rattle.spl_circuit.specs.declared.act.Act.{Act}
 use Rattle.spl_circuit.specs.Nodes.{NodeId, CircuitId, ServiceId, position}
 use Rattle.spl_circuit.specs.Equality.{same_act_key}
@@ -29,8 +29,8 @@ use Rattle.spl_wire.specs.declared.answer.Answer.{Answer}
 use Rattle.spl_wire.specs.declared.answer.Answer.TheVariants as answer
 use Rattle.spl_wire.specs.declared.answer.Refusal.{Refusal}
 use Rattle.spl_wire.specs.declared.plan.Plan.{Plan}
-use Rattle.spl_rules.specs.Cells.{Cell, Held, Deed, Refuses, Tells, Replies, Binds, Acts, Serves, Turns, Abandons, Purges, admin_group, service_group, next_act, proposal, Bound, Site, Submitted, Delivered, Alone, Say, said}
-use Rattle.spl_rules.specs.Events.{does}
+use Rattle.spl_rules.specs.Cells.{Cell, Held, Deed, Refuses, Tells, Binds, Acts, Serves, Turns, Abandons, Purges, admin_group, service_group, own_life, next_act, proposal, Bound, Site, Submitted, Delivered, Alone, Say, said}
+use Rattle.spl_rules.specs.Events.{next_kind, does}
 use Rattle.spl_rules.specs.Plans.{tells_only, planned, plan_of, group_plan, admin_lane, service_lane}
 use Rattle.spl_rules.specs.Changes.{made, made_one, moved_cell, after_plan}
 use Rattle.spl_wire.specs.declared.answer.Refusal.TheVariants as refusal
@@ -39,8 +39,8 @@ use Rattle.spl_sched.specs.declared.line.Step.TheVariants as step
 use Rattle.spl_sched.specs.Grammar.{step_node}
 use Rattle.spl_model.specs.Worlds.{World, messages, delivery, plan_up, step_plan, site_at}
 use Rattle.spl_model.proofs.Puts.{put_at-same}
-use Rattle.spl_agreement.proofs.Does.{Hears, Does, Refused, Told, Replied, Proposed, Asked, Handed, Acted, Taken, Heard, Served, GoesOn, BothGoOn, Left, Forgot, does-at}
-use Rattle.spl_agreement.specs.Queued.{Value, OfActs, OfBatches, knows, handed_on, handed_over, brought_to, brought, IsQueued, KnowsQueued}
+use Rattle.spl_rules.proofs.Does.{is_queued, Does, Refused, Told, Declined, Returned, Unserved, Proposed, Asked, Handed, Acted, Taken, Heard, Served, GoesOn, BothGoOn, Left, Forgot, does-is}
+use Rattle.spl_agreement.specs.Queued.{Value, OfActs, OfBatches, knows, handed_on, handed_over, next_of, brought_to, brought, IsQueued, KnowsQueued}
 use Rattle.spl_agreement.proofs.CoupledDeeds.{made-bind}
 use Rattle.spl_agreement.proofs.KnownStays.{known-in, found-last}
 use Rattle.spl_agreement.proofs.NotedQueued.{handed, IsNoted, noted-message}
@@ -73,23 +73,17 @@ batch-handed c s t (msg.Forward gen u) v h = cc
 batch-handed c s t _ v h = cc
 
 -- an answer that isn't that a value is queued
-other : (a : Answer) → (a ≡ answer.Submitted false → ⊥) → (a ≡ answer.Delivered note.Queued → ⊥) → IsQueued a → ⊥
-other a x y (inl q) = x q
-other a x y (inr q) = y q
+not_queued : (a : Answer) → is_queued a ≡ false → IsQueued a → ⊥
+not_queued a h (inl q) = let x : true ≡ false = subst (λ (z : Answer). is_queued z ≡ false) q h in cc
+not_queued a h (inr q) = let x : true ≡ false = subst (λ (z : Answer). is_queued z ≡ false) q h in cc
 
 module _ (site : Site) where
   -- a deed at a cell to which this value is brought, if any is
   record Knows (k : Cell) (o : Option Value) (deed : Deed) : Type 0 where
     known : IsQueued (planned site deed).answer → IsKnown site.here k o (planned site deed)
 
-  refuses : (k : Cell) (o : Option Value) (why : Refusal) → Knows k o (Refuses why)
-  refuses k o why = record { known = λ q. absurd (other _ (λ z. cc) (λ z. cc) q) }
-
-  tells : (k : Cell) (o : Option Value) (a : Answer) → (a ≡ answer.Submitted false → ⊥) → (a ≡ answer.Delivered note.Queued → ⊥) → Knows k o (Tells a)
-  tells k o a x y = record { known = λ q. absurd (other a x y q) }
-
-  replies : (k : Cell) (o : Option Value) (x : Note) (to : NodeId) (m : Message) → (x ≡ note.Queued → ⊥) → Knows k o (Replies x to m)
-  replies k o x to m h = record { known = λ q. absurd (other (answer.Delivered x) (λ z. cc) (λ z. h cc) q) }
+  none : (k : Cell) (o : Option Value) (deed : Deed) → is_queued (planned site deed).answer ≡ false → Knows k o deed
+  none k o deed h = record { known = λ q. absurd (not_queued _ h q) }
 
   -- ---- the groups
 
@@ -106,13 +100,17 @@ module _ (site : Site) where
 
   -- a request binds it, and queues nothing
   known-asked : (k : Cell) (o : Option Value) (d : Definition) (back : NodeId) (i gen r place : ℕ) (v : Act) → Knows k o (Binds Delivered d back (group.From i (msg.VoteRequest gen r place v)))
-  known-asked k o d back i gen r place v = record { known = λ q. absurd (other _ (λ z. cc) (λ z. no (noted-message (admin_group d) (position d.members site.here) new_member i x cc)) q) }
+  known-asked k o d back i gen r place v = record { known = queued }
     where
       x : CommitMsg Act
       x = msg.VoteRequest gen r place v
 
       no : IsNoted (handed x) (row (admin_group d) (position d.members site.here) new_member (group.From i x)) → ⊥
       no z = let h : None ≡ Some z.value = z.is in cc
+
+      queued : IsQueued (answer.Delivered (row (admin_group d) (position d.members site.here) new_member (group.From i x)).note) → IsKnown site.here k o (planned site (Binds Delivered d back (group.From i x)))
+      queued (inl q) = cc
+      queued (inr q) = absurd (no (noted-message (admin_group d) (position d.members site.here) new_member i x cc))
 
   -- an act of the node, or a batch
   known-act : (b : Bound) (o : Option Value) (v : Act) → o ≡ Some (OfActs v) → Knows (Held b) o (Acts Submitted b site.here (group.Submit v))
@@ -166,41 +164,32 @@ module _ (site : Site) where
 
   -- ---- what an event does
 
-  known-of : (k : Cell) (o : Option Value) (deed : Deed) → Does site (λ from m. Unit {0}) k o deed → Knows k o deed
-  known-of k o deed z = go z
-    where
-      P : Deed → Type 0
-      P = Knows k o
+  next-brought : (h : Bound) (e : Event) (w : ActKind) → next_kind (own_life h) e ≡ Some w → brought_to site.here (Held h) e ≡ Some (OfActs (next_act site.here h.turn w))
+  next-brought h (event.Propose d) w is = cc
+  next-brought h (event.Submit v) w is = cc
+  next-brought h (event.Deliver from m) w is = cc
+  next-brought h _ w is = ap (next_of site.here h.turn) is
 
-      -- where a bound cell is brought this value
-      held : (h : Bound) (v : Option Value) → k ≡ Held h → o ≡ v → Knows (Held h) v deed → Knows k o deed
-      held h v is brings q = subst (λ (j : Cell). Knows j o deed) (sym is) (subst (λ (u : Option Value). Knows (Held h) u deed) (sym brings) q)
-
-      none : (d : Deed) → ((planned site d).answer ≡ answer.Submitted false → ⊥) → ((planned site d).answer ≡ answer.Delivered note.Queued → ⊥) → Knows k o d
-      none d x y = record { known = λ q. absurd (other _ x y q) }
-
-      go : Does site (λ from m. Unit {0}) k o deed → Knows k o deed
-      go (Refused why e) = subst P (sym e) (refuses k o why)
-      go (Told a e x y) = subst P (sym e) (tells k o a x y)
-      go (Replied x to m e y idle reply) = subst P (sym e) (replies k o x to m y)
-      go (Proposed d e b brings) = subst P (sym e) (known-binds k o Submitted d site.here (proposal site.here d) brings)
-      go (Asked d from c gen r place v e b same leads was) = subst P (sym e) (known-asked k o d from (position d.members from) gen r place v)
-      go (Handed d from c gen v e b same leads its first was brings) = subst P (sym e) (known-binds k o Delivered d from v brings)
-      go (Acted h w e is x pending proposed brings) = held h o is refl (subst (Knows (Held h) o) (sym e) (known-act h o (next_act site.here h.turn w) brings))
-      go (Taken h v e is active unknown room brings) = held h o is refl (subst (Knows (Held h) o) (sym e) (known-batch h o v brings))
-      go (Heard h from c x e is same was brings) = held h _ is brings (subst (Knows (Held h) (handed_on (message.Admin c x))) (sym e) (known-heard h c from (position h.definition.members from) x))
-      go (Served h from c s t x e is active same was brings) = held h _ is brings (subst (Knows (Held h) (handed_on (message.Scabbard c s t x))) (sym e) (known-served h c s t from (position h.definition.members from) x))
-      go (GoesOn h x e is p) = subst P (sym e) (none (Acts Alone h site.here x) (λ z. cc) (λ z. cc))
-      go (BothGoOn h x y e is active p q) = subst P (sym e) (none (Turns h x y) (λ z. cc) (λ z. cc))
-      go (Left h e is) = subst P (sym e) (none Abandons (λ z. cc) (λ z. cc))
-      go (Forgot h e is) = subst P (sym e) (none Purges (λ z. cc) (λ z. cc))
-
-  heard-all : (e : Event) → Hears (λ from m. Unit {0}) e
-  heard-all (event.Deliver from m) = tt
-  heard-all _ = tt
+  known-of : (k : Cell) (e : Event) (deed : Deed) → Does site k e deed → Knows k (brought_to site.here k e) deed
+  known-of k e deed (Refused why) = none k _ (Refuses why) refl
+  known-of k e deed (Told a q) = none k _ (Tells a) q
+  known-of k e deed (Declined from i gen r place v) = none k _ _ refl
+  known-of k e deed (Returned from i gen v d is) = none k _ _ refl
+  known-of k e deed (Unserved from i s t gen r place v) = none k _ _ refl
+  known-of k e deed (Proposed d b) = known-binds k _ Submitted d site.here (proposal site.here d) refl
+  known-of k e deed (Asked d from i gen r place v is b leads) = known-asked k _ d from (position d.members from) gen r place v
+  known-of k e deed (Handed d from i gen v is b leads its) = known-binds k _ Delivered d from v refl
+  known-of k e deed (Acted h f w next kept unclosed pending some) = known-act h _ (next_act site.here h.turn w) (next-brought h f w next)
+  known-of k e deed (Taken h v unclosed active good unknown room) = known-batch h _ v refl
+  known-of k e deed (Heard h from i x unclosed same) = known-heard h i from (position h.definition.members from) x
+  known-of k e deed (Served h from i s t x unclosed active same) = known-served h i s t from (position h.definition.members from) x
+  known-of k e deed (GoesOn h x unclosed p) = none (Held h) _ (Acts Alone h site.here x) refl
+  known-of k e deed (BothGoOn h x y unclosed active p q) = none (Held h) _ (Turns h x y) refl
+  known-of k e deed (Left h unclosed active) = none (Held h) _ Abandons refl
+  known-of k e deed (Forgot h) = none (Held h) _ Purges refl
 
   known-plan : (k : Cell) (e : Event) → IsQueued (plan_of site k e).answer → IsKnown site.here k (brought_to site.here k e) (plan_of site k e)
-  known-plan k e q = (known-of k _ (does site k e) (does-at site (λ from m. Unit {0}) k e (heard-all e))).known q
+  known-plan k e q = (known-of k e (does site k e) (does-is site k e)).known q
 
 -- ---- steps
 
@@ -209,7 +198,7 @@ KnowsPlan n k o p = IsQueued p.answer → IsKnown n k o p
 
 -- nothing is queued by a refusal
 known-refusal : (n : NodeId) (k : Cell) (o : Option Value) (why : Refusal) → KnowsPlan n k o (tells_only (answer.Refused why))
-known-refusal n k o why q = absurd (other _ (λ z. cc) (λ z. cc) q)
+known-refusal n k o why q = absurd (not_queued _ refl q)
 
 known-delivery : (c : CircuitId) (w : World) (from to : NodeId) (o : Option Message) → KnowsPlan to (w.at to) (handed_over o) (delivery c w from to o)
 known-delivery c w from to None = known-refusal to (w.at to) None refusal.NoMessage

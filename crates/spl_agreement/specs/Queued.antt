@@ -5,7 +5,7 @@ use Rattle.spl_agree.specs.declared.message.CommitMsg.TheVariants as msg
 use Rattle.spl_agree.specs.Member.{known}
 use Rattle.spl_command.specs.declared.batch.Batch.{Batch}
 use Rattle.spl_scabbard.specs.Checks.{batch_rules}
-use Rattle.spl_circuit.specs.declared.act.ActKind.TheVariants as kind
+use Rattle.spl_circuit.specs.declared.act.ActKind.{ActKind}
 use Rattle.spl_circuit.specs.declared.act.Act.{Act}
 use Rattle.spl_circuit.specs.Nodes.{NodeId}
 use Rattle.spl_circuit.specs.Lifecycle.{Life, no_life}
@@ -19,7 +19,8 @@ use Rattle.spl_wire.specs.declared.answer.Answer.TheVariants as answer
 use Rattle.spl_sched.specs.declared.line.Step.{Step}
 use Rattle.spl_sched.specs.declared.line.Step.TheVariants as step
 use Rattle.spl_sched.specs.Grammar.{step_node}
-use Rattle.spl_rules.specs.Cells.{Cell, Held, own_life, next_act, vote_kind, removal_kind, proposal}
+use Rattle.spl_rules.specs.Cells.{Cell, Held, own_life, next_act, proposal}
+use Rattle.spl_rules.specs.Events.{next_kind}
 use Rattle.spl_model.specs.Worlds.{World, messages, step_plan, step_world}
 
 -- a value of one of the two groups
@@ -49,15 +50,17 @@ handed_on (message.Admin c (msg.Forward gen v)) = Some (OfActs v)
 handed_on (message.Scabbard c s t (msg.Forward gen v)) = Some (OfBatches v)
 handed_on _ = None
 
--- the value that an event brings to a cell: a proposal, the node's next act, a batch, or what is handed on
+-- the node's next act of a kind
+abbrev pub next_of : NodeId → ℕ → Option ActKind → Option Value
+next_of n turn None = None
+next_of n turn (Some k) = Some (OfActs (next_act n turn k))
+
+-- the value that an event brings to a cell: a proposal, a batch, what is handed on, or the node's next act
 abbrev pub brought_to : NodeId → Cell → Event → Option Value
 brought_to n k (event.Propose d) = Some (OfActs (proposal n d))
-brought_to n k (event.Vote accept) = Some (OfActs (next_act n (turn_of k) (vote_kind (life_at k) accept)))
-brought_to n k event.Remove = Some (OfActs (next_act n (turn_of k) (removal_kind (life_at k))))
-brought_to n k event.Disband = Some (OfActs (next_act n (turn_of k) kind.Disband))
 brought_to n k (event.Submit v) = Some (OfBatches v)
 brought_to n k (event.Deliver from m) = handed_on m
-brought_to n k _ = None
+brought_to n k e = next_of n (turn_of k) (next_kind (life_at k) e)
 
 abbrev pub handed_over : Option Message → Option Value
 handed_over None = None

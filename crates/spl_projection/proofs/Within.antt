@@ -1,35 +1,22 @@
 -- What of a circuit touches these nodes alone: its cells, its messages and the definitions in them.
-use Rattle.std.proofs.Common.{◌≡◌, ℕ, zero, suc, Bool, true, false, not, ◌&&◌, List, [], ◌∷◌, ◌++◌, length, map, refl}
-use Rattle.std.specs.Prelude.{Option, Some, None, Ok, Err, ◌==◌, nat_lt, is_some}
+use Rattle.std.proofs.Common.{◌≡◌, ℕ, zero, suc, Bool, true, false, ◌&&◌, List, [], ◌∷◌, ◌++◌, map, refl, subst}
 use Rattle.std.specs.List.{list_all}
-use Rattle.std.specs.Str.{bytes_eq}
-use Rattle.spl_agree.specs.declared.reason.Reason.{Reason}
 use Rattle.spl_agree.specs.declared.message.CommitMsg.{CommitMsg}
-use Rattle.spl_agree.specs.declared.message.CommitMsg.TheVariants as msg
-use Rattle.spl_agree.specs.declared.event.GroupEvent.{GroupEvent}
 use Rattle.spl_agree.specs.declared.event.GroupEvent.TheVariants as group
 use Rattle.spl_agree.specs.declared.event.GroupChange.{GroupChange}
 use Rattle.spl_agree.specs.declared.event.OpenMove.{OpenMove}
 use Rattle.spl_agree.specs.declared.event.OpenMove.TheVariants as move
-use Rattle.spl_agree.specs.Member.{Group, Member, new_member, values, found, found_refused, known, moved}
-use Rattle.spl_agree.specs.Fits.{generation_of}
-use Rattle.spl_agree.proofs.Tests.{if_holds, and_left, and_right}
+use Rattle.spl_agree.specs.Member.{Group, Member, new_member, moved}
+use Rattle.spl_agree.proofs.Tests.{and_left, and_right}
 use Rattle.spl_circuit.specs.declared.definition.Definition.{Definition}
 use Rattle.spl_circuit.specs.declared.act.ActKind.{ActKind}
 use Rattle.spl_circuit.specs.declared.act.ActKind.TheVariants as kind
 use Rattle.spl_circuit.specs.declared.act.Act.{Act}
-use Rattle.spl_circuit.specs.Nodes.{NodeId, ServiceId, has_node, position, node_or}
-use Rattle.spl_circuit.specs.Rules.{broken, admin, is_member}
-use Rattle.spl_circuit.specs.Acts.{act_rules, is_node}
-use Rattle.spl_circuit.specs.Lifecycle.{Life, is_disbanding, is_asked, current}
-use Rattle.spl_circuit.specs.Routing.{Way, route}
+use Rattle.spl_circuit.specs.Nodes.{NodeId, has_node, position, node_or}
+use Rattle.spl_circuit.specs.Rules.{admin}
+use Rattle.spl_circuit.specs.Acts.{act_rules}
+use Rattle.spl_circuit.specs.Lifecycle.{Life}
 use Rattle.spl_command.specs.declared.batch.Batch.{Batch}
-use Rattle.spl_command.specs.declared.receipt.Receipt.{Receipt}
-use Rattle.spl_command.specs.Rules.{broken_batch}
-use Rattle.spl_command.specs.Equality.{same_batch}
-use Rattle.spl_scabbard.specs.Checks.{batch_rules}
-use Rattle.spl_scabbard.specs.Readers.{place_of, receipts_of}
-use Rattle.spl_wire.specs.declared.answer.Answer.TheVariants as answer
 use Rattle.spl_wire.specs.declared.message.Message.{Message}
 use Rattle.spl_wire.specs.declared.message.Message.TheVariants as message
 use Rattle.spl_wire.specs.declared.event.Event.{Event}
@@ -39,11 +26,12 @@ use Rattle.spl_wire.specs.declared.change.Change.TheVariants as durable
 use Rattle.spl_wire.specs.declared.plan.Outgoing.{Outgoing}
 use Rattle.spl_wire.specs.declared.plan.Plan.{Plan}
 use Rattle.spl_rules.specs.Valid.{carries}
-use Rattle.spl_rules.specs.Cells.{Cell, Empty, Held, Purged, Bound, Site, Deed, Tells, Replies, Binds, Acts, Serves, Turns, admin_group, is_open, is_open_cell, own_life, is_active_here, runs, can_bind, proposes, proposes_at, vote_kind, removal_kind, submits_next, votes, removes, disbands, is_act_pending, is_waiting, asked_first, forwarded_first, hears_first}
-use Rattle.spl_rules.specs.Batches.{submits, submits_ruled, submits_known, when_active, status_kept, status_refused, receipt_kept, has_the_id, routed, way, hears_routed, serves_other}
-use Rattle.spl_rules.specs.Events.{turns, held_hears, held_does, other_does, does}
+use Rattle.spl_rules.specs.Cells.{Cell, Empty, Held, Purged, Site, Deed, Replies, Binds, Acts, Serves, Turns, admin_group, is_open_cell, own_life}
+use Rattle.spl_rules.specs.Events.{does}
 use Rattle.spl_rules.specs.Changes.{made_one, made, moved_cell, stopped_cell, after_plan}
 use Rattle.spl_rules.specs.Plans.{Lane, admin_lane, service_lane, group_row, group_changes, group_sends, planned, plan_of}
+use Rattle.spl_rules.proofs.Does.{IsNextKind, Does, Refused, Told, Declined, Returned, Unserved, Proposed, Asked, Handed, Acted, Taken, Heard, Served, GoesOn, BothGoOn, Left, Forgot, does-is}
+use Rattle.spl_rules.proofs.Events.{clock-brings}
 use Rattle.spl_rules.proofs.Carried.{Brings, AllCarry, send_carries, carry-row}
 use Rattle.spl_projection.proofs.Joins.{joins, AllJoin, join-row, pending-changed}
 
@@ -221,136 +209,33 @@ module _ (ns : List NodeId) where
   IsDueWithin (event.Deliver from x) = (has_node ns from ≡ true) × (is_message_within x ≡ true)
   IsDueWithin _ = Unit {0}
 
-  within-proposes_at : (site : Site) (d : Definition) (k : Cell) → has_node ns site.here ≡ true → are_within d.members ≡ true → IsDeedWithin (proposes_at site d k)
-  within-proposes_at site d Empty h w = (w, h, w)
-  within-proposes_at site d (Held b) h w = tt
-  within-proposes_at site d (Purged old) h w = if_holds IsDeedWithin (nat_lt old d.generation) _ _ (λ q. (w, h, w)) (λ q. tt)
-
-  within-proposes : (site : Site) (d : Definition) (k : Cell) (o : Option ℕ) → has_node ns site.here ≡ true → are_within d.members ≡ true → IsDeedWithin (proposes site d k o)
-  within-proposes site d k (Some rule) h w = tt
-  within-proposes site d k None h w = if_holds IsDeedWithin (is_member d site.here) _ _ (λ q. within-proposes_at site d k h w) (λ q. tt)
-
-  within-next : (site : Site) (b : Bound) (w : ActKind) → has_node ns site.here ≡ true → are_within b.definition.members ≡ true → list_all is_act_within b.acts.pending ≡ true → is_kind_within w ≡ true → IsDeedWithin (submits_next site b w)
-  within-next site b w h i p k = if_holds IsDeedWithin (is_open b.mark) _ _ (λ q. (i, h, p, k)) (λ q. tt)
-
-  within-votes : (site : Site) (b : Bound) (w : ActKind) → has_node ns site.here ≡ true → are_within b.definition.members ≡ true → list_all is_act_within b.acts.pending ≡ true → is_kind_within w ≡ true → IsDeedWithin (votes site b w)
-  within-votes site b w h i p k =
-      if_holds IsDeedWithin (is_act_pending site b) _ _ (λ q. tt) (λ q.
-      if_holds IsDeedWithin (not (is_asked (own_life b).state)) _ _ (λ x. tt) (λ x.
-      if_holds IsDeedWithin (has_node (current (own_life b)).accepted site.here) _ _ (λ y. tt) (λ y. within-next site b w h i p k)))
-
-  within-removes : (site : Site) (b : Bound) (w : ActKind) → has_node ns site.here ≡ true → are_within b.definition.members ≡ true → list_all is_act_within b.acts.pending ≡ true → is_kind_within w ≡ true → IsDeedWithin (removes site b w)
-  within-removes site b w h i p k =
-      if_holds IsDeedWithin (is_act_pending site b) _ _ (λ q. tt) (λ q.
-      if_holds IsDeedWithin (not (is_asked (own_life b).state)) _ _ (λ x. tt) (λ x.
-      if_holds IsDeedWithin (not (is_node (current (own_life b)).requester site.here)) _ _ (λ y. tt) (λ y. within-next site b w h i p k)))
-
-  within-disbands : (site : Site) (b : Bound) → has_node ns site.here ≡ true → are_within b.definition.members ≡ true → list_all is_act_within b.acts.pending ≡ true → IsDeedWithin (disbands site b)
-  within-disbands site b h i p =
-      if_holds IsDeedWithin (is_act_pending site b) _ _ (λ q. tt) (λ q.
-      if_holds IsDeedWithin (not (is_active_here b)) _ _ (λ x. tt) (λ x.
-      if_holds IsDeedWithin (not (is_open b.mark)) _ _ (λ y. tt) (λ y.
-      if_holds IsDeedWithin (b.definition.version == 1) _ _ (λ z. tt) (λ z. (i, h, p, refl)))))
-
   -- an act of the node that is no proposal names no node
-  within-vote_kind : (l : Life) (accept : Bool) → is_kind_within (vote_kind l accept) ≡ true
-  within-vote_kind l true = if_holds (λ (w : ActKind). is_kind_within w ≡ true) (is_disbanding l.state) (kind.DisbandAccept l.disband.place) kind.Accept (λ q. refl) (λ q. refl)
-  within-vote_kind l false = if_holds (λ (w : ActKind). is_kind_within w ≡ true) (is_disbanding l.state) (kind.DisbandReject l.disband.place) kind.Reject (λ q. refl) (λ q. refl)
+  within-next : (l : Life) (w : ActKind) → IsNextKind l w → is_kind_within w ≡ true
+  within-next l (kind.Propose d) own = absurd own
+  within-next l _ own = refl
 
-  within-removal_kind : (l : Life) → is_kind_within (removal_kind l) ≡ true
-  within-removal_kind l = if_holds (λ (w : ActKind). is_kind_within w ≡ true) (is_disbanding l.state) (kind.DisbandRemove l.disband.place) kind.Remove (λ q. refl) (λ q. refl)
+  -- a proposal names the members that it asks
+  within-proposed : (v : Act) (d : Definition) → v.kind ≡ kind.Propose d → is_act_within v ≡ true → are_within d.members ≡ true
+  within-proposed v d is h = subst (λ (w : ActKind). is_kind_within w ≡ true) is h
 
-  within-known : (site : Site) (b : Bound) (v : Batch) (o : Option Batch) → has_node ns site.here ≡ true → are_within b.definition.members ≡ true → IsDeedWithin (submits_known site b v o)
-  within-known site b v None h i = if_holds IsDeedWithin (length b.batches.pending == 64) _ _ (λ q. tt) (λ q. (i, h))
-  within-known site b v (Some u) h i = if_holds IsDeedWithin (same_batch u v) _ _ (λ q. tt) (λ q. tt)
-
-  within-ruled : (site : Site) (b : Bound) (v : Batch) (o : Option ℕ) → has_node ns site.here ≡ true → are_within b.definition.members ≡ true → IsDeedWithin (submits_ruled site b v o)
-  within-ruled site b v (Some rule) h i = tt
-  within-ruled site b v None h i = within-known site b v (known batch_rules b.batches v) h i
-
-  within-submits : (site : Site) (b : Bound) (v : Batch) → has_node ns site.here ≡ true → are_within b.definition.members ≡ true → IsDeedWithin (submits site b v)
-  within-submits site b v h i = if_holds IsDeedWithin (not (runs b)) _ _ (λ q. tt) (λ q. if_holds IsDeedWithin (not (is_open b.mark)) _ _ (λ x. tt) (λ x. within-ruled site b v (broken_batch v) h i))
-
-  within-active : (b : Bound) (deed : Deed) → IsDeedWithin deed → IsDeedWithin (when_active b deed)
-  within-active b deed h = if_holds IsDeedWithin (runs b) _ _ (λ q. h) (λ q. tt)
-
-  within-status_refused : (o : Option (Batch × Reason)) → IsDeedWithin (status_refused o)
-  within-status_refused None = tt
-  within-status_refused (Some u) = tt
-
-  within-status : (b : Member Batch) (i : ℕ) (o : Option ℕ) → IsDeedWithin (status_kept b i o)
-  within-status b i (Some place) = tt
-  within-status b i None = if_holds IsDeedWithin (is_some (found (has_the_id i) b.pending)) _ _ (λ q. tt) (λ q. within-status_refused (found_refused (has_the_id i) b.refused))
-
-  within-receipt : (i : ℕ) (o : Option ℕ) (r : Option (List Receipt)) → IsDeedWithin (receipt_kept i o r)
-  within-receipt i (Some place) (Some rs) = tt
-  within-receipt i _ _ = tt
-
-  within-routes : (o : Way) → IsDeedWithin (routed o (Tells answer.Routed))
-  within-routes (Err f) = tt
-  within-routes (Ok x) = tt
-
-  within-turns : (site : Site) (b : Bound) (x : GroupEvent Act) (y : GroupEvent Batch) → has_node ns site.here ≡ true → are_within b.definition.members ≡ true → list_all is_act_within b.acts.pending ≡ true → Brings is_act_within x → IsDeedWithin (turns site b x y)
-  within-turns site b x y h i p k = if_holds IsDeedWithin (is_open b.mark) _ _ (λ o. if_holds IsDeedWithin (runs b) _ _ (λ q. (i, p, k)) (λ q. (i, h, p, k))) (λ o. tt)
-
-  -- messages
-  within-asked : (site : Site) (k : Cell) (from : NodeId) (gen r place : ℕ) (v : Act) (w : ActKind) → has_node ns from ≡ true → is_act_within v ≡ true → is_kind_within w ≡ true → IsDeedWithin (asked_first site k from gen r place v w)
-  within-asked site k from gen r place v (kind.Propose d) h i j = if_holds IsDeedWithin (place == 0 && (can_bind site k gen d && bytes_eq (admin d) from)) _ _ (λ q. (j, h, i)) (λ q. (h, refl))
-  within-asked site k from gen r place v _ h i j = (h, refl)
-
-  within-forwarded : (site : Site) (k : Cell) (from : NodeId) (gen : ℕ) (v : Act) (w : ActKind) → has_node ns from ≡ true → is_act_within v ≡ true → is_kind_within w ≡ true → IsDeedWithin (forwarded_first site k from gen v w)
-  within-forwarded site k from gen v (kind.Propose d) h i j = if_holds IsDeedWithin (can_bind site k gen d && (bytes_eq (admin d) site.here && (bytes_eq v.node from && (is_member d from && not (bytes_eq from site.here))))) _ _ (λ q. (j, h, i)) (λ q. (h, i))
-  within-forwarded site k from gen v _ h i j = tt
-
-  within-first : (site : Site) (k : Cell) (from : NodeId) (x : CommitMsg Act) → has_node ns from ≡ true → carries is_act_within x ≡ true → IsDeedWithin (hears_first site k from x)
-  within-first site k from (msg.VoteRequest gen r place v) h i = within-asked site k from gen r place v v.kind h i i
-  within-first site k from (msg.Forward gen v) h i = within-forwarded site k from gen v v.kind h i i
-  within-first site k from _ h i = tt
-
-  within-other : (site : Site) (from : NodeId) (s t : ServiceId) (x : CommitMsg Batch) → has_node ns from ≡ true → IsDeedWithin (serves_other site from s t x)
-  within-other site from s t (msg.VoteRequest gen r place v) h = (h, refl)
-  within-other site from s t _ h = tt
-
-  within-routed : (site : Site) (b : Bound) (from : NodeId) (s t : ServiceId) (x : CommitMsg Batch) (o : Way) → has_node ns from ≡ true → are_within b.definition.members ≡ true → IsDeedWithin (routed o (hears_routed site b from s t x))
-  within-routed site b from s t x (Err f) h i = tt
-  within-routed site b from s t x (Ok y) h i = if_holds IsDeedWithin (generation_of x == b.definition.generation) _ _ (λ q. (i, h)) (λ q. within-other site from s t x h)
-
-  within-hears : (site : Site) (b : Bound) (from : NodeId) (x : Message) → has_node ns from ≡ true → is_message_within x ≡ true → are_within b.definition.members ≡ true → list_all is_act_within b.acts.pending ≡ true → IsDeedWithin (held_hears site b from x)
-  within-hears site b from (message.Admin c2 x) h k i p = if_holds IsDeedWithin (is_open b.mark && generation_of x == b.definition.generation) _ _ (λ q. (i, h, p, k)) (λ q. within-first site (Held b) from x h k)
-  within-hears site b from (message.Scabbard c2 s t x) h k i p = within-routed site b from s t x (way site b from s t) h i
-
-  -- any event at a bound cell
-  within-held : (site : Site) (b : Bound) (e : Event) → has_node ns site.here ≡ true → are_within b.definition.members ≡ true → list_all is_act_within b.acts.pending ≡ true → IsDueWithin e → IsDeedWithin (held_does site b e)
-  within-held site b (event.Propose f) h i p due = within-proposes site f (Held b) (broken f) h due
-  within-held site b (event.Vote accept) h i p due = within-votes site b (vote_kind (own_life b) accept) h i p (within-vote_kind (own_life b) accept)
-  within-held site b event.Remove h i p due = within-removes site b (removal_kind (own_life b)) h i p (within-removal_kind (own_life b))
-  within-held site b event.Disband h i p due = within-disbands site b h i p
-  within-held site b event.Abandon h i p due = if_holds IsDeedWithin (not (runs b)) _ _ (λ q. tt) (λ q. if_holds IsDeedWithin (is_open b.mark) _ _ (λ x. tt) (λ x. tt))
-  within-held site b event.Purge h i p due = if_holds IsDeedWithin (is_open b.mark && is_waiting (own_life b).state b.acts) _ _ (λ q. tt) (λ q. tt)
-  within-held site b (event.Submit v) h i p due = within-submits site b v h i
-  within-held site b event.Show h i p due = tt
-  within-held site b event.Detail h i p due = tt
-  within-held site b (event.Status j) h i p due = within-active b _ (within-status b.batches j (place_of (values b.batches.history) j))
-  within-held site b (event.Receipt j) h i p due = within-active b _ (within-receipt j (place_of (values b.batches.history) j) (receipts_of (values b.batches.history) j))
-  within-held site b (event.Route from s u) h i p due = within-routes (way site b from s u)
-  within-held site b event.Tick h i p due = within-turns site b group.Tick group.Tick h i p tt
-  within-held site b event.Expire h i p due = within-turns site b group.Expire group.Expire h i p tt
-  within-held site b (event.Deliver from x) h i p due = within-hears site b from x due.0 due.1 i p
-  within-held site b _ h i p due = within-active b _ tt
-
-  -- any event at another cell
-  within-elsewhere : (site : Site) (k : Cell) (e : Event) → has_node ns site.here ≡ true → IsDueWithin e → IsDeedWithin (other_does site k e)
-  within-elsewhere site k (event.Propose f) h due = within-proposes site f k (broken f) h due
-  within-elsewhere site k (event.Route from s u) h due = within-routes (route None false from s u site.here)
-  within-elsewhere site k (event.Deliver from (message.Admin c2 x)) h due = within-first site k from x due.0 due.1
-  within-elsewhere site k (event.Deliver from (message.Scabbard c2 s t x)) h due = within-routes (route None false from s t site.here)
-  within-elsewhere site k _ h due = tt
-
-  pub within-does : (site : Site) (k : Cell) (e : Event) → has_node ns site.here ≡ true → IsDueWithin e → IsCellWithin site.here k → IsDeedWithin (does site k e)
-  within-does site Empty e h due w = within-elsewhere site Empty e h due
-  within-does site (Purged old) e h due w = within-elsewhere site (Purged old) e h due
-  within-does site (Held b) e h due w = within-held site b e h w.1 w.2 due
+  within-kind : (site : Site) (k : Cell) (e : Event) (deed : Deed) → Does site k e deed → has_node ns site.here ≡ true → IsDueWithin e → IsCellWithin site.here k → IsDeedWithin deed
+  within-kind site k e deed (Refused why) h due w = tt
+  within-kind site k e deed (Told a q) h due w = tt
+  within-kind site k e deed (Declined from i gen r place v) h due w = (due.0, refl)
+  within-kind site k e deed (Returned from i gen v d is) h due w = (due.0, due.1)
+  within-kind site k e deed (Unserved from i s t gen r place v) h due w = (due.0, refl)
+  within-kind site k e deed (Proposed d b) h due w = (due, h, due)
+  within-kind site k e deed (Asked d from i gen r place v is b leads) h due w = (within-proposed v d is due.1, due.0, due.1)
+  within-kind site k e deed (Handed d from i gen v is b leads its) h due w = (within-proposed v d is due.1, due.0, due.1)
+  within-kind site k e deed (Acted b f x next own unclosed free some) h due w = (w.1, h, w.2, within-next (own_life b) x own)
+  within-kind site k e deed (Taken b v unclosed active good unknown room) h due w = (w.1, h)
+  within-kind site k e deed (Heard b from i x unclosed same) h due w = (w.1, due.0, w.2, due.1)
+  within-kind site k e deed (Served b from i s t x unclosed active same) h due w = (w.1, due.0)
+  within-kind site k e deed (GoesOn b x unclosed p) h due w = (w.1, h, w.2, clock-brings is_act_within p)
+  within-kind site k e deed (BothGoOn b x y unclosed active p q) h due w = (w.1, w.2, clock-brings is_act_within p)
+  within-kind site k e deed (Left b unclosed active) h due w = tt
+  within-kind site k e deed (Forgot b) h due w = tt
 
   -- what an event gives
   pub within-plan : (site : Site) (k : Cell) (e : Event) → has_node ns site.here ≡ true → IsDueWithin e → IsCellWithin site.here k → IsPlanWithin (plan_of site k e)
-  within-plan site k e h due w = within-planned site (does site k e) h (within-does site k e h due w)
+  within-plan site k e h due w = within-planned site (does site k e) h (within-kind site k e (does site k e) (does-is site k e) h due w)

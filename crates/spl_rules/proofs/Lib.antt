@@ -10,6 +10,7 @@ pub mod Read
 pub mod Named
 pub mod Still
 pub mod Idle
+pub mod Does
 pub mod Deeds
 pub mod Events
 pub mod Plans

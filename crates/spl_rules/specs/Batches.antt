@@ -3,6 +3,7 @@ use Rattle.std.specs.Prelude.{ℕ, Bool, true, false, not, ◌&&◌, ◌==◌, n
 use Rattle.std.specs.List.{filter, starts_with}
 use Rattle.std.specs.Map.{lookup}
 use Rattle.std.specs.BTreeMap.{is_at}
+use Rattle.spl_agree.specs.declared.limit.TheConstants.{MOST_PENDING}
 use Rattle.spl_agree.specs.declared.reason.Reason.{Reason}
 use Rattle.spl_agree.specs.declared.event.Note.TheVariants as note
 use Rattle.spl_agree.specs.declared.message.CommitMsg.{CommitMsg}
@@ -33,7 +34,7 @@ use Rattle.spl_rules.specs.Cells.{Bound, Site, Deed, Refuses, Tells, Replies, Se
 -- ---- submit
 
 abbrev pub submits_new : Site → Bound → Batch → Deed
-submits_new site h v = if length h.batches.pending == 64 then Refuses refusal.QueueFull else Serves Submitted h site.here (group.Submit v)
+submits_new site h v = if length h.batches.pending == MOST_PENDING then Refuses refusal.QueueFull else Serves Submitted h site.here (group.Submit v)
 
 -- by what is known of the id here
 abbrev pub submits_known : Site → Bound → Batch → Option Batch → Deed

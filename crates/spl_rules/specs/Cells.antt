@@ -3,6 +3,8 @@ use Rattle.std.specs.Prelude.{ℕ, ◌+◌, ◌-◌, ◌^◌, Bool, true, false,
 use Rattle.std.specs.List.{list_any, filter}
 use Rattle.std.specs.Str.{bytes_eq}
 use Rattle.sha2.specs.Sha256.{sha256}
+use Rattle.spl_agree.specs.declared.limit.TheConstants.{MOST_PENDING}
+use Rattle.spl_agree.specs.declared.reason.TheConstants.Reason.{CANNOT_BIND}
 use Rattle.spl_agree.specs.declared.event.Note.{Note}
 use Rattle.spl_agree.specs.declared.event.Note.TheVariants as note
 use Rattle.spl_agree.specs.declared.message.CommitMsg.{CommitMsg}
@@ -22,7 +24,7 @@ use Rattle.spl_circuit.specs.Forms.{definition}
 use Rattle.spl_circuit.specs.Nodes.{NodeId, CircuitId, has_node, position}
 use Rattle.spl_circuit.specs.Rules.{broken, admin, service, is_member}
 use Rattle.spl_circuit.specs.Lifecycle.{Life, life, is_active, is_disbanding, is_asked, is_running, has_run, current}
-use Rattle.spl_circuit.specs.Acts.{reason, is_node, act_rules}
+use Rattle.spl_circuit.specs.Acts.{is_node, act_rules}
 use Rattle.spl_command.specs.declared.batch.Batch.{Batch}
 use Rattle.spl_scabbard.specs.Checks.{batch_rules}
 use Rattle.spl_wire.specs.declared.message.Message.{Message}
@@ -170,7 +172,7 @@ next_act here turn k = record { node = here; turn = turn + 1; kind = k }
 -- no further act of this node may be pending here
 abbrev pub is_act_pending : Site → Bound → Bool
 is_act_pending site h =
-    list_any (λ v. bytes_eq v.node site.here) h.acts.pending || (length h.acts.pending == 64
+    list_any (λ v. bytes_eq v.node site.here) h.acts.pending || (length h.acts.pending == MOST_PENDING
     || (is_some (known (act_rules h.definition) h.acts (next_act site.here h.turn kind.Accept)) || h.turn == 2 ^ 32 - 1))
 
 -- the next act of this node is submitted, where it takes part
@@ -249,7 +251,7 @@ declines site from gen r = Replies (note.Declined r) from (message.Admin site.ci
 
 -- the coordinator can't bind the definition
 abbrev pub returns_unbound : Site → NodeId → ℕ → Act → Deed
-returns_unbound site from gen v = Replies (note.Returned (reason 6)) from (message.Admin site.circuit (msg.Refused gen v (reason 6)))
+returns_unbound site from gen v = Replies (note.Returned CANNOT_BIND) from (message.Admin site.circuit (msg.Refused gen v CANNOT_BIND))
 
 -- a request at a cell that is not bound to its generation, or not open
 abbrev pub asked_first : Site → Cell → NodeId → ℕ → ℕ → ℕ → Act → ActKind → Deed

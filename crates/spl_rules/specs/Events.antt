@@ -1,12 +1,15 @@
 -- What any event does at a cell (docs/RULES.md, Cells).
-use Rattle.std.specs.Prelude.{false, ◌&&◌, ◌==◌, if◌then◌else◌, None}
+use Rattle.std.specs.Prelude.{false, ◌&&◌, ◌==◌, if◌then◌else◌, Option, Some, None}
 use Rattle.spl_agree.specs.declared.message.CommitMsg.{CommitMsg}
 use Rattle.spl_agree.specs.declared.event.GroupEvent.{GroupEvent}
 use Rattle.spl_agree.specs.declared.event.GroupEvent.TheVariants as group
 use Rattle.spl_agree.specs.Fits.{generation_of}
+use Rattle.spl_circuit.specs.declared.act.ActKind.{ActKind}
+use Rattle.spl_circuit.specs.declared.act.ActKind.TheVariants as kind
 use Rattle.spl_circuit.specs.declared.act.Act.{Act}
 use Rattle.spl_circuit.specs.Nodes.{NodeId, position}
 use Rattle.spl_circuit.specs.Rules.{broken}
+use Rattle.spl_circuit.specs.Lifecycle.{Life}
 use Rattle.spl_circuit.specs.Routing.{route}
 use Rattle.spl_command.specs.declared.batch.Batch.{Batch}
 use Rattle.spl_wire.specs.declared.message.Message.{Message}
@@ -46,6 +49,13 @@ other_hears site k from (message.Admin i x) = hears_first site k from x
 other_hears site k from (message.Scabbard i s t x) = routed (route None false from s t site.here) (Tells answer.Routed)
 
 -- ---- events
+
+-- the kind of the node's next act, where an event asks for one
+abbrev pub next_kind : Life → Event → Option ActKind
+next_kind l (event.Vote accept) = Some (vote_kind l accept)
+next_kind l event.Remove = Some (removal_kind l)
+next_kind l event.Disband = Some kind.Disband
+next_kind l _ = None
 
 -- at a bound cell
 abbrev pub held_does : Site → Bound → Event → Deed
