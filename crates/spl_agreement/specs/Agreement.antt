@@ -34,7 +34,9 @@ AllDiffer (b ∷ bs) = (is_taken bs b.id ≡ false) × AllDiffer bs
 
 -- two definitions of one generation that share a member don't both have acts
 abbrev pub ShareNothing : List NodeId → List Occurrence → Definition → Definition → Type 0
-ShareNothing ns es d e = (n : NodeId) → has_node d.members n ≡ true → has_node e.members n ≡ true → d.generation ≡ e.generation → act_list ns d es ≢ [] → act_list ns e es ≢ [] → d ≡ e
+ShareNothing ns es d e =
+    (n : NodeId) → has_node d.members n ≡ true → has_node e.members n ≡ true → d.generation ≡ e.generation →
+    act_list ns d es ≢ [] → act_list ns e es ≢ [] → d ≡ e
 
 -- from one moment to a later one, where a cell is bound to a definition at both: its histories have grown, and what it
 -- knew it knows
@@ -83,7 +85,9 @@ pub record IsAgreed (ns : List NodeId) (es : List Occurrence) (d : Definition) :
   pub queued : (before : List Occurrence) (s : Step) → es ≡ before ++ Steps s ∷ [] → KnowsQueued (world_behind ns before) s
   pub apart : (e : Definition) → ShareNothing ns es d e
   -- whatever happens later
-  pub keeps : (fs : List Occurrence) → AllPlain fs → AtEach (world_behind ns es) d (λ n h. (later : Bound) → (occur (world_behind ns es) fs).at n ≡ Held later → later.definition ≡ d → Keeps h later)
+  pub keeps :
+      (fs : List Occurrence) → AllPlain fs →
+      AtEach (world_behind ns es) d (λ n h. (later : Bound) → (occur (world_behind ns es) fs).at n ≡ Held later → later.definition ≡ d → Keeps h later)
   pub past : (fs : List Occurrence) → AllPlain fs → AtEach (world_behind ns es) d (λ n h. IsPast d ((occur (world_behind ns es) fs).at n))
   pub few : AtEach (world_behind ns es) d (λ n h. n ≡ admin d → AreFew h.acts.pending)
 

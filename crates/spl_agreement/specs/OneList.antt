@@ -30,5 +30,11 @@ pub record IsTold (ns : List NodeId) (rs : List Ran) (c : CircuitId) (d : Defini
 -- two answers about a circuit, of nodes that are bound to one definition: roots of as many batches are one root, and of two
 -- histories one begins the other
 pub record TellOneList (ns : List NodeId) (rs : List Ran) : Type 0 where
-  pub roots : (c : CircuitId) (d : Definition) (count : ℕ) (x y : List ℕ) → IsTold ns rs c d event.Root (answer.Root count x) → IsTold ns rs c d event.Root (answer.Root count y) → x ≡ y
-  pub histories : (c : CircuitId) (d : Definition) (xs ys : List ℕ) → IsTold ns rs c d event.History (answer.History xs) → IsTold ns rs c d event.History (answer.History ys) → IsPrefixOf xs ys ⊎ IsPrefixOf ys xs
+  pub roots :
+      (c : CircuitId) (d : Definition) (count : ℕ) (x y : List ℕ) →
+      IsTold ns rs c d event.Root (answer.Root count x) → IsTold ns rs c d event.Root (answer.Root count y) →
+      x ≡ y
+  pub histories :
+      (c : CircuitId) (d : Definition) (xs ys : List ℕ) →
+      IsTold ns rs c d event.History (answer.History xs) → IsTold ns rs c d event.History (answer.History ys) →
+      IsPrefixOf xs ys ⊎ IsPrefixOf ys xs

@@ -51,5 +51,8 @@ AllAt ns (e ∷ es) = (has_node ns (node_of e) ≡ true) × AllAt ns es
 -- in that one its circuits agree
 pub record AgreeOn (o : Origin) (left : CircuitId → List Occurrence) (rs : List Ran) : Type 0 where
   pub happened : (c : CircuitId) → circuit_world o c rs ≡ occur (first_world o c) (occurrences o c rs)
-  pub goes_on : (c : CircuitId) (es fs : List Occurrence) → es ++ fs ≡ occurrences o c rs → world_behind o.nodes (gone_on o.nodes (left c) es) ≡ sent_before (world_behind o.nodes (left c)).sent (occur (first_world o c) es)
+  pub goes_on :
+      (c : CircuitId) (es fs : List Occurrence) →
+      es ++ fs ≡ occurrences o c rs →
+      world_behind o.nodes (gone_on o.nodes (left c) es) ≡ sent_before (world_behind o.nodes (left c)).sent (occur (first_world o c) es)
   pub agreed : (c : CircuitId) (d : Definition) (es fs : List Occurrence) → es ++ fs ≡ occurrences o c rs → IsAgreed o.nodes (gone_on o.nodes (left c) es) d

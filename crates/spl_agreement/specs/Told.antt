@@ -42,17 +42,36 @@ AreRunning d acts = is_running (life d acts).state ≡ true
 -- what is answered where these acts and these batches are committed: of the lifecycle always, of the batches where the
 -- circuit runs by those acts
 pub record TellsLists (asks : Event → Answer) (h : Bound) (acts : List Act) (batches : List Batch) : Type 0 where
-  pub show : asks event.Show ≡ answer.Show h.definition.generation (life h.definition acts).state h.mark (accepted_by h.definition acts) (length acts) (length h.acts.pending) (length batches) (length h.batches.pending)
-  pub detail : asks event.Detail ≡ answer.Detail h.definition (sha256 (definition.spell h.definition)) (life h.definition acts).state h.mark (accepted_by h.definition acts) (life h.definition acts).circuit.requester
+  pub show :
+      asks event.Show
+      ≡ answer.Show h.definition.generation (life h.definition acts).state h.mark (accepted_by h.definition acts)
+      (length acts) (length h.acts.pending) (length batches) (length h.batches.pending)
+  pub detail :
+      asks event.Detail
+      ≡ answer.Detail h.definition (sha256 (definition.spell h.definition)) (life h.definition acts).state h.mark
+      (accepted_by h.definition acts) (life h.definition acts).circuit.requester
   pub root : AreRunning h.definition acts → asks event.Root ≡ answer.Root (length batches) (node_at 70 [] (state_of batches))
   pub history : AreRunning h.definition acts → asks event.History ≡ answer.History (ids_of batches)
-  pub get : (address : Address) → AreRunning h.definition acts → asks (event.Get address) ≡ answer.Value (lookup (is_at (address_cmp address)) (state_of batches))
-  pub list : (prefix : List ℕ) → AreRunning h.definition acts → asks (event.List prefix) ≡ answer.Listed (map entry_told (filter (has_prefix prefix) (state_of batches)))
+  pub get :
+      (address : Address) →
+      AreRunning h.definition acts →
+      asks (event.Get address) ≡ answer.Value (lookup (is_at (address_cmp address)) (state_of batches))
+  pub list :
+      (prefix : List ℕ) →
+      AreRunning h.definition acts →
+      asks (event.List prefix) ≡ answer.Listed (map entry_told (filter (has_prefix prefix) (state_of batches)))
   -- a batch by its id: its place among those, and the receipts of that place
-  pub committed : (i place : ℕ) → AreRunning h.definition acts → place_of batches i ≡ Some place → asks (event.Status i) ≡ answer.Status (status.Committed place)
-  pub receipt : (i place : ℕ) (receipts : List Receipt) → AreRunning h.definition acts → place_of batches i ≡ Some place → receipts_at batches place ≡ Some receipts → asks (event.Receipt i) ≡ answer.Receipt i place receipts
+  pub committed :
+      (i place : ℕ) →
+      AreRunning h.definition acts → place_of batches i ≡ Some place →
+      asks (event.Status i) ≡ answer.Status (status.Committed place)
+  pub receipt :
+      (i place : ℕ) (receipts : List Receipt) →
+      AreRunning h.definition acts → place_of batches i ≡ Some place → receipts_at batches place ≡ Some receipts →
+      asks (event.Receipt i) ≡ answer.Receipt i place receipts
   pub unknown : (i : ℕ) → AreRunning h.definition acts → place_of batches i ≡ None → asks (event.Receipt i) ≡ answer.Refused refusal.UnknownId
 
 -- so a node answers while it is up, by the fronts of the circuit's lists that are committed at its cell
 abbrev pub TellsFronts : World → Site → Bound → List Act → List Batch → Type 0
-TellsFronts w site h acts batches = w.up site.here ≡ true → TellsLists (answered w site) h (take (length h.acts.history) acts) (take (length h.batches.history) batches)
+TellsFronts w site h acts batches =
+    w.up site.here ≡ true → TellsLists (answered w site) h (take (length h.acts.history) acts) (take (length h.batches.history) batches)

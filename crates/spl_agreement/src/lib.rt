@@ -16,7 +16,9 @@ ghost use Rattle.spl_agreement.specs.Resumed.{HasLeft, AllAt, AgreeOn, restarts}
 /// A cell that is bound to a definition stays bound to it, or is purged, or is bound to a later
 /// generation; and the first act that it commits is the proposal of that definition.
 pub fn bindings_are_final()
-    ensures past { (ns : List NodeId) (es fs : List Occurrence) (d : Definition) → AllPlain es → AllPlain fs → AtEach (world_behind ns es) d (λ n h. IsPast d ((occur (world_behind ns es) fs).at n)) }
+    ensures past { (ns : List NodeId) (es fs : List Occurrence) (d : Definition) →
+        AllPlain es → AllPlain fs →
+        AtEach (world_behind ns es) d (λ n h. IsPast d ((occur (world_behind ns es) fs).at n)) }
     ensures first { (ns : List NodeId) (es : List Occurrence) (d : Definition) → AllPlain es → AtEach (world_behind ns es) d (λ n h. FirstIsProposal d h.acts) }
 {}
 
@@ -37,6 +39,10 @@ pub fn members_tell_one_list()
 /// goes on from there: at each moment of each circuit's world it has the cells of the one run that
 /// both are, in which the circuits agree. Of the messages that were sent before, none is asked for.
 pub fn resumed_circuits_agree()
-    ensures left { (o : Origin) (c : CircuitId) (es : List Occurrence) → AllAt o.nodes es → ((n : NodeId) → o.kept c n ≡ stopped_cell ((world_behind o.nodes es).at n)) → HasLeft (es ++ restarts o.nodes) o c }
-    ensures on { (o : Origin) (left : CircuitId → List Occurrence) (rs : List Ran) → lines_fit rs ≡ true → ((c : CircuitId) → AllPlain (left c)) → ((c : CircuitId) → HasLeft (left c) o c) → AgreeOn o left rs }
+    ensures left { (o : Origin) (c : CircuitId) (es : List Occurrence) →
+        AllAt o.nodes es → ((n : NodeId) → o.kept c n ≡ stopped_cell ((world_behind o.nodes es).at n)) →
+        HasLeft (es ++ restarts o.nodes) o c }
+    ensures on { (o : Origin) (left : CircuitId → List Occurrence) (rs : List Ran) →
+        lines_fit rs ≡ true → ((c : CircuitId) → AllPlain (left c)) → ((c : CircuitId) → HasLeft (left c) o c) →
+        AgreeOn o left rs }
 {}

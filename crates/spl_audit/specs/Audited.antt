@@ -93,4 +93,8 @@ AreKept ns = (position : ℕ) (n : Keeper) (c : CircuitId) → slice_get ns posi
 pub record AreOne (ns : List Keeper) (c : CircuitId) : Type 0 where
   pub begins : (generation i j : ℕ) (h k : Bound) → IsBoundAt ns c generation i h → IsBoundAt ns c generation j k → h.definition ≡ k.definition → BeginsWith h k
   pub differ : (generation i : ℕ) (h : Bound) → IsBoundAt ns c generation i h → AllDiffer (values h.batches.history)
-  pub apart : (generation i j : ℕ) (h k : Bound) → IsBoundAt ns c generation i h → IsBoundAt ns c generation j k → ShareMember h.definition k.definition → h.acts.history ≢ [] → k.acts.history ≢ [] → h.definition ≡ k.definition
+  pub apart :
+      (generation i j : ℕ) (h k : Bound) →
+      IsBoundAt ns c generation i h → IsBoundAt ns c generation j k → ShareMember h.definition k.definition →
+      h.acts.history ≢ [] → k.acts.history ≢ [] →
+      h.definition ≡ k.definition

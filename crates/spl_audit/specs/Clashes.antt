@@ -36,7 +36,8 @@ pub data Kind : Type 0 where
 -- two bound cells clash at a place: their definitions differ and share a member, and both have acts; or they are bound to one
 -- circuit, and their acts differ there, or their batches
 abbrev pub ClashAt : Kind → Bound → Bound → ℕ → Type 0
-ClashAt Definitions h k place = (place ≡ 0) × ((h.definition ≢ k.definition) × (ShareMember h.definition k.definition × ((h.acts.history ≢ []) × (k.acts.history ≢ []))))
+ClashAt Definitions h k place =
+    (place ≡ 0) × ((h.definition ≢ k.definition) × (ShareMember h.definition k.definition × ((h.acts.history ≢ []) × (k.acts.history ≢ []))))
 ClashAt Acts h k place = (h.definition ≡ k.definition) × DifferAt (values h.acts.history) (values k.acts.history) place
 ClashAt Batches h k place = (h.definition ≡ k.definition) × DifferAt (values h.batches.history) (values k.batches.history) place
 

@@ -39,7 +39,8 @@ some_missing None = Unit {0}
 some_missing (Some o) = none_left (positions o.1) ≡ false
 
 -- what a member keeps inside: the content stands for the history, the queue is by keys, the numbers are in their bounds
-pub record IsKept {K V : Type 0} (key : V → K) (items : List V) (history : List (ℕ × V)) (pending : List (K × V)) (refused : List (K × (V × Reason))) (opened : Option (ℕ × ℕ)) (members coordinator here : ℕ) : Type 0 where
+pub record IsKept {K V : Type 0} (key : V → K) (items : List V) (history : List (ℕ × V)) (pending : List (K × V))
+    (refused : List (K × (V × Reason))) (opened : Option (ℕ × ℕ)) (members coordinator here : ℕ) : Type 0 where
   pub applied : items ≡ values history
   pub pending_keys : AreKeyed key pending
   pub refused_keys : AreKeyed (λ (u : V × Reason). key u.0) refused

@@ -100,7 +100,8 @@ impl<M: Agreed> Member<M> {
 
     /// Whether a place is left, and the check of a value is good.
     fn may_follow(&self, alloc: Global, value: &M::Value) -> Result<bool, AllocError>
-        ensures { IfOk result (λ b. b ≡ (nat_lt (length self.now.state.history) (2 ^ 32 - 1) && is_none ((M.rules self.now.content).check (values self.now.state.history) value.now))) }
+        ensures { IfOk result (λ b. b ≡ (nat_lt (length self.now.state.history) (2 ^ 32 - 1)
+            && is_none ((M.rules self.now.content).check (values self.now.state.history) value.now))) }
     {
         if self.place() == u32::MAX {
             return Ok(false);

@@ -78,7 +78,8 @@ impl<M: Agreed> Member<M> {
         sender: u8,
         value: &M::Value,
     ) -> Result<GroupPlan<M::Value>, AllocError>
-        ensures { IfOk result (λ p. p ≡ forwarded (group_by (M.rules self.now.content) self.now) self.now.state sender value.now (found ((M.rules self.now.content).same_key value.now) (values self.now.state.history))) }
+        ensures { IfOk result (λ p. p ≡ forwarded (group_by (M.rules self.now.content) self.now) self.now.state sender value.now
+            (found ((M.rules self.now.content).same_key value.now) (values self.now.state.history))) }
     {
         match self.in_history(value) {
             Some(there) => self.forwarded_held(alloc, sender, value, there),
@@ -93,7 +94,8 @@ impl<M: Agreed> Member<M> {
         sender: u8,
         value: &M::Value,
     ) -> Result<GroupPlan<M::Value>, AllocError>
-        ensures { IfOk result (λ p. p ≡ forwarded_pending (group_by (M.rules self.now.content) self.now) self.now.state sender value.now (found ((M.rules self.now.content).same_key value.now) self.now.state.pending)) }
+        ensures { IfOk result (λ p. p ≡ forwarded_pending (group_by (M.rules self.now.content) self.now) self.now.state sender value.now
+            (found ((M.rules self.now.content).same_key value.now) self.now.state.pending)) }
     {
         match self.in_queue(value) {
             Known::Pending(there) => self.forwarded_held(alloc, sender, value, there),
@@ -129,7 +131,8 @@ impl<M: Agreed> Member<M> {
         there: &M::Value,
         reason: Reason,
     ) -> Result<GroupPlan<M::Value>, AllocError>
-        ensures { IfOk result (λ p. p ≡ forwarded_refused (group_by (M.rules self.now.content) self.now) self.now.state sender value.now (Some (there.now, reason))) }
+        ensures { IfOk result (λ p. p ≡ forwarded_refused (group_by (M.rules self.now.content) self.now) self.now.state sender value.now
+            (Some (there.now, reason))) }
     {
         if self.is_same(there, value) {
             self.returns(alloc, sender, value, reason)
@@ -193,7 +196,8 @@ impl<M: Agreed> Member<M> {
         value: &M::Value,
         reason: Reason,
     ) -> Result<GroupPlan<M::Value>, AllocError>
-        ensures { IfOk result (λ p. p ≡ taken_back (M.rules self.now.content) (found ((M.rules self.now.content).same_key value.now) self.now.state.pending) value.now reason) }
+        ensures { IfOk result (λ p. p ≡ taken_back (M.rules self.now.content)
+            (found ((M.rules self.now.content).same_key value.now) self.now.state.pending) value.now reason) }
     {
         let Known::Pending(there) = self.in_queue(value) else {
             return Ok(nothing(alloc, Note::Ignored));

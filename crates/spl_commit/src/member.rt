@@ -41,7 +41,15 @@ impl<M: Agreed> Model for Member<M> {
 
     ghost view = { λ s. record {
       content = s.content;
-      state = record { history = s.history; pending = seconds s.queue.pending; refused = seconds s.queue.refused; promise = s.promise; seen = s.seen; next = s.next; opened = option_map (λ o. (o.0, positions o.1)) s.opened };
+      state = record {
+        history = s.history;
+        pending = seconds s.queue.pending;
+        refused = seconds s.queue.refused;
+        promise = s.promise;
+        seen = s.seen;
+        next = s.next;
+        opened = option_map (λ o. (o.0, positions o.1)) s.opened;
+      };
       generation = s.generation;
       members = s.members;
       coordinator = s.coordinator;
@@ -66,7 +74,14 @@ impl<M: Agreed> Member<M> {
         requires eight { members ≤ 8 }
         requires led { coordinator < members }
         requires placed { here < members }
-        ensures { result ≡ record { content = content; state = new_member; generation = generation; members = members; coordinator = coordinator; here = here } }
+        ensures { result ≡ record {
+          content = content;
+          state = new_member;
+          generation = generation;
+          members = members;
+          coordinator = coordinator;
+          here = here;
+        } }
     {
         Member {
             content,

@@ -84,7 +84,8 @@ impl<M: Agreed> Member<M> {
 
     /// What is pending or was refused under a key.
     pub fn waiting(&self, key: &M::Key) -> Known<'_, M::Value>
-        ensures { IsWaiting (found (λ v. M.Key.eq key.now (M.key_of v)) self.now.state.pending) (found_refused (λ v. M.Key.eq key.now (M.key_of v)) self.now.state.refused) result }
+        ensures { IsWaiting (found (λ v. M.Key.eq key.now (M.key_of v)) self.now.state.pending)
+            (found_refused (λ v. M.Key.eq key.now (M.key_of v)) self.now.state.refused) result }
     {
         self.queue.status(key)
     }
@@ -106,7 +107,8 @@ impl<M: Agreed> Member<M> {
 
     /// What the queue has under the key of this value.
     pub(crate) fn in_queue(&self, value: &M::Value) -> Known<'_, M::Value>
-        ensures { IsWaiting (found ((M.rules self.now.content).same_key value.now) self.now.state.pending) (found_refused ((M.rules self.now.content).same_key value.now) self.now.state.refused) result }
+        ensures { IsWaiting (found ((M.rules self.now.content).same_key value.now) self.now.state.pending)
+            (found_refused ((M.rules self.now.content).same_key value.now) self.now.state.refused) result }
     {
         self.queue.status(&M::key(value))
     }

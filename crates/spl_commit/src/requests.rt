@@ -43,7 +43,8 @@ impl<M: Agreed> Member<M> {
         place: Place,
         value: &M::Value,
     ) -> Result<GroupPlan<M::Value>, AllocError>
-        ensures { IfOk result (λ p. p ≡ requested (group_by (M.rules self.now.content) self.now) self.now.state self.now.state.promise sender round place value.now) }
+        ensures { IfOk result (λ p. p ≡ requested (group_by (M.rules self.now.content) self.now) self.now.state self.now.state.promise
+            sender round place value.now) }
     {
         let Some(promise) = &self.promise else {
             let fits = self.fits_here(alloc, place, value)?;
@@ -105,7 +106,9 @@ impl<M: Agreed> Member<M> {
         sender: u8,
         round: Round,
     ) -> Result<GroupPlan<M::Value>, AllocError>
-        ensures { IfOk result (λ p. p ≡ (if self.now.state.seen == round then sends_one (Note.Declined round) sender (CommitMsg.Vote self.now.generation round false) else both (Note.Declined round) (GroupChange.Seen round) sender (CommitMsg.Vote self.now.generation round false))) }
+        ensures { IfOk result (λ p. p ≡
+            (if self.now.state.seen == round then sends_one (Note.Declined round) sender (CommitMsg.Vote self.now.generation round false)
+            else both (Note.Declined round) (GroupChange.Seen round) sender (CommitMsg.Vote self.now.generation round false))) }
     {
         let no = self.vote(round, false);
         if round == self.seen {

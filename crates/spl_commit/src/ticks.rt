@@ -56,7 +56,8 @@ impl<M: Agreed> Member<M> {
         round: Round,
         missing: u8,
     ) -> Result<GroupPlan<M::Value>, AllocError>
-        ensures { IfOk result (λ p. p ≡ ask_again (group_by (M.rules self.now.content) self.now) self.now.here self.now.state (round, positions missing) self.now.state.pending) }
+        ensures { IfOk result (λ p. p ≡ ask_again (group_by (M.rules self.now.content) self.now) self.now.here self.now.state
+            (round, positions missing) self.now.state.pending) }
     {
         match self.first() {
             None => Ok(nothing(alloc, Note::Idle)),
@@ -171,7 +172,8 @@ impl<M: Agreed> Member<M> {
 
     /// At the coordinator: nothing is pending, or no round can begin.
     fn leads_nothing(&self) -> bool
-        ensures { result ≡ (is_none (slice_get self.now.state.pending 0) || (is_none self.now.state.opened && Rattle.spl_agree.specs.Member.is_spent self.now.state)) }
+        ensures { result ≡ (is_none (slice_get self.now.state.pending 0)
+            || (is_none self.now.state.opened && Rattle.spl_agree.specs.Member.is_spent self.now.state)) }
     {
         match self.first() {
             None => true,

@@ -23,7 +23,8 @@ impl<M: Agreed> Member<M> {
         round: Round,
         yes: bool,
     ) -> Result<GroupPlan<M::Value>, AllocError>
-        ensures { IfOk result (λ p. p ≡ on_vote (group_by (M.rules self.now.content) self.now) self.now.here self.now.state self.now.state.opened sender round yes) }
+        ensures { IfOk result (λ p. p ≡ on_vote (group_by (M.rules self.now.content) self.now) self.now.here self.now.state
+            self.now.state.opened sender round yes) }
     {
         let Some((open, missing)) = self.opened else {
             return Ok(nothing(alloc, Note::Ignored));
@@ -56,7 +57,8 @@ impl<M: Agreed> Member<M> {
         yes: bool,
     ) -> Result<GroupPlan<M::Value>, AllocError>
         requires { none_left (positions missing) ≡ false }
-        ensures { IfOk result (λ p. p ≡ counted_vote (group_by (M.rules self.now.content) self.now) self.now.here self.now.state sender round (positions missing) yes) }
+        ensures { IfOk result (λ p. p ≡ counted_vote (group_by (M.rules self.now.content) self.now) self.now.here self.now.state
+            sender round (positions missing) yes) }
     {
         if !self.is_other(sender) {
             return Ok(nothing(alloc, Note::Ignored));

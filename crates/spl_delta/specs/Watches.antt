@@ -24,8 +24,12 @@ pub data WatchLine : Type 0 where
 abbrev pub is_watcher_name : List ℕ → Bool
 is_watcher_name xs = nat_le 1 (length xs) && (nat_le (length xs) 8 && list_all (λ b. is_lower b || is_digit b) xs)
 
+-- the most that a pull may take
+abbrev pub MOST_PULLED : ℕ
+MOST_PULLED = 64
+
 abbrev pub is_count : ℕ → Bool
-is_count n = nat_le 1 n && nat_le n 64
+is_count n = nat_le 1 n && nat_le n MOST_PULLED
 
 abbrev pub watch : Words (List ℕ × (List ℕ × (List ℕ × (ℕ × Unit {0}))))
 watch = text is_node_id & text is_circuit_id & text is_watcher_name & number (2 ^ 32) & end
@@ -125,7 +129,9 @@ watch_answer w ts l = if w.up (watch_node l) then told_at (w.at (watch_node l)) 
 -- the watcher has taken so many more
 abbrev pub moved_on : List ℕ → ℕ → List Watcher → List Watcher
 moved_on name count [] = []
-moved_on name count (t ∷ ts) = if is_named name t then record { name = t.name; definition = t.definition; start = t.start; next = t.next + count } ∷ ts else t ∷ moved_on name count ts
+moved_on name count (t ∷ ts) =
+    if is_named name t then record t { next = t.next + count } ∷ ts
+    else t ∷ moved_on name count ts
 
 -- a watcher of the circuit to which the cell is bound
 abbrev pub joined_by : Cell → List ℕ → ℕ → List Watcher → List Watcher

@@ -73,7 +73,8 @@ pub data TaskAnswer : Type 0 where
 
 -- the answer to a task behind others
 abbrev pub task_answer : Origin → List Task → Task → TaskAnswer
-task_answer o before (Line r) = OfLine (line_answer (λ c. (watched_before o c before (Line r)).world) (λ n. roll_answer o (lines_in (before ++ Line r ∷ [])) n) r.line r.kept)
+task_answer o before (Line r) =
+    OfLine (line_answer (λ c. (watched_before o c before (Line r)).world) (λ n. roll_answer o (lines_in (before ++ Line r ∷ [])) n) r.line r.kept)
 task_answer o before (OfWatcher l) =
     let z : Watched = watched_before o (watch_circuit l) before (OfWatcher l) in
     OfWatch (watch_answer z.world z.watchers l)

@@ -15,14 +15,20 @@ ghost use Rattle.spl_delta.specs.Worlds.{Line, OfLine, Task, lines_in, task_answ
 /// that were taken. Those of a list's first batches are its own; a list ends them; what a
 /// member gives whose batches begin a list is the list's; and some and then more are all.
 pub fn deltas_replay_batches()
-    ensures states { (bs : List Batch) (place count : ℕ) → place + count ≤ length bs → replayed (state_of (take place bs)) (deltas bs place count) ≡ state_of (take (place + count) bs) }
+    ensures states { (bs : List Batch) (place count : ℕ) →
+        place + count ≤ length bs →
+        replayed (state_of (take place bs)) (deltas bs place count) ≡ state_of (take (place + count) bs) }
     ensures fronts { (xs ys : List Batch) (place count : ℕ) → place + count ≤ length xs → deltas xs place count ≡ deltas (xs ++ ys) place count }
     ensures cut { (bs : List Batch) (place count : ℕ) → place ≤ length bs → AreCut bs place count (deltas bs place count) }
     ensures pulled { (xs ys : List Batch) (place count : ℕ) → IsPrefixOf xs ys → deltas xs place count ≡ deltas ys place (length (deltas xs place count)) }
-    ensures on { (bs : List Batch) (place first more : ℕ) → place + first ≤ length bs → deltas bs place (first + more) ≡ deltas bs place first ++ deltas bs (place + first) more }
+    ensures on { (bs : List Batch) (place first more : ℕ) →
+        place + first ≤ length bs →
+        deltas bs place (first + more) ≡ deltas bs place first ++ deltas bs (place + first) more }
 {}
 
 /// A line is answered among watchers as it is without them.
 pub fn watchers_change_no_answer()
-    ensures { (o : Origin) (before : List Task) (r : Ran) → IsOrigin o → lines_fit (lines_in before ++ r ∷ []) ≡ true → task_answer o before (Line r) ≡ OfLine (answer_to o (lines_in before) r) }
+    ensures { (o : Origin) (before : List Task) (r : Ran) →
+        IsOrigin o → lines_fit (lines_in before ++ r ∷ []) ≡ true →
+        task_answer o before (Line r) ≡ OfLine (answer_to o (lines_in before) r) }
 {}

@@ -105,7 +105,10 @@ started w n = record { nodes = w.nodes; up = put_at w.up n true; at = w.at; sent
 
 -- a node stops in a step: its changes are made where their record is kept, and nothing is sent
 abbrev pub halted : World → NodeId → Bool → Plan → World
-halted w n kept p = record { nodes = w.nodes; up = put_at w.up n false; at = put_at w.at n (stopped_cell (if kept then made n (w.at n) p.changes else w.at n)); sent = w.sent }
+halted w n kept p = record w {
+  up = put_at w.up n false;
+  at = put_at w.at n (stopped_cell (if kept then made n (w.at n) p.changes else w.at n));
+}
 
 -- what may happen in the world of a circuit
 pub data Occurrence : Type 0 where

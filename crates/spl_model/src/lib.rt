@@ -24,15 +24,21 @@ pub const MOST_STOPS: u8 = 64;
 /// A line that is refused, whatever the refusal, leaves the world of its circuit as it was.
 pub fn refused_lines_change_nothing()
     ensures step { (w : World) (s : Step) (why : Refusal) → (step_plan w s).answer ≡ answer.Refused why → IsUnmoved w (step_world w s) }
-    ensures line { (worlds : CircuitId → World) (roll : NodeId → Answer) (l : Line) (kept : Bool) (why : Refusal) (c : CircuitId) → names c l ≡ true → line_answer worlds roll l kept ≡ answer.Refused why → IsUnmoved (worlds c) (line_world (worlds c) l kept) }
+    ensures line { (worlds : CircuitId → World) (roll : NodeId → Answer) (l : Line) (kept : Bool) (why : Refusal) (c : CircuitId) →
+        names c l ≡ true → line_answer worlds roll l kept ≡ answer.Refused why →
+        IsUnmoved (worlds c) (line_world (worlds c) l kept) }
 {}
 
 /// A calm in which nothing is left to do stays so: a pass leaves the world as it is, and has no
 /// event but a tick for each open node, which is idle. So have all the passes behind it.
 pub fn quiet_calms_stay()
     ensures world { (c : CircuitId) (ns : List NodeId) (z : Calming) → IsQuiet c ns z → (pass c ns z).world ≡ z.world }
-    ensures happened { (c : CircuitId) (ns : List NodeId) (z : Calming) → IsQuiet c ns z → (pass c ns z).happened ≡ z.happened ++ ticks_at c (open_nodes z.world ns) }
+    ensures happened { (c : CircuitId) (ns : List NodeId) (z : Calming) →
+        IsQuiet c ns z →
+        (pass c ns z).happened ≡ z.happened ++ ticks_at c (open_nodes z.world ns) }
     ensures quiet { (c : CircuitId) (ns : List NodeId) (z : Calming) → IsQuiet c ns z → IsQuiet c ns (pass c ns z) }
     ensures worlds { (c : CircuitId) (ns : List NodeId) (k : ℕ) (z : Calming) → IsQuiet c ns z → (passes c ns k z).world ≡ z.world }
-    ensures events { (c : CircuitId) (ns : List NodeId) (k : ℕ) (z : Calming) → IsQuiet c ns z → length (passes c ns k z).happened ≡ length z.happened + k * length (open_nodes z.world ns) }
+    ensures events { (c : CircuitId) (ns : List NodeId) (k : ℕ) (z : Calming) →
+        IsQuiet c ns z →
+        length (passes c ns k z).happened ≡ length z.happened + k * length (open_nodes z.world ns) }
 {}

@@ -11,8 +11,14 @@ pub whole_from-append : (c : CircuitId) (w : World) (xs ys : List Ran) → whole
 whole_from-append c w [] ys = refl
 whole_from-append c w (x ∷ xs) ys = whole_from-append c (world_after c w x) xs ys
 
-pub moves-own : (o : Origin) (before : List Ran) (r : Ran) (c : CircuitId) → names c r.line ≡ true → whole_world o c (before ++ r ∷ []) ≡ line_world (whole_world o c before) r.line r.kept
+pub moves-own :
+    (o : Origin) (before : List Ran) (r : Ran) (c : CircuitId) →
+    names c r.line ≡ true →
+    whole_world o c (before ++ r ∷ []) ≡ line_world (whole_world o c before) r.line r.kept
 moves-own o before r c h = whole_from-append c (first_world o c) before (r ∷ []) ∙ rw h
 
-pub moves-beside : (o : Origin) (before : List Ran) (r : Ran) (c : CircuitId) → names c r.line ≡ false → whole_world o c (before ++ r ∷ []) ≡ world_beside (whole_world o c before) r.line
+pub moves-beside :
+    (o : Origin) (before : List Ran) (r : Ran) (c : CircuitId) →
+    names c r.line ≡ false →
+    whole_world o c (before ++ r ∷ []) ≡ world_beside (whole_world o c before) r.line
 moves-beside o before r c h = whole_from-append c (first_world o c) before (r ∷ []) ∙ rw h

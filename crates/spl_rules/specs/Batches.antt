@@ -116,7 +116,8 @@ way site h from_node from to = route (Some h.definition) (is_open h.mark && runs
 
 -- a message of another generation: a request is declined, and the answer swaps the services
 abbrev pub serves_other : Site → NodeId → ServiceId → ServiceId → CommitMsg Batch → Deed
-serves_other site from_node from to (msg.VoteRequest gen r place v) = Replies (note.Declined r) from_node (message.Scabbard site.circuit to from (msg.Vote gen r false))
+serves_other site from_node from to (msg.VoteRequest gen r place v) =
+    Replies (note.Declined r) from_node (message.Scabbard site.circuit to from (msg.Vote gen r false))
 serves_other site from_node from to _ = ignores
 
 -- a message that is routed

@@ -141,7 +141,8 @@ is_free (Purged old) generation = nat_lt old generation
 
 -- a message of this generation can bind the definition
 abbrev pub can_bind : Site → Cell → ℕ → Definition → Bool
-can_bind site k generation d = bytes_eq d.id site.circuit && (d.generation == generation && (is_none (broken d) && (is_member d site.here && is_free k generation)))
+can_bind site k generation d =
+    bytes_eq d.id site.circuit && (d.generation == generation && (is_none (broken d) && (is_member d site.here && is_free k generation)))
 
 -- the proposal of a definition: the first act of its node
 abbrev pub proposal : NodeId → Definition → Act
@@ -156,7 +157,9 @@ stale_or_held bound d = if nat_lt bound d.generation then refusal.CircuitHeld el
 abbrev pub proposes_at : Site → Definition → Cell → Deed
 proposes_at site d Empty = Binds Submitted d site.here (group.Submit (proposal site.here d))
 proposes_at site d (Held h) = Refuses (stale_or_held h.definition.generation d)
-proposes_at site d (Purged old) = if nat_lt old d.generation then Binds Submitted d site.here (group.Submit (proposal site.here d)) else Refuses (refusal.StaleGeneration old)
+proposes_at site d (Purged old) =
+    if nat_lt old d.generation then Binds Submitted d site.here (group.Submit (proposal site.here d))
+    else Refuses (refusal.StaleGeneration old)
 
 -- a proposal, by the first rule that its definition breaks
 abbrev pub proposes : Site → Definition → Cell → Option ℕ → Deed
@@ -236,7 +239,9 @@ abbrev pub accepted_in_order : Bound → List NodeId
 accepted_in_order h = filter (λ m. has_node (current (own_life h)).accepted m) h.definition.members
 
 abbrev pub shows : Bound → Answer
-shows h = answer.Show h.definition.generation (own_life h).state h.mark (accepted_in_order h) (length h.acts.history) (length h.acts.pending) (length h.batches.history) (length h.batches.pending)
+shows h =
+    answer.Show h.definition.generation (own_life h).state h.mark (accepted_in_order h)
+    (length h.acts.history) (length h.acts.pending) (length h.batches.history) (length h.batches.pending)
 
 abbrev pub details : Bound → Answer
 details h = answer.Detail h.definition (sha256 (definition.spell h.definition)) (own_life h).state h.mark (accepted_in_order h) (own_life h).circuit.requester

@@ -96,7 +96,10 @@ applied site k (x ∷ xs) = applied site (applied_one site k x) xs
 
 -- the open rounds of the admin group and of the service group
 abbrev pub moved_cell : NodeId → Cell → OpenMove → OpenMove → Cell
-moved_cell here (Held h) x y = Held (record h { acts = moved (admin_group h.definition) (position h.definition.members here) h.acts x; batches = moved (service_group h.definition) (position h.definition.members here) h.batches y })
+moved_cell here (Held h) x y = Held (record h {
+  acts = moved (admin_group h.definition) (position h.definition.members here) h.acts x;
+  batches = moved (service_group h.definition) (position h.definition.members here) h.batches y;
+})
 moved_cell here k x y = k
 
 -- a stop forgets the open rounds

@@ -110,11 +110,12 @@ both_plans site d p q = record {
 abbrev pub planned : Site → Deed → Plan
 planned site (Refuses r) = tells_only (answer.Refused r)
 planned site (Tells a) = tells_only a
-planned site (Replies n to m) = record { answer = answer.Delivered n; changes = []; admin = move.Keep; service = move.Keep; sends = record { to = to; message = m } ∷ [] }
+planned site (Replies n to m) = record (tells_only (answer.Delivered n)) { sends = record { to = to; message = m } ∷ [] }
 planned site (Binds say d back e) = group_plan (admin_lane site d) say (durable.Bind d ∷ []) back (group_row (admin_lane site d) new_member e)
 planned site (Acts say h back e) = group_plan (admin_lane site h.definition) say [] back (group_row (admin_lane site h.definition) h.acts e)
 planned site (Serves say h back e) = group_plan (service_lane site h.definition) say [] back (group_row (service_lane site h.definition) h.batches e)
-planned site (Turns h x y) = both_plans site h.definition (group_row (admin_lane site h.definition) h.acts x) (group_row (service_lane site h.definition) h.batches y)
+planned site (Turns h x y) =
+    both_plans site h.definition (group_row (admin_lane site h.definition) h.acts x) (group_row (service_lane site h.definition) h.batches y)
 planned site Abandons = record { answer = answer.Left false; changes = durable.Abandon ∷ []; admin = move.Close; service = move.Close; sends = [] }
 planned site Purges = record { answer = answer.Left true; changes = durable.Purge ∷ []; admin = move.Keep; service = move.Keep; sends = [] }
 

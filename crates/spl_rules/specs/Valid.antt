@@ -56,7 +56,9 @@ IsKept site _ = Unit {0}
 
 -- in each group no round is open, or one is as it has to be
 abbrev pub IsSettledCell : NodeId → Cell → Type 0
-IsSettledCell here (Held h) = IsSettled (admin_group h.definition) (position h.definition.members here) h.acts × IsSettled (service_group h.definition) (position h.definition.members here) h.batches
+IsSettledCell here (Held h) =
+    IsSettled (admin_group h.definition) (position h.definition.members here) h.acts
+    × IsSettled (service_group h.definition) (position h.definition.members here) h.batches
 IsSettledCell here _ = Unit {0}
 
 pub record IsValid (site : Site) (k : Cell) : Type 0 where
@@ -71,7 +73,9 @@ is_no_move _ = false
 
 -- the moves of the two groups fit where they can be made and leave the cell settled
 abbrev pub FitsMoveAt : NodeId → Cell → OpenMove → OpenMove → Type 0
-FitsMoveAt here (Held h) x y = FitsMove (admin_group h.definition) (position h.definition.members here) h.acts x × FitsMove (service_group h.definition) (position h.definition.members here) h.batches y
+FitsMoveAt here (Held h) x y =
+    FitsMove (admin_group h.definition) (position h.definition.members here) h.acts x
+    × FitsMove (service_group h.definition) (position h.definition.members here) h.batches y
 FitsMoveAt here _ x y = (is_no_move x ≡ true) × (is_no_move y ≡ true)
 
 -- ---- what comes and goes

@@ -26,8 +26,12 @@ ghost use Rattle.spl_agree.specs.declared.event.OpenMove.{OpenMove};
 /// An event that is refused changes nothing and sends nothing; one that only tells something does
 /// neither.
 pub fn refusals_change_nothing()
-    ensures refused { (site : Site) (k : Cell) (e : Event) (r : Refusal) → does site k e ≡ Refuses r → ((plan_of site k e).answer ≡ answer.Refused r) × (after_plan site.here k (plan_of site k e) ≡ k) × ((plan_of site k e).sends ≡ []) }
-    ensures told { (site : Site) (k : Cell) (e : Event) (a : Told) → does site k e ≡ Tells a → (after_plan site.here k (plan_of site k e) ≡ k) × ((plan_of site k e).sends ≡ []) }
+    ensures refused { (site : Site) (k : Cell) (e : Event) (r : Refusal) →
+        does site k e ≡ Refuses r →
+        ((plan_of site k e).answer ≡ answer.Refused r) × (after_plan site.here k (plan_of site k e) ≡ k) × ((plan_of site k e).sends ≡ []) }
+    ensures told { (site : Site) (k : Cell) (e : Event) (a : Told) →
+        does site k e ≡ Tells a →
+        (after_plan site.here k (plan_of site k e) ≡ k) × ((plan_of site k e).sends ≡ []) }
 {}
 
 /// What a cell keeps: it is valid at first; a change whose definition or act has a byte form keeps
@@ -49,9 +53,15 @@ pub fn records_are_formed()
 /// At a valid cell each change of a plan fits behind those before it, and the moves fit behind
 /// them; so the cell behind a plan is valid. Each message of a plan is one that a cell may hear.
 pub fn plans_fit_cells()
-    ensures changes { (site : Site) (k : Cell) (e : Event) → IsNamed site → IsFor site e → IsValid site k → applied site k (plan_of site k e).changes ≡ made site.here k (plan_of site k e).changes }
-    ensures moves { (site : Site) (k : Cell) (e : Event) → IsNamed site → IsFor site e → IsValid site k → FitsMoveAt site.here (made site.here k (plan_of site k e).changes) (plan_of site k e).admin (plan_of site k e).service }
-    ensures valid { (site : Site) (k : Cell) (e : Event) → IsNamed site → IsFor site e → IsValid site k → IsValid site (after_plan site.here k (plan_of site k e)) }
+    ensures changes { (site : Site) (k : Cell) (e : Event) →
+        IsNamed site → IsFor site e → IsValid site k →
+        applied site k (plan_of site k e).changes ≡ made site.here k (plan_of site k e).changes }
+    ensures moves { (site : Site) (k : Cell) (e : Event) →
+        IsNamed site → IsFor site e → IsValid site k →
+        FitsMoveAt site.here (made site.here k (plan_of site k e).changes) (plan_of site k e).admin (plan_of site k e).service }
+    ensures valid { (site : Site) (k : Cell) (e : Event) →
+        IsNamed site → IsFor site e → IsValid site k →
+        IsValid site (after_plan site.here k (plan_of site k e)) }
     ensures legal { (site : Site) (k : Cell) (e : Event) → IsNamed site → IsFor site e → IsValid site k → are_legal (plan_of site k e).sends ≡ true }
 {}
 
@@ -59,7 +69,9 @@ pub fn plans_fit_cells()
 /// and of 1 to 16,384 bytes. Each message of a plan can be written, and has at most 16,384 bytes;
 /// so has every message that a cell may hear.
 pub fn plans_have_bounds()
-    ensures writable { (site : Site) (k : Cell) (e : Event) → IsNamed site → IsFor site e → IsValid site k → IsWritable site.circuit (plan_of site k e).changes }
+    ensures writable { (site : Site) (k : Cell) (e : Event) →
+        IsNamed site → IsFor site e → IsValid site k →
+        IsWritable site.circuit (plan_of site k e).changes }
     ensures formed { (site : Site) (k : Cell) (e : Event) → IsNamed site → IsFor site e → IsValid site k → are_formed (plan_of site k e).changes ≡ true }
     ensures sends { (site : Site) (k : Cell) (e : Event) → IsNamed site → IsFor site e → IsValid site k → AllSendable (plan_of site k e).sends }
     ensures message { (m : Message) → is_legal m ≡ true → IsSendable m }
@@ -80,6 +92,10 @@ pub fn packed_cells_are_made_again()
 /// Where the changes have byte forms, so have those of the packed form of the cell that they make,
 /// and each of its records has at most 64 changes and 16,384 bytes.
 pub fn packed_records_are_bounded()
-    ensures written { (site : Site) (xs : List Change) → IsTrue (list_all change_form.fits xs) → IsTrue (list_all change_form.fits (packed (applied site Empty xs))) }
-    ensures sized { (site : Site) (xs : List Change) → IsTrue (circuit_id.fits site.circuit) → IsTrue (list_all change_form.fits xs) → list_all (is_sized site.circuit) (grouped site.circuit (packed (applied site Empty xs))) ≡ true }
+    ensures written { (site : Site) (xs : List Change) →
+        IsTrue (list_all change_form.fits xs) →
+        IsTrue (list_all change_form.fits (packed (applied site Empty xs))) }
+    ensures sized { (site : Site) (xs : List Change) →
+        IsTrue (circuit_id.fits site.circuit) → IsTrue (list_all change_form.fits xs) →
+        list_all (is_sized site.circuit) (grouped site.circuit (packed (applied site Empty xs))) ≡ true }
 {}

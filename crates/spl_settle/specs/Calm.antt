@@ -27,7 +27,10 @@ left due a b ms from to = if from == a && to == b then ms else due from to
 
 -- an event at a member, where this stands on the pairs
 abbrev pub move : {V : Type 0} → Group V → Calm V → ℕ → GroupEvent V → (ℕ → ℕ → List (CommitMsg V)) → Calm V
-move g k here e due = record { world = carried_out g k.world here (row g here (k.world.at here) e); due = mailed due here (row g here (k.world.at here) e).sends }
+move g k here e due = record {
+  world = carried_out g k.world here (row g here (k.world.at here) e);
+  due = mailed due here (row g here (k.world.at here) e).sends;
+}
 
 abbrev pub ticked : {V : Type 0} → Group V → ℕ → Calm V → Calm V
 ticked g here k = move g k here event.Tick k.due
