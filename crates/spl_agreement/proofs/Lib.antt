@@ -14,6 +14,7 @@ pub mod Occurrences
 pub mod IdsDiffer
 pub mod HistoriesGrow
 pub mod KnownStays
+pub mod Ended
 pub mod OwnLines
 pub mod NotedQueued
 pub mod QueuedIsKnown
@@ -26,6 +27,8 @@ pub mod PendingActSteps
 pub mod PendingActDeeds
 pub mod PendingActsAreFew
 pub mod Agreed
+pub mod SameLists
+pub mod Shown
 pub mod OneList
 pub mod GoesOn
 pub mod Restarts

@@ -10,11 +10,13 @@ use Rattle.spl_circuit.specs.declared.definition.Definition.{Definition}
 use Rattle.spl_circuit.specs.declared.act.ActKind.{ActKind}
 use Rattle.spl_circuit.specs.declared.act.ActKind.TheVariants as kind
 use Rattle.spl_circuit.specs.declared.act.Act.{Act}
+use Rattle.spl_circuit.specs.declared.lifecycle.Lifecycle.{Lifecycle}
+use Rattle.spl_circuit.specs.declared.lifecycle.Lifecycle.TheVariants as lifecycle
 use Rattle.spl_circuit.specs.Nodes.{NodeId, CircuitId, has_node}
 use Rattle.spl_circuit.specs.Rules.{admin}
 use Rattle.spl_circuit.specs.Acts.{act_rules}
 use Rattle.spl_sched.specs.declared.line.Step.{Step}
-use Rattle.spl_rules.specs.Cells.{Bound, Cell, Empty, Held, Purged}
+use Rattle.spl_rules.specs.Cells.{Bound, Cell, Empty, Held, Purged, own_life}
 use Rattle.spl_model.specs.Worlds.{blank, World, site_at, Occurrence, Steps, occur, world_behind}
 use Rattle.spl_agreement.specs.Lists.{act_list, batch_list}
 use Rattle.spl_model.specs.Plain.{AllPlain}
@@ -51,6 +53,19 @@ abbrev pub IsPast : Definition → Cell → Type 0
 IsPast d Empty = ⊥
 IsPast d (Purged old) = d.generation ≤ old
 IsPast d (Held h) = (h.definition ≡ d) ⊎ (d.generation < h.definition.generation)
+
+-- the circuit has ended: it was rejected, removed or disbanded
+abbrev pub has_ended : Lifecycle → Bool
+has_ended lifecycle.Rejected = true
+has_ended lifecycle.Removed = true
+has_ended lifecycle.Disbanded = true
+has_ended _ = false
+
+-- what has ended at a cell stands so for good: at a later cell of the same node and generation it does
+abbrev pub EndsForGood : Bound → Cell → Type 0
+EndsForGood h k =
+    has_ended (own_life h).state ≡ true → (later : Bound) → k ≡ Held later → later.definition.generation ≡ h.definition.generation →
+    (own_life later).state ≡ (own_life h).state
 
 -- the first act of a history, if there is one, is the proposal of the definition
 abbrev pub FirstIsProposal : Definition → Member Act → Type 0

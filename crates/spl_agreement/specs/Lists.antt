@@ -59,13 +59,15 @@ abbrev pub adds : {V : Type 0} → (List Change → List V) → NodeId → Defin
 adds values leader d w e =
     if bytes_eq (node_of e) leader then (if is_bound_to d (w.at leader) then values (changes_of w e) else []) else []
 
+abbrev pub list_from : {V : Type 0} → (List Change → List V) → NodeId → Definition → World → List Occurrence → List V
+list_from values leader d w [] = []
+list_from values leader d w (e ∷ es) = adds values leader d w e ++ list_from values leader d (happens w e) es
+
 abbrev pub acts_from : Definition → World → List Occurrence → List Act
-acts_from d w [] = []
-acts_from d w (e ∷ es) = adds acts_in (admin d) d w e ++ acts_from d (happens w e) es
+acts_from d w es = list_from acts_in (admin d) d w es
 
 abbrev pub batches_from : Definition → World → List Occurrence → List Batch
-batches_from d w [] = []
-batches_from d w (e ∷ es) = adds batches_in (service d) d w e ++ batches_from d (happens w e) es
+batches_from d w es = list_from batches_in (service d) d w es
 
 -- the list of acts of a circuit, behind what happened
 abbrev pub act_list : List NodeId → Definition → List Occurrence → List Act

@@ -9,8 +9,9 @@ ghost use Rattle.spl_rules.specs.Changes.{stopped_cell};
 ghost use Rattle.spl_model.specs.Worlds.{Origin, Occurrence, occur, world_behind};
 ghost use Rattle.spl_model.specs.Plain.{AllPlain};
 ghost use Rattle.spl_model.specs.Projection.{Ran, lines_fit};
-ghost use Rattle.spl_agreement.specs.Agreement.{AtEach, IsPast, FirstIsProposal, IsAgreed, Agree};
+ghost use Rattle.spl_agreement.specs.Agreement.{AtEach, IsPast, EndsForGood, FirstIsProposal, IsAgreed, Agree};
 ghost use Rattle.spl_agreement.specs.OneList.{TellOneList};
+ghost use Rattle.spl_agreement.specs.Shown.{ShowsFronts};
 ghost use Rattle.spl_agreement.specs.Resumed.{HasLeft, AllAt, AgreeOn, restarts};
 
 /// A cell that is bound to a definition stays bound to it, or is purged, or is bound to a later
@@ -22,11 +23,27 @@ pub fn bindings_are_final()
     ensures first { (ns : List NodeId) (es : List Occurrence) (d : Definition) → AllPlain es → AtEach (world_behind ns es) d (λ n h. FirstIsProposal d h.acts) }
 {}
 
+/// A circuit that was rejected, removed or disbanded at a node stays so there as long as the node is
+/// bound in its generation, and is never active there again.
+pub fn endings_are_final()
+    ensures { (ns : List NodeId) (es fs : List Occurrence) (d : Definition) →
+        AllPlain es → AllPlain fs →
+        AtEach (world_behind ns es) d (λ n h. EndsForGood h ((occur (world_behind ns es) fs).at n)) }
+{}
+
 /// Whatever happens in the world of a circuit, its members agree; so they do at each moment of any
 /// lines within their bounds.
 pub fn circuits_agree()
     ensures behind { (ns : List NodeId) (es : List Occurrence) (d : Definition) → AllPlain es → IsAgreed ns es d }
     ensures lines { (ns : List NodeId) (rs : List Ran) → lines_fit rs ≡ true → Agree ns rs }
+{}
+
+/// A circuit has one list of acts and one of batches behind any lines, those on which its members
+/// agree; and whatever `root`, `get`, `list`, `history`, `receipt`, `status`, `show` and `detail`
+/// answer on one of the lines, at a node that is bound to the circuit's definition, is what fronts
+/// of these lists make it.
+pub fn answers_show_fronts()
+    ensures { (ns : List NodeId) (rs : List Ran) → lines_fit rs ≡ true → ShowsFronts ns rs }
 {}
 
 /// What nodes that are bound to one definition tell about a circuit, in whatever lines, is of one

@@ -16,7 +16,7 @@ beside-run : (w : World) (l : Line) → world_beside w l ≡ occur w (happened_b
 beside-run w (line.Step s) = refl
 beside-run w _ = refl
 
-after-run : (c : CircuitId) (w : World) (r : Ran) → world_after c w r ≡ occur w (happened_in c w r)
+pub after-run : (c : CircuitId) (w : World) (r : Ran) → world_after c w r ≡ occur w (happened_in c w r)
 after-run c w r = go (names c r.line) refl
   where
     go : (b : Bool) → names c r.line ≡ b → world_after c w r ≡ occur w (happened_in c w r)

@@ -23,12 +23,12 @@ use Rattle.spl_projection.proofs.Owns.{IsPair, IsLineWithin, named-within, AllCo
 
 module _ (ns : List NodeId) where
   -- the same happens in a line
-  occurrences-same : (w v : World) (l : Line) (kept : Bool) → IsPair ns w v → occurrences_in w l kept ≡ occurrences_in v l kept
+  pub occurrences-same : (w v : World) (l : Line) (kept : Bool) → IsPair ns w v → occurrences_in w l kept ≡ occurrences_in v l kept
   occurrences-same w v (line.Calm c k) kept p = (calm-alike ns c w v k p.alike p.confined).happened
   occurrences-same w v _ kept p = refl
 
   -- at these nodes
-  occurrences-here : (w v : World) (l : Line) (kept : Bool) → IsLineWithin ns l → IsPair ns w v → AllHere ns (occurrences_in v l kept)
+  pub occurrences-here : (w v : World) (l : Line) (kept : Bool) → IsLineWithin ns l → IsPair ns w v → AllHere ns (occurrences_in v l kept)
   occurrences-here w v (line.Step s) kept h p = (step-here ns s h, tt)
   occurrences-here w v (line.Calm c k) kept h p = (calm-alike ns c w v k p.alike p.confined).here
   occurrences-here w v (line.Stop n) kept h p = (h, tt)

@@ -1,5 +1,5 @@
 -- Once a circuit has run it goes on so: behind its acts no act is good but those of a disband.
-use Rattle.std.proofs.Common.{◌≡◌, ◌⊎◌, ◌-◌, ◌^◌, Bool, true, false, List, [], ◌∷◌, ◌++◌, length, refl, sym, ap, subst, ◌∙◌, inl, inr}
+use Rattle.std.proofs.Common.{◌≡◌, ◌⊎◌, ◌-◌, ◌^◌, Bool, true, false, List, [], ◌∷◌, ◌++◌, length, refl, sym, subst, inl, inr}
 use Rattle.std.specs.Prelude.{None, nat_lt, is_none}
 use Rattle.std.proofs.lemmas.Option.{none-some}
 use Rattle.spl_base.specs.Booleans.{none_is}
@@ -15,11 +15,11 @@ use Rattle.spl_circuit.specs.declared.lifecycle.Lifecycle.TheVariants as lifecyc
 use Rattle.spl_circuit.specs.declared.act.ActKind.{ActKind}
 use Rattle.spl_circuit.specs.declared.act.ActKind.TheVariants as kind
 use Rattle.spl_circuit.specs.declared.act.Act.{Act}
-use Rattle.spl_circuit.specs.Nodes.{NodeId, has_node}
+use Rattle.spl_circuit.specs.Nodes.{NodeId}
 use Rattle.spl_circuit.specs.Rules.{is_member}
 use Rattle.spl_circuit.specs.Equality.{same_definition}
 use Rattle.spl_circuit.specs.Lifecycle.{Proposal, Life, life, life_after, has_all, accepted_by, state_by, is_proposed, has_run}
-use Rattle.spl_circuit.specs.Acts.{reason, is_first, misfit_vote, misfit_removal, misfit_kind, misfit, act_rules}
+use Rattle.spl_circuit.specs.Acts.{reason, is_first, misfit_kind, misfit, act_rules}
 use Rattle.spl_circuit.proofs.Lives.{life_more}
 use Rattle.spl_rules.specs.Cells.{Bound, runs, keeps_batches}
 
