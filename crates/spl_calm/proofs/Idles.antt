@@ -21,7 +21,7 @@ use Rattle.spl_rules.specs.Cells.{Cell, Held, Deed, Refuses, Tells, Replies, can
 use Rattle.spl_rules.specs.Batches.{serves_other}
 use Rattle.spl_rules.specs.Plans.{planned}
 use Rattle.spl_agreement.proofs.GroupOfDefinition.{There}
-use Rattle.spl_rules.proofs.Does.{held-unheard}
+use Rattle.spl_rules.proofs.Does.{held-cannot}
 use Rattle.spl_model.proofs.Unmoved.{moved-keep}
 use Rattle.spl_calm.proofs.Shapes.{Shape, owned, owns, Gives}
 
@@ -50,7 +50,7 @@ Declines {V} s d n c gen = (y : NodeId) (x : CommitMsg Act) → generation_of x 
 pub idle-asked : {V : Type 0} (s : Shape V) (d : Definition) (n : NodeId) (c : CircuitId) (b : Bound) (from : NodeId) (gen r place : ℕ) (v : Act) (w : ActKind) → Declines s d n c gen → IsIdle s d n (asked_first (site_at n c) (Held b) from gen r place v w)
 idle-asked {V} s d n c b from gen r place v (kind.Propose f) h =
     if_holds (IsIdle s d n) (place == 0 && (can_bind (site_at n c) (Held b) gen f && bytes_eq (admin f) from)) _ _
-    (λ q. absurd (held-unheard (site_at n c) b gen f (and_left (can_bind (site_at n c) (Held b) gen f) _ (and_right (place == 0) _ q))))
+    (λ q. absurd (held-cannot (site_at n c) b gen f (and_left (can_bind (site_at n c) (Held b) gen f) _ (and_right (place == 0) _ q))))
     (λ q y. h y (msg.Vote gen r false) refl)
 idle-asked s d n c b from gen r place v kind.Accept h = λ y. h y (msg.Vote gen r false) refl
 idle-asked s d n c b from gen r place v _ h = λ y. h y (msg.Vote gen r false) refl
@@ -58,7 +58,7 @@ idle-asked s d n c b from gen r place v _ h = λ y. h y (msg.Vote gen r false) r
 pub idle-forwarded : {V : Type 0} (s : Shape V) (d : Definition) (n : NodeId) (c : CircuitId) (b : Bound) (from : NodeId) (gen : ℕ) (v : Act) (w : ActKind) → Declines s d n c gen → IsIdle s d n (forwarded_first (site_at n c) (Held b) from gen v w)
 idle-forwarded {V} s d n c b from gen v (kind.Propose f) h =
     if_holds (IsIdle s d n) (can_bind (site_at n c) (Held b) gen f && (bytes_eq (admin f) n && (bytes_eq v.node from && (is_member f from && not (bytes_eq from n))))) _ _
-    (λ q. absurd (held-unheard (site_at n c) b gen f (and_left (can_bind (site_at n c) (Held b) gen f) _ q)))
+    (λ q. absurd (held-cannot (site_at n c) b gen f (and_left (can_bind (site_at n c) (Held b) gen f) _ q)))
     (λ q y. h y (msg.Refused gen v _) refl)
 idle-forwarded s d n c b from gen v kind.Accept h = tt
 idle-forwarded s d n c b from gen v _ h = tt

@@ -66,7 +66,7 @@ pub record MayBind (site : Site) (k : Cell) (d : Definition) : Type 0 where
   pub free : is_free k d.generation ≡ true
 
 -- a message of this generation may bind it
-pub record HearsOf (site : Site) (k : Cell) (gen : ℕ) (d : Definition) : Type 0 where
+pub record CanBind (site : Site) (k : Cell) (gen : ℕ) (d : Definition) : Type 0 where
   pub bind : MayBind site k d
   pub own : bytes_eq d.id site.circuit ≡ true
   pub same : d.generation ≡ gen
@@ -75,21 +75,50 @@ pub data Does (site : Site) : Cell → Event → Deed → Type 0 where
   Refused : {k : Cell} {e : Event} (why : Refusal) → Does site k e (Refuses why)
   Told : {k : Cell} {e : Event} (a : Answer) → is_queued a ≡ false → Does site k e (Tells a)
   -- a request is declined, and an act returned, where the cell isn't bound by it
-  Declined : {k : Cell} (from : NodeId) (i : CircuitId) (gen r place : ℕ) (v : Act) → Does site k (event.Deliver from (message.Admin i (msg.VoteRequest gen r place v))) (declines site from gen r)
-  Returned : {k : Cell} (from : NodeId) (i : CircuitId) (gen : ℕ) (v : Act) (d : Definition) → v.kind ≡ kind.Propose d → Does site k (event.Deliver from (message.Admin i (msg.Forward gen v))) (returns_unbound site from gen v)
-  Unserved : {k : Cell} (from : NodeId) (i : CircuitId) (s t : ServiceId) (gen r place : ℕ) (v : Batch) → Does site k (event.Deliver from (message.Scabbard i s t (msg.VoteRequest gen r place v))) (Replies (note.Declined r) from (message.Scabbard site.circuit t s (msg.Vote gen r false)))
+  Declined : {k : Cell} (from : NodeId) (i : CircuitId) (gen r place : ℕ) (v : Act) →
+      Does site k (event.Deliver from (message.Admin i (msg.VoteRequest gen r place v))) (declines site from gen r)
+  Returned : {k : Cell} (from : NodeId) (i : CircuitId) (gen : ℕ) (v : Act) (d : Definition) →
+      v.kind ≡ kind.Propose d →
+      Does site k (event.Deliver from (message.Admin i (msg.Forward gen v))) (returns_unbound site from gen v)
+  Unserved : {k : Cell} (from : NodeId) (i : CircuitId) (s t : ServiceId) (gen r place : ℕ) (v : Batch) →
+      Does site k (event.Deliver from (message.Scabbard i s t (msg.VoteRequest gen r place v)))
+      (Replies (note.Declined r) from (message.Scabbard site.circuit t s (msg.Vote gen r false)))
   -- the node's own proposal binds the cell, a request does, or a proposal that was handed on
-  Proposed : {k : Cell} (d : Definition) → MayBind site k d → Does site k (event.Propose d) (Binds Submitted d site.here (group.Submit (proposal site.here d)))
-  Asked : {k : Cell} (d : Definition) (from : NodeId) (i : CircuitId) (gen r place : ℕ) (v : Act) → v.kind ≡ kind.Propose d → HearsOf site k gen d → admin d ≡ from → Does site k (event.Deliver from (message.Admin i (msg.VoteRequest gen r place v))) (Binds Delivered d from (group.From (position d.members from) (msg.VoteRequest gen r place v)))
-  Handed : {k : Cell} (d : Definition) (from : NodeId) (i : CircuitId) (gen : ℕ) (v : Act) → v.kind ≡ kind.Propose d → HearsOf site k gen d → admin d ≡ site.here → v.node ≡ from → Does site k (event.Deliver from (message.Admin i (msg.Forward gen v))) (Binds Delivered d from (group.Submit v))
+  Proposed : {k : Cell} (d : Definition) →
+      MayBind site k d →
+      Does site k (event.Propose d) (Binds Submitted d site.here (group.Submit (proposal site.here d)))
+  Asked : {k : Cell} (d : Definition) (from : NodeId) (i : CircuitId) (gen r place : ℕ) (v : Act) →
+      v.kind ≡ kind.Propose d → CanBind site k gen d → admin d ≡ from →
+      Does site k (event.Deliver from (message.Admin i (msg.VoteRequest gen r place v)))
+      (Binds Delivered d from (group.From (position d.members from) (msg.VoteRequest gen r place v)))
+  Handed : {k : Cell} (d : Definition) (from : NodeId) (i : CircuitId) (gen : ℕ) (v : Act) →
+      v.kind ≡ kind.Propose d → CanBind site k gen d → admin d ≡ site.here → v.node ≡ from →
+      Does site k (event.Deliver from (message.Admin i (msg.Forward gen v)))
+      (Binds Delivered d from (group.Submit v))
   -- a group is handed an act of the node or a batch, or gets a message
-  Acted : (h : Bound) (e : Event) (w : ActKind) → next_kind (own_life h) e ≡ Some w → IsNextKind (own_life h) w → is_open h.mark ≡ true → is_act_pending site h ≡ false → (h.acts.history ≡ [] → ⊥) → Does site (Held h) e (Acts Submitted h site.here (group.Submit (next_act site.here h.turn w)))
-  Taken : (h : Bound) (v : Batch) → is_open h.mark ≡ true → runs h ≡ true → broken_batch v ≡ None → known batch_rules h.batches v ≡ None → (length h.batches.pending == MOST_PENDING) ≡ false → Does site (Held h) (event.Submit v) (Serves Submitted h site.here (group.Submit v))
-  Heard : (h : Bound) (from : NodeId) (i : CircuitId) (x : CommitMsg Act) → is_open h.mark ≡ true → generation_of x ≡ h.definition.generation → Does site (Held h) (event.Deliver from (message.Admin i x)) (Acts Delivered h from (group.From (position h.definition.members from) x))
-  Served : (h : Bound) (from : NodeId) (i : CircuitId) (s t : ServiceId) (x : CommitMsg Batch) → is_open h.mark ≡ true → runs h ≡ true → generation_of x ≡ h.definition.generation → Does site (Held h) (event.Deliver from (message.Scabbard i s t x)) (Serves Delivered h from (group.From (position h.definition.members from) x))
+  Acted : (h : Bound) (e : Event) (w : ActKind) →
+      next_kind (own_life h) e ≡ Some w → IsNextKind (own_life h) w → is_open h.mark ≡ true →
+      is_act_pending site h ≡ false → (h.acts.history ≡ [] → ⊥) →
+      Does site (Held h) e (Acts Submitted h site.here (group.Submit (next_act site.here h.turn w)))
+  Taken : (h : Bound) (v : Batch) →
+      is_open h.mark ≡ true → runs h ≡ true → broken_batch v ≡ None → known batch_rules h.batches v ≡ None →
+      (length h.batches.pending == MOST_PENDING) ≡ false →
+      Does site (Held h) (event.Submit v) (Serves Submitted h site.here (group.Submit v))
+  Heard : (h : Bound) (from : NodeId) (i : CircuitId) (x : CommitMsg Act) →
+      is_open h.mark ≡ true → generation_of x ≡ h.definition.generation →
+      Does site (Held h) (event.Deliver from (message.Admin i x))
+      (Acts Delivered h from (group.From (position h.definition.members from) x))
+  Served : (h : Bound) (from : NodeId) (i : CircuitId) (s t : ServiceId) (x : CommitMsg Batch) →
+      is_open h.mark ≡ true → runs h ≡ true → generation_of x ≡ h.definition.generation →
+      Does site (Held h) (event.Deliver from (message.Scabbard i s t x))
+      (Serves Delivered h from (group.From (position h.definition.members from) x))
   -- it goes on
-  GoesOn : {e : Event} (h : Bound) (x : GroupEvent Act) → is_open h.mark ≡ true → IsClock x → Does site (Held h) e (Acts Alone h site.here x)
-  BothGoOn : {e : Event} (h : Bound) (x : GroupEvent Act) (y : GroupEvent Batch) → is_open h.mark ≡ true → runs h ≡ true → IsClock x → IsClock y → Does site (Held h) e (Turns h x y)
+  GoesOn : {e : Event} (h : Bound) (x : GroupEvent Act) →
+      is_open h.mark ≡ true → IsClock x →
+      Does site (Held h) e (Acts Alone h site.here x)
+  BothGoOn : {e : Event} (h : Bound) (x : GroupEvent Act) (y : GroupEvent Batch) →
+      is_open h.mark ≡ true → runs h ≡ true → IsClock x → IsClock y →
+      Does site (Held h) e (Turns h x y)
   Left : {e : Event} (h : Bound) → is_open h.mark ≡ true → runs h ≡ true → Does site (Held h) e Abandons
   Forgot : {e : Event} (h : Bound) → Does site (Held h) e Purges
 
@@ -99,8 +128,8 @@ not_false : (b : Bool) → not b ≡ false → b ≡ true
 not_false true q = refl
 not_false false q = cc
 
-pub hears-of : (site : Site) (k : Cell) (gen : ℕ) (d : Definition) → can_bind site k gen d ≡ true → HearsOf site k gen d
-hears-of site k gen d h =
+pub can-bind : (site : Site) (k : Cell) (gen : ℕ) (d : Definition) → can_bind site k gen d ≡ true → CanBind site k gen d
+can-bind site k gen d h =
     let behind_id : _ ≡ true = and_right (bytes_eq d.id site.circuit) _ h in
     let behind_generation : _ ≡ true = and_right (d.generation == gen) _ behind_id in
     let behind_rules : _ ≡ true = and_right (is_none (broken d)) _ behind_generation in
@@ -116,8 +145,8 @@ hears-of site k gen d h =
     }
 
 -- at a bound cell none does
-pub held-unheard : (site : Site) (h : Bound) (gen : ℕ) (d : Definition) → can_bind site (Held h) gen d ≡ true → ⊥
-held-unheard site h gen d q = let free : false ≡ true = (hears-of site (Held h) gen d q).bind.free in cc
+pub held-cannot : (site : Site) (h : Bound) (gen : ℕ) (d : Definition) → can_bind site (Held h) gen d ≡ true → ⊥
+held-cannot site h gen d q = let free : false ≡ true = (can-bind site (Held h) gen d q).bind.free in cc
 
 -- where something is asked for, or the circuit is active, there are acts
 asked-acts : (h : Bound) → not (is_asked (own_life h).state) ≡ false → h.acts.history ≡ [] → ⊥
@@ -150,22 +179,22 @@ module _ (site : Site) where
   unless : {k : Cell} {e : Event} (b : Bool) (why : Refusal) (deed : Deed) → (b ≡ false → Does site k e deed) → Does site k e (if b then Refuses why else deed)
   unless {k} {e} b why deed f = if_holds (Does site k e) b _ _ (λ q. Refused why) f
 
-  where_so : {k : Cell} {e : Event} (b : Bool) (deed : Deed) (why : Refusal) → (b ≡ true → Does site k e deed) → Does site k e (if b then deed else Refuses why)
-  where_so {k} {e} b deed why f = if_holds (Does site k e) b _ _ f (λ q. Refused why)
+  provided : {k : Cell} {e : Event} (b : Bool) (deed : Deed) (why : Refusal) → (b ≡ true → Does site k e deed) → Does site k e (if b then deed else Refuses why)
+  provided {k} {e} b deed why f = if_holds (Does site k e) b _ _ f (λ q. Refused why)
 
   -- acts
 
   does-proposes : (d : Definition) (k : Cell) (o : Option ℕ) → broken d ≡ o → Does site k (event.Propose d) (proposes site d k o)
   does-proposes d k (Some rule) h = Refused _
-  does-proposes d k None h = where_so _ _ _ (λ m. at k m)
+  does-proposes d k None h = provided _ _ _ (λ m. at k m)
     where
       at : (j : Cell) → is_member d site.here ≡ true → Does site j (event.Propose d) (proposes_at site d j)
       at Empty m = Proposed d (record { ruled = h; member = m; free = refl })
       at (Held b) m = Refused _
-      at (Purged old) m = where_so _ _ _ (λ q. Proposed d (record { ruled = h; member = m; free = q }))
+      at (Purged old) m = provided _ _ _ (λ q. Proposed d (record { ruled = h; member = m; free = q }))
 
   does-next : (h : Bound) (e : Event) (w : ActKind) → next_kind (own_life h) e ≡ Some w → IsNextKind (own_life h) w → is_act_pending site h ≡ false → not (is_asked (own_life h).state) ≡ false → Does site (Held h) e (submits_next site h w)
-  does-next h e w next own pending asked = where_so _ _ _ (λ unclosed. Acted h e w next own unclosed pending (asked-acts h asked))
+  does-next h e w next own pending asked = provided _ _ _ (λ unclosed. Acted h e w next own unclosed pending (asked-acts h asked))
 
   does-votes : (h : Bound) (e : Event) (w : ActKind) → next_kind (own_life h) e ≡ Some w → IsNextKind (own_life h) w → Does site (Held h) e (votes site h w)
   does-votes h e w next own = unless _ _ _ (λ pending. unless _ _ _ (λ asked. unless _ _ _ (λ q. does-next h e w next own pending asked)))
@@ -177,10 +206,10 @@ module _ (site : Site) where
   does-disbands h = unless _ _ _ (λ pending. unless _ _ _ (λ active. unless _ _ _ (λ unclosed. unless _ _ _ (λ q. Acted h event.Disband kind.Disband refl tt (not_false _ unclosed) pending (active-acts h active)))))
 
   does-abandons : {e : Event} (h : Bound) → Does site (Held h) e (abandons h)
-  does-abandons h = unless _ _ _ (λ active. where_so _ _ _ (λ unclosed. Left h unclosed (not_false _ active)))
+  does-abandons h = unless _ _ _ (λ active. provided _ _ _ (λ unclosed. Left h unclosed (not_false _ active)))
 
   does-turns : {e : Event} (h : Bound) (x : GroupEvent Act) (y : GroupEvent Batch) → IsClock x → IsClock y → Does site (Held h) e (turns site h x y)
-  does-turns {e} h x y p q = where_so _ _ _ (λ unclosed. if_holds (Does site (Held h) e) (runs h) _ _ (λ active. BothGoOn h x y unclosed active p q) (λ z. GoesOn h x unclosed p))
+  does-turns {e} h x y p q = provided _ _ _ (λ unclosed. if_holds (Does site (Held h) e) (runs h) _ _ (λ active. BothGoOn h x y unclosed active p q) (λ z. GoesOn h x unclosed p))
 
   -- batches
 
@@ -189,14 +218,14 @@ module _ (site : Site) where
     where
       by_id : runs h ≡ true → is_open h.mark ≡ true → broken_batch v ≡ None → (u : Option Batch) → known batch_rules h.batches v ≡ u → Does site (Held h) (event.Submit v) (submits_known site h v u)
       by_id active unclosed good None e = unless _ _ _ (λ q. Taken h v unclosed active good e q)
-      by_id active unclosed good (Some u) e = where_so _ _ _ (λ q. Told _ refl)
+      by_id active unclosed good (Some u) e = provided _ _ _ (λ q. Told _ refl)
 
       ruled : runs h ≡ true → is_open h.mark ≡ true → (r : Option ℕ) → broken_batch v ≡ r → Does site (Held h) (event.Submit v) (submits_ruled site h v r)
       ruled active unclosed (Some rule) good = Refused _
       ruled active unclosed None good = by_id active unclosed good (known batch_rules h.batches v) refl
 
   does-active : {k : Cell} {e : Event} (h : Bound) (deed : Deed) → Does site k e deed → Does site k e (when_active h deed)
-  does-active h deed d = where_so _ _ _ (λ q. d)
+  does-active h deed d = provided _ _ _ (λ q. d)
 
   does-status : {k : Cell} {e : Event} (b : Member Batch) (i : ℕ) (o : Option ℕ) → Does site k e (status_kept b i o)
   does-status b i (Some place) = Told _ refl
@@ -226,7 +255,7 @@ module _ (site : Site) where
       asked (kind.Propose d) is = if_holds P (place == 0 && (can_bind site k gen d && bytes_eq (admin d) from)) _ _ (λ q. bound (and_right (place == 0) _ q)) (λ q. Declined from i gen r place v)
         where
           bound : (can_bind site k gen d && bytes_eq (admin d) from) ≡ true → P (Binds Delivered d from (group.From (position d.members from) (msg.VoteRequest gen r place v)))
-          bound q = Asked d from i gen r place v is (hears-of site k gen d (and_left (can_bind site k gen d) _ q)) (node_is (admin d) from (and_right (can_bind site k gen d) _ q))
+          bound q = Asked d from i gen r place v is (can-bind site k gen d (and_left (can_bind site k gen d) _ q)) (node_is (admin d) from (and_right (can_bind site k gen d) _ q))
       asked _ is = Declined from i gen r place v
   does-first k from i (msg.Forward gen v) = given v.kind refl
     where
@@ -237,7 +266,7 @@ module _ (site : Site) where
       given (kind.Propose d) is = if_holds P (can_bind site k gen d && (bytes_eq (admin d) site.here && (bytes_eq v.node from && (is_member d from && not (bytes_eq from site.here))))) _ _ (λ q. bound (and_left (can_bind site k gen d) _ q) (and_right (can_bind site k gen d) _ q)) (λ q. Returned from i gen v d is)
         where
           bound : can_bind site k gen d ≡ true → (bytes_eq (admin d) site.here && (bytes_eq v.node from && (is_member d from && not (bytes_eq from site.here)))) ≡ true → P (Binds Delivered d from (group.Submit v))
-          bound p q = Handed d from i gen v is (hears-of site k gen d p) (node_is (admin d) site.here (and_left (bytes_eq (admin d) site.here) _ q)) (node_is v.node from (and_left (bytes_eq v.node from) _ (and_right (bytes_eq (admin d) site.here) _ q)))
+          bound p q = Handed d from i gen v is (can-bind site k gen d p) (node_is (admin d) site.here (and_left (bytes_eq (admin d) site.here) _ q)) (node_is v.node from (and_left (bytes_eq v.node from) _ (and_right (bytes_eq (admin d) site.here) _ q)))
       given _ is = Told _ refl
   does-first k from i _ = Told _ refl
 

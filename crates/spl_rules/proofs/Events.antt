@@ -34,7 +34,7 @@ use Rattle.spl_rules.specs.Changes.{may_queue, may_serve}
 use Rattle.spl_rules.specs.Valid.{IsHeld, IsKept, IsNamed, IsFor, carries, is_legal}
 use Rattle.spl_rules.proofs.Carried.{Brings}
 use Rattle.spl_rules.proofs.Still.{still-tick, still-expire}
-use Rattle.spl_rules.proofs.Does.{IsClock, Ticks, Expires, IsNextKind, HearsOf, Does, Refused, Told, Declined, Returned, Unserved, Proposed, Asked, Handed, Acted, Taken, Heard, Served, GoesOn, BothGoOn, Left, Forgot, does-is}
+use Rattle.spl_rules.proofs.Does.{IsClock, Ticks, Expires, IsNextKind, CanBind, Does, Refused, Told, Declined, Returned, Unserved, Proposed, Asked, Handed, Acted, Taken, Heard, Served, GoesOn, BothGoOn, Left, Forgot, does-is}
 use Rattle.spl_rules.proofs.Deeds.{FitsRow, FitsEvent, BindsAt, FitsDeed, may-other, acts-at, serves-at, abandons-at, purges-at, fits-message, fits-served}
 
 -- the ids of a cell are short
@@ -79,7 +79,7 @@ fits-first : (site : Site) (d : Definition) (v : Act) → may_queue site.here 0 
 fits-first site d v may = record { due = (refl, omega arith); queues = inl may }
 
 -- by a message
-binds-heard : (site : Site) (k : Cell) (gen : ℕ) (d : Definition) (e : GroupEvent Act) (v : Act) → HearsOf site k gen d → v.kind ≡ kind.Propose d → has_form v ≡ true → FitsEvent site (fresh d) e → Brings has_form e → BindsAt site k d e
+binds-heard : (site : Site) (k : Cell) (gen : ℕ) (d : Definition) (e : GroupEvent Act) (v : Act) → CanBind site k gen d → v.kind ≡ kind.Propose d → has_form v ≡ true → FitsEvent site (fresh d) e → Brings has_form e → BindsAt site k d e
 binds-heard site k gen d e v b is formed fit brings = record {
   free = rw (b.bind.free, b.own, b.bind.ruled, b.bind.member);
   defined = subst (λ (w : ActKind). IsTrue (form.kind.fits w)) is (and_right (form.node_id.fits v.node) (form.kind.fits v.kind) formed);
