@@ -1,13 +1,13 @@
 -- The byte forms of records and messages (docs/RULES.md, Byte forms).
-use Rattle.std.specs.Prelude.{◌≡◌, ℕ, ◌^◌, ◌⊎◌, Bool, ◌&&◌, nat_lt, nat_le, ◌+◌, ◌++◌, length, List, Result, Ok, Err, IsTrue, if◌then◌else◌}
-use Rattle.std.proofs.Common.{inl, inr, refl, subst, lit<}
+use Rattle.std.specs.Prelude.{◌≡◌, ℕ, ◌^◌, Bool, ◌&&◌, nat_lt, nat_le, ◌+◌, ◌++◌, length, List, [], ◌∷◌, Result, Ok, Err, IsTrue, if◌then◌else◌}
+use Rattle.std.proofs.Common.{refl, subst, lit<}
 use Rattle.std.specs.Int.{w8, w64}
 use Rattle.spl_base.specs.declared.fault.Malformed.{Malformed}
 use Rattle.spl_base.specs.Front.{Answers}
 use Rattle.spl_base.specs.Input.{Input, ◌>>=◌}
-use Rattle.spl_base.specs.Form.{Form, IsExact, IsBytes, Taken, number, flag, list_of, ◌&◌, via, no_case, ◌or◌, tagged}
+use Rattle.spl_base.specs.Form.{Form, IsExact, IsBytes, Taken, number, flag, list_of, ◌&◌, via, Case, case, Filled, filled, sum_of}
 use Rattle.spl_base.specs.FormLaws.{both_true, and_true, bind_ok, guard_ok, wide8, wide64, exact_number, exact_flag, exact_list}
-use Rattle.spl_base.specs.FormLaws.{exact_and, exact_via, exact_no_case, exact_or, exact_tagged}
+use Rattle.spl_base.specs.FormLaws.{exact_and, exact_via, IsMade, exact_sum}
 use Rattle.spl_acceptor.specs.declared.message.Pledge.{Pledge}
 use Rattle.spl_acceptor.specs.declared.message.PaxosMsg.{PaxosMsg}
 use Rattle.spl_acceptor.specs.declared.message.PaxosMsg.TheVariants as msg
@@ -40,51 +40,45 @@ pledge = via (λ x. record { member = x.0; ballot = x.1.0; prepared = x.1.1 }) (
 
 -- ---- records
 
-abbrev pub RecordFields : Type 0
-RecordFields = (ℕ × ℕ) ⊎ ((ℕ × Pledge) ⊎ ((ℕ × Bool) ⊎ ((ℕ × ℕ) ⊎ ((ℕ × Bool) ⊎ ⊥))))
+abbrev pub records : List (Case PaxosRecord)
+records =
+    case 1 (long & long) (λ x. kept.Promised x.0 x.1)
+    ∷ case 2 (long & pledge) (λ x. kept.Accepted x.0 x.1.member x.1.ballot x.1.prepared)
+    ∷ case 3 (long & flag) (λ x. kept.Voted x.0 x.1)
+    ∷ case 4 (long & long) (λ x. kept.Used x.0 x.1)
+    ∷ case 5 (long & flag) (λ x. kept.Decided x.0 x.1)
+    ∷ []
 
-abbrev pub record_of : RecordFields → PaxosRecord
-record_of (inl x) = kept.Promised x.0 x.1
-record_of (inr (inl x)) = kept.Accepted x.0 x.1.member x.1.ballot x.1.prepared
-record_of (inr (inr (inl x))) = kept.Voted x.0 x.1
-record_of (inr (inr (inr (inl x)))) = kept.Used x.0 x.1
-record_of (inr (inr (inr (inr (inl x))))) = kept.Decided x.0 x.1
-record_of (inr (inr (inr (inr (inr x))))) = absurd x
+abbrev pub record_fields : PaxosRecord → Filled records
+record_fields (kept.Promised r b) = filled 1 (r, b)
+record_fields (kept.Accepted r i b p) = filled 2 (r, record { member = i; ballot = b; prepared = p })
+record_fields (kept.Voted r aye) = filled 3 (r, aye)
+record_fields (kept.Used r b) = filled 4 (r, b)
+record_fields (kept.Decided r commit) = filled 5 (r, commit)
 
-abbrev pub record_fields : PaxosRecord → RecordFields
-record_fields (kept.Promised r b) = inl (r, b)
-record_fields (kept.Accepted r i b p) = inr (inl (r, record { member = i; ballot = b; prepared = p }))
-record_fields (kept.Voted r aye) = inr (inr (inl (r, aye)))
-record_fields (kept.Used r b) = inr (inr (inr (inl (r, b))))
-record_fields (kept.Decided r commit) = inr (inr (inr (inr (inl (r, commit)))))
-
--- Promised, Accepted, Voted, Used and Decided, from tag 1 on
 abbrev pub record_form : Form PaxosRecord
-record_form = via record_of record_fields (tagged ((long & long) or (long & pledge) or (long & flag) or (long & long) or (long & flag) or no_case))
+record_form = sum_of records record_fields
 
 -- ---- messages
 
-abbrev pub MessageFields : Type 0
-MessageFields = (ℕ × ℕ) ⊎ ((ℕ × Pledge) ⊎ ((ℕ × (ℕ × List Pledge)) ⊎ ((ℕ × ℕ) ⊎ ((ℕ × Pledge) ⊎ ⊥))))
+abbrev pub messages : List (Case PaxosMsg)
+messages =
+    case 1 (long & long) (λ x. msg.Ask x.0 x.1)
+    ∷ case 2 (long & pledge) (λ x. msg.Accept x.0 x.1.member x.1.ballot x.1.prepared)
+    ∷ case 3 (long & long & list_of 8 pledge) (λ x. msg.Promise x.0 x.1.0 x.1.1)
+    ∷ case 4 (long & long) (λ x. msg.Higher x.0 x.1)
+    ∷ case 5 (long & pledge) (λ x. msg.Accepted x.0 x.1.member x.1.ballot x.1.prepared)
+    ∷ []
 
-abbrev pub message_of : MessageFields → PaxosMsg
-message_of (inl x) = msg.Ask x.0 x.1
-message_of (inr (inl x)) = msg.Accept x.0 x.1.member x.1.ballot x.1.prepared
-message_of (inr (inr (inl x))) = msg.Promise x.0 x.1.0 x.1.1
-message_of (inr (inr (inr (inl x)))) = msg.Higher x.0 x.1
-message_of (inr (inr (inr (inr (inl x))))) = msg.Accepted x.0 x.1.member x.1.ballot x.1.prepared
-message_of (inr (inr (inr (inr (inr x))))) = absurd x
+abbrev pub message_fields : PaxosMsg → Filled messages
+message_fields (msg.Ask r b) = filled 1 (r, b)
+message_fields (msg.Accept r i b p) = filled 2 (r, record { member = i; ballot = b; prepared = p })
+message_fields (msg.Promise r b pairs) = filled 3 (r, (b, pairs))
+message_fields (msg.Higher r b) = filled 4 (r, b)
+message_fields (msg.Accepted r i b p) = filled 5 (r, record { member = i; ballot = b; prepared = p })
 
-abbrev pub message_fields : PaxosMsg → MessageFields
-message_fields (msg.Ask r b) = inl (r, b)
-message_fields (msg.Accept r i b p) = inr (inl (r, record { member = i; ballot = b; prepared = p }))
-message_fields (msg.Promise r b pairs) = inr (inr (inl (r, (b, pairs))))
-message_fields (msg.Higher r b) = inr (inr (inr (inl (r, b))))
-message_fields (msg.Accepted r i b p) = inr (inr (inr (inr (inl (r, record { member = i; ballot = b; prepared = p })))))
-
--- Ask, Accept, Promise, Higher and Accepted, from tag 1 on
 abbrev pub message_form : Form PaxosMsg
-message_form = via message_of message_fields (tagged ((long & long) or (long & pledge) or (long & long & list_of 8 pledge) or (long & long) or (long & pledge) or no_case))
+message_form = sum_of messages message_fields
 
 -- what is spelled so at the front of bytes is what was read, whatever follows it, unless memory ran out
 abbrev pub ReadsBack : {A : Type 0} → Form A → List ℕ → Result (A × ℕ) Malformed → Type 0
@@ -120,50 +114,49 @@ exact_long = exact_number w64 (2 ^ 64) wide64
 pub exact_pledge : IsExact pledge
 exact_pledge = exact_via _ _ _ (λ _. refl) (λ _. refl) (exact_and _ _ (exact_tested is_member _ (exact_number w8 (2 ^ 8) wide8)) (exact_and _ _ exact_long exact_flag))
 
-record_there : (x : PaxosRecord) → record_of (record_fields x) ≡ x
-record_there (kept.Promised r b) = refl
-record_there (kept.Accepted r i b p) = refl
-record_there (kept.Voted r aye) = refl
-record_there (kept.Used r b) = refl
-record_there (kept.Decided r commit) = refl
+exact_ballot : IsExact (long & long)
+exact_ballot = exact_and _ _ exact_long exact_long
 
-record_back : (x : RecordFields) → record_fields (record_of x) ≡ x
-record_back (inl x) = refl
-record_back (inr (inl x)) = refl
-record_back (inr (inr (inl x))) = refl
-record_back (inr (inr (inr (inl x)))) = refl
-record_back (inr (inr (inr (inr (inl x))))) = refl
-record_back (inr (inr (inr (inr (inr x))))) = absurd x
+exact_order : IsExact (long & pledge)
+exact_order = exact_and _ _ exact_long exact_pledge
+
+exact_answer : IsExact (long & flag)
+exact_answer = exact_and _ _ exact_long exact_flag
+
+record_made : (x : PaxosRecord) → IsMade records record_fields x
+record_made (kept.Promised r b) = record { value = refl; small = refl }
+record_made x = record { value = refl; small = refl }
 
 pub exact_record : IsExact record_form
-exact_record = exact_via record_of record_fields _ record_there record_back (exact_tagged _ (
-    exact_or _ _ (exact_and _ _ exact_long exact_long)
-    (exact_or _ _ (exact_and _ _ exact_long exact_pledge)
-    (exact_or _ _ (exact_and _ _ exact_long exact_flag)
-    (exact_or _ _ (exact_and _ _ exact_long exact_long)
-    (exact_or _ _ (exact_and _ _ exact_long exact_flag)
-    exact_no_case))))))
+exact_record = exact_sum records record_fields record_made (
+  (exact_ballot, λ _. refl),
+  (
+    (exact_order, λ _. refl),
+    (
+      (exact_answer, λ _. refl),
+      (
+        (exact_ballot, λ _. refl),
+        ((exact_answer, λ _. refl), tt),
+      ),
+    ),
+  ),
+)
 
-message_there : (x : PaxosMsg) → message_of (message_fields x) ≡ x
-message_there (msg.Ask r b) = refl
-message_there (msg.Accept r i b p) = refl
-message_there (msg.Promise r b pairs) = refl
-message_there (msg.Higher r b) = refl
-message_there (msg.Accepted r i b p) = refl
-
-message_back : (x : MessageFields) → message_fields (message_of x) ≡ x
-message_back (inl x) = refl
-message_back (inr (inl x)) = refl
-message_back (inr (inr (inl x))) = refl
-message_back (inr (inr (inr (inl x)))) = refl
-message_back (inr (inr (inr (inr (inl x))))) = refl
-message_back (inr (inr (inr (inr (inr x))))) = absurd x
+message_made : (x : PaxosMsg) → IsMade messages message_fields x
+message_made (msg.Ask r b) = record { value = refl; small = refl }
+message_made x = record { value = refl; small = refl }
 
 pub exact_message : IsExact message_form
-exact_message = exact_via message_of message_fields _ message_there message_back (exact_tagged _ (
-    exact_or _ _ (exact_and _ _ exact_long exact_long)
-    (exact_or _ _ (exact_and _ _ exact_long exact_pledge)
-    (exact_or _ _ (exact_and _ _ exact_long (exact_and _ _ exact_long (exact_list pledge exact_pledge 8 (lit< tt))))
-    (exact_or _ _ (exact_and _ _ exact_long exact_long)
-    (exact_or _ _ (exact_and _ _ exact_long exact_pledge)
-    exact_no_case))))))
+exact_message = exact_sum messages message_fields message_made (
+  (exact_ballot, λ _. refl),
+  (
+    (exact_order, λ _. refl),
+    (
+      (exact_and _ _ exact_long (exact_and _ _ exact_long (exact_list pledge exact_pledge 8 (lit< tt))), λ _. refl),
+      (
+        (exact_ballot, λ _. refl),
+        ((exact_order, λ _. refl), tt),
+      ),
+    ),
+  ),
+)

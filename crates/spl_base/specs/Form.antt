@@ -1,5 +1,6 @@
 -- Forms: how values of a type are spelled, and how they are read from left to right.
-use Rattle.std.specs.Prelude.{◌≡◌, ℕ, zero, suc, ◌+◌, ◌≤◌, Bool, true, false, ◌&&◌, List, [], ◌∷◌, ◌++◌, length, Result, Ok, Err, nat_lt, nat_le, if◌then◌else◌, ◌⊎◌, IsTrue, slice_index, ◌<◌}
+use Rattle.std.specs.Prelude.{◌≡◌, ℕ, zero, suc, ◌+◌, ◌<◌, Bool, true, false, ◌&&◌, ◌||◌, nat_eq, nat_lt, nat_le, if◌then◌else◌, IsTrue, Result, Ok, Err}
+use Rattle.std.specs.Prelude.{List, [], ◌∷◌, ◌++◌, length, slice_index}
 use Rattle.std.specs.List.{flat_map, list_all}
 use Rattle.std.specs.Int.{Width, w8, w16, to_be_bytes}
 use Rattle.spl_base.specs.declared.fault.FieldFault.{FieldFault}
@@ -7,7 +8,6 @@ use Rattle.spl_base.specs.declared.fault.FieldFault.TheVariants.{Short, TooLong}
 use Rattle.spl_base.specs.declared.fault.Malformed.{Malformed}
 use Rattle.spl_base.specs.declared.fault.Malformed.TheVariants as malformed
 use Rattle.spl_base.specs.Input.{Input, ◌>>=◌, raw_at, number_at, sized_at}
-use Rattle.std.proofs.Common.{inl, inr}
 
 -- a value and the input behind it, or where the first unreadable field begins
 abbrev pub Parsed : Type 0 → Type 0
@@ -131,57 +131,6 @@ list_of most f = record {
   bounded = λ xs. nat_le (length xs) most && list_all f.bounded xs;
 }
 
--- the cases of an enum, by the number of a case from 0 on; reading takes that number and where its tag stands
-pub record Cases (A : Type 0) : Type 0 where
-  pub count : ℕ
-  pub index : A → ℕ
-  pub spell : A → List ℕ
-  pub parse : ℕ → ℕ → Input → Parsed A
-  pub fits : A → Bool
-  pub bounded : A → Bool
-
-abbrev pub no_case : Cases ⊥
-no_case = record {
-  count = 0;
-  index = λ x. absurd x;
-  spell = λ x. absurd x;
-  parse = λ n at s. Err at;
-  fits = λ x. absurd x;
-  bounded = λ x. absurd x;
-}
-
-abbrev pub on_sum : {A B C : Type 0} → (A → C) → (B → C) → A ⊎ B → C
-on_sum f g (inl a) = f a
-on_sum f g (inr b) = g b
-
-abbrev pub or_parse : {A B : Type 0} → Form A → Cases B → ℕ → ℕ → Input → Parsed (A ⊎ B)
-or_parse f c zero at s = f.parse s >>= λ x. Ok (inl x.0, x.1)
-or_parse f c (suc n) at s = c.parse n at s >>= λ x. Ok (inr x.0, x.1)
-
-infixr 4 ◌or◌
-abbrev pub ◌or◌ : {A B : Type 0} → Form A → Cases B → Cases (A ⊎ B)
-f or c = record {
-  count = suc c.count;
-  index = on_sum (λ a. 0) (λ b. suc (c.index b));
-  spell = on_sum f.spell c.spell;
-  parse = or_parse f c;
-  fits = on_sum f.fits c.fits;
-  bounded = on_sum f.bounded c.bounded;
-}
-
-abbrev pub by_tag : {A : Type 0} → Cases A → ℕ → ℕ → Input → Parsed A
-by_tag c zero at s = Err at
-by_tag c (suc n) at s = c.parse n at s
-
--- a tag byte, from 1 on, and what its case has
-abbrev pub tagged : {A : Type 0} → Cases A → Form A
-tagged c = record {
-  spell = λ x. number_bytes w8 (suc (c.index x)) ++ c.spell x;
-  parse = λ s. located (number_at w8 s) >>= λ n. by_tag c n.0 s.place n.1;
-  fits = λ x. nat_lt (suc (c.index x)) 256 && c.fits x;
-  bounded = c.bounded;
-}
-
 abbrev pub nothing : Form (Unit {0})
 nothing = record {
   spell = λ x. [];
@@ -189,6 +138,107 @@ nothing = record {
   fits = λ x. true;
   bounded = λ x. true;
 }
+
+-- ---- a sum: a tag byte, and the fields behind it
+
+-- a case: its tag, the form of its fields, and the value that they make
+pub record Case (A : Type 0) : Type 1 where
+  pub tag : ℕ
+  pub Fields : Type 0
+  pub form : Form Fields
+  pub make : Fields → A
+
+abbrev pub case : {A F : Type 0} → ℕ → Form F → (F → A) → Case A
+case {A} {F} tag f make = record { tag = tag; Fields = F; form = f; make = make }
+
+abbrev pub Either : Bool → Type 0 → Type 0 → Type 0
+Either true X Y = X
+Either false X Y = Y
+
+abbrev pub either : {X Y B : Type 0} (b : Bool) → (X → B) → (Y → B) → Either b X Y → B
+either true f g x = f x
+either false f g y = g y
+
+-- the fields of the case with a tag
+abbrev pub FieldsAt : {A : Type 0} → List (Case A) → ℕ → Type 0
+FieldsAt [] n = ⊥
+FieldsAt (c ∷ cs) n = Either (nat_eq n c.tag) c.Fields (FieldsAt cs n)
+
+-- a tag, and the fields of its case
+pub data Filled {A : Type 0} (cs : List (Case A)) : Type 0 where
+  filled : (n : ℕ) → FieldsAt cs n → Filled cs
+
+-- what the case with the tag makes of its fields
+abbrev pub by_case : {A B : Type 0} → ((c : Case A) → c.Fields → B) → (cs : List (Case A)) (n : ℕ) → FieldsAt cs n → B
+by_case f [] n x = absurd x
+by_case f (c ∷ cs) n x = either (nat_eq n c.tag) (f c) (by_case f cs n) x
+
+abbrev pub spell_by : {A : Type 0} (cs : List (Case A)) (n : ℕ) → FieldsAt cs n → List ℕ
+spell_by cs n x = by_case (λ c. c.form.spell) cs n x
+
+abbrev pub fits_by : {A : Type 0} (cs : List (Case A)) (n : ℕ) → FieldsAt cs n → Bool
+fits_by cs n x = by_case (λ c. c.form.fits) cs n x
+
+abbrev pub bounded_by : {A : Type 0} (cs : List (Case A)) (n : ℕ) → FieldsAt cs n → Bool
+bounded_by cs n x = by_case (λ c. c.form.bounded) cs n x
+
+abbrev pub made_by : {A : Type 0} (cs : List (Case A)) (n : ℕ) → FieldsAt cs n → A
+made_by cs n x = by_case (λ c. c.make) cs n x
+
+-- the value that they make
+abbrev pub value_of : {A : Type 0} (cs : List (Case A)) → Filled cs → A
+value_of cs (filled n x) = made_by cs n x
+
+abbrev pub read_case : {A : Type 0} → Case A → Input → Parsed A
+read_case c s = c.form.parse s >>= λ x. Ok (c.make x.0, x.1)
+
+-- whether a case has the tag
+abbrev pub has_tag : {A : Type 0} → List (Case A) → ℕ → Bool
+has_tag [] n = false
+has_tag (c ∷ cs) n = nat_eq n c.tag || has_tag cs n
+
+-- what is read behind a tag that stands at a place
+abbrev pub read_by : {A : Type 0} → List (Case A) → ℕ → ℕ → Input → Parsed A
+read_by [] n at s = Err at
+read_by (c ∷ cs) n at s = if nat_eq n c.tag then read_case c s else read_by cs n at s
+
+-- the tag of a value, and what stands behind it
+pub record Tagged : Type 0 where
+  pub tag : ℕ
+  pub bytes : List ℕ
+  pub fits : Bool
+  pub bounded : Bool
+
+abbrev pub put_case : {A : Type 0} (c : Case A) → c.Fields → Tagged
+put_case c x = record { tag = c.tag; bytes = c.form.spell x; fits = c.form.fits x; bounded = c.form.bounded x }
+
+abbrev pub put_by : {A : Type 0} (cs : List (Case A)) → Filled cs → Tagged
+put_by cs (filled n x) = record { tag = n; bytes = spell_by cs n x; fits = fits_by cs n x; bounded = bounded_by cs n x }
+
+-- how the values of a type are spelled and read by their tags
+pub record Tags (A : Type 0) : Type 0 where
+  pub put : A → Tagged
+  pub take : ℕ → ℕ → Input → Parsed A
+
+-- by a list of cases, where each value has one of the tags, and fields
+abbrev pub tags_of : {A : Type 0} (cs : List (Case A)) → (A → Filled cs) → Tags A
+tags_of cs fields = record { put = λ a. put_by cs (fields a); take = read_by cs }
+
+-- a byte, and what is read behind it
+abbrev pub numbered : {A : Type 0} → (ℕ → ℕ → Input → Parsed A) → Input → Parsed A
+numbered take s = located (number_at w8 s) >>= λ n. take n.0 s.place n.1
+
+-- a tag byte, and what stands behind it
+abbrev pub tagged : {A : Type 0} → Tags A → Form A
+tagged c = record {
+  spell = λ x. number_bytes w8 (c.put x).tag ++ (c.put x).bytes;
+  parse = numbered c.take;
+  fits = λ x. (c.put x).fits;
+  bounded = λ x. (c.put x).bounded;
+}
+
+abbrev pub sum_of : {A : Type 0} (cs : List (Case A)) → (A → Filled cs) → Form A
+sum_of cs fields = tagged (tags_of cs fields)
 
 -- each element of a list is a byte
 abbrev pub IsBytes : List ℕ → Type 0
@@ -201,14 +251,33 @@ pub record Taken {A : Type 0} (spell : A → List ℕ) (fits : A → Bool) (s : 
   pub is_fit : IsTrue (fits x)
   pub bytes : IsBytes t.rest
 
+-- a value with these bytes is read from them, whatever follows
+abbrev pub IsReadFrom : {A : Type 0} → (Input → Parsed A) → List ℕ → A → List ℕ → ℕ → Type 0
+IsReadFrom parse bytes x rest place =
+    parse (record { rest = bytes ++ rest; place = place }) ≡ Ok (x, record { rest = rest; place = place + length bytes })
+
 -- what was spelled is read, whatever follows it; what is read was spelled so; what has a spelling is within its bounds
 pub record IsExact {A : Type 0} (f : Form A) : Type 0 where
-  pub again : (x : A) (rest : List ℕ) (place : ℕ) → IsTrue (f.fits x) → f.parse (record { rest = f.spell x ++ rest; place = place }) ≡ Ok (x, record { rest = rest; place = place + length (f.spell x) })
+  pub again : (x : A) (rest : List ℕ) (place : ℕ) → IsTrue (f.fits x) → IsReadFrom f.parse (f.spell x) x rest place
   pub takes : (s : Input) (x : A) (t : Input) → IsBytes s.rest → f.parse s ≡ Ok (x, t) → Taken f.spell f.fits s x t
   pub bounds : (x : A) → IsTrue (f.fits x) → IsTrue (f.bounded x)
 
-pub record IsExactCases {A : Type 0} (c : Cases A) : Type 0 where
-  pub again : (x : A) (rest : List ℕ) (place at : ℕ) → IsTrue (c.fits x) → c.parse (c.index x) at (record { rest = c.spell x ++ rest; place = place }) ≡ Ok (x, record { rest = rest; place = place + length (c.spell x) })
-  pub takes : (n at : ℕ) (s : Input) (x : A) (t : Input) → IsBytes s.rest → c.parse n at s ≡ Ok (x, t) → (c.index x ≡ n) × Taken c.spell c.fits s x t
-  pub beyond : (n at : ℕ) (s : Input) → c.count ≤ n → c.parse n at s ≡ Err at
-  pub bounds : (x : A) → IsTrue (c.fits x) → IsTrue (c.bounded x)
+-- x was read behind the tag n
+pub record TakenBehind {A : Type 0} (put : A → Tagged) (n : ℕ) (s : Input) (x : A) (t : Input) : Type 0 where
+  pub tag : (put x).tag ≡ n
+  pub taken : Taken (λ a. (put a).bytes) (λ a. (put a).fits) s x t
+
+-- the same behind a tag
+pub record IsExactTags {A : Type 0} (c : Tags A) : Type 0 where
+  pub small : (x : A) → (c.put x).tag < 256
+  pub again : (x : A) (rest : List ℕ) (place at : ℕ) → IsTrue (c.put x).fits → IsReadFrom (c.take (c.put x).tag at) (c.put x).bytes x rest place
+  pub takes : (n at : ℕ) (s : Input) (x : A) (t : Input) → IsBytes s.rest → c.take n at s ≡ Ok (x, t) → TakenBehind c.put n s x t
+  pub bounds : (x : A) → IsTrue (c.put x).fits → IsTrue (c.put x).bounded
+
+-- the fields of a case are exact, and a value that they make is put so
+abbrev pub IsExactCase : {A : Type 0} → (A → Tagged) → Case A → Type 0
+IsExactCase put c = IsExact c.form × ((x : c.Fields) → put (c.make x) ≡ put_case c x)
+
+abbrev pub AreExact : {A : Type 0} → (A → Tagged) → List (Case A) → Type 0
+AreExact put [] = Unit {0}
+AreExact put (c ∷ cs) = IsExactCase put c × AreExact put cs

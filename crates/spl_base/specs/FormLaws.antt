@@ -1,8 +1,9 @@
 -- The laws of forms, one for each way to make a form.
-use Rattle.std.proofs.Common.{◌≡◌, ℕ, zero, suc, ◌+◌, ◌%◌, ◌^◌, ◌<◌, ◌≤◌, Bool, true, false, cond, ltb, leb, ◌&&◌, IsTrue, List, [], ◌∷◌, ◌++◌, length, take, drop, Result, Ok, Err, refl, sym, ap, subst, ◌∙◌, append_assoc, arith, inl, inr, ◌⊎◌, lit<}
+use Rattle.std.proofs.Common.{◌≡◌, ℕ, zero, suc, ◌+◌, ◌%◌, ◌^◌, ◌<◌, ◌≤◌, Bool, true, false, cond, ltb, leb, ◌&&◌, IsTrue, List, [], ◌∷◌, ◌++◌, length, take, drop, Result, Ok, Err, refl, sym, ap, subst, ◌∙◌, append_assoc, arith, inl, inr, lit<}
+use Rattle.std.specs.Prelude.{nat_eq, nat_lt, if◌then◌else◌}
 use Rattle.std.specs.List.{flat_map, list_all}
 use Rattle.std.specs.Int.{Width, w8, w16, w32, w64, byte_len, from_be_bytes}
-use Rattle.std.proofs.lemmas.Bool.{and_parts, and_from, cases_lt, ltb-false, ltb-true, le-ltb, lt-ltb, leb-true, le-leb}
+use Rattle.std.proofs.lemmas.Bool.{and_parts, and_from, cases_lt, eqb-true, ltb-false, ltb-true, le-ltb, lt-ltb, leb-true, le-leb}
 pub use Rattle.std.proofs.lemmas.Bool.{and_parts as both_true, and_from as and_true}
 use Rattle.std.proofs.lemmas.List.{take_at, drop_at, take-append-drop, length-append, length-take, get_or-drop, get_or-take, get_or_past}
 use Rattle.std.proofs.lemmas.List.Concat.{flat_map-cons}
@@ -10,7 +11,9 @@ use Rattle.std.proofs.lemmas.Nat.{be_bytes_2, be_bytes_4, be_bytes_8, from_be_by
 use Rattle.spl_base.specs.declared.fault.FieldFault.{FieldFault}
 use Rattle.spl_base.specs.declared.fault.FieldFault.TheVariants.{Short, TooLong}
 use Rattle.spl_base.specs.Input.{Input, ◌>>=◌, advanced, raw_at, number_at, sized_at}
-use Rattle.spl_base.specs.Form.{Form, located, IsBytes, Taken, IsExact, IsExactCases, number, number_bytes, raw, sized, text, counted, string, flag, flag_of, ◌&◌, via, items_at, list_of, Cases, no_case, ◌or◌, by_tag, tagged, nothing}
+use Rattle.spl_base.specs.Form.{Form, Parsed, located, number, number_bytes, raw, sized, text, counted, string, flag, flag_of, ◌&◌, via, items_at, list_of, nothing}
+use Rattle.spl_base.specs.Form.{Case, put_case, read_case, Either, either, FieldsAt, Filled, spell_by, fits_by, bounded_by, made_by, read_by, filled, put_by, value_of, Tagged, Tags, tags_of, numbered, tagged, sum_of}
+use Rattle.spl_base.specs.Form.{IsBytes, Taken, IsReadFrom, IsExact, TakenBehind, IsExactTags, IsExactCase, AreExact}
 
 -- ---- tests
 
@@ -268,7 +271,7 @@ module _ {A : Type 0} (f : Form A) (p : IsExact f) where
       let b = and_parts (f.fits x) (list_all f.fits xs) h in
       and_from (f.bounded x) (list_all f.bounded xs) (p.bounds x b.0) (items_bounds xs b.1)
 
-  items_again : (xs : List A) (rest : List ℕ) (place : ℕ) → IsTrue (list_all f.fits xs) → items_at f.parse (length xs) (record { rest = flat_map f.spell xs ++ rest; place = place }) ≡ Ok (xs, record { rest = rest; place = place + length (flat_map f.spell xs) })
+  pub items_again : (xs : List A) (rest : List ℕ) (place : ℕ) → IsTrue (list_all f.fits xs) → items_at f.parse (length xs) (record { rest = flat_map f.spell xs ++ rest; place = place }) ≡ Ok (xs, record { rest = rest; place = place + length (flat_map f.spell xs) })
   items_again [] rest place h = ap (λ (k : ℕ). Ok ([], record { rest = rest; place = k })) (omega arith)
   items_again (x ∷ xs) rest place h =
       let b = and_parts (f.fits x) (list_all f.fits xs) h in
@@ -278,7 +281,7 @@ module _ {A : Type 0} (f : Form A) (p : IsExact f) where
       ap (λ (r : List ℕ). items_at f.parse (suc (length xs)) (record { rest = r; place = place })) regrouped
       ∙ rw (p.again x (flat_map f.spell xs ++ rest) place b.0, items_again xs rest (place + length (f.spell x)) b.1) (ap (λ (k : ℕ). Ok (x ∷ xs, record { rest = rest; place = k })) places)
 
-  items_take : (n : ℕ) (s : Input) (xs : List A) (t : Input) → IsBytes s.rest → items_at f.parse n s ≡ Ok (xs, t) → Taken (flat_map f.spell) (list_all f.fits) s xs t × (length xs ≡ n)
+  pub items_take : (n : ℕ) (s : Input) (xs : List A) (t : Input) → IsBytes s.rest → items_at f.parse n s ≡ Ok (xs, t) → Taken (flat_map f.spell) (list_all f.fits) s xs t × (length xs ≡ n)
   items_take zero s xs t bytes e =
       let made : List A × Input = ([], s) in
       subst (λ (y : List A × Input). Taken (flat_map f.spell) (list_all f.fits) s y.0 y.1 × (length y.0 ≡ 0)) (ok_is made (xs, t) e) (record { parts = refl; place = omega arith; is_fit = refl; bytes = bytes }, refl)
@@ -343,77 +346,132 @@ exact_nothing = record {
   bounds = λ x h. refl;
 }
 
-pub exact_no_case : IsExactCases no_case
-exact_no_case = record {
-  again = λ x. absurd x;
-  takes = λ n at s x t bytes e. absurd x;
-  beyond = λ n at s h. refl;
-  bounds = λ x h. absurd x;
+module _ {A : Type 0} (put : A → Tagged) where
+  -- fields that are spelled are read behind their tag
+  pub again_by : (cs : List (Case A)) → AreExact put cs → (n : ℕ) (x : FieldsAt cs n) (rest : List ℕ) (place at : ℕ)
+      → IsTrue (fits_by cs n x) → IsReadFrom (read_by cs n at) (spell_by cs n x) (made_by cs n x) rest place
+  again_by [] e n x rest place at h = absurd x
+  again_by (c ∷ cs) e n x rest place at h = go (nat_eq n c.tag) x h (λ x h. again_by cs e.1 n x rest place at h)
+    where
+      go : (b : Bool) (x : Either b c.Fields (FieldsAt cs n)) → IsTrue (either b c.form.fits (fits_by cs n) x)
+          → ((y : FieldsAt cs n) → IsTrue (fits_by cs n y) → IsReadFrom (read_by cs n at) (spell_by cs n y) (made_by cs n y) rest place)
+          → IsReadFrom (λ s. if b then read_case c s else read_by cs n at s)
+          (either b c.form.spell (spell_by cs n) x) (either b c.make (made_by cs n) x) rest place
+      go true x h k = rw (e.0.0.again x rest place h) refl
+      go false x h k = k x h
+
+  bounds_by : (cs : List (Case A)) → AreExact put cs → (n : ℕ) (x : FieldsAt cs n) → IsTrue (fits_by cs n x) → IsTrue (bounded_by cs n x)
+  bounds_by [] e n x h = absurd x
+  bounds_by (c ∷ cs) e n x h = go (nat_eq n c.tag) x h (λ y k. bounds_by cs e.1 n y k)
+    where
+      go : (b : Bool) (x : Either b c.Fields (FieldsAt cs n)) → IsTrue (either b c.form.fits (fits_by cs n) x)
+          → ((y : FieldsAt cs n) → IsTrue (fits_by cs n y) → IsTrue (bounded_by cs n y)) → IsTrue (either b c.form.bounded (bounded_by cs n) x)
+      go true x h k = e.0.0.bounds x h
+      go false x h k = k x h
+
+  -- what is read behind a tag is put so
+  takes_case : (c : Case A) → IsExactCase put c → (s : Input) (x : A) (t : Input) → IsBytes s.rest
+      → read_case c s ≡ Ok (x, t) → TakenBehind put c.tag s x t
+  takes_case c e s x t bytes h =
+      let a = bind_ok (c.form.parse s) (λ y. Ok (c.make y.0, y.1)) (x, t) h in
+      let first = e.0.takes s a.0.0 a.0.1 bytes a.1 in
+      let made : A × Input = (c.make a.0.0, a.0.1) in
+      let same : put (c.make a.0.0) ≡ put_case c a.0.0 = e.1 a.0.0 in
+      subst (λ (y : A × Input). TakenBehind put c.tag s y.0 y.1) (ok_is made (x, t) a.2) (record {
+        tag = rw same refl;
+        taken = record { parts = rw same first.parts; place = rw same first.place; is_fit = rw same first.is_fit; bytes = first.bytes };
+      })
+
+  pub takes_by : (cs : List (Case A)) → AreExact put cs → (n at : ℕ) (s : Input) (x : A) (t : Input)
+      → IsBytes s.rest → read_by cs n at s ≡ Ok (x, t) → TakenBehind put n s x t
+  takes_by [] e n at s x t bytes h = absurd cc
+  takes_by (c ∷ cs) e n at s x t bytes h = go (nat_eq n c.tag) (eqb-true n c.tag) (takes_by cs e.1 n at s x t bytes) h
+    where
+      go : (b : Bool) → (b ≡ true → n ≡ c.tag) → (read_by cs n at s ≡ Ok (x, t) → TakenBehind put n s x t)
+          → (if b then read_case c s else read_by cs n at s) ≡ Ok (x, t) → TakenBehind put n s x t
+      go true q others k = subst (λ m. TakenBehind put m s x t) (sym (q refl)) (takes_case c e.0 s x t bytes k)
+      go false q others k = others k
+
+-- a list of cases is exact where each case is, and each value is made of its tag and fields
+module _ {A : Type 0} (cs : List (Case A)) (fields : A → Filled cs) where
+  pub record IsMade (x : A) : Type 0 where
+    pub value : value_of cs (fields x) ≡ x
+    pub small : IsTrue (nat_lt (put_by cs (fields x)).tag 256)
+
+  module _ (made : (x : A) → IsMade x) (each : AreExact (tags_of cs fields).put cs) where
+    again_of : (y : Filled cs) (rest : List ℕ) (place at : ℕ) → IsTrue (put_by cs y).fits
+        → IsReadFrom (read_by cs (put_by cs y).tag at) (put_by cs y).bytes (value_of cs y) rest place
+    again_of (filled n y) rest place at h = again_by (tags_of cs fields).put cs each n y rest place at h
+
+    bounds_of : (y : Filled cs) → IsTrue (put_by cs y).fits → IsTrue (put_by cs y).bounded
+    bounds_of (filled n y) h = bounds_by (tags_of cs fields).put cs each n y h
+
+    pub exact_tags : IsExactTags (tags_of cs fields)
+    exact_tags = record {
+      small = λ x. ltb-true _ _ (made x).small;
+      again = λ x rest place at h. again_of (fields x) rest place at h
+          ∙ ap (λ (y : A). Ok (y, record { rest = rest; place = place + length (put_by cs (fields x)).bytes })) (made x).value;
+      takes = takes_by (tags_of cs fields).put cs each;
+      bounds = λ x h. bounds_of (fields x) h;
+    }
+
+module _ {A : Type 0} (take : ℕ → ℕ → Input → Parsed A) where
+  -- what is read behind a byte is read with it
+  pub again_numbered : (n : ℕ) (bytes : List ℕ) (x : A) (rest : List ℕ) (place : ℕ) → n < 256
+      → IsReadFrom (take n place) bytes x rest (place + 1) → IsReadFrom (numbered take) (number_bytes w8 n ++ bytes) x rest place
+  again_numbered n bytes x rest place lt h =
+      let first = number_bytes w8 n in
+      let regrouped : (first ++ bytes) ++ rest ≡ first ++ (bytes ++ rest) = append_assoc first bytes rest in
+      let places : place + 1 + length bytes ≡ place + length (first ++ bytes) = omega (arith, length-append first bytes, wide8.len n) in
+      ap (λ (r : List ℕ). numbered take (record { rest = r; place = place })) regrouped
+      ∙ rw (number_again w8 (2 ^ 8) wide8 n (bytes ++ rest) place lt, h) (ap (λ (k : ℕ). Ok (x, record { rest = rest; place = k })) places)
+
+  -- the byte, and the input behind it
+  pub record Numbered (s : Input) (x : A) (t : Input) : Type 0 where
+    pub number : ℕ
+    pub next : Input
+    pub first : Taken (number_bytes w8) (λ n. ltb n (2 ^ 8)) s number next
+    pub others : take number s.place next ≡ Ok (x, t)
+
+  pub takes_numbered : (s : Input) (x : A) (t : Input) → IsBytes s.rest → numbered take s ≡ Ok (x, t) → Numbered s x t
+  takes_numbered s x t bytes e =
+      let a = bind_ok (located (number_at w8 s)) (λ n. take n.0 s.place n.1) (x, t) e in
+      record { number = a.0.0; next = a.0.1; first = number_taken w8 (2 ^ 8) wide8 s a.0.0 a.0.1 bytes a.1; others = a.2 }
+
+-- a byte, and what is taken behind it
+pub taken_behind : {A : Type 0} (spell : A → List ℕ) (fits : A → Bool) (n : ℕ) (s u : Input) (x : A) (t : Input)
+    → Taken (number_bytes w8) (λ n. ltb n (2 ^ 8)) s n u → Taken spell fits u x t → Taken (λ a. number_bytes w8 n ++ spell a) fits s x t
+taken_behind spell fits n s u x t first others = record {
+  parts = first.parts ∙ ap (λ (r : List ℕ). number_bytes w8 n ++ r) others.parts ∙ sym (append_assoc (number_bytes w8 n) (spell x) t.rest);
+  place = omega (arith, first.place, others.place, length-append (number_bytes w8 n) (spell x));
+  is_fit = others.is_fit;
+  bytes = others.bytes;
 }
 
-module _ {A B : Type 0} (f : Form A) (c : Cases B) (p : IsExact f) (q : IsExactCases c) where
-  or_again : (x : A ⊎ B) (rest : List ℕ) (place at : ℕ) → IsTrue ((f or c).fits x) → (f or c).parse ((f or c).index x) at (record { rest = (f or c).spell x ++ rest; place = place }) ≡ Ok (x, record { rest = rest; place = place + length ((f or c).spell x) })
-  or_again (inl a) rest place at h = rw (p.again a rest place h) refl
-  or_again (inr b) rest place at h = rw (q.again b rest place at h) refl
-
-  or_takes : (n at : ℕ) (s : Input) (x : A ⊎ B) (t : Input) → IsBytes s.rest → (f or c).parse n at s ≡ Ok (x, t) → ((f or c).index x ≡ n) × Taken (f or c).spell (f or c).fits s x t
-  or_takes zero at s x t bytes e =
-      let a = bind_ok (f.parse s) (λ x. Ok (inl x.0, x.1)) (x, t) e in
-      let first = p.takes s a.0.0 a.0.1 bytes a.1 in
-      let made : (A ⊎ B) × Input = (inl a.0.0, a.0.1) in
-      subst (λ (y : (A ⊎ B) × Input). ((f or c).index y.0 ≡ 0) × Taken (f or c).spell (f or c).fits s y.0 y.1) (ok_is made (x, t) a.2) (refl, record { parts = first.parts; place = first.place; is_fit = first.is_fit; bytes = first.bytes })
-  or_takes (suc n) at s x t bytes e =
-      let a = bind_ok (c.parse n at s) (λ x. Ok (inr x.0, x.1)) (x, t) e in
-      let first = q.takes n at s a.0.0 a.0.1 bytes a.1 in
-      let made : (A ⊎ B) × Input = (inr a.0.0, a.0.1) in
-      subst (λ (y : (A ⊎ B) × Input). ((f or c).index y.0 ≡ suc n) × Taken (f or c).spell (f or c).fits s y.0 y.1) (ok_is made (x, t) a.2) (ap suc first.0, record { parts = first.1.parts; place = first.1.place; is_fit = first.1.is_fit; bytes = first.1.bytes })
-
-  or_beyond : (n at : ℕ) (s : Input) → (f or c).count ≤ n → (f or c).parse n at s ≡ Err at
-  or_beyond zero at s h = absurd (omega (arith, h))
-  or_beyond (suc n) at s h = rw (q.beyond n at s (omega (arith, h))) refl
-
-  or_bounds : (x : A ⊎ B) → IsTrue ((f or c).fits x) → IsTrue ((f or c).bounded x)
-  or_bounds (inl a) h = p.bounds a h
-  or_bounds (inr b) h = q.bounds b h
-
-  pub exact_or : IsExactCases (f or c)
-  exact_or = record { again = or_again; takes = or_takes; beyond = or_beyond; bounds = or_bounds }
-
-module _ {A : Type 0} (c : Cases A) (q : IsExactCases c) where
-  tagged_again : (x : A) (rest : List ℕ) (place : ℕ) → IsTrue ((tagged c).fits x) → (tagged c).parse (record { rest = (tagged c).spell x ++ rest; place = place }) ≡ Ok (x, record { rest = rest; place = place + length ((tagged c).spell x) })
-  tagged_again x rest place h =
-      let b = and_parts (ltb (suc (c.index x)) 256) (c.fits x) h in
-      let tag = number_bytes w8 (suc (c.index x)) in
-      let regrouped : (tag ++ c.spell x) ++ rest ≡ tag ++ (c.spell x ++ rest) = append_assoc tag (c.spell x) rest in
-      let places : place + 1 + length (c.spell x) ≡ place + length (tag ++ c.spell x) = omega (arith, length-append tag (c.spell x), wide8.len (suc (c.index x))) in
-      ap (λ (r : List ℕ). (tagged c).parse (record { rest = r; place = place })) regrouped
-      ∙ rw (number_again w8 (2 ^ 8) wide8 (suc (c.index x)) (c.spell x ++ rest) place (ltb-true _ _ b.0), q.again x rest (place + 1) place b.1) (ap (λ (k : ℕ). Ok (x, record { rest = rest; place = k })) places)
-
-  by_tag_takes : (n at : ℕ) (s : Input) (x : A) (t : Input) → IsBytes s.rest → by_tag c n at s ≡ Ok (x, t) → (suc (c.index x) ≡ n) × Taken c.spell c.fits s x t
-  by_tag_takes zero at s x t bytes e = absurd cc
-  by_tag_takes (suc n) at s x t bytes e = let r = q.takes n at s x t bytes e in (ap suc r.0, r.1)
-
+module _ {A : Type 0} (c : Tags A) (q : IsExactTags c) where
   tagged_takes : (s : Input) (x : A) (t : Input) → IsBytes s.rest → (tagged c).parse s ≡ Ok (x, t) → Taken (tagged c).spell (tagged c).fits s x t
   tagged_takes s x t bytes e =
-      let a = bind_ok (located (number_at w8 s)) (λ n. by_tag c n.0 s.place n.1) (x, t) e in
-      let first = number_taken w8 (2 ^ 8) wide8 s a.0.0 a.0.1 bytes a.1 in
-      let body = by_tag_takes a.0.0 s.place a.0.1 x t first.bytes a.2 in
-      let tag = number_bytes w8 (suc (c.index x)) in
-      let tagged_so : number_bytes w8 a.0.0 ≡ tag = ap (number_bytes w8) (sym body.0) in
+      let a = takes_numbered c.take s x t bytes e in
+      let body = q.takes a.number s.place a.next x t a.first.bytes a.others in
+      let all = taken_behind (λ a. (c.put a).bytes) (λ a. (c.put a).fits) a.number s a.next x t a.first body.taken in
+      let same : number_bytes w8 a.number ≡ number_bytes w8 (c.put x).tag = ap (number_bytes w8) (sym body.tag) in
       record {
-        parts = first.parts ∙ ap (λ (r : List ℕ). number_bytes w8 a.0.0 ++ r) body.1.parts ∙ sym (append_assoc (number_bytes w8 a.0.0) (c.spell x) t.rest) ∙ ap (λ (z : List ℕ). (z ++ c.spell x) ++ t.rest) tagged_so;
-        place = omega (arith, first.place, body.1.place, length-append tag (c.spell x), wide8.len (suc (c.index x)), wide8.len a.0.0);
-        is_fit = and_from (ltb (suc (c.index x)) 256) (c.fits x) (lt-ltb _ _ (omega (arith, body.0, ltb-true _ _ first.is_fit))) body.1.is_fit;
-        bytes = body.1.bytes;
+        parts = all.parts ∙ ap (λ (z : List ℕ). (z ++ (c.put x).bytes) ++ t.rest) same;
+        place = all.place ∙ ap (λ (z : List ℕ). s.place + length (z ++ (c.put x).bytes)) same;
+        is_fit = all.is_fit;
+        bytes = all.bytes;
       }
 
   pub exact_tagged : IsExact (tagged c)
-  exact_tagged = record { again = tagged_again; takes = tagged_takes; bounds = λ x h. q.bounds x (and_parts (ltb (suc (c.index x)) 256) (c.fits x) h).1 }
+  exact_tagged = record {
+    again = λ x rest place h. again_numbered c.take (c.put x).tag (c.put x).bytes x rest place (q.small x) (q.again x rest (place + 1) place h);
+    takes = tagged_takes;
+    bounds = q.bounds;
+  }
 
-  -- a tag that no case has
-  pub no_tag : (n at : ℕ) (s : Input) → (n ≡ 0) ⊎ (c.count < n) → by_tag c n at s ≡ Err at
-  no_tag zero at s h = refl
-  no_tag (suc n) at s h = elim h [ inl e ↦ absurd (omega (arith, e)) | inr lt ↦ q.beyond n at s (omega (arith, lt)) ]
+pub exact_sum : {A : Type 0} (cs : List (Case A)) (fields : A → Filled cs) → ((x : A) → IsMade cs fields x)
+    → AreExact (tags_of cs fields).put cs → IsExact (sum_of cs fields)
+exact_sum cs fields made each = exact_tagged _ (exact_tags cs fields made each)
 
 -- ---- what every form has
 
