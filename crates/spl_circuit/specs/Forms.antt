@@ -1,10 +1,11 @@
 -- The byte forms of definitions and acts (docs/RULES.md, Byte forms).
-use Rattle.std.specs.Prelude.{◌≡◌, ℕ, ◌^◌, ◌⊎◌, List, refl}
-use Rattle.std.proofs.Common.{inl, inr, lit<}
+use Rattle.std.specs.Prelude.{◌≡◌, ℕ, ◌^◌, List, [], ◌∷◌, refl}
+use Rattle.std.proofs.Common.{lit<}
 use Rattle.std.specs.Int.{w8, w32}
 use Rattle.spl_base.specs.Ids.{is_node_id, is_circuit_id, is_service_id, is_label}
-use Rattle.spl_base.specs.Form.{Form, IsExact, number, raw, text, ◌&◌, via, list_of, Cases, IsExactCases, no_case, ◌or◌, tagged, nothing}
-use Rattle.spl_base.specs.FormLaws.{wide8, wide32, exact_number, exact_raw, exact_text, exact_and, exact_via, exact_list, exact_nothing, exact_no_case, exact_or, exact_tagged}
+use Rattle.spl_base.specs.Form.{Form, IsExact, number, raw, text, ◌&◌, via, list_of, nothing, Case, case, Filled, filled, sum_of}
+use Rattle.spl_base.specs.FormLaws.{wide8, wide32, exact_number, exact_raw, exact_text, exact_and, exact_via, exact_list, exact_nothing}
+use Rattle.spl_base.specs.FormLaws.{IsMade, exact_sum}
 use Rattle.spl_circuit.specs.declared.definition.Service.{Service}
 use Rattle.spl_circuit.specs.declared.definition.Definition.{Definition}
 use Rattle.spl_circuit.specs.declared.act.ActKind.{ActKind}
@@ -44,38 +45,30 @@ definition =
     (λ d. (d.id, (d.generation, (d.version, (d.management, (d.name, (d.members, d.services)))))))
     (circuit_id & word & byte & label & label & lists)
 
--- the definition of a proposal, and the place of a disband
-abbrev pub Kind : Type 0
-Kind = Definition ⊎ (Unit {0} ⊎ (Unit {0} ⊎ (Unit {0} ⊎ (Unit {0} ⊎ (ℕ ⊎ (ℕ ⊎ (ℕ ⊎ ⊥)))))))
+abbrev pub kinds : List (Case ActKind)
+kinds =
+    case 1 definition (λ d. Propose d)
+    ∷ case 2 nothing (λ _. Accept)
+    ∷ case 3 nothing (λ _. Reject)
+    ∷ case 4 nothing (λ _. Remove)
+    ∷ case 5 nothing (λ _. Disband)
+    ∷ case 6 word (λ place. DisbandAccept place)
+    ∷ case 7 word (λ place. DisbandReject place)
+    ∷ case 8 word (λ place. DisbandRemove place)
+    ∷ []
 
-abbrev pub kind_of : Kind → ActKind
-kind_of (inl d) = Propose d
-kind_of (inr (inl _)) = Accept
-kind_of (inr (inr (inl _))) = Reject
-kind_of (inr (inr (inr (inl _)))) = Remove
-kind_of (inr (inr (inr (inr (inl _))))) = Disband
-kind_of (inr (inr (inr (inr (inr (inl p)))))) = DisbandAccept p
-kind_of (inr (inr (inr (inr (inr (inr (inl p))))))) = DisbandReject p
-kind_of (inr (inr (inr (inr (inr (inr (inr (inl p)))))))) = DisbandRemove p
-kind_of (inr (inr (inr (inr (inr (inr (inr (inr x)))))))) = absurd x
-
-abbrev pub case_of : ActKind → Kind
-case_of (Propose d) = inl d
-case_of Accept = inr (inl tt)
-case_of Reject = inr (inr (inl tt))
-case_of Remove = inr (inr (inr (inl tt)))
-case_of Disband = inr (inr (inr (inr (inl tt))))
-case_of (DisbandAccept p) = inr (inr (inr (inr (inr (inl p)))))
-case_of (DisbandReject p) = inr (inr (inr (inr (inr (inr (inl p))))))
-case_of (DisbandRemove p) = inr (inr (inr (inr (inr (inr (inr (inl p)))))))
-
--- 1 is Propose and is followed by a definition, 2 Accept, 3 Reject, 4 Remove, 5 Disband, and 6 to 8, each followed by the
--- place of a disband, are DisbandAccept, DisbandReject and DisbandRemove
-abbrev pub kinds : Cases Kind
-kinds = definition or nothing or nothing or nothing or nothing or word or word or word or no_case
+abbrev pub kind_fields : ActKind → Filled kinds
+kind_fields (Propose d) = filled 1 d
+kind_fields Accept = filled 2 tt
+kind_fields Reject = filled 3 tt
+kind_fields Remove = filled 4 tt
+kind_fields Disband = filled 5 tt
+kind_fields (DisbandAccept place) = filled 6 place
+kind_fields (DisbandReject place) = filled 7 place
+kind_fields (DisbandRemove place) = filled 8 place
 
 abbrev pub kind : Form ActKind
-kind = via kind_of case_of (tagged kinds)
+kind = sum_of kinds kind_fields
 
 -- node, turn and kind
 abbrev pub act : Form Act
@@ -109,20 +102,33 @@ exact_definition = exact_via _ _ _ (λ _. refl) (λ _. refl)
     (exact_and _ _ exact_circuit_id (exact_and _ _ exact_word (exact_and _ _ exact_byte (exact_and _ _ exact_label (exact_and _ _ exact_label
     (exact_and _ _ (exact_list _ exact_node_id 16 (lit< tt)) (exact_list _ exact_service 16 (lit< tt))))))))
 
-there : (k : ActKind) → kind_of (case_of k) ≡ k
-there (Propose d) = refl
-there k = refl
-
-back : (x : Kind) → case_of (kind_of x) ≡ x
-back (inr (inr (inr (inr (inr (inr (inr (inr x)))))))) = absurd x
-back x = refl
-
-pub exact_kinds : IsExactCases kinds
-exact_kinds = exact_or _ _ exact_definition (exact_or _ _ exact_nothing (exact_or _ _ exact_nothing (exact_or _ _ exact_nothing (exact_or _ _ exact_nothing
-    (exact_or _ _ exact_word (exact_or _ _ exact_word (exact_or _ _ exact_word exact_no_case)))))))
+kind_made : (k : ActKind) → IsMade kinds kind_fields k
+kind_made (Propose d) = record { value = refl; small = refl }
+kind_made k = record { value = refl; small = refl }
 
 pub exact_kind : IsExact kind
-exact_kind = exact_via _ _ _ there back (exact_tagged _ exact_kinds)
+exact_kind = exact_sum kinds kind_fields kind_made (
+  (exact_definition, λ _. refl),
+  (
+    (exact_nothing, λ _. refl),
+    (
+      (exact_nothing, λ _. refl),
+      (
+        (exact_nothing, λ _. refl),
+        (
+          (exact_nothing, λ _. refl),
+          (
+            (exact_word, λ _. refl),
+            (
+              (exact_word, λ _. refl),
+              ((exact_word, λ _. refl), tt),
+            ),
+          ),
+        ),
+      ),
+    ),
+  ),
+)
 
 pub exact_act : IsExact act
 exact_act = exact_via _ _ _ (λ _. refl) (λ _. refl) (exact_and _ _ exact_node_id (exact_and _ _ exact_word exact_kind))
