@@ -14,7 +14,7 @@ use Rattle.spl_command.specs.declared.batch.Batch.{Batch}
 use Rattle.spl_command.specs.Forms.{batch}
 use Rattle.spl_command.specs.Rules.{broken_batch}
 use Rattle.spl_command.proofs.Valid.{bounded_from_valid}
-use Rattle.spl_wire.specs.Changes.{tag_of, bounded_change, change_form}
+use Rattle.spl_wire.specs.Changes.{put_change, change_form}
 use Rattle.spl_base.specs.Booleans.{none_is}
 use Rattle.spl_command.specs.declared.rules.TheConstants.{LONGEST_BATCH}
 use Rattle.spl_wire.specs.declared.change.Change.{Change}
@@ -23,7 +23,6 @@ use Rattle.spl_wire.specs.Grouping.{value_in, meets, breaks_no_rule}
 use Rattle.spl_wire.specs.Bounds.{IsWritable, has_form}
 use Rattle.spl_wire.proofs.Short.{short-definition, short-node_id, short-kind}
 use Rattle.spl_wire.proofs.Small.{short-group, short-batch}
-use Rattle.spl_wire.proofs.Tags.{spelled-admin, spelled-service}
 use Rattle.spl_wire.proofs.Sizes.{size-of}
 
 -- ---- values
@@ -42,21 +41,13 @@ bounded-batch v h = bounded_from_valid v (none_is (broken_batch v) h)
 -- ---- changes
 
 module _ {V : Type 0} (f : Form V) where
-  bounded-fields : (x : GroupChange V) → ((v : V) → value_in x ≡ Some v → IsTrue (f.bounded v)) → IsTrue (bounded_change f x)
+  bounded-fields : (x : GroupChange V) → ((v : V) → value_in x ≡ Some v → IsTrue (f.bounded v)) → IsTrue (put_change f x).bounded
   bounded-fields (Queue v) h = h v refl
   bounded-fields (Refuse v why) h = and_from (f.bounded v) true (h v refl) refl
   bounded-fields (Promise r v) h = h v refl
   bounded-fields (Commit r v) h = h v refl
   bounded-fields (Kept v why) h = and_from (f.bounded v) true (h v refl) refl
   bounded-fields x h = refl
-
-bounded-admin : (x : GroupChange Act) → IsTrue (bounded_change act x) → IsTrue (change_form.bounded (Admin x))
-bounded-admin (Queue v) h = h
-bounded-admin x h = h
-
-bounded-service : (x : GroupChange Batch) → IsTrue (bounded_change batch x) → IsTrue (change_form.bounded (Service x))
-bounded-service (Queue v) h = h
-bounded-service x h = h
 
 -- a change can be written, in at most so many bytes
 pub record IsBrief (most : ℕ) (x : Change) : Type 0 where
@@ -75,14 +66,14 @@ brief-bind d h = record {
 
 pub brief-admin : (x : GroupChange Act) → meets has_form (value_in x) ≡ true → IsBrief 3569 (Admin x)
 brief-admin x h = record {
-  bounded = bounded-admin x (bounded-fields act x (λ v e. bounded-act v (met has_form (value_in x) v h e)));
-  short = rw (spelled-admin x) (short-group act 3551 (tag_of x) 1 x (λ v e. short-act_of v (met has_form (value_in x) v h e)));
+  bounded = bounded-fields act x (λ v e. bounded-act v (met has_form (value_in x) v h e));
+  short = short-group act 3551 1 x (λ v e. short-act_of v (met has_form (value_in x) v h e));
 }
 
 pub brief-service : (x : GroupChange Batch) → breaks_no_rule (value_in x) ≡ true → IsBrief 8210 (Service x)
 brief-service x h = record {
-  bounded = bounded-service x (bounded-fields batch x (λ v e. bounded-batch v (met _ (value_in x) v h e)));
-  short = rw (spelled-service x) (short-group batch LONGEST_BATCH (tag_of x) 2 x (λ v e. short-batch v (met _ (value_in x) v h e)));
+  bounded = bounded-fields batch x (λ v e. bounded-batch v (met _ (value_in x) v h e));
+  short = short-group batch LONGEST_BATCH 2 x (λ v e. short-batch v (met _ (value_in x) v h e));
 }
 
 pub brief-abandon : IsBrief 1 Abandon

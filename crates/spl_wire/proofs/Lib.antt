@@ -4,5 +4,3 @@ pub mod Small
 pub mod Sizes
 pub mod Packs
 pub mod Bounds
-pub mod Tags
-pub mod Written

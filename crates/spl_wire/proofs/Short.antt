@@ -3,7 +3,7 @@ use Rattle.std.proofs.Common.{◌≡◌, ℕ, ◌+◌, ◌*◌, ◌^◌, ◌≤�
 use Rattle.std.proofs.Math.Nat.{mul-le-mul_left}
 use Rattle.std.specs.Int.{Width, w8, w16, w32, w64, byte_len}
 use Rattle.std.specs.List.{flat_map, list_all}
-use Rattle.std.specs.Prelude.{nat_lt, nat_le}
+use Rattle.std.specs.Prelude.{nat_le}
 use Rattle.std.proofs.lemmas.Bool.{leb-true, and_parts}
 use Rattle.spl_base.specs.Form.{Form, number, number_bytes, raw, text, ◌&◌, list_of}
 use Rattle.spl_base.specs.FormLaws.{IsWide, wide8, wide16, wide32, wide64}
@@ -72,9 +72,7 @@ short-definition x h =
     (x.id, (x.generation, (x.version, (x.management, (x.name, (x.members, x.services)))))) h
 
 pub short-kind : IsShort kind 3513
-short-kind (Propose d) h =
-    let b = and_parts (nat_lt 1 256) (definition.fits d) h in
-    omega (arith, short-definition d b.1, wide8.len 1, length-append (number_bytes w8 1) (definition.spell d))
+short-kind (Propose d) h = omega (arith, short-definition d h, wide8.len 1, length-append (number_bytes w8 1) (definition.spell d))
 short-kind Accept h = omega (arith, wide8.len 2, length-append (number_bytes w8 2) [])
 short-kind Reject h = omega (arith, wide8.len 3, length-append (number_bytes w8 3) [])
 short-kind Remove h = omega (arith, wide8.len 4, length-append (number_bytes w8 4) [])

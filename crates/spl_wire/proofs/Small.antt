@@ -16,13 +16,12 @@ use Rattle.spl_command.specs.Forms.{batch}
 use Rattle.spl_command.specs.declared.rules.TheConstants.{LONGEST_BATCH}
 use Rattle.spl_command.specs.Rules.{rules_of, size_of, broken_batch}
 use Rattle.spl_wire.specs.Bodies.{long, reason}
-use Rattle.spl_wire.specs.Changes.{fields_of, fields, tag_of, fits_change, change_form}
+use Rattle.spl_wire.specs.Changes.{put_change, fits_change, change_form}
 use Rattle.spl_wire.specs.Forms.{record_form}
 use Rattle.spl_wire.specs.declared.record.TheConstants.{MOST_CHANGES}
 use Rattle.spl_wire.specs.declared.change.Change.{Change}
 use Rattle.spl_wire.specs.declared.change.Change.TheVariants.{Bind, Admin, Service, Abandon, Purge, Turn, Gone}
 use Rattle.spl_wire.specs.Grouping.{most_bytes, record_of, record_size, value_in, breaks_no_rule, is_lawful, is_small}
-use Rattle.spl_wire.proofs.Tags.{spelled-admin, spelled-service}
 use Rattle.spl_wire.proofs.Short.{short-word, short-long, short-definition, short-act, short-circuit_id, short-reason}
 
 pub short-batch : (b : Batch) → is_none (broken_batch b) ≡ true → length (batch.spell b) ≤ LONGEST_BATCH
@@ -39,7 +38,7 @@ module _ {V : Type 0} (f : Form V) where
   value-fits x v h e = cc
 
   -- the fields are little longer than the value
-  short-fields : (most : ℕ) (x : GroupChange V) → ((v : V) → value_in x ≡ Some v → length (f.spell v) ≤ most) → length ((fields f).spell (fields_of x)) ≤ most + 16
+  short-fields : (most : ℕ) (x : GroupChange V) → ((v : V) → value_in x ≡ Some v → length (f.spell v) ≤ most) → length (put_change f x).bytes ≤ most + 16
   short-fields most (Queue v) s = omega (arith, s v refl)
   short-fields most (Refuse v why) s = omega (arith, s v refl, short-reason why, length-append (f.spell v) (reason.spell why))
   short-fields most (Begin n) s = omega (arith, short-long n)
@@ -50,20 +49,13 @@ module _ {V : Type 0} (f : Form V) where
   short-fields most (Restore n t) s = omega (arith, short-long n, short-long t, length-append (number_bytes w64 n) (number_bytes w64 t))
   short-fields most (Kept v why) s = omega (arith, s v refl, short-reason why, length-append (f.spell v) (reason.spell why))
 
-  pub short-group : (most tag group : ℕ) (x : GroupChange V) → ((v : V) → value_in x ≡ Some v → length (f.spell v) ≤ most) → length (number_bytes w8 tag ++ (number_bytes w8 group ++ (fields f).spell (fields_of x))) ≤ most + 18
-  short-group most tag group x s =
-      let spelled = (fields f).spell (fields_of x) in
-      omega (arith, short-fields most x s, wide8.len tag, wide8.len group, length-append (number_bytes w8 tag) (number_bytes w8 group ++ spelled), length-append (number_bytes w8 group) spelled)
+  pub short-group : (most group : ℕ) (x : GroupChange V) → ((v : V) → value_in x ≡ Some v → length (f.spell v) ≤ most)
+      → length (number_bytes w8 (put_change f x).tag ++ (number_bytes w8 group ++ (put_change f x).bytes)) ≤ most + 18
+  short-group most group x s =
+      let c = put_change f x in
+      omega (arith, short-fields most x s, wide8.len c.tag, wide8.len group, length-append (number_bytes w8 c.tag) (number_bytes w8 group ++ c.bytes), length-append (number_bytes w8 group) c.bytes)
 
 -- ---- all changes
-
-fits-admin : (x : GroupChange Act) → IsTrue (change_form.fits (Admin x)) → IsTrue (fits_change act x)
-fits-admin (Queue v) h = h
-fits-admin x h = h
-
-fits-service : (x : GroupChange Batch) → IsTrue (change_form.fits (Service x)) → IsTrue (fits_change batch x)
-fits-service (Queue v) h = h
-fits-service x h = h
 
 pub lawful-value : (o : Option Batch) (b : Batch) → breaks_no_rule o ≡ true → o ≡ Some b → is_none (broken_batch b) ≡ true
 lawful-value (Some u) b h e = let same : u ≡ b = cc in subst (λ (z : Batch). is_none (broken_batch z) ≡ true) same h
@@ -71,8 +63,8 @@ lawful-value None b h e = cc
 
 short-change : (x : Change) → IsTrue (change_form.fits x) → is_lawful x ≡ true → length (change_form.spell x) ≤ 8210
 short-change (Bind d) h l = omega (arith, short-definition d h, wide8.len 1, length-append (number_bytes w8 1) (definition.spell d))
-short-change (Admin x) h l = rw (spelled-admin x) (omega (arith, short-group act 3551 (tag_of x) 1 x (λ v e. short-act v (value-fits act x v (fits-admin x h) e))))
-short-change (Service x) h l = rw (spelled-service x) (short-group batch LONGEST_BATCH (tag_of x) 2 x (λ v e. short-batch v (lawful-value (value_in x) v l e)))
+short-change (Admin x) h l = omega (arith, short-group act 3551 1 x (λ v e. short-act v (value-fits act x v h e)))
+short-change (Service x) h l = short-group batch LONGEST_BATCH 2 x (λ v e. short-batch v (lawful-value (value_in x) v l e))
 short-change Abandon h l = omega (arith, wide8.len 9, length-append (number_bytes w8 9) [])
 short-change Purge h l = omega (arith, wide8.len 10, length-append (number_bytes w8 10) [])
 short-change (Turn n) h l = omega (arith, short-word n h, wide8.len 13, length-append (number_bytes w8 13) (word.spell n))

@@ -1,12 +1,9 @@
 -- The byte forms of messages and records (docs/RULES.md, Byte forms).
-use Rattle.std.specs.Prelude.{◌≡◌, ℕ, ◌⊎◌, List, refl}
-use Rattle.std.proofs.Common.{inl, inr, lit<}
-use Rattle.spl_base.specs.Form.{Form, IsExact, ◌&◌, via, list_of, no_case, ◌or◌, tagged}
-use Rattle.spl_base.specs.FormLaws.{exact_and, exact_via, exact_list, exact_no_case, exact_or, exact_tagged}
-use Rattle.spl_agree.specs.declared.message.CommitMsg.{CommitMsg}
-use Rattle.spl_circuit.specs.declared.act.Act.{Act}
+use Rattle.std.specs.Prelude.{List, [], ◌∷◌, refl}
+use Rattle.std.proofs.Common.{lit<}
+use Rattle.spl_base.specs.Form.{Form, IsExact, ◌&◌, via, list_of, Case, case, Filled, filled, sum_of}
+use Rattle.spl_base.specs.FormLaws.{exact_and, exact_via, exact_list, IsMade, exact_sum}
 use Rattle.spl_circuit.specs.Forms.{circuit_id, service_id, act, exact_circuit_id, exact_service_id, exact_act}
-use Rattle.spl_command.specs.declared.batch.Batch.{Batch}
 use Rattle.spl_command.specs.Forms.{batch, exact_batch}
 use Rattle.spl_wire.specs.Bodies.{body, exact_body}
 use Rattle.spl_wire.specs.Changes.{change_form, exact_change}
@@ -17,36 +14,29 @@ use Rattle.spl_wire.specs.declared.record.TheConstants.{MOST_CHANGES}
 
 -- ---- messages
 
-abbrev pub Lane : Type 0
-Lane = (List ℕ × CommitMsg Act) ⊎ ((List ℕ × (List ℕ × (List ℕ × CommitMsg Batch))) ⊎ ⊥)
-
-abbrev pub message_of : Lane → Message
-message_of (inl x) = message.Admin x.0 x.1
-message_of (inr (inl x)) = message.Scabbard x.0 x.1.0 x.1.1.0 x.1.1.1
-message_of (inr (inr x)) = absurd x
-
-abbrev pub lane_of : Message → Lane
-lane_of (message.Admin c b) = inl (c, b)
-lane_of (message.Scabbard c s t b) = inr (inl (c, (s, (t, b))))
-
 -- lane 1, the admin group: circuit and body; lane 2, the service group: circuit, sender, recipient and body
+abbrev pub lanes : List (Case Message)
+lanes =
+    case 1 (circuit_id & body act) (λ x. message.Admin x.0 x.1)
+    ∷ case 2 (circuit_id & service_id & service_id & body batch) (λ x. message.Scabbard x.0 x.1.0 x.1.1.0 x.1.1.1)
+    ∷ []
+
+abbrev pub lane_fields : Message → Filled lanes
+lane_fields (message.Admin c b) = filled 1 (c, b)
+lane_fields (message.Scabbard c s t b) = filled 2 (c, (s, (t, b)))
+
 abbrev pub message_form : Form Message
-message_form = via message_of lane_of (tagged ((circuit_id & body act) or (circuit_id & service_id & service_id & body batch) or no_case))
+message_form = sum_of lanes lane_fields
 
-there : (m : Message) → message_of (lane_of m) ≡ m
-there (message.Admin c b) = refl
-there (message.Scabbard c s t b) = refl
-
-back : (x : Lane) → lane_of (message_of x) ≡ x
-back (inl x) = refl
-back (inr (inl x)) = refl
-back (inr (inr x)) = absurd x
+lane_made : (m : Message) → IsMade lanes lane_fields m
+lane_made (message.Admin c b) = record { value = refl; small = refl }
+lane_made (message.Scabbard c s t b) = record { value = refl; small = refl }
 
 pub exact_message : IsExact message_form
-exact_message = exact_via message_of lane_of _ there back (exact_tagged _ (
-    exact_or _ _ (exact_and _ _ exact_circuit_id (exact_body _ exact_act))
-    (exact_or _ _ (exact_and _ _ exact_circuit_id (exact_and _ _ exact_service_id (exact_and _ _ exact_service_id (exact_body _ exact_batch))))
-    exact_no_case)))
+exact_message = exact_sum lanes lane_fields lane_made (
+  (exact_and _ _ exact_circuit_id (exact_body _ exact_act), λ _. refl),
+  ((exact_and _ _ exact_circuit_id (exact_and _ _ exact_service_id (exact_and _ _ exact_service_id (exact_body _ exact_batch))), λ _. refl), tt),
+)
 
 -- ---- records
 

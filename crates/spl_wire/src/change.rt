@@ -49,11 +49,13 @@ fn take_refused<V: Field>(alloc: Global, r: &mut Reader) -> Result<(V, Reason), 
 impl Change {
     ghost use Rattle.std.specs.Prelude.{◌≡◌, ◌++◌, IsTrue, OnOk};
     ghost use Rattle.spl_base.specs.Form.{Reads};
-    ghost use Rattle.spl_wire.specs.Changes.{tag_of, fields, fields_of, group_change, fits_change, bounded_change, behind_group, behind_tag};
+    ghost use Rattle.spl_base.specs.Form.{numbered, number_bytes};
+    ghost use Rattle.std.specs.Int.{w8};
+    ghost use Rattle.spl_wire.specs.Changes.{group_tags, put_change, of_group};
 
     /// The tag of a change of a group.
     fn tag<V: Field>(change: &GroupChange<V>) -> u8
-        ensures { result ≡ tag_of change.now }
+        ensures { result ≡ (put_change V.form change.now).tag }
     {
         match change {
             GroupChange::Queue(_) => 2,
@@ -70,9 +72,9 @@ impl Change {
 
     /// Appends the fields of a change of a group.
     fn put_fields<V: Field>(change: &GroupChange<V>, w: &mut Writer) -> Result<(), AllocError>
-        requires { IsTrue (bounded_change V.form change.now) }
-        ensures ok { OnOk result (w.new ≡ w.old ++ (fields V.form).spell (fields_of change.now)) }
-        ensures fits { OnOk result (IsTrue (fits_change V.form change.now)) }
+        requires { IsTrue (put_change V.form change.now).bounded }
+        ensures ok { OnOk result (w.new ≡ w.old ++ (put_change V.form change.now).bytes) }
+        ensures fits { OnOk result (IsTrue (put_change V.form change.now).fits) }
     {
         match change {
             GroupChange::Queue(value) => value.put_parts(w),
@@ -93,9 +95,9 @@ impl Change {
         change: &GroupChange<V>,
         w: &mut Writer,
     ) -> Result<(), AllocError>
-        requires { IsTrue (bounded_change V.form change.now) }
-        ensures ok { OnOk result (w.new ≡ w.old ++ group_change V.form group change.now) }
-        ensures fits { OnOk result (IsTrue (fits_change V.form change.now)) }
+        requires { IsTrue (put_change V.form change.now).bounded }
+        ensures ok { let c = put_change V.form change.now in OnOk result (w.new ≡ w.old ++ (number_bytes w8 c.tag ++ (number_bytes w8 group ++ c.bytes))) }
+        ensures fits { OnOk result (IsTrue (put_change V.form change.now).fits) }
     {
         put_two(&Change::tag(change), &group, w)?;
         Change::put_fields(change, w)
@@ -107,7 +109,7 @@ impl Change {
         alloc: Global,
         r: &mut Reader,
     ) -> Result<GroupChange<V>, Malformed>
-        ensures { Reads (λ x. x) result r.new (behind_group V.form tag r.old) }
+        ensures { Reads (λ x. x) result r.new ((group_tags V.form).take tag r.old.place r.old) }
     {
         let at = r.place();
         match tag {
@@ -144,7 +146,7 @@ impl Change {
 
     /// Reads the group of a change with this tag, and its fields.
     fn take_group(tag: u8, alloc: Global, r: &mut Reader) -> Result<Change, Malformed>
-        ensures { Reads (λ x. x) result r.new (behind_tag tag r.old) }
+        ensures { Reads (λ x. x) result r.new (numbered (of_group tag) r.old) }
     {
         let at = r.place();
         match u8::take_parts(alloc, r)? {
