@@ -1,11 +1,9 @@
 -- The byte form of proofs (docs/RULES.md, Byte forms).
-use Rattle.std.specs.Prelude.{◌≡◌, ℕ, ◌^◌, zero, suc, Bool, true, ◌&&◌, List, [], ◌∷◌, ◌++◌, length, Result, Ok, Err, nat_lt, nat_le, if◌then◌else◌, refl}
-use Rattle.std.proofs.Common.{lit<}
+use Rattle.std.specs.Prelude.{ℕ, Bool, true, ◌&&◌, List, [], ◌∷◌, ◌++◌, length, Result, Ok, Err, nat_lt, nat_le, if◌then◌else◌}
 use Rattle.std.specs.List.{flat_map, list_all}
 use Rattle.std.specs.Int.{w8}
 use Rattle.spl_base.specs.Input.{Input, ◌>>=◌, number_at}
-use Rattle.spl_base.specs.Form.{Form, Parsed, IsExact, located, number_bytes, raw, string, ◌&◌, via, items_at}
-use Rattle.spl_base.specs.FormLaws.{exact_raw, exact_string, exact_and, exact_via}
+use Rattle.spl_base.specs.Form.{Form, located, number_bytes, raw, string, ◌&◌, via, items_at, nothing, Case, case, Filled, filled, sum_of}
 use Rattle.spl_state.specs.declared.address.Address.{Address}
 use Rattle.spl_proof.specs.declared.proof.TheConstants.{MOST_LEVELS, LONGEST_VALUE}
 use Rattle.spl_proof.specs.declared.proof.End.{End}
@@ -49,32 +47,15 @@ levels = few_of MOST_LEVELS level
 abbrev pub leaf : Form (Address × List ℕ)
 leaf = via (λ xs. record { 0 = xs }) (λ a. a.0) (raw 35 any_bytes) & string LONGEST_VALUE
 
-abbrev pub spell_end : End → List ℕ
-spell_end Empty = number_bytes w8 0
-spell_end (Leaf b v) = number_bytes w8 1 ++ leaf.spell (b, v)
+abbrev pub ends : List (Case End)
+ends = case 0 nothing (λ _. Empty) ∷ case 1 leaf (λ x. Leaf x.0 x.1) ∷ []
 
--- by the tag, and where it stands
-abbrev pub end_by : ℕ → ℕ → Input → Parsed End
-end_by zero at s = Ok (Empty, s)
-end_by (suc zero) at s = leaf.parse s >>= λ x. Ok (Leaf x.0.0 x.0.1, x.1)
-end_by (suc (suc n)) at s = Err at
+abbrev pub end_fields : End → Filled ends
+end_fields Empty = filled 0 tt
+end_fields (Leaf b v) = filled 1 (b, v)
 
-abbrev pub fits_end : End → Bool
-fits_end Empty = true
-fits_end (Leaf b v) = leaf.fits (b, v)
-
-abbrev pub bounded_end : End → Bool
-bounded_end Empty = true
-bounded_end (Leaf b v) = nat_le (length v) LONGEST_VALUE
-
--- byte 00, or byte 01 and the entry
 abbrev pub end : Form End
-end = record {
-  spell = spell_end;
-  parse = λ s. located (number_at w8 s) >>= λ n. end_by n.0 s.place n.1;
-  fits = fits_end;
-  bounded = bounded_end;
-}
+end = sum_of ends end_fields
 
 abbrev pub proof : Form Proof
 proof = via (λ x. record { levels = x.0; end = x.1 }) (λ p. (p.levels, p.end)) (levels & end)
