@@ -173,21 +173,9 @@ abbrev pub by_case : {A B : Type 0} → ((c : Case A) → c.Fields → B) → (c
 by_case f [] n x = absurd x
 by_case f (c ∷ cs) n x = either (nat_eq n c.tag) (f c) (by_case f cs n) x
 
-abbrev pub spell_by : {A : Type 0} (cs : List (Case A)) (n : ℕ) → FieldsAt cs n → List ℕ
-spell_by cs n x = by_case (λ c. c.form.spell) cs n x
-
-abbrev pub fits_by : {A : Type 0} (cs : List (Case A)) (n : ℕ) → FieldsAt cs n → Bool
-fits_by cs n x = by_case (λ c. c.form.fits) cs n x
-
-abbrev pub bounded_by : {A : Type 0} (cs : List (Case A)) (n : ℕ) → FieldsAt cs n → Bool
-bounded_by cs n x = by_case (λ c. c.form.bounded) cs n x
-
-abbrev pub made_by : {A : Type 0} (cs : List (Case A)) (n : ℕ) → FieldsAt cs n → A
-made_by cs n x = by_case (λ c. c.make) cs n x
-
 -- the value that they make
 abbrev pub value_of : {A : Type 0} (cs : List (Case A)) → Filled cs → A
-value_of cs (filled n x) = made_by cs n x
+value_of cs (filled n x) = by_case (λ c. c.make) cs n x
 
 abbrev pub read_case : {A : Type 0} → Case A → Input → Parsed A
 read_case c s = c.form.parse s >>= λ x. Ok (c.make x.0, x.1)
@@ -213,7 +201,7 @@ abbrev pub put_case : {A : Type 0} (c : Case A) → c.Fields → Tagged
 put_case c x = record { tag = c.tag; bytes = c.form.spell x; fits = c.form.fits x; bounded = c.form.bounded x }
 
 abbrev pub put_by : {A : Type 0} (cs : List (Case A)) → Filled cs → Tagged
-put_by cs (filled n x) = record { tag = n; bytes = spell_by cs n x; fits = fits_by cs n x; bounded = bounded_by cs n x }
+put_by cs (filled n x) = record (by_case put_case cs n x) { tag = n }
 
 -- how the values of a type are spelled and read by their tags
 pub record Tags (A : Type 0) : Type 0 where
@@ -256,10 +244,18 @@ abbrev pub IsReadFrom : {A : Type 0} → (Input → Parsed A) → List ℕ → A
 IsReadFrom parse bytes x rest place =
     parse (record { rest = bytes ++ rest; place = place }) ≡ Ok (x, record { rest = rest; place = place + length bytes })
 
--- what was spelled is read, whatever follows it; what is read was spelled so; what has a spelling is within its bounds
+-- a value that has a spelling is read from it, whatever follows
+abbrev pub IsReadBack : {A : Type 0} → Form A → A → List ℕ → ℕ → Type 0
+IsReadBack f x rest place = IsTrue (f.fits x) → IsReadFrom f.parse (f.spell x) x rest place
+
+-- what is read was spelled so
+abbrev pub IsSpelledSo : {A : Type 0} → Form A → Input → A → Input → Type 0
+IsSpelledSo f s x t = IsBytes s.rest → f.parse s ≡ Ok (x, t) → Taken f.spell f.fits s x t
+
+-- both hold, and what has a spelling is within its bounds
 pub record IsExact {A : Type 0} (f : Form A) : Type 0 where
-  pub again : (x : A) (rest : List ℕ) (place : ℕ) → IsTrue (f.fits x) → IsReadFrom f.parse (f.spell x) x rest place
-  pub takes : (s : Input) (x : A) (t : Input) → IsBytes s.rest → f.parse s ≡ Ok (x, t) → Taken f.spell f.fits s x t
+  pub again : (x : A) (rest : List ℕ) (place : ℕ) → IsReadBack f x rest place
+  pub takes : (s : Input) (x : A) (t : Input) → IsSpelledSo f s x t
   pub bounds : (x : A) → IsTrue (f.fits x) → IsTrue (f.bounded x)
 
 -- x was read behind the tag n

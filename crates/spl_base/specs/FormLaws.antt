@@ -1,9 +1,9 @@
 -- The laws of forms, one for each way to make a form.
-use Rattle.std.proofs.Common.{◌≡◌, ℕ, zero, suc, ◌+◌, ◌%◌, ◌^◌, ◌<◌, ◌≤◌, Bool, true, false, cond, ltb, leb, ◌&&◌, IsTrue, List, [], ◌∷◌, ◌++◌, length, take, drop, Result, Ok, Err, refl, sym, ap, subst, ◌∙◌, append_assoc, arith, inl, inr, lit<}
-use Rattle.std.specs.Prelude.{nat_eq, nat_lt, if◌then◌else◌}
+use Rattle.std.proofs.Common.{◌≡◌, ℕ, zero, suc, ◌+◌, ◌%◌, ◌^◌, ◌<◌, ◌≤◌, Bool, true, false, cond, ltb, leb, ◌&&◌, IsTrue, List, [], ◌∷◌, ◌++◌, length, take}
+use Rattle.std.proofs.Common.{drop, Result, Ok, Err, refl, sym, ap, subst, ◌∙◌, append_assoc, arith, inl, inr, lit<}
 use Rattle.std.specs.List.{flat_map, list_all}
 use Rattle.std.specs.Int.{Width, w8, w16, w32, w64, byte_len, from_be_bytes}
-use Rattle.std.proofs.lemmas.Bool.{and_parts, and_from, cases_lt, eqb-true, ltb-false, ltb-true, le-ltb, lt-ltb, leb-true, le-leb}
+use Rattle.std.proofs.lemmas.Bool.{and_parts, and_from, cases_lt, ltb-false, ltb-true, le-ltb, lt-ltb, leb-true, le-leb}
 pub use Rattle.std.proofs.lemmas.Bool.{and_parts as both_true, and_from as and_true}
 use Rattle.std.proofs.lemmas.List.{take_at, drop_at, take-append-drop, length-append, length-take, get_or-drop, get_or-take, get_or_past}
 use Rattle.std.proofs.lemmas.List.Concat.{flat_map-cons}
@@ -11,9 +11,10 @@ use Rattle.std.proofs.lemmas.Nat.{be_bytes_2, be_bytes_4, be_bytes_8, from_be_by
 use Rattle.spl_base.specs.declared.fault.FieldFault.{FieldFault}
 use Rattle.spl_base.specs.declared.fault.FieldFault.TheVariants.{Short, TooLong}
 use Rattle.spl_base.specs.Input.{Input, ◌>>=◌, advanced, raw_at, number_at, sized_at}
-use Rattle.spl_base.specs.Form.{Form, Parsed, located, number, number_bytes, raw, sized, text, counted, string, flag, flag_of, ◌&◌, via, items_at, list_of, nothing}
-use Rattle.spl_base.specs.Form.{Case, put_case, read_case, Either, either, FieldsAt, Filled, spell_by, fits_by, bounded_by, made_by, read_by, filled, put_by, value_of, Tagged, Tags, tags_of, numbered, tagged, sum_of}
-use Rattle.spl_base.specs.Form.{IsBytes, Taken, IsReadFrom, IsExact, TakenBehind, IsExactTags, IsExactCase, AreExact}
+use Rattle.spl_base.specs.Form.{Form, located, number, number_bytes, raw, sized, text, counted, string, flag, flag_of}
+use Rattle.spl_base.specs.Form.{◌&◌, via, items_at, list_of, nothing}
+use Rattle.spl_base.specs.Form.{IsBytes, Taken, IsReadBack, IsSpelledSo, IsExact}
+use Rattle.spl_base.specs.Front.{NoneBeginsAnother}
 
 -- ---- tests
 
@@ -51,15 +52,17 @@ IsBytes-take n bytes h i =
 -- ---- one after the other
 
 module _ {A B : Type 0} (f : Form A) (g : Form B) (p : IsExact f) (q : IsExact g) where
-  and_again : (x : A × B) (rest : List ℕ) (place : ℕ) → IsTrue ((f & g).fits x) → (f & g).parse (record { rest = (f & g).spell x ++ rest; place = place }) ≡ Ok (x, record { rest = rest; place = place + length ((f & g).spell x) })
+  and_again : (x : A × B) (rest : List ℕ) (place : ℕ) → IsReadBack (f & g) x rest place
   and_again x rest place h =
       let b = and_parts (f.fits x.0) (g.fits x.1) h in
       let regrouped : (f.spell x.0 ++ g.spell x.1) ++ rest ≡ f.spell x.0 ++ (g.spell x.1 ++ rest) = append_assoc (f.spell x.0) (g.spell x.1) rest in
-      let places : place + length (f.spell x.0) + length (g.spell x.1) ≡ place + length (f.spell x.0 ++ g.spell x.1) = omega (arith, length-append (f.spell x.0) (g.spell x.1)) in
+      let places : place + length (f.spell x.0) + length (g.spell x.1) ≡ place + length (f.spell x.0 ++ g.spell x.1)
+      = omega (arith, length-append (f.spell x.0) (g.spell x.1)) in
       ap (λ (r : List ℕ). (f & g).parse (record { rest = r; place = place })) regrouped
-      ∙ rw (p.again x.0 (g.spell x.1 ++ rest) place b.0, q.again x.1 rest (place + length (f.spell x.0)) b.1) (ap (λ (n : ℕ). Ok (x, record { rest = rest; place = n })) places)
+      ∙ rw (p.again x.0 (g.spell x.1 ++ rest) place b.0, q.again x.1 rest (place + length (f.spell x.0)) b.1)
+      (ap (λ (n : ℕ). Ok (x, record { rest = rest; place = n })) places)
 
-  and_takes : (s : Input) (x : A × B) (t : Input) → IsBytes s.rest → (f & g).parse s ≡ Ok (x, t) → Taken (f & g).spell (f & g).fits s x t
+  and_takes : (s : Input) (x : A × B) (t : Input) → IsSpelledSo (f & g) s x t
   and_takes s x t bytes e =
       let a = bind_ok (f.parse s) (λ a. g.parse a.1 >>= λ b. Ok ((a.0, b.0), b.1)) (x, t) e in
       let b = bind_ok (g.parse a.0.1) (λ b. Ok ((a.0.0, b.0), b.1)) (x, t) a.2 in
@@ -74,23 +77,29 @@ module _ {A B : Type 0} (f : Form A) (g : Form B) (p : IsExact f) (q : IsExact g
       })
 
   pub exact_and : IsExact (f & g)
-  exact_and = record { again = and_again; takes = and_takes; bounds = λ x h. let b = and_parts (f.fits x.0) (g.fits x.1) h in and_from (f.bounded x.0) (g.bounded x.1) (p.bounds x.0 b.0) (q.bounds x.1 b.1) }
+  exact_and = record {
+    again = and_again;
+    takes = and_takes;
+    bounds = λ x h. let b = and_parts (f.fits x.0) (g.fits x.1) h in and_from (f.bounded x.0) (g.bounded x.1) (p.bounds x.0 b.0) (q.bounds x.1 b.1);
+  }
 
 -- ---- another type
 
 module _ {A B : Type 0} (to : A → B) (from : B → A) (f : Form A) (there : (b : B) → to (from b) ≡ b) (back : (a : A) → from (to a) ≡ a) (p : IsExact f) where
-  via_takes : (s : Input) (x : B) (t : Input) → IsBytes s.rest → (via to from f).parse s ≡ Ok (x, t) → Taken (via to from f).spell (via to from f).fits s x t
+  via_takes : (s : Input) (x : B) (t : Input) → IsSpelledSo (via to from f) s x t
   via_takes s x t bytes e =
       let a = bind_ok (f.parse s) (λ x. Ok (to x.0, x.1)) (x, t) e in
       let first = p.takes s a.0.0 a.0.1 bytes a.1 in
       let same : a.0.0 ≡ from (to a.0.0) = sym (back a.0.0) in
       let made : B × Input = (to a.0.0, a.0.1) in
       let moved : Taken f.spell f.fits s (from (to a.0.0)) a.0.1 = subst (λ (z : A). Taken f.spell f.fits s z a.0.1) same first in
-      subst (λ (y : B × Input). Taken (via to from f).spell (via to from f).fits s y.0 y.1) (ok_is made (x, t) a.2) (record { parts = moved.parts; place = moved.place; is_fit = moved.is_fit; bytes = moved.bytes })
+      subst (λ (y : B × Input). Taken (via to from f).spell (via to from f).fits s y.0 y.1) (ok_is made (x, t) a.2)
+      (record { parts = moved.parts; place = moved.place; is_fit = moved.is_fit; bytes = moved.bytes })
 
   pub exact_via : IsExact (via to from f)
   exact_via = record {
-    again = λ x rest place h. rw (p.again (from x) rest place h) (ap (λ (b : B). Ok (b, record { rest = rest; place = place + length (f.spell (from x)) })) (there x));
+    again = λ x rest place h. rw (p.again (from x) rest place h)
+        (ap (λ (b : B). Ok (b, record { rest = rest; place = place + length (f.spell (from x)) })) (there x));
     takes = via_takes;
     bounds = λ x h. p.bounds (from x) h;
   }
@@ -155,7 +164,8 @@ taken_ok true e x y h = absurd cc
 taken_ok false e x y h = (refl, cc)
 
 module _ (w : Width) (limit : ℕ) (wide : IsWide w limit) where
-  pub number_again : (n : ℕ) (rest : List ℕ) (place : ℕ) → n < limit → number_at w (record { rest = number_bytes w n ++ rest; place = place }) ≡ Ok (n, record { rest = rest; place = place + byte_len w })
+  pub number_again : (n : ℕ) (rest : List ℕ) (place : ℕ) → n < limit → number_at w (record { rest = number_bytes w n ++ rest; place = place })
+      ≡ Ok (n, record { rest = rest; place = place + byte_len w })
   number_again n rest place lt =
       let len = wide.len n in
       let long : ltb (length (number_bytes w n ++ rest)) (byte_len w) ≡ false = le-ltb _ _ (omega (arith, length-append (number_bytes w n) rest)) in
@@ -177,7 +187,8 @@ module _ (w : Width) (limit : ℕ) (wide : IsWide w limit) where
 
   pub exact_number : IsExact (number w limit)
   exact_number = record {
-    again = λ n rest place h. ap located (number_again n rest place (ltb-true _ _ h)) ∙ ap (λ (k : ℕ). Ok (n, record { rest = rest; place = place + k })) (sym (wide.len n));
+    again = λ n rest place h. ap located (number_again n rest place (ltb-true _ _ h))
+        ∙ ap (λ (k : ℕ). Ok (n, record { rest = rest; place = place + k })) (sym (wide.len n));
     takes = number_taken;
     bounds = λ n h. refl;
   }
@@ -185,12 +196,13 @@ module _ (w : Width) (limit : ℕ) (wide : IsWide w limit) where
 -- ---- bytes
 
 module _ (n : ℕ) (p : List ℕ → Bool) where
-  raw_again : (xs rest : List ℕ) (place : ℕ) → length xs ≡ n → raw_at n (record { rest = xs ++ rest; place = place }) ≡ Ok (xs, record { rest = rest; place = place + n })
+  raw_again : (xs rest : List ℕ) (place : ℕ) → length xs ≡ n → raw_at n (record { rest = xs ++ rest; place = place })
+      ≡ Ok (xs, record { rest = rest; place = place + n })
   raw_again xs rest place len =
       let long : ltb (length (xs ++ rest)) n ≡ false = le-ltb _ _ (omega (arith, length-append xs rest)) in
       rw (long, take_at xs rest n len, drop_at xs rest n len) refl
 
-  raw_spelled : (xs rest : List ℕ) (place : ℕ) → IsTrue ((raw n p).fits xs) → (raw n p).parse (record { rest = xs ++ rest; place = place }) ≡ Ok (xs, record { rest = rest; place = place + length xs })
+  raw_spelled : (xs rest : List ℕ) (place : ℕ) → IsReadBack (raw n p) xs rest place
   raw_spelled xs rest place h =
       let b = and_parts (leb n (length xs) && leb (length xs) n) (p xs) h in
       let c = and_parts (leb n (length xs)) (leb (length xs) n) b.0 in
@@ -198,7 +210,7 @@ module _ (n : ℕ) (p : List ℕ → Bool) where
       ap (λ (r : Result (List ℕ × Input) FieldFault). located r >>= λ x. cond (p x.0) (Ok x) (Err place)) (raw_again xs rest place len)
       ∙ rw b.1 (ap (λ (k : ℕ). Ok (xs, record { rest = rest; place = place + k })) (sym len))
 
-  raw_takes : (s : Input) (xs : List ℕ) (t : Input) → IsBytes s.rest → (raw n p).parse s ≡ Ok (xs, t) → Taken (raw n p).spell (raw n p).fits s xs t
+  raw_takes : (s : Input) (xs : List ℕ) (t : Input) → IsSpelledSo (raw n p) s xs t
   raw_takes s xs t bytes e =
       let a = bind_ok (located (raw_at n s)) (λ x. cond (p x.0) (Ok x) (Err s.place)) (xs, t) e in
       let g = taken_ok (ltb (length s.rest) n) (Short s.place) (take n s.rest, advanced n s) a.0 a.1 in
@@ -219,27 +231,40 @@ module _ (n : ℕ) (p : List ℕ → Bool) where
 -- ---- a text
 
 module _ (w : Width) (limit : ℕ) (wide : IsWide w limit) (most : ℕ) (p : List ℕ → Bool) (small : most < limit) where
-  sized_again : (xs rest : List ℕ) (place : ℕ) → length xs ≤ most → sized_at w most (record { rest = number_bytes w (length xs) ++ (xs ++ rest); place = place }) ≡ Ok (xs, record { rest = rest; place = place + byte_len w + length xs })
+  sized_again : (xs rest : List ℕ) (place : ℕ) → length xs ≤ most
+      → sized_at w most (record { rest = number_bytes w (length xs) ++ (xs ++ rest); place = place })
+      ≡ Ok (xs, record { rest = rest; place = place + byte_len w + length xs })
   sized_again xs rest place le =
       let short : ltb most (length xs) ≡ false = le-ltb _ _ le in
       let long : ltb (length (xs ++ rest)) (length xs) ≡ false = le-ltb _ _ (omega (arith, length-append xs rest)) in
-      rw (number_again w limit wide (length xs) (xs ++ rest) place (omega (arith, le, small)), short, long, take_at xs rest (length xs) refl, drop_at xs rest (length xs) refl) refl
+      rw (
+        number_again w limit wide (length xs) (xs ++ rest) place (omega (arith, le, small)),
+        short,
+        long,
+        take_at xs rest (length xs) refl,
+        drop_at xs rest (length xs) refl,
+      ) refl
 
-  sized_spelled : (xs rest : List ℕ) (place : ℕ) → IsTrue ((sized w most p).fits xs) → (sized w most p).parse (record { rest = (sized w most p).spell xs ++ rest; place = place }) ≡ Ok (xs, record { rest = rest; place = place + length ((sized w most p).spell xs) })
+  sized_spelled : (xs rest : List ℕ) (place : ℕ) → IsReadBack (sized w most p) xs rest place
   sized_spelled xs rest place h =
       let b = and_parts (leb (length xs) most) (p xs) h in
-      let regrouped : (number_bytes w (length xs) ++ xs) ++ rest ≡ number_bytes w (length xs) ++ (xs ++ rest) = append_assoc (number_bytes w (length xs)) xs rest in
-      let places : place + byte_len w + length xs ≡ place + length (number_bytes w (length xs) ++ xs) = omega (arith, length-append (number_bytes w (length xs)) xs, wide.len (length xs)) in
-      ap (λ (r : Result (List ℕ × Input) FieldFault). located r >>= λ x. cond (p x.0) (Ok x) (Err place)) (ap (λ (r : List ℕ). sized_at w most (record { rest = r; place = place })) regrouped ∙ sized_again xs rest place (leb-true _ _ b.0))
+      let regrouped : (number_bytes w (length xs) ++ xs) ++ rest ≡ number_bytes w (length xs) ++ (xs ++ rest)
+      = append_assoc (number_bytes w (length xs)) xs rest in
+      let places : place + byte_len w + length xs ≡ place + length (number_bytes w (length xs) ++ xs)
+      = omega (arith, length-append (number_bytes w (length xs)) xs, wide.len (length xs)) in
+      ap (λ (r : Result (List ℕ × Input) FieldFault). located r >>= λ x. cond (p x.0) (Ok x) (Err place))
+      (ap (λ (r : List ℕ). sized_at w most (record { rest = r; place = place })) regrouped ∙ sized_again xs rest place (leb-true _ _ b.0))
       ∙ rw b.1 (ap (λ (k : ℕ). Ok (xs, record { rest = rest; place = k })) places)
 
-  sized_takes : (s : Input) (xs : List ℕ) (t : Input) → IsBytes s.rest → (sized w most p).parse s ≡ Ok (xs, t) → Taken (sized w most p).spell (sized w most p).fits s xs t
+  sized_takes : (s : Input) (xs : List ℕ) (t : Input) → IsSpelledSo (sized w most p) s xs t
   sized_takes s xs t bytes e =
       let a = bind_ok (located (sized_at w most s)) (λ x. cond (p x.0) (Ok x) (Err s.place)) (xs, t) e in
       let q = guard_ok (p a.0.0) s.place a.0 (xs, t) a.2 in
-      let b = bind_ok (number_at w s) (λ n. cond (ltb most n.0) (Err (TooLong s.place)) (cond (ltb (length n.1.rest) n.0) (Err (Short s.place)) (Ok (take n.0 n.1.rest, advanced n.0 n.1)))) a.0 (located_ok (sized_at w most s) a.0 a.1) in
+      let cut_at : ℕ × Input → Result (List ℕ × Input) FieldFault =
+      λ n. cond (ltb (length n.1.rest) n.0) (Err (Short s.place)) (Ok (take n.0 n.1.rest, advanced n.0 n.1)) in
+      let b = bind_ok (number_at w s) (λ n. cond (ltb most n.0) (Err (TooLong s.place)) (cut_at n)) a.0 (located_ok (sized_at w most s) a.0 a.1) in
       let n = b.0 in
-      let g = fault_not (ltb most n.0) (TooLong s.place) (cond (ltb (length n.1.rest) n.0) (Err (Short s.place)) (Ok (take n.0 n.1.rest, advanced n.0 n.1))) a.0 b.2 in
+      let g = fault_not (ltb most n.0) (TooLong s.place) (cut_at n) a.0 b.2 in
       let k = taken_ok (ltb (length n.1.rest) n.0) (Short s.place) (take n.0 n.1.rest, advanced n.0 n.1) a.0 (ap located g.1) in
       let first = number_taken w limit wide s n.0 n.1 bytes (ap located b.1) in
       let le : n.0 ≤ most = ltb-false _ _ g.0 in
@@ -250,7 +275,8 @@ module _ (w : Width) (limit : ℕ) (wide : IsWide w limit) (most : ℕ) (p : Lis
       let whole : n.1.rest ≡ cut ++ drop n.0 n.1.rest = sym (take-append-drop n.0 n.1.rest) in
       let counted : number_bytes w n.0 ≡ number_bytes w (length cut) = ap (number_bytes w) (sym len) in
       subst (λ (x : List ℕ × Input). Taken (sized w most p).spell (sized w most p).fits s x.0 x.1) (k.1 ∙ q.1) (record {
-        parts = first.parts ∙ ap (λ (r : List ℕ). number_bytes w n.0 ++ r) whole ∙ sym (append_assoc (number_bytes w n.0) cut (drop n.0 n.1.rest)) ∙ ap (λ (z : List ℕ). (z ++ cut) ++ drop n.0 n.1.rest) counted;
+        parts = first.parts ∙ ap (λ (r : List ℕ). number_bytes w n.0 ++ r) whole ∙ sym (append_assoc (number_bytes w n.0) cut (drop n.0 n.1.rest))
+            ∙ ap (λ (z : List ℕ). (z ++ cut) ++ drop n.0 n.1.rest) counted;
         place = omega (arith, first.place, len, length-append (number_bytes w (length cut)) cut, wide.len (length cut), wide.len n.0);
         is_fit = and_from (leb (length cut) most) (p cut) (le-leb (length cut) most (omega arith)) passes;
         bytes = IsBytes-drop n.0 n.1.rest first.bytes;
@@ -271,20 +297,27 @@ module _ {A : Type 0} (f : Form A) (p : IsExact f) where
       let b = and_parts (f.fits x) (list_all f.fits xs) h in
       and_from (f.bounded x) (list_all f.bounded xs) (p.bounds x b.0) (items_bounds xs b.1)
 
-  pub items_again : (xs : List A) (rest : List ℕ) (place : ℕ) → IsTrue (list_all f.fits xs) → items_at f.parse (length xs) (record { rest = flat_map f.spell xs ++ rest; place = place }) ≡ Ok (xs, record { rest = rest; place = place + length (flat_map f.spell xs) })
+  pub items_again : (xs : List A) (rest : List ℕ) (place : ℕ) → IsTrue (list_all f.fits xs)
+      → items_at f.parse (length xs) (record { rest = flat_map f.spell xs ++ rest; place = place })
+      ≡ Ok (xs, record { rest = rest; place = place + length (flat_map f.spell xs) })
   items_again [] rest place h = ap (λ (k : ℕ). Ok ([], record { rest = rest; place = k })) (omega arith)
   items_again (x ∷ xs) rest place h =
       let b = and_parts (f.fits x) (list_all f.fits xs) h in
       let apart = flat_map-cons f.spell x xs in
-      let regrouped : flat_map f.spell (x ∷ xs) ++ rest ≡ f.spell x ++ (flat_map f.spell xs ++ rest) = ap (λ (z : List ℕ). z ++ rest) apart ∙ append_assoc (f.spell x) (flat_map f.spell xs) rest in
-      let places : place + length (f.spell x) + length (flat_map f.spell xs) ≡ place + length (flat_map f.spell (x ∷ xs)) = omega (arith, ap length apart, length-append (f.spell x) (flat_map f.spell xs)) in
+      let regrouped : flat_map f.spell (x ∷ xs) ++ rest ≡ f.spell x ++ (flat_map f.spell xs ++ rest) = ap (λ (z : List ℕ). z ++ rest) apart
+      ∙ append_assoc (f.spell x) (flat_map f.spell xs) rest in
+      let places : place + length (f.spell x) + length (flat_map f.spell xs) ≡ place + length (flat_map f.spell (x ∷ xs))
+      = omega (arith, ap length apart, length-append (f.spell x) (flat_map f.spell xs)) in
       ap (λ (r : List ℕ). items_at f.parse (suc (length xs)) (record { rest = r; place = place })) regrouped
-      ∙ rw (p.again x (flat_map f.spell xs ++ rest) place b.0, items_again xs rest (place + length (f.spell x)) b.1) (ap (λ (k : ℕ). Ok (x ∷ xs, record { rest = rest; place = k })) places)
+      ∙ rw (p.again x (flat_map f.spell xs ++ rest) place b.0, items_again xs rest (place + length (f.spell x)) b.1)
+      (ap (λ (k : ℕ). Ok (x ∷ xs, record { rest = rest; place = k })) places)
 
-  pub items_take : (n : ℕ) (s : Input) (xs : List A) (t : Input) → IsBytes s.rest → items_at f.parse n s ≡ Ok (xs, t) → Taken (flat_map f.spell) (list_all f.fits) s xs t × (length xs ≡ n)
+  pub items_take : (n : ℕ) (s : Input) (xs : List A) (t : Input) → IsBytes s.rest → items_at f.parse n s ≡ Ok (xs, t)
+      → Taken (flat_map f.spell) (list_all f.fits) s xs t × (length xs ≡ n)
   items_take zero s xs t bytes e =
       let made : List A × Input = ([], s) in
-      subst (λ (y : List A × Input). Taken (flat_map f.spell) (list_all f.fits) s y.0 y.1 × (length y.0 ≡ 0)) (ok_is made (xs, t) e) (record { parts = refl; place = omega arith; is_fit = refl; bytes = bytes }, refl)
+      subst (λ (y : List A × Input). Taken (flat_map f.spell) (list_all f.fits) s y.0 y.1 × (length y.0 ≡ 0)) (ok_is made (xs, t) e)
+      (record { parts = refl; place = omega arith; is_fit = refl; bytes = bytes }, refl)
   items_take (suc n) s xs t bytes e =
       let a = bind_ok (f.parse s) (λ a. items_at f.parse n a.1 >>= λ b. Ok (a.0 ∷ b.0, b.1)) (xs, t) e in
       let b = bind_ok (items_at f.parse n a.0.1) (λ b. Ok (a.0.0 ∷ b.0, b.1)) (xs, t) a.2 in
@@ -294,7 +327,8 @@ module _ {A : Type 0} (f : Form A) (p : IsExact f) where
       let made : List A × Input = (a.0.0 ∷ b.0.0, b.0.1) in
       subst (λ (y : List A × Input). Taken (flat_map f.spell) (list_all f.fits) s y.0 y.1 × (length y.0 ≡ suc n)) (ok_is made (xs, t) b.2) (
         record {
-          parts = first.parts ∙ ap (λ (r : List ℕ). f.spell a.0.0 ++ r) others.0.parts ∙ sym (append_assoc (f.spell a.0.0) (flat_map f.spell b.0.0) b.0.1.rest) ∙ ap (λ (z : List ℕ). z ++ b.0.1.rest) (sym apart);
+          parts = first.parts ∙ ap (λ (r : List ℕ). f.spell a.0.0 ++ r) others.0.parts ∙ sym (append_assoc (f.spell a.0.0) (flat_map f.spell b.0.0) b.0.1.rest)
+              ∙ ap (λ (z : List ℕ). z ++ b.0.1.rest) (sym apart);
           place = omega (arith, first.place, others.0.place, ap length apart, length-append (f.spell a.0.0) (flat_map f.spell b.0.0));
           is_fit = and_from (f.fits a.0.0) (list_all f.fits b.0.0) first.is_fit others.0.is_fit;
           bytes = others.0.bytes;
@@ -303,18 +337,20 @@ module _ {A : Type 0} (f : Form A) (p : IsExact f) where
       )
 
   module _ (most : ℕ) (small : most < 2 ^ 16) where
-    list_again : (xs : List A) (rest : List ℕ) (place : ℕ) → IsTrue ((list_of most f).fits xs) → (list_of most f).parse (record { rest = (list_of most f).spell xs ++ rest; place = place }) ≡ Ok (xs, record { rest = rest; place = place + length ((list_of most f).spell xs) })
+    list_again : (xs : List A) (rest : List ℕ) (place : ℕ) → IsReadBack (list_of most f) xs rest place
     list_again xs rest place h =
         let b = and_parts (leb (length xs) most) (list_all f.fits xs) h in
         let le : length xs ≤ most = leb-true _ _ b.0 in
         let short : ltb most (length xs) ≡ false = le-ltb _ _ le in
         let count = number_bytes w16 (length xs) in
         let regrouped : (count ++ flat_map f.spell xs) ++ rest ≡ count ++ (flat_map f.spell xs ++ rest) = append_assoc count (flat_map f.spell xs) rest in
-        let places : place + 2 + length (flat_map f.spell xs) ≡ place + length (count ++ flat_map f.spell xs) = omega (arith, length-append count (flat_map f.spell xs), wide16.len (length xs)) in
+        let places : place + 2 + length (flat_map f.spell xs) ≡ place + length (count ++ flat_map f.spell xs)
+        = omega (arith, length-append count (flat_map f.spell xs), wide16.len (length xs)) in
         ap (λ (r : List ℕ). (list_of most f).parse (record { rest = r; place = place })) regrouped
-        ∙ rw (number_again w16 (2 ^ 16) wide16 (length xs) (flat_map f.spell xs ++ rest) place (omega arith), short, items_again xs rest (place + 2) b.1) (ap (λ (k : ℕ). Ok (xs, record { rest = rest; place = k })) places)
+        ∙ rw (number_again w16 (2 ^ 16) wide16 (length xs) (flat_map f.spell xs ++ rest) place (omega arith), short, items_again xs rest (place + 2) b.1)
+        (ap (λ (k : ℕ). Ok (xs, record { rest = rest; place = k })) places)
 
-    list_takes : (s : Input) (xs : List A) (t : Input) → IsBytes s.rest → (list_of most f).parse s ≡ Ok (xs, t) → Taken (list_of most f).spell (list_of most f).fits s xs t
+    list_takes : (s : Input) (xs : List A) (t : Input) → IsSpelledSo (list_of most f) s xs t
     list_takes s xs t bytes e =
         let a = bind_ok (located (number_at w16 s)) (λ n. cond (ltb most n.0) (Err s.place) (items_at f.parse n.0 n.1)) (xs, t) e in
         let g = fault_not (ltb most a.0.0) s.place (items_at f.parse a.0.0 a.0.1) (xs, t) a.2 in
@@ -323,7 +359,8 @@ module _ {A : Type 0} (f : Form A) (p : IsExact f) where
         let count = number_bytes w16 (length xs) in
         let counted : number_bytes w16 a.0.0 ≡ count = ap (number_bytes w16) (sym others.1) in
         record {
-          parts = first.parts ∙ ap (λ (r : List ℕ). number_bytes w16 a.0.0 ++ r) others.0.parts ∙ sym (append_assoc (number_bytes w16 a.0.0) (flat_map f.spell xs) t.rest) ∙ ap (λ (c : List ℕ). (c ++ flat_map f.spell xs) ++ t.rest) counted;
+          parts = first.parts ∙ ap (λ (r : List ℕ). number_bytes w16 a.0.0 ++ r) others.0.parts
+              ∙ sym (append_assoc (number_bytes w16 a.0.0) (flat_map f.spell xs) t.rest) ∙ ap (λ (c : List ℕ). (c ++ flat_map f.spell xs) ++ t.rest) counted;
           place = omega (arith, first.place, others.0.place, length-append count (flat_map f.spell xs), wide16.len (length xs), wide16.len a.0.0);
           is_fit = and_from (leb (length xs) most) (list_all f.fits xs) (le-leb _ _ (omega (arith, ltb-false _ _ g.0, others.1))) others.0.is_fit;
           bytes = others.0.bytes;
@@ -337,146 +374,21 @@ module _ {A : Type 0} (f : Form A) (p : IsExact f) where
     pub exact_list : IsExact (list_of most f)
     exact_list = record { again = list_again; takes = list_takes; bounds = list_bounds }
 
--- ---- cases
+-- ---- nothing
 
 pub exact_nothing : IsExact nothing
 exact_nothing = record {
   again = λ x rest place h. ap (λ (k : ℕ). Ok (tt, record { rest = rest; place = k })) (omega arith);
-  takes = λ s x t bytes e. let made : Unit {0} × Input = (tt, s) in subst (λ (y : Unit {0} × Input). Taken (λ _. []) (λ _. true) s y.0 y.1) (ok_is made (x, t) e) (record { parts = refl; place = omega arith; is_fit = refl; bytes = bytes });
+  takes = λ s x t bytes e.
+      let made : Unit {0} × Input = (tt, s) in
+      subst (λ (y : Unit {0} × Input). Taken (λ _. []) (λ _. true) s y.0 y.1) (ok_is made (x, t) e)
+      (record { parts = refl; place = omega arith; is_fit = refl; bytes = bytes });
   bounds = λ x h. refl;
 }
 
-module _ {A : Type 0} (put : A → Tagged) where
-  -- fields that are spelled are read behind their tag
-  pub again_by : (cs : List (Case A)) → AreExact put cs → (n : ℕ) (x : FieldsAt cs n) (rest : List ℕ) (place at : ℕ)
-      → IsTrue (fits_by cs n x) → IsReadFrom (read_by cs n at) (spell_by cs n x) (made_by cs n x) rest place
-  again_by [] e n x rest place at h = absurd x
-  again_by (c ∷ cs) e n x rest place at h = go (nat_eq n c.tag) x h (λ x h. again_by cs e.1 n x rest place at h)
-    where
-      go : (b : Bool) (x : Either b c.Fields (FieldsAt cs n)) → IsTrue (either b c.form.fits (fits_by cs n) x)
-          → ((y : FieldsAt cs n) → IsTrue (fits_by cs n y) → IsReadFrom (read_by cs n at) (spell_by cs n y) (made_by cs n y) rest place)
-          → IsReadFrom (λ s. if b then read_case c s else read_by cs n at s)
-          (either b c.form.spell (spell_by cs n) x) (either b c.make (made_by cs n) x) rest place
-      go true x h k = rw (e.0.0.again x rest place h) refl
-      go false x h k = k x h
-
-  bounds_by : (cs : List (Case A)) → AreExact put cs → (n : ℕ) (x : FieldsAt cs n) → IsTrue (fits_by cs n x) → IsTrue (bounded_by cs n x)
-  bounds_by [] e n x h = absurd x
-  bounds_by (c ∷ cs) e n x h = go (nat_eq n c.tag) x h (λ y k. bounds_by cs e.1 n y k)
-    where
-      go : (b : Bool) (x : Either b c.Fields (FieldsAt cs n)) → IsTrue (either b c.form.fits (fits_by cs n) x)
-          → ((y : FieldsAt cs n) → IsTrue (fits_by cs n y) → IsTrue (bounded_by cs n y)) → IsTrue (either b c.form.bounded (bounded_by cs n) x)
-      go true x h k = e.0.0.bounds x h
-      go false x h k = k x h
-
-  -- what is read behind a tag is put so
-  takes_case : (c : Case A) → IsExactCase put c → (s : Input) (x : A) (t : Input) → IsBytes s.rest
-      → read_case c s ≡ Ok (x, t) → TakenBehind put c.tag s x t
-  takes_case c e s x t bytes h =
-      let a = bind_ok (c.form.parse s) (λ y. Ok (c.make y.0, y.1)) (x, t) h in
-      let first = e.0.takes s a.0.0 a.0.1 bytes a.1 in
-      let made : A × Input = (c.make a.0.0, a.0.1) in
-      let same : put (c.make a.0.0) ≡ put_case c a.0.0 = e.1 a.0.0 in
-      subst (λ (y : A × Input). TakenBehind put c.tag s y.0 y.1) (ok_is made (x, t) a.2) (record {
-        tag = rw same refl;
-        taken = record { parts = rw same first.parts; place = rw same first.place; is_fit = rw same first.is_fit; bytes = first.bytes };
-      })
-
-  pub takes_by : (cs : List (Case A)) → AreExact put cs → (n at : ℕ) (s : Input) (x : A) (t : Input)
-      → IsBytes s.rest → read_by cs n at s ≡ Ok (x, t) → TakenBehind put n s x t
-  takes_by [] e n at s x t bytes h = absurd cc
-  takes_by (c ∷ cs) e n at s x t bytes h = go (nat_eq n c.tag) (eqb-true n c.tag) (takes_by cs e.1 n at s x t bytes) h
-    where
-      go : (b : Bool) → (b ≡ true → n ≡ c.tag) → (read_by cs n at s ≡ Ok (x, t) → TakenBehind put n s x t)
-          → (if b then read_case c s else read_by cs n at s) ≡ Ok (x, t) → TakenBehind put n s x t
-      go true q others k = subst (λ m. TakenBehind put m s x t) (sym (q refl)) (takes_case c e.0 s x t bytes k)
-      go false q others k = others k
-
--- a list of cases is exact where each case is, and each value is made of its tag and fields
-module _ {A : Type 0} (cs : List (Case A)) (fields : A → Filled cs) where
-  pub record IsMade (x : A) : Type 0 where
-    pub value : value_of cs (fields x) ≡ x
-    pub small : IsTrue (nat_lt (put_by cs (fields x)).tag 256)
-
-  module _ (made : (x : A) → IsMade x) (each : AreExact (tags_of cs fields).put cs) where
-    again_of : (y : Filled cs) (rest : List ℕ) (place at : ℕ) → IsTrue (put_by cs y).fits
-        → IsReadFrom (read_by cs (put_by cs y).tag at) (put_by cs y).bytes (value_of cs y) rest place
-    again_of (filled n y) rest place at h = again_by (tags_of cs fields).put cs each n y rest place at h
-
-    bounds_of : (y : Filled cs) → IsTrue (put_by cs y).fits → IsTrue (put_by cs y).bounded
-    bounds_of (filled n y) h = bounds_by (tags_of cs fields).put cs each n y h
-
-    pub exact_tags : IsExactTags (tags_of cs fields)
-    exact_tags = record {
-      small = λ x. ltb-true _ _ (made x).small;
-      again = λ x rest place at h. again_of (fields x) rest place at h
-          ∙ ap (λ (y : A). Ok (y, record { rest = rest; place = place + length (put_by cs (fields x)).bytes })) (made x).value;
-      takes = takes_by (tags_of cs fields).put cs each;
-      bounds = λ x h. bounds_of (fields x) h;
-    }
-
-module _ {A : Type 0} (take : ℕ → ℕ → Input → Parsed A) where
-  -- what is read behind a byte is read with it
-  pub again_numbered : (n : ℕ) (bytes : List ℕ) (x : A) (rest : List ℕ) (place : ℕ) → n < 256
-      → IsReadFrom (take n place) bytes x rest (place + 1) → IsReadFrom (numbered take) (number_bytes w8 n ++ bytes) x rest place
-  again_numbered n bytes x rest place lt h =
-      let first = number_bytes w8 n in
-      let regrouped : (first ++ bytes) ++ rest ≡ first ++ (bytes ++ rest) = append_assoc first bytes rest in
-      let places : place + 1 + length bytes ≡ place + length (first ++ bytes) = omega (arith, length-append first bytes, wide8.len n) in
-      ap (λ (r : List ℕ). numbered take (record { rest = r; place = place })) regrouped
-      ∙ rw (number_again w8 (2 ^ 8) wide8 n (bytes ++ rest) place lt, h) (ap (λ (k : ℕ). Ok (x, record { rest = rest; place = k })) places)
-
-  -- the byte, and the input behind it
-  pub record Numbered (s : Input) (x : A) (t : Input) : Type 0 where
-    pub number : ℕ
-    pub next : Input
-    pub first : Taken (number_bytes w8) (λ n. ltb n (2 ^ 8)) s number next
-    pub others : take number s.place next ≡ Ok (x, t)
-
-  pub takes_numbered : (s : Input) (x : A) (t : Input) → IsBytes s.rest → numbered take s ≡ Ok (x, t) → Numbered s x t
-  takes_numbered s x t bytes e =
-      let a = bind_ok (located (number_at w8 s)) (λ n. take n.0 s.place n.1) (x, t) e in
-      record { number = a.0.0; next = a.0.1; first = number_taken w8 (2 ^ 8) wide8 s a.0.0 a.0.1 bytes a.1; others = a.2 }
-
--- a byte, and what is taken behind it
-pub taken_behind : {A : Type 0} (spell : A → List ℕ) (fits : A → Bool) (n : ℕ) (s u : Input) (x : A) (t : Input)
-    → Taken (number_bytes w8) (λ n. ltb n (2 ^ 8)) s n u → Taken spell fits u x t → Taken (λ a. number_bytes w8 n ++ spell a) fits s x t
-taken_behind spell fits n s u x t first others = record {
-  parts = first.parts ∙ ap (λ (r : List ℕ). number_bytes w8 n ++ r) others.parts ∙ sym (append_assoc (number_bytes w8 n) (spell x) t.rest);
-  place = omega (arith, first.place, others.place, length-append (number_bytes w8 n) (spell x));
-  is_fit = others.is_fit;
-  bytes = others.bytes;
-}
-
-module _ {A : Type 0} (c : Tags A) (q : IsExactTags c) where
-  tagged_takes : (s : Input) (x : A) (t : Input) → IsBytes s.rest → (tagged c).parse s ≡ Ok (x, t) → Taken (tagged c).spell (tagged c).fits s x t
-  tagged_takes s x t bytes e =
-      let a = takes_numbered c.take s x t bytes e in
-      let body = q.takes a.number s.place a.next x t a.first.bytes a.others in
-      let all = taken_behind (λ a. (c.put a).bytes) (λ a. (c.put a).fits) a.number s a.next x t a.first body.taken in
-      let same : number_bytes w8 a.number ≡ number_bytes w8 (c.put x).tag = ap (number_bytes w8) (sym body.tag) in
-      record {
-        parts = all.parts ∙ ap (λ (z : List ℕ). (z ++ (c.put x).bytes) ++ t.rest) same;
-        place = all.place ∙ ap (λ (z : List ℕ). s.place + length (z ++ (c.put x).bytes)) same;
-        is_fit = all.is_fit;
-        bytes = all.bytes;
-      }
-
-  pub exact_tagged : IsExact (tagged c)
-  exact_tagged = record {
-    again = λ x rest place h. again_numbered c.take (c.put x).tag (c.put x).bytes x rest place (q.small x) (q.again x rest (place + 1) place h);
-    takes = tagged_takes;
-    bounds = q.bounds;
-  }
-
-pub exact_sum : {A : Type 0} (cs : List (Case A)) (fields : A → Filled cs) → ((x : A) → IsMade cs fields x)
-    → AreExact (tags_of cs fields).put cs → IsExact (sum_of cs fields)
-exact_sum cs fields made each = exact_tagged _ (exact_tags cs fields made each)
-
 -- ---- what every form has
 
--- no spelling begins another
-pub prefix_free : {A : Type 0} (f : Form A) → IsExact f → (x y : A) (a b : List ℕ) → IsTrue (f.fits x) → IsTrue (f.fits y) → f.spell x ++ a ≡ f.spell y ++ b → (x ≡ y) × (a ≡ b)
+pub prefix_free : {A : Type 0} (f : Form A) → IsExact f → NoneBeginsAnother f
 prefix_free {A} f p x y a b h k e =
     let one = sym (p.again x a 0 h) ∙ ap (λ (r : List ℕ). f.parse (record { rest = r; place = 0 })) e ∙ p.again y b 0 k in
     let same : (x, record { rest = a; place = 0 + length (f.spell x) }) ≡ (y, record { rest = b; place = 0 + length (f.spell y) }) = ok_is _ _ one in
@@ -488,14 +400,17 @@ passes_all : List ℕ → Bool
 passes_all xs = true
 
 module _ (w : Width) (limit : ℕ) (wide : IsWide w limit) (most : ℕ) (small : most < limit) where
-  counted_again : (xs rest : List ℕ) (place : ℕ) → IsTrue ((counted w most).fits xs) → (counted w most).parse (record { rest = (counted w most).spell xs ++ rest; place = place }) ≡ Ok (xs, record { rest = rest; place = place + length ((counted w most).spell xs) })
+  counted_again : (xs rest : List ℕ) (place : ℕ) → IsReadBack (counted w most) xs rest place
   counted_again xs rest place h =
-      let regrouped : (number_bytes w (length xs) ++ xs) ++ rest ≡ number_bytes w (length xs) ++ (xs ++ rest) = append_assoc (number_bytes w (length xs)) xs rest in
-      let places : place + byte_len w + length xs ≡ place + length (number_bytes w (length xs) ++ xs) = omega (arith, length-append (number_bytes w (length xs)) xs, wide.len (length xs)) in
-      ap (λ (r : Result (List ℕ × Input) FieldFault). located r) (ap (λ (r : List ℕ). sized_at w most (record { rest = r; place = place })) regrouped ∙ sized_again w limit wide most passes_all small xs rest place (leb-true _ _ h))
+      let regrouped : (number_bytes w (length xs) ++ xs) ++ rest ≡ number_bytes w (length xs) ++ (xs ++ rest)
+      = append_assoc (number_bytes w (length xs)) xs rest in
+      let places : place + byte_len w + length xs ≡ place + length (number_bytes w (length xs) ++ xs)
+      = omega (arith, length-append (number_bytes w (length xs)) xs, wide.len (length xs)) in
+      ap (λ (r : Result (List ℕ × Input) FieldFault). located r) (ap (λ (r : List ℕ). sized_at w most (record { rest = r; place = place })) regrouped
+      ∙ sized_again w limit wide most passes_all small xs rest place (leb-true _ _ h))
       ∙ ap (λ (k : ℕ). Ok (xs, record { rest = rest; place = k })) places
 
-  counted_takes : (s : Input) (xs : List ℕ) (t : Input) → IsBytes s.rest → (counted w most).parse s ≡ Ok (xs, t) → Taken (counted w most).spell (counted w most).fits s xs t
+  counted_takes : (s : Input) (xs : List ℕ) (t : Input) → IsSpelledSo (counted w most) s xs t
   unfolding passes_all
   counted_takes s xs t bytes e =
       let all = sized_takes w limit wide most passes_all small s xs t bytes (rw e refl) in
@@ -507,20 +422,23 @@ module _ (w : Width) (limit : ℕ) (wide : IsWide w limit) (most : ℕ) (small :
 pub exact_string : (most : ℕ) → most < 2 ^ 16 → IsExact (string most)
 exact_string most small = exact_counted w16 (2 ^ 16) wide16 most small
 
-flag_again : (b : Bool) (rest : List ℕ) (place : ℕ) → IsTrue (flag.fits b) → flag.parse (record { rest = flag.spell b ++ rest; place = place }) ≡ Ok (b, record { rest = rest; place = place + length (flag.spell b) })
+flag_again : (b : Bool) (rest : List ℕ) (place : ℕ) → IsReadBack flag b rest place
 flag_again true rest place h = rw (number_again w8 (2 ^ 8) wide8 1 rest place (lit< tt), wide8.len 1) refl
 flag_again false rest place h = rw (number_again w8 (2 ^ 8) wide8 0 rest place (lit< tt), wide8.len 0) refl
 
-flag_takes_by : (n : ℕ) (s u : Input) (b : Bool) (t : Input) → Taken (number_bytes w8) (λ n. ltb n (2 ^ 8)) s n u → flag_of n s.place u ≡ Ok (b, t) → Taken flag.spell flag.fits s b t
+flag_takes_by : (n : ℕ) (s u : Input) (b : Bool) (t : Input) → Taken (number_bytes w8) (λ n. ltb n (2 ^ 8)) s n u → flag_of n s.place u ≡ Ok (b, t)
+    → Taken flag.spell flag.fits s b t
 flag_takes_by zero s u b t first e =
     let made : Bool × Input = (false, u) in
-    subst (λ (y : Bool × Input). Taken flag.spell flag.fits s y.0 y.1) (ok_is made (b, t) e) (record { parts = first.parts; place = first.place; is_fit = refl; bytes = first.bytes })
+    subst (λ (y : Bool × Input). Taken flag.spell flag.fits s y.0 y.1) (ok_is made (b, t) e)
+    (record { parts = first.parts; place = first.place; is_fit = refl; bytes = first.bytes })
 flag_takes_by (suc zero) s u b t first e =
     let made : Bool × Input = (true, u) in
-    subst (λ (y : Bool × Input). Taken flag.spell flag.fits s y.0 y.1) (ok_is made (b, t) e) (record { parts = first.parts; place = first.place; is_fit = refl; bytes = first.bytes })
+    subst (λ (y : Bool × Input). Taken flag.spell flag.fits s y.0 y.1) (ok_is made (b, t) e)
+    (record { parts = first.parts; place = first.place; is_fit = refl; bytes = first.bytes })
 flag_takes_by (suc (suc n)) s u b t first e = absurd cc
 
-flag_takes : (s : Input) (b : Bool) (t : Input) → IsBytes s.rest → flag.parse s ≡ Ok (b, t) → Taken flag.spell flag.fits s b t
+flag_takes : (s : Input) (b : Bool) (t : Input) → IsSpelledSo flag s b t
 flag_takes s b t bytes e =
     let a = bind_ok (located (number_at w8 s)) (λ n. flag_of n.0 s.place n.1) (b, t) e in
     flag_takes_by a.0.0 s a.0.1 b t (number_taken w8 (2 ^ 8) wide8 s a.0.0 a.0.1 bytes a.1) a.2

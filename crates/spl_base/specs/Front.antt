@@ -1,5 +1,5 @@
 -- A value at the front of bytes, and how many bytes it takes.
-use Rattle.std.specs.Prelude.{◌≡◌, ℕ, List, Result, Ok, Err}
+use Rattle.std.specs.Prelude.{◌≡◌, ℕ, List, ◌++◌, length, Result, Ok, Err, IsTrue}
 use Rattle.spl_base.specs.declared.fault.Malformed.{Malformed}
 use Rattle.spl_base.specs.Input.{◌>>=◌}
 use Rattle.spl_base.specs.Form.{Form, Fails}
@@ -12,3 +12,12 @@ front_of f bytes = f.parse (record { rest = bytes; place = 0 }) >>= λ x. Ok (x.
 abbrev pub Answers : {Y : Type 0} → Result Y Malformed → Result Y ℕ → Type 0
 Answers (Ok x) found = found ≡ Ok x
 Answers (Err e) found = Fails e found
+
+-- what is spelled so at the front of bytes is what was read, whatever follows it, unless memory ran out
+abbrev pub ReadsBack : {A : Type 0} → Form A → List ℕ → Result (A × ℕ) Malformed → Type 0
+ReadsBack {A} f bytes found = (x : A) (rest : List ℕ) → IsTrue (f.fits x) → bytes ≡ f.spell x ++ rest → Answers found (Ok (x, length (f.spell x)))
+
+-- no spelling begins another
+abbrev pub NoneBeginsAnother : {A : Type 0} → Form A → Type 0
+NoneBeginsAnother {A} f =
+    (x y : A) (a b : List ℕ) → IsTrue (f.fits x) → IsTrue (f.fits y) → f.spell x ++ a ≡ f.spell y ++ b → (x ≡ y) × (a ≡ b)

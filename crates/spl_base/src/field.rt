@@ -1,6 +1,6 @@
 //! Values with a form in bytes.
 ghost use Rattle.std.specs.Prelude.{◌≡◌, ◌≤◌, ◌++◌, length, drop, IsTrue, IfOk, OnOk, OnErr, Ok, List, ℕ};
-ghost use Rattle.spl_base.specs.Front.{front_of, Answers};
+ghost use Rattle.spl_base.specs.Front.{front_of, Answers, ReadsBack};
 ghost use Rattle.std.specs.List.{flat_map, list_all};
 ghost use Rattle.std.specs.Int.{w16};
 ghost use Rattle.spl_base.specs.Form.{Form, IsExact, Reads, number_bytes, list_of, items_at};
@@ -212,7 +212,7 @@ pub fn read_front<T: Field>(alloc: Global, bytes: &[u8]) -> Result<(T, usize), M
     // What is read can be written.
     ensures bounded { IfOk result (λ x. IsTrue (T.form.bounded x.0)) }
     // What is spelled so is read, whatever follows it, unless memory runs out.
-    ensures only { (x : T) (rest : List ℕ) → IsTrue (T.form.fits x) → bytes.now ≡ T.form.spell x ++ rest → Answers result (Ok (x, length (T.form.spell x))) }
+    ensures only { ReadsBack T.form bytes.now result }
 {
     let mut r = Reader::new(bytes);
     let x = T::take_parts(alloc, &mut r)?;
