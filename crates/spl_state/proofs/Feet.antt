@@ -5,7 +5,7 @@ use Rattle.spl_state.specs.declared.address.Address.{Address}
 use Rattle.spl_state.specs.Entries.{Entry}
 use Rattle.spl_state.specs.Root.{digit_of}
 use Rattle.spl_state.specs.Digits.{same_digits, shares}
-use Rattle.spl_state.specs.Runs.{AllAlong, IsFirstApart}
+use Rattle.spl_state.specs.Runs.{IsFirstApart}
 use Rattle.spl_state.specs.Part.{Part}
 use Rattle.spl_state.specs.Kept.{IsInner, IsThin, all_entries}
 use Rattle.spl_state.proofs.Digits.{same_above}

@@ -1,5 +1,5 @@
 -- An address with one digit that is another.
-use Rattle.std.proofs.Common.{◌≡◌, ◌≢◌, ℕ, zero, suc, ◌+◌, ◌*◌, ◌/◌, ◌%◌, ◌<◌, ◌≤◌, ◌==◌, true, false, Bool, List, [], ◌∷◌, ◌++◌, length, slice_index, slice_set, inl, inr, refl, sym, ap, ◌∙◌, arith, add-one, add-zero, zero-add, get_or-set_other, get_or-set_same}
+use Rattle.std.proofs.Common.{◌≡◌, ◌≢◌, ℕ, zero, suc, ◌+◌, ◌*◌, ◌/◌, ◌%◌, ◌<◌, ◌==◌, true, false, Bool, List, [], ◌∷◌, ◌++◌, length, slice_index, slice_set, inl, inr, refl, sym, ap, ◌∙◌, arith, add-one, add-zero, zero-add, get_or-set_other, get_or-set_same}
 use Rattle.std.proofs.lemmas.Bool.{cases_lt}
 use Rattle.std.specs.Prelude.{if◌then◌else◌}
 use Rattle.spl_state.specs.Root.{digit_of, digits_of}

@@ -19,5 +19,6 @@ by_body d (Leaf a v) h = omega arith
 by_body d (Thin path part) h = omega (arith, h.low, h.high)
 by_body d (Inner kids) h = omega (arith, most_left d kids.items h.low h.below)
 
-pub falls : (a : Inside) → IsKept a.depth a.size a.fresh a.digest a.body → max (deep-Body a.body) 0 ≤ digits_left (record { depth = a.depth; entries = entries_of a.body; inner = is_inner a.body; thin = thin_run a.body })
+pub falls : (a : Inside) → IsKept a.depth a.size a.fresh a.digest a.body
+    → max (deep-Body a.body) 0 ≤ digits_left (record { depth = a.depth; entries = entries_of a.body; inner = is_inner a.body; thin = thin_run a.body })
 falls a h = omega (arith, by_body a.depth a.body h.shaped)

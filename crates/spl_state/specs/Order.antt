@@ -82,7 +82,8 @@ removed_is k (e ∷ es) h =
     let kept = where_key address_cmp (apart_from k) es in
     let below = first (below_all address_cmp e.0 es) (is_sorted address_cmp es) h in
     let rest = removed_is k es (second (below_all address_cmp e.0 es) (is_sorted address_cmp es) h) in
-    elim (eq_by_cmp address_cmp k e.0) as (λ b. eq_by_cmp address_cmp k e.0 ≡ b → cond b es (e ∷ remove_entry (is_at (address_cmp k)) es) ≡ cond (not b) (e ∷ kept) kept) [
+    elim (eq_by_cmp address_cmp k e.0) as (λ b. eq_by_cmp address_cmp k e.0 ≡ b
+    → cond b es (e ∷ remove_entry (is_at (address_cmp k)) es) ≡ cond (not b) (e ∷ kept) kept) [
       | true ↦ λ t. sym (all_apart k es (subst (λ a. T (below_all address_cmp a es)) (sym (one_address k e.0 (tied (address_cmp k e.0) t))) below))
       | false ↦ λ t. ap (λ r. e ∷ r) rest
     ] refl
@@ -96,7 +97,8 @@ pub insert_rises : (a : Address) (v : List ℕ) (es : List Entry) → Rises es �
 insert_rises a v es h = is_true _ (subst (λ x. T (is_sorted address_cmp x)) (sym (put_is a v es)) (is_sorted-put address_cmp address_order a v es (held _ h)))
 
 pub remove_rises : (a : Address) (es : List Entry) → Rises es → Rises (remove_entry (is_at (address_cmp a)) es)
-remove_rises a es h = is_true _ (subst (λ x. T (is_sorted address_cmp x)) (sym (removed_is a es (held _ h))) (is_sorted-where_key address_cmp (apart_from a) es (held _ h)))
+remove_rises a es h = is_true _ (subst (λ x. T (is_sorted address_cmp x)) (sym (removed_is a es (held _ h)))
+    (is_sorted-where_key address_cmp (apart_from a) es (held _ h)))
 
 -- ---- the value at each address
 
@@ -127,14 +129,18 @@ one_map es fs h g f = same_entries address_cmp address_order one_address es fs (
 
 -- by whether two addresses are the same
 pub by_same : (P : Bool → Type 0) (q a : Address) → (q ≡ a → P true) → P false → P (same q a)
-by_same P q a here there = elim (same q a) as (λ b. same q a ≡ b → P b) [ true ↦ λ t. here (one_address q a (tied (address_cmp q a) t)) | false ↦ λ t. there ] refl
+by_same P q a here there = elim (same q a) as (λ b. same q a ≡ b → P b) [
+  | true ↦ λ t. here (one_address q a (tied (address_cmp q a) t))
+  | false ↦ λ t. there
+] refl
 
 itself : (a : Address) → same a a ≡ true
 itself a = ap is_eq (tied_itself address_order a)
 
 -- ---- a write undone
 
-undone_new : (a : Address) (v : List ℕ) (es : List Entry) → Rises es → None ≡ value a es → remove_entry (is_at (address_cmp a)) (insert_entry address_cmp es a v) ≡ es
+undone_new : (a : Address) (v : List ℕ) (es : List Entry) → Rises es → None ≡ value a es
+    → remove_entry (is_at (address_cmp a)) (insert_entry address_cmp es a v) ≡ es
 undone_new a v es h e =
     one_map _ es (remove_rises a _ (insert_rises a v es h)) h (λ q.
     value_removed q a (insert_entry address_cmp es a v) (insert_rises a v es h) ∙ ap (cond (same q a) None) (value_inserted q a v es)
@@ -149,6 +155,7 @@ undone_old a v w es h e =
     value_inserted q a w written ∙ ap (cond (same q a) (Some w)) (value_inserted q a v es)
     ∙ by_same (λ b. cond b (Some w) (cond b (Some v) (value q es)) ≡ value q es) q a (λ p. e ∙ ap (λ x. value x es) (sym p)) refl)
 
-pub write_undone : (o : Option (List ℕ)) (a : Address) (v : List ℕ) (es : List Entry) → Rises es → o ≡ value a es → with_former (insert_entry address_cmp es a v) a o ≡ es
+pub write_undone : (o : Option (List ℕ)) (a : Address) (v : List ℕ) (es : List Entry) → Rises es → o ≡ value a es
+    → with_former (insert_entry address_cmp es a v) a o ≡ es
 write_undone None a v es h e = undone_new a v es h e
 write_undone (Some w) a v es h e = undone_old a v w es h e

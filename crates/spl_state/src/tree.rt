@@ -199,7 +199,8 @@ impl Tree {
         ensures deeper { self.now.depth ≤ result.now.depth }
         ensures low { result.now.depth ≤ end }
         ensures left { IsLeft end address.now result.now }
-        ensures found { lookup (is_at (tail_cmp result.now.depth address.now)) result.now.entries ≡ lookup (is_at (tail_cmp self.now.depth address.now)) self.now.entries }
+        ensures found { lookup (is_at (tail_cmp result.now.depth address.now)) result.now.entries
+            ≡ lookup (is_at (tail_cmp self.now.depth address.now)) self.now.entries }
         ensures shared { shares end result.now.depth address.now result.now.entries ≡ shares end self.now.depth address.now self.now.entries }
     {
         match &self.body {

@@ -35,7 +35,8 @@ impl Tree {
         ensures low { self.now.depth ≤ result.0 }
         ensures high { result.0 ≤ 70 }
         ensures many { (i : ℕ) → self.now.depth ≤ i → i < result.0 → 2 ≤ length (shares i self.now.depth address.now self.now.entries) }
-        ensures lone { let left = shares result.0 self.now.depth address.now self.now.entries in MatchOption result.1 (left ≡ []) (λ e. left ≡ (e.0, e.1.now) ∷ []) }
+        ensures lone { let left = shares result.0 self.now.depth address.now self.now.entries in
+            MatchOption result.1 (left ≡ []) (λ e. left ≡ (e.0, e.1.now) ∷ []) }
     {
         if self.size < 2 {
             return (self.depth, self.lone());

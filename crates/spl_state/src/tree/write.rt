@@ -1,5 +1,6 @@
 //! Entries written and removed: the digests on the path to them become stale.
-ghost use Rattle.std.specs.Prelude.{◌≡◌, ◌≤◌, ◌<◌, ◌+◌, length, min, replicate, true, false, Some, None, IfOk, IfSome, IfNone, OnOk, OnErr, is_some, [], ◌∷◌, if◌then◌else◌};
+ghost use Rattle.std.specs.Prelude.{◌≡◌, ◌≤◌, ◌<◌, ◌+◌, length, min, replicate, true, false, Some, None, IfOk, IfSome, IfNone, OnOk, OnErr};
+ghost use Rattle.std.specs.Prelude.{is_some, [], ◌∷◌, if◌then◌else◌};
 ghost use Rattle.std.specs.Map.{lookup, remove_entry};
 ghost use Rattle.std.specs.BTreeMap.{insert_entry, is_at};
 ghost use Rattle.spl_state.specs.Digits.{tail_cmp};
@@ -48,7 +49,8 @@ impl Tree {
         requires { self.old.depth ≤ 70 }
         ensures depth { self.new.depth ≡ self.old.depth }
         ensures ok { OnOk result (self.new.entries ≡ insert_entry (tail_cmp self.old.depth) self.old.entries address.now value.old) }
-        ensures replaced { IfOk result (λ found. (if found then Some value.new else None) ≡ lookup (is_at (tail_cmp self.old.depth address.now)) self.old.entries) }
+        ensures replaced { IfOk result (λ found. (if found then Some value.new else None)
+            ≡ lookup (is_at (tail_cmp self.old.depth address.now)) self.old.entries) }
         ensures err { OnErr result (self.new.entries ≡ self.old.entries) }
         ensures missing { OnErr result (lookup (is_at (tail_cmp self.old.depth address.now)) self.old.entries ≡ None) }
     {

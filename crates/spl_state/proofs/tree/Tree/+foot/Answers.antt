@@ -1,7 +1,7 @@
 -- Each part hands down what lies below in it.
-use Rattle.std.proofs.Common.{◌≡◌, ◌<◌, ◌≤◌, ◌∷◌, ◌+◌, ◌-◌, [], length, min, MatchOption, true, sym, ap, subst, ◌∙◌, arith}
+use Rattle.std.proofs.Common.{◌≡◌, ◌<◌, ◌≤◌, ◌∷◌, ◌-◌, [], length, MatchOption, true, sym, ap, subst, ◌∙◌, arith}
 use Rattle.spl_state.specs.Digits.{shares, same_digits}
-use Rattle.spl_state.specs.Kept.{IsInner, IsThin, all_entries, entries_of}
+use Rattle.spl_state.specs.Kept.{IsInner, IsThin, entries_of}
 use Rattle.spl_state.specs.Runs.{IsFirstApart}
 use Rattle.spl_state.proofs.Feet.{Crowded, crowded_inner, crowded_apart, crowded_thin, none_apart}
 use Rattle.spl_state.proofs.Prefixes.{shares_all, shares_below}

@@ -1,5 +1,5 @@
 -- A lone entry of many parts stands in the one that has entries.
-use Rattle.std.proofs.Common.{◌≡◌, ◌<◌, ◌∷◌, [], length, min, MatchOption, sym, ap, subst, ◌∙◌, arith}
+use Rattle.std.proofs.Common.{◌≡◌, ◌<◌, ◌∷◌, [], length, MatchOption, sym, ap, subst, ◌∙◌, arith}
 use Rattle.spl_state.specs.Kept.{IsInner, all_entries, entries_of}
 use Rattle.spl_state.proofs.Parts.{few_in}
 use Rattle.spl_state.proofs.Steps.{depth_of}
