@@ -1,11 +1,11 @@
 -- The byte forms of definitions and acts (docs/RULES.md, Byte forms).
-use Rattle.std.specs.Prelude.{◌≡◌, ℕ, ◌^◌, List, [], ◌∷◌, refl}
+use Rattle.std.specs.Prelude.{ℕ, ◌^◌, List, [], ◌∷◌, refl}
 use Rattle.std.proofs.Common.{lit<}
 use Rattle.std.specs.Int.{w8, w32}
 use Rattle.spl_base.specs.Ids.{is_node_id, is_circuit_id, is_service_id, is_label}
 use Rattle.spl_base.specs.Form.{Form, IsExact, number, raw, text, ◌&◌, via, list_of, nothing, Case, case, Filled, filled, sum_of}
 use Rattle.spl_base.specs.FormLaws.{wide8, wide32, exact_number, exact_raw, exact_text, exact_and, exact_via, exact_list, exact_nothing}
-use Rattle.spl_base.specs.FormLaws.{IsMade, exact_sum}
+use Rattle.spl_base.specs.SumLaws.{◌also◌, IsMade, exact_sum}
 use Rattle.spl_circuit.specs.declared.definition.Service.{Service}
 use Rattle.spl_circuit.specs.declared.definition.Definition.{Definition}
 use Rattle.spl_circuit.specs.declared.act.ActKind.{ActKind}
@@ -41,7 +41,15 @@ lists = list_of 16 node_id & list_of 16 service
 -- id, generation, version, management, name, members and services
 abbrev pub definition : Form Definition
 definition =
-    via (λ x. record { id = x.0; generation = x.1.0; version = x.1.1.0; management = x.1.1.1.0; name = x.1.1.1.1.0; members = x.1.1.1.1.1.0; services = x.1.1.1.1.1.1 })
+    via (λ x. record {
+      id = x.0;
+      generation = x.1.0;
+      version = x.1.1.0;
+      management = x.1.1.1.0;
+      name = x.1.1.1.1.0;
+      members = x.1.1.1.1.1.0;
+      services = x.1.1.1.1.1.1;
+    })
     (λ d. (d.id, (d.generation, (d.version, (d.management, (d.name, (d.members, d.services)))))))
     (circuit_id & word & byte & label & label & lists)
 
@@ -108,27 +116,15 @@ kind_made k = record { value = refl; small = refl }
 
 pub exact_kind : IsExact kind
 exact_kind = exact_sum kinds kind_fields kind_made (
-  (exact_definition, λ _. refl),
-  (
-    (exact_nothing, λ _. refl),
-    (
-      (exact_nothing, λ _. refl),
-      (
-        (exact_nothing, λ _. refl),
-        (
-          (exact_nothing, λ _. refl),
-          (
-            (exact_word, λ _. refl),
-            (
-              (exact_word, λ _. refl),
-              ((exact_word, λ _. refl), tt),
-            ),
-          ),
-        ),
-      ),
-    ),
-  ),
-)
+    (exact_definition, λ _. refl)
+    also (exact_nothing, λ _. refl)
+    also (exact_nothing, λ _. refl)
+    also (exact_nothing, λ _. refl)
+    also (exact_nothing, λ _. refl)
+    also (exact_word, λ _. refl)
+    also (exact_word, λ _. refl)
+    also (exact_word, λ _. refl)
+    also tt)
 
 pub exact_act : IsExact act
 exact_act = exact_via _ _ _ (λ _. refl) (λ _. refl) (exact_and _ _ exact_node_id (exact_and _ _ exact_word exact_kind))

@@ -46,11 +46,13 @@ state_by d p before behind = if has_all d.members p.accepted then behind else be
 -- one act more, at this place
 abbrev pub life_after : Definition → ℕ → Life → Node → ActKind → Life
 life_after d place l n (kind.Propose e) = record { state = lifecycle.Proposed; circuit = asked_at place n; disband = l.disband }
-life_after d place l n kind.Accept = record { state = state_by d (accepted_by l.circuit n) l.state lifecycle.Active; circuit = accepted_by l.circuit n; disband = l.disband }
+life_after d place l n kind.Accept =
+    record { state = state_by d (accepted_by l.circuit n) l.state lifecycle.Active; circuit = accepted_by l.circuit n; disband = l.disband }
 life_after d place l n kind.Reject = record { state = lifecycle.Rejected; circuit = l.circuit; disband = l.disband }
 life_after d place l n kind.Remove = record { state = lifecycle.Removed; circuit = l.circuit; disband = l.disband }
 life_after d place l n kind.Disband = record { state = lifecycle.Disbanding; circuit = l.circuit; disband = asked_at place n }
-life_after d place l n (kind.DisbandAccept p) = record { state = state_by d (accepted_by l.disband n) l.state lifecycle.Disbanded; circuit = l.circuit; disband = accepted_by l.disband n }
+life_after d place l n (kind.DisbandAccept p) =
+    record { state = state_by d (accepted_by l.disband n) l.state lifecycle.Disbanded; circuit = l.circuit; disband = accepted_by l.disband n }
 life_after d place l n (kind.DisbandReject p) = record { state = lifecycle.Active; circuit = l.circuit; disband = l.disband }
 life_after d place l n (kind.DisbandRemove p) = record { state = lifecycle.Active; circuit = l.circuit; disband = l.disband }
 

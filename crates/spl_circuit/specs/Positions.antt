@@ -11,11 +11,21 @@ pub before_same : (ms : List Node) (a b : Node) → has_node ms a ≡ true → h
 before_same [] a b p q e = cc
 before_same (m ∷ ms) a b p q e = go (bool_cases (bytes_eq m a)) (bool_cases (bytes_eq m b)) (before_same ms a b)
   where
-    go : (bytes_eq m a ≡ true) ⊎ (bytes_eq m a ≡ false) → (bytes_eq m b ≡ true) ⊎ (bytes_eq m b ≡ false) → (has_node ms a ≡ true → has_node ms b ≡ true → before_node ms a ≡ before_node ms b → a ≡ b) → a ≡ b
+    go : (bytes_eq m a ≡ true) ⊎ (bytes_eq m a ≡ false) → (bytes_eq m b ≡ true) ⊎ (bytes_eq m b ≡ false)
+        → (has_node ms a ≡ true → has_node ms b ≡ true → before_node ms a ≡ before_node ms b → a ≡ b) → a ≡ b
     go (inl x) (inl y) rest = sym (node_is m a x) ∙ node_is m b y
-    go (inl x) (inr y) rest = let k : before_node (m ∷ ms) a ≡ 0 = rw x in let l : before_node (m ∷ ms) b ≡ suc (before_node ms b) = rw y in absurd (omega arith)
-    go (inr x) (inl y) rest = let k : before_node (m ∷ ms) a ≡ suc (before_node ms a) = rw x in let l : before_node (m ∷ ms) b ≡ 0 = rw y in absurd (omega arith)
-    go (inr x) (inr y) rest = let k : before_node (m ∷ ms) a ≡ suc (before_node ms a) = rw x in let l : before_node (m ∷ ms) b ≡ suc (before_node ms b) = rw y in rest (rw x at p) (rw y at q) (omega arith)
+    go (inl x) (inr y) rest =
+        let k : before_node (m ∷ ms) a ≡ 0 = rw x in
+        let l : before_node (m ∷ ms) b ≡ suc (before_node ms b) = rw y in
+        absurd (omega arith)
+    go (inr x) (inl y) rest =
+        let k : before_node (m ∷ ms) a ≡ suc (before_node ms a) = rw x in
+        let l : before_node (m ∷ ms) b ≡ 0 = rw y in
+        absurd (omega arith)
+    go (inr x) (inr y) rest =
+        let k : before_node (m ∷ ms) a ≡ suc (before_node ms a) = rw x in
+        let l : before_node (m ∷ ms) b ≡ suc (before_node ms b) = rw y in
+        rest (rw x at p) (rw y at q) (omega arith)
 
 pub before_below : (ms : List Node) (a : Node) → has_node ms a ≡ true → before_node ms a < length ms
 before_below [] a p = cc
@@ -29,7 +39,8 @@ pub node_before : (ms : List Node) (back a : Node) → has_node ms a ≡ true �
 node_before [] back a p = cc
 node_before (m ∷ ms) back a p = go (bool_cases (bytes_eq m a)) (node_before ms back a)
   where
-    go : (bytes_eq m a ≡ true) ⊎ (bytes_eq m a ≡ false) → (has_node ms a ≡ true → node_or ms back (before_node ms a) ≡ a) → node_or (m ∷ ms) back (before_node (m ∷ ms) a) ≡ a
+    go : (bytes_eq m a ≡ true) ⊎ (bytes_eq m a ≡ false) → (has_node ms a ≡ true → node_or ms back (before_node ms a) ≡ a)
+        → node_or (m ∷ ms) back (before_node (m ∷ ms) a) ≡ a
     go (inl x) rest = let k : before_node (m ∷ ms) a ≡ 0 = rw x in rw k (node_is m a x)
     go (inr x) rest = let k : before_node (m ∷ ms) a ≡ suc (before_node ms a) = rw x in rw k (rest (rw x at p))
 
@@ -38,7 +49,10 @@ position_member ms a h = rw h
 
 -- a member's position is below their number
 pub position_below : (ms : List Node) (a : Node) → has_node ms a ≡ true → position ms a < length ms
-position_below ms a h = let k : position ms a ≡ before_node ms a = position_member ms a h in let l : before_node ms a < length ms = before_below ms a h in omega arith
+position_below ms a h =
+    let k : position ms a ≡ before_node ms a = position_member ms a h in
+    let l : before_node ms a < length ms = before_below ms a h in
+    omega arith
 
 -- a node whose position is below their number is a member
 pub member_below : (ms : List Node) (a : Node) → length ms ≤ 8 → position ms a < length ms → has_node ms a ≡ true

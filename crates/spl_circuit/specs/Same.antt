@@ -57,7 +57,15 @@ services_same (s ∷ ss) = and_from (same_service s s) (same_services ss ss) (se
 -- ---- definitions
 
 abbrev definition_by : List ℕ → ℕ → ℕ → List ℕ → List ℕ → List Node → List Service → Definition
-definition_by id generation version management name members services = record { id = id; generation = generation; version = version; management = management; name = name; members = members; services = services }
+definition_by id generation version management name members services = record {
+  id = id;
+  generation = generation;
+  version = version;
+  management = management;
+  name = name;
+  members = members;
+  services = services;
+}
 
 made_definition : (a a2 : List ℕ) (b b2 c c2 : ℕ) (x x2 y y2 : List ℕ) (ms ms2 : List Node) (ss ss2 : List Service)
     → a ≡ a2 → b ≡ b2 → c ≡ c2 → x ≡ x2 → y ≡ y2 → ms ≡ ms2 → ss ≡ ss2
@@ -82,7 +90,9 @@ definition_is d e h =
     (services_are d.services e.services lists.1)
 
 pub definition_same : (d : Definition) → same_definition d d ≡ true
-definition_same d = rw (node_same d.id, eqb_same d.generation, eqb_same d.version, node_same d.management, node_same d.name, nodes_same d.members, services_same d.services) refl
+definition_same d = rw
+    (node_same d.id, eqb_same d.generation, eqb_same d.version, node_same d.management, node_same d.name, nodes_same d.members, services_same d.services)
+    refl
 
 pub same_definitions : (d e : Definition) → (same_definition d e ≡ true) ↔ (d ≡ e)
 same_definitions d e = (definition_is d e, λ p. ap (same_definition d) (sym p) ∙ definition_same d)

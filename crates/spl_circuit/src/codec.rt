@@ -1,7 +1,8 @@
 //! The byte forms of definitions and acts.
 ghost use Rattle.std.specs.Prelude.{◌≡◌, ◌++◌, ◌+◌, List, ℕ, length, Ok, None, IsTrue, OnOk, OnErr, IfOk};
 ghost use Rattle.spl_base.specs.Input.{Input};
-ghost use Rattle.spl_base.specs.Form.{Reads};
+ghost use Rattle.spl_base.specs.Form.{Reads, IsReadBack};
+ghost use Rattle.spl_base.specs.Front.{NoneBeginsAnother};
 ghost use Rattle.spl_circuit.specs.Forms.{definition, act};
 ghost use Rattle.spl_circuit.specs.Rules.{broken};
 ghost use Rattle.spl_circuit.specs.declared.definition.Definition.{Definition as Circuit};
@@ -78,20 +79,20 @@ pub fn valid_definitions_have_a_form()
 
 /// What is spelled is read back, whatever follows it.
 pub fn definitions_are_read_back()
-    ensures { (d : Circuit) (rest : List ℕ) (place : ℕ) → IsTrue (definition.fits d) → definition.parse (record { rest = definition.spell d ++ rest; place = place }) ≡ Ok (d, record { rest = rest; place = place + length (definition.spell d) }) }
+    ensures { (d : Circuit) (rest : List ℕ) (place : ℕ) → IsReadBack definition d rest place }
 {}
 
 /// No spelling of a definition begins another.
 pub fn no_definition_begins_another()
-    ensures { (d e : Circuit) (x y : List ℕ) → IsTrue (definition.fits d) → IsTrue (definition.fits e) → definition.spell d ++ x ≡ definition.spell e ++ y → (d ≡ e) × (x ≡ y) }
+    ensures { NoneBeginsAnother definition }
 {}
 
 /// What is spelled is read back, whatever follows it.
 pub fn acts_are_read_back()
-    ensures { (a : Deed) (rest : List ℕ) (place : ℕ) → IsTrue (act.fits a) → act.parse (record { rest = act.spell a ++ rest; place = place }) ≡ Ok (a, record { rest = rest; place = place + length (act.spell a) }) }
+    ensures { (a : Deed) (rest : List ℕ) (place : ℕ) → IsReadBack act a rest place }
 {}
 
 /// No spelling of an act begins another.
 pub fn no_act_begins_another()
-    ensures { (a b : Deed) (x y : List ℕ) → IsTrue (act.fits a) → IsTrue (act.fits b) → act.spell a ++ x ≡ act.spell b ++ y → (a ≡ b) × (x ≡ y) }
+    ensures { NoneBeginsAnother act }
 {}
