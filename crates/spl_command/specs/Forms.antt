@@ -1,11 +1,11 @@
 -- The byte forms of commands, transactions and batches (docs/RULES.md, Byte forms).
-use Rattle.std.specs.Prelude.{◌≡◌, ℕ, ◌^◌, Bool, true, List, [], ◌∷◌, refl}
+use Rattle.std.specs.Prelude.{ℕ, ◌^◌, Bool, true, List, [], ◌∷◌, refl}
 use Rattle.std.proofs.Common.{lit<}
 use Rattle.std.specs.Int.{w8, w64}
 use Rattle.spl_base.specs.Ids.{is_label}
 use Rattle.spl_base.specs.Form.{Form, IsExact, number, raw, sized, text, string, ◌&◌, via, list_of, Case, case, Filled, filled, sum_of}
 use Rattle.spl_base.specs.FormLaws.{wide8, wide64, exact_number, exact_raw, exact_sized, exact_text, exact_string, exact_and, exact_via, exact_list}
-use Rattle.spl_base.specs.FormLaws.{IsMade, exact_sum}
+use Rattle.spl_base.specs.SumLaws.{◌also◌, IsMade, exact_sum}
 use Rattle.spl_base.specs.declared.piece.TheConstants.{LONGEST_PIECE}
 use Rattle.spl_state.specs.declared.address.Address.{Address}
 use Rattle.spl_command.specs.declared.batch.TheConstants.{MOST_ITEMS}
@@ -92,24 +92,14 @@ command_made k = record { value = refl; small = refl }
 
 pub exact_command : IsExact command
 exact_command = exact_sum commands command_fields command_made (
-  (exact_and _ _ exact_address exact_piece, λ _. refl),
-  (
-    (exact_address, λ _. refl),
-    (
-      (exact_address, λ _. refl),
-      (
-        (exact_and _ _ exact_label exact_piece, λ _. refl),
-        (
-          (exact_piece, λ _. refl),
-          (
-            (exact_label, λ _. refl),
-            ((exact_label, λ _. refl), tt),
-          ),
-        ),
-      ),
-    ),
-  ),
-)
+    (exact_and _ _ exact_address exact_piece, λ _. refl)
+    also (exact_address, λ _. refl)
+    also (exact_address, λ _. refl)
+    also (exact_and _ _ exact_label exact_piece, λ _. refl)
+    also (exact_piece, λ _. refl)
+    also (exact_label, λ _. refl)
+    also (exact_label, λ _. refl)
+    also tt)
 
 pub exact_transaction : IsExact transaction
 exact_transaction = exact_via _ _ _ (λ _. refl) (λ _. refl)

@@ -77,10 +77,12 @@ batch_by id transactions = record { id = id; transactions = transactions }
 batch_is : (b c : Batch) → same_batch b c ≡ true → b ≡ c
 batch_is b c h =
     let p = and_parts (b.id == c.id) (same_list same_transaction b.transactions c.transactions) h in
-    ap (λ x. batch_by x b.transactions) (eqb-true b.id c.id p.0) ∙ ap (batch_by c.id) (list_is same_transaction transaction_is b.transactions c.transactions p.1)
+    ap (λ x. batch_by x b.transactions) (eqb-true b.id c.id p.0) ∙ ap (batch_by c.id)
+    (list_is same_transaction transaction_is b.transactions c.transactions p.1)
 
 batch_same : (b : Batch) → same_batch b b ≡ true
-batch_same b = and_from (b.id == b.id) (same_list same_transaction b.transactions b.transactions) (eq-eqb b.id b.id refl) (list_same same_transaction transaction_same b.transactions)
+batch_same b = and_from (b.id == b.id) (same_list same_transaction b.transactions b.transactions)
+    (eq-eqb b.id b.id refl) (list_same same_transaction transaction_same b.transactions)
 
 pub same_batches : (b c : Batch) → (same_batch b c ≡ true) ↔ (b ≡ c)
 same_batches b c = (batch_is b c, λ e. ap (same_batch b) (sym e) ∙ batch_same b)

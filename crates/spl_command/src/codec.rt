@@ -1,7 +1,8 @@
 //! The byte form of batches.
 ghost use Rattle.std.specs.Prelude.{◌≡◌, ◌++◌, ◌+◌, List, ℕ, length, Ok, IsTrue, OnOk, OnErr};
 ghost use Rattle.spl_base.specs.Input.{Input};
-ghost use Rattle.spl_base.specs.Form.{Reads};
+ghost use Rattle.spl_base.specs.Form.{Reads, IsReadBack};
+ghost use Rattle.spl_base.specs.Front.{NoneBeginsAnother};
 ghost use Rattle.spl_command.specs.Forms.{batch};
 ghost use Rattle.spl_command.specs.declared.batch.Batch.{Batch as Group};
 
@@ -34,10 +35,10 @@ impl Batch {
 
 /// What is spelled is read back, whatever follows it.
 pub fn batches_are_read_back()
-    ensures { (b : Group) (rest : List ℕ) (place : ℕ) → IsTrue (batch.fits b) → batch.parse (record { rest = batch.spell b ++ rest; place = place }) ≡ Ok (b, record { rest = rest; place = place + length (batch.spell b) }) }
+    ensures { (b : Group) (rest : List ℕ) (place : ℕ) → IsReadBack batch b rest place }
 {}
 
 /// No spelling of a batch begins another.
 pub fn no_batch_begins_another()
-    ensures { (b c : Group) (x y : List ℕ) → IsTrue (batch.fits b) → IsTrue (batch.fits c) → batch.spell b ++ x ≡ batch.spell c ++ y → (b ≡ c) × (x ≡ y) }
+    ensures { NoneBeginsAnother batch }
 {}

@@ -90,7 +90,8 @@ impl Receipt {
 
     /// Adds what a command leaves.
     fn add(&mut self, alloc: Global, command: &Command, past: &Past) -> Result<(), AllocError>
-        ensures { OnOk result (self.new ≡ receipt_after (values_before past.now.state.now past.now.transactions.now past.now.commands.now) self.old command.now) }
+        ensures { let values = values_before past.now.state.now past.now.transactions.now past.now.commands.now in
+            OnOk result (self.new ≡ receipt_after values self.old command.now) }
     {
         match command {
             Command::Set(address, value) => {

@@ -24,7 +24,8 @@ pub fn valid_batches_have_a_form()
 /// On a state in address order, the changes of a valid batch make the state that its commands
 /// left, again in address order.
 pub fn the_changes_make_the_state()
-    ensures { (m : List Entry) (b : Batch) → IsTrue (is_sorted address_cmp m) → cause_of b ≡ None → IsTrue (is_sorted address_cmp (after_batch m b)) × ((a : Address) → values_of (after_batch m b) a ≡ values_behind (values_of m) b.transactions a) }
+    ensures { (m : List Entry) (b : Batch) → IsTrue (is_sorted address_cmp m) → cause_of b ≡ None
+        → IsTrue (is_sorted address_cmp (after_batch m b)) × ((a : Address) → values_of (after_batch m b) a ≡ values_behind (values_of m) b.transactions a) }
 {}
 
 /// The state of a list of batches is in address order, each address once.
