@@ -8,7 +8,6 @@ use Rattle.spl_base.specs.FormLaws.{wide8, wide16}
 use Rattle.spl_base.specs.Rules.{test_at}
 use Rattle.spl_agree.specs.declared.event.GroupChange.{GroupChange}
 use Rattle.spl_agree.specs.declared.event.GroupChange.TheVariants.{Queue, Refuse, Begin, Seen, Promise, Abort, Commit, Restore, Kept}
-use Rattle.spl_circuit.specs.declared.act.Act.{Act}
 use Rattle.spl_circuit.specs.Forms.{circuit_id, definition, word, act}
 use Rattle.spl_command.specs.declared.batch.Batch.{Batch}
 use Rattle.spl_base.specs.Booleans.{none_is}

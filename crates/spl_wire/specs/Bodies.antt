@@ -2,7 +2,8 @@
 use Rattle.std.specs.Prelude.{ℕ, ◌^◌, List, [], ◌∷◌, refl}
 use Rattle.std.specs.Int.{w64}
 use Rattle.spl_base.specs.Form.{Form, IsExact, number, flag, ◌&◌, via, Case, case, Filled, filled, sum_of}
-use Rattle.spl_base.specs.FormLaws.{wide64, exact_number, exact_flag, exact_and, exact_via, IsMade, exact_sum}
+use Rattle.spl_base.specs.FormLaws.{wide64, exact_number, exact_flag, exact_and, exact_via}
+use Rattle.spl_base.specs.SumLaws.{◌also◌, IsMade, exact_sum}
 use Rattle.spl_agree.specs.declared.reason.Reason.{Reason}
 use Rattle.spl_agree.specs.declared.message.CommitMsg.{CommitMsg}
 use Rattle.spl_agree.specs.declared.message.CommitMsg.TheVariants as commit
@@ -52,18 +53,10 @@ module _ {V : Type 0} (value : Form V) where
 
   pub exact_body : IsExact value → IsExact body
   exact_body p = exact_sum bodies body_fields body_made (
-    (exact_and _ _ exact_word (exact_and _ _ exact_long (exact_and _ _ exact_word p)), λ _. refl),
-    (
-      (exact_and _ _ exact_word (exact_and _ _ exact_long exact_flag), λ _. refl),
-      (
-        (exact_and _ _ exact_word (exact_and _ _ exact_long exact_flag), λ _. refl),
-        (
-          (exact_and _ _ exact_word exact_long, λ _. refl),
-          (
-            (exact_and _ _ exact_word p, λ _. refl),
-            ((exact_and _ _ exact_word (exact_and _ _ p exact_reason), λ _. refl), tt),
-          ),
-        ),
-      ),
-    ),
-  )
+      (exact_and _ _ exact_word (exact_and _ _ exact_long (exact_and _ _ exact_word p)), λ _. refl)
+      also (exact_and _ _ exact_word (exact_and _ _ exact_long exact_flag), λ _. refl)
+      also (exact_and _ _ exact_word (exact_and _ _ exact_long exact_flag), λ _. refl)
+      also (exact_and _ _ exact_word exact_long, λ _. refl)
+      also (exact_and _ _ exact_word p, λ _. refl)
+      also (exact_and _ _ exact_word (exact_and _ _ p exact_reason), λ _. refl)
+      also tt)

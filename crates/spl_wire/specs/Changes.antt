@@ -3,9 +3,11 @@ use Rattle.std.specs.Prelude.{◌≡◌, ℕ, zero, suc, ◌+◌, ◌^◌, ◌<�
 use Rattle.std.proofs.Common.{lit<, subst, ap, ◌∙◌}
 use Rattle.std.specs.Int.{w8}
 use Rattle.spl_base.specs.Input.{Input, ◌>>=◌}
-use Rattle.spl_base.specs.Form.{Form, Parsed, number_bytes, ◌&◌, nothing, Case, case, Filled, filled, put_by, has_tag, read_by, Tagged, Tags, tags_of, numbered, tagged}
+use Rattle.spl_base.specs.Form.{Form, Parsed, number_bytes, ◌&◌, nothing}
+use Rattle.spl_base.specs.Form.{Case, case, Filled, filled, put_by, has_tag, read_by, Tagged, Tags, tags_of, numbered, tagged}
 use Rattle.spl_base.specs.Form.{IsBytes, Taken, IsReadFrom, IsExact, TakenBehind, IsExactTags, AreExact}
-use Rattle.spl_base.specs.FormLaws.{bind_ok, ok_is, exact_and, exact_nothing, again_by, takes_by, IsMade, exact_tags, again_numbered, takes_numbered, taken_behind, exact_tagged}
+use Rattle.spl_base.specs.FormLaws.{bind_ok, ok_is, exact_and, exact_nothing}
+use Rattle.spl_base.specs.SumLaws.{◌also◌, again_by, takes_by, IsMade, exact_tags, again_numbered, takes_numbered, taken_behind, exact_tagged}
 use Rattle.spl_agree.specs.declared.event.GroupChange.{GroupChange}
 use Rattle.spl_agree.specs.declared.event.GroupChange.TheVariants.{Queue, Refuse, Begin, Seen, Promise, Abort, Commit, Restore, Kept}
 use Rattle.spl_circuit.specs.Forms.{word, definition, act, exact_word, exact_definition, exact_act}
@@ -105,30 +107,16 @@ module _ {V : Type 0} (value : Form V) (p : IsExact value) where
 
   exact_group : IsExactTags (group_tags value)
   exact_group = exact_tags (group_changes value) (group_fields value) group_made (
-    (p, λ _. refl),
-    (
-      (exact_and _ _ p exact_reason, λ _. refl),
-      (
-        (exact_long, λ _. refl),
-        (
-          (exact_long, λ _. refl),
-          (
-            (exact_and _ _ exact_long p, λ _. refl),
-            (
-              (exact_nothing, λ _. refl),
-              (
-                (exact_and _ _ exact_long p, λ _. refl),
-                (
-                  (exact_and _ _ exact_long exact_long, λ _. refl),
-                  ((exact_and _ _ p exact_reason, λ _. refl), tt),
-                ),
-              ),
-            ),
-          ),
-        ),
-      ),
-    ),
-  )
+      (p, λ _. refl)
+      also (exact_and _ _ p exact_reason, λ _. refl)
+      also (exact_long, λ _. refl)
+      also (exact_long, λ _. refl)
+      also (exact_and _ _ exact_long p, λ _. refl)
+      also (exact_nothing, λ _. refl)
+      also (exact_and _ _ exact_long p, λ _. refl)
+      also (exact_and _ _ exact_long exact_long, λ _. refl)
+      also (exact_and _ _ p exact_reason, λ _. refl)
+      also tt)
 
   has_group : (x : GroupChange V) → is_of_group (put_change value x).tag ≡ true
   has_group (Queue v) = refl
@@ -160,7 +148,12 @@ module _ {V : Type 0} (value : Form V) (p : IsExact value) where
 
 cells : AreExact put cell_changes
 cells =
-    ((exact_definition, λ _. refl), ((exact_nothing, λ _. refl), ((exact_nothing, λ _. refl), ((exact_word, λ _. refl), ((exact_word, λ _. refl), tt)))))
+    (exact_definition, λ _. refl)
+    also (exact_nothing, λ _. refl)
+    also (exact_nothing, λ _. refl)
+    also (exact_word, λ _. refl)
+    also (exact_word, λ _. refl)
+    also tt
 
 change_small : (x : Change) → (put x).tag < 256
 change_small (Admin x) = (exact_group act exact_act).small x
@@ -181,7 +174,8 @@ change_again (Gone n) rest place at h = again_by put cell_changes cells 14 n res
 change_takes : (tag at : ℕ) (s : Input) (x : Change) (t : Input) → IsBytes s.rest → take tag at s ≡ Ok (x, t) → TakenBehind put tag s x t
 change_takes tag at s x t bytes e = by_kind (is_of_group tag) e
   where
-    by_number : (group : ℕ) (u : Input) → Taken (number_bytes w8) (λ n. nat_lt n (2 ^ 8)) s group u → of_group tag group s.place u ≡ Ok (x, t) → TakenBehind put tag s x t
+    by_number : (group : ℕ) (u : Input) → Taken (number_bytes w8) (λ n. nat_lt n (2 ^ 8)) s group u → of_group tag group s.place u ≡ Ok (x, t)
+        → TakenBehind put tag s x t
     by_number zero u first k = absurd cc
     by_number (suc zero) u first k = takes_group act exact_act 1 (λ y. Admin y) (λ y. refl) tag s u x t first k
     by_number (suc (suc zero)) u first k = takes_group batch exact_batch 2 (λ y. Service y) (λ y. refl) tag s u x t first k

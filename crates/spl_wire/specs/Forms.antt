@@ -2,7 +2,8 @@
 use Rattle.std.specs.Prelude.{List, [], ◌∷◌, refl}
 use Rattle.std.proofs.Common.{lit<}
 use Rattle.spl_base.specs.Form.{Form, IsExact, ◌&◌, via, list_of, Case, case, Filled, filled, sum_of}
-use Rattle.spl_base.specs.FormLaws.{exact_and, exact_via, exact_list, IsMade, exact_sum}
+use Rattle.spl_base.specs.FormLaws.{exact_and, exact_via, exact_list}
+use Rattle.spl_base.specs.SumLaws.{◌also◌, IsMade, exact_sum}
 use Rattle.spl_circuit.specs.Forms.{circuit_id, service_id, act, exact_circuit_id, exact_service_id, exact_act}
 use Rattle.spl_command.specs.Forms.{batch, exact_batch}
 use Rattle.spl_wire.specs.Bodies.{body, exact_body}
@@ -34,9 +35,9 @@ lane_made (message.Scabbard c s t b) = record { value = refl; small = refl }
 
 pub exact_message : IsExact message_form
 exact_message = exact_sum lanes lane_fields lane_made (
-  (exact_and _ _ exact_circuit_id (exact_body _ exact_act), λ _. refl),
-  ((exact_and _ _ exact_circuit_id (exact_and _ _ exact_service_id (exact_and _ _ exact_service_id (exact_body _ exact_batch))), λ _. refl), tt),
-)
+    (exact_and _ _ exact_circuit_id (exact_body _ exact_act), λ _. refl)
+    also (exact_and _ _ exact_circuit_id (exact_and _ _ exact_service_id (exact_and _ _ exact_service_id (exact_body _ exact_batch))), λ _. refl)
+    also tt)
 
 -- ---- records
 

@@ -26,7 +26,12 @@ is_full c n w = nat_lt 0 n && not (nat_lt n MOST_CHANGES && nat_le (sealed_size 
 
 -- the record of the first bytes is the last one, and the one that is begun has those behind them, and no change yet
 abbrev pub closed : ℕ → PackingView → PackingView
-closed start p = record { circuit = p.circuit; records = p.records ++ sealed p.circuit p.count (take start p.written) ∷ []; count = 0; written = drop start p.written }
+closed start p = record {
+  circuit = p.circuit;
+  records = p.records ++ sealed p.circuit p.count (take start p.written) ∷ [];
+  count = 0;
+  written = drop start p.written;
+}
 
 -- the bytes of one more change stand in the record that is begun
 abbrev pub written_behind : PackingView → List ℕ → PackingView

@@ -81,10 +81,9 @@ impl Field for Message {
 }
 
 impl Message {
-    ghost use Rattle.std.specs.Prelude.{◌≡◌, ◌++◌, IsTrue, IfOk, OnOk, Ok, List, ℕ, length, drop};
-    ghost use Rattle.spl_base.specs.Front.{front_of, Answers};
+    ghost use Rattle.std.specs.Prelude.{◌≡◌, ◌++◌, IsTrue, IfOk, OnOk, drop};
+    ghost use Rattle.spl_base.specs.Front.{front_of, Answers, ReadsBack};
     ghost use Rattle.spl_wire.specs.Forms.{message_form};
-    ghost use Rattle.spl_wire.specs.declared.message.Message.{Message as Sent};
 
     /// The byte form, which a message has where a definition in it has at most 16 members and at
     /// most 16 services, and a batch in it has lists of at most 1,024 items and byte strings of at
@@ -103,7 +102,7 @@ impl Message {
         ensures exact { Answers result (front_of message_form bytes.now) }
         ensures found { IfOk result (λ x. (bytes.now ≡ message_form.spell x.0 ++ drop x.1 bytes.now) × IsTrue (message_form.fits x.0)) }
         ensures bounded { IfOk result (λ x. IsTrue (message_form.bounded x.0)) }
-        ensures only { (x : Sent) (rest : List ℕ) → IsTrue (message_form.fits x) → bytes.now ≡ message_form.spell x ++ rest → Answers result (Ok (x, length (message_form.spell x))) }
+        ensures only { ReadsBack message_form bytes.now result }
     {
         read_front(alloc, bytes)
     }

@@ -41,10 +41,9 @@ impl Field for Record {
 }
 
 impl Record {
-    ghost use Rattle.std.specs.Prelude.{◌≡◌, ◌++◌, IsTrue, IfOk, OnOk, Ok, List, ℕ, length, drop};
-    ghost use Rattle.spl_base.specs.Front.{front_of, Answers};
+    ghost use Rattle.std.specs.Prelude.{◌≡◌, ◌++◌, IsTrue, IfOk, OnOk, drop};
+    ghost use Rattle.spl_base.specs.Front.{front_of, Answers, ReadsBack};
     ghost use Rattle.spl_wire.specs.Forms.{record_form};
-    ghost use Rattle.spl_wire.specs.declared.record.Record.{Record as Kept};
 
     /// The byte form, which a record of at most `MOST_CHANGES` changes has where each definition in it has at
     /// most 16 members and at most 16 services, and each batch in it has lists of at most 1,024
@@ -63,7 +62,7 @@ impl Record {
         ensures exact { Answers result (front_of record_form bytes.now) }
         ensures found { IfOk result (λ x. (bytes.now ≡ record_form.spell x.0 ++ drop x.1 bytes.now) × IsTrue (record_form.fits x.0)) }
         ensures bounded { IfOk result (λ x. IsTrue (record_form.bounded x.0)) }
-        ensures only { (x : Kept) (rest : List ℕ) → IsTrue (record_form.fits x) → bytes.now ≡ record_form.spell x ++ rest → Answers result (Ok (x, length (record_form.spell x))) }
+        ensures only { ReadsBack record_form bytes.now result }
     {
         read_front(alloc, bytes)
     }
