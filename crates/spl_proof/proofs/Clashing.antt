@@ -2,7 +2,7 @@
 use Rattle.std.proofs.Common.{◌≡◌, ◌≢◌, ℕ, zero, suc, ◌+◌, ◌<◌, ◌≤◌, List, [], ◌∷◌, ◌++◌, length, get_or, take, drop, refl, sym, ap, subst, ◌∙◌, arith, add-one, IsTrue}
 use Rattle.std.specs.List.{flat_map}
 use Rattle.std.specs.Prelude.{slice_index_or}
-use Rattle.std.proofs.lemmas.List.{drop_all, take_all, take_more, append-nil}
+use Rattle.std.proofs.lemmas.List.{drop_all, take_more, append-nil}
 use Rattle.std.proofs.Math.Seq.{drop-cons}
 use Rattle.sha2.specs.Sha256.{sha256}
 use Rattle.spl_state.specs.declared.address.Address.{Address}

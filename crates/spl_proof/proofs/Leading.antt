@@ -1,11 +1,11 @@
 -- A proof is accepted where its levels lead from the root down to the end.
-use Rattle.std.proofs.Common.{◌≡◌, ℕ, ◌+◌, Bool, true, false, ◌&&◌, IsTrue, List, [], ◌∷◌, length, Option, refl, sym, ap, subst, ◌∙◌}
-use Rattle.std.specs.Prelude.{◌↔◌, slice_index_or}
+use Rattle.std.proofs.Common.{◌≡◌, ℕ, ◌+◌, List, [], ◌∷◌, length, Option, sym}
+use Rattle.std.specs.Prelude.{slice_index_or}
 use Rattle.spl_state.specs.declared.address.Address.{Address}
 use Rattle.spl_state.specs.Root.{digit_of}
 use Rattle.spl_proof.specs.declared.proof.End.{End}
 use Rattle.spl_proof.specs.declared.proof.Proof.{Proof}
-use Rattle.spl_proof.specs.Accepted.{Level, level_digest, end_digest, top, AllFit, Says, IsAccepted, Leads}
+use Rattle.spl_proof.specs.Accepted.{Level, top, AllFit, Says, IsAccepted, Leads}
 
 pub leads_from : (d : List ℕ) (i : ℕ) (a : Address) (ls : List Level) (e : End) → top ls e ≡ d → AllFit i a ls e → Leads d i a ls e
 leads_from d i a [] e h fit = h

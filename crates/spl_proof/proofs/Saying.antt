@@ -1,12 +1,12 @@
 -- The end of a state's proof says what the state has; an end says one thing of an address.
-use Rattle.std.proofs.Common.{◌≡◌, ◌≢◌, ℕ, zero, suc, ◌+◌, Bool, true, false, cond, List, [], ◌∷◌, length, Option, Some, None, refl, sym, ap, subst, ◌∙◌}
+use Rattle.std.proofs.Common.{◌≡◌, ◌≢◌, ℕ, Bool, true, false, cond, List, [], ◌∷◌, Option, Some, None, refl, sym, ap, subst, ◌∙◌}
 use Rattle.std.specs.Map.{lookup}
 use Rattle.std.specs.BTreeMap.{is_at}
 use Rattle.std.specs.Ordering.{is_eq}
 use Rattle.std.specs.Cmp.{tied_itself}
 use Rattle.spl_state.specs.declared.address.Address.{Address}
 use Rattle.spl_state.specs.Entries.{Entry, address_cmp}
-use Rattle.spl_state.specs.Root.{digits_of, agrees, under}
+use Rattle.spl_state.specs.Root.{digits_of, agrees}
 use Rattle.spl_state.specs.Order.{address_order, one_address, tied}
 use Rattle.spl_proof.specs.declared.proof.End.{End}
 use Rattle.spl_proof.specs.declared.proof.End.TheVariants.{Empty, Leaf}

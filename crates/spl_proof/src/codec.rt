@@ -1,7 +1,7 @@
 //! The byte form of proofs.
 ghost use Rattle.std.specs.Prelude.{◌≡◌, ◌≤◌, ◌++◌, ℕ, List, length, Ok, IsTrue, IfOk, OnOk};
 ghost use Rattle.spl_base.specs.Form.{Reads, IsBytes, items_at};
-ghost use Rattle.spl_base.specs.Front.{Answers};
+ghost use Rattle.spl_base.specs.Front.{Answers, NoneBeginsAnother};
 ghost use Rattle.spl_proof.specs.Forms.{digest, level, leaf, proof, whole_of};
 ghost use Rattle.spl_proof.specs.declared.proof.Proof.{Proof as Shown};
 
@@ -179,5 +179,5 @@ pub fn proofs_are_read_back()
 
 /// No spelling of a proof begins another.
 pub fn no_proof_begins_another()
-    ensures { (p q : Shown) (x y : List ℕ) → IsTrue (proof.fits p) → IsTrue (proof.fits q) → proof.spell p ++ x ≡ proof.spell q ++ y → (p ≡ q) × (x ≡ y) }
+    ensures { NoneBeginsAnother proof }
 {}

@@ -1,6 +1,5 @@
 -- Each digest is hashed behind those before it.
-use Rattle.std.proofs.Common.{rules, ◌≡◌, ◌∷◌, [], length, take, sym, ap, subst, ◌∙◌, arith}
-use Rattle.std.specs.List.{flat_map}
+use Rattle.std.proofs.Common.{rules, ◌∷◌, [], ap, subst, ◌∙◌, arith}
 use Rattle.sha2.specs.Sha256.{sha256}
 use Rattle.sha2.specs.Hashers.{Holds256}
 use Rattle.spl_proof.proofs.Listing.{joined_at, joined_all}

@@ -1,5 +1,5 @@
 -- Digit by digit.
-use Rattle.std.proofs.Common.{◌≡◌, sym, ◌∙◌}
+use Rattle.std.proofs.Common.{sym, ◌∙◌}
 use Rattle.spl_proof.proofs.Digits.{digits_apart, digits_next}
 use Rattle.spl_proof.proofs.accept.same_first.Goals as goal
 

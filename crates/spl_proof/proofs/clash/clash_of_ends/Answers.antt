@@ -1,5 +1,5 @@
 -- Two leaves.
-use Rattle.std.proofs.Common.{◌≡◌, ◌∷◌, ◌++◌, length, sym, ap, ◌∙◌, arith}
+use Rattle.std.proofs.Common.{◌∷◌, ◌++◌, ap, ◌∙◌}
 use Rattle.spl_proof.proofs.Clashing.{leaf_clash}
 use Rattle.spl_proof.proofs.clash.clash_of_ends.Goals as goal
 

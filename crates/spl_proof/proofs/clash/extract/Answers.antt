@@ -1,9 +1,5 @@
 -- Both are accepted under the state's root.
-use Rattle.std.proofs.Common.{sym, subst, option_copied}
-use Rattle.std.specs.Map.{lookup}
-use Rattle.std.specs.BTreeMap.{is_at}
-use Rattle.spl_state.specs.Entries.{address_cmp}
-use Rattle.spl_state.specs.Root.{node_at}
+use Rattle.std.proofs.Common.{sym, subst}
 use Rattle.spl_proof.specs.Accepted.{Leads}
 use Rattle.spl_proof.proofs.Leading.{accepted_leads}
 use Rattle.spl_proof.proofs.clash.extract.Goals as goal

@@ -1,5 +1,5 @@
 -- Level by level.
-use Rattle.std.proofs.Common.{◌≡◌, ◌+◌, length, sym, ap, ◌∙◌, arith, length-append}
+use Rattle.std.proofs.Common.{◌+◌, length, ap, ◌∙◌, length-append}
 use Rattle.std.proofs.lemmas.Result.{err_from_is_err_and}
 use Rattle.spl_base.specs.Form.{items_at}
 use Rattle.spl_base.proofs.Loops.{goes_on, ends}

@@ -1,5 +1,4 @@
 -- The levels are those of the rules, since the digits are the least.
-use Rattle.std.proofs.Common.{sym, ◌∙◌}
 use Rattle.spl_proof.specs.Made.{under_first}
 use Rattle.spl_proof.proofs.Making.{end_left, made_is, made_accepted}
 use Rattle.spl_proof.proofs.make.prove.Goals as goal
