@@ -1,13 +1,12 @@
 -- The byte forms of records and messages (docs/RULES.md, Byte forms).
-use Rattle.std.specs.Prelude.{◌≡◌, ℕ, ◌^◌, Bool, ◌&&◌, nat_lt, nat_le, ◌+◌, ◌++◌, length, List, [], ◌∷◌, Result, Ok, Err, IsTrue, if◌then◌else◌}
+use Rattle.std.specs.Prelude.{ℕ, ◌^◌, Bool, ◌&&◌, nat_lt, nat_le, List, [], ◌∷◌, Ok, Err, IsTrue, if◌then◌else◌}
 use Rattle.std.proofs.Common.{refl, subst, lit<}
 use Rattle.std.specs.Int.{w8, w64}
-use Rattle.spl_base.specs.declared.fault.Malformed.{Malformed}
-use Rattle.spl_base.specs.Front.{Answers}
 use Rattle.spl_base.specs.Input.{Input, ◌>>=◌}
-use Rattle.spl_base.specs.Form.{Form, IsExact, IsBytes, Taken, number, flag, list_of, ◌&◌, via, Case, case, Filled, filled, sum_of}
+use Rattle.spl_base.specs.Form.{Form, IsReadBack, IsSpelledSo, IsExact, Taken, number, flag, list_of, ◌&◌, via, Case, case, Filled, filled, sum_of}
 use Rattle.spl_base.specs.FormLaws.{both_true, and_true, bind_ok, guard_ok, wide8, wide64, exact_number, exact_flag, exact_list}
-use Rattle.spl_base.specs.FormLaws.{exact_and, exact_via, IsMade, exact_sum}
+use Rattle.spl_base.specs.FormLaws.{exact_and, exact_via}
+use Rattle.spl_base.specs.SumLaws.{◌also◌, IsMade, exact_sum}
 use Rattle.spl_acceptor.specs.declared.message.Pledge.{Pledge}
 use Rattle.spl_acceptor.specs.declared.message.PaxosMsg.{PaxosMsg}
 use Rattle.spl_acceptor.specs.declared.message.PaxosMsg.TheVariants as msg
@@ -80,19 +79,15 @@ message_fields (msg.Accepted r i b p) = filled 5 (r, record { member = i; ballot
 abbrev pub message_form : Form PaxosMsg
 message_form = sum_of messages message_fields
 
--- what is spelled so at the front of bytes is what was read, whatever follows it, unless memory ran out
-abbrev pub ReadsBack : {A : Type 0} → Form A → List ℕ → Result (A × ℕ) Malformed → Type 0
-ReadsBack {A} f bytes found = (x : A) (rest : List ℕ) → IsTrue (f.fits x) → bytes ≡ f.spell x ++ rest → Answers found (Ok (x, length (f.spell x)))
-
 -- ---- their laws
 
 module _ {A : Type 0} (passes : A → Bool) (f : Form A) (q : IsExact f) where
-  tested_again : (x : A) (rest : List ℕ) (place : ℕ) → IsTrue ((tested passes f).fits x) → (tested passes f).parse (record { rest = f.spell x ++ rest; place = place }) ≡ Ok (x, record { rest = rest; place = place + length (f.spell x) })
+  tested_again : (x : A) (rest : List ℕ) (place : ℕ) → IsReadBack (tested passes f) x rest place
   tested_again x rest place h =
       let b = both_true (f.fits x) (passes x) h in
       rw (q.again x rest place b.0, b.1) refl
 
-  tested_takes : (s : Input) (x : A) (t : Input) → IsBytes s.rest → (tested passes f).parse s ≡ Ok (x, t) → Taken (tested passes f).spell (tested passes f).fits s x t
+  tested_takes : (s : Input) (x : A) (t : Input) → IsSpelledSo (tested passes f) s x t
   tested_takes s x t bytes e =
       let a = bind_ok (f.parse s) (λ y. if passes y.0 then Ok y else Err s.place) (x, t) e in
       let g = guard_ok (passes a.0.0) s.place a.0 (x, t) a.2 in
@@ -112,7 +107,8 @@ exact_long : IsExact long
 exact_long = exact_number w64 (2 ^ 64) wide64
 
 pub exact_pledge : IsExact pledge
-exact_pledge = exact_via _ _ _ (λ _. refl) (λ _. refl) (exact_and _ _ (exact_tested is_member _ (exact_number w8 (2 ^ 8) wide8)) (exact_and _ _ exact_long exact_flag))
+exact_pledge = exact_via _ _ _ (λ _. refl) (λ _. refl)
+    (exact_and _ _ (exact_tested is_member _ (exact_number w8 (2 ^ 8) wide8)) (exact_and _ _ exact_long exact_flag))
 
 exact_ballot : IsExact (long & long)
 exact_ballot = exact_and _ _ exact_long exact_long
@@ -129,18 +125,12 @@ record_made x = record { value = refl; small = refl }
 
 pub exact_record : IsExact record_form
 exact_record = exact_sum records record_fields record_made (
-  (exact_ballot, λ _. refl),
-  (
-    (exact_order, λ _. refl),
-    (
-      (exact_answer, λ _. refl),
-      (
-        (exact_ballot, λ _. refl),
-        ((exact_answer, λ _. refl), tt),
-      ),
-    ),
-  ),
-)
+    (exact_ballot, λ _. refl)
+    also (exact_order, λ _. refl)
+    also (exact_answer, λ _. refl)
+    also (exact_ballot, λ _. refl)
+    also (exact_answer, λ _. refl)
+    also tt)
 
 message_made : (x : PaxosMsg) → IsMade messages message_fields x
 message_made (msg.Ask r b) = record { value = refl; small = refl }
@@ -148,15 +138,9 @@ message_made x = record { value = refl; small = refl }
 
 pub exact_message : IsExact message_form
 exact_message = exact_sum messages message_fields message_made (
-  (exact_ballot, λ _. refl),
-  (
-    (exact_order, λ _. refl),
-    (
-      (exact_and _ _ exact_long (exact_and _ _ exact_long (exact_list pledge exact_pledge 8 (lit< tt))), λ _. refl),
-      (
-        (exact_ballot, λ _. refl),
-        ((exact_order, λ _. refl), tt),
-      ),
-    ),
-  ),
-)
+    (exact_ballot, λ _. refl)
+    also (exact_order, λ _. refl)
+    also (exact_and _ _ exact_long (exact_and _ _ exact_long (exact_list pledge exact_pledge 8 (lit< tt))), λ _. refl)
+    also (exact_ballot, λ _. refl)
+    also (exact_order, λ _. refl)
+    also tt)

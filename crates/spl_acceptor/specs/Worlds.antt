@@ -5,7 +5,8 @@ use Rattle.spl_agree.specs.World.{put}
 use Rattle.spl_acceptor.specs.Quorums.{acceptors}
 use Rattle.spl_acceptor.specs.Processes.{Acceptor, Member, Leader, new_acceptor, new_member, new_leader, stopped_member, stopped_leader}
 use Rattle.spl_acceptor.specs.declared.group.Group.{Group}
-use Rattle.spl_acceptor.specs.Rows.{PaxosPlan, member, leader, on_vote, on_lead, member_row, acceptor_row, leader_row, acceptor_after, member_after, leader_after}
+use Rattle.spl_acceptor.specs.Rows.{PaxosPlan, member, leader, on_vote, on_lead}
+use Rattle.spl_acceptor.specs.Rows.{member_row, acceptor_row, leader_row, acceptor_after, member_after, leader_after}
 use Rattle.spl_acceptor.specs.declared.kind.TheConstants.{MEMBER, ACCEPTOR, LEADER}
 use Rattle.spl_acceptor.specs.declared.message.Name.{Name}
 use Rattle.spl_acceptor.specs.declared.message.PaxosMsg.{PaxosMsg}

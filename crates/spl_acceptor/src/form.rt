@@ -168,8 +168,8 @@ impl Field for PaxosRecord {
 
 impl PaxosRecord {
     ghost use Rattle.std.specs.Prelude.{◌≡◌, ◌++◌, IsTrue, IfOk, OnOk, drop};
-    ghost use Rattle.spl_base.specs.Front.{front_of, Answers};
-    ghost use Rattle.spl_acceptor.specs.Forms.{record_form, ReadsBack};
+    ghost use Rattle.spl_base.specs.Front.{front_of, Answers, ReadsBack};
+    ghost use Rattle.spl_acceptor.specs.Forms.{record_form};
 
     /// The byte form, which a record has where a member in it has a number from 1 to 8. Fails only where memory runs out.
     pub fn write(&self, alloc: Global) -> Result<Piece, AllocError>

@@ -122,8 +122,8 @@ impl Field for PaxosMsg {
 
 impl PaxosMsg {
     ghost use Rattle.std.specs.Prelude.{◌≡◌, ◌++◌, IsTrue, IfOk, OnOk, drop};
-    ghost use Rattle.spl_base.specs.Front.{front_of, Answers};
-    ghost use Rattle.spl_acceptor.specs.Forms.{message_form, ReadsBack};
+    ghost use Rattle.spl_base.specs.Front.{front_of, Answers, ReadsBack};
+    ghost use Rattle.spl_acceptor.specs.Forms.{message_form};
 
     /// The byte form, which a message has where members in it have numbers from 1 to 8 and a promise at most 8 pledges.
     /// Fails only where memory runs out.
