@@ -1,7 +1,0 @@
-use Rattle.std.proofs.Common.{◌≡◌, ◌++◌, take}
-use Rattle.std.specs.List.{flat_map}
-use Rattle.spl_sched.specs.Words.{hex_byte}
-use Rattle.spl_sched.proofs.digits.put_bytes.Given as goal
-
-abbrev pub invariant-loop-b : goal.invariant-loop-b
-invariant-loop-b l = l.w ≡ l.fn.w ++ flat_map hex_byte (take l.b-index l.bytes)
