@@ -7,7 +7,7 @@ use Rattle.spl_base.specs.Ids.{is_node_id, is_circuit_id, is_lower, is_digit}
 use Rattle.spl_circuit.specs.declared.definition.Definition.{Definition}
 use Rattle.spl_circuit.specs.Equality.{same_definition}
 use Rattle.spl_circuit.specs.Nodes.{NodeId, CircuitId}
-use Rattle.spl_sched.specs.Words.{Words, Kind, text, number, joined, end, ◌&◌, that, kind, read_kind}
+use Rattle.spl_words.specs.Words.{Words, Kind, text, number, joined, end, ◌&◌, that, kind, read_kind}
 use Rattle.spl_rules.specs.Cells.{Bound, Cell, Empty, Held, Purged, runs}
 use Rattle.spl_model.specs.Worlds.{World}
 use Rattle.spl_delta.specs.Deltas.{Delta, deltas}

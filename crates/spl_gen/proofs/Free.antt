@@ -11,7 +11,7 @@ use Rattle.std.proofs.lemmas.List.Folds.{list_all-append}
 use Rattle.spl_wire.specs.declared.event.Event.TheVariants.{Submit}
 use Rattle.spl_sched.specs.declared.line.Line.{Line}
 use Rattle.spl_sched.specs.declared.line.Line.TheVariants as line
-use Rattle.spl_sched.specs.Words.{hex_digit, hex_byte}
+use Rattle.spl_words.specs.Words.{hex_digit, hex_byte}
 use Rattle.spl_sched.specs.Grammar.{spelling, words_of}
 use Rattle.spl_gen.specs.declared.circuit.Circuit.{Circuit}
 use Rattle.spl_gen.specs.declared.circuit.Circuit.TheVariants.{First, Second, Third}

@@ -10,7 +10,7 @@ use Rattle.std.proofs.lemmas.Fmt.{length-decimal-le}
 use Rattle.spl_wire.specs.declared.event.Event.TheVariants.{Submit}
 use Rattle.spl_sched.specs.declared.line.Line.{Line}
 use Rattle.spl_sched.specs.declared.line.Line.TheVariants as line
-use Rattle.spl_sched.specs.Words.{hex_byte}
+use Rattle.spl_words.specs.Words.{hex_byte}
 use Rattle.spl_sched.specs.Grammar.{spelling}
 use Rattle.spl_gen.specs.declared.circuit.Circuit.{Circuit}
 use Rattle.spl_gen.specs.declared.circuit.Circuit.TheVariants.{First, Second, Third}

@@ -8,12 +8,12 @@ use Rattle.std.proofs.Math.Bool.{and-false}
 use Rattle.spl_base.specs.Ids.{is_node_byte, is_graphic, is_label}
 use Rattle.spl_command.specs.declared.batch.Command.{Command}
 use Rattle.spl_command.specs.declared.batch.Command.TheVariants as command
-use Rattle.spl_sched.specs.Words.{hex_digit, hex_byte, hex_string, end, ◌&◌, that}
+use Rattle.spl_words.specs.Words.{hex_digit, hex_byte, hex_string, end, ◌&◌, that}
 use Rattle.spl_sched.specs.Transactions.{is_bytes, is_address, is_prefix, is_tag_byte, is_tag, is_command, address, prefix, dashed_text, read_dashed, dashed, tag, entry, told, command_text, command_fronts, command_word}
-use Rattle.spl_sched.proofs.Splits.{lacks, lacks_from, lacks_append}
-use Rattle.spl_sched.proofs.WordLaws.{IsExact, Lacks, EachLacks, some_is, same_bytes, read_as, exact_text, exact_that, exact_meaning, exact_and, exact_end, exact_joined, end_lacks, and_lacks, joined_lacks, that_lacks, meaning_lacks, split_and}
-use Rattle.spl_sched.proofs.HexLaws.{exact_hex_string, hex_string_lacks}
-use Rattle.spl_sched.proofs.FrontLaws.{AllFronts, is_front, fronts_only}
+use Rattle.spl_words.proofs.Splits.{lacks, lacks_from, lacks_append}
+use Rattle.spl_words.proofs.WordLaws.{IsExact, Lacks, EachLacks, some_is, same_bytes, read_as, exact_text, exact_that, exact_meaning, exact_and, exact_end, exact_joined, end_lacks, and_lacks, joined_lacks, that_lacks, meaning_lacks, split_and}
+use Rattle.spl_words.proofs.HexLaws.{exact_hex_string, hex_string_lacks}
+use Rattle.spl_words.proofs.FrontLaws.{AllFronts, is_front, fronts_only}
 
 infixr 10 ◌▹◌
 abbrev ◌▹◌ : {A B : Type 0} → A → B → A × B

@@ -1,12 +1,4 @@
-mod Splits
-mod Numbers
-mod WordLaws
-mod HexLaws
-mod HexDigits
-mod FrontLaws
 mod CommandLaws
 mod TransactionLaws
 mod GrammarLaws
 mod LineLaws
-mod Items
-mod ByName

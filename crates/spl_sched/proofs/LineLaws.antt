@@ -12,53 +12,26 @@ use Rattle.spl_edge.specs.declared.fill.Fill.{Fill}
 use Rattle.spl_edge.specs.declared.fill.Fill.TheVariants.{Old, New, Byte}
 use Rattle.spl_wire.specs.declared.event.Event.{Event}
 use Rattle.spl_wire.specs.declared.event.Event.TheVariants as event
-use Rattle.spl_sched.specs.declared.fault.LineFault.{LineFault}
+use Rattle.spl_words.specs.declared.fault.LineFault.{LineFault}
+use Rattle.spl_sched.specs.declared.line.TheConstants.{MOST_PASSES}
 use Rattle.spl_sched.specs.declared.line.Step.{Step}
 use Rattle.spl_sched.specs.declared.line.Step.TheVariants.{At, Deliver}
 use Rattle.spl_sched.specs.declared.line.Line.{Line}
 use Rattle.spl_sched.specs.declared.line.Line.TheVariants as line
-use Rattle.spl_sched.specs.Words.{Words, number, joined, end, Reads, that, kind, ◌&◌, hex, split}
+use Rattle.spl_words.specs.Words.{Words, number, joined, end, Reads, that, kind, read_kind, ◌&◌, hex, split}
 use Rattle.spl_sched.specs.Transactions.{is_address, is_prefix}
-use Rattle.spl_sched.specs.Grammar.{event_name, plain_kind, step_words, words_of, spelling, is_definition, is_event, is_step, is_fill, is_passes, is_line, fill_words, fill_kinds, fill_parts, read_fill, fill, Home, home, Terms, terms, terms_of, definition_of, proposed, plain, answer, voted, work, submitted, place, got, places, listed, batch, about, way, routed, delivery, delivered, step_kinds, read_step, step, calm, node, cut, failing, line_kinds, read_words, line_words, line_of}
-use Rattle.spl_sched.proofs.Splits.{lacks, lacks_from}
-use Rattle.spl_sched.proofs.WordLaws.{IsExact, Lacks, IsKind, AllKinds, is_kind, kinds_only, read_as, exact_number, exact_and, exact_joined, exact_end, joined_lacks, map_some, same_bytes, itself}
-use Rattle.spl_sched.proofs.HexLaws.{exact_hex, hex_lacks}
-use Rattle.spl_sched.proofs.GrammarLaws.{IsSound, number_lacks, terms_spelled, terms_fit, sound_and, sound_end, sound_home, sound_terms, sound_answer, sound_work, sound_place, sound_places, sound_batch, sound_way, sound_delivery, sound_number, sound_calm, sound_one_node}
+use Rattle.spl_sched.specs.Grammar.{event_name, event_words, step_words, words_of, spelling, is_definition, is_event, is_step, is_fill, is_passes, is_line, fill_words, fill_kinds, fill_parts, read_fill, fill, terms, terms_of, definition_of, proposed, answer, work, submitted, place, places, batch, way, delivery, delivered, asking_kinds, acting_kinds, worded_kinds, read_acting, read_event, read_at, read_step, step, calm, node, cut, failing, line_kinds, read_words, line_words, line_of}
+use Rattle.spl_words.proofs.Splits.{lacks, lacks_from}
+use Rattle.spl_words.proofs.WordLaws.{IsExact, Lacks, IsKind, AllKinds, is_kind, kinds_only, read_as, exact_number, exact_and, exact_joined, exact_end, joined_lacks, map_some, same_bytes, itself}
+use Rattle.spl_words.proofs.HexLaws.{exact_hex, hex_lacks}
+use Rattle.spl_words.proofs.RowLaws.{IsSound, node_lacks, circuit_id_lacks, number_lacks, sound_and, sound_end, sound_number}
+use Rattle.spl_sched.proofs.GrammarLaws.{terms_spelled, terms_fit, sound_terms, sound_answer, sound_work, sound_place, sound_places, sound_batch, sound_way, sound_delivery, sound_calm, sound_one_node}
 
 infixr 10 ◌▹◌
 abbrev ◌▹◌ : {A B : Type 0} → A → B → A × B
 a ▹ b = (a, b)
 
--- ---- steps
-
--- a step is read back from its words, also alone in a line, and they have no space
-record IsSeen (s : Step) : Type 0 where
-  pub again : read_step (step_words s) ≡ Some s
-  pub alone : read_words (step_words s) ≡ Some (line.Step s)
-  pub lack : IsTrue (list_all (lacks 32) (step_words s))
-
-module _ {A : Type 0} (name : List ℕ) (ws : Words A) (to : A → Step) (p : IsSound ws) (free : IsTrue (lacks 32 name))
-    (named : (xs : List (List ℕ)) → read_step (name ∷ xs) ≡ option_map to (ws.read xs)) (alone : (xs : List (List ℕ)) → read_words (name ∷ xs) ≡ option_map line.Step (option_map to (ws.read xs))) where
-  seen : (x : A) (s : Step) → IsTrue (ws.fits x) → to x ≡ s → step_words s ≡ name ∷ ws.spell x → IsSeen s
-  seen x s h e words =
-      let found : option_map to (ws.read (ws.spell x)) ≡ Some s = read_as ws to x s p.exact h e in
-      record {
-        again = ap read_step words ∙ named (ws.spell x) ∙ found;
-        alone = ap read_words words ∙ alone (ws.spell x) ∙ ap (option_map line.Step) found;
-        lack = subst (λ (zs : List (List ℕ)). IsTrue (list_all (lacks 32) zs)) (sym words) (and_from (lacks 32 name) (list_all (lacks 32) (ws.spell x)) free (p.lack.free x h));
-      }
-
-home_fits : (n id : List ℕ) (own b : Bool) → (IsTrue own → IsTrue b) → IsTrue (is_node_id n && is_circuit_id id && own) → IsTrue (is_node_id n && (is_circuit_id id && b))
-home_fits n id own b more h =
-    let outer = and_parts (is_node_id n && is_circuit_id id) own h in
-    let inner = and_parts (is_node_id n) (is_circuit_id id) outer.0 in
-    and_from (is_node_id n) (is_circuit_id id && b) inner.0 (and_from (is_circuit_id id) b inner.1 (more outer.1))
-
-fits_home : (n id : List ℕ) (b own : Bool) → (IsTrue b → IsTrue own) → IsTrue (is_node_id n && (is_circuit_id id && b)) → IsTrue (is_node_id n && is_circuit_id id && own)
-fits_home n id b own more h =
-    let outer = and_parts (is_node_id n) (is_circuit_id id && b) h in
-    let inner = and_parts (is_circuit_id id) b outer.1 in
-    and_from (is_node_id n && is_circuit_id id) own (and_from (is_node_id n) (is_circuit_id id) outer.0 inner.0) (more inner.1)
+-- ---- events
 
 more : (b : Bool) → IsTrue b → IsTrue (b && true)
 more b h = and_from b true h refl
@@ -78,6 +51,138 @@ fits_way true true false h = h
 fits_way true false c h = h
 fits_way false b c h = h
 
+abbrev named_words : Event → List (List ℕ)
+named_words e = event_name e ∷ event_words e
+
+-- an event is read back from its words, and they have no space; its name is that of no other step or line
+record IsSeen (id : List ℕ) (e : Event) : Type 0 where
+  pub again : read_event id (event_name e) (event_words e) ≡ Some e
+  pub lack : IsTrue (list_all (lacks 32) (named_words e))
+  pub step : (xs : List (List ℕ)) → read_step (event_name e ∷ xs) ≡ read_at (event_name e) xs
+  pub alone : (xs : List (List ℕ)) → read_words (event_name e ∷ xs) ≡ option_map line.Step (read_at (event_name e) xs)
+
+module _ (id : List ℕ) {A : Type 0} (ws : Words A) (to : A → Event) (p : IsSound ws) (e : Event) (free : IsTrue (lacks 32 (event_name e)))
+    (named : (xs : List (List ℕ)) → read_event id (event_name e) xs ≡ option_map to (ws.read xs))
+    (step : (xs : List (List ℕ)) → read_step (event_name e ∷ xs) ≡ read_at (event_name e) xs)
+    (alone : (xs : List (List ℕ)) → read_words (event_name e ∷ xs) ≡ option_map line.Step (read_at (event_name e) xs)) where
+  seen : (x : A) → IsTrue (ws.fits x) → to x ≡ e → event_words e ≡ ws.spell x → IsSeen id e
+  seen x h is words = record {
+    again = ap (read_event id (event_name e)) words ∙ named (ws.spell x) ∙ read_as ws to x e p.exact h is;
+    lack = and_from (lacks 32 (event_name e)) (list_all (lacks 32) (event_words e)) free (subst (λ (zs : List (List ℕ)). IsTrue (list_all (lacks 32) zs)) (sym words) (p.lack.free x h));
+    step = step;
+    alone = alone;
+  }
+
+-- a definition with the id of its line
+module _ (id : List ℕ) (d : Definition) (h : IsTrue (is_event id (event.Propose d))) where
+  own : IsTrue (bytes_eq d.id id)
+  own = (and_parts (bytes_eq d.id id) (is_definition d) h).0
+
+  proposal_is : proposed id (terms_of d) ≡ event.Propose d
+  proposal_is = ap (λ (i : List ℕ). event.Propose (record d { id = i })) (sym (same_bytes d.id id own))
+
+  proposal_fits : IsTrue (terms.fits (terms_of d))
+  proposal_fits = sym (terms_fit d) ∙ (and_parts (bytes_eq d.id id) (is_definition d) h).1
+
+event_seen : (id : List ℕ) (e : Event) → IsTrue (is_event id e) → IsSeen id e
+event_seen id (event.Propose d) h =
+    seen id terms (proposed id) sound_terms (event.Propose d) refl (λ xs. refl) (λ xs. refl) (λ xs. refl) (terms_of d) (proposal_fits id d h) (proposal_is id d h) (terms_spelled d)
+event_seen id (event.Vote accept) h = seen id answer (λ x. event.Vote x.0) sound_answer (event.Vote accept) refl (λ xs. refl) (λ xs. refl) (λ xs. refl) (accept, tt) refl refl refl
+event_seen id (event.Submit b) h = seen id work submitted sound_work (event.Submit b) refl (λ xs. refl) (λ xs. refl) (λ xs. refl) (b.id, b.transactions) h refl refl
+event_seen id (event.Get a) h = seen id place (λ x. event.Get x.0) sound_place (event.Get a) refl (λ xs. refl) (λ xs. refl) (λ xs. refl) (a, tt) (more (is_address a) h) refl refl
+event_seen id (event.List p) h = seen id places (λ x. event.List x.0) sound_places (event.List p) refl (λ xs. refl) (λ xs. refl) (λ xs. refl) (p, tt) (more (is_prefix p) h) refl refl
+event_seen id (event.Status b) h = seen id batch (λ x. event.Status x.0) sound_batch (event.Status b) refl (λ xs. refl) (λ xs. refl) (λ xs. refl) (b, tt) (more (ltb b (2 ^ 64)) h) refl refl
+event_seen id (event.Receipt b) h = seen id batch (λ x. event.Receipt x.0) sound_batch (event.Receipt b) refl (λ xs. refl) (λ xs. refl) (λ xs. refl) (b, tt) (more (ltb b (2 ^ 64)) h) refl refl
+event_seen id (event.Route from sender recipient) h =
+    seen id way (λ x. event.Route x.0 x.1.0 x.1.1.0) sound_way (event.Route from sender recipient) refl (λ xs. refl) (λ xs. refl) (λ xs. refl) (from, (sender, (recipient, tt)))
+    (way_fits (is_node_id from) (is_service_id sender) (is_service_id recipient) h) refl refl
+event_seen id (event.Deliver from message) h = absurd cc
+event_seen id event.Remove h = seen id end (λ x. event.Remove) sound_end event.Remove refl (λ xs. refl) (λ xs. refl) (λ xs. refl) tt refl refl refl
+event_seen id event.Disband h = seen id end (λ x. event.Disband) sound_end event.Disband refl (λ xs. refl) (λ xs. refl) (λ xs. refl) tt refl refl refl
+event_seen id event.Abandon h = seen id end (λ x. event.Abandon) sound_end event.Abandon refl (λ xs. refl) (λ xs. refl) (λ xs. refl) tt refl refl refl
+event_seen id event.Purge h = seen id end (λ x. event.Purge) sound_end event.Purge refl (λ xs. refl) (λ xs. refl) (λ xs. refl) tt refl refl refl
+event_seen id event.Show h = seen id end (λ x. event.Show) sound_end event.Show refl (λ xs. refl) (λ xs. refl) (λ xs. refl) tt refl refl refl
+event_seen id event.Detail h = seen id end (λ x. event.Detail) sound_end event.Detail refl (λ xs. refl) (λ xs. refl) (λ xs. refl) tt refl refl refl
+event_seen id event.Root h = seen id end (λ x. event.Root) sound_end event.Root refl (λ xs. refl) (λ xs. refl) (λ xs. refl) tt refl refl refl
+event_seen id event.History h = seen id end (λ x. event.History) sound_end event.History refl (λ xs. refl) (λ xs. refl) (λ xs. refl) tt refl refl refl
+event_seen id event.Tick h = seen id end (λ x. event.Tick) sound_end event.Tick refl (λ xs. refl) (λ xs. refl) (λ xs. refl) tt refl refl refl
+event_seen id event.Expire h = seen id end (λ x. event.Expire) sound_end event.Expire refl (λ xs. refl) (λ xs. refl) (λ xs. refl) tt refl refl refl
+
+kind_is : (id : List ℕ) {A : Type 0} {name : List ℕ} (ws : Words A) (to : A → Event) → IsSound ws → ((x : A) → IsTrue (ws.fits x) → (name ∷ ws.spell x ≡ named_words (to x)) × IsTrue (is_event id (to x)))
+    → IsKind named_words (is_event id) (kind name ws to)
+kind_is id {A} {name} ws to p means = is_kind named_words (is_event id) name ws to p.exact means
+
+all_asking : (id : List ℕ) → AllKinds named_words (is_event id) asking_kinds
+all_asking id =
+    kind_is id end (λ x. event.Show) sound_end (λ x h. (refl, refl))
+    ▹ kind_is id end (λ x. event.Root) sound_end (λ x h. (refl, refl))
+    ▹ kind_is id end (λ x. event.History) sound_end (λ x h. (refl, refl))
+    ▹ kind_is id end (λ x. event.Detail) sound_end (λ x h. (refl, refl))
+    ▹ tt
+
+all_acting : (id : List ℕ) → AllKinds named_words (is_event id) acting_kinds
+all_acting id =
+    kind_is id end (λ x. event.Tick) sound_end (λ x h. (refl, refl))
+    ▹ kind_is id end (λ x. event.Expire) sound_end (λ x h. (refl, refl))
+    ▹ kind_is id end (λ x. event.Remove) sound_end (λ x h. (refl, refl))
+    ▹ kind_is id end (λ x. event.Disband) sound_end (λ x h. (refl, refl))
+    ▹ kind_is id end (λ x. event.Abandon) sound_end (λ x h. (refl, refl))
+    ▹ kind_is id end (λ x. event.Purge) sound_end (λ x h. (refl, refl))
+    ▹ tt
+
+all_worded : (id : List ℕ) → AllKinds named_words (is_event id) (worded_kinds id)
+all_worded id =
+    kind_is id terms (proposed id) sound_terms (λ x h.
+    (ap (λ (zs : List (List ℕ)). codes "propose" ∷ zs) (sym (terms_spelled (definition_of id x))), and_from (bytes_eq id id) (is_definition (definition_of id x)) (itself id) (terms_fit (definition_of id x) ∙ h)))
+    ▹ kind_is id answer (λ x. event.Vote x.0) sound_answer (λ x h. (refl, refl))
+    ▹ kind_is id work submitted sound_work (λ x h. (refl, h))
+    ▹ kind_is id place (λ x. event.Get x.0) sound_place (λ x h. (refl, less (is_address x.0) h))
+    ▹ kind_is id places (λ x. event.List x.0) sound_places (λ x h. (refl, less (is_prefix x.0) h))
+    ▹ kind_is id batch (λ x. event.Status x.0) sound_batch (λ x h. (refl, less (ltb x.0 (2 ^ 64)) h))
+    ▹ kind_is id batch (λ x. event.Receipt x.0) sound_batch (λ x h. (refl, less (ltb x.0 (2 ^ 64)) h))
+    ▹ kind_is id way (λ x. event.Route x.0 x.1.0 x.1.1.0) sound_way (λ x h. (refl, fits_way (is_node_id x.0) (is_service_id x.1.0) (is_service_id x.1.1.0) h))
+    ▹ tt
+
+none : {A : Type 0} {P : Type 0} (x : A) → None ≡ Some x → P
+none x e = absurd cc
+
+event_only : (id name : List ℕ) (xs : List (List ℕ)) (e : Event) → read_event id name xs ≡ Some e → (name ∷ xs ≡ named_words e) × IsTrue (is_event id e)
+event_only id name xs e is =
+    kinds_only named_words (is_event id) asking_kinds (read_acting id name xs) name xs e (all_asking id)
+    (kinds_only named_words (is_event id) acting_kinds (read_kind (worded_kinds id) None name xs) name xs e (all_acting id)
+    (kinds_only named_words (is_event id) (worded_kinds id) None name xs e (all_worded id) (none e))) is
+
+-- ---- steps
+
+-- a step is read back from its words, also alone in a line, and they have no space
+record IsSeenStep (s : Step) : Type 0 where
+  pub again : read_step (step_words s) ≡ Some s
+  pub alone : read_words (step_words s) ≡ Some (line.Step s)
+  pub lack : IsTrue (list_all (lacks 32) (step_words s))
+
+at_again : (n id : List ℕ) (e : Event) → IsTrue (is_node_id n) → IsTrue (is_circuit_id id) → IsSeen id e → read_at (event_name e) (n ∷ id ∷ event_words e) ≡ Some (At n id e)
+at_again n id e p q s =
+    let a : is_node_id n ≡ true = p in
+    let b : is_circuit_id id ≡ true = q in
+    rw (a, b, s.again) refl
+
+at_lacks : (n id : List ℕ) (e : Event) → IsTrue (is_node_id n) → IsTrue (is_circuit_id id) → IsSeen id e → IsTrue (list_all (lacks 32) (step_words (At n id e)))
+at_lacks n id e p q s =
+    let named = and_parts (lacks 32 (event_name e)) (list_all (lacks 32) (event_words e)) s.lack in
+    and_from (lacks 32 (event_name e)) _ named.0 (and_from (lacks 32 n) _ ((node_lacks 32 refl).free n p) (and_from (lacks 32 id) _ ((circuit_id_lacks 32 refl refl).free id q) named.1))
+
+at_seen : (n id : List ℕ) (e : Event) → IsTrue (is_node_id n && is_circuit_id id && is_event id e) → IsSeenStep (At n id e)
+at_seen n id e h =
+    let outer = and_parts (is_node_id n && is_circuit_id id) (is_event id e) h in
+    let ids = and_parts (is_node_id n) (is_circuit_id id) outer.0 in
+    let s = event_seen id e outer.1 in
+    let again = at_again n id e ids.0 ids.1 s in
+    record {
+      again = s.step (n ∷ id ∷ event_words e) ∙ again;
+      alone = s.alone (n ∷ id ∷ event_words e) ∙ ap (option_map line.Step) again;
+      lack = at_lacks n id e ids.0 ids.1 s;
+    }
+
 delivery_fits : (a b c d e : Bool) → IsTrue (a && b && c && d && e) → IsTrue (e && (a && (b && (c && (d && true)))))
 delivery_fits true true true true true h = refl
 delivery_fits true true true true false h = h
@@ -91,117 +196,48 @@ fits_delivery true true false d true h = h
 fits_delivery true false c d true h = h
 fits_delivery false b c d true h = h
 
--- a definition with the id of its line
-module _ (n id : List ℕ) (d : Definition) (h : IsTrue (is_step (At n id (event.Propose d)))) where
-  own : IsTrue (bytes_eq d.id id)
-  own = (and_parts (bytes_eq d.id id) (is_definition d) (and_parts (is_node_id n && is_circuit_id id) (bytes_eq d.id id && is_definition d) h).1).0
-
-  proposal_is : proposed (n, (id, terms_of d)) ≡ At n id (event.Propose d)
-  proposal_is = ap (λ (i : List ℕ). At n id (event.Propose (record d { id = i }))) (sym (same_bytes d.id id own))
-
-  proposal_fits : IsTrue ((home terms).fits (n, (id, terms_of d)))
-  proposal_fits = home_fits n id (bytes_eq d.id id && is_definition d) (terms.fits (terms_of d)) (λ k. sym (terms_fit d) ∙ (and_parts (bytes_eq d.id id) (is_definition d) k).1) h
-
-  proposal_spelled : step_words (At n id (event.Propose d)) ≡ codes "propose" ∷ (home terms).spell (n, (id, terms_of d))
-  proposal_spelled = ap (λ (zs : List (List ℕ)). codes "propose" ∷ n ∷ id ∷ zs) (terms_spelled d)
-
-fits_proposal : (x : Home Terms) → IsTrue ((home terms).fits x) → IsTrue (is_step (proposed x))
-fits_proposal x h = fits_home x.0 x.1.0 (terms.fits x.1.1) (bytes_eq x.1.0 x.1.0 && is_definition (definition_of x.1.0 x.1.1))
-    (λ k. and_from (bytes_eq x.1.0 x.1.0) (is_definition (definition_of x.1.0 x.1.1)) (itself x.1.0) (terms_fit (definition_of x.1.0 x.1.1) ∙ k)) h
-
-step_seen : (s : Step) → IsTrue (is_step s) → IsSeen s
-step_seen (At n id (event.Propose d)) h =
-    seen (codes "propose") (home terms) proposed (sound_home terms sound_terms) refl (λ xs. refl) (λ xs. refl) (n, (id, terms_of d)) _ (proposal_fits n id d h) (proposal_is n id d h) (proposal_spelled n id d h)
-step_seen (At n id (event.Vote accept)) h =
-    seen (codes "vote") (home answer) voted (sound_home answer sound_answer) refl (λ xs. refl) (λ xs. refl) (n, (id, (accept, tt))) _ (home_fits n id true true (λ k. k) h) refl refl
-step_seen (At n id (event.Submit b)) h =
-    seen (codes "submit") (home work) submitted (sound_home work sound_work) refl (λ xs. refl) (λ xs. refl) (n, (id, (b.id, b.transactions))) _ (home_fits n id _ _ (λ k. k) h) refl refl
-step_seen (At n id (event.Get a)) h =
-    seen (codes "get") (home place) got (sound_home place sound_place) refl (λ xs. refl) (λ xs. refl) (n, (id, (a, tt))) _ (home_fits n id _ _ (more (is_address a)) h) refl refl
-step_seen (At n id (event.List p)) h =
-    seen (codes "list") (home places) listed (sound_home places sound_places) refl (λ xs. refl) (λ xs. refl) (n, (id, (p, tt))) _ (home_fits n id _ _ (more (is_prefix p)) h) refl refl
-step_seen (At n id (event.Status b)) h =
-    seen (codes "status") (home batch) (about event.Status) (sound_home batch sound_batch) refl (λ xs. refl) (λ xs. refl) (n, (id, (b, tt))) _ (home_fits n id _ _ (more (ltb b (2 ^ 64))) h) refl refl
-step_seen (At n id (event.Receipt b)) h =
-    seen (codes "receipt") (home batch) (about event.Receipt) (sound_home batch sound_batch) refl (λ xs. refl) (λ xs. refl) (n, (id, (b, tt))) _ (home_fits n id _ _ (more (ltb b (2 ^ 64))) h) refl refl
-step_seen (At n id (event.Route from sender recipient)) h =
-    seen (codes "route") (home way) routed (sound_home way sound_way) refl (λ xs. refl) (λ xs. refl) (n, (id, (from, (sender, (recipient, tt))))) _
-    (home_fits n id _ _ (way_fits (is_node_id from) (is_service_id sender) (is_service_id recipient)) h) refl refl
-step_seen (At n id (event.Deliver from message)) h = absurd (let no = and_parts (is_node_id n && is_circuit_id id) false h in let never : false ≡ true = no.1 in cc)
-step_seen (At n id event.Remove) h = seen (codes "remove") (home end) (plain event.Remove) (sound_home end sound_end) refl (λ xs. refl) (λ xs. refl) (n, (id, tt)) _ (home_fits n id true true (λ k. k) h) refl refl
-step_seen (At n id event.Disband) h = seen (codes "disband") (home end) (plain event.Disband) (sound_home end sound_end) refl (λ xs. refl) (λ xs. refl) (n, (id, tt)) _ (home_fits n id true true (λ k. k) h) refl refl
-step_seen (At n id event.Abandon) h = seen (codes "abandon") (home end) (plain event.Abandon) (sound_home end sound_end) refl (λ xs. refl) (λ xs. refl) (n, (id, tt)) _ (home_fits n id true true (λ k. k) h) refl refl
-step_seen (At n id event.Purge) h = seen (codes "purge") (home end) (plain event.Purge) (sound_home end sound_end) refl (λ xs. refl) (λ xs. refl) (n, (id, tt)) _ (home_fits n id true true (λ k. k) h) refl refl
-step_seen (At n id event.Show) h = seen (codes "show") (home end) (plain event.Show) (sound_home end sound_end) refl (λ xs. refl) (λ xs. refl) (n, (id, tt)) _ (home_fits n id true true (λ k. k) h) refl refl
-step_seen (At n id event.Detail) h = seen (codes "detail") (home end) (plain event.Detail) (sound_home end sound_end) refl (λ xs. refl) (λ xs. refl) (n, (id, tt)) _ (home_fits n id true true (λ k. k) h) refl refl
-step_seen (At n id event.Root) h = seen (codes "root") (home end) (plain event.Root) (sound_home end sound_end) refl (λ xs. refl) (λ xs. refl) (n, (id, tt)) _ (home_fits n id true true (λ k. k) h) refl refl
-step_seen (At n id event.History) h = seen (codes "history") (home end) (plain event.History) (sound_home end sound_end) refl (λ xs. refl) (λ xs. refl) (n, (id, tt)) _ (home_fits n id true true (λ k. k) h) refl refl
-step_seen (At n id event.Tick) h = seen (codes "tick") (home end) (plain event.Tick) (sound_home end sound_end) refl (λ xs. refl) (λ xs. refl) (n, (id, tt)) _ (home_fits n id true true (λ k. k) h) refl refl
-step_seen (At n id event.Expire) h = seen (codes "expire") (home end) (plain event.Expire) (sound_home end sound_end) refl (λ xs. refl) (λ xs. refl) (n, (id, tt)) _ (home_fits n id true true (λ k. k) h) refl refl
+step_seen : (s : Step) → IsTrue (is_step s) → IsSeenStep s
+step_seen (At n id e) h = at_seen n id e h
 step_seen (Deliver from to id number) h =
-    seen (codes "deliver") delivery delivered sound_delivery refl (λ xs. refl) (λ xs. refl) (from, (to, (id, (number, tt)))) _
-    (delivery_fits (is_node_id from) (is_node_id to) (is_circuit_id id) (leb 1 number && ltb number (2 ^ 32)) (not (bytes_eq from to)) h) refl refl
+    let fits = delivery_fits (is_node_id from) (is_node_id to) (is_circuit_id id) (leb 1 number && ltb number (2 ^ 32)) (not (bytes_eq from to)) h in
+    let found : option_map delivered (delivery.read (delivery.spell (from, (to, (id, (number, tt)))))) ≡ Some (Deliver from to id number) = read_as delivery delivered (from, (to, (id, (number, tt)))) _ sound_delivery.exact fits refl in
+    record {
+      again = found;
+      alone = ap (option_map line.Step) found;
+      lack = and_from (lacks 32 (codes "deliver")) _ refl (sound_delivery.lack.free (from, (to, (id, (number, tt)))) fits);
+    }
 
-plain_is : (e : Event) → ((x : Home (Unit {0})) → event_name e ∷ (home end).spell x ≡ step_words (plain e x)) → ((x : Home (Unit {0})) → IsTrue (is_event x.1.0 e)) → IsKind step_words is_step (plain_kind e)
-plain_is e words free = is_kind step_words is_step (event_name e) (home end) (plain e) (sound_home end sound_end).exact (λ x h. (words x, fits_home x.0 x.1.0 true (is_event x.1.0 e) (λ k. free x) h))
+-- a node and a circuit between the name and the words behind it
+abbrev between : List ℕ → List ℕ → List (List ℕ) → List (List ℕ)
+between n id [] = []
+between n id (x ∷ xs) = x ∷ n ∷ id ∷ xs
 
-batch_kind : (name : List ℕ) (to : ℕ → Event) → ((x : Home (ℕ × Unit {0})) → name ∷ (home batch).spell x ≡ step_words (about to x)) → ((x : Home (ℕ × Unit {0})) → IsTrue (ltb x.1.1.0 (2 ^ 64)) → IsTrue (is_event x.1.0 (to x.1.1.0)))
-    → IsKind step_words is_step (kind name (home batch) (about to))
-batch_kind name to words below = is_kind step_words is_step name (home batch) (about to) (sound_home batch sound_batch).exact (λ x h. (words x, fits_home x.0 x.1.0 _ (is_event x.1.0 (to x.1.1.0)) (λ k. below x (less (ltb x.1.1.0 (2 ^ 64)) k)) h))
-
-proposals : IsKind step_words is_step (kind (codes "propose") (home terms) proposed)
-proposals = is_kind step_words is_step (codes "propose") (home terms) proposed (sound_home terms sound_terms).exact (λ x h.
-    (ap (λ (zs : List (List ℕ)). codes "propose" ∷ x.0 ∷ x.1.0 ∷ zs) (sym (terms_spelled (definition_of x.1.0 x.1.1))), fits_proposal x h))
-
-votes : IsKind step_words is_step (kind (codes "vote") (home answer) voted)
-votes = is_kind step_words is_step (codes "vote") (home answer) voted (sound_home answer sound_answer).exact (λ x h. (refl, fits_home x.0 x.1.0 true true (λ k. k) h))
-
-submissions : IsKind step_words is_step (kind (codes "submit") (home work) submitted)
-submissions = is_kind step_words is_step (codes "submit") (home work) submitted (sound_home work sound_work).exact (λ x h. (refl, fits_home x.0 x.1.0 _ _ (λ k. k) h))
-
-gets : IsKind step_words is_step (kind (codes "get") (home place) got)
-gets = is_kind step_words is_step (codes "get") (home place) got (sound_home place sound_place).exact (λ x h. (refl, fits_home x.0 x.1.0 _ _ (less (is_address x.1.1.0)) h))
-
-lists : IsKind step_words is_step (kind (codes "list") (home places) listed)
-lists = is_kind step_words is_step (codes "list") (home places) listed (sound_home places sound_places).exact (λ x h. (refl, fits_home x.0 x.1.0 _ _ (less (is_prefix x.1.1.0)) h))
-
-routes : IsKind step_words is_step (kind (codes "route") (home way) routed)
-routes = is_kind step_words is_step (codes "route") (home way) routed (sound_home way sound_way).exact (λ x h.
-    (refl, fits_home x.0 x.1.0 _ _ (fits_way (is_node_id x.1.1.0) (is_service_id x.1.1.1.0) (is_service_id x.1.1.1.1.0)) h))
+at_only : (name : List ℕ) (xs : List (List ℕ)) (s : Step) → read_at name xs ≡ Some s → (name ∷ xs ≡ step_words s) × IsTrue (is_step s)
+at_only name [] s is = absurd cc
+at_only name (n ∷ []) s is = at_one (is_node_id n) refl
+  where
+    at_one : (a : Bool) → is_node_id n ≡ a → (name ∷ n ∷ [] ≡ step_words s) × IsTrue (is_step s)
+    at_one true a = absurd (let no : None ≡ Some s = rw a at is in cc)
+    at_one false a = absurd (let no : None ≡ Some s = rw a at is in cc)
+at_only name (n ∷ id ∷ xs) s is = at_both (is_node_id n) (is_circuit_id id) refl refl is
+  where
+    at_both : (a b : Bool) → is_node_id n ≡ a → is_circuit_id id ≡ b → read_at name (n ∷ id ∷ xs) ≡ Some s → (name ∷ n ∷ id ∷ xs ≡ step_words s) × IsTrue (is_step s)
+    at_both false b p q e = absurd (let no : None ≡ Some s = rw p at e in cc)
+    at_both true false p q e = absurd (let no : None ≡ Some s = rw (p, q) at e in cc)
+    at_both true true p q e =
+        let found : option_map (At n id) (read_event id name xs) ≡ Some s = rw (p, q) at e in
+        let m = map_some (At n id) (read_event id name xs) s found in
+        let o = event_only id name xs m.0 m.1 in
+        subst (λ (z : Step). (name ∷ n ∷ id ∷ xs ≡ step_words z) × IsTrue (is_step z)) m.2
+        (ap (between n id) o.0, and_from (is_node_id n && is_circuit_id id) (is_event id m.0) (and_from (is_node_id n) (is_circuit_id id) p q) o.1)
 
 deliveries : IsKind step_words is_step (kind (codes "deliver") delivery delivered)
 deliveries = is_kind step_words is_step (codes "deliver") delivery delivered sound_delivery.exact (λ x h.
     (refl, fits_delivery (is_node_id x.0) (is_node_id x.1.0) (is_circuit_id x.1.1.0) (leb 1 x.1.1.1.0 && ltb x.1.1.1.0 (2 ^ 32)) (not (bytes_eq x.0 x.1.0)) h))
 
-all_steps : AllKinds step_words is_step step_kinds
-all_steps =
-    plain_is event.Show (λ x. refl) (λ x. refl)
-    ▹ plain_is event.Root (λ x. refl) (λ x. refl)
-    ▹ plain_is event.History (λ x. refl) (λ x. refl)
-    ▹ plain_is event.Tick (λ x. refl) (λ x. refl)
-    ▹ plain_is event.Expire (λ x. refl) (λ x. refl)
-    ▹ plain_is event.Remove (λ x. refl) (λ x. refl)
-    ▹ plain_is event.Disband (λ x. refl) (λ x. refl)
-    ▹ plain_is event.Abandon (λ x. refl) (λ x. refl)
-    ▹ plain_is event.Purge (λ x. refl) (λ x. refl)
-    ▹ plain_is event.Detail (λ x. refl) (λ x. refl)
-    ▹ proposals
-    ▹ votes
-    ▹ submissions
-    ▹ gets
-    ▹ lists
-    ▹ batch_kind (codes "status") event.Status (λ x. refl) (λ x k. k)
-    ▹ batch_kind (codes "receipt") event.Receipt (λ x. refl) (λ x k. k)
-    ▹ routes
-    ▹ deliveries
-    ▹ tt
-
-none : {A : Type 0} {P : Type 0} (x : A) → None ≡ Some x → P
-none x e = absurd cc
-
 step_only : (ws : List (List ℕ)) (s : Step) → read_step ws ≡ Some s → (ws ≡ step_words s) × IsTrue (is_step s)
 step_only [] s e = absurd cc
-step_only (name ∷ xs) s e = kinds_only step_words is_step step_kinds None name xs s all_steps (none s) e
+step_only (name ∷ xs) s e = kinds_only step_words is_step (kind (codes "deliver") delivery delivered ∷ []) (read_at name xs) name xs s (deliveries ▹ tt) (at_only name xs s) e
 
 sound_step : IsSound step
 sound_step = record { exact = record { again = λ s h. (step_seen s h).again; only = step_only }; lack = record { free = λ s h. (step_seen s h).lack } }
@@ -261,7 +297,7 @@ read_so name ws to p free named x l h e words = record {
 }
 
 few : (n : ℕ) → IsTrue (is_passes n) → IsTrue (ltb n (2 ^ 8))
-few n h = let b = and_parts (leb 1 n) (leb n 64) h in let le : n ≤ 64 = leb-true n 64 b.1 in lt-ltb n (2 ^ 8) (omega arith)
+few n h = let b = and_parts (leb 1 n) (leb n MOST_PASSES) h in let le : n ≤ MOST_PASSES = leb-true n MOST_PASSES b.1 in lt-ltb n (2 ^ 8) (omega arith)
 
 passes_fit : (n : ℕ) → IsTrue (is_passes n) → IsTrue ((that is_passes (number (2 ^ 8))).fits n)
 passes_fit n h = and_from (is_passes n) (ltb n (2 ^ 8)) h (few n h)
@@ -328,10 +364,25 @@ by_words bytes words (Err f) parts e = tt
 pub read_back_at : (bytes : List ℕ) (l : Line) → bytes ≡ spelling l → IsTrue (is_line l) → line_of bytes ≡ Some l
 read_back_at bytes l e h = ap line_of e ∙ read_back l h
 
+-- no step begins with a name that no event has
+at_none : (name : List ℕ) → ((id : List ℕ) (ys : List (List ℕ)) → read_event id name ys ≡ None) → (xs : List (List ℕ)) → read_at name xs ≡ None
+at_none name none_is [] = refl
+at_none name none_is (n ∷ []) = at_one (is_node_id n) refl
+  where
+    at_one : (a : Bool) → is_node_id n ≡ a → read_at name (n ∷ []) ≡ None
+    at_one true p = rw p refl
+    at_one false p = rw p refl
+at_none name none_is (n ∷ id ∷ ys) = at_both (is_node_id n) (is_circuit_id id) refl refl
+  where
+    at_both : (a b : Bool) → is_node_id n ≡ a → is_circuit_id id ≡ b → read_at name (n ∷ id ∷ ys) ≡ None
+    at_both false b p q = rw p refl
+    at_both true false p q = rw (p, q) refl
+    at_both true true p q = rw (p, q, none_is id ys) refl
+
 -- the first word of what begins so begins so
 first_of : (ws : List (List ℕ)) → read_words (onto_first 35 ws) ≡ None
 first_of [] = refl
-first_of (w ∷ ws) = refl
+first_of (w ∷ ws) = ap (option_map line.Step) (at_none (35 ∷ w) (λ id ys. refl) ws)
 
 pub comment : (bytes : List ℕ) → line_of (35 ∷ bytes) ≡ None
 comment bytes = first_of (split 32 bytes)

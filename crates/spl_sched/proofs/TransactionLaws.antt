@@ -11,12 +11,12 @@ use Rattle.spl_command.specs.declared.batch.Command.TheVariants as command
 use Rattle.spl_command.specs.declared.batch.Transaction.{Transaction}
 use Rattle.spl_sched.specs.declared.transaction.Part.{Part}
 use Rattle.spl_sched.specs.declared.transaction.Part.TheVariants as part
-use Rattle.spl_sched.specs.Words.{◌>>=◌, read_front}
+use Rattle.spl_words.specs.Words.{◌>>=◌, read_front}
 use Rattle.spl_sched.specs.Transactions.{is_prefix, is_command, is_transaction, prefix, input_text, output_text, command_text, command_word, part_fronts, read_part, words_of_transaction, words_of_transactions, no_parts, with_part, with_word, read_open, read_transactions, transactions}
-use Rattle.spl_sched.proofs.Splits.{lacks, lacks_append}
+use Rattle.spl_words.proofs.Splits.{lacks, lacks_append}
 use Rattle.spl_base.specs.Booleans.{all_more}
-use Rattle.spl_sched.proofs.WordLaws.{IsExact, EachLacks, some_is, bind_some, guard_some, same_bytes, read_as}
-use Rattle.spl_sched.proofs.FrontLaws.{AllFronts, is_front, fronts_only}
+use Rattle.spl_words.proofs.WordLaws.{IsExact, EachLacks, some_is, bind_some, guard_some, same_bytes, read_as}
+use Rattle.spl_words.proofs.FrontLaws.{AllFronts, is_front, fronts_only}
 use Rattle.spl_sched.proofs.CommandLaws.{exact_prefix, prefix_lacks, exact_command, command_lacks}
 
 -- ---- parts

@@ -3,7 +3,7 @@ use Rattle.std.specs.Prelude.{ℕ, ◌^◌, Bool, true, false, not, ◌&&◌, na
 use Rattle.std.specs.List.{list_all, join_with_byte}
 use Rattle.std.specs.Option.{option_map}
 use Rattle.std.specs.Str.{bytes_eq}
-use Rattle.spl_base.specs.Ids.{is_node_id, is_circuit_id, is_service_id, is_label}
+use Rattle.spl_base.specs.Ids.{is_node_id, is_circuit_id, is_service_id}
 use Rattle.spl_circuit.specs.declared.definition.Service.{Service}
 use Rattle.spl_circuit.specs.declared.definition.Definition.{Definition}
 use Rattle.spl_circuit.specs.Rules.{nodes_of as service_nodes}
@@ -19,12 +19,8 @@ use Rattle.spl_sched.specs.declared.line.Step.{Step}
 use Rattle.spl_sched.specs.declared.line.Step.TheVariants.{At, Deliver}
 use Rattle.spl_sched.specs.declared.line.Line.{Line}
 use Rattle.spl_sched.specs.declared.line.Line.TheVariants as line
-use Rattle.spl_sched.specs.Words.{Word, Words, Kind, text, number, flag, hex, hex_byte, joined, end, ◌&◌, up_to, meaning, that, kind, read_kind}
+use Rattle.spl_words.specs.Words.{Word, Words, Kind, is_name, text, number, flag, hex, hex_byte, joined, end, ◌&◌, ◌>>=◌, read_first, up_to, meaning, that, kind, read_kind}
 use Rattle.spl_sched.specs.Transactions.{is_address, is_prefix, is_transaction, address, dashed, words_of_transactions, transactions}
-
--- 1 to 128 graphic bytes
-abbrev pub is_name : List ℕ → Bool
-is_name xs = nat_le 1 (length xs) && is_label xs
 
 -- 1 to 32 bytes of a to z, 0 to 9 and -
 abbrev pub is_type : List ℕ → Bool
@@ -222,18 +218,8 @@ definition_of id x = record { id = id; generation = x.0; version = x.1.0; manage
 abbrev pub terms_of : Definition → Terms
 terms_of d = (d.generation, (d.version, (d.management, (d.name, (d.members, (d.services, tt))))))
 
--- NODE ID and more
-abbrev pub Home : Type 0 → Type 0
-Home A = List ℕ × (List ℕ × A)
-
-abbrev pub home : {A : Type 0} → Words A → Words (Home A)
-home ws = text is_node_id & text is_circuit_id & ws
-
-abbrev pub plain : Event → Home (Unit {0}) → Step
-plain e x = At x.0 x.1.0 e
-
-abbrev pub proposed : Home Terms → Step
-proposed x = At x.0 x.1.0 (event.Propose (definition_of x.1.0 x.1.1))
+abbrev pub proposed : List ℕ → Terms → Event
+proposed id x = event.Propose (definition_of id x)
 
 abbrev pub accept_or_reject : Word Bool
 accept_or_reject = flag (codes "accept") (codes "reject")
@@ -241,43 +227,28 @@ accept_or_reject = flag (codes "accept") (codes "reject")
 abbrev pub answer : Words (Bool × Unit {0})
 answer = accept_or_reject & end
 
-abbrev pub voted : Home (Bool × Unit {0}) → Step
-voted x = At x.0 x.1.0 (event.Vote x.1.1.0)
-
 -- BATCH and transactions
 abbrev pub work : Words (ℕ × List Transaction)
 work = number (2 ^ 64) & transactions
 
-abbrev pub submitted : Home (ℕ × List Transaction) → Step
-submitted x = At x.0 x.1.0 (event.Submit (record { id = x.1.1.0; transactions = x.1.1.1 }))
+abbrev pub submitted : ℕ × List Transaction → Event
+submitted x = event.Submit (record { id = x.0; transactions = x.1 })
 
 -- ADDRESS
 abbrev pub place : Words (Address × Unit {0})
 place = address & end
 
-abbrev pub got : Home (Address × Unit {0}) → Step
-got x = At x.0 x.1.0 (event.Get x.1.1.0)
-
 -- PREFIX
 abbrev pub places : Words (List ℕ × Unit {0})
 places = dashed & end
-
-abbrev pub listed : Home (List ℕ × Unit {0}) → Step
-listed x = At x.0 x.1.0 (event.List x.1.1.0)
 
 -- BATCH
 abbrev pub batch : Words (ℕ × Unit {0})
 batch = number (2 ^ 64) & end
 
-abbrev pub about : (ℕ → Event) → Home (ℕ × Unit {0}) → Step
-about to x = At x.0 x.1.0 (to x.1.1.0)
-
 -- FROM FROMSERVICE TOSERVICE
 abbrev pub way : Words (List ℕ × (List ℕ × (List ℕ × Unit {0})))
 way = text is_node_id & text is_service_id & text is_service_id & end
-
-abbrev pub routed : Home (List ℕ × (List ℕ × (List ℕ × Unit {0}))) → Step
-routed x = At x.0 x.1.0 (event.Route x.1.1.0 x.1.1.1.0 x.1.1.1.1.0)
 
 -- FROM TO ID K
 abbrev pub Delivery : Type 0
@@ -292,38 +263,54 @@ delivery = that is_between_two (text is_node_id & text is_node_id & text is_circ
 abbrev pub delivered : Delivery → Step
 delivered x = Deliver x.0 x.1.0 x.1.1.0 x.1.1.1.0
 
--- the events that have no words behind node and circuit
-abbrev pub plain_events : List Event
-plain_events = event.Show ∷ event.Root ∷ event.History ∷ event.Tick ∷ event.Expire ∷ event.Remove ∷ event.Disband ∷ event.Abandon ∷ event.Purge ∷ event.Detail ∷ []
-
-abbrev pub plain_kind : Event → Kind Step
-plain_kind e = kind (event_name e) (home end) (plain e)
-
--- the first of these events that has the name
-abbrev pub named : List Event → List ℕ → Option Event
-named [] name = None
-named (e ∷ es) name = if bytes_eq name (event_name e) then Some e else named es name
-
--- the steps that have such words
-abbrev pub worded_kinds : List (Kind Step)
-worded_kinds =
-    kind (codes "propose") (home terms) proposed
-    ∷ kind (codes "vote") (home answer) voted
-    ∷ kind (codes "submit") (home work) submitted
-    ∷ kind (codes "get") (home place) got
-    ∷ kind (codes "list") (home places) listed
-    ∷ kind (codes "status") (home batch) (about event.Status)
-    ∷ kind (codes "receipt") (home batch) (about event.Receipt)
-    ∷ kind (codes "route") (home way) routed
-    ∷ kind (codes "deliver") delivery delivered
+-- the questions without words behind node and id
+abbrev pub asking_kinds : List (Kind Event)
+asking_kinds =
+    kind (codes "show") end (λ x. event.Show)
+    ∷ kind (codes "root") end (λ x. event.Root)
+    ∷ kind (codes "history") end (λ x. event.History)
+    ∷ kind (codes "detail") end (λ x. event.Detail)
     ∷ []
 
-abbrev pub step_kinds : List (Kind Step)
-step_kinds = map plain_kind plain_events ++ worded_kinds
+-- the other events without words there
+abbrev pub acting_kinds : List (Kind Event)
+acting_kinds =
+    kind (codes "tick") end (λ x. event.Tick)
+    ∷ kind (codes "expire") end (λ x. event.Expire)
+    ∷ kind (codes "remove") end (λ x. event.Remove)
+    ∷ kind (codes "disband") end (λ x. event.Disband)
+    ∷ kind (codes "abandon") end (λ x. event.Abandon)
+    ∷ kind (codes "purge") end (λ x. event.Purge)
+    ∷ []
 
+-- those with words, at this circuit
+abbrev pub worded_kinds : List ℕ → List (Kind Event)
+worded_kinds id =
+    kind (codes "propose") terms (proposed id)
+    ∷ kind (codes "vote") answer (λ x. event.Vote x.0)
+    ∷ kind (codes "submit") work submitted
+    ∷ kind (codes "get") place (λ x. event.Get x.0)
+    ∷ kind (codes "list") places (λ x. event.List x.0)
+    ∷ kind (codes "status") batch (λ x. event.Status x.0)
+    ∷ kind (codes "receipt") batch (λ x. event.Receipt x.0)
+    ∷ kind (codes "route") way (λ x. event.Route x.0 x.1.0 x.1.1.0)
+    ∷ []
+
+abbrev pub read_acting : List ℕ → List ℕ → List (List ℕ) → Option Event
+read_acting id name xs = read_kind acting_kinds (read_kind (worded_kinds id) None name xs) name xs
+
+abbrev pub read_event : List ℕ → List ℕ → List (List ℕ) → Option Event
+read_event id name xs = read_kind asking_kinds (read_acting id name xs) name xs
+
+-- NODE ID, and the words of the event of this name
+abbrev pub read_at : List ℕ → List (List ℕ) → Option Step
+read_at name xs =
+    read_first (text is_node_id) xs >>= λ node. read_first (text is_circuit_id) node.1 >>= λ id. option_map (At node.0 id.0) (read_event id.0 name id.1)
+
+-- any other name than deliver is an event's
 abbrev pub read_step : List (List ℕ) → Option Step
 read_step [] = None
-read_step (name ∷ xs) = read_kind step_kinds None name xs
+read_step (name ∷ xs) = read_kind (kind (codes "deliver") delivery delivered ∷ []) (read_at name xs) name xs
 
 -- a step, spelled as it stands alone
 abbrev pub step : Words Step

@@ -1,4 +1,2 @@
-pub mod Words
 pub mod Transactions
 pub mod Grammar
-pub mod HexWords

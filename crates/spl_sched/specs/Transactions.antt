@@ -7,9 +7,10 @@ use Rattle.spl_state.specs.declared.address.Address.{Address}
 use Rattle.spl_command.specs.declared.batch.Command.{Command}
 use Rattle.spl_command.specs.declared.batch.Command.TheVariants as command
 use Rattle.spl_command.specs.declared.batch.Transaction.{Transaction}
+use Rattle.spl_sched.specs.declared.command.TheConstants.{LONGEST_TAG}
 use Rattle.spl_sched.specs.declared.transaction.Part.{Part}
 use Rattle.spl_sched.specs.declared.transaction.Part.TheVariants as part
-use Rattle.spl_sched.specs.Words.{Word, Words, Front, text, hex_string, joined, end, ◌&◌, ◌>>=◌, meaning, that, front, read_front}
+use Rattle.spl_words.specs.Words.{Word, Words, Front, text, hex_string, joined, end, ◌&◌, ◌>>=◌, meaning, that, front, read_front}
 
 -- ---- which values are within their bounds
 
@@ -26,9 +27,9 @@ is_prefix p = nat_le (length p) 35 && is_bytes p
 abbrev pub is_tag_byte : ℕ → Bool
 is_tag_byte b = is_graphic b && not (b == 61)
 
--- 1 to 64 of them
+-- at least one of them, and no more than a tag has
 abbrev pub is_tag : List ℕ → Bool
-is_tag xs = nat_le 1 (length xs) && nat_le (length xs) 64 && list_all is_tag_byte xs
+is_tag xs = nat_le 1 (length xs) && nat_le (length xs) LONGEST_TAG && list_all is_tag_byte xs
 
 abbrev pub is_command : Command → Bool
 is_command (command.Set a value) = is_address a && is_bytes value

@@ -1,18 +1,20 @@
 //! Addresses and prefixes, as words.
-ghost use Rattle.std.specs.Prelude.{◌≡◌, ◌++◌, OnOk};
-ghost use Rattle.spl_sched.specs.Words.{Reads, Takes, read_first};
-ghost use Rattle.spl_sched.specs.Transactions.{prefix, dashed};
+ghost use Rattle.std.specs.Prelude.{◌≡◌};
+ghost use Rattle.spl_words.specs.Words.{Reads};
+ghost use Rattle.spl_sched.specs.Transactions.{prefix};
 
-use crate::digits::{put_bytes, read_bytes, read_cells};
-use crate::fault::LineFault;
-use crate::word::Spelled;
-use crate::words::WordReader;
 use spl_base::Writer;
 use spl_state::{Address, Prefix};
+use spl_words::{LineFault, Word, put_bytes, read_bytes, read_cells};
 use std::alloc::{AllocError, Global};
 
-impl Spelled for Address {
+/// An address, in digits.
+pub(crate) struct AddressText;
+
+impl Word for AddressText {
     ghost use Rattle.spl_sched.specs.Transactions.{address};
+
+    type Value = Address;
 
     ghost word = { address };
 
@@ -24,8 +26,8 @@ impl Spelled for Address {
         Ok(Address(cells))
     }
 
-    fn put(&self, w: &mut Writer) -> Result<(), AllocError> {
-        put_bytes(&self.0, w)
+    fn put(value: &Address, w: &mut Writer) -> Result<(), AllocError> {
+        put_bytes(&value.0, w)
     }
 }
 
@@ -37,37 +39,32 @@ pub(crate) fn read_prefix(alloc: Global, digits: &[u8]) -> Result<Prefix, LineFa
     Prefix::read(read.bytes()).ok_or(LineFault::BadLine)
 }
 
-/// The prefix that the bytes spell, `-` for the empty one.
-fn read_dashed(alloc: Global, bytes: &[u8]) -> Result<Prefix, LineFault>
-    ensures { Reads result (dashed.read bytes.now) }
-{
-    if bytes == b"-".as_slice() {
-        return Prefix::read(b"").ok_or(LineFault::BadLine);
-    }
-    let prefix = read_prefix(alloc, bytes)?;
-    if prefix.bytes().is_empty() {
-        return Err(LineFault::BadLine);
-    }
-    Ok(prefix)
-}
+/// A prefix in digits, `-` for the empty one.
+pub(crate) struct PrefixText;
 
-/// Takes the next word as a prefix, `-` for the empty one.
-pub(crate) fn take_dashed(alloc: Global, words: &mut WordReader) -> Result<Prefix, LineFault>
-    ensures { Takes result words.new (read_first dashed words.old) }
-{
-    match words.next() {
-        Some(bytes) => read_dashed(alloc, bytes),
-        None => Err(LineFault::BadLine),
-    }
-}
+impl Word for PrefixText {
+    ghost use Rattle.spl_sched.specs.Transactions.{dashed};
 
-/// Appends the prefix, `-` for the empty one.
-pub(crate) fn put_dashed(prefix: &Prefix, w: &mut Writer) -> Result<(), AllocError>
-    ensures { OnOk result (w.new ≡ w.old ++ dashed.spell prefix.now) }
-{
-    if prefix.bytes().is_empty() {
-        w.put_raw(b"-")
-    } else {
-        put_bytes(prefix.bytes(), w)
+    type Value = Prefix;
+
+    ghost word = { dashed };
+
+    fn read(alloc: Global, bytes: &[u8]) -> Result<Prefix, LineFault> {
+        if bytes == b"-".as_slice() {
+            return Prefix::read(b"").ok_or(LineFault::BadLine);
+        }
+        let prefix = read_prefix(alloc, bytes)?;
+        if prefix.bytes().is_empty() {
+            return Err(LineFault::BadLine);
+        }
+        Ok(prefix)
+    }
+
+    fn put(value: &Prefix, w: &mut Writer) -> Result<(), AllocError> {
+        if value.bytes().is_empty() {
+            w.put_raw(b"-")
+        } else {
+            put_bytes(value.bytes(), w)
+        }
     }
 }

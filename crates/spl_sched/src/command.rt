@@ -3,16 +3,17 @@ ghost use Rattle.std.specs.Prelude.{◌≡◌, ◌++◌, OnOk};
 ghost use Rattle.std.specs.List.{list_all};
 ghost use Rattle.std.specs.Option.{option_map};
 ghost use Rattle.spl_command.specs.declared.batch.Command.TheVariants as command;
-ghost use Rattle.spl_sched.specs.Words.{Reads, Takes, read_first};
-ghost use Rattle.spl_sched.specs.Transactions.{is_tag_byte, is_tag, tag, entry, told};
+ghost use Rattle.spl_words.specs.Words.{Reads};
+ghost use Rattle.spl_sched.specs.Transactions.{is_tag_byte, is_tag, entry, told};
 
-use crate::fault::LineFault;
-use crate::word::{Spelled, take};
-use crate::words::{WordReader, behind};
+use crate::address::AddressText;
 use spl_base::{Label, Piece, Writer};
 use spl_command::Command;
-use spl_state::Address;
+use spl_words::{LineFault, Word, WordReader, behind, take};
 use std::alloc::{AllocError, Global};
+
+/// How many bytes the type of an event has at most, and a text.
+pub const LONGEST_TAG: usize = 64;
 
 /// A graphic byte other than `=`.
 fn is_tag_byte(b: u8) -> bool
@@ -30,26 +31,29 @@ fn all_tag_bytes(bytes: &[u8]) -> bool
 fn is_tag(bytes: &[u8]) -> bool
     ensures { result ≡ is_tag bytes.now }
 {
-    1 <= bytes.len() && bytes.len() <= 64 && all_tag_bytes(bytes)
+    1 <= bytes.len() && bytes.len() <= LONGEST_TAG && all_tag_bytes(bytes)
 }
 
 /// The type of an event, or a text.
-#[tactic(auto, using(crate::proofs::CommandLaws::tag_is_label))]
-fn read_tag(bytes: &[u8]) -> Result<Label, LineFault>
-    ensures { Reads result (tag.read bytes.now) }
-{
-    if !is_tag(bytes) {
-        return Err(LineFault::BadLine);
-    }
-    Label::read(bytes).ok_or(LineFault::BadLine)
-}
+struct Tag;
 
-fn take_tag(words: &mut WordReader) -> Result<Label, LineFault>
-    ensures { Takes result words.new (read_first tag words.old) }
-{
-    match words.next() {
-        Some(bytes) => read_tag(bytes),
-        None => Err(LineFault::BadLine),
+impl Word for Tag {
+    ghost use Rattle.spl_sched.specs.Transactions.{tag};
+
+    type Value = Label;
+
+    ghost word = { tag };
+
+    #[tactic(auto, using(crate::proofs::CommandLaws::tag_is_label))]
+    fn read(_alloc: Global, bytes: &[u8]) -> Result<Label, LineFault> {
+        if !is_tag(bytes) {
+            return Err(LineFault::BadLine);
+        }
+        Label::read(bytes).ok_or(LineFault::BadLine)
+    }
+
+    fn put(value: &Label, w: &mut Writer) -> Result<(), AllocError> {
+        w.put_raw(value.bytes())
     }
 }
 
@@ -57,8 +61,8 @@ fn read_set(alloc: Global, bytes: &[u8]) -> Result<Command, LineFault>
     ensures { Reads result (option_map (λ x. command.Set x.0 x.1.0) (entry.read bytes.now)) }
 {
     let mut words = WordReader::new(bytes, b'=');
-    let address = take(alloc, &mut words)?;
-    let value = take(alloc, &mut words)?;
+    let address = take::<AddressText>(alloc, &mut words)?;
+    let value = take::<Piece>(alloc, &mut words)?;
     words.end()?;
     Ok(Command::Set(address, value))
 }
@@ -67,30 +71,27 @@ fn read_event(alloc: Global, bytes: &[u8]) -> Result<Command, LineFault>
     ensures { Reads result (option_map (λ x. command.Event x.0 x.1.0) (told.read bytes.now)) }
 {
     let mut words = WordReader::new(bytes, b'=');
-    let kind = take_tag(&mut words)?;
-    let data = take(alloc, &mut words)?;
+    let kind = take::<Tag>(alloc, &mut words)?;
+    let data = take::<Piece>(alloc, &mut words)?;
     words.end()?;
     Ok(Command::Event(kind, data))
 }
 
 /// Appends these bytes and a word.
-fn put_behind<T: Spelled>(front: &[u8], word: &T, w: &mut Writer) -> Result<(), AllocError>
-    ensures { OnOk result (w.new ≡ w.old ++ (front.now ++ T.word.spell word.now)) }
+fn put_behind<W: Word>(front: &[u8], value: &W::Value, w: &mut Writer) -> Result<(), AllocError>
+    ensures { OnOk result (w.new ≡ w.old ++ (front.now ++ W.word.spell value.now)) }
 {
     w.put_raw(front)?;
-    word.put(w)
+    W::put(value, w)
 }
 
-/// Appends these bytes, and the type of an event or a text.
-fn put_tag(front: &[u8], tag: &Label, w: &mut Writer) -> Result<(), AllocError>
-    ensures { OnOk result (w.new ≡ w.old ++ (front.now ++ tag.now)) }
-{
-    w.put_raw(front)?;
-    w.put_raw(tag.bytes())
-}
+/// A command of a transaction.
+pub(crate) struct CommandText;
 
-impl Spelled for Command {
+impl Word for CommandText {
     ghost use Rattle.spl_sched.specs.Transactions.{command_word};
+
+    type Value = Command;
 
     ghost word = { command_word };
 
@@ -98,37 +99,37 @@ impl Spelled for Command {
         if let Some(word) = behind(b"set:", bytes) {
             read_set(alloc, word)
         } else if let Some(word) = behind(b"get:", bytes) {
-            Ok(Command::Get(Address::read(alloc, word)?))
+            Ok(Command::Get(AddressText::read(alloc, word)?))
         } else if let Some(word) = behind(b"del:", bytes) {
-            Ok(Command::Delete(Address::read(alloc, word)?))
+            Ok(Command::Delete(AddressText::read(alloc, word)?))
         } else if let Some(word) = behind(b"event:", bytes) {
             read_event(alloc, word)
         } else if let Some(word) = behind(b"data:", bytes) {
             Ok(Command::Data(Piece::read(alloc, word)?))
         } else if let Some(word) = behind(b"invalid:", bytes) {
-            Ok(Command::Invalid(read_tag(word)?))
+            Ok(Command::Invalid(Tag::read(alloc, word)?))
         } else if let Some(word) = behind(b"error:", bytes) {
-            Ok(Command::Error(read_tag(word)?))
+            Ok(Command::Error(Tag::read(alloc, word)?))
         } else {
             Err(LineFault::BadLine)
         }
     }
 
-    fn put(&self, w: &mut Writer) -> Result<(), AllocError> {
-        match self {
+    fn put(value: &Command, w: &mut Writer) -> Result<(), AllocError> {
+        match value {
             Command::Set(address, value) => {
-                put_behind(b"set:", address, w)?;
-                put_behind(b"=", value, w)
+                put_behind::<AddressText>(b"set:", address, w)?;
+                put_behind::<Piece>(b"=", value, w)
             }
-            Command::Get(address) => put_behind(b"get:", address, w),
-            Command::Delete(address) => put_behind(b"del:", address, w),
+            Command::Get(address) => put_behind::<AddressText>(b"get:", address, w),
+            Command::Delete(address) => put_behind::<AddressText>(b"del:", address, w),
             Command::Event(kind, data) => {
-                put_tag(b"event:", kind, w)?;
-                put_behind(b"=", data, w)
+                put_behind::<Tag>(b"event:", kind, w)?;
+                put_behind::<Piece>(b"=", data, w)
             }
-            Command::Data(data) => put_behind(b"data:", data, w),
-            Command::Invalid(text) => put_tag(b"invalid:", text, w),
-            Command::Error(text) => put_tag(b"error:", text, w),
+            Command::Data(data) => put_behind::<Piece>(b"data:", data, w),
+            Command::Invalid(text) => put_behind::<Tag>(b"invalid:", text, w),
+            Command::Error(text) => put_behind::<Tag>(b"error:", text, w),
         }
     }
 }

@@ -3,27 +3,21 @@
 
 mod address;
 mod command;
-mod digits;
-mod fault;
 mod fill;
 mod known;
 mod laws;
 mod line;
-mod list;
-mod number;
 mod read;
 mod service;
 mod step;
 mod transaction;
-mod word;
-mod words;
 mod write;
 
-pub use fault::LineFault;
 pub use laws::{
     lines_are_read_back, lines_have_one_spelling, silent_lines_are_no_lines,
     spellings_have_one_line,
 };
 pub use line::{Line, MOST_PASSES, Step};
 pub use read::read_line;
+pub use spl_words::LineFault;
 pub use write::write_line;

@@ -3,22 +3,21 @@ ghost use Rattle.std.specs.Prelude.{◌≡◌, ◌∷◌, IfOk, IsTrue, Some, No
 ghost use Rattle.std.specs.Result.{IsErrOf};
 ghost use Rattle.std.specs.Option.{option_map};
 ghost use Rattle.spl_sched.specs.declared.line.Line.TheVariants as line;
-ghost use Rattle.spl_sched.specs.Words.{Reads, Takes, read_first, read_kind, has_kind, that, number};
-ghost use Rattle.spl_sched.specs.Grammar.{is_line, is_passes, spelling, calm, cut, failing, node, step, line_kinds, read_words, line_of};
+ghost use Rattle.spl_words.specs.Words.{Reads, Takes, read_first, that, number};
+ghost use Rattle.spl_sched.specs.Grammar.{is_line, is_passes, spelling, calm, cut, failing, node, step, read_words, line_of};
 
-use crate::fault::LineFault;
+use crate::fill::FillText;
 use crate::line::{Line, MOST_PASSES, Step};
 use crate::step::read_step;
-use crate::word::take;
-use crate::words::WordReader;
-use spl_base::NodeId;
+use spl_base::{CircuitId, NodeId};
+use spl_words::{LineFault, WordReader, take};
 use std::alloc::Global;
 
 /// Takes a number from 1 to `MOST_PASSES`.
 fn take_passes(alloc: Global, words: &mut WordReader) -> Result<u8, LineFault>
     ensures { Takes result words.new (read_first (that is_passes (number (2 ^ 8))) words.old) }
 {
-    let passes = take(alloc, words)?;
+    let passes = take::<u8>(alloc, words)?;
     if passes < 1 || passes > MOST_PASSES {
         return Err(LineFault::BadLine);
     }
@@ -29,7 +28,7 @@ fn take_passes(alloc: Global, words: &mut WordReader) -> Result<u8, LineFault>
 fn take_call(alloc: Global, words: &mut WordReader) -> Result<u8, LineFault>
     ensures { Takes result words.new (read_first (that (nat_le 1) (number (2 ^ 8))) words.old) }
 {
-    let call = take(alloc, words)?;
+    let call = take::<u8>(alloc, words)?;
     if call < 1 {
         return Err(LineFault::BadLine);
     }
@@ -40,7 +39,7 @@ fn take_call(alloc: Global, words: &mut WordReader) -> Result<u8, LineFault>
 fn read_node(alloc: Global, words: &mut WordReader) -> Result<NodeId, LineFault>
     ensures { Reads result (option_map (λ x. x.0) (node.read words.old)) }
 {
-    let node = take(alloc, words)?;
+    let node = take::<NodeId>(alloc, words)?;
     words.end()?;
     Ok(node)
 }
@@ -48,7 +47,7 @@ fn read_node(alloc: Global, words: &mut WordReader) -> Result<NodeId, LineFault>
 fn read_calm(alloc: Global, words: &mut WordReader) -> Result<Line, LineFault>
     ensures { Reads result (option_map (λ x. line.Calm x.0 x.1.0) (calm.read words.old)) }
 {
-    let circuit = take(alloc, words)?;
+    let circuit = take::<CircuitId>(alloc, words)?;
     let passes = take_passes(alloc, words)?;
     words.end()?;
     Ok(Line::Calm { circuit, passes })
@@ -67,8 +66,8 @@ fn read_inner(alloc: Global, words: &mut WordReader) -> Result<Step, LineFault>
 fn read_cut(alloc: Global, words: &mut WordReader) -> Result<Line, LineFault>
     ensures { Reads result (option_map (λ x. line.Cut x.0 x.1.0 x.1.1) (cut.read words.old)) }
 {
-    let calls = take(alloc, words)?;
-    let fill = take(alloc, words)?;
+    let calls = take::<u8>(alloc, words)?;
+    let fill = take::<FillText>(alloc, words)?;
     let step = read_inner(alloc, words)?;
     Ok(Line::Cut { calls, fill, step })
 }
@@ -81,21 +80,9 @@ fn read_failing(alloc: Global, words: &mut WordReader) -> Result<Line, LineFault
     Ok(Line::Fail { call, step })
 }
 
-/// Whether a line of this name is another one than a step.
-fn is_no_step(name: &[u8]) -> bool
-    ensures { result ≡ has_kind line_kinds name.now }
-{
-    name == b"calm".as_slice()
-        || name == b"stop".as_slice()
-        || name == b"start".as_slice()
-        || name == b"roll".as_slice()
-        || name == b"cut".as_slice()
-        || name == b"fail".as_slice()
-}
-
-/// The line that the words behind its name spell, where it is another one than a step.
-fn read_no_step(alloc: Global, name: &[u8], words: &mut WordReader) -> Result<Line, LineFault>
-    ensures { Reads result (read_kind line_kinds None name.now words.old) }
+/// The line that the words behind its name spell. A name that is none of these is a step's.
+fn read_named(alloc: Global, name: &[u8], words: &mut WordReader) -> Result<Line, LineFault>
+    ensures { Reads result (read_words (name.now ∷ words.old)) }
 {
     if name == b"calm".as_slice() {
         return read_calm(alloc, words);
@@ -115,25 +102,7 @@ fn read_no_step(alloc: Global, name: &[u8], words: &mut WordReader) -> Result<Li
     if name == b"fail".as_slice() {
         return read_failing(alloc, words);
     }
-    Err(LineFault::BadLine)
-}
-
-/// The step that the words behind its name spell, as a line.
-fn read_step_line(alloc: Global, name: &[u8], words: &mut WordReader) -> Result<Line, LineFault>
-    ensures { Reads result (option_map line.Step (step.read (name.now ∷ words.old))) }
-{
     Ok(Line::Step(read_step(alloc, name, words)?))
-}
-
-// Steps are most lines, and pay for no other one.
-fn read_named(alloc: Global, name: &[u8], words: &mut WordReader) -> Result<Line, LineFault>
-    ensures { Reads result (read_words (name.now ∷ words.old)) }
-{
-    if is_no_step(name) {
-        read_no_step(alloc, name, words)
-    } else {
-        read_step_line(alloc, name, words)
-    }
 }
 
 /// The line that the bytes spell (docs/RULES.md, Schedules), or `BadLine` where they spell none. An

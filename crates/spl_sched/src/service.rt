@@ -1,53 +1,57 @@
 //! A service, as a word.
-ghost use Rattle.spl_sched.specs.Words.{Reads, Takes, text, read_first};
-ghost use Rattle.spl_sched.specs.Grammar.{is_type};
-
-use crate::fault::LineFault;
-use crate::word::{Spelled, take};
-use crate::words::WordReader;
-use spl_base::{Label, NodeId, Writer};
+use spl_base::{Label, NodeId, ServiceId, Writer};
 use spl_circuit::Service;
+use spl_words::{LineFault, Word, WordReader, take};
 use std::alloc::{AllocError, Global};
 
-/// A type has the grammar of a node's id.
-#[tactic(auto, using(crate::proofs::GrammarLaws::type_is_label))]
-fn read_type(bytes: &[u8]) -> Result<Label, LineFault>
-    ensures { Reads result ((text is_type).read bytes.now) }
-{
-    if NodeId::read(bytes).is_none() {
-        return Err(LineFault::BadLine);
+/// The type of a service, which has the grammar of a node's id.
+pub(crate) struct ServiceType;
+
+impl Word for ServiceType {
+    ghost use Rattle.spl_words.specs.Words.{text};
+    ghost use Rattle.spl_sched.specs.Grammar.{is_type};
+
+    type Value = Label;
+
+    ghost word = { text is_type };
+
+    #[tactic(auto, using(crate::proofs::GrammarLaws::type_is_label))]
+    fn read(_alloc: Global, bytes: &[u8]) -> Result<Label, LineFault> {
+        if NodeId::read(bytes).is_none() {
+            return Err(LineFault::BadLine);
+        }
+        Label::read(bytes).ok_or(LineFault::BadLine)
     }
-    Label::read(bytes).ok_or(LineFault::BadLine)
+
+    fn put(value: &Label, w: &mut Writer) -> Result<(), AllocError> {
+        w.put_raw(value.bytes())
+    }
 }
 
-fn take_type(words: &mut WordReader) -> Result<Label, LineFault>
-    ensures { Takes result words.new (read_first (text is_type) words.old) }
-{
-    match words.next() {
-        Some(bytes) => read_type(bytes),
-        None => Err(LineFault::BadLine),
-    }
-}
+/// SERVICE:TYPE:NODE.
+pub(crate) struct ServiceText;
 
-impl Spelled for Service {
+impl Word for ServiceText {
     ghost use Rattle.spl_sched.specs.Grammar.{service};
+
+    type Value = Service;
 
     ghost word = { service };
 
     fn read(alloc: Global, bytes: &[u8]) -> Result<Service, LineFault> {
         let mut words = WordReader::new(bytes, b':');
-        let id = take(alloc, &mut words)?;
-        let kind = take_type(&mut words)?;
-        let node = take(alloc, &mut words)?;
+        let id = take::<ServiceId>(alloc, &mut words)?;
+        let kind = take::<ServiceType>(alloc, &mut words)?;
+        let node = take::<NodeId>(alloc, &mut words)?;
         words.end()?;
         Ok(Service { id, kind, node })
     }
 
-    fn put(&self, w: &mut Writer) -> Result<(), AllocError> {
-        self.id.put(w)?;
+    fn put(value: &Service, w: &mut Writer) -> Result<(), AllocError> {
+        ServiceId::put(&value.id, w)?;
         w.put_u8(b':')?;
-        w.put_raw(self.kind.bytes())?;
+        ServiceType::put(&value.kind, w)?;
         w.put_u8(b':')?;
-        self.node.put(w)
+        NodeId::put(&value.node, w)
     }
 }

@@ -1,16 +1,14 @@
 //! The transactions of a batch, as words.
 ghost use Rattle.std.specs.Prelude.{◌≡◌, ◌++◌, ◌∷◌, IfOk, OnOk, map};
-ghost use Rattle.spl_sched.specs.Words.{Reads, behind_spaces};
+ghost use Rattle.spl_words.specs.Words.{Reads, behind_spaces};
 ghost use Rattle.spl_sched.specs.Transactions.{prefix, command_text, read_part, no_parts, with_part, with_word, read_open, read_transactions, words_of_transaction, words_of_transactions};
 
 use crate::address::read_prefix;
-use crate::digits::put_bytes;
-use crate::fault::LineFault;
-use crate::word::{Spelled, put_next};
-use crate::words::{WordReader, behind};
+use crate::command::CommandText;
 use spl_base::{Listing, Writer};
 use spl_command::{Command, Prefixes, Transaction, Transactions};
 use spl_state::Prefix;
+use spl_words::{LineFault, Word, WordReader, behind, put_bytes, put_next};
 use std::alloc::{AllocError, Global};
 
 /// What one word of a transaction says.
@@ -31,7 +29,7 @@ fn read_part(alloc: Global, word: &[u8]) -> Result<Part, LineFault>
     } else if let Some(digits) = behind(b"out:", word) {
         Ok(Part::Output(read_prefix(alloc, digits)?))
     } else {
-        Ok(Part::Command(Command::read(alloc, word)?))
+        Ok(Part::Command(CommandText::read(alloc, word)?))
     }
 }
 
@@ -142,7 +140,7 @@ fn put_commands(commands: &[Command], w: &mut Writer) -> Result<(), AllocError>
     ensures { OnOk result (w.new ≡ w.old ++ behind_spaces (map command_text commands.now)) }
 {
     for command in commands {
-        put_next(command, w)?;
+        put_next::<CommandText>(command, w)?;
     }
     Ok(())
 }

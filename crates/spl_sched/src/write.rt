@@ -1,36 +1,38 @@
 //! Writing a line.
 ghost use Rattle.std.specs.Prelude.{◌≡◌, ◌++◌, ◌∷◌, OnOk, IfOk, IsTrue, Some, decimal};
 ghost use Rattle.std.specs.List.{join_with_byte};
-ghost use Rattle.spl_sched.specs.Words.{behind_spaces};
+ghost use Rattle.spl_words.specs.Words.{behind_spaces};
 ghost use Rattle.spl_sched.specs.Transactions.{words_of_transactions};
 ghost use Rattle.spl_sched.specs.Grammar.{accept_or_reject, words_of_terms, event_name, event_words, step_words, spelling, line_of, is_line};
 
-use crate::address::put_dashed;
+use crate::address::{AddressText, PrefixText};
+use crate::fill::FillText;
 use crate::line::{Line, Step};
+use crate::service::ServiceText;
 use crate::transaction::put_transactions;
-use crate::word::put_next;
-use spl_base::{Piece, Writer};
+use spl_base::{BatchId, CircuitId, NodeId, Piece, ServiceId, Writer};
 use spl_circuit::{Definition, Members};
 use spl_command::Batch;
 use spl_wire::Event;
+use spl_words::{ListOf, Name, put_next};
 use std::alloc::{AllocError, Global};
 
 #[tactic(auto, using(crate::proofs::GrammarLaws::members_spelled))]
 fn put_members(members: &Members, w: &mut Writer) -> Result<(), AllocError>
     ensures { OnOk result (w.new ≡ w.old ++ 32 ∷ join_with_byte 44 members.now) }
 {
-    put_next(members, w)
+    put_next::<ListOf<NodeId>>(members, w)
 }
 
 fn put_terms(definition: &Definition, w: &mut Writer) -> Result<(), AllocError>
     ensures { OnOk result (w.new ≡ w.old ++ behind_spaces (words_of_terms definition.now)) }
 {
-    put_next(&definition.generation.0, w)?;
-    put_next(&definition.version, w)?;
-    put_next(&definition.management, w)?;
-    put_next(&definition.name, w)?;
+    put_next::<u32>(&definition.generation.0, w)?;
+    put_next::<u8>(&definition.version, w)?;
+    put_next::<Name>(&definition.management, w)?;
+    put_next::<Name>(&definition.name, w)?;
     put_members(&definition.members, w)?;
-    put_next(&definition.services, w)
+    put_next::<ListOf<ServiceText>>(&definition.services, w)
 }
 
 fn put_answer(accept: bool, w: &mut Writer) -> Result<(), AllocError>
@@ -46,7 +48,7 @@ fn put_answer(accept: bool, w: &mut Writer) -> Result<(), AllocError>
 fn put_batch(batch: &Batch, w: &mut Writer) -> Result<(), AllocError>
     ensures { OnOk result (w.new ≡ w.old ++ behind_spaces (decimal batch.now.id ∷ words_of_transactions batch.now.transactions)) }
 {
-    put_next(&batch.id, w)?;
+    put_next::<BatchId>(&batch.id, w)?;
     put_transactions(batch.transactions.get().as_slice(), w)
 }
 
@@ -86,21 +88,18 @@ fn put_event(event: &Event, w: &mut Writer) -> Result<(), AllocError>
             put_answer(*accept, w)
         }
         Event::Submit(batch) => put_batch(batch.get(), w),
-        Event::Get(address) => put_next(address, w),
-        Event::List(prefix) => {
-            w.put_u8(b' ')?;
-            put_dashed(prefix, w)
-        }
-        Event::Status(batch) => put_next(batch, w),
-        Event::Receipt(batch) => put_next(batch, w),
+        Event::Get(address) => put_next::<AddressText>(address, w),
+        Event::List(prefix) => put_next::<PrefixText>(prefix, w),
+        Event::Status(batch) => put_next::<BatchId>(batch, w),
+        Event::Receipt(batch) => put_next::<BatchId>(batch, w),
         Event::Route {
             from,
             from_service,
             to_service,
         } => {
-            put_next(from, w)?;
-            put_next(from_service, w)?;
-            put_next(to_service, w)
+            put_next::<NodeId>(from, w)?;
+            put_next::<ServiceId>(from_service, w)?;
+            put_next::<ServiceId>(to_service, w)
         }
         _ => Ok(()),
     }
@@ -116,8 +115,8 @@ fn put_step(step: &Step, w: &mut Writer) -> Result<(), AllocError>
             event,
         } => {
             w.put_raw(event_name(event))?;
-            put_next(node, w)?;
-            put_next(circuit, w)?;
+            put_next::<NodeId>(node, w)?;
+            put_next::<CircuitId>(circuit, w)?;
             put_event(event, w)
         }
         Step::Deliver {
@@ -127,10 +126,10 @@ fn put_step(step: &Step, w: &mut Writer) -> Result<(), AllocError>
             number,
         } => {
             w.put_raw(b"deliver")?;
-            put_next(from, w)?;
-            put_next(to, w)?;
-            put_next(circuit, w)?;
-            put_next(number, w)
+            put_next::<NodeId>(from, w)?;
+            put_next::<NodeId>(to, w)?;
+            put_next::<CircuitId>(circuit, w)?;
+            put_next::<u32>(number, w)
         }
     }
 }
@@ -142,31 +141,31 @@ fn put_line(line: &Line, w: &mut Writer) -> Result<(), AllocError>
         Line::Step(step) => put_step(step, w),
         Line::Calm { circuit, passes } => {
             w.put_raw(b"calm")?;
-            put_next(circuit, w)?;
-            put_next(passes, w)
+            put_next::<CircuitId>(circuit, w)?;
+            put_next::<u8>(passes, w)
         }
         Line::Stop(node) => {
             w.put_raw(b"stop")?;
-            put_next(node, w)
+            put_next::<NodeId>(node, w)
         }
         Line::Start(node) => {
             w.put_raw(b"start")?;
-            put_next(node, w)
+            put_next::<NodeId>(node, w)
         }
         Line::Roll(node) => {
             w.put_raw(b"roll")?;
-            put_next(node, w)
+            put_next::<NodeId>(node, w)
         }
         Line::Cut { calls, fill, step } => {
             w.put_raw(b"cut")?;
-            put_next(calls, w)?;
-            put_next(fill, w)?;
+            put_next::<u8>(calls, w)?;
+            put_next::<FillText>(fill, w)?;
             w.put_u8(b' ')?;
             put_step(step, w)
         }
         Line::Fail { call, step } => {
             w.put_raw(b"fail")?;
-            put_next(call, w)?;
+            put_next::<u8>(call, w)?;
             w.put_u8(b' ')?;
             put_step(step, w)
         }

@@ -2,6 +2,7 @@ pub mod Splits
 pub mod Numbers
 pub mod WordLaws
 pub mod HexLaws
-mod HexDigits
+pub mod HexDigits
 pub mod FrontLaws
 pub mod Items
+pub mod RowLaws

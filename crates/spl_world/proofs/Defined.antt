@@ -11,7 +11,8 @@ use Rattle.spl_circuit.specs.declared.definition.Service.{Service}
 use Rattle.spl_circuit.specs.declared.definition.Definition.{Definition}
 use Rattle.spl_circuit.specs.Forms.{node_id, label, service_id, circuit_id, byte, word, service, definition}
 use Rattle.spl_circuit.specs.Nodes.{NodeId, CircuitId}
-use Rattle.spl_sched.specs.Grammar.{is_name, is_type, is_service, is_definition}
+use Rattle.spl_words.specs.Words.{is_name}
+use Rattle.spl_sched.specs.Grammar.{is_type, is_service, is_definition}
 use Rattle.spl_rules.proofs.Named.{named_node, named_circuit, named_service}
 use Rattle.spl_rules.proofs.Positions.{node_is}
 

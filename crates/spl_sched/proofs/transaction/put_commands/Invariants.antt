@@ -1,5 +1,5 @@
 use Rattle.std.proofs.Common.{◌≡◌, ◌++◌, map, take}
-use Rattle.spl_sched.specs.Words.{behind_spaces}
+use Rattle.spl_words.specs.Words.{behind_spaces}
 use Rattle.spl_sched.specs.Transactions.{command_text}
 use Rattle.spl_sched.proofs.transaction.put_commands.Given as goal
 

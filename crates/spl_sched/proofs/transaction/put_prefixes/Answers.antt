@@ -1,6 +1,6 @@
 use Rattle.std.proofs.Common.{ℕ, List, ◌++◌, arith}
 use Rattle.spl_sched.specs.Transactions.{prefix}
-use Rattle.spl_sched.proofs.Items.{word_put, some_item}
+use Rattle.spl_words.proofs.Items.{word_put, some_item}
 use Rattle.spl_sched.proofs.transaction.put_prefixes.Goals as goal
 
 pub loop-i-preserved : goal.loop-i-preserved

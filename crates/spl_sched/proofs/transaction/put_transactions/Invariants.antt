@@ -1,5 +1,5 @@
 use Rattle.std.proofs.Common.{◌≡◌, ◌++◌, take}
-use Rattle.spl_sched.specs.Words.{behind_spaces}
+use Rattle.spl_words.specs.Words.{behind_spaces}
 use Rattle.spl_sched.specs.Transactions.{words_of_transactions}
 use Rattle.spl_sched.proofs.transaction.put_transactions.Given as goal
 

@@ -3,7 +3,7 @@ use Rattle.std.specs.Str.{bytes_eq}
 use Rattle.std.specs.Prelude.{codes}
 use Rattle.spl_command.specs.declared.batch.Transaction.{Transaction}
 use Rattle.spl_sched.specs.Transactions.{no_parts, read_open}
-use Rattle.spl_sched.proofs.Items.{with_front, moved}
+use Rattle.spl_words.proofs.Items.{with_front, moved}
 use Rattle.spl_sched.proofs.transaction.read_behind.Goals as goal
 
 -- the word that ends a transaction begins one without parts

@@ -1,6 +1,6 @@
 use Rattle.std.proofs.Common.{◌≡◌, length}
 use Rattle.spl_sched.specs.Transactions.{no_parts, read_open}
-use Rattle.spl_sched.proofs.Items.{with_front}
+use Rattle.spl_words.proofs.Items.{with_front}
 use Rattle.spl_sched.proofs.transaction.read_behind.Given as goal
 
 abbrev pub invariant-loop-word : goal.invariant-loop-word

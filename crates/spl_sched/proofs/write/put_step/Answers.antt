@@ -3,7 +3,7 @@ use Rattle.std.specs.Prelude.{OnOk}
 use Rattle.std.specs.List.{join_with_byte}
 use Rattle.spl_sched.specs.declared.line.Step.{Step}
 use Rattle.spl_sched.specs.Grammar.{event_name, event_words, step_words}
-use Rattle.spl_sched.proofs.Items.{home_put}
+use Rattle.spl_words.proofs.Items.{home_put}
 use Rattle.spl_sched.proofs.write.put_step.Goals as goal
 
 pub returns-in_ok-put_next-in-At-2 : goal.returns-in_ok-put_next-in-At-2
