@@ -1,5 +1,5 @@
 -- A circuit that has ended at a node stays so there: behind its acts none is good, so no more are committed.
-use Rattle.std.proofs.Common.{◌≡◌, ◌⊎◌, ◌<◌, ℕ, Bool, true, false, ◌&&◌, List, [], ◌∷◌, ◌++◌, append-nil, append_assoc, refl, sym, ap, subst, ◌∙◌, inl, inr, arith}
+use Rattle.std.proofs.Common.{◌≡◌, ◌⊎◌, ◌<◌, ℕ, true, false, List, [], ◌∷◌, ◌++◌, append-nil, append_assoc, refl, sym, ap, subst, ◌∙◌, inl, inr, arith}
 use Rattle.std.specs.Prelude.{None, ◌==◌}
 use Rattle.std.proofs.lemmas.List.{map-append}
 use Rattle.std.proofs.lemmas.Option.{none-some}
@@ -20,13 +20,13 @@ use Rattle.spl_circuit.specs.Rules.{is_member}
 use Rattle.spl_circuit.specs.Equality.{same_definition}
 use Rattle.spl_circuit.specs.Lifecycle.{life, is_proposed, is_active, is_disbanding}
 use Rattle.spl_circuit.specs.Acts.{is_first, misfit_kind, misfit, act_rules}
-use Rattle.spl_rules.specs.Cells.{Bound, Cell, Held, own_life}
+use Rattle.spl_rules.specs.Cells.{Bound, Held, own_life}
 use Rattle.spl_model.specs.Worlds.{World, Occurrence, occur, empty_world, world_behind}
 use Rattle.spl_model.specs.Plain.{AllPlain}
 use Rattle.spl_model.proofs.LinesAsOccurrences.{run-append, plain-append}
 use Rattle.spl_agreement.specs.Lists.{act_list, batch_list}
 use Rattle.spl_agreement.specs.Agreement.{AtEach, IsPast, has_ended, EndsForGood}
-use Rattle.spl_agreement.proofs.GroupWorlds.{IsValid, IsValidCell}
+use Rattle.spl_agreement.proofs.GroupWorlds.{IsValidCell}
 use Rattle.spl_agreement.proofs.CoupledDeeds.{SomePast}
 use Rattle.spl_agreement.proofs.Occurrences.{run-past, stays-behind}
 use Rattle.spl_agreement.proofs.KnownStays.{keeps-run}

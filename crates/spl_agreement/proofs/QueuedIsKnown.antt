@@ -1,7 +1,6 @@
 -- What an event is answered to have queued is what it brought, and the cell then knows it.
 use Rattle.std.proofs.Common.{◌≡◌, ℕ, ◌-◌, true, false, [], ◌∷◌, ◌++◌, refl, sym, ap, subst, inl, inr}
 use Rattle.std.specs.Prelude.{Option, Some, None, slice_get, ◌==◌, is_some}
-use Rattle.spl_agree.specs.declared.event.Note.TheVariants as note
 use Rattle.spl_agree.specs.declared.event.GroupEvent.TheVariants as group
 use Rattle.spl_agree.specs.declared.event.GroupChange.TheVariants as change
 use Rattle.spl_agree.specs.declared.event.OpenMove.TheVariants as move

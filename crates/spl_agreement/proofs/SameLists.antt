@@ -1,5 +1,5 @@
 -- A circuit has the same lists behind its own lines and behind all lines.
-use Rattle.std.proofs.Common.{◌≡◌, ◌⊎◌, Bool, true, false, List, [], ◌∷◌, ◌++◌, append-nil, append_assoc, refl, sym, ap, subst, ◌∙◌, inl, inr}
+use Rattle.std.proofs.Common.{◌≡◌, ◌⊎◌, Bool, true, false, List, [], ◌∷◌, ◌++◌, append-nil, append_assoc, refl, sym, ap, ◌∙◌, inl, inr}
 use Rattle.std.specs.Prelude.{if◌then◌else◌}
 use Rattle.std.specs.Str.{bytes_eq}
 use Rattle.spl_agree.proofs.Tests.{if_holds, bool_cases, and_left, and_right}
@@ -14,7 +14,7 @@ use Rattle.spl_sched.specs.Grammar.{step_node}
 use Rattle.spl_rules.specs.Cells.{Cell}
 use Rattle.spl_model.specs.Origins.{is-blank}
 use Rattle.spl_model.specs.Worlds.{blank, World, Occurrence, Steps, Stops, Starts, Halts, first_world, step_plan, happens, occur}
-use Rattle.spl_model.specs.Projection.{Ran, plainly, line_fits, lines_fit, names, concerned, at_one_of, beside, own_line, own_among}
+use Rattle.spl_model.specs.Projection.{Ran, line_fits, lines_fit, names, concerned, at_one_of, beside, own_line, own_among}
 use Rattle.spl_model.specs.Answers.{line_world, lines_world, occurrences_in, occurrences_from, occurrences}
 use Rattle.spl_projection.specs.Whole.{world_after}
 use Rattle.spl_projection.specs.Happened.{happened_beside, happened_in, happened_from, whole_happened}
