@@ -1,4 +1,7 @@
 //! Limits that several crates share.
 
-/// How many bytes the body of a frame has at most, and a record.
-pub const LONGEST_BODY: usize = 16_384;
+/// How many bytes a record of a journal has at most.
+pub const LONGEST_RECORD: usize = 16_384;
+
+/// How many bytes a line of a schedule has at most, where none of its kind may have more.
+pub const LONGEST_LINE: usize = 2048;

@@ -4,6 +4,7 @@ use Rattle.std.specs.List.{list_all, list_any}
 use Rattle.std.specs.Str.{bytes_eq}
 use Rattle.spl_circuit.specs.declared.definition.Service.{Service}
 use Rattle.spl_circuit.specs.declared.definition.Definition.{Definition}
+use Rattle.spl_circuit.specs.declared.rules.TheConstants.{LONGEST_NAME}
 pub use Rattle.spl_base.specs.Rules.{first_false}
 use Rattle.spl_circuit.specs.Nodes.{Node, has_node, is_below, lowest, sorted, same_nodes}
 
@@ -34,7 +35,7 @@ rules_of d =
     (d.version == 1 || d.version == 2)
     ∷ nat_le 1 d.generation
     ∷ (nat_le 1 (length d.management) && nat_le (length d.management) 32)
-    ∷ (nat_le 1 (length d.name) && nat_le (length d.name) 64)
+    ∷ (nat_le 1 (length d.name) && nat_le (length d.name) LONGEST_NAME)
     ∷ (nat_le 2 (length d.members) && nat_le (length d.members) 8)
     ∷ ascends d.members
     ∷ list_all (λ s. bytes_eq s.kind (codes "scabbard")) d.services

@@ -8,6 +8,9 @@ ghost use Rattle.spl_circuit.specs.Rules.{ascends, ids_of, nodes_of, serves, bro
 use crate::definition::{Definition, Service};
 use spl_base::{NodeId, ServiceId};
 
+/// How many bytes the name in a definition has at most.
+pub const LONGEST_NAME: usize = 64;
+
 fn nodes_ascend(nodes: &[NodeId]) -> bool
     ensures { result ≡ ascends nodes.now }
 {
@@ -91,7 +94,7 @@ impl Definition {
             Some(2)
         } else if management < 1 || 32 < management {
             Some(3)
-        } else if name < 1 || 64 < name {
+        } else if name < 1 || LONGEST_NAME < name {
             Some(4)
         } else if members.len() < 2 || 8 < members.len() {
             Some(5)

@@ -2,8 +2,13 @@
 ghost use Rattle.std.specs.Prelude.{◌≡◌, ◌<◌, ◌≤◌, List, ℕ, length, IfOk, Option};
 ghost use Rattle.std.specs.Io.KnownBytes.{append_known};
 ghost use Rattle.spl_edge.specs.Causes.{HasCause, Rose, moved_by};
+ghost use Rattle.spl_edge.specs.declared.fabric.TheConstants.{PIECE};
 
 use crate::DeviceError;
+
+/// How many bytes of a stream are handed over at once, at most: to a fabric, to a sink where no answer is longer, and
+/// by the source of a schedule.
+pub const PIECE: usize = 4096;
 
 /// Streams of bytes, one from each node to each other. Nodes are named by their positions in the registry.
 pub trait Fabric {
@@ -16,7 +21,7 @@ pub trait Fabric {
     /// Takes in some bytes from the front of a piece, and tells how many. To take in nothing of a piece that isn't
     /// empty counts as a fault.
     fn put(&mut self, from: u8, to: u8, bytes: &[u8]) -> Result<usize, DeviceError>
-        requires most { length bytes.now ≤ 4096 }
+        requires most { length bytes.now ≤ PIECE }
         requires taken { AreTaken ((view self.old).put from to) ((view self.old).taken from to) }
         ensures bound { IfOk result (λ n. n ≤ length bytes.now) }
         ensures put { (view self.new).put from to ≡ append_known ((view self.old).put from to) (moved_by result bytes.now) }

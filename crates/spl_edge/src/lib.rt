@@ -12,7 +12,7 @@ mod source;
 
 pub use bench::{Bench, Pair, Shelf};
 pub use disk::{Armed, Arming, Disk, StopDisk};
-pub use fabric::Fabric;
+pub use fabric::{Fabric, PIECE};
 pub use fault::{DeviceError, count_fault};
 pub use fill::Fill;
 pub use memory::{MemSink, MemSource};

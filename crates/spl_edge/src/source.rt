@@ -42,7 +42,8 @@ pub struct Reading {
     pub end: ReadEnd,
 }
 
-const PIECE: usize = 65_536;
+/// How many bytes `read_all` asks for at once.
+const LARGE_PIECE: usize = 65_536;
 
 /// Takes all there is. It ends early at a fault, where memory runs out, and once it has more bytes than the limit.
 pub fn read_all<S: Source>(alloc: Global, limit: usize, source: &mut S) -> Reading
@@ -55,9 +56,9 @@ pub fn read_all<S: Source>(alloc: Global, limit: usize, source: &mut S) -> Readi
     ensures later { (S.view source.old).faults ≤ (S.view source.new).faults }
 {
     let mut bytes = Vec::new(alloc);
-    let mut buf = [0u8; PIECE];
+    let mut buf = [0u8; LARGE_PIECE];
     while bytes.len() <= limit {
-        if bytes.try_reserve(PIECE).is_err() {
+        if bytes.try_reserve(LARGE_PIECE).is_err() {
             return Reading {
                 bytes,
                 end: ReadEnd::NoMemory,

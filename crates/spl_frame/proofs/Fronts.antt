@@ -6,7 +6,7 @@ use Rattle.std.proofs.lemmas.List.{take-append-drop, length-append, length-drop,
 use Rattle.std.proofs.lemmas.Nat.{be_bytes_2, be_bytes_4, from_be_bytes-to_be_bytes_2, from_be_bytes-to_be_bytes_4}
 use Rattle.spl_base.specs.Form.{IsBytes}
 use Rattle.spl_base.specs.FormLaws.{IsBytes-drop, IsBytes-take}
-use Rattle.spl_base.specs.declared.limit.TheConstants.{LONGEST_BODY}
+use Rattle.spl_frame.specs.declared.header.TheConstants.{LONGEST_BODY}
 use Rattle.spl_frame.specs.declared.fault.FrameFault.{FrameFault}
 use Rattle.spl_frame.specs.declared.fault.FrameFault.TheVariants.{NoMemory, BadVersion, TooLong}
 use Rattle.spl_frame.specs.Frames.{frame, IsBody, version_of, length_of, front, Shows}

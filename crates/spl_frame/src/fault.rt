@@ -13,7 +13,7 @@ pub enum FrameFault {
     /// The first two bytes of a header are not version 1.
     #[error("frame of version {found}")]
     BadVersion { found: u16 },
-    /// A header announces a body of more than 16,384 bytes.
+    /// A header announces a body of more than `LONGEST_BODY` bytes.
     #[error("frame of {length} bytes")]
     TooLong { length: u32 },
 }

@@ -3,7 +3,9 @@ ghost use Rattle.std.specs.Prelude.{◌≡◌, ◌≤◌, length};
 ghost use Rattle.spl_frame.specs.Frames.{front, version_of, length_of};
 
 use crate::fault::FrameFault;
-use spl_base::LONGEST_BODY;
+
+/// How many bytes the body of a frame has at most.
+pub const LONGEST_BODY: usize = 16_384;
 
 fn version_of(bytes: &[u8]) -> u16
     requires { 2 ≤ length bytes.now }

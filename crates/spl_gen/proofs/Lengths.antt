@@ -7,6 +7,7 @@ use Rattle.std.specs.Int.{w32, to_be_bytes}
 use Rattle.std.proofs.lemmas.Nat.{mod_below}
 use Rattle.std.proofs.lemmas.Bool.{and_from, le-leb}
 use Rattle.std.proofs.lemmas.Fmt.{length-decimal-le}
+use Rattle.spl_base.specs.declared.limit.TheConstants.{LONGEST_LINE}
 use Rattle.spl_wire.specs.declared.event.Event.TheVariants.{Submit}
 use Rattle.spl_sched.specs.declared.line.Line.{Line}
 use Rattle.spl_sched.specs.declared.line.Line.TheVariants as line
@@ -22,7 +23,7 @@ use Rattle.spl_gen.proofs.Items.{node_passes}
 use Rattle.spl_gen.proofs.Bounds.{Passes, both, generated_pass, restarted_pass}
 
 abbrev is_short : Line → Bool
-is_short l = nat_le (length (spelling l)) 2048
+is_short l = nat_le (length (spelling l)) LONGEST_LINE
 
 -- a word, a byte and the bytes behind them
 behind_word : (word rest : List ℕ) (c : ℕ) → length (word ++ c ∷ rest) ≡ length word + 1 + length rest
@@ -40,7 +41,7 @@ id_length Third = refl
 calm_short : (c : Circuit) → IsTrue (is_short (line.Calm (id c) 8))
 calm_short c =
     let number : length (decimal 8) ≤ 20 = length-decimal-le 20 8 (omega arith) (omega arith) (omega arith) in
-    le-leb _ 2048 (omega (arith, number, id_length c, behind_word (codes "calm") (id c ++ 32 ∷ decimal 8) 32, behind_word (id c) (decimal 8) 32))
+    le-leb _ LONGEST_LINE (omega (arith, number, id_length c, behind_word (codes "calm") (id c ++ 32 ∷ decimal 8) 32, behind_word (id c) (decimal 8) 32))
 
 -- the words of a batch behind its number
 abbrev written : ℕ → ℕ → List ℕ
@@ -61,7 +62,7 @@ written_length place value =
     )
 
 -- NODE ID NUMBER and the words behind
-submit_length : (n i k rest : List ℕ) → length n ≡ 2 → length i ≡ 11 → length k ≤ 20 → length rest ≤ 100 → length (codes "submit" ++ 32 ∷ (n ++ 32 ∷ (i ++ 32 ∷ (k ++ 32 ∷ rest)))) ≤ 2048
+submit_length : (n i k rest : List ℕ) → length n ≡ 2 → length i ≡ 11 → length k ≤ 20 → length rest ≤ 100 → length (codes "submit" ++ 32 ∷ (n ++ 32 ∷ (i ++ 32 ∷ (k ++ 32 ∷ rest)))) ≤ LONGEST_LINE
 submit_length n i k rest hn hi hk hr =
     omega (arith, behind_word (codes "submit") (n ++ 32 ∷ (i ++ 32 ∷ (k ++ 32 ∷ rest))) 32, behind_word n (i ++ 32 ∷ (k ++ 32 ∷ rest)) 32, behind_word i (k ++ 32 ∷ rest) 32, behind_word k rest 32)
 
@@ -69,7 +70,7 @@ submit_short : (c : Circuit) (k d place value : ℕ) → k < 2 ^ 64 → IsTrue (
 submit_short c k d place value lt =
     let rest = codes "tx" ++ 32 ∷ (codes "out:" ++ 32 ∷ written place value) in
     let size : length rest ≤ 100 = omega (arith, written_length place value) in
-    le-leb _ 2048 (submit_length (node (member c d)) (id c) (decimal k) rest refl (id_length c) (length-decimal-le 20 k (omega arith) (omega arith) lt) size)
+    le-leb _ LONGEST_LINE (submit_length (node (member c d)) (id c) (decimal k) rest refl (id_length c) (length-decimal-le 20 k (omega arith) (omega arith) lt) size)
 
 submitted_short : (k x : ℕ) → k < 2 ^ 64 → IsTrue (list_all is_short (submitted k x))
 submitted_short k x lt =

@@ -1,6 +1,7 @@
 //! Laws of generated schedules. Each function's contract is a law, and its body does nothing.
 ghost use Rattle.std.specs.Prelude.{◌≡◌, ℕ, ◌+◌, ◌*◌, ◌/◌, ◌^◌, ◌<◌, IsTrue, Some, nat_le, length, map};
 ghost use Rattle.std.specs.List.{list_all};
+ghost use Rattle.spl_base.specs.declared.limit.TheConstants.{LONGEST_LINE};
 ghost use Rattle.spl_circuit.specs.Nodes.{has_node};
 ghost use Rattle.spl_sched.specs.Grammar.{is_line, line_of, nodes_of, spelling};
 ghost use Rattle.spl_gen.specs.Circuits.{nodes};
@@ -18,10 +19,10 @@ pub fn generated_lines_are_lines()
     lines_are_read_back();
 }
 
-/// No line has a line feed, so each ends at its own, and each has at most 2,048 bytes.
+/// No line has a line feed, so each ends at its own, and each has at most `LONGEST_LINE` bytes.
 pub fn generated_lines_are_spelled()
     ensures lacking { (n seed : ℕ) → n < 2 ^ 64 → IsTrue (list_all (λ l. lacks_feed (spelling l)) (generated n seed)) }
-    ensures short { (n seed : ℕ) → n < 2 ^ 64 → IsTrue (list_all (λ l. nat_le (length (spelling l)) 2048) (generated n seed)) }
+    ensures short { (n seed : ℕ) → n < 2 ^ 64 → IsTrue (list_all (λ l. nat_le (length (spelling l)) LONGEST_LINE) (generated n seed)) }
 {}
 
 /// There are 27 lines, two for each batch, and two for each fifty of them.

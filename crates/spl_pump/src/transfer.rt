@@ -1,11 +1,12 @@
 //! Bytes from one node to another, a piece at a time.
 ghost use Rattle.std.specs.Prelude.{◌≡◌, ◌≤◌, ◌<◌, ℕ, min, length, take, IfOk, IfErr, OnOk};
 ghost use Rattle.spl_edge.specs.Fabrics.{AreTaken};
+ghost use Rattle.spl_edge.specs.declared.fabric.TheConstants.{PIECE};
 ghost use Rattle.spl_pump.specs.Moves.{Grows, GrowsPart, AreDue, HasCause, IsFault};
 
 use crate::fault::PumpFault;
 use bytes::Bytes;
-use spl_edge::Fabric;
+use spl_edge::{Fabric, PIECE};
 use std::alloc::{AllocError, Global};
 
 /// Takes so many bytes.
@@ -16,7 +17,7 @@ fn take_all<F: Fabric>(
     to: u8,
     count: usize,
 ) -> Result<Vec<u8>, PumpFault>
-    requires most { count ≤ 4096 }
+    requires most { count ≤ PIECE }
     requires due { AreDue count ((F.view fabric.old).put from to) ((F.view fabric.old).taken from to) }
     ensures all { OnOk result (AreTaken ((F.view fabric.new).put from to) ((F.view fabric.new).taken from to)) }
     ensures count { IfOk result (λ got. length got.items ≡ count) }
@@ -26,7 +27,7 @@ fn take_all<F: Fabric>(
     ensures honest { IfErr result (λ e. IsFault e) }
 {
     let mut got = Vec::new(alloc);
-    let mut buf = [0; 4096];
+    let mut buf = [0; PIECE];
     while got.len() < count {
         let left = count - got.len();
         let n = fabric.take(from, to, &mut buf[..left])?;
@@ -40,9 +41,9 @@ fn take_all<F: Fabric>(
 
 /// The next piece of what is to be put.
 fn piece_of(rest: &Bytes) -> Result<Bytes, AllocError>
-    ensures { IfOk result (λ piece. piece ≡ take (min (length rest.now) 4096) rest.now) }
+    ensures { IfOk result (λ piece. piece ≡ take (min (length rest.now) PIECE) rest.now) }
 {
-    rest.slice(..rest.len().min(4096))
+    rest.slice(..rest.len().min(PIECE))
 }
 
 /// Puts a front of a piece, and takes as many bytes.
@@ -54,7 +55,7 @@ fn hand_some<F: Fabric>(
     piece: &[u8],
 ) -> Result<Vec<u8>, PumpFault>
     requires some { 0 < length piece.now }
-    requires most { length piece.now ≤ 4096 }
+    requires most { length piece.now ≤ PIECE }
     requires taken { AreTaken ((F.view fabric.old).put from to) ((F.view fabric.old).taken from to) }
     ensures count { IfOk result (λ got. (0 < length got.items) × (length got.items ≤ length piece.now)) }
     ensures put { IfOk result (λ got. Grows from to (take (length got.items) piece.now) (F.view fabric.old).put (F.view fabric.new).put) }

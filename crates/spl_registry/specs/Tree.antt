@@ -6,12 +6,13 @@ use Rattle.toml.specs.Data.{Data, Items, no_items, item, Members, get_item, get_
 use Rattle.toml.specs.Parse.{parse_document}
 use Rattle.spl_base.specs.Ids.{is_node_id}
 use Rattle.spl_registry.specs.Nodes.{Entry, knows}
+use Rattle.spl_registry.specs.declared.tree.TheConstants.{LONGEST_TEXT}
 use Rattle.spl_registry.specs.declared.fault.RegistryFault.{RegistryFault}
 use Rattle.spl_registry.specs.declared.fault.RegistryFault.TheVariants.{NotToml, BadEntry, Repeated, TooMany}
 
--- a text of 1 to 64 bytes
+-- a text of 1 to LONGEST_TEXT bytes
 abbrev pub is_text : List ℕ → Bool
-is_text s = nat_le 1 (length s) && nat_le (length s) 64
+is_text s = nat_le 1 (length s) && nat_le (length s) LONGEST_TEXT
 
 abbrev pub is_text_value : Data → Bool
 is_text_value d = option_map_or is_text (as_str d) false

@@ -11,11 +11,14 @@ use std::alloc::{AllocError, Global};
 use toml::value::Array;
 use toml::{Table, Value};
 
-/// Whether a text has 1 to 64 bytes.
+/// How many bytes a text of an entry has at most.
+pub const LONGEST_TEXT: usize = 64;
+
+/// Whether a text isn't empty, and no longer than it may be.
 fn is_text(text: &str) -> bool
     ensures { result ≡ is_text text.now }
 {
-    1 <= text.len() && text.len() <= 64
+    1 <= text.len() && text.len() <= LONGEST_TEXT
 }
 
 /// The value at a key.

@@ -6,21 +6,22 @@ use Rattle.spl_wire.specs.declared.change.Change.{Change}
 use Rattle.spl_wire.specs.declared.change.Change.TheVariants.{Bind, Admin}
 use Rattle.spl_wire.specs.declared.record.TheConstants.{MOST_CHANGES}
 use Rattle.spl_wire.specs.declared.message.Message.{Message}
+use Rattle.spl_wire.specs.declared.message.TheConstants.{LONGEST_MESSAGE}
 use Rattle.spl_wire.specs.declared.plan.Outgoing.{Outgoing}
 use Rattle.spl_wire.specs.Forms.{message_form, record_form}
 use Rattle.spl_wire.specs.Grouping.{most_bytes, record_of, meets, value_in}
 
--- at most 64 changes, 1 to 16,384 bytes, and each change can be written
+-- at most MOST_CHANGES changes, 1 to `most_bytes` bytes, and each change can be written
 pub record IsWritable (c : List ℕ) (xs : List Change) : Type 0 where
   pub few : length xs ≤ MOST_CHANGES
   pub bounded : IsTrue (record_form.bounded (record_of c xs))
   pub some : 1 ≤ length (record_form.spell (record_of c xs))
   pub short : length (record_form.spell (record_of c xs)) ≤ most_bytes
 
--- at most 16,384 bytes, and it can be written
+-- at most LONGEST_MESSAGE bytes, and it can be written
 pub record IsSendable (m : Message) : Type 0 where
   pub bounded : IsTrue (message_form.bounded m)
-  pub short : length (message_form.spell m) ≤ most_bytes
+  pub short : length (message_form.spell m) ≤ LONGEST_MESSAGE
 
 abbrev pub AllSendable : List Outgoing → Type 0
 AllSendable [] = Unit {0}

@@ -1,6 +1,6 @@
 -- The records of a packed cell (docs/RULES.md, Byte forms).
 use Rattle.std.specs.Prelude.{ℕ, Bool, true, ◌&&◌, nat_lt, nat_le, List, [], ◌∷◌, ◌++◌, length, if◌then◌else◌, Option, Some, None, is_none}
-use Rattle.spl_base.specs.declared.limit.TheConstants.{LONGEST_BODY}
+use Rattle.spl_base.specs.declared.limit.TheConstants.{LONGEST_RECORD}
 use Rattle.spl_agree.specs.declared.event.GroupChange.{GroupChange}
 use Rattle.spl_agree.specs.declared.event.GroupChange.TheVariants.{Queue, Refuse, Promise, Commit, Kept}
 use Rattle.spl_command.specs.declared.batch.Batch.{Batch}
@@ -13,7 +13,7 @@ use Rattle.spl_wire.specs.Forms.{record_form}
 
 -- how many bytes a record has at most
 abbrev pub most_bytes : ℕ
-most_bytes = LONGEST_BODY
+most_bytes = LONGEST_RECORD
 
 abbrev pub record_of : List ℕ → List Change → Record
 record_of c xs = record { circuit = c; changes = xs }

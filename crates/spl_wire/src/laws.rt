@@ -17,8 +17,8 @@ pub fn no_record_begins_another()
 {}
 
 /// Changes in groups are the same changes in the same order. Each group has a change, and its
-/// record at most 64 changes and 16,384 bytes, where each change by itself makes a record of at
-/// most so many bytes; and it does where it has a byte form and its batch breaks no rule.
+/// record at most `MOST_CHANGES` changes and `LONGEST_RECORD` bytes, where each change by itself makes
+/// a record of at most so many bytes; and it does where it has a byte form and its batch breaks no rule.
 pub fn groups_have_all_changes()
     ensures whole { (c : List ℕ) (xs : List Change) → together (grouped c xs) ≡ xs }
     ensures sized { (c : List ℕ) (xs : List Change) → list_all (is_small c) xs ≡ true → list_all (is_sized c) (grouped c xs) ≡ true }

@@ -9,6 +9,9 @@ use spl_circuit::Act;
 use spl_command::Batch;
 use std::alloc::{AllocError, Global};
 
+/// How many bytes the byte form of a message has at most that is sent.
+pub const LONGEST_MESSAGE: usize = 16_384;
+
 /// A message from one node to another.
 #[derive(Drop)]
 pub enum Message {

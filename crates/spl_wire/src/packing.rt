@@ -7,7 +7,7 @@ ghost use Rattle.spl_wire.specs.Packing.{sealed, sealed_size, is_full, closed, p
 
 use crate::change::Change;
 use crate::record::MOST_CHANGES;
-use spl_base::{CircuitId, Field, LONGEST_BODY, Piece, Writer};
+use spl_base::{CircuitId, Field, LONGEST_RECORD, Piece, Writer};
 use std::alloc::{AllocError, Global};
 use std::marker::Model;
 
@@ -45,7 +45,7 @@ fn sealed(
 fn is_full(circuit: CircuitId, count: u16, changes: &[u8]) -> bool
     ensures { result ≡ is_full circuit count changes.now }
 {
-    count > 0 && !(count < MOST_CHANGES && sealed_size(circuit, changes) <= LONGEST_BODY)
+    count > 0 && !(count < MOST_CHANGES && sealed_size(circuit, changes) <= LONGEST_RECORD)
 }
 
 /// Byte forms of records so far, and of the record that is begun how many changes it has, and their bytes. Each change
