@@ -5,7 +5,9 @@ use Rattle.std.proofs.lemmas.List.{take_at, drop_at, get_or_at, get_or-take, get
 use Rattle.std.proofs.lemmas.Bool.{cases_eq}
 use Rattle.spl_edge.specs.Image.{Image, patched}
 use Rattle.spl_journal.specs.Gate.{IsReady, IsUpToGate, IsBehindGate, behind, opened, LeavesBetween}
-use Rattle.spl_journal.specs.Records.{size_bytes, block, sized, records, records_of, IsGood, IsFront, Holds, Standing, IsBeforeOrAfter, SameHead}
+use Rattle.spl_journal.specs.Records.{form_in, longest_in, size_bytes, block, sized, records, records_of, IsGood, IsRecord, IsFront, Holds, Standing, IsBeforeOrAfter, SameHead}
+use Rattle.spl_journal.specs.declared.journal_form.TheConstants.{WRITTEN}
+use Rattle.spl_journal.proofs.Forms.{longest_of, same_form, same_longest}
 use Rattle.spl_journal.proofs.Sizes.{length-size_bytes, same_epoch}
 use Rattle.spl_journal.proofs.Pieces.{lift1, lift2}
 use Rattle.spl_journal.proofs.Readings.{holds_own}
@@ -43,16 +45,26 @@ module _ (gate : ℕ) (piece bytes : List ℕ) (byte : ℕ) (within : gate < len
 pub length-sized : (r : List ℕ) → length (sized r) ≡ 5 + length r
 length-sized r = omega (arith, length-append (size_bytes (length r) ++ r) (0 ∷ []), length-append (size_bytes (length r)) r, length-size_bytes (length r))
 
+-- a front has the head in it
+front_17 : (gate : ℕ) (c bytes : List ℕ) → 17 ≤ gate → take gate c ≡ take gate bytes → take 17 c ≡ take 17 bytes
+front_17 gate c bytes low same = sym (take-take 17 gate c low) ∙ ap (take 17) same ∙ take-take 17 gate bytes low
+
 -- the gate is open: one record more, and a closed gate behind it
-module _ (fits : List ℕ → Bool) (gate : ℕ) (rs : List (List ℕ)) (bytes r c : List ℕ) (front : IsFront fits gate rs bytes) (good : IsGood fits r) (is : c ≡ behind gate (sized r) bytes 1) where
+module _ (fits : List ℕ → Bool) (gate : ℕ) (rs : List (List ℕ)) (bytes r c : List ℕ) (front : IsFront fits gate rs bytes) (form : form_in bytes ≡ Some WRITTEN) (good : IsGood fits r) (is : c ≡ behind gate (sized r) bytes 1) where
   rest : drop gate c ≡ block r ++ 0 ∷ drop (gate + 1 + length (sized r)) bytes
   rest = rest_is gate (sized r) bytes 1 front.room c is ∙ ap (λ (l : List ℕ). 1 ∷ l) (append_assoc (size_bytes (length r) ++ r) (0 ∷ []) (drop (gate + 1 + length (sized r)) bytes))
 
   room : gate + 5 + length r < length c
   room = omega (arith, long gate (sized r) bytes 1 front.room c is, length-sized r)
 
+  kept : take gate c ≡ take gate bytes
+  kept = front_kept gate (sized r) bytes 1 front.room c is
+
+  longest : longest_in c ≡ WRITTEN.longest
+  longest = same_longest bytes c (front_17 gate c bytes (omega (arith, front.place)) kept) ∙ longest_of bytes WRITTEN form
+
   pub front_after : IsFront fits (gate + 5 + length r) (rs ++ r ∷ []) c
-  front_after = front_more fits gate rs c r (front_same fits gate rs bytes c front (front_kept gate (sized r) bytes 1 front.room c is) (omega (arith, room))) good
+  front_after = front_more fits gate rs c r (front_same fits gate rs bytes c front kept (omega (arith, room))) (subst (λ (n : ℕ). IsRecord n fits r) (sym longest) good)
       (ap (take (5 + length r)) rest ∙ take_at (block r) (0 ∷ drop (gate + 1 + length (sized r)) bytes) (5 + length r) (length-block r)) room
 
   pub shut_after : get_or c (gate + 5 + length r) 0 ≢ 1
@@ -64,8 +76,8 @@ module _ (fits : List ℕ → Bool) (gate : ℕ) (rs : List (List ℕ)) (bytes r
       omega (arith, one, nought)
 
 -- each outcome of an append
-pub before_or_after : (fits : List ℕ → Bool) (gate : ℕ) (rs : List (List ℕ)) (bytes r c : List ℕ) → IsFront fits gate rs bytes → get_or bytes gate 0 ≢ 1 → IsGood fits r → IsBehindGate gate (sized r) bytes c → IsBeforeOrAfter fits rs r c
-before_or_after fits gate rs bytes r c front shut good = ⊎_elim
+pub before_or_after : (fits : List ℕ → Bool) (gate : ℕ) (rs : List (List ℕ)) (bytes r c : List ℕ) → IsFront fits gate rs bytes → get_or bytes gate 0 ≢ 1 → form_in bytes ≡ Some WRITTEN → IsGood fits r → IsBehindGate gate (sized r) bytes c → IsBeforeOrAfter fits rs r c
+before_or_after fits gate rs bytes r c front shut form good = ⊎_elim
     (λ (up : IsUpToGate gate bytes c).
     let less : take gate c ≡ take gate bytes = sym (take-take gate (gate + 1) c (omega arith)) ∙ ap (take gate) up.same ∙ take-take gate (gate + 1) bytes (omega arith) in
     let same : get_or c gate 0 ≡ get_or bytes gate 0 = sym (get_or-take (gate + 1) c gate 0 (omega arith)) ∙ ap (λ (l : List ℕ). get_or l gate 0) up.same ∙ get_or-take (gate + 1) bytes gate 0 (omega arith) in
@@ -73,7 +85,7 @@ before_or_after fits gate rs bytes r c front shut good = ⊎_elim
     (λ (byte, is). ⊎_elim
     (λ (one : byte ≡ 1).
     let now : c ≡ behind gate (sized r) bytes 1 = is ∙ ap (behind gate (sized r) bytes) one in
-    inr (closed fits (gate + 5 + length r) (rs ++ r ∷ []) c (front_after fits gate rs bytes r c front good now) (shut_after fits gate rs bytes r c front good now)))
+    inr (closed fits (gate + 5 + length r) (rs ++ r ∷ []) c (front_after fits gate rs bytes r c front form good now) (shut_after fits gate rs bytes r c front form good now)))
     (λ other. inl (closed fits gate rs c (front_same fits gate rs bytes c front (front_kept gate (sized r) bytes byte front.room c is) (omega (arith, long gate (sized r) bytes byte front.room c is)))
     (λ one. other (sym (gate_is gate (sized r) bytes byte front.room c is) ∙ one))))
     (cases_eq byte 1))
@@ -84,11 +96,8 @@ leaves_map at first last P Q f left k low high = lift1 (at k) (Safe P) (Safe Q) 
 -- the head stays
 pub head_stays : (gate : ℕ) (piece bytes c : List ℕ) → 17 ≤ gate → gate < length bytes → IsBehindGate gate piece bytes c → SameHead bytes c
 head_stays gate piece bytes c low within = ⊎_elim
-    (λ (up : IsUpToGate gate bytes c). record { same = less (gate + 1) (omega (arith, low)) up.same; room = omega (arith, low, up.within) })
-    (λ (byte, is). record { same = less gate low (front_kept gate piece bytes byte within c is); room = omega (arith, low, within, long gate piece bytes byte within c is) })
-  where
-    less : (n : ℕ) → 17 ≤ n → take n c ≡ take n bytes → take 17 c ≡ take 17 bytes
-    less n le same = sym (take-take 17 n c le) ∙ ap (take 17) same ∙ take-take 17 n bytes le
+    (λ (up : IsUpToGate gate bytes c). record { same = front_17 (gate + 1) c bytes (omega (arith, low)) up.same; room = omega (arith, low, up.within) })
+    (λ (byte, is). record { same = front_17 gate c bytes low (front_kept gate piece bytes byte within c is); room = omega (arith, low, within, long gate piece bytes byte within c is) })
 
 module _ (fits : List ℕ → Bool) (gate extent epoch : ℕ) (r : List ℕ) where
   pub ready : (told : Option Image) → IfSome told (Standing fits gate extent epoch) → IfSome told (IsReady gate)
@@ -101,7 +110,7 @@ module _ (fits : List ℕ → Bool) (gate extent epoch : ℕ) (r : List ℕ) whe
   pub append_leaves : (told : Option Image) (at : ℕ → Option Image) (first last : ℕ) → IfSome told (Standing fits gate extent epoch) → IsGood fits r
       → IfSome told (λ i. LeavesBetween at first last (IsBehindGate gate (sized r) i.bytes)) → IfSome told (λ i. LeavesBetween at first last (IsBeforeOrAfter fits (records_of fits i.bytes) r))
   append_leaves told at first last stands good left = lift2 told (Standing fits gate extent epoch) (λ i. LeavesBetween at first last (IsBehindGate gate (sized r) i.bytes)) (λ i. LeavesBetween at first last (IsBeforeOrAfter fits (records_of fits i.bytes) r)) stands left
-      (λ i s l. leaves_map at first last (IsBehindGate gate (sized r) i.bytes) (IsBeforeOrAfter fits (records_of fits i.bytes) r) (λ c b. before_or_after fits gate (records_of fits i.bytes) i.bytes r c s.holds.front s.holds.shut good b) l)
+      (λ i s l. leaves_map at first last (IsBehindGate gate (sized r) i.bytes) (IsBeforeOrAfter fits (records_of fits i.bytes) r) (λ c b. before_or_after fits gate (records_of fits i.bytes) i.bytes r c s.holds.front s.holds.shut s.form_is good b) l)
 
   pub head_leaves : (told : Option Image) (at : ℕ → Option Image) (first last : ℕ) → IfSome told (Standing fits gate extent epoch)
       → IfSome told (λ i. LeavesBetween at first last (IsBehindGate gate (sized r) i.bytes)) → IfSome told (λ i. LeavesBetween at first last (SameHead i.bytes))
@@ -120,8 +129,8 @@ module _ (fits : List ℕ → Bool) (gate extent epoch : ℕ) (r : List ℕ) whe
   module _ (i : Image) (s : Standing fits gate extent epoch i) (good : IsGood fits r) where
     holds_after : Holds fits (gate + 5 + length r) (records_of fits i.bytes ++ r ∷ []) (opened gate (sized r) 4 i)
     holds_after = record {
-      front = front_after fits gate (records_of fits i.bytes) i.bytes r (behind gate (sized r) i.bytes 1) s.holds.front good refl;
-      shut = shut_after fits gate (records_of fits i.bytes) i.bytes r (behind gate (sized r) i.bytes 1) s.holds.front good refl;
+      front = front_after fits gate (records_of fits i.bytes) i.bytes r (behind gate (sized r) i.bytes 1) s.holds.front s.form_is good refl;
+      shut = shut_after fits gate (records_of fits i.bytes) i.bytes r (behind gate (sized r) i.bytes 1) s.holds.front s.form_is good refl;
       settled = record { same = refl; none = refl; least = refl; greatest = refl };
     }
 
@@ -135,6 +144,7 @@ module _ (fits : List ℕ → Bool) (gate extent epoch : ℕ) (r : List ℕ) whe
           holds = subst (λ (n : ℕ). Holds fits n (records_of fits (opened gate (sized r) 4 i).bytes) (opened gate (sized r) 4 i)) (sym place) (holds_own fits (gate + 5 + length r) (records_of fits i.bytes ++ r ∷ []) (opened gate (sized r) 4 i) holds_after);
           extent_is = omega (arith, long gate (sized r) i.bytes 1 s.holds.front.room (behind gate (sized r) i.bytes 1) refl, length-sized r, s.extent_is, s.holds.front.room, place, grown);
           epoch_is = same_epoch i.bytes (behind gate (sized r) i.bytes 1) kept ∙ s.epoch_is;
+          form_is = same_form i.bytes (behind gate (sized r) i.bytes 1) kept ∙ s.form_is;
         }
 
   pub stands_after : (told new : Option Image) (end size : ℕ) → IfSome told (Standing fits gate extent epoch) → IsGood fits r → new ≡ option_map (opened gate (sized r) 4) told → end ≡ gate + 5 + length r → size ≡ max extent (end + 1) → IfSome new (Standing fits end size epoch)

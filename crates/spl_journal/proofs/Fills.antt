@@ -7,7 +7,9 @@ use Rattle.std.proofs.lemmas.Bool.Decides.{nat_tests}
 use Rattle.spl_edge.specs.Image.{Image, MayLeave, settled_at}
 use Rattle.spl_journal.specs.Clear.{IsCleared}
 use Rattle.spl_journal.specs.Gate.{IsReady, IsUpToGate, IsBehindGate, behind, opened, LeavesBetween}
-use Rattle.spl_journal.specs.Records.{magic, epoch_bytes, epoch_in, closed_front, block, blocks, filling, is_headed, head_fault, is_open, records, IsGood, AreGood, IsFront, Holds, Standing, IsClosedOrFilled}
+use Rattle.spl_journal.specs.Records.{magic, epoch_bytes, epoch_in, closed_front, block, blocks, filling, is_headed, head_fault, is_open, form_in, records, IsGood, AreGood, AreRecords, IsFront, Holds, Standing, IsClosedOrFilled}
+use Rattle.spl_journal.specs.declared.journal_form.TheConstants.{WRITTEN}
+use Rattle.spl_journal.proofs.Forms.{longest_of, made_form}
 use Rattle.spl_journal.proofs.Sizes.{length-epoch_bytes, length-closed_front, epoch_is}
 use Rattle.spl_journal.proofs.Images.{Safe, only_settled}
 use Rattle.spl_journal.proofs.Gates.{started}
@@ -54,6 +56,9 @@ good_at fits (r ∷ rs) (suc i) d good lt = good_at fits rs i d good.1 (omega (a
 pub block_more : (rs : List (List ℕ)) (i : ℕ) (r : List ℕ) → i < length rs → r ≡ get_or rs i r → blocks (take i rs) ++ block r ≡ blocks (take (i + 1) rs)
 block_more rs i r lt is = sym (ap blocks (take_more rs i r lt ∙ ap (λ (x : List ℕ). take i rs ++ x ∷ []) (sym is)) ∙ blocks-push (take i rs) r)
 
+whole_form : (epoch byte : ℕ) (rs : List (List ℕ)) → form_in (whole_bytes epoch byte rs) ≡ Some WRITTEN
+whole_form epoch byte rs = ap form_in (append_assoc magic (epoch_bytes epoch) (byte ∷ filling rs)) ∙ made_form (epoch_bytes epoch ++ byte ∷ filling rs)
+
 -- with the head gate open
 headed : (e : ℕ) → head_fault ((magic ++ epoch_bytes e) ++ 1 ∷ 0 ∷ []) ≡ None
 unfolding epoch_bytes
@@ -87,7 +92,7 @@ module _ (fits : List ℕ → Bool) (epoch : ℕ) (rs : List (List ℕ)) (good :
   pub front_whole : IsFront fits (17 + length (blocks rs)) rs (whole_bytes epoch 1 rs)
   front_whole = record {
     head = opened_head;
-    good = good;
+    good = subst (λ (n : ℕ). AreRecords n fits rs) (sym (longest_of (whole_bytes epoch 1 rs) WRITTEN (whole_form epoch 1 rs))) good;
     front = ap (take (17 + length (blocks rs))) (parts ∙ sym (append_assoc ((magic ++ epoch_bytes epoch) ++ 1 ∷ []) (blocks rs) (0 ∷ [])))
         ∙ take_at (((magic ++ epoch_bytes epoch) ++ 1 ∷ []) ++ blocks rs) (0 ∷ []) (17 + length (blocks rs)) (omega (arith, length-append ((magic ++ epoch_bytes epoch) ++ 1 ∷ []) (blocks rs), front_size))
         ∙ ap (λ (l : List ℕ). l ++ blocks rs) (sym front_is);
@@ -114,6 +119,7 @@ module _ (fits : List ℕ → Bool) (epoch : ℕ) (rs : List (List ℕ)) (good :
     }));
     extent_is = omega (arith, long, place, grown);
     epoch_is = epoch_is epoch (1 ∷ filling rs) small;
+    form_is = whole_form epoch 1 rs;
   })
 
   -- what is left while the gate is opened

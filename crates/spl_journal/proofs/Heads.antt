@@ -1,9 +1,6 @@
 -- Which bytes have an open head, and what a disk that stands tells.
-use Rattle.std.proofs.Common.{◌≡◌, ◌⊎◌, inl, inr, ⊎_elim, ℕ, ◌+◌, ◌<◌, ◌≤◌, List, [], length, get_or, take, Bool, true, false, nat_le, nat_eq, ◌==◌, ◌&&◌, if◌then◌else◌, is_none, IsTrue, Option, None, Some, IfSome, Ok, sym, ◌∙◌, ap, subst, arith}
-use Rattle.std.specs.List.{starts_with}
-use Rattle.std.specs.Cmp.Lexicographic.{pointwise}
+use Rattle.std.proofs.Common.{◌≡◌, ◌⊎◌, inl, inr, ⊎_elim, ℕ, ◌+◌, ◌<◌, ◌≤◌, List, [], length, get_or, take, Bool, true, false, nat_le, ◌==◌, ◌&&◌, if◌then◌else◌, is_none, is_some, IsTrue, Option, None, Some, IfSome, Ok, sym, ◌∙◌, ap, subst, arith}
 use Rattle.std.specs.Option.{option_map}
-use Rattle.std.proofs.lemmas.List.{take-take, get_or-take}
 use Rattle.std.proofs.lemmas.Bool.{cases_lt}
 use Rattle.std.proofs.lemmas.Bool.Decides.{nat_tests}
 use Rattle.spl_edge.specs.Image.{Image}
@@ -12,7 +9,8 @@ use Rattle.spl_edge.specs.declared.disk.Armed.{Armed}
 use Rattle.spl_edge.specs.Views.{DiskView, image_now}
 use Rattle.spl_journal.specs.Clear.{IsShortOrSame}
 use Rattle.spl_journal.specs.Gate.{ByCalls, LeavesBetween}
-use Rattle.spl_journal.specs.Records.{magic, is_headed, head_fault, is_open, epoch_in, records, records_of, Standing, SameHead}
+use Rattle.spl_journal.specs.Records.{form_in, head_fault, is_open, epoch_in, records, records_of, Standing, SameHead}
+use Rattle.spl_journal.proofs.Forms.{same_fault}
 use Rattle.spl_journal.proofs.Images.{Safe}
 use Rattle.spl_journal.proofs.Sizes.{same_epoch}
 use Rattle.spl_journal.proofs.Walks.{closed, front_same}
@@ -33,20 +31,11 @@ le_true a b le = grind (arith, nat_tests)
 
 -- fewer than 18 bytes are no open head
 pub short_shut : (c : List ℕ) → length c < 18 → is_open c ≡ false
-short_shut c short = ap (λ (b : Bool). is_none {T = ℕ} (if (b && starts_with nat_eq c magic) then (if get_or c 16 0 == 1 then None else Some 16) else Some 0)) (le_false 18 (length c) short)
+short_shut c short = ap (λ (b : Bool). is_none {T = ℕ} (if (b && is_some (form_in c)) then (if get_or c 16 0 == 1 then None else Some 16) else Some 0)) (le_false 18 (length c) short)
 
 -- the same first 17 bytes, of 18 or more, are the same head
 long_same : (bytes c : List ℕ) → take 17 c ≡ take 17 bytes → 18 ≤ length c → 18 ≤ length bytes → is_open c ≡ is_open bytes
-long_same bytes c same long room =
-    ap (λ (b : Bool). is_none {T = ℕ} (if (b && starts_with nat_eq c magic) then (if get_or c 16 0 == 1 then None else Some 16) else Some 0)) (le_true 18 (length c) long ∙ sym (le_true 18 (length bytes) room))
-    ∙ ap (λ (l : List ℕ). is_none {T = ℕ} (if (nat_le 18 (length bytes) && pointwise nat_eq magic l) then (if get_or c 16 0 == 1 then None else Some 16) else Some 0)) (front 8 (omega arith))
-    ∙ ap (λ (n : ℕ). is_none {T = ℕ} (if is_headed bytes then (if n == 1 then None else Some 16) else Some 0)) gate
-  where
-    front : (n : ℕ) → n ≤ 17 → take n c ≡ take n bytes
-    front n le = sym (take-take n 17 c le) ∙ ap (take n) same ∙ take-take n 17 bytes le
-
-    gate : get_or c 16 0 ≡ get_or bytes 16 0
-    gate = sym (get_or-take 17 c 16 0 (omega arith)) ∙ ap (λ (l : List ℕ). get_or l 16 0) same ∙ get_or-take 17 bytes 16 0 (omega arith)
+long_same bytes c same long room = ap (λ (h : Option ℕ). is_none h) (same_fault bytes c same (le_true 18 (length c) long ∙ sym (le_true 18 (length bytes) room)))
 
 -- a disk that is being cleared isn't open, or as open as it was
 pub shut_or_same : (bytes c : List ℕ) → IsShortOrSame bytes c → (is_open c ≡ false) ⊎ ((is_open c ≡ is_open bytes) × (epoch_in c ≡ epoch_in bytes))

@@ -1,4 +1,5 @@
 mod Sizes
+mod Forms
 pub mod Images
 pub mod Gates
 mod Walks

@@ -4,7 +4,8 @@ use Rattle.std.specs.Option.{option_map}
 use Rattle.std.proofs.lemmas.List.{append-nil, take_at, drop_at, drop_all, get_or_at}
 use Rattle.spl_edge.specs.Image.{Image, patched}
 use Rattle.spl_journal.specs.Make.{IsBlank, made}
-use Rattle.spl_journal.specs.Records.{magic, epoch_bytes, epoch_in, closed_head, head_fault, records, Holds, Standing}
+use Rattle.spl_journal.specs.Records.{magic, form_in, epoch_bytes, epoch_in, closed_head, head_fault, records, Holds, Standing}
+use Rattle.spl_journal.proofs.Forms.{made_form}
 use Rattle.spl_journal.proofs.Sizes.{length-epoch_bytes, epoch_is}
 use Rattle.spl_journal.proofs.Pieces.{front_first}
 use Rattle.spl_journal.proofs.Walks.{closed}
@@ -53,6 +54,7 @@ module _ (fits : List ℕ → Bool) (epoch : ℕ) (i : Image) (blank : IsBlank i
     holds = holds_own fits 17 [] (made (closed_head epoch) i) (stands_made fits epoch i blank);
     extent_is = omega (arith, ap length (is_made epoch i blank), length-append (magic ++ epoch_bytes epoch) (1 ∷ 0 ∷ []), size epoch);
     epoch_is = ap epoch_in (is_made epoch i blank) ∙ epoch_is epoch (1 ∷ 0 ∷ []) small;
+    form_is = ap form_in (is_made epoch i blank ∙ append_assoc magic (epoch_bytes epoch) (1 ∷ 0 ∷ [])) ∙ made_form (epoch_bytes epoch ++ 1 ∷ 0 ∷ []);
   }
 
 pub format_stands : (fits : List ℕ → Bool) (epoch : ℕ) (told new : Option Image) (head : List ℕ) → epoch < 2 ^ 64 → head ≡ closed_head epoch → IfSome told IsBlank → new ≡ option_map (made head) told → IfSome new (Standing fits 17 18 epoch)

@@ -1,15 +1,15 @@
 -- What is read of a journal.
-use Rattle.std.proofs.Common.{◌≡◌, ⊎_elim, ℕ, ◌+◌, ◌-◌, ◌<◌, ◌≤◌, ◌^◌, min, List, [], ◌∷◌, ◌++◌, length, get_or, take, drop, Bool, true, false, nat_le, nat_eq, ◌&&◌, ◌==◌, if◌then◌else◌, Option, None, Some, IfSome, Err, refl, sym, ◌∙◌, ap, subst, arith, length-take}
-use Rattle.std.specs.List.{starts_with}
-use Rattle.std.specs.Cmp.Lexicographic.{pointwise}
+use Rattle.std.proofs.Common.{◌≡◌, ⊎_elim, ℕ, ◌+◌, ◌-◌, ◌<◌, ◌≤◌, ◌^◌, min, List, [], ◌∷◌, ◌++◌, length, get_or, take, drop, Bool, true, false, nat_le, is_some, ◌&&◌, ◌==◌, if◌then◌else◌, Option, None, Some, IfSome, Err, refl, sym, ◌∙◌, ap, subst, arith, length-take}
 use Rattle.std.proofs.lemmas.List.{append-nil, take_all, take_min, take-take, drop-take, drop-drop, get_or-take, get_or-drop, drop_more}
 use Rattle.std.proofs.lemmas.Bool.{cases_lt}
 use Rattle.std.proofs.lemmas.Bool.Decides.{nat_tests}
 use Rattle.spl_edge.specs.Image.{Image}
 use Rattle.spl_edge.specs.Calls.{SamePast}
 use Rattle.spl_edge.specs.Views.{DiskView, image_now}
-use Rattle.spl_journal.specs.Records.{magic, size_bytes, size_from, size_at, record_at, is_block, is_headed, head_fault, walk, walk_behind, records, epoch_from, epoch_in, IsFront}
+use Rattle.spl_journal.specs.Records.{form_in, longest_in, size_bytes, size_from, size_at, record_at, is_block, head_fault, walk, walk_behind, records, epoch_from, epoch_in, IsFront}
 use Rattle.spl_journal.specs.Reads.{Stays, IsNext}
+use Rattle.spl_journal.specs.declared.journal_form.JournalForm.{JournalForm}
+use Rattle.spl_journal.proofs.Forms.{same_fault, same_form}
 use Rattle.spl_journal.proofs.Walks.{take_add}
 
 -- what is so of an item is so of the one that is there
@@ -31,21 +31,26 @@ le_same a b c to from = ⊎_elim
 
 head_fault_front : (image : List ℕ) → head_fault (take 18 image) ≡ head_fault image
 head_fault_front image =
-    let c = take 18 image in
     let size : length (take 18 image) ≡ min 18 (length image) = length-take 18 image in
     let long : nat_le 18 (length (take 18 image)) ≡ nat_le 18 (length image) = le_same 18 (length (take 18 image)) (length image) (λ l. omega (arith, size, l)) (λ l. omega (arith, size, l)) in
-    let starts : take 8 (take 18 image) ≡ take 8 image = take-take 8 18 image (omega arith) in
-    let gate : get_or (take 18 image) 16 0 ≡ get_or image 16 0 = get_or-take 18 image 16 0 (omega arith) in
-    ap (λ (b : Bool). if (b && starts_with nat_eq (take 18 image) magic) then (if get_or (take 18 image) 16 0 == 1 then None else Some 16) else Some 0) long
-    ∙ ap (λ (l : List ℕ). if (nat_le 18 (length image) && pointwise nat_eq magic l) then (if get_or (take 18 image) 16 0 == 1 then None else Some 16) else Some 0) starts
-    ∙ ap (λ (n : ℕ). if is_headed image then (if n == 1 then None else Some 16) else Some 0) gate
+    same_fault image (take 18 image) (take-take 17 18 image (omega arith)) long
+
+-- what is read of a head
+read_whole : (i : Image) (got : ℕ) (buf : List ℕ) → (got ≡ min (length buf) (length i.bytes - 0)) × (take got buf ≡ take got (drop 0 i.bytes)) → length buf ≡ 18 → take got buf ≡ take 18 i.bytes
+read_whole i got buf read long =
+    let size : got ≡ min 18 (length i.bytes) = omega (arith, read.0, long) in
+    read.1 ∙ ap (λ (n : ℕ). take n i.bytes) size ∙ take_min 18 i.bytes
 
 pub head_read : (told : Option Image) (got : ℕ) (buf : List ℕ) (x : Option ℕ) → IfSome told (λ i. (got ≡ min (length buf) (length i.bytes - 0)) × (take got buf ≡ take got (drop 0 i.bytes))) → length buf ≡ 18 → head_fault (take got buf) ≡ x
     → IfSome told (λ i. head_fault i.bytes ≡ x)
 head_read None got buf x read long is = tt
-head_read (Some i) got buf x read long is =
-    let size : got ≡ min 18 (length i.bytes) = omega (arith, read.0, long) in
-    sym (head_fault_front i.bytes) ∙ ap head_fault (sym (take_min 18 i.bytes) ∙ ap (λ (n : ℕ). take n i.bytes) (sym size) ∙ sym read.1) ∙ is
+head_read (Some i) got buf x read long is = sym (head_fault_front i.bytes) ∙ ap head_fault (sym (read_whole i got buf read long)) ∙ is
+
+pub form_read : (told : Option Image) (got : ℕ) (buf : List ℕ) (form : JournalForm) → IfSome told (λ i. (got ≡ min (length buf) (length i.bytes - 0)) × (take got buf ≡ take got (drop 0 i.bytes))) → length buf ≡ 18 → form_in (take got buf) ≡ Some form
+    → IfSome told (λ i. form_in i.bytes ≡ Some form)
+form_read None got buf form read long is = tt
+form_read (Some i) got buf form read long is =
+    sym (same_form i.bytes (take 18 i.bytes) (take-take 17 18 i.bytes (omega arith))) ∙ ap form_in (sym (read_whole i got buf read long)) ∙ is
 
 pub lift2 : (o : Option Image) (P Q R : Image → Type 0) → IfSome o P → IfSome o Q → ((i : Image) → P i → Q i → R i) → IfSome o R
 lift2 None P Q R p q f = tt
@@ -57,7 +62,7 @@ and_last true true false d is = refl
 and_last true false c d is = refl
 and_last false b c d is = refl
 
-module _ (fits : List ℕ → Bool) (at : ℕ) (bytes start rec r : List ℕ) (got more size : ℕ)
+module _ (longest : ℕ) (fits : List ℕ → Bool) (at : ℕ) (bytes start rec r : List ℕ) (got more size : ℕ)
     (read : (got ≡ min (length start) (length bytes - at)) × (take got start ≡ take got (drop at bytes))) (five : length start ≡ 5) (whole : 5 ≤ got)
     (open_gate : get_or start 0 0 ≡ 1) (is_size : size ≡ size_from (drop 1 start))
     (reads : (more ≡ min (length rec) (length bytes - (at + 5))) × (take more rec ≡ take more (drop (at + 5) bytes))) (long : length rec ≡ size + 1) (full : size + 1 ≤ more)
@@ -79,11 +84,11 @@ module _ (fits : List ℕ → Bool) (at : ℕ) (bytes start rec r : List ℕ) (g
       let place : at + 0 ≡ at = omega arith in
       sym (ap (λ (n : ℕ). get_or bytes n 0) place) ∙ sym (get_or-drop at bytes 0 0) ∙ sym (get_or-take 5 (drop at bytes) 0 0 (omega arith)) ∙ ap (λ (l : List ℕ). get_or l 0 0) (sym start_is) ∙ open_gate
 
-  pub not_fit : fits r ≡ false → is_block fits (drop at bytes) ≡ false
-  not_fit out = and_last (nat_le 1 (size_at (drop at bytes))) (nat_le (size_at (drop at bytes)) 16384) (nat_le (size_at (drop at bytes) + 6) (length (drop at bytes))) (fits (record_at (drop at bytes)))
+  pub not_fit : fits r ≡ false → is_block longest fits (drop at bytes) ≡ false
+  not_fit out = and_last (nat_le 1 (size_at (drop at bytes))) (nat_le (size_at (drop at bytes)) longest) (nat_le (size_at (drop at bytes) + 6) (length (drop at bytes))) (fits (record_at (drop at bytes)))
       (ap fits (ap (λ (m : ℕ). take m (drop 5 (drop at bytes))) size_is ∙ sym rec_is) ∙ out)
 
-  pub next_is : 1 ≤ size → size ≤ 16384 → size_bytes size ≡ drop 1 start → fits r ≡ true → IsNext fits at r bytes
+  pub next_is : 1 ≤ size → size ≤ longest → size_bytes size ≡ drop 1 start → fits r ≡ true → IsNext longest fits at r bytes
   next_is some most tail_is fit =
       let n : more ≡ size + 1 = omega (arith, reads.0, long, full) in
       let size_r : length r ≡ size = omega (arith, ap length is, length-take size rec, long) in
@@ -99,7 +104,7 @@ module _ (fits : List ℕ → Bool) (at : ℕ) (bytes start rec r : List ℕ) (g
 head_room : (bytes : List ℕ) → head_fault bytes ≡ None → 17 < length bytes
 head_room bytes head = ⊎_elim
     (λ (lt : 17 < length bytes). lt)
-    (λ (le : length bytes ≤ 17). absurd (none_some (sym head ∙ ap (λ (b : Bool). if (b && starts_with nat_eq bytes magic) then (if get_or bytes 16 0 == 1 then None else Some 16) else Some 0) (short (length bytes) le))))
+    (λ (le : length bytes ≤ 17). absurd (none_some (sym head ∙ ap (λ (b : Bool). if (b && is_some (form_in bytes)) then (if get_or bytes 16 0 == 1 then None else Some 16) else Some 0) (short (length bytes) le))))
     (cases_lt 17 (length bytes))
   where
     short : (n : ℕ) → n ≤ 17 → nat_le 18 n ≡ false
@@ -149,4 +154,4 @@ epoch_read told got buf read long head n is = lift2 told (λ i. (got ≡ min (le
     is ∙ ap (λ (l : List ℕ). epoch_from (take 8 l)) (ap (drop 8) same ∙ drop-take 8 10 i.bytes) ∙ ap epoch_from (take-take 8 10 (drop 8 i.bytes) (omega arith)))
 
 pub head_records : (fits : List ℕ → Bool) (told : Option Image) (at : ℕ) → IfSome told (λ i. head_fault i.bytes ≡ Some at) → IfSome told (λ i. records fits i.bytes ≡ Err at)
-head_records fits told at fault = lift1 told (λ i. head_fault i.bytes ≡ Some at) (λ i. records fits i.bytes ≡ Err at) fault (λ i f. ap (λ (h : Option ℕ). walk_behind h (walk fits (length i.bytes) 17 (drop 17 i.bytes))) f)
+head_records fits told at fault = lift1 told (λ i. head_fault i.bytes ≡ Some at) (λ i. records fits i.bytes ≡ Err at) fault (λ i f. ap (λ (h : Option ℕ). walk_behind h (walk (longest_in i.bytes) fits (length i.bytes) 17 (drop 17 i.bytes))) f)

@@ -1,10 +1,12 @@
 -- How a walk over a journal goes on.
-use Rattle.std.proofs.Common.{◌≡◌, ◌≢◌, ℕ, ◌+◌, ◌<◌, ◌≤◌, List, [], ◌∷◌, ◌++◌, length, get_or, take, drop, Bool, true, false, Option, None, Some, IfSome, Result, Ok, Err, sym, ap, subst, arith, length-take, length-append}
+use Rattle.std.proofs.Common.{◌≡◌, ◌≢◌, ℕ, ◌+◌, ◌<◌, ◌≤◌, List, [], ◌∷◌, ◌++◌, length, get_or, take, drop, Bool, true, false, Option, None, Some, IfSome, Result, Ok, Err, sym, ◌∙◌, ap, subst, arith, length-take, length-append}
 use Rattle.std.specs.Result.{result_unwrap_or}
 use Rattle.std.proofs.lemmas.List.{take_at, get_or_at}
 use Rattle.spl_edge.specs.Image.{Image, IsSettled}
-use Rattle.spl_journal.specs.Records.{records, records_of, records_before, head_fault, is_block, epoch_in, IsFront, Holds, Standing, Walking}
+use Rattle.spl_journal.specs.Records.{form_in, records, records_of, records_before, head_fault, is_block, epoch_in, IsRecord, IsFront, Holds, Standing, Walking}
 use Rattle.spl_journal.specs.Reads.{IsNext, EndsAt}
+use Rattle.spl_journal.specs.declared.journal_form.JournalForm.{JournalForm}
+use Rattle.spl_journal.proofs.Forms.{longest_of, only_form}
 use Rattle.spl_journal.proofs.Walks.{closed, broken, front_more, front_same}
 use Rattle.spl_journal.proofs.Pieces.{lift1, lift2, front_first}
 
@@ -30,10 +32,11 @@ before_first fits bytes head = before_is fits 17 [] bytes (front_first fits byte
 pub walk_given : (fits : List ℕ → Bool) (told : Option Image) → IfSome told (λ i. head_fault i.bytes ≡ None) → IfSome told (λ i. records_before fits 17 i.bytes ≡ [])
 walk_given fits told head = lift1 told (λ i. head_fault i.bytes ≡ None) (λ i. records_before fits 17 i.bytes ≡ []) head (λ i h. before_first fits i.bytes h)
 
-pub walk_start : (fits : List ℕ → Bool) (told : Option Image) (extent epoch : ℕ) → IfSome told IsSettled → IfSome told (λ i. head_fault i.bytes ≡ None)
-    → IfSome told (λ i. epoch ≡ epoch_in i.bytes) → IfSome told (λ i. extent ≡ length i.bytes) → IfSome told (Walking fits 17 extent epoch false)
-walk_start fits None extent epoch settled head is_epoch is_extent = tt
-walk_start fits (Some i) extent epoch settled head is_epoch is_extent = record {
+pub walk_start : (fits : List ℕ → Bool) (told : Option Image) (extent epoch : ℕ) (form : JournalForm) → IfSome told IsSettled → IfSome told (λ i. head_fault i.bytes ≡ None)
+    → IfSome told (λ i. epoch ≡ epoch_in i.bytes) → IfSome told (λ i. form_in i.bytes ≡ Some form) → IfSome told (λ i. extent ≡ length i.bytes) → IfSome told (Walking fits 17 extent epoch form false)
+walk_start fits None extent epoch form settled head is_epoch is_form is_extent = tt
+walk_start fits (Some i) extent epoch form settled head is_epoch is_form is_extent = record {
+  form_is = is_form;
   front = subst (λ (rs : List (List ℕ)). IsFront fits 17 rs i.bytes) (sym (before_first fits i.bytes head)) (front_first fits i.bytes head);
   shut = λ ended. cc;
   extent_is = sym is_extent;
@@ -41,17 +44,18 @@ walk_start fits (Some i) extent epoch settled head is_epoch is_extent = record {
   settled = settled;
 }
 
-module _ (fits : List ℕ → Bool) (at extent epoch : ℕ) (ended : Bool) (r : List ℕ) (behind : ℕ) (place : behind ≡ at + 5 + length r) (told : Option Image) (walking : IfSome told (Walking fits at extent epoch ended)) (next : IfSome told (λ i. at < length i.bytes → IsNext fits at r i.bytes)) where
-  further : (i : Image) → Walking fits at extent epoch ended i → (at < length i.bytes → IsNext fits at r i.bytes) → IsFront fits behind (records_before fits at i.bytes ++ r ∷ []) i.bytes
-  further i w n = let here = n w.front.room in subst (λ (m : ℕ). IsFront fits m (records_before fits at i.bytes ++ r ∷ []) i.bytes) (sym place) (front_more fits at (records_before fits at i.bytes) i.bytes r w.front here.good here.block_is here.room)
+module _ (fits : List ℕ → Bool) (at extent epoch : ℕ) (form : JournalForm) (ended : Bool) (r : List ℕ) (behind : ℕ) (place : behind ≡ at + 5 + length r) (told : Option Image) (walking : IfSome told (Walking fits at extent epoch form ended)) (next : IfSome told (λ i. at < length i.bytes → IsNext form.longest fits at r i.bytes)) where
+  further : (i : Image) → Walking fits at extent epoch form ended i → (at < length i.bytes → IsNext form.longest fits at r i.bytes) → IsFront fits behind (records_before fits at i.bytes ++ r ∷ []) i.bytes
+  further i w n = let here = n w.front.room in subst (λ (m : ℕ). IsFront fits m (records_before fits at i.bytes ++ r ∷ []) i.bytes) (sym place) (front_more fits at (records_before fits at i.bytes) i.bytes r w.front (subst (λ (m : ℕ). IsRecord m fits r) (sym (longest_of i.bytes form w.form_is)) here.good) here.block_is here.room)
 
   pub walk_gave : IfSome told (λ i. records_before fits behind i.bytes ≡ records_before fits at i.bytes ++ r ∷ [])
-  walk_gave = lift2 told (Walking fits at extent epoch ended) (λ i. at < length i.bytes → IsNext fits at r i.bytes) (λ i. records_before fits behind i.bytes ≡ records_before fits at i.bytes ++ r ∷ []) walking next
+  walk_gave = lift2 told (Walking fits at extent epoch form ended) (λ i. at < length i.bytes → IsNext form.longest fits at r i.bytes) (λ i. records_before fits behind i.bytes ≡ records_before fits at i.bytes ++ r ∷ []) walking next
       (λ i w n. before_is fits behind (records_before fits at i.bytes ++ r ∷ []) i.bytes (further i w n))
 
-  pub walk_more : IfSome told (Walking fits behind extent epoch false)
-  walk_more = lift2 told (Walking fits at extent epoch ended) (λ i. at < length i.bytes → IsNext fits at r i.bytes) (Walking fits behind extent epoch false) walking next
+  pub walk_more : IfSome told (Walking fits behind extent epoch form false)
+  walk_more = lift2 told (Walking fits at extent epoch form ended) (λ i. at < length i.bytes → IsNext form.longest fits at r i.bytes) (Walking fits behind extent epoch form false) walking next
       (λ i w n. record {
+        form_is = w.form_is;
         front = subst (λ (rs : List (List ℕ)). IsFront fits behind rs i.bytes) (sym (before_is fits behind (records_before fits at i.bytes ++ r ∷ []) i.bytes (further i w n))) (further i w n);
         shut = λ ended. cc;
         extent_is = w.extent_is;
@@ -61,29 +65,30 @@ module _ (fits : List ℕ → Bool) (at extent epoch : ℕ) (ended : Bool) (r : 
 
   -- a record that ends past the disk is none
   pub walk_out : (k : ℕ) → extent ≤ behind → IfSome told (λ i. records fits i.bytes ≡ Err k)
-  walk_out k past = lift2 told (Walking fits at extent epoch ended) (λ i. at < length i.bytes → IsNext fits at r i.bytes) (λ i. records fits i.bytes ≡ Err k) walking next
+  walk_out k past = lift2 told (Walking fits at extent epoch form ended) (λ i. at < length i.bytes → IsNext form.longest fits at r i.bytes) (λ i. records fits i.bytes ≡ Err k) walking next
       (λ i w n. let here = n w.front.room in absurd (omega (arith, here.room, w.extent_is, place, past)))
 
-module _ (fits : List ℕ → Bool) (at extent epoch : ℕ) (ended : Bool) (told : Option Image) (walking : IfSome told (Walking fits at extent epoch ended)) where
-  pub walk_end : IfSome told (EndsAt at) → IfSome told (Walking fits at extent epoch true)
-  walk_end ends = lift2 told (Walking fits at extent epoch ended) (EndsAt at) (Walking fits at extent epoch true) walking ends
-      (λ i w e. record { front = w.front; shut = λ yes. e w.front.room; extent_is = w.extent_is; epoch_is = w.epoch_is; settled = w.settled })
+module _ (fits : List ℕ → Bool) (at extent epoch : ℕ) (form : JournalForm) (ended : Bool) (told : Option Image) (walking : IfSome told (Walking fits at extent epoch form ended)) where
+  pub walk_end : IfSome told (EndsAt at) → IfSome told (Walking fits at extent epoch form true)
+  walk_end ends = lift2 told (Walking fits at extent epoch form ended) (EndsAt at) (Walking fits at extent epoch form true) walking ends
+      (λ i w e. record { form_is = w.form_is; front = w.front; shut = λ yes. e w.front.room; extent_is = w.extent_is; epoch_is = w.epoch_is; settled = w.settled })
 
   pub walk_all : IfSome told (EndsAt at) → IfSome told (λ i. records fits i.bytes ≡ Ok (records_before fits at i.bytes))
-  walk_all ends = lift2 told (Walking fits at extent epoch ended) (EndsAt at) (λ i. records fits i.bytes ≡ Ok (records_before fits at i.bytes)) walking ends
+  walk_all ends = lift2 told (Walking fits at extent epoch form ended) (EndsAt at) (λ i. records fits i.bytes ≡ Ok (records_before fits at i.bytes)) walking ends
       (λ i w e. closed fits at (records_before fits at i.bytes) i.bytes w.front (e w.front.room))
 
-  pub walk_broken : IfSome told (λ i. at < length i.bytes → (get_or i.bytes at 0 ≡ 1) × (is_block fits (drop at i.bytes) ≡ false)) → IfSome told (λ i. records fits i.bytes ≡ Err at)
-  walk_broken breaks = lift2 told (Walking fits at extent epoch ended) (λ i. at < length i.bytes → (get_or i.bytes at 0 ≡ 1) × (is_block fits (drop at i.bytes) ≡ false)) (λ i. records fits i.bytes ≡ Err at) walking breaks
-      (λ i w b. let here = b w.front.room in broken fits at (records_before fits at i.bytes) i.bytes w.front here.0 here.1)
+  pub walk_broken : IfSome told (λ i. at < length i.bytes → (get_or i.bytes at 0 ≡ 1) × (is_block form.longest fits (drop at i.bytes) ≡ false)) → IfSome told (λ i. records fits i.bytes ≡ Err at)
+  walk_broken breaks = lift2 told (Walking fits at extent epoch form ended) (λ i. at < length i.bytes → (get_or i.bytes at 0 ≡ 1) × (is_block form.longest fits (drop at i.bytes) ≡ false)) (λ i. records fits i.bytes ≡ Err at) walking breaks
+      (λ i w b. let here = b w.front.room in broken fits at (records_before fits at i.bytes) i.bytes w.front here.0 (ap (λ (m : ℕ). is_block m fits (drop at i.bytes)) (longest_of i.bytes form w.form_is) ∙ here.1))
 
 -- a journal with records of its own bytes
 pub holds_own : (fits : List ℕ → Bool) (at : ℕ) (rs : List (List ℕ)) (i : Image) → Holds fits at rs i → Holds fits at (records_of fits i.bytes) i
 holds_own fits at rs i holds = subst (λ (l : List (List ℕ)). Holds fits at l i) (sym (ap (λ (r : Result (List (List ℕ)) ℕ). result_unwrap_or r []) (closed fits at rs i.bytes holds.front holds.shut))) holds
 
-pub walk_stands : (fits : List ℕ → Bool) (at extent epoch : ℕ) (ended : Bool) → ended ≡ true → (i : Image) → Walking fits at extent epoch ended i → Standing fits at extent epoch i
-walk_stands fits at extent epoch ended is i w = record {
+pub walk_stands : (fits : List ℕ → Bool) (at extent epoch : ℕ) (form : JournalForm) (ended : Bool) → ended ≡ true → (i : Image) → Walking fits at extent epoch form ended i → Standing fits at extent epoch i
+walk_stands fits at extent epoch form ended is i w = record {
   holds = holds_own fits at (records_before fits at i.bytes) i (record { front = w.front; shut = w.shut is; settled = w.settled });
   extent_is = w.extent_is;
   epoch_is = w.epoch_is;
+  form_is = w.form_is ∙ ap (λ (f : JournalForm). Some f) (only_form i.bytes form w.form_is);
 }

@@ -82,7 +82,7 @@ module _ (fits : List ℕ → Bool) (gate extent epoch : ℕ) (i : Image) (r : L
       (λ (one : byte ≡ 1).
       let now : behind gate (sized r) i.bytes byte ≡ behind gate (sized r) i.bytes 1 = ap (behind gate (sized r) i.bytes) one in
       ap (records fits) now
-      ∙ closed fits (gate + 5 + length r) (records_of fits i.bytes ++ r ∷ []) (behind gate (sized r) i.bytes 1) (front_after fits gate (records_of fits i.bytes) i.bytes r (behind gate (sized r) i.bytes 1) s.holds.front good refl) (shut_after fits gate (records_of fits i.bytes) i.bytes r (behind gate (sized r) i.bytes 1) s.holds.front good refl)
+      ∙ closed fits (gate + 5 + length r) (records_of fits i.bytes ++ r ∷ []) (behind gate (sized r) i.bytes 1) (front_after fits gate (records_of fits i.bytes) i.bytes r (behind gate (sized r) i.bytes 1) s.holds.front s.form_is good refl) (shut_after fits gate (records_of fits i.bytes) i.bytes r (behind gate (sized r) i.bytes 1) s.holds.front s.form_is good refl)
       ∙ ap (λ (b : Bool). Ok (kept_records b (records_of fits i.bytes) r)) (sym (one_is byte one)))
       (λ other.
       closed fits gate (records_of fits i.bytes) (behind gate (sized r) i.bytes byte) (front_same fits gate (records_of fits i.bytes) i.bytes (behind gate (sized r) i.bytes byte) s.holds.front (front_kept gate (sized r) i.bytes byte s.holds.front.room (behind gate (sized r) i.bytes byte) refl) (omega (arith, long gate (sized r) i.bytes byte s.holds.front.room (behind gate (sized r) i.bytes byte) refl)))

@@ -2,6 +2,7 @@
 use Rattle.std.specs.Prelude.{ℕ, ◌+◌, ◌-◌, ◌*◌, ◌^◌, ◌<◌, nat_le, Bool, List}
 use Rattle.spl_edge.specs.Image.{Image}
 use Rattle.spl_journal.specs.declared.journal.Journal.{Journal}
+use Rattle.spl_journal.specs.declared.journal.TheConstants.{SLACK}
 use Rattle.spl_journal.specs.declared.walk.Walk.{Walk}
 use Rattle.spl_journal.specs.declared.clearing.Cleared.{Cleared}
 use Rattle.spl_journal.specs.Records.{records_before, Standing, Walking}
@@ -29,11 +30,11 @@ abbrev pub is_halted : {R : Type 0} → Journal R → Bool
 is_halted j = j.halted
 
 abbrev pub has_room : {R : Type 0} → Journal R → Bool
-has_room j = nat_le (j.end + 1) (2 * j.base + 65536)
+has_room j = nat_le (j.end + 1) (2 * j.base + SLACK)
 
 -- a record of so many bytes leaves it no room, and there is an epoch above its own
 pub record IsFilledBy {R : Type 0} (n : ℕ) (j : Journal R) : Type 0 where
-  pub room : 2 * base_of j + 65536 < len_of j + 5 + n
+  pub room : 2 * base_of j + SLACK < len_of j + 5 + n
   pub epoch : epoch_of j < 2 ^ 64 - 1
 
 -- the disk is what the journal takes it for, and nothing is pending
@@ -57,9 +58,13 @@ epoch_walked w = w.epoch
 abbrev pub extent_walked : {R : Type 0} → Walk R → ℕ
 extent_walked w = w.extent
 
+-- how many bytes a record of the journal that it reads has at most
+abbrev pub longest_walked : {R : Type 0} → Walk R → ℕ
+longest_walked w = w.form.longest
+
 -- the disk is what the walk takes it for, and nothing is pending
 abbrev pub Walks : {R : Type 0} → (List ℕ → Bool) → Walk R → Image → Type 0
-Walks fits w i = Walking fits w.at w.extent w.epoch w.ended i
+Walks fits w i = Walking fits w.at w.extent w.epoch w.form w.ended i
 
 abbrev pub epoch_cleared : Cleared → ℕ
 epoch_cleared c = c.epoch

@@ -3,7 +3,7 @@ use Rattle.std.specs.Prelude.{◌≡◌, ◌≢◌, ◌≤◌, ◌<◌, ◌+◌,
 use Rattle.spl_edge.specs.Image.{Image}
 use Rattle.spl_edge.specs.Calls.{SamePast}
 use Rattle.spl_edge.specs.Views.{DiskView, image_now}
-use Rattle.spl_journal.specs.Records.{block, IsGood}
+use Rattle.spl_journal.specs.Records.{block, IsRecord}
 
 -- what was told before stays told, and at each moment since x the disk held what it held then
 pub record Stays (x y : DiskView) : Type 0 where
@@ -11,9 +11,9 @@ pub record Stays (x y : DiskView) : Type 0 where
   pub still : (k : ℕ) → x.moment ≤ k → k ≤ y.moment → y.image_at k ≡ image_now x
   pub later : x.moment ≤ y.moment
 
--- a whole record stands behind the gate at this place, and another gate behind it
-pub record IsNext (fits : List ℕ → Bool) (at : ℕ) (r bytes : List ℕ) : Type 0 where
-  pub good : IsGood fits r
+-- a whole record of at most so many bytes stands behind the gate at this place, and another gate behind it
+pub record IsNext (longest : ℕ) (fits : List ℕ → Bool) (at : ℕ) (r bytes : List ℕ) : Type 0 where
+  pub good : IsRecord longest fits r
   pub block_is : take (5 + length r) (drop at bytes) ≡ block r
   pub room : at + 5 + length r < length bytes
 

@@ -1,13 +1,24 @@
 -- The bytes of a journal, and the records in them (docs/RULES.md, Journals).
-use Rattle.std.specs.Prelude.{◌≡◌, ◌≢◌, ◌⊎◌, ◌≤◌, ◌<◌, ◌+◌, ℕ, zero, suc, List, [], ◌∷◌, ◌++◌, length, take, drop, get_or, Bool, true, false, nat_le, nat_eq, ◌==◌, ◌&&◌, if◌then◌else◌, Option, None, Some, is_none, Result, Ok, Err}
+use Rattle.std.specs.Prelude.{◌≡◌, ◌≢◌, ◌⊎◌, ◌≤◌, ◌<◌, ◌+◌, ℕ, zero, suc, List, [], ◌∷◌, ◌++◌, length, take, drop, get_or, Bool, true, false, nat_le, nat_eq, ◌==◌, ◌&&◌, if◌then◌else◌, Option, None, Some, is_none, is_some, Result, Ok, Err}
 use Rattle.std.specs.Result.{result_unwrap_or}
 use Rattle.std.specs.Int.{w32, w64, to_be_bytes, from_be_bytes}
-use Rattle.std.specs.List.{starts_with}
+use Rattle.std.specs.List.{find, starts_with}
+use Rattle.std.specs.Option.{option_map_or}
 use Rattle.spl_edge.specs.Image.{Image, IsSettled}
+use Rattle.spl_journal.specs.declared.journal_form.JournalForm.{JournalForm}
+use Rattle.spl_journal.specs.declared.journal_form.TheConstants.{FORMS, WRITTEN}
 
--- `SPLJRN01`
+-- the form of the journal that begins with these bytes
+abbrev pub form_in : List ℕ → Option JournalForm
+form_in image = find (λ f. starts_with nat_eq image f.magic) FORMS
+
+-- how many bytes a record of it has at most
+abbrev pub longest_in : List ℕ → ℕ
+longest_in image = option_map_or (λ f. f.longest) (form_in image) 0
+
+-- the bytes with which a journal begins that is made
 abbrev pub magic : List ℕ
-magic = 83 ∷ 80 ∷ 76 ∷ 74 ∷ 82 ∷ 78 ∷ 48 ∷ 49 ∷ []
+magic = WRITTEN.magic
 
 -- a length in four bytes
 unfoldable pub size_bytes : ℕ → List ℕ
@@ -57,22 +68,26 @@ size_at bytes = size_from (take 4 (drop 1 bytes))
 abbrev pub record_at : List ℕ → List ℕ
 record_at bytes = take (size_at bytes) (drop 5 bytes)
 
-abbrev pub is_block : (List ℕ → Bool) → List ℕ → Bool
-is_block fits bytes = nat_le 1 (size_at bytes) && (nat_le (size_at bytes) 16384 && (nat_le (size_at bytes + 6) (length bytes) && fits (record_at bytes)))
+-- the first number bounds the length of the record
+abbrev pub is_block : ℕ → (List ℕ → Bool) → List ℕ → Bool
+is_block longest fits bytes = nat_le 1 (size_at bytes)
+    && (nat_le (size_at bytes) longest && (nat_le (size_at bytes + 6) (length bytes) && fits (record_at bytes)))
 
 abbrev pub onto : List ℕ → Result (List (List ℕ)) ℕ → Result (List (List ℕ)) ℕ
 onto r (Ok rs) = Ok (r ∷ rs)
 onto r (Err at) = Err at
 
--- the records from a gate on, or the place of the gate behind which there is none; the first number bounds the steps
-abbrev pub walk : (List ℕ → Bool) → ℕ → ℕ → List ℕ → Result (List (List ℕ)) ℕ
-walk fits zero at bytes = Err at
-walk fits (suc n) at bytes = if get_or bytes 0 0 == 1
-    then (if is_block fits bytes then onto (record_at bytes) (walk fits n (at + 5 + size_at bytes) (drop (5 + size_at bytes) bytes)) else Err at)
+-- the records from a gate on, or the place of the gate behind which there is none; the second number bounds the steps
+abbrev pub walk : ℕ → (List ℕ → Bool) → ℕ → ℕ → List ℕ → Result (List (List ℕ)) ℕ
+walk longest fits zero at bytes = Err at
+walk longest fits (suc n) at bytes = if get_or bytes 0 0 == 1
+    then (if is_block longest fits bytes
+    then onto (record_at bytes) (walk longest fits n (at + 5 + size_at bytes) (drop (5 + size_at bytes) bytes))
+    else Err at)
     else Ok []
 
 abbrev pub is_headed : List ℕ → Bool
-is_headed image = nat_le 18 (length image) && starts_with nat_eq image magic
+is_headed image = nat_le 18 (length image) && is_some (form_in image)
 
 -- where the head is wrong
 abbrev pub head_fault : List ℕ → Option ℕ
@@ -84,7 +99,7 @@ walk_behind (Some at) found = Err at
 
 -- the records of a disk's bytes, or the place where they are no journal
 abbrev pub records : (List ℕ → Bool) → List ℕ → Result (List (List ℕ)) ℕ
-records fits image = walk_behind (head_fault image) (walk fits (length image) 17 (drop 17 image))
+records fits image = walk_behind (head_fault image) (walk (longest_in image) fits (length image) 17 (drop 17 image))
 
 -- the records, or none where the bytes are no journal
 abbrev pub records_of : (List ℕ → Bool) → List ℕ → List (List ℕ)
@@ -98,20 +113,27 @@ records_before fits at image = records_of fits (take at image ++ 0 ∷ [])
 abbrev pub is_open : List ℕ → Bool
 is_open image = is_none (head_fault image)
 
--- a record of the journal's form
-pub record IsGood (fits : List ℕ → Bool) (r : List ℕ) : Type 0 where
+-- a record of a journal whose records have at most so many bytes
+pub record IsRecord (longest : ℕ) (fits : List ℕ → Bool) (r : List ℕ) : Type 0 where
   pub some : 1 ≤ length r
-  pub most : length r ≤ 16384
+  pub most : length r ≤ longest
   pub fits_form : fits r ≡ true
 
+abbrev pub AreRecords : ℕ → (List ℕ → Bool) → List (List ℕ) → Type 0
+AreRecords longest fits [] = Unit {0}
+AreRecords longest fits (r ∷ rs) = IsRecord longest fits r × AreRecords longest fits rs
+
+-- a record that a journal takes which is made
+abbrev pub IsGood : (List ℕ → Bool) → List ℕ → Type 0
+IsGood fits r = IsRecord WRITTEN.longest fits r
+
 abbrev pub AreGood : (List ℕ → Bool) → List (List ℕ) → Type 0
-AreGood fits [] = Unit {0}
-AreGood fits (r ∷ rs) = IsGood fits r × AreGood fits rs
+AreGood fits rs = AreRecords WRITTEN.longest fits rs
 
 -- these records stand in front of the gate at this place
 pub record IsFront (fits : List ℕ → Bool) (at : ℕ) (rs : List (List ℕ)) (bytes : List ℕ) : Type 0 where
   pub head : head_fault bytes ≡ None
-  pub good : AreGood fits rs
+  pub good : AreRecords (longest_in bytes) fits rs
   pub front : take at bytes ≡ take 17 bytes ++ blocks rs
   pub place : at ≡ 17 + length (blocks rs)
   pub room : at < length bytes
@@ -135,14 +157,17 @@ pub record SameHead (bytes c : List ℕ) : Type 0 where
   pub same : take 17 c ≡ take 17 bytes
   pub room : 17 < length c
 
--- the disk holds a journal: its records end in front of the closed gate at this place, it has so many bytes and this epoch
+-- the disk holds a journal in the form in which they are made: its records end in front of the closed gate at this
+-- place, it has so many bytes and this epoch
 pub record Standing (fits : List ℕ → Bool) (end extent epoch : ℕ) (i : Image) : Type 0 where
   pub holds : Holds fits end (records_of fits i.bytes) i
   pub extent_is : length i.bytes ≡ extent
   pub epoch_is : epoch_in i.bytes ≡ epoch
+  pub form_is : form_in i.bytes ≡ Some WRITTEN
 
--- the disk is read up to the gate at this place, which is closed where the reading has ended
-pub record Walking (fits : List ℕ → Bool) (at extent epoch : ℕ) (ended : Bool) (i : Image) : Type 0 where
+-- the disk, a journal of this form, is read up to the gate at this place, which is closed where the reading has ended
+pub record Walking (fits : List ℕ → Bool) (at extent epoch : ℕ) (form : JournalForm) (ended : Bool) (i : Image) : Type 0 where
+  pub form_is : form_in i.bytes ≡ Some form
   pub front : IsFront fits at (records_before fits at i.bytes) i.bytes
   pub shut : ended ≡ true → get_or i.bytes at 0 ≢ 1
   pub extent_is : length i.bytes ≡ extent

@@ -1,10 +1,10 @@
 //! Numbers and heads in a journal's bytes.
-ghost use Rattle.std.specs.Prelude.{◌≡◌, ◌≤◌, length, IfOk};
-ghost use Rattle.spl_journal.specs.Records.{size_bytes, size_from, epoch_bytes, epoch_from, closed_front, closed_head, head_fault, sized};
+ghost use Rattle.std.specs.Prelude.{◌≡◌, ◌≤◌, Some, None, length, IfOk, IfErr, OnOk};
+ghost use Rattle.spl_base.specs.declared.limit.TheConstants.{LONGEST_RECORD};
+ghost use Rattle.spl_journal.specs.Records.{size_bytes, size_from, epoch_bytes, epoch_from, closed_front, closed_head, form_in, head_fault, sized};
 
+use crate::journal_form::{JournalForm, WRITTEN, form_in};
 use std::alloc::{AllocError, Global};
-
-const MAGIC: [u8; 8] = *b"SPLJRN01";
 
 pub(crate) fn size_bytes(size: u32) -> [u8; 4]
     ensures { result ≡ size_bytes size }
@@ -36,7 +36,7 @@ pub(crate) fn closed_front(epoch: u64) -> [u8; 17]
     ensures { result ≡ closed_front epoch }
 {
     let mut front = [0; 17];
-    front[..8].copy_from_slice(&MAGIC);
+    front[..8].copy_from_slice(&WRITTEN.magic);
     front[8..16].copy_from_slice(&epoch_bytes(epoch));
     front
 }
@@ -51,17 +51,22 @@ pub(crate) fn closed_head(alloc: Global, epoch: u64) -> Result<Vec<u8>, AllocErr
     Ok(head)
 }
 
-/// Where a head is wrong.
-pub(crate) fn head_fault(bytes: &[u8]) -> Option<u64>
-    ensures { result ≡ head_fault bytes.now }
+/// The form of the journal whose head this is, or where it is wrong.
+pub(crate) fn head_form(bytes: &[u8]) -> Result<JournalForm, u64>
+    ensures form { IfOk result (λ form. form_in bytes.now ≡ Some form) }
+    ensures ok { OnOk result (head_fault bytes.now ≡ None) }
+    ensures not { IfErr result (λ at. head_fault bytes.now ≡ Some at) }
 {
-    if bytes.len() < 18 || !bytes.starts_with(&MAGIC) {
-        return Some(0);
+    if bytes.len() < 18 {
+        return Err(0);
     }
+    let Some(form) = form_in(bytes) else {
+        return Err(0);
+    };
     if bytes[16] != 1 {
-        return Some(16);
+        return Err(16);
     }
-    None
+    Ok(form)
 }
 
 /// What an append writes behind the closed gate: the length, the record and the next gate. It takes the memory of what
@@ -71,7 +76,7 @@ pub(crate) fn sized(
     last: Option<Vec<u8>>,
     bytes: &[u8],
 ) -> Result<Vec<u8>, AllocError>
-    requires most { length bytes.now ≤ 16384 }
+    requires most { length bytes.now ≤ LONGEST_RECORD }
     ensures { IfOk result (λ piece. piece.items ≡ sized bytes.now) }
 {
     let mut piece = match last {

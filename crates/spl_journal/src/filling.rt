@@ -1,5 +1,6 @@
 //! A journal written whole on a cleared disk.
 ghost use Rattle.std.specs.Prelude.{◌≡◌, ◌≤◌, ◌<◌, ◌+◌, ◌^◌, ◌++◌, ◌∷◌, [], ℕ, Ok, false, length, OnOk, IfOk, IfSome, IsOk, IsErrOf};
+ghost use Rattle.spl_base.specs.declared.limit.TheConstants.{LONGEST_RECORD};
 ghost use Rattle.spl_edge.specs.Causes.{Rose};
 ghost use Rattle.spl_edge.specs.Views.{image_now};
 ghost use Rattle.spl_edge.specs.Calls.{Onward};
@@ -18,7 +19,7 @@ use std::marker::PhantomData;
 
 /// An open gate, the length and the record, at the end.
 fn put_block(piece: &mut Vec<u8>, bytes: &[u8]) -> Result<(), AllocError>
-    requires most { length bytes.now ≤ 16384 }
+    requires most { length bytes.now ≤ LONGEST_RECORD }
     ensures { OnOk result (piece.new.items ≡ piece.old.items ++ block bytes.now) }
 {
     piece.push(1)?;

@@ -13,6 +13,9 @@ use spl_edge::Disk;
 use std::alloc::Global;
 use std::marker::PhantomData;
 
+/// How many bytes a journal may have above twice its base, before a checkpoint is made.
+pub const SLACK: u64 = 65_536;
+
 /// The place where the records of a disk end, and how many bytes they have. It keeps no record.
 #[derive(Drop)]
 pub struct Journal<R> {
@@ -69,11 +72,11 @@ impl<R: Form> Journal<R> {
         self.halted
     }
 
-    /// Whether it has at most twice its base and 65,536 bytes.
+    /// Whether it has at most twice its base and `SLACK` bytes.
     pub fn room(&self) -> bool
         ensures { result ≡ has_room self.now }
     {
-        (self.end + 1).saturating_sub(self.base) <= self.base + 65_536
+        (self.end + 1).saturating_sub(self.base) <= self.base + SLACK
     }
 
     /// Adds a record by four calls of the disk, once all memory is taken. After an error it is halted.

@@ -5,8 +5,9 @@ ghost use Rattle.spl_edge.specs.Image.{Image, IsSettled};
 ghost use Rattle.spl_edge.specs.Views.{image_now};
 ghost use Rattle.spl_edge.specs.Calls.{Onward};
 ghost use Rattle.spl_journal.specs.Reads.{Stays};
-ghost use Rattle.spl_journal.specs.Records.{records, head_fault, IsGood};
+ghost use Rattle.spl_journal.specs.Records.{records, head_fault, IsRecord};
 
+use crate::journal_form::JournalForm;
 use crate::read::{read_head, read_next};
 use crate::{Form, Journal, JournalFault, fault_of};
 use spl_edge::Disk;
@@ -21,6 +22,7 @@ pub struct Walk<R> {
     /// How many bytes the disk has.
     extent: u64,
     epoch: u64,
+    form: JournalForm,
     ended: bool,
     of: PhantomData<R>,
     ghost within: { at < extent },
@@ -30,18 +32,20 @@ pub struct Walk<R> {
 impl<R: Form> Journal<R> {
     ghost use Rattle.spl_journal.specs.Journals.{Walks, given_by};
 
-    /// Begins to read the journal of a disk. It isn't one where fewer than 18 bytes or another head stand there, or its gate is closed.
+    /// Begins to read the journal of a disk. It isn't one where fewer than 18 bytes or another head stand there, or its
+    /// gate is closed.
     pub fn walk<D: Disk>(disk: &mut D) -> Result<Walk<R>, JournalFault>
         requires settled { IfSome (image_now (D.view disk.old)) IsSettled }
         ensures walks { IfOk result (λ w. IfSome (image_now (D.view disk.old)) (Walks R.is_record w)) }
         ensures start { IfOk result (λ w. IfSome (image_now (D.view disk.old)) (λ i. given_by R.is_record w i.bytes ≡ [])) }
-        ensures not { (at : ℕ) → IsErrOf result (JournalFault.NotAJournal at) → IfSome (image_now (D.view disk.old)) (λ i. head_fault i.bytes ≡ Some at) }
+        ensures not { (at : ℕ) → IsErrOf result (JournalFault.NotAJournal at)
+            → IfSome (image_now (D.view disk.old)) (λ i. head_fault i.bytes ≡ Some at) }
         ensures stays { Stays (D.view disk.old) (D.view disk.new) }
         ensures failed { IsErrOf result JournalFault.Disk → Rose (D.view disk.old).faults (D.view disk.new).faults }
         ensures onward { Onward (D.view disk.old) (D.view disk.new) }
     {
-        let epoch = match read_head(disk) {
-            Ok(epoch) => epoch,
+        let (epoch, form) = match read_head(disk) {
+            Ok(head) => head,
             Err(fault) => return Err(fault),
         };
         let extent = match disk.len() {
@@ -55,6 +59,7 @@ impl<R: Form> Journal<R> {
             at: 17,
             extent,
             epoch,
+            form,
             ended: false,
             of: PhantomData,
         })
@@ -62,7 +67,7 @@ impl<R: Form> Journal<R> {
 }
 
 impl<R: Form> Walk<R> {
-    ghost use Rattle.spl_journal.specs.Journals.{Walks, Stands, given_by, has_ended, left_of, epoch_walked, extent_walked, base_of, epoch_of, extent_of, is_halted};
+    ghost use Rattle.spl_journal.specs.Journals.{Walks, Stands, given_by, has_ended, left_of, epoch_walked, extent_walked, longest_walked, base_of, epoch_of, extent_of, is_halted};
 
     /// The epoch of the journal that it reads.
     pub fn epoch(&self) -> u64
@@ -86,7 +91,7 @@ impl<R: Form> Walk<R> {
     ) -> Result<Option<R::Read>, JournalFault>
         requires walks { IfSome (image_now (D.view disk.old)) (Walks R.is_record self.old) }
         ensures walks { IfSome (image_now (D.view disk.old)) (Walks R.is_record self.new) }
-        ensures good { IfOk result (λ found. IfSome found (λ r. IsGood R.is_record (R.bytes_of r))) }
+        ensures good { IfOk result (λ found. IfSome found (λ r. IsRecord (longest_walked self.old) R.is_record (R.bytes_of r))) }
         ensures next { IfOk result (λ found. IfSome found (λ r. IfSome (image_now (D.view disk.old)) (λ i.
             given_by R.is_record self.new i.bytes ≡ given_by R.is_record self.old i.bytes ++ R.bytes_of r ∷ []))) }
         ensures shorter { IfOk result (λ found. IfSome found (λ r. left_of self.new < left_of self.old)) }
@@ -96,13 +101,14 @@ impl<R: Form> Walk<R> {
         ensures not { (at : ℕ) → IsErrOf result (JournalFault.NotAJournal at)
             → IfSome (image_now (D.view disk.old)) (λ i. records R.is_record i.bytes ≡ Err at) }
         ensures unmoved { OnErr result (self.new ≡ self.old) }
-        ensures same { (epoch_walked self.new ≡ epoch_walked self.old) × (extent_walked self.new ≡ extent_walked self.old) }
+        ensures same { (epoch_walked self.new ≡ epoch_walked self.old) × (extent_walked self.new ≡ extent_walked self.old)
+            × (longest_walked self.new ≡ longest_walked self.old) }
         ensures stays { Stays (D.view disk.old) (D.view disk.new) }
         ensures failed { IsErrOf result JournalFault.Disk → Rose (D.view disk.old).faults (D.view disk.new).faults }
         ensures onward { Onward (D.view disk.old) (D.view disk.new) }
     {
         let at = self.at;
-        let found = match read_next::<R, D>(alloc, disk, at) {
+        let found = match read_next::<R, D>(alloc, disk, at, self.form.longest) {
             Ok(found) => found,
             Err(fault) => return Err(fault),
         };

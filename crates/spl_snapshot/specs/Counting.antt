@@ -55,11 +55,13 @@ IsInTurn true k first_from first_to l second_from second_to = (k ≡ first_from)
 
 -- the same where one disk is called after the other, as in an append and then a checkpoint
 abbrev pub PairLeavesBetweenInTurn : Bool → (ℕ → Option Image) → ℕ → ℕ → (ℕ → Option Image) → ℕ → ℕ → (List ℕ → List ℕ → Type 0) → Type 0
-PairLeavesBetweenInTurn second first_at first_from first_to second_at second_from second_to P = (k l : ℕ) → first_from ≤ k → k ≤ first_to → second_from ≤ l → l ≤ second_to
-    → IsInTurn second k first_from first_to l second_from second_to → IfBoth (first_at k) (second_at l) (λ i j. (c d : List ℕ) → MayLeave i c → MayLeave j d → P c d)
+PairLeavesBetweenInTurn second first_at first_from first_to second_at second_from second_to P = (k l : ℕ)
+    → first_from ≤ k → k ≤ first_to → second_from ≤ l → l ≤ second_to → IsInTurn second k first_from first_to l second_from second_to
+    → IfBoth (first_at k) (second_at l) (λ i j. (c d : List ℕ) → MayLeave i c → MayLeave j d → P c d)
 
 abbrev pub PairLeavesInTurn : Bool → PairView → PairView → (List ℕ → List ℕ → Type 0) → Type 0
-PairLeavesInTurn second p q P = PairLeavesBetweenInTurn second q.first.image_at p.first.moment q.first.moment q.second.image_at p.second.moment q.second.moment P
+PairLeavesInTurn second p q P =
+    PairLeavesBetweenInTurn second q.first.image_at p.first.moment q.first.moment q.second.image_at p.second.moment q.second.moment P
 
 -- they are these records
 abbrev pub HaveRecords : (List ℕ → Bool) → List (List ℕ) → List ℕ → List ℕ → Type 0
@@ -71,7 +73,8 @@ HaveEither fits before after first second = HaveRecords fits before first second
 
 -- or others again
 abbrev pub HaveOneOf : (List ℕ → Bool) → List (List ℕ) → List (List ℕ) → List (List ℕ) → List ℕ → List ℕ → Type 0
-HaveOneOf fits before after packed first second = HaveRecords fits before first second ⊎ (HaveRecords fits after first second ⊎ HaveRecords fits packed first second)
+HaveOneOf fits before after packed first second =
+    HaveRecords fits before first second ⊎ (HaveRecords fits after first second ⊎ HaveRecords fits packed first second)
 
 -- both disks of a node went on
 pub record PairOnward (p q : PairView) : Type 0 where

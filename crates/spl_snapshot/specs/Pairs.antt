@@ -20,7 +20,8 @@ journal_in p = p.journal
 abbrev pub is_halted : {R : Type 0} → Pairing R → Bool
 is_halted p = p.halted
 
--- the journal isn't halted, the disk that counts is what it takes it for, the other has the length that is known, on neither is anything pending, and the right one of them counts
+-- the journal isn't halted, the disk that counts is what it takes it for, the other has the length that is known, on
+-- neither is anything pending, and the right one of them counts
 pub record PairStands {R : Type 0} (fits : List ℕ → Bool) (p : Pairing R) (first second : Option Image) : Type 0 where
   pub running : journal_halted p.journal ≡ false
   pub counting : IfSome (chosen p.second first second) (Stands fits p.journal)

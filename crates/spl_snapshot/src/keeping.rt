@@ -6,6 +6,7 @@ ghost use Rattle.spl_edge.specs.Views.{image_now, pair_view};
 ghost use Rattle.spl_journal.specs.Gate.{ByCalls, NamesOne, opened};
 ghost use Rattle.spl_journal.specs.Journals.{end_of, len_of, base_of, epoch_of, has_room, IsFilledBy};
 ghost use Rattle.spl_journal.specs.Records.{blocks, sized, IsGood, AreGood};
+ghost use Rattle.spl_journal.specs.declared.journal.TheConstants.{SLACK};
 ghost use Rattle.spl_snapshot.specs.Counting.{chosen, pair_records_of, HaveEither, HaveOneOf, IfBoth, PairLeaves, PairLeavesInTurn, PairOnward, PairTellsAs, HasRisen};
 ghost use Rattle.spl_snapshot.specs.Pairs.{PairStands, is_second, journal_in, is_halted};
 
@@ -24,7 +25,8 @@ pub trait Packed {
 }
 
 impl<R: Form> Pairing<R> {
-    /// Adds a record, and where that leaves no room writes anew what packs into the records of now. After an error it is halted.
+    /// Adds a record, and where that leaves no room writes anew what packs into the records of now. After an error it is
+    /// halted.
     pub fn keep<P: Packed, D: Disk>(
         &mut self,
         alloc: Global,
@@ -38,7 +40,8 @@ impl<R: Form> Pairing<R> {
         requires stands { PairStands R.is_record self.old (image_now (D.view disks.old.first)) (image_now (D.view disks.old.second)) }
         ensures stands { OnOk result (PairStands R.is_record self.new (image_now (D.view disks.new.first)) (image_now (D.view disks.new.second))) }
 
-        // A stop at any moment leaves the records from before it, those and the new one, or the packed ones; after Ok one of the last two.
+        // A stop at any moment leaves the records from before it, those and the new one, or the packed ones; after Ok one
+        // of the last two.
         ensures any_moment { IfBoth (image_now (D.view disks.old.first)) (image_now (D.view disks.old.second)) (λ i j.
             PairLeavesInTurn (is_second self.old) (pair_view D.view disks.old) (pair_view D.view disks.new)
             (HaveOneOf R.is_record (pair_records_of R.is_record i.bytes j.bytes) (pair_records_of R.is_record i.bytes j.bytes ++ bytes.now ∷ [])
@@ -64,7 +67,7 @@ impl<R: Form> Pairing<R> {
             (HaveEither R.is_record (pair_records_of R.is_record i.bytes j.bytes ++ bytes.now ∷ []) (P.packed state.now)))) }
 
         // Where it leaves no room the other disk counts behind Ok, and none of its eight calls was one that it is armed for.
-        ensures turned { OnOk result (2 * base_of (journal_in self.old) + 65536 < len_of (journal_in self.old) + 5 + length bytes.now
+        ensures turned { OnOk result (2 * base_of (journal_in self.old) + SLACK < len_of (journal_in self.old) + 5 + length bytes.now
             → epoch_of (journal_in self.old) < 2 ^ 64 - 1
             → is_second self.new ≡ not (is_second self.old)) }
         ensures passed { OnOk result ((is_second self.new ≡ is_second self.old)
@@ -72,7 +75,7 @@ impl<R: Form> Pairing<R> {
             ((D.view (chosen (is_second self.old) disks.old.second disks.old.first)).moment + n)) → ⊥)) }
 
         // Where it leaves room no checkpoint is made: the other disk is as it was, and doesn't count.
-        ensures no_checkpoint { len_of (journal_in self.old) + 5 + length bytes.now ≤ 2 * base_of (journal_in self.old) + 65536
+        ensures no_checkpoint { len_of (journal_in self.old) + 5 + length bytes.now ≤ 2 * base_of (journal_in self.old) + SLACK
             → (chosen (is_second self.old) disks.new.second disks.new.first ≡ chosen (is_second self.old) disks.old.second disks.old.first)
             × (is_second self.new ≡ is_second self.old) }
 

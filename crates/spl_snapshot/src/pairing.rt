@@ -85,7 +85,7 @@ impl<R: Form> Pairing<R> {
         self.journal.base()
     }
 
-    /// Whether it has at most twice its base and 65,536 bytes.
+    /// Whether it has at most twice its base and `SLACK` bytes.
     pub fn room(&self) -> bool
         ensures { result ≡ has_room (journal_in self.now) }
     {
@@ -111,7 +111,8 @@ impl<R: Form> Pairing<R> {
         requires stands { PairStands R.is_record self.old (image_now (D.view disks.old.first)) (image_now (D.view disks.old.second)) }
         ensures stands { OnOk result (PairStands R.is_record self.new (image_now (D.view disks.new.first)) (image_now (D.view disks.new.second))) }
 
-        // A stop at any moment of the call leaves the records from before it, or those and the new one; after Ok those and the new one.
+        // A stop at any moment of the call leaves the records from before it, or those and the new one; after Ok those and
+        // the new one.
         ensures any_moment { IfBoth (image_now (D.view disks.old.first)) (image_now (D.view disks.old.second)) (λ i j.
             PairLeaves (pair_view D.view disks.old) (pair_view D.view disks.new)
             (HaveEither R.is_record (pair_records_of R.is_record i.bytes j.bytes) (pair_records_of R.is_record i.bytes j.bytes ++ bytes.now ∷ []))) }

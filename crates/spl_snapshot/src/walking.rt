@@ -2,8 +2,8 @@
 ghost use Rattle.std.specs.Prelude.{◌≡◌, ◌≤◌, ◌<◌, ◌++◌, ◌∷◌, [], ℕ, true, false, Ok, Err, Option, OnErr, IfOk, IfSome, IfNone, IsErrOf};
 ghost use Rattle.spl_edge.specs.Image.{Image, IsSettled};
 ghost use Rattle.spl_edge.specs.Views.{image_now, pair_view};
-ghost use Rattle.spl_journal.specs.Journals.{base_of, epoch_of, has_ended, left_of, epoch_walked};
-ghost use Rattle.spl_journal.specs.Records.{IsGood};
+ghost use Rattle.spl_journal.specs.Journals.{base_of, epoch_of, has_ended, left_of, epoch_walked, longest_walked};
+ghost use Rattle.spl_journal.specs.Records.{IsRecord};
 ghost use Rattle.spl_snapshot.specs.Counting.{IfBoth, pair_records, HaveRecords, PairOnward, PairStays, HasRisen};
 ghost use Rattle.spl_snapshot.specs.Pairs.{PairWalks, PairStands, pair_given, walk_in, walks_second, journal_in, is_second, is_halted};
 
@@ -23,7 +23,8 @@ pub struct PairWalk<R> {
     pub(crate) other: u64,
 }
 
-/// Begins to read the journal that counts. Where neither disk is open, it isn't a journal at the place where the first isn't.
+/// Begins to read the journal that counts. Where neither disk is open, it isn't a journal at the place where the first
+/// isn't.
 pub fn walk_pair<R: Form, D: Disk>(disks: &mut Pair<D>) -> Result<PairWalk<R>, JournalFault>
     requires first { IfSome (image_now (D.view disks.old.first)) IsSettled }
     requires second { IfSome (image_now (D.view disks.old.second)) IsSettled }
@@ -60,7 +61,7 @@ impl<R: Form> PairWalk<R> {
     ) -> Result<Option<R::Read>, JournalFault>
         requires walks { PairWalks R.is_record self.old (image_now (D.view disks.old.first)) (image_now (D.view disks.old.second)) }
         ensures walks { PairWalks R.is_record self.new (image_now (D.view disks.old.first)) (image_now (D.view disks.old.second)) }
-        ensures good { IfOk result (λ found. IfSome found (λ r. IsGood R.is_record (R.bytes_of r))) }
+        ensures good { IfOk result (λ found. IfSome found (λ r. IsRecord (longest_walked (walk_in self.old)) R.is_record (R.bytes_of r))) }
         ensures next { IfOk result (λ found. IfSome found (λ r. IfBoth (image_now (D.view disks.old.first)) (image_now (D.view disks.old.second)) (λ i j.
             pair_given R.is_record self.new i.bytes j.bytes ≡ pair_given R.is_record self.old i.bytes j.bytes ++ R.bytes_of r ∷ []))) }
         ensures shorter { IfOk result (λ found. IfSome found (λ r. left_of (walk_in self.new) < left_of (walk_in self.old))) }

@@ -1,7 +1,7 @@
 //! Streams of frames, and greetings.
 use crate::words::{Answered, RowFault, Telling, bytes, hex_text, made, node, text_of, words};
 use spl_base::{NodeId, Piece};
-use spl_frame::{FrameFault, Framer, frames_in, write_frame};
+use spl_frame::{FrameFault, Framer, LONGEST_BODY, frames_in, write_frame};
 use spl_link::{LinkFault, Opening};
 use spl_registry::Registry;
 use std::alloc::Global;

@@ -1,0 +1,71 @@
+-- In which form a journal is written.
+use Rattle.std.proofs.Common.{◌≡◌, ℕ, ◌<◌, ◌≤◌, ◌^◌, ◌==◌, Bool, true, false, ◌&&◌, cond, if◌then◌else◌, List, [], ◌∷◌, ◌++◌, length, get_or, take, nat_eq, nat_le, nat_lt, is_some, Option, None, Some, refl, sym, ◌∙◌, ap, arith}
+use Rattle.std.specs.Cmp.Lexicographic.{pointwise}
+use Rattle.std.specs.List.{find, list_all, starts_with}
+use Rattle.std.specs.Option.{option_map_or}
+use Rattle.std.proofs.lemmas.Bool.{and_parts, leb-true, ltb-true}
+use Rattle.std.proofs.lemmas.List.{take-take, get_or-take}
+use Rattle.spl_journal.specs.declared.journal_form.JournalForm.{JournalForm}
+use Rattle.spl_journal.specs.declared.journal_form.TheConstants.{FORMS, WRITTEN}
+use Rattle.spl_journal.specs.Records.{form_in, head_fault, is_headed, longest_in, magic}
+
+-- a form shows in the first 17 bytes, and four bytes tell the length of a record
+abbrev is_told : JournalForm → Bool
+is_told f = nat_le (length f.magic) 17
+
+abbrev is_counted : JournalForm → Bool
+is_counted f = nat_lt f.longest (2 ^ 32)
+
+found_alike : (forms : List JournalForm) (bytes c : List ℕ) → list_all is_told forms ≡ true → take 17 c ≡ take 17 bytes
+    → find (λ f. starts_with nat_eq c f.magic) forms ≡ find (λ f. starts_with nat_eq bytes f.magic) forms
+found_alike [] bytes c told same = refl
+found_alike (f ∷ forms) bytes c told same =
+    let both = and_parts (is_told f) (list_all is_told forms) told in
+    let few : length f.magic ≤ 17 = leb-true (length f.magic) 17 both.0 in
+    let front : take (length f.magic) c ≡ take (length f.magic) bytes = sym (take-take (length f.magic) 17 c few) ∙ ap (take (length f.magic)) same ∙ take-take (length f.magic) 17 bytes few in
+    ap (λ (l : List ℕ). cond (pointwise nat_eq f.magic l) (Some f) (find (λ g. starts_with nat_eq c g.magic) forms)) front
+    ∙ ap (λ (o : Option JournalForm). cond (starts_with nat_eq bytes f.magic) (Some f) o) (found_alike forms bytes c both.1 same)
+
+pub same_form : (bytes c : List ℕ) → take 17 c ≡ take 17 bytes → form_in c ≡ form_in bytes
+same_form bytes c same = found_alike FORMS bytes c refl same
+
+pub same_longest : (bytes c : List ℕ) → take 17 c ≡ take 17 bytes → longest_in c ≡ longest_in bytes
+same_longest bytes c same = ap (λ (o : Option JournalForm). option_map_or (λ f. f.longest) o 0) (same_form bytes c same)
+
+-- the same first bytes have the same fault, if they have one, where neither head is cut off or both are
+pub same_fault : (bytes c : List ℕ) → take 17 c ≡ take 17 bytes → nat_le 18 (length c) ≡ nat_le 18 (length bytes) → head_fault c ≡ head_fault bytes
+same_fault bytes c same long =
+    ap (λ (b : Bool). if (b && is_some (form_in c)) then (if get_or c 16 0 == 1 then None else Some 16) else Some 0) long
+    ∙ ap (λ (o : Option JournalForm). if (nat_le 18 (length bytes) && is_some o) then (if get_or c 16 0 == 1 then None else Some 16) else Some 0) (same_form bytes c same)
+    ∙ ap (λ (n : ℕ). if is_headed bytes then (if n == 1 then None else Some 16) else Some 0) gate
+  where
+    gate : get_or c 16 0 ≡ get_or bytes 16 0
+    gate = sym (get_or-take 17 c 16 0 (omega arith)) ∙ ap (λ (l : List ℕ). get_or l 16 0) same ∙ get_or-take 17 bytes 16 0 (omega arith)
+
+chosen_small : (f : JournalForm) (test : Bool) (o : Option JournalForm) → f.longest < 2 ^ 32 → option_map_or (λ g. g.longest) o 0 < 2 ^ 32 → option_map_or (λ g. g.longest) (cond test (Some f) o) 0 < 2 ^ 32
+chosen_small f true o own other = own
+chosen_small f false o own other = other
+
+found_small : (forms : List JournalForm) (test : JournalForm → Bool) → list_all is_counted forms ≡ true → option_map_or (λ f. f.longest) (find test forms) 0 < 2 ^ 32
+found_small [] test counted = omega arith
+found_small (f ∷ forms) test counted =
+    let both = and_parts (is_counted f) (list_all is_counted forms) counted in
+    chosen_small f (test f) (find test forms) (ltb-true f.longest (2 ^ 32) both.0) (found_small forms test both.1)
+
+pub longest_small : (bytes : List ℕ) → longest_in bytes < 2 ^ 32
+longest_small bytes = found_small FORMS (λ f. starts_with nat_eq bytes f.magic) refl
+
+pub longest_of : (bytes : List ℕ) (form : JournalForm) → form_in bytes ≡ Some form → longest_in bytes ≡ form.longest
+longest_of bytes form is = ap (λ (o : Option JournalForm). option_map_or (λ f. f.longest) o 0) is
+
+-- what is made is read in the form in which it is made
+pub made_form : (more : List ℕ) → form_in (magic ++ more) ≡ Some WRITTEN
+made_form more = refl
+
+-- no journal is read in another form
+chosen_one : (test : Bool) (f form : JournalForm) → cond test (Some f) None ≡ Some form → form ≡ f
+chosen_one true f form is = cc
+chosen_one false f form is = cc
+
+pub only_form : (bytes : List ℕ) (form : JournalForm) → form_in bytes ≡ Some form → form ≡ WRITTEN
+only_form bytes form is = chosen_one (starts_with nat_eq bytes WRITTEN.magic) WRITTEN form is
