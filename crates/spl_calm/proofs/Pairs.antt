@@ -10,6 +10,7 @@ use Rattle.spl_wire.specs.declared.plan.Outgoing.{Outgoing}
 use Rattle.spl_wire.specs.declared.plan.Plan.{Plan}
 use Rattle.spl_model.specs.Worlds.{Sent, World, on_pair, messages, posted, carried_out}
 use Rattle.spl_model.proofs.Nodes.{node_other}
+use Rattle.spl_model.proofs.Pairs.{on_pair-append}
 
 -- what goes to a node, in order
 abbrev pub to_node : NodeId → List Outgoing → List Message
@@ -22,14 +23,6 @@ to_node-append n (x ∷ xs) ys = go (bool_cases (bytes_eq x.to n)) (to_node-appe
   where
     go : (bytes_eq x.to n ≡ true) ⊎ (bytes_eq x.to n ≡ false) → to_node n (xs ++ ys) ≡ to_node n xs ++ to_node n ys → to_node n ((x ∷ xs) ++ ys) ≡ to_node n (x ∷ xs) ++ to_node n ys
     go (inl q) hyp = rw q (ap (λ z. x.message ∷ z) hyp)
-    go (inr q) hyp = rw q hyp
-
-pub on_pair-append : (x y : NodeId) (xs ys : List Sent) → on_pair x y (xs ++ ys) ≡ on_pair x y xs ++ on_pair x y ys
-on_pair-append x y [] ys = refl
-on_pair-append x y (s ∷ ss) ys = go (bool_cases (bytes_eq s.from x && bytes_eq s.to y)) (on_pair-append x y ss ys)
-  where
-    go : ((bytes_eq s.from x && bytes_eq s.to y) ≡ true) ⊎ ((bytes_eq s.from x && bytes_eq s.to y) ≡ false) → on_pair x y (ss ++ ys) ≡ on_pair x y ss ++ on_pair x y ys → on_pair x y ((s ∷ ss) ++ ys) ≡ on_pair x y (s ∷ ss) ++ on_pair x y ys
-    go (inl q) hyp = rw q (ap (λ z. s.message ∷ z) hyp)
     go (inr q) hyp = rw q hyp
 
 -- what a node posts to a registered one

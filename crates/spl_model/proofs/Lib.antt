@@ -3,3 +3,4 @@ pub mod Puts
 pub mod LinesAsOccurrences
 pub mod Unmoved
 pub mod Quiet
+pub mod Pairs

@@ -36,7 +36,6 @@ pub mod HoldingLines
 mod Ending
 mod EndingParts
 mod EndingLines
-mod Settles
 pub mod Linking
 mod LinkingParts
 mod LinkFaults

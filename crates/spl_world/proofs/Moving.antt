@@ -19,7 +19,7 @@ use Rattle.spl_world.proofs.Sends.{bool_cases}
 use Rattle.spl_world.proofs.Pairing.{changed, told_changed, view_else, view_here}
 use Rattle.spl_world.proofs.Slots.{same_at, id_at, same_ids, set_cases, apart}
 use Rattle.spl_world.proofs.Telling.{told_as}
-use Rattle.spl_calm.proofs.Pairs.{on_pair-append}
+use Rattle.spl_model.proofs.Pairs.{on_pair-append}
 use Rattle.spl_base.specs.Booleans.{bytes_are, bytes_same}
 
 -- ---- what is posted

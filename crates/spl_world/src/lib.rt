@@ -13,7 +13,6 @@ mod making;
 mod outbox;
 mod posts;
 mod power;
-mod settling;
 mod slot;
 mod step;
 mod stops;

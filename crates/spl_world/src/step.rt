@@ -2,12 +2,7 @@
 ghost use Rattle.std.specs.Prelude.{◌≡◌, ◌++◌, ◌∷◌, [], ℕ, ◌<◌, ◌≤◌, List, true, false, IsTrue, IfErr, IfOk, OnOk, OnErr, IsErrOf};
 ghost use Rattle.std.specs.List.{list_all};
 ghost use Rattle.spl_edge.specs.Views.{PairView, bench};
-ghost use Rattle.spl_calm.specs.Settled.{acts_kept, batches_kept, IsRunningAll, IsSettled, IsWhole};
 ghost use Rattle.spl_circuit.specs.Nodes.{CircuitId, NodeId as Id, has_node};
-ghost use Rattle.spl_circuit.specs.Rules.{admin, service};
-ghost use Rattle.spl_circuit.specs.declared.act.Act.{Act};
-ghost use Rattle.spl_circuit.specs.declared.definition.Definition.{Definition};
-ghost use Rattle.spl_command.specs.declared.batch.Batch.{Batch};
 ghost use Rattle.spl_model.specs.Projection.{Ran};
 ghost use Rattle.spl_model.specs.Outcomes.{by_rule};
 ghost use Rattle.spl_sched.specs.Grammar.{nodes_of, step_nodes, step_circuit, is_line, is_step};
@@ -153,18 +148,6 @@ impl World {
         ensures own { (n : Id) (slot at : ℕ) → line.now ≡ Line.Start n → IsErrOf result (WorldFault.NotAJournal slot at) → HasPlace self.old n slot }
         ensures running { OnOk result (is_halted self.new ≡ false) }
         ensures halted { OnErr result (is_halted self.new ≡ true) }
-        // A calm of six passes or more settles the first pending act, and the first pending batch, of a
-        // circuit whose members are all up, bound and open.
-        ensures settles_acts { (before : List Ran) (c : CircuitId) (k : ℕ) (d : Definition) (v : Act) (rest : List Act)
-            → Stands before self.old (images D.view pairs.old.items) → line.now ≡ Line.Calm c k → 6 ≤ k
-            → IsWhole (whole_world (blank (ids_of self.old)) c before) d
-            → (acts_kept (whole_world (blank (ids_of self.old)) c before) (admin d)).pending ≡ v ∷ rest
-            → OnOk result (IsSettled d (admin d) v (acts_kept (whole_world (blank (ids_of self.old)) c (before ++ by_rule line.now ∷ [])))) }
-        ensures settles_batches { (before : List Ran) (c : CircuitId) (k : ℕ) (d : Definition) (v : Batch) (rest : List Batch)
-            → Stands before self.old (images D.view pairs.old.items) → line.now ≡ Line.Calm c k → 6 ≤ k
-            → IsWhole (whole_world (blank (ids_of self.old)) c before) d → IsRunningAll (whole_world (blank (ids_of self.old)) c before) d
-            → (batches_kept (whole_world (blank (ids_of self.old)) c before) (service d)).pending ≡ v ∷ rest
-            → OnOk result (IsSettled d (service d) v (batches_kept (whole_world (blank (ids_of self.old)) c (before ++ by_rule line.now ∷ [])))) }
         // Where it ends with an error, the disks of all nodes hold what the nodes keep at one moment of the line, but for one node
         // where a disk failed or memory was wanting, and those of that node hold what it keeps at that moment or another.
         ensures ended { (before : List Ran) → Stands before self.old (images D.view pairs.old.items)
@@ -179,7 +162,6 @@ impl World {
             (link_view (C.view carrier.new) (F.view fabric.new)) }
         ensures faults { LeavesLinks result (link_view (C.view carrier.old) (F.view fabric.old)) (link_view (C.view carrier.new) (F.view fabric.new)) }
     {
-        self.calms_settle();
         let answered = self.run_line(alloc, pairs, carrier, fabric, line);
         self.events.are_within();
         let failed = answered.is_err();

@@ -1,13 +1,9 @@
 use Rattle.std.proofs.Common.{◌++◌, ◌∷◌, []}
-use Rattle.spl_calm.specs.Settled.{IsSettled, acts_kept, batches_kept}
-use Rattle.spl_circuit.specs.Rules.{admin, service}
-use Rattle.spl_model.specs.Worlds.{World as CircuitWorld}
 use Rattle.spl_model.specs.Outcomes.{by_rule}
 use Rattle.spl_world.specs.Disks.{images}
 use Rattle.spl_world.specs.Views.{ids_of}
 use Rattle.spl_world.proofs.HoldingLines.{failed_step, held_step, steps_none}
 use Rattle.spl_world.proofs.Results.{at_ok, ok_is, err_is}
-use Rattle.spl_world.proofs.Settles.{behind_calm}
 use Rattle.spl_world.proofs.Standing.{stands_still, within_line}
 use Rattle.spl_world.proofs.world.World.step.Goals as goal
 
@@ -32,13 +28,3 @@ pub returns-clause-failed : goal.returns-clause-failed
 returns-clause-failed g c = λ start before slot e held.
     failed_step g.D.Disk.view before c.args.line.now c.args.self.now c.run_line-answered.new.self c.args.pairs.now.items c.run_line-answered.new.pairs.items c.run_line-answered.ensures.ids c.run_line-answered.ensures.places
     c.run_line-answered.result start slot held c.run_line-answered.ensures.disks e (c.run_line-answered.ensures.place slot e)
-
-pub returns-clause-settles_acts : goal.returns-clause-settles_acts
-returns-clause-settles_acts g c = λ before k passes d v rest stands is six whole first.
-    behind_calm c.run_line-answered.result (λ (w : CircuitWorld). IsSettled d (admin d) v (acts_kept w)) (ids_of c.args.self.now) before c.args.line.now k passes is
-    (c.calms_settle.ensures.acts (images g.D.Disk.view c.args.pairs.now.items) before k passes d v rest stands six whole first)
-
-pub returns-clause-settles_batches : goal.returns-clause-settles_batches
-returns-clause-settles_batches g c = λ before k passes d v rest stands is six whole running first.
-    behind_calm c.run_line-answered.result (λ (w : CircuitWorld). IsSettled d (service d) v (batches_kept w)) (ids_of c.args.self.now) before c.args.line.now k passes is
-    (c.calms_settle.ensures.batches (images g.D.Disk.view c.args.pairs.now.items) before k passes d v rest stands six whole running first)
