@@ -36,6 +36,11 @@ generation_of (msg.DecisionRequest gen r) = gen
 generation_of (msg.Forward gen v) = gen
 generation_of (msg.Refused gen v reason) = gen
 
+-- what a change queues
+abbrev pub queued : {V : Type 0} → GroupChange V → Option V
+queued (change.Queue v) = Some v
+queued _ = None
+
 -- what an event asks: a submitted value isn't known, and fewer than the limit are pending; a message has the
 -- group's generation, and comes from another position
 abbrev pub IsDue : {V : Type 0} → Group V → ℕ → Member V → GroupEvent V → Type 0

@@ -1,4 +1,7 @@
 //! What happens at a member of a group, and what it gives.
+ghost use Rattle.std.specs.Prelude.{◌≡◌};
+ghost use Rattle.std.specs.Option.{option_copied};
+ghost use Rattle.spl_agree.specs.Fits.{queued};
 
 use crate::{CommitMsg, Reason, Round};
 
@@ -36,6 +39,18 @@ pub enum GroupChange<V> {
     Restore { next: Round, seen: Round },
     /// The value joins the refused ones of a member that has no more. No row gives it.
     Kept(V, Reason),
+}
+
+impl<V> GroupChange<V> {
+    /// What the change queues, if it queues.
+    pub fn queued(&self) -> Option<&V>
+        ensures { option_copied result ≡ queued self.now }
+    {
+        match self {
+            GroupChange::Queue(value) => Some(value),
+            _ => None,
+        }
+    }
 }
 
 /// A move of the open round, which no stop survives.

@@ -1,4 +1,6 @@
 //! What the members of a group tell one another.
+ghost use Rattle.std.specs.Prelude.{◌≡◌};
+ghost use Rattle.spl_agree.specs.Fits.{generation_of};
 
 use crate::{Generation, Place, Reason, Round};
 
@@ -40,4 +42,20 @@ pub enum CommitMsg<V> {
         value: V,
         reason: Reason,
     },
+}
+
+impl<V> CommitMsg<V> {
+    /// The generation that it comes with.
+    pub fn generation(&self) -> Generation
+        ensures { result ≡ generation_of self.now }
+    {
+        match self {
+            CommitMsg::VoteRequest { generation, .. } => *generation,
+            CommitMsg::Vote { generation, .. } => *generation,
+            CommitMsg::Decision { generation, .. } => *generation,
+            CommitMsg::DecisionRequest { generation, .. } => *generation,
+            CommitMsg::Forward { generation, .. } => *generation,
+            CommitMsg::Refused { generation, .. } => *generation,
+        }
+    }
 }

@@ -5,7 +5,7 @@ use Rattle.spl_agree.proofs.Tests.{and_right}
 use Rattle.spl_agree.specs.declared.event.GroupChange.{GroupChange}
 use Rattle.spl_agree.specs.declared.event.GroupChange.TheVariants as change
 use Rattle.spl_agree.specs.Member.{Rules, Member, known, changed}
-use Rattle.spl_agree.specs.Fits.{fits, any_value}
+use Rattle.spl_agree.specs.Fits.{fits, any_value, queued}
 use Rattle.spl_circuit.specs.declared.definition.Definition.{Definition}
 use Rattle.spl_circuit.specs.declared.act.Act.{Act}
 use Rattle.spl_agree.specs.declared.reason.Admit.TheVariants as admit
@@ -20,7 +20,7 @@ use Rattle.spl_command.specs.declared.batch.Batch.{Batch}
 use Rattle.spl_rules.specs.Cells.{Bound, Site, admin_group, service_group}
 use Rattle.spl_rules.specs.Changes.{turn_after}
 use Rattle.spl_cell.specs.Views.{HeldView, IsPlaced}
-use Rattle.spl_cell.specs.Mays.{may_be, queued}
+use Rattle.spl_cell.specs.Mays.{may_be}
 use Rattle.spl_cell.proofs.Seats.{seat_stays}
 
 three : (a b c : Bool) → (a && (b && c)) ≡ (c && (a && (b && true)))

@@ -1,16 +1,16 @@
 //! Durable changes of a cell.
 ghost use Rattle.std.specs.Prelude.{◌≡◌, ◌&&◌, true, if◌then◌else◌, IfOk, OnOk};
 ghost use Rattle.spl_agree.specs.Member.{changed};
-ghost use Rattle.spl_agree.specs.Fits.{fits as fits_group, any_value};
+ghost use Rattle.spl_agree.specs.Fits.{fits as fits_group, any_value, queued};
 ghost use Rattle.spl_circuit.specs.Acts.{act_rules};
 ghost use Rattle.spl_scabbard.specs.Checks.{batch_rules};
 ghost use Rattle.spl_rules.specs.Cells.{is_open, keeps_batches};
 ghost use Rattle.spl_rules.specs.Changes.{turn_after, may_queue, may_serve, may_keep, fits_free, free_after, applied_one, applied};
 ghost use Rattle.spl_cell.specs.States.{cell_of, IsAt};
-ghost use Rattle.spl_cell.specs.Mays.{may_be, queued};
+ghost use Rattle.spl_cell.specs.Mays.{may_be};
 ghost use Rattle.spl_cell.specs.Sites.{site_of};
 
-use crate::durable::{copy_change, queued};
+use crate::durable::copy_change;
 use crate::held::Held;
 use crate::site::Site;
 use crate::state::State;
@@ -32,7 +32,7 @@ fn may_serve(batch: &Batch) -> bool
 fn may_batch(change: &GroupChange<Batch>) -> bool
     ensures { result ≡ may_be may_serve (queued change.now) }
 {
-    match queued(change) {
+    match change.queued() {
         Some(batch) => may_serve(batch),
         None => true,
     }
@@ -82,7 +82,7 @@ impl Held {
     fn may_queue_by(&self, change: &GroupChange<Act>) -> bool
         ensures { result ≡ may_be (may_queue self.now.site.here self.now.bound.turn self.now.bound.acts.pending) (queued change.now) }
     {
-        match queued(change) {
+        match change.queued() {
             Some(act) => self.may_queue(act),
             None => true,
         }

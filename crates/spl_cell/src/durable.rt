@@ -1,8 +1,6 @@
 //! Changes of groups as changes of a cell.
 ghost use Rattle.std.specs.Prelude.{◌≡◌, ◌++◌, map, IfOk};
-ghost use Rattle.std.specs.Option.{option_copied};
 ghost use Rattle.spl_wire.specs.declared.change.Change.TheVariants as durable;
-ghost use Rattle.spl_cell.specs.Mays.{queued};
 
 use spl_agree::{GroupChange, GroupChanges};
 use spl_base::Value;
@@ -35,16 +33,6 @@ pub(crate) fn copy_change<V: Value>(
             seen: *seen,
         }),
         GroupChange::Kept(value, reason) => Ok(GroupChange::Kept(value.copy(alloc)?, *reason)),
-    }
-}
-
-/// What a change queues, if it queues.
-pub(crate) fn queued<V>(change: &GroupChange<V>) -> Option<&V>
-    ensures { option_copied result ≡ queued change.now }
-{
-    match change {
-        GroupChange::Queue(value) => Some(value),
-        _ => None,
     }
 }
 

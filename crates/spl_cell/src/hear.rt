@@ -15,35 +15,14 @@ ghost use Rattle.spl_cell.specs.Views.{IsSettledHeld};
 ghost use Rattle.spl_cell.specs.Sites.{site_of};
 
 use crate::held::Held;
-use crate::node::position;
 use crate::plans::{Say, refuses, tells_only};
 use crate::site::Site;
 use crate::state::State;
 use spl_agree::{CommitMsg, Generation, GroupEvent, GroupPlan, Note, Place, Reason, Round};
 use spl_base::{NodeId, Value};
-use spl_circuit::{Act, ActKind, Definition, RouteFault};
+use spl_circuit::{Act, ActKind, Definition};
 use spl_wire::{Answer, ChangeList, Message, Plan, Refusal};
 use std::alloc::{AllocError, Global};
-
-/// The coordinator can't bind the definition.
-const UNBOUND: Reason = Reason { code: 6, at: 0 };
-
-/// There is no way between services of a circuit that isn't bound.
-pub(crate) const NO_WAY: Refusal = Refusal::NotRouted(RouteFault::CircuitDoesNotExist);
-
-/// The generation of a message.
-pub(crate) fn generation_of<V>(body: &CommitMsg<V>) -> Generation
-    ensures { result ≡ generation_of body.now }
-{
-    match body {
-        CommitMsg::VoteRequest { generation, .. } => *generation,
-        CommitMsg::Vote { generation, .. } => *generation,
-        CommitMsg::Decision { generation, .. } => *generation,
-        CommitMsg::DecisionRequest { generation, .. } => *generation,
-        CommitMsg::Forward { generation, .. } => *generation,
-        CommitMsg::Refused { generation, .. } => *generation,
-    }
-}
 
 impl Held {
     /// What a message gives in the admin group.
@@ -69,7 +48,7 @@ impl Held {
         requires same { generation_of body.now ≡ self.now.bound.definition.generation }
         ensures { IfOk result (λ p. p ≡ planned self.now.site (Acts Delivered self.now.bound from.now (GroupEvent.From (position self.now.bound.definition.members from.now) body.now))) }
     {
-        let sender = position(self.definition().members.as_slice(), from);
+        let sender = self.definition().position(from);
         let plan = self.admin_heard(alloc, sender, body)?;
         let first = ChangeList::new(alloc);
         self.site.admin_plan(alloc, Say::Delivered, first, self.definition(), from, plan)
@@ -135,11 +114,11 @@ impl Site {
         let body = CommitMsg::Refused {
             generation,
             value: act.copy(alloc)?,
-            reason: UNBOUND,
+            reason: Reason::CANNOT_BIND,
         };
         let circuit = self.circuit;
         let refused = Message::Admin { circuit, body };
-        self.replies(alloc, Note::Returned(UNBOUND), from, refused)
+        self.replies(alloc, Note::Returned(Reason::CANNOT_BIND), from, refused)
     }
 
     /// Whether a request for a proposal can bind the definition.
@@ -194,7 +173,7 @@ impl Site {
             place,
             value: act.copy(alloc)?,
         };
-        let sender = position(terms.members.as_slice(), from);
+        let sender = terms.position(from);
         let event = GroupEvent::From { sender, message };
         self.binds(alloc, Say::Delivered, definition, from, &event)
     }
@@ -287,7 +266,7 @@ impl Site {
     {
         match message {
             Message::Admin { body, .. } => self.hears_first(alloc, state, from, body),
-            Message::Scabbard { .. } => Ok(refuses(alloc, NO_WAY)),
+            Message::Scabbard { .. } => Ok(refuses(alloc, Refusal::NO_WAY)),
         }
     }
 
@@ -309,7 +288,7 @@ impl Site {
         if !held.is_open() {
             return self.hears_first(alloc, state, from, body);
         }
-        if generation_of(body) != held.definition().generation {
+        if body.generation() != held.definition().generation {
             return self.hears_first(alloc, state, from, body);
         }
         held.hears(alloc, from, body)

@@ -12,7 +12,6 @@ ghost use Rattle.spl_cell.specs.Says.{say_of};
 ghost use Rattle.spl_cell.specs.Sites.{site_of};
 ghost use Rattle.spl_cell.specs.Views.{IsSettledHeld, IsSeated};
 
-use crate::node::position;
 use crate::plans::Say;
 use crate::site::Site;
 use spl_admin::Ledger;
@@ -64,10 +63,9 @@ pub(crate) fn first_acts(
 {
     let terms = definition.get();
     let generation = terms.generation;
-    let members = terms.members.as_slice();
-    let count = members.len() as u8;
-    let coordinator = position(members, &terms.admin_coordinator());
-    let here = position(members, here);
+    let count = terms.members.len() as u8;
+    let coordinator = terms.position(&terms.admin_coordinator());
+    let here = terms.position(here);
     let ledger = Ledger::new(alloc, definition);
     Member::new(alloc, ledger, generation, count, coordinator, here)
 }
@@ -81,10 +79,9 @@ fn first_batches(alloc: Global, here: &NodeId, definition: &Definition) -> Membe
     ensures fresh { result.state ≡ new_member }
     ensures seated { IsSeated (service_group definition.now) (position definition.now.members here.now) result }
 {
-    let members = definition.members.as_slice();
-    let count = members.len() as u8;
-    let coordinator = position(members, &definition.service_coordinator());
-    let here = position(members, here);
+    let count = definition.members.len() as u8;
+    let coordinator = definition.position(&definition.service_coordinator());
+    let here = definition.position(here);
     let service = Service::new(alloc);
     Member::new(
         alloc,

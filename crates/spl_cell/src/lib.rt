@@ -10,7 +10,6 @@ mod hear;
 mod held;
 mod leave;
 mod moves;
-mod node;
 mod pack;
 mod plan;
 mod plans;

@@ -7,7 +7,6 @@ ghost use Rattle.spl_cell.specs.States.{cell_of, IsAt};
 ghost use Rattle.spl_cell.specs.Sites.{site_of};
 
 use crate::batches::Question;
-use crate::hear::NO_WAY;
 use crate::plans::refuses;
 use crate::site::Site;
 use crate::state::State;
@@ -26,7 +25,7 @@ impl Site {
             Event::Deliver { from, message } => {
                 self.other_hears(alloc, state, from, message.get())
             }
-            Event::Route { .. } => Ok(refuses(alloc, NO_WAY)),
+            Event::Route { .. } => Ok(refuses(alloc, Refusal::NO_WAY)),
             _ => Ok(refuses(alloc, Refusal::NoCircuit)),
         }
     }

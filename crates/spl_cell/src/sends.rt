@@ -4,7 +4,6 @@ ghost use Rattle.spl_circuit.specs.Rules.{broken, is_member};
 ghost use Rattle.spl_rules.specs.Plans.{admin_lane, service_lane, service_on, group_sends};
 ghost use Rattle.spl_cell.specs.Sites.{site_of};
 
-use crate::node::node_or;
 use crate::site::Site;
 use spl_agree::{CommitMsg, GroupSends};
 use spl_base::{Boxed, NodeId, ServiceId};
@@ -43,7 +42,7 @@ impl Site {
         }
         let mut sends = first;
         for (position, body) in messages.into_vec() {
-            let to = node_or(definition.members.as_slice(), back, position);
+            let to = definition.member_or(back, position);
             let circuit = self.circuit;
             let message = Message::Admin { circuit, body };
             let message = Boxed::new(alloc, message)?;
@@ -97,7 +96,7 @@ impl Site {
         }
         let mut sends = first;
         for (position, body) in messages.into_vec() {
-            let to = node_or(definition.members.as_slice(), back, position);
+            let to = definition.member_or(back, position);
             sends.push(self.service_message(alloc, definition, to, body)?)?;
         }
         Ok(sends)

@@ -11,9 +11,7 @@ ghost use Rattle.spl_rules.specs.Plans.{service_lane, group_row, planned};
 ghost use Rattle.spl_cell.specs.Views.{IsSettledHeld};
 ghost use Rattle.spl_cell.specs.Sites.{site_of};
 
-use crate::hear::generation_of;
 use crate::held::Held;
-use crate::node::position;
 use crate::plans::{Say, refuses, tells_only};
 use crate::site::Site;
 use spl_agree::{CommitMsg, Generation, GroupEvent, GroupPlan, Note, Round};
@@ -132,7 +130,7 @@ impl Held {
         requires same { generation_of body.now ≡ self.now.bound.definition.generation }
         ensures { IfOk result (λ p. p ≡ planned self.now.site (Serves Delivered self.now.bound from_node.now (GroupEvent.From (position self.now.bound.definition.members from_node.now) body.now))) }
     {
-        let sender = position(self.definition().members.as_slice(), from_node);
+        let sender = self.definition().position(from_node);
         let plan = self.service_heard(alloc, sender, body)?;
         self.site
             .service_plan(alloc, Say::Delivered, self.definition(), from_node, plan)
@@ -152,7 +150,7 @@ impl Held {
         requires member { is_member self.now.bound.definition from_node.now ≡ true }
         ensures { IfOk result (λ p. p ≡ planned self.now.site (hears_routed self.now.site self.now.bound from_node.now from.now to.now body.now)) }
     {
-        if generation_of(body) != self.definition().generation {
+        if body.generation() != self.definition().generation {
             return self.site.serves_other(alloc, from_node, from, to, body);
         }
         self.hears_batch(alloc, from_node, body)

@@ -8,7 +8,7 @@ ghost use Rattle.spl_cell.specs.Views.{IsSettledHeld};
 
 use crate::held::Held;
 use crate::plans::{Say, refuses, tells_only};
-use spl_agree::{Agreed, GroupEvent};
+use spl_agree::{Agreed, GroupEvent, MOST_PENDING};
 use spl_base::Value;
 use spl_command::Batch;
 use spl_scabbard::Service;
@@ -22,7 +22,7 @@ impl Held {
         requires fresh { known batch_rules self.now.bound.batches batch.now ≡ None }
         ensures { IfOk result (λ p. p ≡ planned self.now.site (submits_new self.now.site self.now.bound batch.now)) }
     {
-        if self.batches_pending() == 64 {
+        if self.batches_pending() as usize == MOST_PENDING {
             return Ok(refuses(alloc, Refusal::QueueFull));
         }
         let event = GroupEvent::Submit(batch.copy(alloc)?);

@@ -1,5 +1,6 @@
 //! What a bound cell tells of itself.
 ghost use Rattle.std.specs.Prelude.{◌≡◌, ◌≤◌, length, is_some, IfOk};
+ghost use Rattle.spl_agree.specs.declared.limit.TheConstants.{MOST_PENDING};
 ghost use Rattle.spl_rules.specs.Cells.{Tells, shows, details};
 ghost use Rattle.spl_rules.specs.Plans.{planned};
 
@@ -15,7 +16,7 @@ use std::alloc::{AllocError, Global};
 #[tactic(auto, using(crate::proofs::Pendings::length_seconds))]
 fn pending_len<M: Agreed>(member: &Member<M>) -> u32
     ensures value { result ≡ length member.now.state.pending }
-    ensures few { length member.now.state.pending ≤ 64 }
+    ensures few { length member.now.state.pending ≤ MOST_PENDING }
 {
     let queue = member.queue();
     queue.keys_differ();
@@ -33,7 +34,7 @@ impl Held {
     /// How many acts are pending here.
     pub(crate) fn acts_pending(&self) -> u32
         ensures value { result ≡ length self.now.bound.acts.pending }
-        ensures few { length self.now.bound.acts.pending ≤ 64 }
+        ensures few { length self.now.bound.acts.pending ≤ MOST_PENDING }
     {
         pending_len(&self.acts)
     }
@@ -48,7 +49,7 @@ impl Held {
     /// How many batches are pending here.
     pub(crate) fn batches_pending(&self) -> u32
         ensures value { result ≡ length self.now.bound.batches.pending }
-        ensures few { length self.now.bound.batches.pending ≤ 64 }
+        ensures few { length self.now.bound.batches.pending ≤ MOST_PENDING }
     {
         pending_len(&self.batches)
     }

@@ -16,7 +16,7 @@ ghost use Rattle.spl_cell.specs.Views.{IsSettledHeld};
 use crate::held::Held;
 use crate::plans::{Say, refuses};
 use spl_admin::ActKey;
-use spl_agree::GroupEvent;
+use spl_agree::{GroupEvent, MOST_PENDING};
 use spl_base::NodeId;
 use spl_circuit::{Act, ActKind, Lifecycle};
 use spl_wire::{Plan, Refusal};
@@ -68,7 +68,7 @@ impl Held {
         if self.has_pending_of(&self.site.here) {
             return true;
         }
-        if self.acts_pending() == 64 {
+        if self.acts_pending() as usize == MOST_PENDING {
             return true;
         }
         if self.turn == u32::MAX {

@@ -3,3 +3,4 @@ pub mod Order
 pub mod Sorting
 pub mod Valid
 pub mod Lives
+mod Places

@@ -5,6 +5,7 @@ mod act;
 mod codec;
 mod definition;
 mod lifecycle;
+mod members;
 mod rules;
 mod values;
 

@@ -52,6 +52,11 @@ pub enum Refusal {
     VersionTooLow,
 }
 
+impl Refusal {
+    /// There is no way between services of a circuit that isn't bound.
+    pub const NO_WAY: Refusal = Refusal::NotRouted(RouteFault::CircuitDoesNotExist);
+}
+
 /// Where a batch stands at a node.
 #[derive(Clone, Copy, PartialEq, Eq)]
 pub enum BatchStatus {

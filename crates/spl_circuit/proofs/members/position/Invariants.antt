@@ -1,7 +1,7 @@
 use Rattle.std.proofs.Common.{◌≡◌, drop}
 use Rattle.spl_circuit.specs.Nodes.{position}
-use Rattle.spl_cell.proofs.Positions.{position_from}
-use Rattle.spl_cell.proofs.node.position.Given as goal
+use Rattle.spl_circuit.proofs.Places.{position_from}
+use Rattle.spl_circuit.proofs.members.position.Given as goal
 
 -- the position among what is left is that among all
 abbrev pub invariant-loop-i : goal.invariant-loop-i
