@@ -6,8 +6,6 @@ use Rattle.std.specs.Str.{bytes_eq}
 use Rattle.spl_agree.proofs.Tests.{if_holds, bool_cases, and_left, and_right}
 use Rattle.spl_circuit.specs.Nodes.{NodeId, CircuitId}
 use Rattle.spl_circuit.specs.Same.{node_is}
-use Rattle.spl_wire.specs.declared.answer.Answer.TheVariants as answer
-use Rattle.spl_wire.specs.declared.answer.Refusal.TheVariants as refusal
 use Rattle.spl_wire.specs.declared.event.Event.TheVariants as event
 use Rattle.spl_wire.specs.declared.plan.Plan.{Plan}
 use Rattle.spl_sched.specs.declared.line.Step.TheVariants as step
