@@ -14,6 +14,7 @@ ghost use Rattle.spl_journal.specs.Gate.{ByCalls, NamesOne, opened};
 ghost use Rattle.spl_journal.specs.Journals.{end_of, len_of, base_of, epoch_of, has_room, IsFilledBy};
 ghost use Rattle.spl_journal.specs.Make.{IsBlank};
 ghost use Rattle.spl_journal.specs.Records.{blocks, sized};
+ghost use Rattle.spl_journal.specs.declared.journal.TheConstants.{SLACK};
 ghost use Rattle.spl_journal.specs.Stops.{is_kept};
 ghost use Rattle.spl_snapshot.specs.Counting.{chosen, IfBoth, PairLeaves, PairLeavesInTurn, TellsAs, PairOnward, PairTellsAs, HasRisen};
 ghost use Rattle.spl_snapshot.specs.Pairs.{PairStands, is_second, journal_in};
@@ -195,7 +196,7 @@ impl Node {
 
         // Where the record leaves no room the other disk counts behind Ok, and none of its eight calls was one that it is armed for.
         ensures turned { OnOk result ((plan_of (site_at (here_of self.old) circuit.now) (cell_of self.old circuit.now) event.now).changes ≢ []
-            → 2 * base_of (journal_in self.old.pairing) + 65536 < len_of (journal_in self.old.pairing) + 5 + length
+            → 2 * base_of (journal_in self.old.pairing) + SLACK < len_of (journal_in self.old.pairing) + 5 + length
             (record_bytes (record_of circuit.now (plan_of (site_at (here_of self.old) circuit.now)
             (cell_of self.old circuit.now) event.now).changes)) → epoch_of (journal_in self.old.pairing) < 2 ^ 64 - 1
             → is_second self.new.pairing ≡ not (is_second self.old.pairing)) }
@@ -207,7 +208,7 @@ impl Node {
         ensures no_checkpoint { (plan_of (site_at (here_of self.old) circuit.now) (cell_of self.old circuit.now) event.now).changes ≢ []
             → len_of (journal_in self.old.pairing) + 5 + length
             (record_bytes (record_of circuit.now (plan_of (site_at (here_of self.old) circuit.now)
-            (cell_of self.old circuit.now) event.now).changes)) ≤ 2 * base_of (journal_in self.old.pairing) + 65536
+            (cell_of self.old circuit.now) event.now).changes)) ≤ 2 * base_of (journal_in self.old.pairing) + SLACK
             → (chosen (is_second self.old.pairing) disks.new.second disks.new.first ≡ chosen
             (is_second self.old.pairing) disks.old.second disks.old.first) × (is_second self.new.pairing ≡ is_second self.old.pairing) }
 
