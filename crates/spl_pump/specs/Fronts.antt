@@ -10,7 +10,8 @@ use Rattle.spl_registry.specs.Nodes.{Entry}
 use Rattle.spl_pump.specs.Wires.{Carried, frames_of, hand, have_met, is_between, is_on, message_frame, wire_from}
 
 frames_more : (sent later : List Carried) (a b : ℕ) → frames_of (sent ++ later) a b ≡ frames_of sent a b ++ frames_of later a b
-frames_more sent later a b = ap (flat_map message_frame) (filter-append (is_on a b) sent later) ∙ flat_map-append message_frame (filter (is_on a b) sent) (filter (is_on a b) later)
+frames_more sent later a b = ap (flat_map message_frame) (filter-append (is_on a b) sent later)
+    ∙ flat_map-append message_frame (filter (is_on a b) sent) (filter (is_on a b) later)
 
 -- between two nodes of which no message went to the other there is no frame of one
 no_frames : (sent : List Carried) (a b : ℕ) → list_any (is_between a b) sent ≡ false → frames_of sent a b ≡ []
@@ -21,12 +22,15 @@ no_frames (c ∷ cs) a b none =
     ap (λ (on : Bool). flat_map message_frame (cond on (c ∷ filter (is_on a b) cs) (filter (is_on a b) cs))) here ∙ no_frames cs a b these.1
 
 -- what two nodes put, by whether they have met, whether some messages went between them, and whether later ones do
-begins : (met some others : Bool) (hand own rest : List ℕ) → (some ≡ false → own ≡ []) → IsPrefixOf (cond met own (cond some hand [] ++ own)) (cond met (own ++ rest) (cond (some || others) hand [] ++ (own ++ rest)))
+begins : (met some others : Bool) (hand own rest : List ℕ) → (some ≡ false → own ≡ [])
+    → IsPrefixOf (cond met own (cond some hand [] ++ own)) (cond met (own ++ rest) (cond (some || others) hand [] ++ (own ++ rest)))
 begins true some others hand own rest none = (rest, refl)
 begins false true others hand own rest none = (rest, append_assoc hand own rest)
-begins false false others hand own rest none = (cond others hand [] ++ (own ++ rest), ap (λ (l : List ℕ). l ++ (cond others hand [] ++ (own ++ rest))) (none refl))
+begins false false others hand own rest none =
+    (cond others hand [] ++ (own ++ rest), ap (λ (l : List ℕ). l ++ (cond others hand [] ++ (own ++ rest))) (none refl))
 
-pub wire_front : (es : List Entry) (met : List (ℕ × ℕ)) (sent later : List Carried) (a b : ℕ) → IsPrefixOf (wire_from es met sent a b) (wire_from es met (sent ++ later) a b)
+pub wire_front : (es : List Entry) (met : List (ℕ × ℕ)) (sent later : List Carried) (a b : ℕ)
+    → IsPrefixOf (wire_from es met sent a b) (wire_from es met (sent ++ later) a b)
 wire_front es met sent later a b =
     subst (λ (any : Bool). IsPrefixOf (wire_from es met sent a b) (cond (have_met met (min a b) (max a b)) (frames_of (sent ++ later) a b) (cond any (hand es a b) [] ++ frames_of (sent ++ later) a b))) (sym (list_any-append (is_between a b) sent later))
     (subst (λ (frames : List ℕ). IsPrefixOf (wire_from es met sent a b) (cond (have_met met (min a b) (max a b)) frames (cond (list_any (is_between a b) sent || list_any (is_between a b) later) (hand es a b) [] ++ frames))) (sym (frames_more sent later a b))

@@ -42,4 +42,5 @@ IsFault (Lied sent got) = ⊥
 abbrev pub IsLie : ℕ → ℕ → List ℕ → Streams → Streams → Streams → Streams → PumpFault → Type 0
 IsLie from to frame put put' taken taken' Link = ⊤
 IsLie from to frame put put' taken taken' NoMemory = ⊤
-IsLie from to frame put put' taken taken' (Lied sent got) = (sent ≡ frame) × (sent ≢ got) × (length got ≡ length sent) × AreTaken (put' from to) (taken' from to) × Grows from to sent put put' × Grows from to got taken taken'
+IsLie from to frame put put' taken taken' (Lied sent got) = (sent ≡ frame) × (sent ≢ got) × (length got ≡ length sent)
+    × AreTaken (put' from to) (taken' from to) × Grows from to sent put put' × Grows from to got taken taken'

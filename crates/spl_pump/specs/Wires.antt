@@ -62,7 +62,8 @@ met_after met low high = if have_met met low high then met else met ++ (low, hig
 abbrev pub frames_of : List Carried → ℕ → ℕ → List ℕ
 frames_of sent a b = flat_map message_frame (filter (is_on a b) sent)
 
--- what messages put on the pair from a to b: a frame by which a names itself, where one went between the two, and the frames of those that went from a to b, in order
+-- what messages put on the pair from a to b: a frame by which a names itself, where one went between the two, and the
+-- frames of those that went from a to b, in order
 abbrev pub wire_of : List Entry → List Carried → ℕ → ℕ → List ℕ
 wire_of es sent a b = (if list_any (is_between a b) sent then hand es a b else []) ++ frames_of sent a b
 
@@ -97,7 +98,8 @@ Puts bytes old new = (a b : ℕ) → a < 256 → b < 256 → new a b ≡ append_
 
 -- on each pair a front of these
 abbrev pub PutsPart : (ℕ → ℕ → List ℕ) → Streams → Streams → Type 0
-PutsPart bytes old new = (a b : ℕ) → a < 256 → b < 256 → (done : List ℕ) × (more : List ℕ) × (bytes a b ≡ done ++ more) × (new a b ≡ append_known (old a b) done)
+PutsPart bytes old new = (a b : ℕ) → a < 256 → b < 256
+    → (done : List ℕ) × (more : List ℕ) × (bytes a b ≡ done ++ more) × (new a b ≡ append_known (old a b) done)
 
 -- the bytes put and taken are told
 abbrev pub AreTold : Streams → Streams → Type 0
@@ -111,7 +113,8 @@ Ends bytes known = IfSome known (λ k. (before : List ℕ) × (k ≡ before ++ b
 abbrev pub LiesOf : PumpFault → Streams → Streams → Type 0
 LiesOf Link put taken = ⊤
 LiesOf NoMemory put taken = ⊤
-LiesOf (Lied sent got) put taken = (sent ≢ got) × (length got ≡ length sent) × ((a : ℕ) × (b : ℕ) × AreTaken (put a b) (taken a b) × Ends sent (put a b) × Ends got (taken a b))
+LiesOf (Lied sent got) put taken = (sent ≢ got) × (length got ≡ length sent)
+    × ((a : ℕ) × (b : ℕ) × AreTaken (put a b) (taken a b) × Ends sent (put a b) × Ends got (taken a b))
 
 -- which pairs have met, the lower position first, and whether a fault was answered
 pub record Pumped : Type 0 where
