@@ -9,7 +9,7 @@ use Rattle.spl_circuit.specs.Nodes.{Node}
 use Rattle.spl_edge.specs.Causes.{Rose}
 use Rattle.spl_edge.specs.Views.{PairView, bench, SourceView, SinkView}
 use Rattle.spl_lines.specs.Given.{IsOverlong, IsUnfinished, had, run_of}
-use Rattle.spl_lines.specs.Lines.{limit, lines_of, longest_line, rest_of}
+use Rattle.spl_lines.specs.Lines.{IsShort, limit, lines_of, rest_of}
 use Rattle.spl_lines.specs.Tasks.{Task, ran_by}
 use Rattle.spl_lines.specs.Written.{IsWithin}
 use Rattle.spl_lines.proofs.Fed.{overlong_had}
@@ -90,7 +90,7 @@ no_bytes (Some i, Some j) told empty (inr some) = some empty.second
 no_bytes (None, second) told empty bytes = let no = told.0 in cc
 no_bytes (Some i, None) told empty bytes = let no = told.1 in cc
 
-allowed_short : (m : Mode) (ns : List Node) (line : List ℕ) → IsAllowed m ns line → length line ≤ longest_line
+allowed_short : (m : Mode) (ns : List Node) (line : List ℕ) → IsAllowed m ns line → IsShort line
 allowed_short Replay ns line good = good.0
 allowed_short (Gen n seed) ns line good = good.0
 allowed_short Links ns line good = good.good.0

@@ -5,7 +5,7 @@ use Rattle.std.specs.Io.KnownBytes.{Appends, IsAtEnd}
 use Rattle.spl_circuit.specs.Nodes.{Node}
 use Rattle.spl_edge.specs.Causes.{Rose}
 use Rattle.spl_lines.specs.Given.{run_of}
-use Rattle.spl_lines.specs.Lines.{limit, longest_line, rest_of}
+use Rattle.spl_lines.specs.Lines.{IsShort, limit, rest_of}
 use Rattle.spl_lines.specs.Written.{answers_behind, ran}
 use Rattle.spl_links.specs.Tasks.{nodes_in}
 use Rattle.spl_registry.specs.Nodes.{Entry}
@@ -41,10 +41,10 @@ module _ (es : List Entry) (x y : Devices) (as_many : length y.disks ≡ length 
     pub whole : IsSchedule ns text → IsAtEnd y.schedule.left → Comes status.Ok Replay plan x y
     whole good ended = comes_all Replay tt 0 none_first all_behind es all x y as_many status.Ok (run.lines, λ read. record { ended = ended; short = good.short; whole = good.whole }) all [] (sym (append-nil all)) run (λ r ran. ran) (λ old new bytes h. h) wrote held
 
-    pub unread : Rose x.schedule.faults y.schedule.faults → length text ≤ limit → length (rest_of text) ≤ longest_line → Comes status.ReadFault Replay plan x y
+    pub unread : Rose x.schedule.faults y.schedule.faults → length text ≤ limit → IsShort (rest_of text) → Comes status.ReadFault Replay plan x y
     unread rose short rest = comes_all Replay tt 0 none_first all_behind es all x y as_many status.ReadFault (refl, run.lines, rose, short, rest) all [] (sym (append-nil all)) run (λ r ran. ran) (λ old new bytes h. h) wrote held
 
-    pub long : limit < length text → length (rest_of (take limit text)) ≤ longest_line → Comes status.TooLong Replay plan x y
+    pub long : limit < length text → IsShort (rest_of (take limit text)) → Comes status.TooLong Replay plan x y
     long over rest = comes_all Replay tt 0 none_first all_behind es all x y as_many status.TooLong (refl, run.lines, over, rest) all [] (sym (append-nil all)) run (λ r ran. ran) (λ old new bytes h. h) wrote held
 
   module _ (n : ℕ) (wrote : Appends x.sink.written y.sink.written (answers_behind 0 ns (take (n - 1) all))) (held : AreHeld x.disks ns (ran (take (n - 1) all)) es y.disks) where

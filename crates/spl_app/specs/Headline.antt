@@ -10,7 +10,7 @@ use Rattle.spl_edge.specs.Fabrics.{IsHonest}
 use Rattle.spl_edge.specs.Views.{PairView, SourceView}
 use Rattle.spl_gen.specs.Circuits.{nodes as gen_nodes}
 use Rattle.spl_lines.specs.Given.{IsOverlong, IsUnfinished, run_of}
-use Rattle.spl_lines.specs.Lines.{limit, longest_line, rest_of}
+use Rattle.spl_lines.specs.Lines.{IsShort, limit, rest_of}
 use Rattle.spl_lines.specs.Tasks.{Task, answers_to, ran_by}
 use Rattle.spl_lines.specs.Written.{IsLine, IsWithin, said}
 use Rattle.spl_links.specs.Ends.{HoldBehind, PutsBetween}
@@ -152,8 +152,8 @@ pub record NothingDone (x y : Devices) : Type 0 where
 abbrev pub Why : Status → Mode → Plan → Devices → Devices → Type 0
 Why status.Ok m p x y = AreAllowed m p p.lines × (reads m ≡ true → IsWholeText (given x.schedule y.schedule) y.schedule.left)
 Why (status.BadSchedule n) m p x y = (reads m ≡ true) × AreAllowed m p (take (n - 1) p.lines) × (IsBadLine m p n ⊎ IsBadRest p (given x.schedule y.schedule) y.schedule.left n)
-Why status.ReadFault m p x y = (reads m ≡ true) × AreAllowed m p p.lines × Rose x.schedule.faults y.schedule.faults × (length (given x.schedule y.schedule) ≤ limit) × (length (rest_of (given x.schedule y.schedule)) ≤ longest_line)
-Why status.TooLong m p x y = (reads m ≡ true) × AreAllowed m p p.lines × (limit < length (given x.schedule y.schedule)) × (length (rest_of (take limit (given x.schedule y.schedule))) ≤ longest_line)
+Why status.ReadFault m p x y = (reads m ≡ true) × AreAllowed m p p.lines × Rose x.schedule.faults y.schedule.faults × (length (given x.schedule y.schedule) ≤ limit) × IsShort (rest_of (given x.schedule y.schedule))
+Why status.TooLong m p x y = (reads m ≡ true) × AreAllowed m p p.lines × (limit < length (given x.schedule y.schedule)) × IsShort (rest_of (take limit (given x.schedule y.schedule)))
 Why status.WriteFault m p x y = Rose x.sink.faults y.sink.faults
 Why (status.DiskFault node) m p x y = (k : ℕ) × (node_at p.nodes k ≡ Some node) × HasFailed m k x y
 Why status.LinkFault m p x y = (m ≡ Links) × Rose x.links.faults y.links.faults

@@ -7,7 +7,7 @@ ghost use Rattle.spl_edge.specs.Causes.{Rose, AppendsPart};
 ghost use Rattle.spl_edge.specs.Views.{PairView, bench};
 ghost use Rattle.spl_circuit.specs.Nodes.{sorted};
 ghost use Rattle.spl_registry.specs.Nodes.{ids_of as registered};
-ghost use Rattle.spl_lines.specs.Lines.{rest_of, longest_line, limit};
+ghost use Rattle.spl_lines.specs.Lines.{IsShort, rest_of, limit};
 ghost use Rattle.spl_lines.specs.Due.{IsDue, IsDuePart};
 ghost use Rattle.spl_lines.specs.Written.{IsLine, IsRunnable, IsWithin, said, ran, shown, answers_behind};
 ghost use Rattle.spl_lines.specs.Given.{run_of};
@@ -285,9 +285,9 @@ impl Run {
             (appended_bytes (S.view source.old).gave (S.view source.new).gave) × IsAtEnd (S.view source.new).left) }
         ensures read { IfOk result (λ end. end ≡ RunEnd.Read → Rose (S.view source.old).faults (S.view source.new).faults
             × (length (appended_bytes (S.view source.old).gave (S.view source.new).gave) ≤ limit)
-            × (length (rest_of (appended_bytes (S.view source.old).gave (S.view source.new).gave)) ≤ longest_line)) }
+            × IsShort (rest_of (appended_bytes (S.view source.old).gave (S.view source.new).gave))) }
         ensures long { IfOk result (λ end. end ≡ RunEnd.TooLong → (limit < length (appended_bytes (S.view source.old).gave (S.view source.new).gave))
-            × (length (rest_of (take limit (appended_bytes (S.view source.old).gave (S.view source.new).gave))) ≤ longest_line)) }
+            × IsShort (rest_of (take limit (appended_bytes (S.view source.old).gave (S.view source.new).gave)))) }
         ensures bad { (number : ℕ) → IsErrOf result (RunFault.BadLine number)
             → IsBadAt self.old.nodes.items (appended_bytes (S.view source.old).gave (S.view source.new).gave) (S.view source.new).left number
             × IsDue (W.view out.old).written (W.view out.new).written self.new.output
@@ -394,9 +394,9 @@ pub fn run_lines<S: Source, W: Sink, D: StopDisk>(
         (appended_bytes (S.view source.old).gave (S.view source.new).gave) × IsAtEnd (S.view source.new).left) }
     ensures read { IfOk result (λ end. end ≡ RunEnd.Read → Rose (S.view source.old).faults (S.view source.new).faults
         × (length (appended_bytes (S.view source.old).gave (S.view source.new).gave) ≤ limit)
-        × (length (rest_of (appended_bytes (S.view source.old).gave (S.view source.new).gave)) ≤ longest_line)) }
+        × IsShort (rest_of (appended_bytes (S.view source.old).gave (S.view source.new).gave))) }
     ensures long { IfOk result (λ end. end ≡ RunEnd.TooLong → (limit < length (appended_bytes (S.view source.old).gave (S.view source.new).gave))
-        × (length (rest_of (take limit (appended_bytes (S.view source.old).gave (S.view source.new).gave))) ≤ longest_line)) }
+        × IsShort (rest_of (take limit (appended_bytes (S.view source.old).gave (S.view source.new).gave)))) }
 
     // The first line that a schedule may not have.
     ensures bad { (number : ℕ) → IsErrOf result (RunFault.BadLine number)

@@ -11,10 +11,11 @@ use Rattle.std.specs.List.{AllByRecursion, position, position_or_len}
 use Rattle.std.specs.Io.{appended_bytes}
 use Rattle.std.specs.Io.KnownBytes.{Consumes, IsAtEnd}
 use Rattle.spl_lines.specs.declared.feed.Feed.{Feed}
-use Rattle.spl_lines.specs.Lines.{lines_of, onto_line, has_feed, rest_of, limit, longest_line}
+use Rattle.spl_lines.specs.Lines.{IsLong, IsShort, lines_of, onto_line, has_feed, rest_of, limit, longest_line}
 use Rattle.spl_lines.specs.Given.{IsOverlong, IsUnfinished, had}
 use Rattle.spl_lines.specs.Feed.{IsFed, Feeds, waiting, count_of}
 use Rattle.spl_lines.proofs.Given.{limit_is}
+use Rattle.spl_lines.proofs.Longest.{long_more}
 use Rattle.spl_lines.proofs.Feeds.{NoFeed, NoFeed_more, no_feed, lines-other, lines_none, lines_first, rest_none, split_at}
 
 -- ---- where a line feed is, and where none
@@ -166,6 +167,10 @@ put_waits old new piece start within taken front is least =
     let kept : take within piece ≡ take (limit - taken) piece = rw (least, limit_is) (take-min (67108864 - taken) piece) in
     rw (front, is, kept) refl
 
+-- where no more bytes came, the same waits
+pub waits_still : (old new more : List ℕ) (n : ℕ) → new ≡ old ++ take n more → more ≡ [] → new ≡ old
+waits_still old new more n waits none = waits ∙ ap (λ (l : List ℕ). old ++ take n l) none ∙ ap (λ (l : List ℕ). old ++ l) (take_all n [] (omega arith)) ∙ append-nil old
+
 pub no_bytes : (bytes : List ℕ) → length bytes ≡ 0 → bytes ≡ []
 no_bytes [] none = refl
 no_bytes (b ∷ bytes) none = absurd (omega arith)
@@ -272,11 +277,11 @@ module _ (before : List ℕ) (had : Option (List ℕ)) (lines : List (List ℕ))
     pub rest_waits : rest_of (take limit (appended_bytes before taken)) ≡ waiting feed
     rest_waits = feeds.fed.behind ∙ rest_none (waiting feed) (free (waiting feed) none)
 
-    pub is_overlong : longest_line < length (waiting feed) → IsOverlong (appended_bytes before taken)
-    is_overlong over = record { over = omega (arith, ap length rest_waits) }
+    pub is_overlong : IsLong (waiting feed) → IsOverlong (appended_bytes before taken)
+    is_overlong over = record { over = subst IsLong (sym rest_waits) over }
 
-    pub is_long : (limit < count_of feed) × (length (waiting feed) ≤ longest_line) → (limit < length (appended_bytes before taken)) × (length (rest_of (take limit (appended_bytes before taken))) ≤ longest_line)
-    is_long long = (omega (arith, feeds.fed.counted, long.0), omega (arith, ap length rest_waits, long.1))
+    pub is_long : (limit < count_of feed) × IsShort (waiting feed) → (limit < length (appended_bytes before taken)) × IsShort (rest_of (take limit (appended_bytes before taken)))
+    is_long long = (omega (arith, feeds.fed.counted, long.0), subst IsShort (sym rest_waits) long.1)
 
     -- the source gave no more than the limit
     module _ (few : count_of feed ≤ limit) where
@@ -293,8 +298,8 @@ module _ (before : List ℕ) (had : Option (List ℕ)) (lines : List (List ℕ))
       rest_given = ap rest_of (sym whole) ∙ rest_waits
 
       -- the line that waits isn't too long so far
-      pub rest_short : length (waiting feed) ≤ longest_line → length (rest_of (appended_bytes before taken)) ≤ longest_line
-      rest_short short = omega (arith, ap length rest_given, short)
+      pub rest_short : IsShort (waiting feed) → IsShort (rest_of (appended_bytes before taken))
+      rest_short short = subst IsShort (sym rest_given) short
 
       -- and its last line lacks its line feed
       pub unfinished : IsAtEnd left → waiting feed ≢ [] → IsUnfinished (appended_bytes before taken) left
@@ -325,26 +330,30 @@ rest_free bytes = ⊎_elim
     (λ (last : HasLast bytes). subst NoFeed (sym (ap rest_of last.is ∙ rest_feed last.front last.rest ∙ rest_none last.rest last.none)) last.none)
     (parts bytes)
 
-module _ (P : List ℕ → Type 0) (short : (line : List ℕ) → P line → length line ≤ longest_line) where
+module _ (P : List ℕ → Type 0) (short : (line : List ℕ) → P line → IsShort line) where
   all_behind : (xs ys : List (List ℕ)) → AllByRecursion P (xs ++ ys) → AllByRecursion P ys
   all_behind [] ys all = all
   all_behind (x ∷ xs) ys all = all_behind xs ys all.1
 
-  first_short : (wait more : List ℕ) → NoFeed wait → longest_line < length wait → rest_of (wait ++ more) ≡ [] → AllByRecursion P (lines_of (wait ++ more)) → ⊥
+  first_short : (wait more : List ℕ) → NoFeed wait → IsLong wait → rest_of (wait ++ more) ≡ [] → AllByRecursion P (lines_of (wait ++ more)) → ⊥
   first_short wait more none over whole all = ⊎_elim
-      (λ (free : NoFeed more). let same = rest_none (wait ++ more) (NoFeed-append wait more none free) in omega (arith, ap length (sym same ∙ whole), length-append wait more))
+      (λ (free : NoFeed more).
+      let same = rest_none (wait ++ more) (NoFeed-append wait more none free) in
+      let long : longest_line wait < length wait = over in
+      omega (arith, long, ap length (sym same ∙ whole), length-append wait more))
       (λ (first : HasFirst more).
       let is : wait ++ more ≡ (wait ++ first.front) ++ 10 ∷ first.rest = ap (λ (l : List ℕ). wait ++ l) first.is ∙ sym (append_assoc wait first.front (10 ∷ first.rest)) in
       let lines = ap lines_of is ∙ lines_first (wait ++ first.front) first.rest (NoFeed-append wait first.front none first.none) in
       let found = subst (AllByRecursion P) lines all in
-      let less : length (wait ++ first.front) ≤ longest_line = short (wait ++ first.front) found.0 in
-      omega (arith, length-append wait first.front))
+      let less : length (wait ++ first.front) ≤ longest_line wait = subst (λ (n : ℕ). length (wait ++ first.front) ≤ n) (long_more wait first.front over) (short (wait ++ first.front) found.0) in
+      let long : longest_line wait < length wait = over in
+      omega (arith, long, less, length-append wait first.front))
       (first_feed more)
 
   pub overlong_text : (given more : List ℕ) → IsOverlong given → length (given ++ more) ≤ limit → rest_of (given ++ more) ≡ [] → AllByRecursion P (lines_of (given ++ more)) → ⊥
   overlong_text given more long few whole all =
       let same : take limit given ≡ given = take_all limit given (omega (arith, length-append given more)) in
-      first_short (rest_of given) more (rest_free given) (omega (arith, long.over, ap (λ (l : List ℕ). length (rest_of l)) same))
+      first_short (rest_of given) more (rest_free given) (subst (λ (l : List ℕ). IsLong (rest_of l)) same long.over)
       (sym (rest-append given more) ∙ whole)
       (all_behind (lines_of given) (lines_of (rest_of given ++ more)) (subst (AllByRecursion P) (lines-append given more) all))
 

@@ -3,6 +3,7 @@ pub mod Fed
 pub mod Feeds
 pub mod Fits
 pub mod Given
+pub mod Longest
 pub mod Outputs
 pub mod Results
 pub mod Texts

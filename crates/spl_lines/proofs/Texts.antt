@@ -1,9 +1,10 @@
 -- A text that is made of lines, each with its line feed.
-use Rattle.std.proofs.Common.{◌≡◌, ◌≢◌, ◌≤◌, ◌*◌, ℕ, not, ◌==◌, length, length-append, List, [], ◌∷◌, ◌++◌, map, IsTrue, refl, ◌∙◌, ap, arith, append_assoc}
+use Rattle.std.proofs.Common.{◌≡◌, ◌≢◌, ◌≤◌, ◌+◌, ◌*◌, ℕ, not, ◌==◌, length, length-append, List, [], ◌∷◌, ◌++◌, map, IsTrue, refl, ◌∙◌, ap, arith, append_assoc}
 use Rattle.std.specs.Prelude.{nat_le}
 use Rattle.std.specs.List.{list_all, flat_map}
 use Rattle.std.proofs.lemmas.Bool.{and_parts, leb-true}
 use Rattle.std.proofs.lemmas.Bool.Decides.{nat_tests}
+use Rattle.spl_base.specs.declared.limit.TheConstants.{LONGEST_LINE}
 use Rattle.spl_lines.specs.Lines.{lines_of, rest_of}
 use Rattle.spl_lines.proofs.Feeds.{NoFeed, lines_first}
 use Rattle.spl_lines.proofs.Fed.{rest_feed}
@@ -34,10 +35,10 @@ module _ {A : Type 0} (f : A → List ℕ) where
       ap rest_of (append_assoc (f x) (10 ∷ []) rest) ∙ rest_feed (f x) rest ∙ rest_text xs
 
   -- it is short where they are
-  pub short_text : (xs : List A) → IsTrue (list_all (λ x. nat_le (length (f x)) 2048) xs) → length (flat_map (λ x. f x ++ 10 ∷ []) xs) ≤ 2049 * length xs
+  pub short_text : (xs : List A) → IsTrue (list_all (λ x. nat_le (length (f x)) LONGEST_LINE) xs) → length (flat_map (λ x. f x ++ 10 ∷ []) xs) ≤ (LONGEST_LINE + 1) * length xs
   short_text [] test = omega arith
   short_text (x ∷ xs) test =
-      let both = and_parts (nat_le (length (f x)) 2048) (list_all (λ x. nat_le (length (f x)) 2048) xs) test in
-      let size : length (f x) ≤ 2048 = leb-true (length (f x)) 2048 both.0 in
+      let both = and_parts (nat_le (length (f x)) LONGEST_LINE) (list_all (λ x. nat_le (length (f x)) LONGEST_LINE) xs) test in
+      let size : length (f x) ≤ LONGEST_LINE = leb-true (length (f x)) LONGEST_LINE both.0 in
       let rest = short_text xs both.1 in
       omega (arith, size, rest, length-append (f x ++ 10 ∷ []) (flat_map (λ x. f x ++ 10 ∷ []) xs), length-append (f x) (10 ∷ []))

@@ -1,7 +1,7 @@
 -- The bytes that a source gave of a schedule (docs/RULES.md, Schedules).
-use Rattle.std.specs.Prelude.{◌≢◌, ◌≤◌, ◌<◌, ℕ, List, [], length, take, Option, None, Some}
+use Rattle.std.specs.Prelude.{◌≢◌, ◌≤◌, ℕ, List, [], length, take, Option, None, Some}
 use Rattle.std.specs.Io.KnownBytes.{IsAtEnd}
-use Rattle.spl_lines.specs.Lines.{lines_of, rest_of, longest_line, limit}
+use Rattle.spl_lines.specs.Lines.{IsLong, lines_of, rest_of, limit}
 
 -- the lines that are run of the bytes given
 abbrev pub run_of : List ℕ → List (List ℕ)
@@ -20,4 +20,4 @@ pub record IsUnfinished (given : List ℕ) (left : Option (List ℕ)) : Type 0 w
 
 -- a line is too long already: its line feed didn't come within the limit
 pub record IsOverlong (given : List ℕ) : Type 0 where
-  pub over : longest_line < length (rest_of (take limit given))
+  pub over : IsLong (rest_of (take limit given))

@@ -11,7 +11,7 @@ use Rattle.spl_model.specs.Answers.{answer_to}
 use Rattle.spl_model.specs.Counts.{events_of, stops_of}
 use Rattle.spl_model.specs.declared.TheConstants.{MOST_EVENTS, MOST_STOPS}
 use Rattle.spl_answer.specs.Texts.{text}
-use Rattle.spl_lines.specs.Lines.{is_silent, longest_line}
+use Rattle.spl_lines.specs.Lines.{IsShort, is_silent}
 
 -- the line names no other node than these
 abbrev pub IsAdmitted : List Node → Line → Type 0
@@ -24,7 +24,7 @@ pub record IsRunnable (ns : List Node) (l : Line) : Type 0 where
 
 -- a line that a schedule over these nodes may have
 abbrev pub IsLine : List Node → List ℕ → Type 0
-IsLine ns line = (length line ≤ longest_line) × (IsTrue (is_silent line) ⊎ IsSomeAnd (line_of line) (IsAdmitted ns))
+IsLine ns line = IsShort line × (IsTrue (is_silent line) ⊎ IsSomeAnd (line_of line) (IsAdmitted ns))
 
 -- what is run of a line
 abbrev pub said : List ℕ → Option Line

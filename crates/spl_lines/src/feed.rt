@@ -4,16 +4,14 @@ ghost use Rattle.std.specs.List.{position};
 ghost use Rattle.std.specs.Io.{appended_bytes};
 ghost use Rattle.std.specs.Io.KnownBytes.{Consumes, IsAtEnd};
 ghost use Rattle.spl_edge.specs.Causes.{HasCause, Rose};
-ghost use Rattle.spl_lines.specs.Lines.{has_feed, limit, longest_line};
-ghost use Rattle.spl_lines.specs.declared.lines.TheConstants.{LONGEST_LINE, MOST_BYTES};
-ghost use Rattle.spl_lines.specs.declared.feed.TheConstants.{PIECE};
+ghost use Rattle.spl_edge.specs.declared.fabric.TheConstants.{PIECE};
+ghost use Rattle.spl_lines.specs.Lines.{IsLong, IsShort, greatest_line, has_feed, limit};
+ghost use Rattle.spl_lines.specs.declared.lines.TheConstants.{MOST_BYTES};
 
-use crate::lines::{LONGEST_LINE, MOST_BYTES};
-use spl_edge::{DeviceError, Source};
+use crate::lines::{MOST_BYTES, longest_line};
+use spl_base::LONGEST_LINE;
+use spl_edge::{DeviceError, PIECE, Source};
 use std::alloc::{AllocError, Global};
-
-/// The most bytes that are read at once.
-const PIECE: usize = 4096;
 
 /// Why there is no next line.
 #[derive(Clone, Copy, PartialEq, Eq)]
@@ -43,8 +41,7 @@ pub struct Feed {
     ghost line: { from ≤ to },
     ghost order: { to ≤ start },
     ghost within: { start ≤ vec_len buffer },
-    ghost room: { LONGEST_LINE + PIECE ≤ vec_capacity buffer },
-    ghost small: { vec_len buffer ≤ LONGEST_LINE + PIECE },
+    ghost small: { vec_len buffer ≤ greatest_line + PIECE },
     ghost few: { taken ≤ MOST_BYTES + PIECE },
 }
 
@@ -58,7 +55,7 @@ fn place_of_feed(bytes: &[u8]) -> Option<usize>
 impl Feed {
     ghost use Rattle.spl_lines.specs.Feed.{Feeds, count_of, has_line, last_line, waiting};
 
-    /// A feed that has read nothing. It takes all its memory here.
+    /// A feed that has read nothing. It takes all its memory here, but for lines of more than `LONGEST_LINE` bytes.
     pub fn new(alloc: Global) -> Result<Feed, AllocError>
         ensures { IfOk result (λ feed. (before : List ℕ) → (left : Option (List ℕ)) → Feeds before left [] before left feed) }
     {
@@ -83,6 +80,27 @@ impl Feed {
         ensures { result ≡ length (waiting self.now) }
     {
         self.buffer.len() - self.start
+    }
+
+    // The bytes that wait.
+    #[tactic(auto, using(std::proofs::lemmas::List::take_rest))]
+    fn waiting(&self) -> &[u8]
+        ensures { result.now ≡ waiting self.now }
+    {
+        &self.buffer[self.start..]
+    }
+
+    // Whether the line that waits is longer than it may be.
+    #[tactic(auto, using(crate::proofs::Longest::short_line))]
+    fn is_overlong(&self) -> bool
+        ensures long { result ≡ true → IsLong (waiting self.now) }
+        ensures short { result ≡ false → IsShort (waiting self.now) }
+    {
+        let wait = self.waiting();
+        if wait.len() <= LONGEST_LINE {
+            return false;
+        }
+        wait.len() > longest_line(wait)
     }
 
     // Takes the first line that waits, where one does. The first bytes that wait, so many, have no line feed.
@@ -120,11 +138,13 @@ impl Feed {
     }
 
     // Keeps what is within the limit, and counts all.
+    #[tactic(auto, using(crate::proofs::Longest::short_greatest))]
     fn put(&mut self, piece: &[u8])
-        requires room { length (waiting self.old) ≤ longest_line }
+        requires short { IsShort (waiting self.old) }
+        requires room { vec_len self.old.buffer + PIECE ≤ vec_capacity self.old.buffer }
         requires front { self.old.start ≡ 0 }
         requires within { count_of self.old ≤ limit }
-        requires short { length piece.now ≤ PIECE }
+        requires piece { length piece.now ≤ PIECE }
         ensures waits { waiting self.new ≡ waiting self.old ++ take (limit - count_of self.old) piece.now }
         ensures count { count_of self.new ≡ count_of self.old + length piece.now }
     {
@@ -135,7 +155,7 @@ impl Feed {
 
     // Reads a piece, and tells how long it is.
     fn fill<S: Source>(&mut self, source: &mut S) -> Result<usize, DeviceError>
-        requires room { length (waiting self.old) ≤ longest_line }
+        requires short { IsShort (waiting self.old) }
         requires within { count_of self.old ≤ limit }
         ensures taken { (S.view source.new).gave ≡ (S.view source.old).gave ++ appended_bytes (S.view source.old).gave (S.view source.new).gave }
         ensures left { Consumes (S.view source.old).left (S.view source.new).left (appended_bytes (S.view source.old).gave (S.view source.new).gave) }
@@ -149,6 +169,7 @@ impl Feed {
     {
         let mut piece = [0u8; PIECE];
         self.shift();
+        self.buffer.try_reserve(PIECE)?;
         let count = match source.read(&mut piece) {
             Ok(count) => count,
             Err(fault) => return Err(fault),
@@ -171,10 +192,10 @@ impl Feed {
         ensures none { has_line result ≡ false → has_feed (waiting self.new) ≡ false }
         ensures end { IfOk result (λ more. more ≡ false → IsAtEnd (S.view source.new).left × (count_of self.new ≤ limit) × (waiting self.new ≡ [])) }
         ensures unfinished { IsErrOf result FeedFault.Unfinished → IsAtEnd (S.view source.new).left × (count_of self.new ≤ limit) × (waiting self.new ≢ []) }
-        ensures over { IsErrOf result FeedFault.Overlong → longest_line < length (waiting self.new) }
-        ensures long { IsErrOf result FeedFault.TooLong → (limit < count_of self.new) × (length (waiting self.new) ≤ longest_line) }
+        ensures over { IsErrOf result FeedFault.Overlong → IsLong (waiting self.new) }
+        ensures long { IsErrOf result FeedFault.TooLong → (limit < count_of self.new) × IsShort (waiting self.new) }
         ensures read { IsErrOf result FeedFault.Read → Rose (S.view source.old).faults (S.view source.new).faults × (count_of self.new ≤ limit)
-            × (length (waiting self.new) ≤ longest_line) }
+            × IsShort (waiting self.new) }
         ensures later { (S.view source.old).faults ≤ (S.view source.new).faults }
     {
         let mut seen = 0;
@@ -183,7 +204,7 @@ impl Feed {
                 return Ok(true);
             }
             seen = self.wait();
-            if seen > LONGEST_LINE {
+            if self.is_overlong() {
                 return Err(FeedFault::Overlong);
             }
             if self.taken > MOST_BYTES {

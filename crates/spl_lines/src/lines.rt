@@ -1,12 +1,18 @@
 //! The lines of a text, and the limits of a source.
 ghost use Rattle.std.specs.Prelude.{◌≡◌};
-ghost use Rattle.spl_lines.specs.Lines.{is_silent};
+ghost use Rattle.spl_lines.specs.Lines.{is_silent, longest_line};
 
-/// The most bytes that a line may have.
-pub const LONGEST_LINE: usize = 2048;
+use spl_base::LONGEST_LINE;
 
 /// The most bytes that a source may give.
 pub const MOST_BYTES: usize = 67_108_864;
+
+/// The most bytes that a line may have which begins like this one; no kind of lines has a limit of its own.
+pub fn longest_line(line: &[u8]) -> usize
+    ensures { result ≡ longest_line line.now }
+{
+    LONGEST_LINE
+}
 
 /// Whether the line is empty or a comment.
 pub fn is_silent(line: &[u8]) -> bool

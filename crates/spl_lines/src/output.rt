@@ -6,7 +6,7 @@ ghost use Rattle.spl_lines.specs.Due.{IsDue, IsDuePart};
 ghost use Rattle.spl_lines.specs.Written.{printed, shown};
 
 use itoa::Buffer;
-use spl_edge::{DeviceError, Sink, write_all};
+use spl_edge::{DeviceError, PIECE, Sink, write_all};
 use std::alloc::{AllocError, Global};
 use std::marker::Model;
 
@@ -23,9 +23,6 @@ impl Model for Output {
 
     ghost view = { λ o. o.waiting.items };
 }
-
-// The most bytes that wait, where no answer is longer.
-const PIECE: usize = 4096;
 
 impl Output {
     /// Nothing waits yet.

@@ -2,7 +2,7 @@
 ghost use Rattle.std.specs.Prelude.{◌≡◌, IfOk, IfSome, OnOk, IsErrOf};
 ghost use Rattle.spl_lines.specs.Written.{IsLine, IsRunnable, said};
 
-use crate::lines::{LONGEST_LINE, is_silent};
+use crate::lines::{is_silent, longest_line};
 use spl_base::NodeId;
 use spl_sched::{Line, LineFault, read_line};
 use std::alloc::Global;
@@ -20,7 +20,7 @@ pub fn read_admitted(
     ensures known { IfOk result (λ o. IfSome o (IsRunnable nodes.now)) }
     ensures bad { IsErrOf result LineFault.BadLine → IsLine nodes.now line.now → ⊥ }
 {
-    if line.len() > LONGEST_LINE {
+    if line.len() > longest_line(line) {
         return Err(LineFault::BadLine);
     }
     if is_silent(line) {

@@ -5,7 +5,7 @@ ghost use Rattle.std.specs.Io.KnownBytes.{Consumes, IsAtEnd};
 ghost use Rattle.spl_edge.specs.Causes.{Rose};
 ghost use Rattle.spl_edge.specs.Views.{bench};
 ghost use Rattle.spl_lines.specs.Given.{run_of};
-ghost use Rattle.spl_lines.specs.Lines.{limit, longest_line, rest_of};
+ghost use Rattle.spl_lines.specs.Lines.{IsShort, limit, rest_of};
 ghost use Rattle.spl_world.specs.Disks.{AllTell, AreBlank, images, images_at};
 ghost use Rattle.spl_world.specs.Held.{AllUnpicked};
 ghost use Rattle.spl_world.specs.Links.{link_view};
@@ -55,9 +55,9 @@ pub fn run_linked<S: Source, W: Sink, D: Disk, C: Carry, F: Fabric>(
         × (length (appended_bytes (S.view source.old).gave (S.view source.new).gave) ≤ limit) × IsAtEnd (S.view source.new).left) }
     ensures read { IfOk result (λ end. end ≡ LinkedEnd.Read → Rose (S.view source.old).faults (S.view source.new).faults
         × (length (appended_bytes (S.view source.old).gave (S.view source.new).gave) ≤ limit)
-        × (length (rest_of (appended_bytes (S.view source.old).gave (S.view source.new).gave)) ≤ longest_line)) }
+        × IsShort (rest_of (appended_bytes (S.view source.old).gave (S.view source.new).gave))) }
     ensures long { IfOk result (λ end. end ≡ LinkedEnd.TooLong → (limit < length (appended_bytes (S.view source.old).gave (S.view source.new).gave))
-        × (length (rest_of (take limit (appended_bytes (S.view source.old).gave (S.view source.new).gave))) ≤ longest_line)) }
+        × IsShort (rest_of (take limit (appended_bytes (S.view source.old).gave (S.view source.new).gave)))) }
     ensures bad { (n : ℕ) → IsErrOf result (LinkedFault.BadLine n)
         → IsBadAt (nodes_in registry.now) (appended_bytes (S.view source.old).gave (S.view source.new).gave) (S.view source.new).left n }
     ensures taken { Consumes (S.view source.old).left (S.view source.new).left (appended_bytes (S.view source.old).gave (S.view source.new).gave) }

@@ -5,7 +5,7 @@ ghost use Rattle.std.specs.Io.KnownBytes.{Appends, Consumes, IsAtEnd};
 ghost use Rattle.spl_edge.specs.Causes.{AppendsPart, HasCause, Rose};
 ghost use Rattle.spl_edge.specs.Views.{bench};
 ghost use Rattle.spl_lines.specs.Given.{run_of};
-ghost use Rattle.spl_lines.specs.Lines.{limit, longest_line, rest_of};
+ghost use Rattle.spl_lines.specs.Lines.{IsShort, limit, rest_of};
 ghost use Rattle.spl_lines.specs.Tasks.{Task, ran_by};
 ghost use Rattle.spl_lines.specs.Written.{IsRunnable, said};
 ghost use Rattle.spl_model.specs.Worlds.{blank};
@@ -278,10 +278,10 @@ impl LinkedRun {
             × (length (appended_bytes (S.view source.old).gave (S.view source.new).gave) ≤ limit) × IsAtEnd (S.view source.new).left) }
         ensures read { IfOk result (λ end. end ≡ LinkedEnd.Read → Rose (S.view source.old).faults (S.view source.new).faults
             × (length (appended_bytes (S.view source.old).gave (S.view source.new).gave) ≤ limit)
-            × (length (rest_of (appended_bytes (S.view source.old).gave (S.view source.new).gave)) ≤ longest_line)) }
+            × IsShort (rest_of (appended_bytes (S.view source.old).gave (S.view source.new).gave))) }
         ensures long { IfOk result (λ end. end ≡ LinkedEnd.TooLong
             → (limit < length (appended_bytes (S.view source.old).gave (S.view source.new).gave))
-            × (length (rest_of (take limit (appended_bytes (S.view source.old).gave (S.view source.new).gave))) ≤ longest_line)) }
+            × IsShort (rest_of (take limit (appended_bytes (S.view source.old).gave (S.view source.new).gave)))) }
         ensures bad { (n : ℕ) → IsErrOf result (LinkedFault.BadLine n)
             → IsBadAt self.old.nodes.items (appended_bytes (S.view source.old).gave (S.view source.new).gave) (S.view source.new).left n }
         ensures behind { (es : List Entry) (s : Outside) → IsBehind es [] self.old.world self.old.output s

@@ -1,9 +1,9 @@
-use Rattle.std.proofs.Common.{◌≡◌, ◌-◌, length, take, ◌∙◌, ap, arith, length-append, length-take, rules}
+use Rattle.std.proofs.Common.{◌≡◌, ◌-◌, length, take, sym, ◌∙◌, ap, subst, arith, length-append, length-take, rules}
 use Rattle.std.specs.Io.{appended_bytes}
-use Rattle.spl_lines.specs.Lines.{limit, has_feed}
+use Rattle.spl_lines.specs.Lines.{IsShort, limit, has_feed}
 use Rattle.spl_lines.specs.Feed.{waiting, count_of, last_line}
 use Rattle.spl_lines.proofs.Given.{limit_is}
-use Rattle.spl_lines.proofs.Fed.{feeds_line, feeds_same, feeds_more, free_front, no_bytes}
+use Rattle.spl_lines.proofs.Fed.{feeds_line, feeds_same, feeds_more, free_front, no_bytes, waits_still}
 use Rattle.spl_lines.proofs.feed.Feed.advance.Goals as goal
 
 pub returns-then-cut-clause-line : goal.returns-then-cut-clause-line
@@ -11,8 +11,8 @@ returns-then-cut-clause-line g c = λ is before had lines feeds.
     let found = c.cut.ensures.line c.if-cut.true in
     feeds_line before had lines (g.S.Source.view c.pieces.source).gave (g.S.Source.view c.pieces.source).left c.pieces.self c.cut.new.self (last_line c.cut.new.self) (c.pieces.invariant.feeds before had lines feeds) found.0 found.1 c.cut.ensures.same
 
-pub returns-then-seen-gt-LONGEST_LINE-clause-still : goal.returns-then-seen-gt-LONGEST_LINE-clause-still
-returns-then-seen-gt-LONGEST_LINE-clause-still g c = λ not before had lines feeds.
+pub returns-then-is_overlong-clause-still : goal.returns-then-is_overlong-clause-still
+returns-then-is_overlong-clause-still g c = λ not before had lines feeds.
     feeds_same before had lines (g.S.Source.view c.pieces.source).gave (g.S.Source.view c.pieces.source).left c.pieces.self c.cut.new.self (c.pieces.invariant.feeds before had lines feeds) (c.cut.ensures.none c.if-cut.false).1 c.cut.ensures.same
 
 pub returns-then-self-gt-MOST_BYTES-clause-still : goal.returns-then-self-gt-MOST_BYTES-clause-still
@@ -20,7 +20,7 @@ returns-then-self-gt-MOST_BYTES-clause-still g c = λ not before had lines feeds
     feeds_same before had lines (g.S.Source.view c.pieces.source).gave (g.S.Source.view c.pieces.source).left c.pieces.self c.cut.new.self (c.pieces.invariant.feeds before had lines feeds) (c.cut.ensures.none c.if-cut.false).1 c.cut.ensures.same
 
 pub returns-then-self-gt-MOST_BYTES-clause-long : goal.returns-then-self-gt-MOST_BYTES-clause-long
-returns-then-self-gt-MOST_BYTES-clause-long g c = λ is. (omega (arith, limit_is), omega arith)
+returns-then-self-gt-MOST_BYTES-clause-long g c = λ is. (omega (arith, limit_is), c.is_overlong.ensures.short c.if-is_overlong.false)
 
 pub fill-requires-clause-within : goal.fill-requires-clause-within
 fill-requires-clause-within g c = omega (arith, limit_is)
@@ -90,5 +90,5 @@ returns-in-Err-Failed-clause-read g c = λ is.
     let more = appended_bytes (g.S.Source.view c.pieces.source).gave (g.S.Source.view c.fill.new.source).gave in (
       search rules,
       omega (arith, limit_is, c.fill.ensures.count, ap length c.in-Err-Failed.ensures.none),
-      omega (arith, ap length c.in-Err-Failed.ensures.none, ap length c.fill.ensures.waits, length-append (waiting c.cut.new.self) (take (limit - count_of c.cut.new.self) more), length-take (limit - count_of c.cut.new.self) more),
+      subst IsShort (sym (waits_still (waiting c.cut.new.self) (waiting c.fill.new.self) more (limit - count_of c.cut.new.self) c.fill.ensures.waits c.in-Err-Failed.ensures.none)) (c.is_overlong.ensures.short c.if-is_overlong.false),
     )
