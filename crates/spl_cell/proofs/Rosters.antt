@@ -1,6 +1,6 @@
 -- Services and the members that they stand on.
 use Rattle.std.proofs.Common.{◌≡◌, ◌⊎◌, ℕ, zero, suc, ◌+◌, ◌<◌, ◌≤◌, Bool, true, false, ◌||◌, List, [], ◌∷◌, length, get_or, refl, sym, ap, ◌∙◌, inl, inr, arith}
-use Rattle.std.specs.Prelude.{Option, Some, None, IsSome, Ok, Err}
+use Rattle.std.specs.Prelude.{Option, Some, None, IsSome, Ok, Err, if◌then◌else◌}
 use Rattle.std.specs.Str.{bytes_eq}
 use Rattle.std.proofs.lemmas.Slice.Eq.{bytes_eq-Decides}
 use Rattle.spl_agree.proofs.Tests.{bool_cases, and_left, and_right}
@@ -12,6 +12,7 @@ use Rattle.spl_circuit.specs.Rules.{first_false, rules_of, broken, ascends, ids_
 use Rattle.spl_circuit.specs.Routing.{way_between, route}
 use Rattle.spl_circuit.proofs.Sorting.{first_service_is_lowest}
 use Rattle.spl_circuit.proofs.Valid.{services_ascend, as_many_services, few_members}
+use Rattle.spl_cell.specs.Lanes.{LaneKind, reaches}
 use Rattle.spl_cell.proofs.Positions.{member_placed, admin_placed, two_members, eight_members}
 
 -- ---- a node is a member exactly where some service stands on it
@@ -107,12 +108,20 @@ has_node_or (m ∷ ms) back (suc p) = go (has_node_or ms back p)
     go (inr e) = inr e
 
 -- who is at a position is a member where the other one is
-pub node_or_member : (d : Definition) (back : NodeId) (p : ℕ) → is_member d back ≡ true → is_member d (node_or d.members back p) ≡ true
+node_or_member : (d : Definition) (back : NodeId) (p : ℕ) → is_member d back ≡ true → is_member d (node_or d.members back p) ≡ true
 node_or_member d back p h = go (has_node_or d.members back p)
   where
     go : (has_node d.members (node_or d.members back p) ≡ true) ⊎ (node_or d.members back p ≡ back) → has_node d.members (node_or d.members back p) ≡ true
     go (inl k) = k
     go (inr e) = ap (has_node d.members) e ∙ h
+
+among_at : (among : Bool) (d : Definition) (back : NodeId) (p : ℕ) → (if among then is_member d back else true) ≡ true → (if among then is_member d (node_or d.members back p) else true) ≡ true
+among_at true d back p h = node_or_member d back p h
+among_at false d back p h = refl
+
+-- a group's messages can go there where they can go back
+pub reaches_at : {V : Type 0} (kind : LaneKind V) (d : Definition) (back : NodeId) (p : ℕ) → reaches kind d back ≡ true → reaches kind d (node_or d.members back p) ≡ true
+reaches_at kind d back p h = among_at kind.among d back p h
 
 -- the node of the service that leads
 service_serves : (ss : List Service) → ascends (ids_of ss) ≡ true → 1 ≤ length ss → serves ss (leading_node ss) ≡ true

@@ -4,5 +4,5 @@ pub mod States
 pub mod Says
 pub mod Mays
 pub mod Asks
-pub mod Hears
 pub mod Due
+pub mod Lanes

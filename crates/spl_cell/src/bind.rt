@@ -12,6 +12,7 @@ ghost use Rattle.spl_cell.specs.Sites.{site_of};
 use crate::held::first_acts;
 use crate::plans::Say;
 use crate::site::Site;
+use spl_admin::Ledger;
 use spl_agree::{GroupEvent, GroupPlan};
 use spl_base::{Boxed, NodeId, Value};
 use spl_circuit::{Act, Definition};
@@ -62,6 +63,6 @@ impl Site {
     {
         let plan = self.first_row(alloc, definition, event)?;
         let first = binding(alloc, definition)?;
-        self.admin_plan(alloc, say, first, definition.get(), back, plan)
+        self.lane_plan::<Ledger>(alloc, say, first, definition.get(), back, plan)
     }
 }

@@ -116,7 +116,9 @@ impl Cell {
         ensures valid { IsValid self.now.site self.now.state }
 
         // Its changes fit, each behind those before it, and its moves fit behind them.
-        ensures fits { IfOk result (λ p. (applied self.now.site self.now.state p.changes ≡ made self.now.site.here self.now.state p.changes) × FitsMoveAt self.now.site.here (made self.now.site.here self.now.state p.changes) p.admin p.service) }
+        ensures fits { IfOk result (λ p.
+            (applied self.now.site self.now.state p.changes ≡ made self.now.site.here self.now.state p.changes) ×
+            FitsMoveAt self.now.site.here (made self.now.site.here self.now.state p.changes) p.admin p.service) }
 
         // Its changes make a record of at most 64 changes and 16,384 bytes, which can be written.
         ensures writable { IfOk result (λ p. IsWritable self.now.site.circuit p.changes) }
@@ -142,7 +144,8 @@ impl Cell {
         requires fits { FitsMoveAt self.old.site.here (applied self.old.site self.old.state plan.now.changes) plan.now.admin plan.now.service }
         requires formed { are_formed plan.now.changes ≡ true }
         ensures fixed { self.new.site ≡ self.old.site }
-        ensures ok { OnOk result (self.new.state ≡ moved_cell self.old.site.here (applied self.old.site self.old.state plan.now.changes) plan.now.admin plan.now.service) }
+        ensures ok { OnOk result
+            (self.new.state ≡ moved_cell self.old.site.here (applied self.old.site self.old.state plan.now.changes) plan.now.admin plan.now.service) }
         ensures running { OnOk result (self.new.halted ≡ false) }
         ensures halted { OnErr result (self.new.halted ≡ true) }
     {

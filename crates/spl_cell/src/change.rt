@@ -91,7 +91,10 @@ impl Held {
     /// Whether a change of the admin group fits. An error comes for want of memory alone.
     #[tactic(auto, using(crate::proofs::Changes::fits_may))]
     fn fits_admin(&self, alloc: Global, change: &GroupChange<Act>) -> Result<bool, AllocError>
-        ensures { IfOk result (λ b. b ≡ (is_open self.now.bound.mark && fits_group (act_rules self.now.bound.definition) (may_queue self.now.site.here self.now.bound.turn self.now.bound.acts.pending) self.now.bound.acts change.now)) }
+        ensures { IfOk result (λ b. b ≡
+            (is_open self.now.bound.mark &&
+            fits_group (act_rules self.now.bound.definition)
+            (may_queue self.now.site.here self.now.bound.turn self.now.bound.acts.pending) self.now.bound.acts change.now)) }
     {
         if !self.is_open() {
             return Ok(false);
@@ -107,7 +110,10 @@ impl Held {
     #[tactic(auto, using(crate::proofs::Changes::place_facts))]
     fn makes_admin(&mut self, alloc: Global, change: &GroupChange<Act>) -> Result<(), AllocError>
         requires { fits_group (act_rules self.old.bound.definition) any_value self.old.bound.acts change.now ≡ true }
-        ensures ok { OnOk result (self.new ≡ record self.old { bound = record self.old.bound { turn = turn_after self.old.site.here self.old.bound.turn change.now; acts = changed (act_rules self.old.bound.definition) self.old.bound.acts change.now } }) }
+        ensures ok { OnOk result
+            (self.new ≡ record self.old { bound = record self.old.bound {
+            turn = turn_after self.old.site.here self.old.bound.turn change.now;
+            acts = changed (act_rules self.old.bound.definition) self.old.bound.acts change.now } }) }
         ensures site { self.new.site ≡ self.old.site }
     {
         let turn = self.turn_after(change);
@@ -120,7 +126,9 @@ impl Held {
     /// Whether a change of the service group fits. An error comes for want of memory alone.
     #[tactic(auto, using(crate::proofs::Changes::fits_may))]
     fn fits_service(&self, alloc: Global, change: &GroupChange<Batch>) -> Result<bool, AllocError>
-        ensures { IfOk result (λ b. b ≡ (is_open self.now.bound.mark && (keeps_batches self.now.bound && (may_keep change.now && fits_group batch_rules may_serve self.now.bound.batches change.now)))) }
+        ensures { IfOk result (λ b. b ≡
+            (is_open self.now.bound.mark && (keeps_batches self.now.bound &&
+            (may_keep change.now && fits_group batch_rules may_serve self.now.bound.batches change.now)))) }
     {
         if !self.is_open() {
             return Ok(false);
@@ -146,7 +154,8 @@ impl Held {
         change: &GroupChange<Batch>,
     ) -> Result<(), AllocError>
         requires { fits_group batch_rules any_value self.old.bound.batches change.now ≡ true }
-        ensures ok { OnOk result (self.new ≡ record self.old { bound = record self.old.bound { batches = changed batch_rules self.old.bound.batches change.now } }) }
+        ensures ok { OnOk result
+            (self.new ≡ record self.old { bound = record self.old.bound { batches = changed batch_rules self.old.bound.batches change.now } }) }
         ensures site { self.new.site ≡ self.old.site }
     {
         let change = copy_change(alloc, change)?;
@@ -224,7 +233,10 @@ impl Site {
         definition: &Boxed<Definition>,
     ) -> Result<State, AllocError>
         requires at { IsAt (site_of self.now) state }
-        ensures cell { IfOk result (λ s. cell_of s ≡ (if fits_free (site_of self.now) (cell_of state) (Change.Bind definition.now) then free_after (cell_of state) (Change.Bind definition.now) else cell_of state)) }
+        ensures cell { IfOk result (λ s. cell_of s ≡
+            (if fits_free (site_of self.now) (cell_of state) (Change.Bind definition.now)
+            then free_after (cell_of state) (Change.Bind definition.now)
+            else cell_of state)) }
         ensures at { IfOk result (λ s. IsAt (site_of self.now) s) }
     {
         if !self.fits_free(&state, definition.get()) {
@@ -237,7 +249,10 @@ impl Site {
     /// An unbound cell that was purged with a generation, if that fits.
     fn gone(&self, state: State, old: Generation) -> State
         requires at { IsAt (site_of self.now) state }
-        ensures cell { cell_of result ≡ (if fits_free (site_of self.now) (cell_of state) (Change.Gone old) then free_after (cell_of state) (Change.Gone old) else cell_of state) }
+        ensures cell { cell_of result ≡
+            (if fits_free (site_of self.now) (cell_of state) (Change.Gone old)
+            then free_after (cell_of state) (Change.Gone old)
+            else cell_of state) }
         ensures at { IsAt (site_of self.now) result }
     {
         match state {
@@ -256,7 +271,10 @@ impl Site {
     /// An unbound cell with a change, if it fits.
     fn free_with(&self, alloc: Global, state: State, change: &Change) -> Result<State, AllocError>
         requires at { IsAt (site_of self.now) state }
-        ensures cell { IfOk result (λ s. cell_of s ≡ (if fits_free (site_of self.now) (cell_of state) change.now then free_after (cell_of state) change.now else cell_of state)) }
+        ensures cell { IfOk result (λ s. cell_of s ≡
+            (if fits_free (site_of self.now) (cell_of state) change.now
+            then free_after (cell_of state) change.now
+            else cell_of state)) }
         ensures at { IfOk result (λ s. IsAt (site_of self.now) s) }
     {
         match change {

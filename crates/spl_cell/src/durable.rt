@@ -1,12 +1,10 @@
 //! Changes of groups as changes of a cell.
 ghost use Rattle.std.specs.Prelude.{◌≡◌, ◌++◌, map, IfOk};
-ghost use Rattle.spl_wire.specs.declared.change.Change.TheVariants as durable;
 
+use crate::lane::Lane;
 use spl_agree::{GroupChange, GroupChanges};
 use spl_base::Value;
-use spl_circuit::Act;
-use spl_command::Batch;
-use spl_wire::{Change, ChangeList};
+use spl_wire::ChangeList;
 use std::alloc::{AllocError, Global};
 
 /// An equal change.
@@ -36,40 +34,21 @@ pub(crate) fn copy_change<V: Value>(
     }
 }
 
-/// The changes, and behind them those of the admin group.
+/// The changes, and behind them those of a group.
 #[tactic(auto, using(crate::proofs::Steps::changes_more))]
 #[inline(always)]
-pub(crate) fn with_acts(
+pub(crate) fn with_changes<L: Lane>(
     first: ChangeList,
-    changes: GroupChanges<Act>,
+    changes: GroupChanges<L::Value>,
 ) -> Result<ChangeList, AllocError>
-    ensures { IfOk result (λ cs. cs ≡ first ++ map durable.Admin changes) }
+    ensures { IfOk result (λ cs. cs ≡ first ++ map L.kind.change changes) }
 {
     if changes.as_slice().is_empty() {
         return Ok(first);
     }
     let mut all = first;
     for change in changes.into_vec() {
-        all.push(Change::Admin(change))?;
-    }
-    Ok(all)
-}
-
-/// The changes, and behind them those of the service group.
-#[tactic(auto, using(crate::proofs::Steps::changes_more))]
-#[inline(always)]
-pub(crate) fn with_batches(
-    first: ChangeList,
-    changes: GroupChanges<Batch>,
-) -> Result<ChangeList, AllocError>
-    ensures { IfOk result (λ cs. cs ≡ first ++ map durable.Service changes) }
-{
-    if changes.as_slice().is_empty() {
-        return Ok(first);
-    }
-    let mut all = first;
-    for change in changes.into_vec() {
-        all.push(Change::Service(change))?;
+        all.push(L::change(change))?;
     }
     Ok(all)
 }

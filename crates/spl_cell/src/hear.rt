@@ -1,59 +1,24 @@
 //! A message comes from another node.
 ghost use Rattle.std.specs.Prelude.{◌==◌, ◌≡◌, ◌&&◌, true, false, not, None, IfOk};
 ghost use Rattle.std.specs.Str.{bytes_eq};
-ghost use Rattle.spl_agree.specs.Fits.{IsDue, generation_of};
-ghost use Rattle.spl_circuit.specs.Nodes.{position};
 ghost use Rattle.spl_circuit.specs.Rules.{admin, broken, is_member};
 ghost use Rattle.spl_rules.specs.Cells as rules;
-ghost use Rattle.spl_rules.specs.Cells.{Acts, Delivered, admin_group, can_bind, declines, returns_unbound, ignores, asked_first, forwarded_first, hears_first};
-ghost use Rattle.spl_rules.specs.Events.{hears_admin, other_hears};
-ghost use Rattle.spl_rules.specs.Plans.{admin_lane, group_row, planned};
-ghost use Rattle.spl_rules.specs.Valid.{IsValid};
-ghost use Rattle.spl_cell.specs.Hears.{hears};
-ghost use Rattle.spl_cell.specs.States.{cell_of, IsAt};
-ghost use Rattle.spl_cell.specs.Views.{IsSettledHeld};
+ghost use Rattle.spl_rules.specs.Cells.{can_bind, declines, returns_unbound, ignores, asked_first, forwarded_first, hears_first};
+ghost use Rattle.spl_rules.specs.Events.{hears_admin, held_hears, other_hears};
+ghost use Rattle.spl_rules.specs.Plans.{planned};
+ghost use Rattle.spl_cell.specs.States.{cell_of};
 ghost use Rattle.spl_cell.specs.Sites.{site_of};
 
-use crate::held::Held;
 use crate::plans::{Say, refuses, tells_only};
+use crate::settled::Settled;
 use crate::site::Site;
 use crate::state::State;
-use spl_agree::{CommitMsg, Generation, GroupEvent, GroupPlan, Note, Place, Reason, Round};
+use spl_admin::Ledger;
+use spl_agree::{CommitMsg, Generation, GroupEvent, Note, Place, Reason, Round};
 use spl_base::{NodeId, Value};
 use spl_circuit::{Act, ActKind, Definition};
-use spl_wire::{Answer, ChangeList, Message, Plan, Refusal};
+use spl_wire::{Answer, Message, Plan, Refusal};
 use std::alloc::{AllocError, Global};
-
-impl Held {
-    /// What a message gives in the admin group.
-    #[tactic(auto, using(crate::proofs::Seats::group_here))]
-    fn admin_heard(
-        &self,
-        alloc: Global,
-        sender: u8,
-        body: &CommitMsg<Act>,
-    ) -> Result<GroupPlan<Act>, AllocError>
-        requires settled { IsSettledHeld self.now }
-        requires due { IsDue (admin_group self.now.bound.definition) (position self.now.bound.definition.members self.now.site.here) self.now.bound.acts (GroupEvent.From sender body.now) }
-        ensures { IfOk result (λ p. p ≡ group_row (admin_lane self.now.site self.now.bound.definition) self.now.bound.acts (GroupEvent.From sender body.now)) }
-    {
-        self.acts.hear(alloc, sender, body)
-    }
-
-    /// A message of the cell's generation, from another node.
-    #[tactic(auto, using(crate::proofs::Positions::sender_facts))]
-    fn hears(&self, alloc: Global, from: &NodeId, body: &CommitMsg<Act>) -> Result<Plan, AllocError>
-        requires settled { IsSettledHeld self.now }
-        requires other { bytes_eq from.now self.now.site.here ≡ false }
-        requires same { generation_of body.now ≡ self.now.bound.definition.generation }
-        ensures { IfOk result (λ p. p ≡ planned self.now.site (Acts Delivered self.now.bound from.now (GroupEvent.From (position self.now.bound.definition.members from.now) body.now))) }
-    {
-        let sender = self.definition().position(from);
-        let plan = self.admin_heard(alloc, sender, body)?;
-        let first = ChangeList::new(alloc);
-        self.site.admin_plan(alloc, Say::Delivered, first, self.definition(), from, plan)
-    }
-}
 
 impl Site {
     /// Whether a message of a generation can bind the definition.
@@ -134,7 +99,8 @@ impl Site {
         ensures valid { result ≡ true → broken definition.now ≡ None }
         ensures member { result ≡ true → is_member definition.now self.now.here ≡ true }
         ensures generation { result ≡ true → definition.now.generation ≡ generation }
-        ensures value { result ≡ (place == 0 && (can_bind (site_of self.now) (cell_of state.now) generation definition.now && bytes_eq (admin definition.now) from.now)) }
+        ensures value { result ≡
+            (place == 0 && (can_bind (site_of self.now) (cell_of state.now) generation definition.now && bytes_eq (admin definition.now) from.now)) }
     {
         if place.0 != 0 {
             return false;
@@ -158,7 +124,8 @@ impl Site {
         act: &Act,
     ) -> Result<Plan, AllocError>
         requires other { bytes_eq from.now self.now.here ≡ false }
-        ensures { IfOk result (λ p. p ≡ planned (site_of self.now) (asked_first (site_of self.now) (cell_of state.now) from.now generation round place act.now act.now.kind)) }
+        ensures { IfOk result (λ p. p ≡
+            planned (site_of self.now) (asked_first (site_of self.now) (cell_of state.now) from.now generation round place act.now act.now.kind)) }
     {
         let ActKind::Propose(definition) = &act.kind else {
             return self.declines(alloc, from, generation, round);
@@ -190,7 +157,9 @@ impl Site {
     ) -> bool
         ensures valid { result ≡ true → broken definition.now ≡ None }
         ensures member { result ≡ true → is_member definition.now self.now.here ≡ true }
-        ensures value { result ≡ (can_bind (site_of self.now) (cell_of state.now) generation definition.now && (bytes_eq (admin definition.now) self.now.here && (bytes_eq node.now from.now && (is_member definition.now from.now && not (bytes_eq from.now self.now.here))))) }
+        ensures value { result ≡
+            (can_bind (site_of self.now) (cell_of state.now) generation definition.now && (bytes_eq (admin definition.now) self.now.here &&
+            (bytes_eq node.now from.now && (is_member definition.now from.now && not (bytes_eq from.now self.now.here))))) }
     {
         if !self.can_bind(state, generation, definition) {
             return false;
@@ -216,7 +185,8 @@ impl Site {
         generation: Generation,
         act: &Act,
     ) -> Result<Plan, AllocError>
-        ensures { IfOk result (λ p. p ≡ planned (site_of self.now) (forwarded_first (site_of self.now) (cell_of state.now) from.now generation act.now act.now.kind)) }
+        ensures { IfOk result (λ p. p ≡
+            planned (site_of self.now) (forwarded_first (site_of self.now) (cell_of state.now) from.now generation act.now act.now.kind)) }
     {
         let ActKind::Propose(definition) = &act.kind else {
             return Ok(self.ignores(alloc));
@@ -275,49 +245,47 @@ impl Site {
         &self,
         alloc: Global,
         state: &State,
-        held: &Held,
+        settled: &Settled<'_>,
         from: &NodeId,
         body: &CommitMsg<Act>,
     ) -> Result<Plan, AllocError>
-        requires site { held.now.site ≡ site_of self.now }
-        requires bound { cell_of state.now ≡ rules.Held held.now.bound }
-        requires settled { IsSettledHeld held.now }
+        requires site { settled.now.site ≡ site_of self.now }
+        requires bound { cell_of state.now ≡ rules.Held settled.now.bound }
         requires other { bytes_eq from.now self.now.here ≡ false }
-        ensures { IfOk result (λ p. p ≡ planned (site_of self.now) (hears_admin (site_of self.now) held.now.bound from.now body.now)) }
+        ensures { IfOk result (λ p. p ≡ planned (site_of self.now) (hears_admin (site_of self.now) settled.now.bound from.now body.now)) }
     {
+        let held = settled.held();
         if !held.is_open() {
             return self.hears_first(alloc, state, from, body);
         }
         if body.generation() != held.definition().generation {
             return self.hears_first(alloc, state, from, body);
         }
-        held.hears(alloc, from, body)
+        settled.hears::<Ledger>(alloc, from, body)
     }
 
-    /// A message comes from another node.
+    /// A message comes from another node to a bound cell.
     pub(crate) fn hears(
         &self,
         alloc: Global,
         state: &State,
+        settled: &Settled<'_>,
         from: &NodeId,
         message: &Message,
     ) -> Result<Plan, AllocError>
-        requires at { IsAt (site_of self.now) state.now }
-        requires valid { IsValid (site_of self.now) (cell_of state.now) }
+        requires site { settled.now.site ≡ site_of self.now }
+        requires bound { cell_of state.now ≡ rules.Held settled.now.bound }
         requires other { bytes_eq from.now self.now.here ≡ false }
-        ensures { IfOk result (λ p. p ≡ planned (site_of self.now) (hears (site_of self.now) (cell_of state.now) from.now message.now)) }
+        ensures { IfOk result (λ p. p ≡ planned (site_of self.now) (held_hears (site_of self.now) settled.now.bound from.now message.now)) }
     {
-        let State::Held(held) = state else {
-            return self.other_hears(alloc, state, from, message);
-        };
         match message {
-            Message::Admin { body, .. } => self.hears_admin(alloc, state, held, from, body),
+            Message::Admin { body, .. } => self.hears_admin(alloc, state, settled, from, body),
             Message::Scabbard {
                 from: service,
                 to,
                 body,
                 ..
-            } => held.hears_service(alloc, from, service, to, body),
+            } => settled.hears_service(alloc, from, service, to, body),
         }
     }
 }

@@ -1,28 +1,22 @@
 //! A bound cell.
 ghost use Rattle.std.specs.Prelude.{◌≡◌, [], true, None, IfOk};
 ghost use Rattle.spl_agree.specs.Member.{values, new_member};
-ghost use Rattle.spl_agree.specs.Fits.{IsDue};
 ghost use Rattle.spl_circuit.specs.Nodes.{position, has_node};
 ghost use Rattle.spl_circuit.specs.Rules.{broken, is_member};
 ghost use Rattle.spl_circuit.specs.Lifecycle.{current, disbanding_of};
 ghost use Rattle.spl_circuit.specs.Acts.{is_node};
-ghost use Rattle.spl_rules.specs.Cells.{Acts, Serves, fresh, admin_group, service_group, own_life, is_active_here, runs, keeps_batches, accepted_in_order};
-ghost use Rattle.spl_rules.specs.Plans.{admin_lane, service_lane, group_row, planned};
-ghost use Rattle.spl_cell.specs.Says.{say_of};
+ghost use Rattle.spl_rules.specs.Cells.{fresh, admin_group, service_group, own_life, is_active_here, runs, keeps_batches, accepted_in_order};
 ghost use Rattle.spl_cell.specs.Sites.{site_of};
-ghost use Rattle.spl_cell.specs.Views.{IsSettledHeld, IsSeated};
+ghost use Rattle.spl_cell.specs.Views.{IsSeated};
 
-use crate::plans::Say;
 use crate::site::Site;
 use spl_admin::Ledger;
-use spl_agree::{Generation, GroupEvent, GroupPlan, Place};
+use spl_agree::{Generation, Place};
 use spl_base::{Boxed, NodeId};
-use spl_circuit::{Act, Definition, Lifecycle, Mark, Members};
-use spl_command::Batch;
+use spl_circuit::{Definition, Lifecycle, Mark, Members};
 use spl_commit::Member;
 use spl_scabbard::Service;
 use spl_state::RunCache;
-use spl_wire::{ChangeList, Plan};
 use std::alloc::{AllocError, Global};
 use std::marker::Model;
 
@@ -43,7 +37,16 @@ impl Model for Held {
 
     ghost Value = { HeldView };
 
-    ghost view = { λ s. record { site = site_of s.site; bound = record { definition = s.acts.content.definition; mark = s.mark; turn = s.turn; acts = s.acts.state; batches = s.batches.state } } };
+    ghost view = { λ s. record {
+        site = site_of s.site;
+        bound = record {
+            definition = s.acts.content.definition;
+            mark = s.mark;
+            turn = s.turn;
+            acts = s.acts.state;
+            batches = s.batches.state;
+        };
+    } };
 
     ghost invariant = { λ s. IsPlaced s.site.here s.acts.content.definition s.acts s.batches };
 }
@@ -221,70 +224,5 @@ impl Held {
         ensures { result ≡ Rattle.spl_rules.specs.Cells.is_open self.now.bound.mark }
     {
         matches!(self.mark, Mark::Open)
-    }
-
-    /// What an event gives in the admin group.
-    #[tactic(auto, using(crate::proofs::Seats::group_here))]
-    pub(crate) fn admin_row(
-        &self,
-        alloc: Global,
-        event: &GroupEvent<Act>,
-    ) -> Result<GroupPlan<Act>, AllocError>
-        requires settled { IsSettledHeld self.now }
-        requires due { IsDue (admin_group self.now.bound.definition) (position self.now.bound.definition.members self.now.site.here) self.now.bound.acts event.now }
-        ensures { IfOk result (λ p. p ≡ group_row (admin_lane self.now.site self.now.bound.definition) self.now.bound.acts event.now) }
-    {
-        self.acts.plan(alloc, event)
-    }
-
-    /// What an event gives in the service group.
-    #[tactic(auto, using(crate::proofs::Seats::group_here))]
-    #[inline(always)]
-    pub(crate) fn service_row(
-        &self,
-        alloc: Global,
-        event: &GroupEvent<Batch>,
-    ) -> Result<GroupPlan<Batch>, AllocError>
-        requires settled { IsSettledHeld self.now }
-        requires due { IsDue (service_group self.now.bound.definition) (position self.now.bound.definition.members self.now.site.here) self.now.bound.batches event.now }
-        ensures { IfOk result (λ p. p ≡ group_row (service_lane self.now.site self.now.bound.definition) self.now.bound.batches event.now) }
-    {
-        self.batches.plan(alloc, event)
-    }
-
-    /// The admin group goes on by an event. A message came from `back`.
-    pub(crate) fn acts(
-        &self,
-        alloc: Global,
-        say: Say,
-        back: &NodeId,
-        event: &GroupEvent<Act>,
-    ) -> Result<Plan, AllocError>
-        requires settled { IsSettledHeld self.now }
-        requires due { IsDue (admin_group self.now.bound.definition) (position self.now.bound.definition.members self.now.site.here) self.now.bound.acts event.now }
-        ensures { IfOk result (λ p. p ≡ planned self.now.site (Acts (say_of say) self.now.bound back.now event.now)) }
-    {
-        let plan = self.admin_row(alloc, event)?;
-        let first = ChangeList::new(alloc);
-        self.site
-            .admin_plan(alloc, say, first, self.definition(), back, plan)
-    }
-
-    /// The service group goes on by an event. A message came from `back`, which is a member.
-    pub(crate) fn serves(
-        &self,
-        alloc: Global,
-        say: Say,
-        back: &NodeId,
-        event: &GroupEvent<Batch>,
-    ) -> Result<Plan, AllocError>
-        requires settled { IsSettledHeld self.now }
-        requires answered { is_member self.now.bound.definition back.now ≡ true }
-        requires due { IsDue (service_group self.now.bound.definition) (position self.now.bound.definition.members self.now.site.here) self.now.bound.batches event.now }
-        ensures { IfOk result (λ p. p ≡ planned self.now.site (Serves (say_of say) self.now.bound back.now event.now)) }
-    {
-        let plan = self.service_row(alloc, event)?;
-        self.site
-            .service_plan(alloc, say, self.definition(), back, plan)
     }
 }

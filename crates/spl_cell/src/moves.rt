@@ -19,7 +19,9 @@ impl Held {
     #[tactic(auto, using(crate::proofs::Seats::move_facts))]
     fn move_acts(&mut self, x: OpenMove)
         requires { FitsMove (admin_group self.old.bound.definition) (position self.old.bound.definition.members self.old.site.here) self.old.bound.acts x }
-        ensures { self.new ≡ record self.old { bound = record self.old.bound { acts = moved (admin_group self.old.bound.definition) (position self.old.bound.definition.members self.old.site.here) self.old.bound.acts x } } }
+        ensures { self.new ≡
+            record self.old { bound = record self.old.bound { acts =
+                moved (admin_group self.old.bound.definition) (position self.old.bound.definition.members self.old.site.here) self.old.bound.acts x } } }
     {
         self.acts.move_open(x);
     }
@@ -28,14 +30,17 @@ impl Held {
     #[tactic(auto, using(crate::proofs::Seats::move_facts))]
     fn move_batches(&mut self, x: OpenMove)
         requires { FitsMove (service_group self.old.bound.definition) (position self.old.bound.definition.members self.old.site.here) self.old.bound.batches x }
-        ensures { self.new ≡ record self.old { bound = record self.old.bound { batches = moved (service_group self.old.bound.definition) (position self.old.bound.definition.members self.old.site.here) self.old.bound.batches x } } }
+        ensures { self.new ≡
+            record self.old { bound = record self.old.bound { batches =
+                moved (service_group self.old.bound.definition) (position self.old.bound.definition.members self.old.site.here) self.old.bound.batches x } } }
     {
         self.batches.move_open(x);
     }
 
     /// A stop forgets the open rounds.
     fn restart(&mut self)
-        ensures { self.new ≡ record self.old { bound = record self.old.bound { acts = restarted self.old.bound.acts; batches = restarted self.old.bound.batches } } }
+        ensures { self.new ≡
+            record self.old { bound = record self.old.bound { acts = restarted self.old.bound.acts; batches = restarted self.old.bound.batches } } }
     {
         self.acts.restart();
         self.batches.restart();

@@ -7,44 +7,32 @@ ghost use Rattle.spl_rules.specs.Pack.{packed_batches, packed_mark, packed};
 ghost use Rattle.spl_cell.specs.States.{cell_of};
 
 use crate::held::Held;
+use crate::lane::Lane;
 use crate::state::State;
+use spl_admin::Ledger;
 use spl_agree::GroupChanges;
 use spl_base::Value;
-use spl_circuit::{Act, Mark};
-use spl_command::Batch;
+use spl_circuit::Mark;
+use spl_scabbard::Service;
 use spl_wire::Change;
 use std::alloc::{AllocError, Global};
 
 /// The changes that memory is taken for before a cell is packed: most cells have no more.
 const ROOM: usize = 8;
 
-/// The changes, and behind them those of the admin group.
+/// The changes, and behind them those of a group.
 #[tactic(auto, using(crate::proofs::Steps::changes_more))]
-fn acts_behind(first: Vec<Change>, changes: GroupChanges<Act>) -> Result<Vec<Change>, AllocError>
-    ensures { IfOk result (λ cs. cs.items ≡ first.items ++ map durable.Admin changes) }
-{
-    let mut all = first;
-    let changes = changes.into_vec();
-    all.try_reserve(changes.len())?;
-    for change in changes {
-        all.push(Change::Admin(change))?;
-    }
-    Ok(all)
-}
-
-/// The changes, and behind them those of the service group.
-#[tactic(auto, using(crate::proofs::Steps::changes_more))]
-fn batches_behind(
+fn behind<L: Lane>(
     first: Vec<Change>,
-    changes: GroupChanges<Batch>,
+    changes: GroupChanges<L::Value>,
 ) -> Result<Vec<Change>, AllocError>
-    ensures { IfOk result (λ cs. cs.items ≡ first.items ++ map durable.Service changes) }
+    ensures { IfOk result (λ cs. cs.items ≡ first.items ++ map L.kind.change changes) }
 {
     let mut all = first;
     let changes = changes.into_vec();
     all.try_reserve(changes.len())?;
     for change in changes {
-        all.push(Change::Service(change))?;
+        all.push(L::change(change))?;
     }
     Ok(all)
 }
@@ -69,7 +57,7 @@ impl Held {
         if !self.keeps_batches() {
             return Ok(first);
         }
-        batches_behind(first, self.batches.pack(alloc)?)
+        behind::<Service>(first, self.batches.pack(alloc)?)
     }
 
     /// The changes that bind the cell, and set its turn.
@@ -87,7 +75,7 @@ impl Held {
     fn acts_packed(&self, alloc: Global, first: Vec<Change>) -> Result<Vec<Change>, AllocError>
         ensures { IfOk result (λ cs. cs.items ≡ first.items ++ map durable.Admin (packed_member self.now.bound.acts)) }
     {
-        acts_behind(first, self.acts.pack(alloc)?)
+        behind::<Ledger>(first, self.acts.pack(alloc)?)
     }
 
     /// The changes that make the cell of an empty one.

@@ -8,6 +8,7 @@ ghost use Rattle.spl_cell.specs.Sites.{site_of};
 
 use crate::batches::Question;
 use crate::plans::refuses;
+use crate::settled::Settled;
 use crate::site::Site;
 use crate::state::State;
 use spl_agree::GroupEvent;
@@ -46,14 +47,15 @@ impl Site {
         let State::Held(held) = state else {
             return self.other_plan(alloc, state, event);
         };
+        let settled = Settled::new(held);
         match event {
             Event::Propose(definition) => self.proposes(alloc, state, definition),
-            Event::Vote { accept } => held.votes(alloc, *accept),
-            Event::Remove => held.removes(alloc),
-            Event::Disband => held.disbands(alloc),
+            Event::Vote { accept } => settled.votes(alloc, *accept),
+            Event::Remove => settled.removes(alloc),
+            Event::Disband => settled.disbands(alloc),
             Event::Abandon => held.abandons(alloc),
             Event::Purge => held.purges(alloc),
-            Event::Submit(batch) => held.submits(alloc, batch.get()),
+            Event::Submit(batch) => settled.submits(alloc, batch.get()),
             Event::Show => held.shows(alloc),
             Event::Detail => held.details(alloc),
             Event::Root => held.asks(alloc, Question::Root),
@@ -67,9 +69,9 @@ impl Site {
                 from_service,
                 to_service,
             } => Ok(held.routes(alloc, from, from_service, to_service)),
-            Event::Tick => held.turns(alloc, &GroupEvent::Tick, &GroupEvent::Tick),
-            Event::Expire => held.turns(alloc, &GroupEvent::Expire, &GroupEvent::Expire),
-            Event::Deliver { from, message } => self.hears(alloc, state, from, message.get()),
+            Event::Tick => settled.turns(alloc, &GroupEvent::Tick, &GroupEvent::Tick),
+            Event::Expire => settled.turns(alloc, &GroupEvent::Expire, &GroupEvent::Expire),
+            Event::Deliver { from, message } => self.hears(alloc, state, &settled, from, message.get()),
         }
     }
 }

@@ -3,16 +3,20 @@ ghost use Rattle.std.specs.Prelude.{◌≡◌, [], true, None, IfOk};
 ghost use Rattle.spl_circuit.specs.Rules.{broken, is_member};
 ghost use Rattle.spl_wire.specs.declared.answer.Answer.TheVariants as answer;
 ghost use Rattle.spl_rules.specs.Cells.{Replies, said};
-ghost use Rattle.spl_rules.specs.Plans.{admin_lane, service_lane, group_plan, tells_only, planned, both_plans};
+ghost use Rattle.spl_rules.specs.Plans.{group_plan, tells_only, planned, both_plans};
+ghost use Rattle.spl_cell.specs.Lanes.{lane_of, reaches};
 ghost use Rattle.spl_cell.specs.Says.{say_of};
 ghost use Rattle.spl_cell.specs.Sites.{site_of};
 
-use crate::durable::{with_acts, with_batches};
+use crate::durable::with_changes;
+use crate::lane::Lane;
 use crate::site::Site;
+use spl_admin::Ledger;
 use spl_agree::{GroupPlan, Note, OpenMove};
 use spl_base::{Boxed, NodeId};
 use spl_circuit::{Act, Definition};
 use spl_command::Batch;
+use spl_scabbard::Service;
 use spl_wire::{Answer, ChangeList, Message, Outgoing, Plan, Refusal, SendList};
 use std::alloc::{AllocError, Global};
 
@@ -86,50 +90,21 @@ impl Site {
         })
     }
 
-    /// What the admin group of a definition gives, behind a first change. A message came from
-    /// `back`.
+    /// What a group of a definition gives, behind first changes. A message came from `back`.
     #[inline(always)]
-    pub(crate) fn admin_plan(
+    pub(crate) fn lane_plan<L: Lane>(
         &self,
         alloc: Global,
         say: Say,
         first: ChangeList,
         definition: &Definition,
         back: &NodeId,
-        plan: GroupPlan<Act>,
-    ) -> Result<Plan, AllocError>
-        ensures { IfOk result (λ p. p ≡ group_plan (admin_lane (site_of self.now) definition.now) (say_of say) first back.now plan) }
-    {
-        let GroupPlan {
-            note,
-            changes,
-            opening,
-            sends,
-        } = plan;
-        let none = SendList::new(alloc);
-        Ok(Plan {
-            answer: say.answer(note),
-            changes: with_acts(first, changes)?,
-            admin: opening,
-            service: OpenMove::Keep,
-            sends: self.with_admin_sends(alloc, none, definition, back, sends)?,
-        })
-    }
-
-    /// What the service group of a definition gives. A message came from `back`.
-    #[inline(always)]
-    pub(crate) fn service_plan(
-        &self,
-        alloc: Global,
-        say: Say,
-        definition: &Definition,
-        back: &NodeId,
-        plan: GroupPlan<Batch>,
+        plan: GroupPlan<L::Value>,
     ) -> Result<Plan, AllocError>
         requires valid { broken definition.now ≡ None }
         requires member { is_member definition.now self.now.here ≡ true }
-        requires answered { is_member definition.now back.now ≡ true }
-        ensures { IfOk result (λ p. p ≡ group_plan (service_lane (site_of self.now) definition.now) (say_of say) [] back.now plan) }
+        requires answered { reaches L.kind definition.now back.now ≡ true }
+        ensures { IfOk result (λ p. p ≡ group_plan (lane_of L.kind (site_of self.now) definition.now) (say_of say) first back.now plan) }
     {
         let GroupPlan {
             note,
@@ -138,12 +113,13 @@ impl Site {
             sends,
         } = plan;
         let none = SendList::new(alloc);
+        let (admin, service) = L::moves(opening);
         Ok(Plan {
             answer: say.answer(note),
-            changes: with_batches(ChangeList::new(alloc), changes)?,
-            admin: OpenMove::Keep,
-            service: opening,
-            sends: self.with_service_sends(alloc, none, definition, back, sends)?,
+            changes: with_changes::<L>(first, changes)?,
+            admin,
+            service,
+            sends: self.with_sends::<L>(alloc, none, definition, back, sends)?,
         })
     }
 
@@ -159,18 +135,18 @@ impl Site {
         requires member { is_member definition.now self.now.here ≡ true }
         ensures { IfOk result (λ p. p ≡ both_plans (site_of self.now) definition.now acts batches) }
     {
-        let changes = with_acts(ChangeList::new(alloc), acts.changes)?;
+        let changes = with_changes::<Ledger>(ChangeList::new(alloc), acts.changes)?;
         let none = SendList::new(alloc);
-        let sends = self.with_admin_sends(alloc, none, definition, &self.here, acts.sends)?;
+        let sends = self.with_sends::<Ledger>(alloc, none, definition, &self.here, acts.sends)?;
         Ok(Plan {
             answer: Answer::Notes {
                 admin: acts.note,
                 service: batches.note,
             },
-            changes: with_batches(changes, batches.changes)?,
+            changes: with_changes::<Service>(changes, batches.changes)?,
             admin: acts.opening,
             service: batches.opening,
-            sends: self.with_service_sends(alloc, sends, definition, &self.here, batches.sends)?,
+            sends: self.with_sends::<Service>(alloc, sends, definition, &self.here, batches.sends)?,
         })
     }
 }

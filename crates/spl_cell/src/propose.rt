@@ -42,7 +42,8 @@ impl Site {
     fn submits(&self, alloc: Global, definition: &Boxed<Definition>) -> Result<Plan, AllocError>
         requires valid { broken definition.now ≡ None }
         requires member { is_member definition.now self.now.here ≡ true }
-        ensures { IfOk result (λ p. p ≡ planned (site_of self.now) (Binds Submitted definition.now self.now.here (GroupEvent.Submit (proposal self.now.here definition.now)))) }
+        ensures { IfOk result (λ p. p ≡
+            planned (site_of self.now) (Binds Submitted definition.now self.now.here (GroupEvent.Submit (proposal self.now.here definition.now)))) }
     {
         let event = GroupEvent::Submit(self.proposal(alloc, definition)?);
         self.binds(alloc, Say::Submitted, definition, &self.here, &event)
@@ -82,7 +83,8 @@ impl Site {
         state: &State,
         definition: &Boxed<Definition>,
     ) -> Result<Plan, AllocError>
-        ensures { IfOk result (λ p. p ≡ planned (site_of self.now) (proposes (site_of self.now) definition.now (cell_of state.now) (broken definition.now))) }
+        ensures { IfOk result (λ p. p ≡
+            planned (site_of self.now) (proposes (site_of self.now) definition.now (cell_of state.now) (broken definition.now))) }
     {
         if let Some(rule) = definition.get().fault() {
             return Ok(refuses(alloc, Refusal::BadDefinition(rule)));

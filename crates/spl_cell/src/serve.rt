@@ -1,23 +1,22 @@
 //! A message comes from a service on another node.
 ghost use Rattle.std.specs.Prelude.{◌≡◌, true, false, IsOk, IfOk};
 ghost use Rattle.std.specs.Str.{bytes_eq};
-ghost use Rattle.spl_agree.specs.Fits.{IsDue, generation_of};
-ghost use Rattle.spl_circuit.specs.Nodes.{position};
 ghost use Rattle.spl_circuit.specs.Rules.{is_member};
 ghost use Rattle.spl_wire.specs.declared.answer.Answer.TheVariants as answer;
-ghost use Rattle.spl_rules.specs.Cells.{Replies, Serves, Tells, Delivered, service_group};
+ghost use Rattle.spl_rules.specs.Cells.{Replies, Tells};
 ghost use Rattle.spl_rules.specs.Batches.{way, routed, serves_other, hears_routed, hears_service};
-ghost use Rattle.spl_rules.specs.Plans.{service_lane, group_row, planned};
-ghost use Rattle.spl_cell.specs.Views.{IsSettledHeld};
+ghost use Rattle.spl_rules.specs.Plans.{planned};
 ghost use Rattle.spl_cell.specs.Sites.{site_of};
 
 use crate::held::Held;
-use crate::plans::{Say, refuses, tells_only};
+use crate::plans::{refuses, tells_only};
+use crate::settled::Settled;
 use crate::site::Site;
-use spl_agree::{CommitMsg, Generation, GroupEvent, GroupPlan, Note, Round};
+use spl_agree::{CommitMsg, Generation, Note, Round};
 use spl_base::{NodeId, ServiceId};
 use spl_command::Batch;
 use spl_router::{RouteFault, route};
+use spl_scabbard::Service;
 use spl_wire::{Answer, Message, Plan, Refusal};
 use std::alloc::{AllocError, Global};
 
@@ -32,7 +31,9 @@ impl Site {
         generation: Generation,
         round: Round,
     ) -> Result<Plan, AllocError>
-        ensures { IfOk result (λ p. p ≡ planned (site_of self.now) (Replies (Note.Declined round) from_node.now (Message.Scabbard self.now.circuit from to (CommitMsg.Vote generation round false)))) }
+        ensures { IfOk result (λ p. p ≡
+            planned (site_of self.now) (Replies (Note.Declined round) from_node.now
+            (Message.Scabbard self.now.circuit from to (CommitMsg.Vote generation round false)))) }
     {
         let body = CommitMsg::Vote {
             generation,
@@ -101,41 +102,9 @@ impl Held {
         }
     }
 
-    /// What a message gives in the service group.
-    #[tactic(auto, using(crate::proofs::Seats::group_here))]
-    fn service_heard(
-        &self,
-        alloc: Global,
-        sender: u8,
-        body: &CommitMsg<Batch>,
-    ) -> Result<GroupPlan<Batch>, AllocError>
-        requires settled { IsSettledHeld self.now }
-        requires due { IsDue (service_group self.now.bound.definition) (position self.now.bound.definition.members self.now.site.here) self.now.bound.batches (GroupEvent.From sender body.now) }
-        ensures { IfOk result (λ p. p ≡ group_row (service_lane self.now.site self.now.bound.definition) self.now.bound.batches (GroupEvent.From sender body.now)) }
-    {
-        self.batches.hear(alloc, sender, body)
-    }
+}
 
-    /// A message of the cell's generation that is routed.
-    #[tactic(auto, using(crate::proofs::Positions::sender_facts))]
-    fn hears_batch(
-        &self,
-        alloc: Global,
-        from_node: &NodeId,
-        body: &CommitMsg<Batch>,
-    ) -> Result<Plan, AllocError>
-        requires settled { IsSettledHeld self.now }
-        requires other { bytes_eq from_node.now self.now.site.here ≡ false }
-        requires member { is_member self.now.bound.definition from_node.now ≡ true }
-        requires same { generation_of body.now ≡ self.now.bound.definition.generation }
-        ensures { IfOk result (λ p. p ≡ planned self.now.site (Serves Delivered self.now.bound from_node.now (GroupEvent.From (position self.now.bound.definition.members from_node.now) body.now))) }
-    {
-        let sender = self.definition().position(from_node);
-        let plan = self.service_heard(alloc, sender, body)?;
-        self.site
-            .service_plan(alloc, Say::Delivered, self.definition(), from_node, plan)
-    }
-
+impl Settled<'_> {
     /// A message that is routed.
     fn hears_routed(
         &self,
@@ -145,15 +114,15 @@ impl Held {
         to: &ServiceId,
         body: &CommitMsg<Batch>,
     ) -> Result<Plan, AllocError>
-        requires settled { IsSettledHeld self.now }
         requires other { bytes_eq from_node.now self.now.site.here ≡ false }
         requires member { is_member self.now.bound.definition from_node.now ≡ true }
         ensures { IfOk result (λ p. p ≡ planned self.now.site (hears_routed self.now.site self.now.bound from_node.now from.now to.now body.now)) }
     {
-        if body.generation() != self.definition().generation {
-            return self.site.serves_other(alloc, from_node, from, to, body);
+        let held = self.held();
+        if body.generation() != held.definition().generation {
+            return held.site.serves_other(alloc, from_node, from, to, body);
         }
-        self.hears_batch(alloc, from_node, body)
+        self.hears::<Service>(alloc, from_node, body)
     }
 
     /// A message comes from a service on another node to a service here.
@@ -165,11 +134,10 @@ impl Held {
         to: &ServiceId,
         body: &CommitMsg<Batch>,
     ) -> Result<Plan, AllocError>
-        requires settled { IsSettledHeld self.now }
         requires other { bytes_eq from_node.now self.now.site.here ≡ false }
         ensures { IfOk result (λ p. p ≡ planned self.now.site (hears_service self.now.site self.now.bound from_node.now from.now to.now body.now)) }
     {
-        match self.way(from_node, from, to) {
+        match self.held().way(from_node, from, to) {
             Ok(()) => self.hears_routed(alloc, from_node, from, to, body),
             Err(fault) => Ok(refuses(alloc, Refusal::NotRouted(fault))),
         }

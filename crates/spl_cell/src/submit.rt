@@ -4,10 +4,9 @@ ghost use Rattle.spl_agree.specs.Member.{known};
 ghost use Rattle.spl_scabbard.specs.Checks.{batch_rules};
 ghost use Rattle.spl_rules.specs.Batches.{submits, submits_known, submits_new};
 ghost use Rattle.spl_rules.specs.Plans.{planned};
-ghost use Rattle.spl_cell.specs.Views.{IsSettledHeld};
 
-use crate::held::Held;
 use crate::plans::{Say, refuses, tells_only};
+use crate::settled::Settled;
 use spl_agree::{Agreed, GroupEvent, MOST_PENDING};
 use spl_base::Value;
 use spl_command::Batch;
@@ -15,26 +14,26 @@ use spl_scabbard::Service;
 use spl_wire::{Answer, Plan, Refusal};
 use std::alloc::{AllocError, Global};
 
-impl Held {
+impl Settled<'_> {
     /// A batch whose id isn't known here.
     fn submits_new(&self, alloc: Global, batch: &Batch) -> Result<Plan, AllocError>
-        requires settled { IsSettledHeld self.now }
         requires fresh { known batch_rules self.now.bound.batches batch.now ≡ None }
         ensures { IfOk result (λ p. p ≡ planned self.now.site (submits_new self.now.site self.now.bound batch.now)) }
     {
-        if self.batches_pending() as usize == MOST_PENDING {
+        let held = self.held();
+        if held.batches_pending() as usize == MOST_PENDING {
             return Ok(refuses(alloc, Refusal::QueueFull));
         }
         let event = GroupEvent::Submit(batch.copy(alloc)?);
-        self.serves(alloc, Say::Submitted, &self.site.here, &event)
+        self.goes_on::<Service>(alloc, Say::Submitted, &held.site.here, &event)
     }
 
     /// A batch that breaks no rule.
     fn submits_known(&self, alloc: Global, batch: &Batch) -> Result<Plan, AllocError>
-        requires settled { IsSettledHeld self.now }
-        ensures { IfOk result (λ p. p ≡ planned self.now.site (submits_known self.now.site self.now.bound batch.now (known batch_rules self.now.bound.batches batch.now))) }
+        ensures { IfOk result (λ p. p ≡
+            planned self.now.site (submits_known self.now.site self.now.bound batch.now (known batch_rules self.now.bound.batches batch.now))) }
     {
-        let Some(there) = self.batches.known(&batch.id) else {
+        let Some(there) = self.held().batches.known(&batch.id) else {
             return self.submits_new(alloc, batch);
         };
         if <Service as Agreed>::same(there, batch) {
@@ -45,13 +44,13 @@ impl Held {
 
     /// The node submits a batch: it is queued, or the first reason against it is told.
     pub(crate) fn submits(&self, alloc: Global, batch: &Batch) -> Result<Plan, AllocError>
-        requires settled { IsSettledHeld self.now }
         ensures { IfOk result (λ p. p ≡ planned self.now.site (submits self.now.site self.now.bound batch.now)) }
     {
-        if !self.runs() {
+        let held = self.held();
+        if !held.runs() {
             return Ok(refuses(alloc, Refusal::NotActive));
         }
-        if !self.is_open() {
+        if !held.is_open() {
             return Ok(refuses(alloc, Refusal::Closed));
         }
         if let Some(rule) = batch.fault() {

@@ -1,24 +1,25 @@
 //! The groups of a cell are asked to go on.
 ghost use Rattle.std.specs.Prelude.{◌≡◌, IfOk};
 ghost use Rattle.spl_agree.specs.declared.event.GroupEvent.TheVariants as group;
-ghost use Rattle.spl_agree.specs.Fits.{IsDue};
-ghost use Rattle.spl_circuit.specs.Nodes.{position};
-ghost use Rattle.spl_rules.specs.Cells.{Held as Bound, Turns, admin_group, service_group};
+ghost use Rattle.spl_rules.specs.Cells.{Held as Bound, Turns};
 ghost use Rattle.spl_rules.specs.Events.{turns};
 ghost use Rattle.spl_rules.specs.Idle.{is_idle_note};
 ghost use Rattle.spl_rules.specs.Plans.{admin_lane, service_lane, group_row, planned};
 ghost use Rattle.spl_cell.specs.Due.{due};
-ghost use Rattle.spl_cell.specs.Views.{IsSettledHeld};
+ghost use Rattle.spl_cell.specs.Lanes.{IsDueAt, admin_kind, service_kind};
 
 use crate::held::Held;
 use crate::plans::{Say, refuses};
+use crate::settled::Settled;
+use spl_admin::Ledger;
 use spl_agree::GroupEvent;
 use spl_circuit::Act;
 use spl_command::Batch;
+use spl_scabbard::Service;
 use spl_wire::{Plan, Refusal};
 use std::alloc::{AllocError, Global};
 
-impl Held {
+impl Settled<'_> {
     /// Each group does its part, the admin group first.
     #[inline(always)]
     fn both(
@@ -27,15 +28,15 @@ impl Held {
         act: &GroupEvent<Act>,
         batch: &GroupEvent<Batch>,
     ) -> Result<Plan, AllocError>
-        requires settled { IsSettledHeld self.now }
-        requires admin { IsDue (admin_group self.now.bound.definition) (position self.now.bound.definition.members self.now.site.here) self.now.bound.acts act.now }
-        requires service { IsDue (service_group self.now.bound.definition) (position self.now.bound.definition.members self.now.site.here) self.now.bound.batches batch.now }
+        requires admin { IsDueAt admin_kind self.now act.now }
+        requires service { IsDueAt service_kind self.now batch.now }
         ensures { IfOk result (λ p. p ≡ planned self.now.site (Turns self.now.bound act.now batch.now)) }
     {
-        let acts = self.admin_row(alloc, act)?;
-        let batches = self.service_row(alloc, batch)?;
-        self.site
-            .both_plans(alloc, self.definition(), acts, batches)
+        let acts = self.row::<Ledger>(alloc, act)?;
+        let batches = self.row::<Service>(alloc, batch)?;
+        let held = self.held();
+        held.site
+            .both_plans(alloc, held.definition(), acts, batches)
     }
 
     /// The groups go on by a tick or an expire, the service group where the circuit is active here.
@@ -46,20 +47,22 @@ impl Held {
         act: &GroupEvent<Act>,
         batch: &GroupEvent<Batch>,
     ) -> Result<Plan, AllocError>
-        requires settled { IsSettledHeld self.now }
-        requires admin { IsDue (admin_group self.now.bound.definition) (position self.now.bound.definition.members self.now.site.here) self.now.bound.acts act.now }
-        requires service { IsDue (service_group self.now.bound.definition) (position self.now.bound.definition.members self.now.site.here) self.now.bound.batches batch.now }
+        requires admin { IsDueAt admin_kind self.now act.now }
+        requires service { IsDueAt service_kind self.now batch.now }
         ensures { IfOk result (λ p. p ≡ planned self.now.site (turns self.now.site self.now.bound act.now batch.now)) }
     {
-        if !self.is_open() {
+        let held = self.held();
+        if !held.is_open() {
             return Ok(refuses(alloc, Refusal::Closed));
         }
-        if self.runs() {
+        if held.runs() {
             return self.both(alloc, act, batch);
         }
-        self.acts(alloc, Say::Alone, &self.site.here, act)
+        self.goes_on::<Ledger>(alloc, Say::Alone, &held.site.here, act)
     }
+}
 
+impl Held {
     /// Whether a tick has nothing to do in the admin group.
     fn acts_rest(&self) -> bool
         ensures { result ≡ is_idle_note (group_row (admin_lane self.now.site self.now.bound.definition) self.now.bound.acts group.Tick).note }

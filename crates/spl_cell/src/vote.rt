@@ -3,19 +3,18 @@ ghost use Rattle.std.specs.Prelude.{◌≡◌, ◌-◌, ◌^◌, ◌<◌, false,
 ghost use Rattle.spl_agree.specs.Member.{known};
 ghost use Rattle.std.specs.List.{list_any};
 ghost use Rattle.std.specs.Str.{bytes_eq};
-ghost use Rattle.spl_agree.specs.Fits.{IsDue};
 ghost use Rattle.spl_circuit.specs.declared.act.ActKind.{ActKind as Kind};
-ghost use Rattle.spl_circuit.specs.Nodes.{position};
 ghost use Rattle.spl_circuit.specs.Acts.{act_rules};
 ghost use Rattle.spl_circuit.specs.Lifecycle.{is_asked};
-ghost use Rattle.spl_rules.specs.Cells.{vote_kind, removal_kind, submits_next, votes, removes, disbands, next_act, is_act_pending, admin_group, own_life};
+ghost use Rattle.spl_rules.specs.Cells.{vote_kind, removal_kind, submits_next, votes, removes, disbands, next_act, is_act_pending, own_life};
 ghost use Rattle.spl_rules.specs.Plans.{planned};
+ghost use Rattle.spl_cell.specs.Lanes.{IsDueAt, admin_kind};
 ghost use Rattle.spl_cell.specs.Mays.{some_is};
-ghost use Rattle.spl_cell.specs.Views.{IsSettledHeld};
 
 use crate::held::Held;
 use crate::plans::{Say, refuses};
-use spl_admin::ActKey;
+use crate::settled::Settled;
+use spl_admin::{ActKey, Ledger};
 use spl_agree::{GroupEvent, MOST_PENDING};
 use spl_base::NodeId;
 use spl_circuit::{Act, ActKind, Lifecycle};
@@ -50,7 +49,8 @@ impl Held {
     /// Whether the next act of this node is known here.
     fn knows_next(&self) -> bool
         requires { self.now.bound.turn < 2 ^ 32 - 1 }
-        ensures { result ≡ is_some (known (act_rules self.now.bound.definition) self.now.bound.acts (next_act self.now.site.here self.now.bound.turn ActKind.Accept)) }
+        ensures { result ≡
+            is_some (known (act_rules self.now.bound.definition) self.now.bound.acts (next_act self.now.site.here self.now.bound.turn ActKind.Accept)) }
     {
         let key = ActKey {
             node: self.site.here,
@@ -63,7 +63,7 @@ impl Held {
     fn is_act_pending(&self) -> bool
         ensures pending { result ≡ is_act_pending self.now.site self.now.bound }
         ensures turn { result ≡ false → self.now.bound.turn < 2 ^ 32 - 1 }
-        ensures due { result ≡ false → (k : Kind) → IsDue (admin_group self.now.bound.definition) (position self.now.bound.definition.members self.now.site.here) self.now.bound.acts (GroupEvent.Submit (next_act self.now.site.here self.now.bound.turn k)) }
+        ensures due { result ≡ false → (k : Kind) → IsDueAt admin_kind self.now (GroupEvent.Submit (next_act self.now.site.here self.now.bound.turn k)) }
     {
         if self.has_pending_of(&self.site.here) {
             return true;
@@ -121,69 +121,72 @@ impl Held {
         }
     }
 
+}
+
+impl Settled<'_> {
     /// The next act of this node is submitted, where it takes part.
     fn submits_next(&self, alloc: Global, kind: ActKind) -> Result<Plan, AllocError>
-        requires settled { IsSettledHeld self.now }
         requires turn { self.now.bound.turn < 2 ^ 32 - 1 }
-        requires due { IsDue (admin_group self.now.bound.definition) (position self.now.bound.definition.members self.now.site.here) self.now.bound.acts (GroupEvent.Submit (next_act self.now.site.here self.now.bound.turn kind)) }
+        requires due { IsDueAt admin_kind self.now (GroupEvent.Submit (next_act self.now.site.here self.now.bound.turn kind)) }
         ensures { IfOk result (λ p. p ≡ planned self.now.site (submits_next self.now.site self.now.bound kind)) }
     {
-        if !self.is_open() {
+        let held = self.held();
+        if !held.is_open() {
             return Ok(refuses(alloc, Refusal::Closed));
         }
-        let event = GroupEvent::Submit(self.next_act(kind));
-        self.acts(alloc, Say::Submitted, &self.site.here, &event)
+        let event = GroupEvent::Submit(held.next_act(kind));
+        self.goes_on::<Ledger>(alloc, Say::Submitted, &held.site.here, &event)
     }
 
     /// The node accepts or rejects.
     pub(crate) fn votes(&self, alloc: Global, accept: bool) -> Result<Plan, AllocError>
-        requires settled { IsSettledHeld self.now }
         ensures { IfOk result (λ p. p ≡ planned self.now.site (votes self.now.site self.now.bound (vote_kind (own_life self.now.bound) accept))) }
     {
-        if self.is_act_pending() {
+        let held = self.held();
+        if held.is_act_pending() {
             return Ok(refuses(alloc, Refusal::ActPending));
         }
-        if !self.is_asked() {
+        if !held.is_asked() {
             return Ok(refuses(alloc, Refusal::NoProposal));
         }
-        if self.has_accepted() {
+        if held.has_accepted() {
             return Ok(refuses(alloc, Refusal::AlreadyVoted));
         }
-        self.submits_next(alloc, self.vote_kind(accept))
+        self.submits_next(alloc, held.vote_kind(accept))
     }
 
     /// The node takes back what it asked for.
     pub(crate) fn removes(&self, alloc: Global) -> Result<Plan, AllocError>
-        requires settled { IsSettledHeld self.now }
         ensures { IfOk result (λ p. p ≡ planned self.now.site (removes self.now.site self.now.bound (removal_kind (own_life self.now.bound)))) }
     {
-        if self.is_act_pending() {
+        let held = self.held();
+        if held.is_act_pending() {
             return Ok(refuses(alloc, Refusal::ActPending));
         }
-        if !self.is_asked() {
+        if !held.is_asked() {
             return Ok(refuses(alloc, Refusal::NoProposal));
         }
-        if !self.is_requester() {
+        if !held.is_requester() {
             return Ok(refuses(alloc, Refusal::NotRequester));
         }
-        self.submits_next(alloc, self.removal_kind())
+        self.submits_next(alloc, held.removal_kind())
     }
 
     /// The node asks to disband the circuit.
     pub(crate) fn disbands(&self, alloc: Global) -> Result<Plan, AllocError>
-        requires settled { IsSettledHeld self.now }
         ensures { IfOk result (λ p. p ≡ planned self.now.site (disbands self.now.site self.now.bound)) }
     {
-        if self.is_act_pending() {
+        let held = self.held();
+        if held.is_act_pending() {
             return Ok(refuses(alloc, Refusal::ActPending));
         }
-        if !self.is_active() {
+        if !held.is_active() {
             return Ok(refuses(alloc, Refusal::NotActive));
         }
-        if !self.is_open() {
+        if !held.is_open() {
             return Ok(refuses(alloc, Refusal::Closed));
         }
-        if self.definition().version == 1 {
+        if held.definition().version == 1 {
             return Ok(refuses(alloc, Refusal::VersionTooLow));
         }
         self.submits_next(alloc, ActKind::Disband)

@@ -12,5 +12,5 @@ binds-requires-clause-due c =
     let here : NodeId = c.args.self.now.here in
     let apart = sender_other c.get-terms.result.now from here (can.valid yes) (can.member yes) c.requires.other in (
       sym (can.generation yes) ∙ ap (λ (d : Definition). d.generation) c.get-terms.ensures,
-      λ q. apart (sym (c.position-sender.ensures ∙ ap (λ ms. position ms from) c.as_slice.ensures) ∙ q ∙ ap (λ (d : Definition). position d.members here) (sym c.get-terms.ensures)),
+      λ q. apart (sym c.position-sender.ensures ∙ q ∙ ap (λ (d : Definition). position d.members here) (sym c.get-terms.ensures)),
     )

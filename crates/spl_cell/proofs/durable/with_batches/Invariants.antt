@@ -1,8 +1,0 @@
-use Rattle.std.proofs.Common.{◌≡◌, ◌++◌}
-use Rattle.std.specs.Prelude.{map}
-use Rattle.spl_wire.specs.declared.change.Change.TheVariants as durable
-use Rattle.spl_cell.proofs.durable.with_batches.Given as goal
-
--- those so far
-abbrev pub invariant-loop-change : goal.invariant-loop-change
-invariant-loop-change l = l.all ≡ l.fn.first ++ map durable.Service l.yielded

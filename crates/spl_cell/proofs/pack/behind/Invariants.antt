@@ -1,0 +1,7 @@
+use Rattle.std.proofs.Common.{◌≡◌, ◌++◌}
+use Rattle.std.specs.Prelude.{map}
+use Rattle.spl_cell.proofs.pack.behind.Given as goal
+
+-- those so far
+abbrev pub invariant-loop-change : goal.invariant-loop-change
+invariant-loop-change g l = l.all.items ≡ l.fn.first.items ++ map g.L.Lane.kind.change l.yielded
