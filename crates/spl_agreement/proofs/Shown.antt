@@ -157,8 +157,8 @@ module _ (ns : List NodeId) (rs : List Ran) (fit : lines_fit rs ≡ true) (c : C
     acts_before = length held.bound.acts.history;
     batches_before = length held.bound.batches.history;
     shown =
-      subst (λ (xs : List Act). IsShownBy d xs (take (length held.bound.batches.history) (batch_list ns d (occurrences (blank ns) c rs))) e told) (sym front-acts)
-      (subst (λ (ys : List Batch). IsShownBy d (values held.bound.acts.history) ys e told) (sym front-batches) shown-here);
+        subst (λ (xs : List Act). IsShownBy d xs (take (length held.bound.batches.history) (batch_list ns d (occurrences (blank ns) c rs))) e told) (sym front-acts)
+        (subst (λ (ys : List Batch). IsShownBy d (values held.bound.acts.history) ys e told) (sym front-batches) shown-here);
   }
 
 pub shows-fronts : (ns : List NodeId) (rs : List Ran) → lines_fit rs ≡ true → ShowsFronts ns rs

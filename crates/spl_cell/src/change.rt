@@ -111,9 +111,12 @@ impl Held {
     fn makes_admin(&mut self, alloc: Global, change: &GroupChange<Act>) -> Result<(), AllocError>
         requires { fits_group (act_rules self.old.bound.definition) any_value self.old.bound.acts change.now ≡ true }
         ensures ok { OnOk result
-            (self.new ≡ record self.old { bound = record self.old.bound {
-            turn = turn_after self.old.site.here self.old.bound.turn change.now;
-            acts = changed (act_rules self.old.bound.definition) self.old.bound.acts change.now } }) }
+            (self.new ≡ record self.old {
+              bound = record self.old.bound {
+                turn = turn_after self.old.site.here self.old.bound.turn change.now;
+                acts = changed (act_rules self.old.bound.definition) self.old.bound.acts change.now;
+              };
+            }) }
         ensures site { self.new.site ≡ self.old.site }
     {
         let turn = self.turn_after(change);

@@ -38,14 +38,14 @@ impl Model for Held {
     ghost Value = { HeldView };
 
     ghost view = { λ s. record {
-        site = site_of s.site;
-        bound = record {
-            definition = s.acts.content.definition;
-            mark = s.mark;
-            turn = s.turn;
-            acts = s.acts.state;
-            batches = s.batches.state;
-        };
+      site = site_of s.site;
+      bound = record {
+        definition = s.acts.content.definition;
+        mark = s.mark;
+        turn = s.turn;
+        acts = s.acts.state;
+        batches = s.batches.state;
+      };
     } };
 
     ghost invariant = { λ s. IsPlaced s.site.here s.acts.content.definition s.acts s.batches };

@@ -67,12 +67,7 @@ impl Lane for Ledger {
     }
 
     #[inline(always)]
-    fn message(
-        site: &Site,
-        _definition: &Definition,
-        _to: &NodeId,
-        body: CommitMsg<Act>,
-    ) -> Message
+    fn message(site: &Site, _definition: &Definition, _to: &NodeId, body: CommitMsg<Act>) -> Message
         ensures { result ≡ Message.Admin site.now.circuit body }
     {
         let circuit = site.circuit;
@@ -114,12 +109,7 @@ impl Lane for Service {
 
     /// A message goes from the service here to that on the node.
     #[inline(always)]
-    fn message(
-        site: &Site,
-        definition: &Definition,
-        to: &NodeId,
-        body: CommitMsg<Batch>,
-    ) -> Message
+    fn message(site: &Site, definition: &Definition, to: &NodeId, body: CommitMsg<Batch>) -> Message
         requires valid { broken definition.now ≡ None }
         requires member { is_member definition.now site.now.here ≡ true }
         requires reached { reaches service_kind definition.now to.now ≡ true }

@@ -20,8 +20,12 @@ impl Held {
     fn move_acts(&mut self, x: OpenMove)
         requires { FitsMove (admin_group self.old.bound.definition) (position self.old.bound.definition.members self.old.site.here) self.old.bound.acts x }
         ensures { self.new ≡
-            record self.old { bound = record self.old.bound { acts =
-                moved (admin_group self.old.bound.definition) (position self.old.bound.definition.members self.old.site.here) self.old.bound.acts x } } }
+            record self.old {
+              bound = record self.old.bound {
+                acts =
+                    moved (admin_group self.old.bound.definition) (position self.old.bound.definition.members self.old.site.here) self.old.bound.acts x;
+              };
+            } }
     {
         self.acts.move_open(x);
     }
@@ -31,8 +35,12 @@ impl Held {
     fn move_batches(&mut self, x: OpenMove)
         requires { FitsMove (service_group self.old.bound.definition) (position self.old.bound.definition.members self.old.site.here) self.old.bound.batches x }
         ensures { self.new ≡
-            record self.old { bound = record self.old.bound { batches =
-                moved (service_group self.old.bound.definition) (position self.old.bound.definition.members self.old.site.here) self.old.bound.batches x } } }
+            record self.old {
+              bound = record self.old.bound {
+                batches =
+                    moved (service_group self.old.bound.definition) (position self.old.bound.definition.members self.old.site.here) self.old.bound.batches x;
+              };
+            } }
     {
         self.batches.move_open(x);
     }

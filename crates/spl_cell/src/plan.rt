@@ -71,7 +71,13 @@ impl Site {
             } => Ok(held.routes(alloc, from, from_service, to_service)),
             Event::Tick => settled.turns(alloc, &GroupEvent::Tick, &GroupEvent::Tick),
             Event::Expire => settled.turns(alloc, &GroupEvent::Expire, &GroupEvent::Expire),
-            Event::Deliver { from, message } => self.hears(alloc, state, &settled, from, message.get()),
+            Event::Deliver { from, message } => self.hears(
+                alloc,
+                state,
+                &settled,
+                from,
+                message.get(),
+            ),
         }
     }
 }

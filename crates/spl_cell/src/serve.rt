@@ -101,7 +101,6 @@ impl Held {
             Err(fault) => refuses(alloc, Refusal::NotRouted(fault)),
         }
     }
-
 }
 
 impl Settled<'_> {

@@ -120,7 +120,6 @@ impl Held {
             None => ActKind::Remove,
         }
     }
-
 }
 
 impl Settled<'_> {
