@@ -1,11 +1,10 @@
 -- Positions of nodes among members.
-use Rattle.std.proofs.Common.{◌≡◌, ◌≢◌, ◌⊎◌, ℕ, zero, suc, ◌+◌, ◌<◌, ◌≤◌, true, false, cond, List, [], ◌∷◌, length, get_or, drop, refl, sym, ap, ◌∙◌, inl, inr, add-one, drop-cons, arith}
-use Rattle.std.specs.Prelude.{None, if◌then◌else◌, slice_index_or}
+use Rattle.std.proofs.Common.{◌≡◌, ◌≢◌, ◌<◌, ◌≤◌, true, false, List, [], ◌∷◌, length, refl, arith}
+use Rattle.std.specs.Prelude.{None}
 use Rattle.std.specs.Str.{bytes_eq}
 use Rattle.std.proofs.lemmas.Slice.Eq.{bytes_eq-Decides}
-use Rattle.spl_agree.proofs.Tests.{bool_cases}
 use Rattle.spl_circuit.specs.declared.definition.Definition.{Definition}
-use Rattle.spl_circuit.specs.Nodes.{NodeId, has_node, before_node, position, node_or, lowest}
+use Rattle.spl_circuit.specs.Nodes.{NodeId, has_node, position, lowest}
 use Rattle.spl_circuit.specs.Rules.{broken, admin, is_member, ascends}
 use Rattle.spl_circuit.proofs.Sorting.{first_is_lowest}
 use Rattle.spl_rules.proofs.Positions.{position_below, position_apart}

@@ -119,9 +119,9 @@ among_at : (among : Bool) (d : Definition) (back : NodeId) (p : ℕ) → (if amo
 among_at true d back p h = node_or_member d back p h
 among_at false d back p h = refl
 
--- a group's messages can go there where they can go back
-pub reaches_at : {V : Type 0} (kind : LaneKind V) (d : Definition) (back : NodeId) (p : ℕ) → reaches kind d back ≡ true → reaches kind d (node_or d.members back p) ≡ true
-reaches_at kind d back p h = among_at kind.among d back p h
+-- a group's messages can go to who is at a position where they can go back
+pub reaches_at : {V : Type 0} (kind : LaneKind V) (d : Definition) (back : NodeId) (p : ℕ) (to : NodeId) → to ≡ node_or d.members back p → reaches kind d back ≡ true → reaches kind d to ≡ true
+reaches_at kind d back p to e h = rw e (among_at kind.among d back p h)
 
 -- the node of the service that leads
 service_serves : (ss : List Service) → ascends (ids_of ss) ≡ true → 1 ≤ length ss → serves ss (leading_node ss) ≡ true

@@ -1,5 +1,5 @@
 -- The two groups of a cell by what is their own.
-use Rattle.std.specs.Prelude.{ℕ, Bool, true, false, if◌then◌else◌, [], length}
+use Rattle.std.specs.Prelude.{Bool, true, false, if◌then◌else◌, [], length}
 use Rattle.spl_agree.specs.declared.message.CommitMsg.{CommitMsg}
 use Rattle.spl_agree.specs.declared.event.GroupEvent.{GroupEvent}
 use Rattle.spl_agree.specs.declared.event.GroupChange.{GroupChange}

@@ -9,6 +9,7 @@ use crate::plans::{refuses, tells_only};
 use spl_base::{BatchId, Piece, Value};
 use spl_command::states_are_in_address_order;
 use spl_commit::Known;
+use spl_scabbard::Service;
 use spl_state::{Address, Prefix, State};
 use spl_wire::{Answer, BatchStatus, Entries, Entry, Plan, Refusal};
 use std::alloc::{AllocError, Global};
@@ -46,7 +47,7 @@ impl Held {
         ensures { result ≡ root_told self.now.bound.batches }
     {
         Answer::Root {
-            count: self.batches_committed(),
+            count: self.committed::<Service>(),
             root: self.service().root(),
         }
     }

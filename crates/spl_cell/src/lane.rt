@@ -60,6 +60,7 @@ impl Lane for Ledger {
 
     ghost settles = { λ h s. s.0 };
 
+    #[inline(always)]
     fn change(change: GroupChange<Act>) -> Change
         ensures { result ≡ admin_kind.change change }
     {
@@ -74,10 +75,12 @@ impl Lane for Ledger {
         Message::Admin { circuit, body }
     }
 
+    #[inline(always)]
     fn moves(opening: OpenMove) -> (OpenMove, OpenMove) {
         (opening, OpenMove::Keep)
     }
 
+    #[inline(always)]
     fn member(held: &Held) -> &Member<Ledger> {
         &held.acts
     }
@@ -101,6 +104,7 @@ impl Lane for Service {
 
     ghost settles = { λ h s. s.1 };
 
+    #[inline(always)]
     fn change(change: GroupChange<Batch>) -> Change
         ensures { result ≡ service_kind.change change }
     {
@@ -123,10 +127,12 @@ impl Lane for Service {
         }
     }
 
+    #[inline(always)]
     fn moves(opening: OpenMove) -> (OpenMove, OpenMove) {
         (OpenMove::Keep, opening)
     }
 
+    #[inline(always)]
     fn member(held: &Held) -> &Member<Service> {
         &held.batches
     }

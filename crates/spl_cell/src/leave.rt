@@ -6,6 +6,7 @@ ghost use Rattle.spl_rules.specs.Plans.{planned};
 
 use crate::held::Held;
 use crate::plans::refuses;
+use spl_admin::Ledger;
 use spl_agree::OpenMove;
 use spl_circuit::Lifecycle;
 use spl_wire::{Answer, Change, ChangeList, Plan, Refusal, SendList};
@@ -57,7 +58,7 @@ impl Held {
         ensures { result ≡ is_waiting (own_life self.now.bound).state self.now.bound.acts }
     {
         match self.lifecycle() {
-            Lifecycle::None => self.acts_pending() > 0 || self.has_promised(),
+            Lifecycle::None => self.pending::<Ledger>() > 0 || self.has_promised(),
             Lifecycle::Rejected | Lifecycle::Removed | Lifecycle::Disbanded => false,
             _ => true,
         }

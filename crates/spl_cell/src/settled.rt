@@ -35,6 +35,7 @@ impl<'a> Model for Settled<'a> {
 
 impl<'a> Settled<'a> {
     /// A bound cell that is settled.
+    #[inline(always)]
     pub(crate) fn new(held: &'a Held) -> Settled<'a>
         requires settled { IsSettledHeld held.now }
         ensures { result ≡ held.now }
@@ -43,6 +44,7 @@ impl<'a> Settled<'a> {
     }
 
     /// The bound cell.
+    #[inline(always)]
     pub(crate) fn held(&self) -> &'a Held
         ensures value { result.now ≡ self.now }
         ensures settled { IsSettledHeld self.now }

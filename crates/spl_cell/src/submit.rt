@@ -21,7 +21,7 @@ impl Settled<'_> {
         ensures { IfOk result (λ p. p ≡ planned self.now.site (submits_new self.now.site self.now.bound batch.now)) }
     {
         let held = self.held();
-        if held.batches_pending() as usize == MOST_PENDING {
+        if held.pending::<Service>() as usize == MOST_PENDING {
             return Ok(refuses(alloc, Refusal::QueueFull));
         }
         let event = GroupEvent::Submit(batch.copy(alloc)?);

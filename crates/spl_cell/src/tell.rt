@@ -5,10 +5,13 @@ ghost use Rattle.spl_rules.specs.Cells.{Tells, shows, details};
 ghost use Rattle.spl_rules.specs.Plans.{planned};
 
 use crate::held::Held;
+use crate::lane::Lane;
 use crate::plans::tells_only;
+use spl_admin::Ledger;
 use spl_agree::Agreed;
 use spl_base::{Boxed, Value};
 use spl_commit::Member;
+use spl_scabbard::Service;
 use spl_wire::{Answer, Plan};
 use std::alloc::{AllocError, Global};
 
@@ -24,34 +27,19 @@ fn pending_len<M: Agreed>(member: &Member<M>) -> u32
 }
 
 impl Held {
-    /// How many acts are committed here.
-    fn acts_committed(&self) -> u32
-        ensures { result ≡ length self.now.bound.acts.history }
+    /// How many values of a group are committed here.
+    pub(crate) fn committed<L: Lane>(&self) -> u32
+        ensures { result ≡ length (L.kind.kept self.now.bound).history }
     {
-        self.acts.history_len().0
+        L::member(self).history_len().0
     }
 
-    /// How many acts are pending here.
-    pub(crate) fn acts_pending(&self) -> u32
-        ensures value { result ≡ length self.now.bound.acts.pending }
-        ensures few { length self.now.bound.acts.pending ≤ MOST_PENDING }
+    /// How many values of a group are pending here.
+    pub(crate) fn pending<L: Lane>(&self) -> u32
+        ensures value { result ≡ length (L.kind.kept self.now.bound).pending }
+        ensures few { length (L.kind.kept self.now.bound).pending ≤ MOST_PENDING }
     {
-        pending_len(&self.acts)
-    }
-
-    /// How many batches are committed here.
-    pub(crate) fn batches_committed(&self) -> u32
-        ensures { result ≡ length self.now.bound.batches.history }
-    {
-        self.batches.history_len().0
-    }
-
-    /// How many batches are pending here.
-    pub(crate) fn batches_pending(&self) -> u32
-        ensures value { result ≡ length self.now.bound.batches.pending }
-        ensures few { length self.now.bound.batches.pending ≤ MOST_PENDING }
-    {
-        pending_len(&self.batches)
+        pending_len(L::member(self))
     }
 
     /// Whether a value is promised.
@@ -70,10 +58,10 @@ impl Held {
             lifecycle: self.lifecycle(),
             mark: self.mark,
             accepted: self.accepted_in_order(alloc)?,
-            acts: self.acts_committed(),
-            acts_pending: self.acts_pending(),
-            batches: self.batches_committed(),
-            batches_pending: self.batches_pending(),
+            acts: self.committed::<Ledger>(),
+            acts_pending: self.pending::<Ledger>(),
+            batches: self.committed::<Service>(),
+            batches_pending: self.pending::<Service>(),
         };
         Ok(tells_only(alloc, answer))
     }

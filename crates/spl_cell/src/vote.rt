@@ -38,7 +38,7 @@ impl Held {
     pub(crate) fn has_pending_of(&self, node: &NodeId) -> bool
         ensures { result ≡ list_any (λ v. bytes_eq v.node node.now) self.now.bound.acts.pending }
     {
-        for i in 0..self.acts_pending() {
+        for i in 0..self.pending::<Ledger>() {
             if self.is_pending_of(i, node) {
                 return true;
             }
@@ -68,7 +68,7 @@ impl Held {
         if self.has_pending_of(&self.site.here) {
             return true;
         }
-        if self.acts_pending() as usize == MOST_PENDING {
+        if self.pending::<Ledger>() as usize == MOST_PENDING {
             return true;
         }
         if self.turn == u32::MAX {
