@@ -107,8 +107,7 @@ impl Ledger {
         self.standing.current().has_accepted(node)
     }
 
-    /// The members that have accepted it, in member order. An error comes for want of memory
-    /// alone.
+    /// The members that have accepted it, in member order. The only error is that memory ran out.
     pub fn accepted_members(&self, alloc: Global) -> Result<Members, AllocError>
         ensures { IfOk result (λ ms. ms ≡ accepted_members self.now) }
     {
@@ -181,7 +180,7 @@ impl Ledger {
         }
     }
 
-    /// Whether the member at a position is this node. Behind the members there is the empty id,
+    /// Whether the member at a position is this node. After the members there is the empty id,
     /// which is no node's.
     pub(crate) fn is_at(&self, position: u8, node: &NodeId) -> bool
         ensures { result ≡ bytes_eq (node_or self.now.definition.members [] position) node.now }

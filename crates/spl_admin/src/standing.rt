@@ -153,7 +153,7 @@ impl Standing {
         self.circuit.requester
     }
 
-    /// The proposal that is told of.
+    /// The proposal that is reported.
     pub(crate) fn current(&self) -> &Proposal
         ensures { result.now ≡ current self.now }
     {
@@ -253,7 +253,7 @@ impl Standing {
         Ok(())
     }
 
-    /// One act more, at this place. After want of memory nothing has changed.
+    /// One act more, at this place. When memory runs out nothing has changed.
     pub(crate) fn take(
         &mut self,
         alloc: Global,

@@ -60,7 +60,7 @@ has_nothing m = length m.history == 0 && (length m.pending == 0 && is_none m.pro
 abbrev pub is_new : {V : Type 0} → Member V → Bool
 is_new m = has_nothing m && (length m.refused == 0 && (m.seen == 0 && m.next == 1))
 
--- where a change fits. `may` tells which values the content lets into the pending ones
+-- where a change fits. `may` says which values the content lets into the pending ones
 abbrev pub fits : {V : Type 0} → Rules V → (V → Bool) → Member V → GroupChange V → Bool
 fits rules may m (change.Queue v) = is_none (known rules m v) && (nat_lt (length m.pending) MOST_PENDING && may v)
 fits rules may m (change.Refuse v reason) = is_pending rules v m.pending
@@ -76,7 +76,7 @@ fits rules may m (change.Kept v reason) = has_nothing m && is_none (found_refuse
 abbrev pub any_value : {V : Type 0} → V → Bool
 any_value v = true
 
--- each change fits behind those before it
+-- each change fits after those before it
 abbrev pub AllFit : {V : Type 0} → Rules V → (V → Bool) → Member V → List (GroupChange V) → Type 0
 AllFit rules may m [] = Unit {0}
 AllFit rules may m (x ∷ xs) = (fits rules may m x ≡ true) × AllFit rules may (changed rules m x) xs

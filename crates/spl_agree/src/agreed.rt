@@ -45,15 +45,15 @@ pub trait Agreed {
     fn admits(&self, sender: u8, value: &Self::Value) -> Admit
         ensures { result ≡ (rules self.now).admits sender value.now };
 
-    /// An equal value. An error comes for want of memory alone.
+    /// An equal value. The only error is that memory ran out.
     fn copy(alloc: Global, value: &Self::Value) -> Result<Self::Value, AllocError>
         ensures { IfOk result (λ v. v ≡ value.now) };
 
-    /// Why the value can't be the next one of the list, if it can't. An error comes for want of memory alone.
+    /// Why the value can't be the next one of the list, if it can't. The only error is that memory ran out.
     fn check(&self, alloc: Global, value: &Self::Value) -> Result<Option<Reason>, AllocError>
         ensures { IfOk result (λ r. r ≡ (rules self.now).check (items self.now) value.now) };
 
-    /// Extends the list by a value whose check is good. After want of memory the list is as it was.
+    /// Extends the list by a value whose check is good. When memory runs out the list is as it was.
     fn apply(&mut self, alloc: Global, value: Self::Value) -> Result<(), AllocError>
         requires good { (rules self.old).check (items self.old) value ≡ None }
         requires room { length (items self.old) < 2 ^ 32 - 1 }

@@ -66,7 +66,7 @@ pub enum OpenMove {
     Close,
 }
 
-/// What is told of an event.
+/// What is reported of an event.
 #[derive(Clone, Copy, PartialEq, Eq)]
 pub enum Note {
     Idle,

@@ -1,4 +1,4 @@
-//! What the members of a group agree on, what they tell one another, and the rules of one group.
+//! What the members of a group agree on, what they say to one another, and the rules of one group.
 #![tactic(auto)]
 
 mod agreed;

@@ -1,4 +1,4 @@
-//! What the members of a group tell one another.
+//! What the members of a group say to one another.
 ghost use Rattle.std.specs.Prelude.{◌≡◌};
 ghost use Rattle.spl_agree.specs.Fits.{generation_of};
 
@@ -20,7 +20,7 @@ pub enum CommitMsg<V> {
         round: Round,
         yes: bool,
     },
-    /// The coordinator tells the decision of a round.
+    /// The coordinator announces the decision of a round.
     Decision {
         generation: Generation,
         round: Round,

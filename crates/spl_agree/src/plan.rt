@@ -40,7 +40,7 @@ impl<V: Drop> GroupChanges<V> {
         Ok(all)
     }
 
-    /// One change more, at the end. After want of memory nothing is changed.
+    /// One change more, at the end. When memory runs out nothing is changed.
     #[inline(always)]
     pub fn push(&mut self, change: GroupChange<V>) -> Result<(), AllocError>
         ensures ok { OnOk result (self.new ≡ self.old ++ change ∷ []) }
@@ -101,7 +101,7 @@ impl<V: Drop> GroupSends<V> {
         Ok(all)
     }
 
-    /// One message more, at the end. After want of memory nothing is changed.
+    /// One message more, at the end. When memory runs out nothing is changed.
     #[inline(always)]
     pub fn push(&mut self, to: u8, message: CommitMsg<V>) -> Result<(), AllocError>
         ensures ok { OnOk result (self.new ≡ self.old ++ (to, message) ∷ []) }

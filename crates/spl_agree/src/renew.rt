@@ -6,7 +6,7 @@ pub trait Renew {
     /// What contents that are renewed in turn share, so that work on equal ones is done once.
     type Cache;
 
-    /// Makes anew what is stale, so that reading it costs nothing. Without memory; nothing that is seen changes.
+    /// Makes again what is stale, so that reading it costs nothing. Where memory runs out nothing changes; nothing that is seen changes.
     fn renew(&mut self, cache: &mut Self::Cache)
         ensures { self.new ≡ self.old };
 }

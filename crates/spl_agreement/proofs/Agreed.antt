@@ -1,4 +1,4 @@
--- The agreement of a circuit behind what happened, and in lines.
+-- The agreement of a circuit after what happened, and in lines.
 use Rattle.std.proofs.Common.{◌≡◌, true, List, sym, ◌∙◌}
 use Rattle.spl_circuit.specs.declared.definition.Definition.{Definition}
 use Rattle.spl_circuit.specs.Nodes.{NodeId}

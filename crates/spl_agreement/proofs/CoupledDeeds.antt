@@ -38,7 +38,7 @@ use Rattle.spl_agreement.proofs.CoupledSteps.{Past, world-acts, world-serves, wo
 use Rattle.spl_agreement.proofs.DeedsAreSteps.{IsStepOf}
 use Rattle.spl_agreement.proofs.Rosters.{roster}
 
--- a cell is bound anew
+-- a cell is bound once more
 pub made-bind : (n : NodeId) (k : Cell) (d : Definition) → made_one n k (durable.Bind d) ≡ Held (fresh d)
 made-bind n Empty d = refl
 made-bind n _ d = refl

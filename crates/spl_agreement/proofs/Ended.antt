@@ -1,4 +1,4 @@
--- A circuit that has ended at a node stays so there: behind its acts none is good, so no more are committed.
+-- A circuit that has ended at a node stays so there: after its acts none is good, so no more are committed.
 use Rattle.std.proofs.Common.{◌≡◌, ◌⊎◌, ◌<◌, ℕ, true, false, List, [], ◌∷◌, ◌++◌, append-nil, append_assoc, refl, sym, ap, subst, ◌∙◌, inl, inr, arith}
 use Rattle.std.specs.Prelude.{None, ◌==◌}
 use Rattle.std.proofs.lemmas.List.{map-append}
@@ -75,7 +75,7 @@ none-good d acts v h m = go (bool_cases (is_member d v.node))
     go (inl q) = none-kind d acts v.node v.kind h (rw q at m)
     go (inr q) = none-some NOT_A_MEMBER (sym (rw q at m))
 
--- so the good acts behind these are none
+-- so the good acts after these are none
 none-behind : (d : Definition) (before acts more : List Act) → has_ended (life d (before ++ acts)).state ≡ true → AllGood (act_rules d) before (acts ++ more) → more ≡ []
 none-behind d before [] [] h g = refl
 none-behind d before [] (v ∷ vs) h g = absurd (none-good d before v (subst (λ (xs : List Act). has_ended (life d xs).state ≡ true) (append-nil before) h) g.0)

@@ -13,7 +13,7 @@ use Rattle.spl_command.specs.Execution.{verdict_on}
 use Rattle.spl_command.specs.Lists.{receipts_in, after_batch, receipts_at}
 use Rattle.spl_scabbard.specs.Readers.{ids_of, place_of, receipts_from, receipts_of}
 
--- the front that a history is
+-- the beginning that a history is
 pub take-prefix : {V : Type 0} (h : List (ℕ × V)) (list : List V) → IsPrefixOf (values h) list → take (length h) list ≡ values h
 take-prefix {V} h list p =
     ap (λ (k : ℕ). take k list) (sym (length-values h))

@@ -27,7 +27,7 @@ pair-append from to (x ∷ xs) ys = go (bool_cases (bytes_eq x.from from && byte
     go (inl q) rest = rw q (ap (λ (ms : List Message). x.message ∷ ms) rest)
     go (inr q) rest = rw q rest
 
--- an element behind others
+-- an element after others
 get-behind : {A : Type 0} (xs ys : List A) (k : ℕ) → slice_get (xs ++ ys) (length xs + k) ≡ slice_get ys k
 get-behind {A} [] ys k = ap (λ (n : ℕ). slice_get ys n) none
   where

@@ -25,7 +25,7 @@ IsHarmless (msg.Decision gen r commit) = ⊥
 IsHarmless (msg.Vote gen r true) = ⊥
 IsHarmless _ = Unit {0}
 
--- a harmless message tells nothing
+-- a harmless message reports nothing
 pub harmless-shows : {V : Type 0} (groups : Groups V) (past : List (NodeId × Definition)) (from to : NodeId) (x : CommitMsg V) → IsHarmless x → Shows groups past from to x
 harmless-shows groups past from to (msg.VoteRequest gen r place v) h = absurd h
 harmless-shows groups past from to (msg.Decision gen r commit) h = absurd h

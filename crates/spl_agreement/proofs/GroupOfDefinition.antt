@@ -67,7 +67,7 @@ Matters groups d from to (msg.Decision gen r commit) = (from ≡ groups.leader d
 Matters groups d from to (msg.Vote gen r true) = (to ≡ groups.leader d) × (gen ≡ d.generation)
 Matters groups d from to _ = ⊥
 
--- what a message tells of bindings
+-- what a message reports of bindings
 abbrev pub Shows : {V : Type 0} → Groups V → List (NodeId × Definition) → NodeId → NodeId → CommitMsg V → Type 0
 Shows groups past from to (msg.VoteRequest gen r place v) = (e : Definition) × Ever from e past × (e.generation ≡ gen) × (place ≡ 0 → (groups.rules e).check [] v ≡ None)
 Shows groups past from to (msg.Decision gen r commit) = (e : Definition) × Ever from e past × (e.generation ≡ gen)
@@ -150,7 +150,7 @@ says-was i x [] h = absurd h
 says-was i x (s ∷ ss) (inl e) = (s, inl refl, e.0, e.1)
 says-was {V} i x (s ∷ ss) (inr h) = let k : (s : GroupSent V) × Was s ss × (i ≡ s.from) × (x ≡ s.message) = says-was i x ss h in (k.0, inr k.1, k.2, k.3)
 
--- what the coordinator said it has told
+-- what the coordinator said it has reported
 pub says-told : {V : Type 0} (g : Group V) (w : GroupWorld V) (i : ℕ) (x : CommitMsg V) → Agrees g w → Says i x w.sent → i ≡ g.coordinator → Told (lead (w.at g.coordinator)) x
 says-told {V} g w i x a h e =
     let k : (s : GroupSent V) × Was s w.sent × (i ≡ s.from) × (x ≡ s.message) = says-was i x w.sent h in
@@ -359,7 +359,7 @@ after_row groups e n m ev = after (group_of groups e) (position e.members n) m (
 abbrev pub plan_row : {V : Type 0} → Groups V → Definition → NodeId → Member V → GroupEvent V → GroupPlan V
 plan_row groups e n m ev = row (group_of groups e) (position e.members n) m ev
 
--- where one cell sees a member anew, what holds of that one and of all members before holds of all members
+-- where one cell sees a member again, what holds of that one and of all members before holds of all members
 pub each-member : {V : Type 0} (at at2 : NodeId → Presence V) (n : NodeId) (e : Definition) (new : Member V) → at2 n ≡ There e new → ((k : NodeId) → k ≢ n → at2 k ≡ at k) → (P : NodeId → Definition → Member V → Type 0) → P n e new → ((k : NodeId) (f : Definition) (x : Member V) → at k ≡ There f x → P k f x) → (k : NodeId) (f : Definition) (x : Member V) → at2 k ≡ There f x → P k f x
 each-member {V} at at2 n e new is others P mine old k f x h = go (node_cases k n)
   where

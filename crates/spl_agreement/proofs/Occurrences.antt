@@ -187,7 +187,7 @@ world-start = record {
   services = λ d. groups-start service_groups d (service_said []) (λ l s. s.3);
 }
 
--- behind anything that happened
+-- after anything that happened
 pub run-past : (ns : List NodeId) (es : List Occurrence) → AllPlain es → SomePast [] (occur (empty_world ns) es).at (occur (empty_world ns) es).sent (λ f. act_list ns f es) (λ f. batch_list ns f es)
 run-past ns es h = run-keeps [] (empty_world ns) es (λ f. []) (λ f. []) h ([], (λ k f x. x), world-start)
 
@@ -226,7 +226,7 @@ begins-batches ns es d h n b is same =
     let v : SomePast [] (world_behind ns es).at (world_behind ns es).sent (λ f. act_list ns f es) (λ f. batch_list ns f es) = run-past ns es h in
     groups-prefix service_groups d v.0 (λ k. service_presence ((world_behind ns es).at k)) (service_said (world_behind ns es).sent) (batch_list ns d es) n b.batches (bound-batches ((world_behind ns es).at n) b d is same) (v.2.services d)
 
--- what a cell was bound to is behind it
+-- what a cell was bound to is after it
 pub stays-behind : (ns : List NodeId) (es fs : List Occurrence) (d : Definition) → AllPlain es → AllPlain fs → AtEach (world_behind ns es) d (λ n b. IsPast d ((occur (world_behind ns es) fs).at n))
 stays-behind ns es fs d h k n b is same =
     let w1 : World = world_behind ns es in

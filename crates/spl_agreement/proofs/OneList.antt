@@ -1,4 +1,4 @@
--- What members tell in any lines is of one list: it is of fronts of the circuit's list of batches behind all of the lines.
+-- What members report in any lines is of one list: it is of prefixes of the circuit's list of batches after all of the lines.
 use Rattle.std.proofs.Common.{◌≡◌, ℕ, ◌⊎◌, true, List, [], ◌∷◌, ◌++◌, length, take, refl, sym, ap, subst, ◌∙◌, inl, inr, arith}
 use Rattle.std.proofs.lemmas.List.{map-append, take-append-drop}
 use Rattle.std.specs.Prelude.{drop}
@@ -50,7 +50,7 @@ prefix-equal {A} (x ∷ xs) (y ∷ ys) (z ∷ zs) p q h =
 prefix-ids : (xs ys : List Batch) → IsPrefixOf xs ys → IsPrefixOf (ids_of xs) (ids_of ys)
 prefix-ids xs ys p = (ids_of p.0, sym (map-append (λ (b : Batch). b.id) xs p.0) ∙ ap ids_of p.1)
 
--- ---- two fronts of one list
+-- ---- two prefixes of one list
 
 front : {A : Type 0} (i : ℕ) (xs : List A) → IsPrefixOf (take i xs) xs
 front i xs = (drop i xs, take-append-drop i xs)

@@ -16,7 +16,7 @@ use Rattle.spl_model.specs.Projection.{Ran, names, line_fits, lines_fit, concern
 use Rattle.spl_model.specs.Answers.{line_world, lines_world, occurrences_in, occurrences_from, occurrences}
 use Rattle.spl_model.proofs.LinesAsOccurrences.{run-append, plain-append, line-run, plain-line, fit-append}
 
--- the world behind lines is the one behind what happens in them
+-- the world after lines is the one after what happens in them
 pub lines-run : (w : World) (rs : List Ran) → lines_world w rs ≡ occur w (occurrences_from w rs)
 lines-run w [] = refl
 lines-run w (r ∷ rs) =

@@ -35,7 +35,7 @@ use Rattle.spl_agreement.proofs.PendingActRows.{IsReady, unknown-is}
 use Rattle.spl_agreement.proofs.PendingActSteps.{sights, step-still, step-drop, step-row}
 use Rattle.spl_agreement.proofs.PendingActsDue.{Forwards, Apt, IsNextAct, IsFirstAct, IsReplyOf, IsReply}
 
--- the acts behind changes of the admin group, and behind changes of the service group
+-- the acts after changes of the admin group, and after changes of the service group
 pub sight-admin : (n : NodeId) (b : Bound) (xs : List (GroupChange Act)) → sight (made n (Held b) (map durable.Admin xs)) ≡ Sees b.definition (shifted_by (view b.acts) xs)
 sight-admin n b xs =
     let k : (t2 : ℕ) × (made n (Held b) (map durable.Admin xs) ≡ Held (record b { turn = t2; acts = changed_by (act_rules b.definition) b.acts xs })) = made-admin n b xs in

@@ -171,7 +171,7 @@ are-few past see said n d w f is lead = record {
         (came q y e (of_node q y (not (is_proposal y.kind)) b) (tidy.came lead y k))
         (other_kind q x a) (other_kind q y b) d w is refl lead)
 
--- behind anything that happened
+-- after anything that happened
 pub few-behind : (ns : List NodeId) (es : List Occurrence) (d : Definition) → AllPlain es → AtEach (world_behind ns es) d (λ n b. n ≡ admin d → AreFew b.acts.pending)
 few-behind ns es d h n b is same lead =
     let v : SomeFew (world_behind ns es).at (world_behind ns es).sent = few-run (empty_world ns) es h ([], (λ f. []), (λ f. []), world-start, few-start) in

@@ -44,7 +44,7 @@ use Rattle.spl_agreement.proofs.CoupledDeeds.{made-bind}
 use Rattle.spl_agreement.proofs.KnownStays.{known-in, found-last}
 use Rattle.spl_agreement.proofs.NotedQueued.{handed, IsNoted, noted-message}
 
--- the value that was brought is known behind the plan
+-- the value that was brought is known after the plan
 pub record IsKnown (n : NodeId) (k : Cell) (brings : Option Value) (p : Plan) : Type 0 where
   pub value : Value
   pub is : brings ≡ Some value

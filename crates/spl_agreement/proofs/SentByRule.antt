@@ -174,7 +174,7 @@ abbrev pub IsFirst : {V : Type 0} → Group V → GroupEvent V → Type 0
 IsFirst g (event.From s (msg.VoteRequest gen r place v)) = (s ≡ g.coordinator) × (place ≡ 0) × (g.rules.check [] v ≡ None)
 IsFirst g _ = ⊥
 
--- the member is quiet behind the plan, or the event was such a request
+-- the member is quiet after the plan, or the event was such a request
 abbrev pub Stays : {V : Type 0} → Group V → ℕ → Member V → GroupEvent V → GroupPlan V → Type 0
 Stays g here m e p = IsQuiet (after g here m p) ⊎ IsFirst g e
 
@@ -235,7 +235,7 @@ pub quiet-tick : {V : Type 0} (g : Group V) (here : ℕ) (m : Member V) (e : Gro
 quiet-tick g here m e (Some p) k = inl k
 quiet-tick g here m e None k = quiet-forward g here m e m.pending k
 
--- a quiet member that is not the coordinator stays quiet, but for such a request
+-- a quiet member that is not the coordinator stays quiet, except such a request
 pub quiet-row : {V : Type 0} (g : Group V) (here : ℕ) (m : Member V) (e : GroupEvent V) → here ≢ g.coordinator → IsQuiet m → Stays g here m e (row g here m e)
 quiet-row g here m event.Tick d k = if_false (Stays g here m event.Tick) (here == g.coordinator) _ _ (eqb_other here g.coordinator d) (quiet-tick g here m event.Tick m.promise k)
 quiet-row g here m event.Expire d k = if_false (Stays g here m event.Expire) (here == g.coordinator) _ _ (eqb_other here g.coordinator d) (inl k)

@@ -1,5 +1,5 @@
--- What is shown of a circuit is of fronts of its lists: a node's histories begin the lists behind the lines so far, and these
--- begin the lists behind all lines.
+-- What is shown of a circuit is of prefixes of its lists: a node's histories begin the lists after the lines so far, and these
+-- begin the lists after all lines.
 use Rattle.std.proofs.Common.{◌≡◌, ℕ, ◌⊎◌, Bool, true, false, List, [], ◌∷◌, ◌++◌, append_assoc, length, take, refl, sym, ap, subst, ◌∙◌, inl, inr}
 use Rattle.std.specs.Prelude.{Option, Some, None, is_some, if◌then◌else◌}
 use Rattle.spl_agree.specs.declared.reason.Reason.{Reason}
@@ -44,7 +44,7 @@ use Rattle.spl_agreement.proofs.SameLists.{list-append, same-acts, same-batches}
 
 -- ---- at a cell
 
--- what a bound cell tells is of its own histories
+-- what a bound cell reports is of its own histories
 module _ (site : Site) (b : Bound) where
   abbrev Shows : Event → Deed → Type 0
   Shows e deed = IsShownBy b.definition (values b.acts.history) (values b.batches.history) e (planned site deed).answer

@@ -1,4 +1,4 @@
--- What a node that is up tells is told of the fronts of the circuit's lists that are committed there.
+-- What a node that is up reports is reported of the prefixes of the circuit's lists that are committed there.
 use Rattle.std.proofs.Common.{◌≡◌, ℕ, Bool, true, false, List, [], length, take, refl, sym, ap, subst, ◌∙◌}
 use Rattle.std.specs.Prelude.{Option, Some, None, if◌then◌else◌}
 use Rattle.spl_agree.specs.Member.{values}
@@ -24,13 +24,13 @@ use Rattle.spl_model.specs.Worlds.{World}
 use Rattle.spl_agreement.specs.Told.{answered, accepted_by, TellsLists, TellsFronts}
 use Rattle.spl_agreement.proofs.Fronts.{take-prefix, receipts-placed}
 
--- where a node is up, it is asked what its cell tells
+-- where a node is up, it is asked what its cell reports
 pub held-answers : (w : World) (site : Site) (b : Bound) (e : Event) → w.up site.here ≡ true → w.at site.here ≡ Held b → answered w site e ≡ (plan_of site (Held b) e).answer
 held-answers w site b e up is =
     ap (λ (x : Bool). (if x then plan_of site (w.at site.here) e else tells_only (answer.Refused refusal.Down)).answer) up
     ∙ ap (λ (k : Cell). (plan_of site k e).answer) is
 
--- where the circuit is active there it is told, and refused where it isn't
+-- where the circuit is active there it is reported, and refused where it isn't
 pub active-answer : (site : Site) (b : Bound) (deed : Deed) → runs b ≡ true → (planned site (when_active b deed)).answer ≡ (planned site deed).answer
 active-answer site b deed q = ap (λ (x : Bool). (planned site (if x then deed else Refuses refusal.NotActive)).answer) q
 
@@ -73,7 +73,7 @@ module _ (w : World) (site : Site) (b : Bound) (up : w.up site.here ≡ true) (i
     unknown = λ i q h. told-receipt i q None (receipts_of (values b.batches.history) i) h refl;
   }
 
--- its histories are the fronts of the lists
+-- its histories are the prefixes of the lists
 pub tells-lists : (w : World) (site : Site) (b : Bound) (acts : List Act) (batches : List Batch) → w.at site.here ≡ Held b → IsPrefixOf (values b.acts.history) acts → IsPrefixOf (values b.batches.history) batches → TellsFronts w site b acts batches
 tells-lists w site b acts batches is p q up =
     subst (λ (xs : List Act). TellsLists (answered w site) b xs (take (length b.batches.history) batches)) (sym (take-prefix b.acts.history acts p))

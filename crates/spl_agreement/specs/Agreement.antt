@@ -48,7 +48,7 @@ pub record Keeps (h later : Bound) : Type 0 where
   pub known_acts : (v : Act) → is_some (known (act_rules h.definition) h.acts v) ≡ true → is_some (known (act_rules h.definition) later.acts v) ≡ true
   pub known_batches : (v : Batch) → is_some (known batch_rules h.batches v) ≡ true → is_some (known batch_rules later.batches v) ≡ true
 
--- what a cell was bound to is behind it: it is bound to it still, or was purged, or is bound to a later generation
+-- what a cell was bound to is after it: it is bound to it still, or was purged, or is bound to a later generation
 abbrev pub IsPast : Definition → Cell → Type 0
 IsPast d Empty = ⊥
 IsPast d (Purged old) = d.generation ≤ old
@@ -88,13 +88,13 @@ pub record AreFew (pending : List Act) : Type 0 where
 
 -- ---- the agreement
 
--- what holds of the circuit of a definition behind what happened in the world of its id
+-- what holds of the circuit of a definition after what happened in the world of its id
 pub record IsAgreed (ns : List NodeId) (es : List Occurrence) (d : Definition) : Type 0 where
   -- the acts and the batches that are committed at a member begin the circuit's lists
   pub acts : AtEach (world_behind ns es) d (λ n h. IsPrefixOf (values h.acts.history) (act_list ns d es))
   pub batches : AtEach (world_behind ns es) d (λ n h. IsPrefixOf (values h.batches.history) (batch_list ns d es))
   pub differ : AllDiffer (batch_list ns d es)
-  -- what a member tells, it tells of the fronts of those lists that are committed at it
+  -- what a member reports, it reports of the prefixes of those lists that are committed at it
   pub told : (c : CircuitId) → AtEach (world_behind ns es) d (λ n h. TellsFronts (world_behind ns es) (site_at n c) h (act_list ns d es) (batch_list ns d es))
   -- what the last step is answered to have queued is known there
   pub queued : (before : List Occurrence) (s : Step) → es ≡ before ++ Steps s ∷ [] → KnowsQueued (world_behind ns before) s

@@ -69,7 +69,7 @@ acts_from d w es = list_from acts_in (admin d) d w es
 abbrev pub batches_from : Definition → World → List Occurrence → List Batch
 batches_from d w es = list_from batches_in (service d) d w es
 
--- the list of acts of a circuit, behind what happened
+-- the list of acts of a circuit, after what happened
 abbrev pub act_list : List NodeId → Definition → List Occurrence → List Act
 act_list ns d es = acts_from d (empty_world ns) es
 

@@ -1,4 +1,4 @@
--- What is told about a circuit in a run of lines is of one list (docs/RULES.md, Agreement of circuits).
+-- What is reported about a circuit in a run of lines is of one list (docs/RULES.md, Agreement of circuits).
 use Rattle.std.specs.Prelude.{◌≡◌, ℕ, ◌⊎◌, true, List, ◌∷◌, ◌++◌}
 use Rattle.spl_agree.specs.World.{IsPrefixOf}
 use Rattle.spl_circuit.specs.declared.definition.Definition.{Definition}

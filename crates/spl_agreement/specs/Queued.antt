@@ -75,6 +75,6 @@ brought w (step.Deliver from to c k) = handed_over (slice_get (messages w from t
 abbrev pub IsQueued : Answer → Type 0
 IsQueued a = (a ≡ answer.Submitted false) ⊎ (a ≡ answer.Delivered note.Queued)
 
--- a step that is answered so has brought a value, and behind it the cell knows that value
+-- a step that is answered so has brought a value, and after it the cell knows that value
 abbrev pub KnowsQueued : World → Step → Type 0
 KnowsQueued w s = IsQueued (step_plan w s).answer → (v : Value) × (brought w s ≡ Some v) × (knows v ((step_world w s).at (step_node s)) ≡ true)

@@ -47,7 +47,7 @@ abbrev pub AllAt : List NodeId → List Occurrence → Type 0
 AllAt ns [] = Unit {0}
 AllAt ns (e ∷ es) = (has_node ns (node_of e) ≡ true) × AllAt ns es
 
--- at each moment of the world of each id, the run is the former one gone on, but for the messages that were sent before; and
+-- at each moment of the world of each id, the run is the former one gone on, except the messages that were sent before; and
 -- in that one its circuits agree
 pub record AgreeOn (o : Origin) (left : CircuitId → List Occurrence) (rs : List Ran) : Type 0 where
   pub happened : (c : CircuitId) → circuit_world o c rs ≡ occur (first_world o c) (occurrences o c rs)

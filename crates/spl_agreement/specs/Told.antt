@@ -1,4 +1,4 @@
--- What a node tells of a circuit, said of the circuit's own lists (docs/RULES.md, Agreement of circuits).
+-- What a node reports of a circuit, said of the circuit's own lists (docs/RULES.md, Agreement of circuits).
 use Rattle.std.specs.Prelude.{◌≡◌, ℕ, true, List, [], length, map, take, Some, None}
 use Rattle.std.specs.List.{filter}
 use Rattle.std.specs.Map.{lookup}
@@ -31,7 +31,7 @@ use Rattle.spl_model.specs.Worlds.{World, step_plan}
 abbrev pub answered : World → Site → Event → Answer
 answered w site e = (step_plan w (step.At site.here site.circuit e)).answer
 
--- the members that have accepted what is told of by these acts, in member order
+-- the members that have accepted what is reported by these acts, in member order
 abbrev pub accepted_by : Definition → List Act → List NodeId
 accepted_by d acts = filter (λ m. has_node (current (life d acts)).accepted m) d.members
 
@@ -71,7 +71,7 @@ pub record TellsLists (asks : Event → Answer) (h : Bound) (acts : List Act) (b
       asks (event.Receipt i) ≡ answer.Receipt i place receipts
   pub unknown : (i : ℕ) → AreRunning h.definition acts → place_of batches i ≡ None → asks (event.Receipt i) ≡ answer.Refused refusal.UnknownId
 
--- so a node answers while it is up, by the fronts of the circuit's lists that are committed at its cell
+-- so a node answers while it is up, by the prefixes of the circuit's lists that are committed at its cell
 abbrev pub TellsFronts : World → Site → Bound → List Act → List Batch → Type 0
 TellsFronts w site h acts batches =
     w.up site.here ≡ true → TellsLists (answered w site) h (take (length h.acts.history) acts) (take (length h.batches.history) batches)

@@ -38,15 +38,15 @@ pub fn circuits_agree()
     ensures lines { (ns : List NodeId) (rs : List Ran) → lines_fit rs ≡ true → Agree ns rs }
 {}
 
-/// A circuit has one list of acts and one of batches behind any lines, those on which its members
+/// A circuit has one list of acts and one of batches after any lines, those on which its members
 /// agree; and whatever `root`, `get`, `list`, `history`, `receipt`, `status`, `show` and `detail`
-/// answer on one of the lines, at a node that is bound to the circuit's definition, is what fronts
+/// answer on one of the lines, at a node that is bound to the circuit's definition, is what prefixes
 /// of these lists make it.
 pub fn answers_show_fronts()
     ensures { (ns : List NodeId) (rs : List Ran) → lines_fit rs ≡ true → ShowsFronts ns rs }
 {}
 
-/// What nodes that are bound to one definition tell about a circuit, in whatever lines, is of one
+/// What nodes that are bound to one definition report about a circuit, in whatever lines, is of one
 /// list: roots of as many batches are one root, and of two histories one begins the other.
 pub fn members_tell_one_list()
     ensures { (ns : List NodeId) (rs : List Ran) → lines_fit rs ≡ true → TellOneList ns rs }

@@ -36,7 +36,7 @@ behind_is_ascii xs n i back h =
     let place : n + (i - n) ≡ i = omega arith in
     rw (← place, ← get_or-drop n xs (i - n) 0) (back (i - n))
 
--- of the bytes in front of the one at n, that one, and those behind it
+-- of the bytes before the one at n, that one, and those after it
 around_is_ascii : (xs : List ℕ) (n : ℕ) → IsAscii (take n xs) → slice_index xs n < 128 → IsAscii (drop (n + 1) xs) → IsAscii xs
 around_is_ascii xs n front at back i =
     elim (cases_lt i n) [

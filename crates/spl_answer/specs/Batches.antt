@@ -4,7 +4,7 @@ use Rattle.std.specs.List.{flat_map}
 use Rattle.hex.specs.Hex.{encode_lower}
 use Rattle.spl_wire.specs.declared.answer.Entry.{Entry}
 
--- each item behind a space
+-- each item after a space
 abbrev pub spaced : {A : Type 0} → (A → List ℕ) → List A → List ℕ
 spaced text xs = flat_map (λ x. 32 ∷ text x) xs
 

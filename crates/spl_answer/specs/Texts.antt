@@ -19,7 +19,7 @@ use Rattle.spl_answer.specs.Receipts.{receipts_value}
 use Rattle.spl_answer.specs.Nodes.{power_text, roll_text}
 use Rattle.spl_answer.specs.Batches.{root_text, history_text, value_text, entries_text}
 
--- each item behind a `,`
+-- each item after a `,`
 abbrev pub others : {A : Type 0} → (A → List ℕ) → List A → List ℕ
 others text xs = flat_map (λ x. 44 ∷ text x) xs
 

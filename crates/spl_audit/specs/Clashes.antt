@@ -91,7 +91,7 @@ are_at_most (m ∷ ms) (n ∷ ns) = nat_lt m n || (m == n && are_at_most ms ns)
 abbrev pub is_at_most : Spot → Spot → Bool
 is_at_most s t = is_below s.circuit t.circuit || (bytes_eq s.circuit t.circuit && are_at_most (numbers s) (numbers t))
 
--- what an audit tells of nodes that clash
+-- what an audit reports of nodes that clash
 pub record IsLeastClash (ns : List Keeper) (s : Spot) : Type 0 where
   pub clash : IsClash ns s
   pub least : (t : Spot) → IsClash ns t → is_at_most s t ≡ true

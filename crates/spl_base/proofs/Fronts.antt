@@ -1,4 +1,4 @@
--- What is read from the front was spelled there, and what was spelled there is read.
+-- What is read from the beginning was spelled there, and what was spelled there is read.
 use Rattle.std.proofs.Common.{◌≡◌, ℕ, List, ◌++◌, length, drop, Result, Ok, Err, IsTrue, sym, ap, subst, ◌∙◌, arith}
 use Rattle.std.specs.Prelude.{IfOk}
 use Rattle.std.proofs.lemmas.List.{drop_at}

@@ -8,7 +8,7 @@ use Rattle.std.proofs.lemmas.List.{drop_all}
 use Rattle.std.proofs.lemmas.Grind.{common_steps}
 use Rattle.spl_base.specs.Cells.{padded, spelled_from}
 
--- ---- cells behind the end are 0
+-- ---- cells after the end are 0
 zeros : (n k : ℕ) → slice_index (replicate n 0) k ≡ 0
 zeros zero k = refl
 zeros (suc n) zero = refl
@@ -38,7 +38,7 @@ grown x y = grind (arith, common_steps)
 abbrev Bytes : List ℕ → Type 0
 Bytes xs = (k : ℕ) → slice_index xs k < 256
 
--- the number of the bytes behind the k-th one
+-- the number of the bytes after the k-th one
 abbrev spelled : List ℕ → ℕ → ℕ → ℕ
 spelled xs n a = spelled_from xs 0 n a
 
@@ -113,7 +113,7 @@ by_heads x y xs ys g h first second apart =
     (λ over. above _ _ over ∙ sym (greater_by_heads 8 0 xs ys (λ k. (g k).fits) (λ k. (h k).fits) (omega (arith, first, second))))
 
 -- ---- texts with the same head
--- lists that agree up to n, where cells behind the end are 0
+-- lists that agree up to n, where cells after the end are 0
 abbrev pub SameFront : ℕ → List ℕ → List ℕ → Type 0
 SameFront n xs ys = (i : ℕ) → i < n → slice_index xs i ≡ slice_index ys i
 
@@ -142,7 +142,7 @@ same_front xs ys g h e = λ i l. (read_back 8 0 0 xs ys 0 (λ k. (g k).fits) (λ
 rest_front : (n x y : ℕ) (xs ys : List ℕ) → SameFront (suc n) (x ∷ xs) (y ∷ ys) → SameFront n xs ys
 rest_front n x y xs ys s = λ i l. s (suc i) (omega arith)
 
--- one that ends within the front lies before a longer one
+-- one that ends within the beginning lies before a longer one
 pub order_within : (n : ℕ) (xs ys : List ℕ) → SameFront n xs ys → min (length xs) (length ys) ≤ n
     → nat_cmp (length xs) (length ys) ≡ slice_cmp nat_cmp xs ys
 order_within n [] [] s short = level 0 0 refl
@@ -153,7 +153,7 @@ order_within (suc n) (x ∷ xs) (y ∷ ys) s short =
     grown (length xs) (length ys) ∙ order_within n xs ys (rest_front n x y xs ys s) (omega arith)
     ∙ sym (ap (λ r. ordering_then r (slice_cmp nat_cmp xs ys)) (level x y (s 0 (omega arith))))
 
--- what stands behind the front orders longer ones
+-- what stands after the beginning orders longer ones
 pub order_behind : (n : ℕ) (xs ys : List ℕ) → SameFront n xs ys → n ≤ length xs → n ≤ length ys
     → slice_cmp nat_cmp (drop n xs) (drop n ys) ≡ slice_cmp nat_cmp xs ys
 order_behind zero xs ys s l m = refl
@@ -163,7 +163,7 @@ order_behind (suc n) (x ∷ xs) (y ∷ ys) s l m =
     order_behind n xs ys (rest_front n x y xs ys s) (omega arith) (omega arith)
     ∙ sym (ap (λ r. ordering_then r (slice_cmp nat_cmp xs ys)) (level x y (s 0 (omega arith))))
 
--- what stands behind the front tells whether lists of one length are the same
+-- what stands after the beginning says whether lists of one length are the same
 pub same_behind : (n : ℕ) (xs ys : List ℕ) → SameFront n xs ys → length xs ≡ length ys
     → pointwise nat_eq (drop n xs) (drop n ys) ≡ pointwise nat_eq xs ys
 same_behind zero xs ys s e = refl
@@ -185,7 +185,7 @@ same_cells n xs ys g h low high heads lasts i l =
     (λ at. behind i (omega arith) (omega arith))
     (λ over. behind i (omega arith) (omega arith))
 
--- where texts with the same front differ in the number of the next eight cells, they lie as these numbers do
+-- where texts with the same prefix differ in the number of the next eight cells, they lie as these numbers do
 pub by_cells : (k x y : ℕ) (xs ys : List ℕ) → ((i : ℕ) → Fits w8 (slice_index xs i)) → ((i : ℕ) → Fits w8 (slice_index ys i)) → SameFront k xs ys
     → x ≡ spelled_from xs k 8 0 → y ≡ spelled_from ys k 8 0 → x ≢ y → nat_cmp x y ≡ slice_cmp nat_cmp xs ys
 by_cells zero x y xs ys g h s first second apart = by_heads x y xs ys g h first second apart
@@ -206,7 +206,7 @@ by_cells (suc k) x y (c ∷ xs) (d ∷ ys) g h s first second apart =
     by_cells k x y xs ys (λ i. g (suc i)) (λ i. h (suc i)) (rest_front k c d xs ys s) (first ∙ shifted c xs k 8 0) (second ∙ shifted d ys k 8 0) apart
     ∙ sym (ap (λ r. ordering_then r (slice_cmp nat_cmp xs ys)) (level c d (s 0 (omega arith))))
 
--- the number of the last eight cells tells whether texts of one length and one head are the same
+-- the number of the last eight cells says whether texts of one length and one head are the same
 pub same_by_lasts : (n : ℕ) (xs ys : List ℕ) → ((k : ℕ) → Fits w8 (slice_index xs k)) → ((k : ℕ) → Fits w8 (slice_index ys k)) → 8 ≤ n → n ≤ 16
     → SameFront 8 xs ys → length xs ≡ length ys → length xs ≤ n
     → nat_eq (spelled_from xs (n - 8) 8 0) (spelled_from ys (n - 8) 8 0) ≡ pointwise nat_eq xs ys

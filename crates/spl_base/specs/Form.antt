@@ -9,7 +9,7 @@ use Rattle.spl_base.specs.declared.fault.Malformed.{Malformed}
 use Rattle.spl_base.specs.declared.fault.Malformed.TheVariants as malformed
 use Rattle.spl_base.specs.Input.{Input, ◌>>=◌, raw_at, number_at, sized_at}
 
--- a value and the input behind it, or where the first unreadable field begins
+-- a value and the input after it, or where the first unreadable field begins
 abbrev pub Parsed : Type 0 → Type 0
 Parsed A = Result (A × Input) ℕ
 
@@ -59,7 +59,7 @@ raw n p = record {
   bounded = λ xs. true;
 }
 
--- at most so many bytes that pass a test, behind their number
+-- at most so many bytes that pass a test, after their number
 abbrev pub sized : Width → ℕ → (List ℕ → Bool) → Form (List ℕ)
 sized w most p = record {
   spell = λ xs. number_bytes w (length xs) ++ xs;
@@ -72,7 +72,7 @@ sized w most p = record {
 abbrev pub text : ℕ → (List ℕ → Bool) → Form (List ℕ)
 text most p = sized w16 most p
 
--- at most so many bytes behind their number
+-- at most so many bytes after their number
 abbrev pub counted : Width → ℕ → Form (List ℕ)
 counted w most = record {
   spell = λ xs. number_bytes w (length xs) ++ xs;
@@ -139,7 +139,7 @@ nothing = record {
   bounded = λ x. true;
 }
 
--- ---- a sum: a tag byte, and the fields behind it
+-- ---- a sum: a tag byte, and the fields after it
 
 -- a case: its tag, the form of its fields, and the value that they make
 pub record Case (A : Type 0) : Type 1 where
@@ -185,12 +185,12 @@ abbrev pub has_tag : {A : Type 0} → List (Case A) → ℕ → Bool
 has_tag [] n = false
 has_tag (c ∷ cs) n = nat_eq n c.tag || has_tag cs n
 
--- what is read behind a tag that stands at a place
+-- what is read after a tag that stands at a place
 abbrev pub read_by : {A : Type 0} → List (Case A) → ℕ → ℕ → Input → Parsed A
 read_by [] n at s = Err at
 read_by (c ∷ cs) n at s = if nat_eq n c.tag then read_case c s else read_by cs n at s
 
--- the tag of a value, and what stands behind it
+-- the tag of a value, and what stands after it
 pub record Tagged : Type 0 where
   pub tag : ℕ
   pub bytes : List ℕ
@@ -212,11 +212,11 @@ pub record Tags (A : Type 0) : Type 0 where
 abbrev pub tags_of : {A : Type 0} (cs : List (Case A)) → (A → Filled cs) → Tags A
 tags_of cs fields = record { put = λ a. put_by cs (fields a); take = read_by cs }
 
--- a byte, and what is read behind it
+-- a byte, and what is read after it
 abbrev pub numbered : {A : Type 0} → (ℕ → ℕ → Input → Parsed A) → Input → Parsed A
 numbered take s = located (number_at w8 s) >>= λ n. take n.0 s.place n.1
 
--- a tag byte, and what stands behind it
+-- a tag byte, and what stands after it
 abbrev pub tagged : {A : Type 0} → Tags A → Form A
 tagged c = record {
   spell = λ x. number_bytes w8 (c.put x).tag ++ (c.put x).bytes;
@@ -258,12 +258,12 @@ pub record IsExact {A : Type 0} (f : Form A) : Type 0 where
   pub takes : (s : Input) (x : A) (t : Input) → IsSpelledSo f s x t
   pub bounds : (x : A) → IsTrue (f.fits x) → IsTrue (f.bounded x)
 
--- x was read behind the tag n
+-- x was read after the tag n
 pub record TakenBehind {A : Type 0} (put : A → Tagged) (n : ℕ) (s : Input) (x : A) (t : Input) : Type 0 where
   pub tag : (put x).tag ≡ n
   pub taken : Taken (λ a. (put a).bytes) (λ a. (put a).fits) s x t
 
--- the same behind a tag
+-- the same after a tag
 pub record IsExactTags {A : Type 0} (c : Tags A) : Type 0 where
   pub small : (x : A) → (c.put x).tag < 256
   pub again : (x : A) (rest : List ℕ) (place at : ℕ) → IsTrue (c.put x).fits → IsReadFrom (c.take (c.put x).tag at) (c.put x).bytes x rest place

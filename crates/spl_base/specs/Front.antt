@@ -1,10 +1,10 @@
--- A value at the front of bytes, and how many bytes it takes.
+-- A value at the beginning of bytes, and how many bytes it takes.
 use Rattle.std.specs.Prelude.{◌≡◌, ℕ, List, ◌++◌, length, Result, Ok, Err, IsTrue}
 use Rattle.spl_base.specs.declared.fault.Malformed.{Malformed}
 use Rattle.spl_base.specs.Input.{◌>>=◌}
 use Rattle.spl_base.specs.Form.{Form, Fails}
 
--- the value at the front and its length, or where the first unreadable field begins
+-- the value at the beginning and its length, or where the first unreadable field begins
 abbrev pub front_of : {A : Type 0} → Form A → List ℕ → Result (A × ℕ) ℕ
 front_of f bytes = f.parse (record { rest = bytes; place = 0 }) >>= λ x. Ok (x.0, x.1.place)
 
@@ -13,7 +13,7 @@ abbrev pub Answers : {Y : Type 0} → Result Y Malformed → Result Y ℕ → Ty
 Answers (Ok x) found = found ≡ Ok x
 Answers (Err e) found = Fails e found
 
--- what is spelled so at the front of bytes is what was read, whatever follows it, unless memory ran out
+-- what is spelled so at the beginning of bytes is what was read, whatever follows it, unless memory ran out
 abbrev pub ReadsBack : {A : Type 0} → Form A → List ℕ → Result (A × ℕ) Malformed → Type 0
 ReadsBack {A} f bytes found = (x : A) (rest : List ℕ) → IsTrue (f.fits x) → bytes ≡ f.spell x ++ rest → Answers found (Ok (x, length (f.spell x)))
 

@@ -8,7 +8,7 @@ pub record Input : Type 0 where
   pub rest : List ℕ
   pub place : ℕ
 
--- the input behind n bytes
+-- the input after n bytes
 abbrev pub advanced : ℕ → Input → Input
 advanced n s = record { rest = drop n s.rest; place = s.place + n }
 

@@ -15,7 +15,7 @@ use Rattle.spl_base.specs.FormLaws.{bind_ok, ok_is, wide8, number_again, number_
 -- ---- the cases
 
 module _ {A : Type 0} (put : A → Tagged) where
-  -- fields that are spelled are read behind their tag
+  -- fields that are spelled are read after their tag
   pub again_by : (cs : List (Case A)) → AreExact put cs → (n : ℕ) (x : FieldsAt cs n) (rest : List ℕ) (place at : ℕ)
       → IsTrue (by_case put_case cs n x).fits → IsReadFrom (read_by cs n at) (by_case put_case cs n x).bytes (by_case (λ c. c.make) cs n x) rest place
   again_by [] e n x rest place at h = absurd x
@@ -40,7 +40,7 @@ module _ {A : Type 0} (put : A → Tagged) where
       go true x h k = e.0.0.bounds x h
       go false x h k = k x h
 
-  -- what is read behind a tag is put so
+  -- what is read after a tag is put so
   takes_case : (c : Case A) → IsExactCase put c → (s : Input) (x : A) (t : Input) → IsBytes s.rest
       → read_case c s ≡ Ok (x, t) → TakenBehind put c.tag s x t
   takes_case c e s x t bytes h =
@@ -86,10 +86,10 @@ module _ {A : Type 0} (cs : List (Case A)) (fields : A → Filled cs) where
       bounds = λ x h. bounds_of (fields x) h;
     }
 
--- ---- a byte, and what is read behind it
+-- ---- a byte, and what is read after it
 
 module _ {A : Type 0} (take : ℕ → ℕ → Input → Parsed A) where
-  -- what is read behind a byte is read with it
+  -- what is read after a byte is read with it
   pub again_numbered : (n : ℕ) (bytes : List ℕ) (x : A) (rest : List ℕ) (place : ℕ) → n < 256
       → IsReadFrom (take n place) bytes x rest (place + 1) → IsReadFrom (numbered take) (number_bytes w8 n ++ bytes) x rest place
   again_numbered n bytes x rest place lt h =
@@ -99,7 +99,7 @@ module _ {A : Type 0} (take : ℕ → ℕ → Input → Parsed A) where
       ap (λ (r : List ℕ). numbered take (record { rest = r; place = place })) regrouped
       ∙ rw (number_again w8 (2 ^ 8) wide8 n (bytes ++ rest) place lt, h) (ap (λ (k : ℕ). Ok (x, record { rest = rest; place = k })) places)
 
-  -- the byte, and the input behind it
+  -- the byte, and the input after it
   pub record Numbered (s : Input) (x : A) (t : Input) : Type 0 where
     pub number : ℕ
     pub next : Input
@@ -111,7 +111,7 @@ module _ {A : Type 0} (take : ℕ → ℕ → Input → Parsed A) where
       let a = bind_ok (located (number_at w8 s)) (λ n. take n.0 s.place n.1) (x, t) e in
       record { number = a.0.0; next = a.0.1; first = number_taken w8 (2 ^ 8) wide8 s a.0.0 a.0.1 bytes a.1; others = a.2 }
 
--- a byte, and what is taken behind it
+-- a byte, and what is taken after it
 pub taken_behind : {A : Type 0} (spell : A → List ℕ) (fits : A → Bool) (n : ℕ) (s u : Input) (x : A) (t : Input)
     → Taken (number_bytes w8) (λ n. ltb n (2 ^ 8)) s n u → Taken spell fits u x t → Taken (λ a. number_bytes w8 n ++ spell a) fits s x t
 taken_behind spell fits n s u x t first others = record {
@@ -142,7 +142,7 @@ module _ {A : Type 0} (c : Tags A) (q : IsExactTags c) where
     bounds = q.bounds;
   }
 
--- the laws of one case, and those of the cases behind it
+-- the laws of one case, and those of the cases after it
 infixr 4 ◌also◌
 abbrev pub ◌also◌ : {P Q : Type 0} → P → Q → P × Q
 p also q = (p, q)

@@ -18,5 +18,5 @@ impl Model for BatchId {
     ghost inverse = { λ n. record { 0 = n } };
 }
 
-/// The ids of batches, in an order that their holder tells.
+/// The ids of batches, in an order that their holder reports.
 pub type BatchIds = Listing<BatchId>;

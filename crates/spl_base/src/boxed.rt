@@ -24,7 +24,7 @@ impl<T> Model for Boxed<T> {
 }
 
 impl<T> Boxed<T> {
-    /// The value, moved to the heap. An error comes for want of memory alone.
+    /// The value, moved to the heap. The only error is that memory ran out.
     #[inline(always)]
     pub fn new(alloc: Global, x: T) -> Result<Boxed<T>, AllocError>
     where
@@ -43,7 +43,7 @@ impl<T> Boxed<T> {
         &self.inner
     }
 
-    /// The same value, shared. An error comes for want of memory alone.
+    /// The same value, shared. The only error is that memory ran out.
     pub fn share(&self) -> Result<Boxed<T>, AllocError>
     where
         T: Drop,

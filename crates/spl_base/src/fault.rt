@@ -27,7 +27,7 @@ impl FieldFault {
     }
 }
 
-/// Why a value could not be read from the front of bytes.
+/// Why a value could not be read from the beginning of bytes.
 #[derive(Clone, Copy, PartialEq, Eq)]
 pub enum Malformed {
     /// Memory ran out.

@@ -17,18 +17,18 @@ use std::alloc::{AllocError, Global};
 pub trait Field: Drop {
     ghost form: { Form Self };
 
-    /// Appends the spelling. An error comes for want of memory alone; a part may then stand in the writer.
+    /// Appends the spelling. The only error is that memory ran out; a part may then stand in the writer.
     fn put_parts(&self, w: &mut Writer) -> Result<(), AllocError>
         requires { IsTrue (form.bounded self.now) }
         ensures ok { OnOk result (w.new ≡ w.old ++ form.spell self.now) }
         ensures fits { OnOk result (IsTrue (form.fits self.now)) };
 
-    /// Reads a value from the front. The fault is the place of the first field that cannot be read, or want of memory;
-    /// the reader may then stand behind some of the fields.
+    /// Reads a value from the beginning. The fault is the place of the first field that cannot be read, or that memory ran out;
+    /// the reader may then stand after some of the fields.
     fn take_parts(alloc: Global, r: &mut Reader) -> Result<Self, Malformed>
         ensures { Reads (λ x. x) result r.new (form.parse r.old) };
 
-    /// Appends the spelling. An error comes for want of memory alone; the writer is then as it was.
+    /// Appends the spelling. The only error is that memory ran out; the writer is then as it was.
     final fn put(&self, alloc: Global, w: &mut Writer) -> Result<(), AllocError>
         requires { IsTrue (form.bounded self.now) }
         ensures ok { OnOk result (w.new ≡ w.old ++ form.spell self.now) }
@@ -39,7 +39,7 @@ pub trait Field: Drop {
         w.put_raw(bytes.bytes())
     }
 
-    /// Reads a value from the front. The fault is the place of the first field that cannot be read, or want of memory;
+    /// Reads a value from the beginning. The fault is the place of the first field that cannot be read, or that memory ran out;
     /// the reader then stands where it stood.
     final fn take(alloc: Global, r: &mut Reader) -> Result<Self, Malformed>
         ensures read { Reads (λ x. x) result r.new (form.parse r.old) }
@@ -203,7 +203,7 @@ impl Field for bool {
     ghost exact = { exact_flag };
 }
 
-/// Reads a value from the front, and how many bytes it takes.
+/// Reads a value from the beginning, and how many bytes it takes.
 pub fn read_front<T: Field>(alloc: Global, bytes: &[u8]) -> Result<(T, usize), Malformed>
     // Where the first unreadable field begins.
     ensures exact { Answers result (front_of T.form bytes.now) }
@@ -222,7 +222,7 @@ pub fn read_front<T: Field>(alloc: Global, bytes: &[u8]) -> Result<(T, usize), M
 /// The bytes that memory is taken for before a value is spelled: most messages and records are shorter.
 const USUAL: usize = 512;
 
-/// The spelling of a value. An error comes for want of memory alone.
+/// The spelling of a value. The only error is that memory ran out.
 pub fn spelled<T: Field>(alloc: Global, x: &T) -> Result<Piece, AllocError>
     requires { IsTrue (T.form.bounded x.now) }
     ensures spelled { IfOk result (λ p. p ≡ T.form.spell x.now) }

@@ -46,7 +46,7 @@ impl Piece {
         }
     }
 
-    /// A copy of the bytes. An error comes for want of memory alone.
+    /// A copy of the bytes. The only error is that memory ran out.
     pub fn from(alloc: Global, bytes: &[u8]) -> Result<Piece, AllocError>
         ensures { IfOk result (λ p. p ≡ bytes.now) }
     {

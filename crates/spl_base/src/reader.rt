@@ -1,4 +1,4 @@
-//! Taking fields from the front of bytes.
+//! Taking fields from the beginning of bytes.
 ghost use Rattle.std.specs.Prelude.{◌≡◌, ◌≤◌, ◌<◌, ◌+◌, ◌^◌, length, IfOk};
 ghost use Rattle.std.specs.Int.{w8, w16, w32, w64};
 ghost use Rattle.spl_base.specs.Input.{Input, number_at, raw_at, text_at, Takes};
@@ -6,7 +6,7 @@ ghost use Rattle.spl_base.specs.Input.{Input, number_at, raw_at, text_at, Takes}
 use crate::fault::FieldFault;
 use std::marker::Model;
 
-/// Takes fields from the front of bytes. A call that fails leaves the reader where it stood: `Short` exactly where
+/// Takes fields from the beginning of bytes. A call that fails leaves the reader where it stood: `Short` exactly where
 /// too few bytes remain for the field, `TooLong` exactly where a length is above its bound (docs/RULES.md, Byte forms).
 #[derive(Drop)]
 pub struct Reader<'a> {
@@ -26,7 +26,7 @@ impl<'a> Model for Reader<'a> {
 }
 
 impl<'a> Reader<'a> {
-    /// A reader in front of the first byte.
+    /// A reader before the first byte.
     pub fn new(bytes: &'a [u8]) -> Reader<'a>
         ensures { result ≡ record { rest = bytes.now; place = 0 } }
     {

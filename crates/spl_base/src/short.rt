@@ -12,7 +12,7 @@ use std::cmp::Ordering;
 use std::hash::{Hash, Hasher};
 use std::marker::Model;
 
-/// At most `CAP` bytes. The cells behind them are 0. Contracts see the bytes.
+/// At most `CAP` bytes. The cells after them are 0. Contracts see the bytes.
 #[derive(Clone, Copy, Debug)]
 pub struct Short<const CAP: usize> {
     cells: [u8; CAP],

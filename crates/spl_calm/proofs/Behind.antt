@@ -1,4 +1,4 @@
--- The calm bound behind anything that happened.
+-- The calm bound after anything that happened.
 use Rattle.std.proofs.Common.{◌≡◌, ℕ, ◌+◌, ◌≤◌, ◌⊎◌, true, List, [], ◌∷◌, length, inl, inr, arith}
 use Rattle.std.specs.Prelude.{None}
 use Rattle.spl_circuit.specs.declared.definition.Definition.{Definition}

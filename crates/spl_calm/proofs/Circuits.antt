@@ -62,7 +62,7 @@ tame-batches n sent count _ d m t h = absurd (away_not d m h)
 
 -- ---- worlds
 
--- behind anything that happened
+-- after anything that happened
 pub behind : (ns : List NodeId) (es : List Occurrence) → AllPlain es → IsCoupled (world_behind ns es) × AllTame (0 + length es) (world_behind ns es)
 behind ns es h = tame-run 0 (empty_world ns) es h ([], (λ f. []), (λ f. []), world-start) (λ n. tt)
 
@@ -94,7 +94,7 @@ settled-from {V} groups d v w kept ruled leads same (inr h) = inr (
 pub acts-carried : (d : Definition) → broken d ≡ None → IsCarried act_shape IsOpenTo d (CellsAre d (IsOpenTo d))
 acts-carried d ruled = record { ruled = ruled; shaped = act-shaped d ruled; lasts = cells-last d (IsOpenTo d) (open-keeps d); on = λ w taken q n h. q.1 n h }
 
--- behind a calm the members are whole, and a first pending act is settled; where no act was pending and no round was open,
+-- after a calm the members are whole, and a first pending act is settled; where no act was pending and no round was open,
 -- the coordinator has committed none
 pub record ActsCalm (c : CircuitId) (k count : ℕ) (w : World) (d : Definition) : Type 0 where
   pub whole : IsWhole (calm c w k).world d
@@ -134,7 +134,7 @@ calm-acts c k count w d n coupled tame whole member = go (reached-groups admin_g
 
 -- ---- batches
 
--- behind a calm the circuit runs still, and a first pending batch is settled
+-- after a calm the circuit runs still, and a first pending batch is settled
 pub record BatchesCalm (c : CircuitId) (k count : ℕ) (w : World) (d : Definition) : Type 0 where
   pub runs : RunsAtAll (calm c w k).world d
   pub settles : (v : Batch) (rest : List Batch) → count ≤ 32768 → 6 ≤ k → (batches_kept w (service d)).pending ≡ v ∷ rest → IsSettled d (service d) v (batches_kept (calm c w k).world)

@@ -26,6 +26,6 @@ coupled-happens w e h v = let u : SomePast v.0 (happens w e).at (happens w e).se
 pub coupled-step : (w : World) (s : Step) → IsPlainStep s → IsCoupled w → IsCoupled (step_world w s)
 coupled-step w s h v = coupled-happens w (Steps s) h v
 
--- so the cell behind a plan that was carried out is valid
+-- so the cell after a plan that was carried out is valid
 pub valid-behind : (w : World) (n : NodeId) (p : Plan) → IsCoupled (carried_out w n p) → IsValidCell n (after_plan n (w.at n) p)
 valid-behind w n p v = subst (λ (z : Cell). IsValidCell n z) (put_at-same w.at n (after_plan n (w.at n) p)) (v.3.valid n)

@@ -1,4 +1,4 @@
--- Where the sends of a plan land, and the cell behind it.
+-- Where the sends of a plan land, and the cell after it.
 use Rattle.spl_wire.specs.declared.change.Change.TheVariants as durable
 use Rattle.std.proofs.Common.{◌≡◌, ◌≢◌, ℕ, ◌<◌, ◌≤◌, ◌⊎◌, true, false, List, [], ◌∷◌, ◌++◌, length, sym, ap, subst, ◌∙◌, inl, inr}
 use Rattle.std.specs.Prelude.{None, nat_lt, map}
@@ -54,7 +54,7 @@ lands-elsewhere d n back y q ruled dif f other = node_other (node_or d.members b
 pub lands-back : (d : Definition) (from y : NodeId) (q : ℕ) → length d.members ≤ q → has_node d.members y ≡ true → has_node d.members from ≡ false → bytes_eq (node_or d.members from q) y ≡ false
 lands-back d from y q l h none = node_other (node_or d.members from q) y (λ e. let z : from ≡ y = sym (node_or_out d.members from q l) ∙ e in let k : has_node d.members y ≡ false = subst (λ (u : NodeId). has_node d.members u ≡ false) z none in cc)
 
--- ---- cells behind a plan of a group
+-- ---- cells after a plan of a group
 
 -- what is kept at an open cell that is bound to the definition
 abbrev pub open_at : Definition → ℕ → Member Act → Member Batch → Bound

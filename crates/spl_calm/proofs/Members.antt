@@ -29,7 +29,7 @@ use Rattle.spl_calm.proofs.Stays.{StaysOpen, stays-tick, stays-deliver}
 use Rattle.spl_calm.proofs.Coupled.{IsCoupled, coupled-step, valid-behind}
 use Rattle.spl_calm.proofs.Lasting.{IsLasting}
 
--- the events of a calm keep this of a cell that is valid behind them
+-- the events of a calm keep this of a cell that is valid after them
 pub record KeepsCell (P : Cell → Type 0) : Type 0 where
   pub ticks : (c : CircuitId) (n : NodeId) (k : Cell) → P k → IsValidCell n (after_plan n k (plan_of (site_at n c) k event.Tick)) → P (after_plan n k (plan_of (site_at n c) k event.Tick))
   pub delivers : (c : CircuitId) (n from : NodeId) (x : Message) (k : Cell) → P k → IsValidCell n (after_plan n k (plan_of (site_at n c) k (event.Deliver from x))) → P (after_plan n k (plan_of (site_at n c) k (event.Deliver from x)))
@@ -38,7 +38,7 @@ pub record KeepsCell (P : Cell → Type 0) : Type 0 where
 abbrev pub CellsAre : Definition → (Cell → Type 0) → World → (NodeId → NodeId → ℕ) → Type 0
 CellsAre d P w taken = IsCoupled w × ((n : NodeId) → has_node d.members n ≡ true → P (w.at n))
 
--- what only tells something keeps all of a cell
+-- what only reports something keeps all of a cell
 pub told-keeps : (P : Cell → Type 0) (n : NodeId) (k : Cell) (a : Answer) → P k → P (after_plan n k (tells_only a))
 told-keeps P n k a p = subst P (sym (moved-keep n k)) p
 

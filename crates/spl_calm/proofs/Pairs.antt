@@ -47,7 +47,7 @@ posted-other ns n x y (o ∷ os) d = go (bool_cases (has_node ns o.to)) (posted-
     go (inl q) hyp = rw q (rw (node_other n x (λ e. d (sym e))) hyp)
     go (inr q) hyp = rw q hyp
 
--- behind a plan that is carried out
+-- after a plan that is carried out
 pub messages-mine : (w : World) (n y : NodeId) (p : Plan) → n ≢ y → has_node w.nodes y ≡ true → messages (carried_out w n p) n y ≡ messages w n y ++ to_node y p.sends
 messages-mine w n y p d h = rw (node_other n y d) (on_pair-append n y w.sent (posted w.nodes n p.sends) ∙ ap (λ z. on_pair n y w.sent ++ z) (posted-mine w.nodes n y p.sends h))
 
@@ -65,7 +65,7 @@ messages-other w n x y p d = go (bool_cases (bytes_eq x y))
 pub messages-self : (w : World) (x : NodeId) → messages w x x ≡ []
 messages-self w x = rw (node_same x)
 
--- ---- what stands behind the first so many
+-- ---- what stands after the first so many
 
 pub drop-all : {A : Type 0} (xs : List A) → drop (length xs) xs ≡ []
 drop-all [] = refl

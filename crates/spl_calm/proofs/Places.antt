@@ -19,13 +19,13 @@ use Rattle.spl_agreement.proofs.Rosters.{members-serve}
 
 -- ---- positions
 
--- what stands behind is above
+-- what stands after is above
 pub above-after : (m : NodeId) (ms : List NodeId) (back : NodeId) (q : ℕ) → ascends_after m ms ≡ true → q < length ms → is_below m (node_or ms back q) ≡ true
 above-after m [] back q a l = absurd (omega (arith, l))
 above-after m (k ∷ ks) back zero a l = and_left (is_below m k) (ascends_after k ks) a
 above-after m (k ∷ ks) back (suc q) a l = below_trans m k (node_or ks back q) (and_left (is_below m k) (ascends_after k ks) a) (above-after k ks back q (and_right (is_below m k) (ascends_after k ks) a) (omega (arith, l)))
 
--- the node at a position stands behind so many
+-- the node at a position stands after so many
 pub before-or : (ms : List NodeId) (back : NodeId) (q : ℕ) → ascends ms ≡ true → q < length ms → before_node ms (node_or ms back q) ≡ q
 before-or [] back q a l = absurd (omega (arith, l))
 before-or (m ∷ ms) back zero a l = rw (node_same m)
@@ -42,13 +42,13 @@ or-member (m ∷ ms) back (suc q) l = rw (or-member ms back q (omega (arith, l))
 pub position-at : (d : Definition) (back : NodeId) (q : ℕ) → broken d ≡ None → q < length d.members → position d.members (node_or d.members back q) ≡ q
 position-at d back q ruled l = position_member d.members (node_or d.members back q) (or-member d.members back q l) ∙ before-or d.members back q (members_ascend d ruled) l
 
--- a node that is no member has a position behind all
+-- a node that is no member has a position after all
 pub outside : (d : Definition) (n : NodeId) → broken d ≡ None → has_node d.members n ≡ false → length d.members ≤ position d.members n
 outside d n ruled h = let p : position d.members n ≡ 255 = rw h in omega (arith, p, (few_members d ruled).1)
 
 -- ---- services
 
--- the ids behind an id are others
+-- the ids after an id are others
 pub id-other : (i : CircuitId) (ss : List Service) (n : NodeId) → ascends_after i (ids_of ss) ≡ true → has_node (nodes_of ss) n ≡ true → bytes_eq i (or_none (service_of_node ss n)) ≡ false
 id-other i [] n a h = cc
 id-other i (s ∷ ss) n a h = go (bool_cases (bytes_eq s.node n)) (id-other i ss n)

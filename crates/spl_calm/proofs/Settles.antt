@@ -85,7 +85,7 @@ sim-start s d Inv w g inv q = record {
   due = λ x y h k off. ap (λ (z : List Message). owns (s.own d x y) z) (drop-all (messages w x y));
 }
 
--- behind a calm: the fact holds, and there is a world of the group beside the cells. It is settled, where the calm has six
+-- after a calm: the fact holds, and there is a world of the group beside the cells. It is settled, where the calm has six
 -- passes or more and a value was pending first; and its coordinator has committed nothing, where nothing was pending and no
 -- round was open
 pub record IsCalm {V : Type 0} (s : Shape V) (d : Definition) (Inv : World → (NodeId → NodeId → ℕ) → Type 0) (k : ℕ) (z : Calming) (g : GroupWorld V) : Type 0 where

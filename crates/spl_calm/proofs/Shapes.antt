@@ -40,7 +40,7 @@ owns-append {V} own (x ∷ xs) ys = go (own x) (owns-append own xs ys)
     go None hyp = hyp
     go (Some m) hyp = ap (λ z. m ∷ z) hyp
 
--- behind a plan the cell has this member of the group, and these messages of the group go to the other members
+-- after a plan the cell has this member of the group, and these messages of the group go to the other members
 pub record Gives {V : Type 0} (s : Shape V) (d : Definition) (n : NodeId) (k : Cell) (p : Plan) (m : Member V) (ss : List (ℕ × CommitMsg V)) : Type 0 where
   pub stands : s.stand (after_plan n k p) ≡ There d m
   pub sends : (y : NodeId) → has_node d.members y ≡ true → y ≢ n → owns (s.own d n y) (to_node y p.sends) ≡ mail (position d.members y) ss

@@ -50,7 +50,7 @@ pub record Stands {V : Type 0} (s : Shape V) (d : Definition) (w : World) (taken
 pub sim-stands : {V : Type 0} (s : Shape V) (d : Definition) (Inv : World → (NodeId → NodeId → ℕ) → Type 0) (w : World) (taken : NodeId → NodeId → ℕ) (k : Calm V) → Sim s d Inv w taken k → Stands s d w taken k.due
 sim-stands s d Inv w taken k q = record { few = q.few; left = q.due }
 
--- what the group's calm is behind the plan
+-- what the group's calm is after the plan
 pub record Comes {V : Type 0} (d : Definition) (n : NodeId) (k k2 : Calm V) (due : ℕ → ℕ → List (CommitMsg V)) (m : Member V) (ss : List (ℕ × CommitMsg V)) : Type 0 where
   pub here : has_node d.members n ≡ true → k2.world.at (position d.members n) ≡ m
   pub others : (x : NodeId) → has_node d.members n ≡ true → has_node d.members x ≡ true → x ≢ n → k2.world.at (position d.members x) ≡ k.world.at (position d.members x)

@@ -1,4 +1,4 @@
--- Each cell is tame behind anything that happened.
+-- Each cell is tame after anything that happened.
 use Rattle.std.proofs.Common.{◌≡◌, ◌≢◌, ℕ, suc, ◌+◌, ◌⊎◌, Bool, true, false, List, [], ◌∷◌, ◌++◌, length, sym, ap, subst, ◌∙◌, inl, inr, arith}
 use Rattle.std.specs.Prelude.{if◌then◌else◌, map}
 use Rattle.spl_agree.specs.declared.event.OpenMove.TheVariants as move
@@ -102,7 +102,7 @@ tame-put count w n k sent2 up more new old j = go (node_cases j n)
 pub tame-later : (count : ℕ) (w : World) → AllTame count w → AllTame (count + 1) w
 tame-later count w t n = tame-cell-more n w.sent count (w.at n) (t n)
 
--- the cell behind a step
+-- the cell after a step
 pub tame-step : (count : ℕ) (w : World) (n : NodeId) (p : Plan) → IsDeed w n p → IsCoupled w → AllTame count w → IsTameCell n w.sent (count + 1) (after_plan n (w.at n) p)
 tame-step count w n p i v t = subst (λ (z : Plan). IsTameCell n w.sent (count + 1) (after_plan n (w.at n) z)) (sym i.3) (tame-deed i.2 n w.sent count (w.at n) i.0 i.1 (v.3.valid n) (t n))
 

@@ -32,7 +32,7 @@ pub fn calms_settle()
         IsSettled d (service d) v (batches_kept (calm c (world_behind ns es) k).world) }
 {}
 
-/// So does the line of a calm, behind any lines within their bounds: in the world of a circuit that
+/// So does the line of a calm, after any lines within their bounds: in the world of a circuit that
 /// nodes stand for.
 pub fn calm_lines_settle()
     ensures acts { (ns : List NodeId) (rs : List Ran) (c : CircuitId) (k : ℕ) (d : Definition) (v : Act) (rest : List Act) →

@@ -8,7 +8,7 @@ use Rattle.spl_wire.specs.declared.change.Change.{Change}
 use Rattle.spl_wire.specs.declared.plan.Outgoing.{Outgoing}
 use Rattle.spl_rules.specs.Plans.{Lane, outgoing, group_sends}
 
--- what is done to each of a list, behind others
+-- what is done to each of a list, after others
 module _ {A B : Type 0} (of : List A → List B) (one : A → B) (none : of [] ≡ []) (some : (x : A) (xs : List A) → of (x ∷ xs) ≡ one x ∷ of xs) where
   last_more : (xs : List A) (x : A) → of (xs ++ x ∷ []) ≡ of xs ++ one x ∷ []
   last_more [] x = some x [] ∙ (ap (λ zs. one x ∷ zs) none ∙ ap (λ zs. zs ++ one x ∷ []) (sym none))

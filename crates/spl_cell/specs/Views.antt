@@ -11,7 +11,7 @@ use Rattle.spl_commit.specs.Views.{MemberView}
 use Rattle.spl_rules.specs.Cells.{Bound, Cell, Held, Site, admin_group, service_group}
 use Rattle.spl_rules.specs.Valid.{IsSettledCell}
 
--- the cell of a circuit at a node, and whether a change of it was lost for want of memory
+-- the cell of a circuit at a node, and whether a change of it was lost because memory ran out
 pub record CellView : Type 0 where
   pub site : Site
   pub state : Cell

@@ -1,4 +1,4 @@
-//! What a bound cell tells of the batches that are committed here.
+//! What a bound cell reports of the batches that are committed here.
 ghost use Rattle.std.specs.Prelude.{◌≡◌, None, map, IfOk};
 ghost use Rattle.spl_rules.specs.Batches.{when_active, root_told, history_told, value_told, listed, status_told, status_kept, receipt_told};
 ghost use Rattle.spl_rules.specs.Plans.{planned, tells_only};

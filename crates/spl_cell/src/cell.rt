@@ -107,7 +107,7 @@ impl Cell {
     }
 
     /// What an event gives: an answer, durable changes, a move of the open round of each group, and
-    /// messages. Nothing is changed. An error comes for want of memory alone.
+    /// messages. Nothing is changed. The only error is that memory ran out.
     #[inline(always)]
     pub fn plan(&self, alloc: Global, event: &Event) -> Result<Plan, AllocError>
         requires running { self.now.halted ≡ false }
@@ -115,7 +115,7 @@ impl Cell {
         ensures plan { IfOk result (λ p. p ≡ plan_of self.now.site self.now.state event.now) }
         ensures valid { IsValid self.now.site self.now.state }
 
-        // Its changes fit, each behind those before it, and its moves fit behind them.
+        // Its changes fit, each after those before it, and its moves fit after them.
         ensures fits { IfOk result (λ p.
             (applied self.now.site self.now.state p.changes ≡ made self.now.site.here self.now.state p.changes) ×
             FitsMoveAt self.now.site.here (made self.now.site.here self.now.state p.changes) p.admin p.service) }
@@ -136,8 +136,8 @@ impl Cell {
         self.site.plan(alloc, &self.state, event)
     }
 
-    /// Makes the changes of a plan, each where it fits, and then its moves. An error comes for want
-    /// of memory alone, and the cell is halted then.
+    /// Makes the changes of a plan, each where it fits, and then its moves. The only error is that memory ran out,
+    /// and the cell is halted then.
     #[inline(always)]
     pub fn apply(&mut self, alloc: Global, plan: &Plan) -> Result<(), AllocError>
         requires running { self.old.halted ≡ false }
@@ -158,8 +158,8 @@ impl Cell {
         Ok(())
     }
 
-    /// Makes changes that were read, each where it fits; no round is open behind them either, so
-    /// that more may be read. An error comes for want of memory alone, and the cell is halted then.
+    /// Makes changes that were read, each where it fits; no round is open after them either, so
+    /// that more may be read. The only error is that memory ran out, and the cell is halted then.
     pub fn replay(&mut self, alloc: Global, changes: &ChangeList) -> Result<(), AllocError>
         requires running { self.old.halted ≡ false }
         requires still { IsStill self.old.state }
@@ -179,7 +179,7 @@ impl Cell {
     }
 
     /// The byte forms of the records of the changes that make the cell of an empty one, in order. An empty cell has
-    /// none, and open rounds aren't packed. An error comes for want of memory alone.
+    /// none, and open rounds aren't packed. The only error is that memory ran out.
     pub fn pack(&self, alloc: Global) -> Result<PackedRecords, AllocError>
         requires running { self.now.halted ≡ false }
         ensures records { IfOk result (λ rs. rs.items ≡ spelled (records_of self.now.site.circuit (grouped self.now.site.circuit (packed self.now.state)))) }
@@ -190,7 +190,7 @@ impl Cell {
         packed_records(alloc, self.site.circuit, changes)
     }
 
-    /// Keeps the digests of the state anew, so that telling its root costs nothing; nothing that is
+    /// Renews the digests of the state, so that reporting its root costs nothing; nothing that is
     /// seen changes. Cells of equal states that are renewed in turn share most of the work by the
     /// cache.
     pub fn renew(&mut self, cache: &mut RunCache)

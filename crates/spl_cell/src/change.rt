@@ -49,7 +49,7 @@ fn may_keep(change: &GroupChange<Batch>) -> bool
 }
 
 impl Held {
-    /// The turn of the node behind a change: an own act that is queued sets it.
+    /// The turn of the node after a change: an own act that is queued sets it.
     fn turn_after(&self, change: &GroupChange<Act>) -> u32
         ensures { result ≡ turn_after self.now.site.here self.now.bound.turn change.now }
     {
@@ -65,7 +65,7 @@ impl Held {
         }
     }
 
-    /// Whether an act may be pending: one of this node is queued alone, and with no turn behind.
+    /// Whether an act may be pending: one of this node is queued alone, and with no turn after.
     fn may_queue(&self, act: &Act) -> bool
         ensures { result ≡ may_queue self.now.site.here self.now.bound.turn self.now.bound.acts.pending act.now }
     {
@@ -88,7 +88,7 @@ impl Held {
         }
     }
 
-    /// Whether a change of the admin group fits. An error comes for want of memory alone.
+    /// Whether a change of the admin group fits. The only error is that memory ran out.
     #[tactic(auto, using(crate::proofs::Changes::fits_may))]
     fn fits_admin(&self, alloc: Global, change: &GroupChange<Act>) -> Result<bool, AllocError>
         ensures { IfOk result (λ b. b ≡
@@ -105,7 +105,7 @@ impl Held {
         self.acts.fits(alloc, change)
     }
 
-    /// Makes a change of the admin group that fits. An error comes for want of memory alone, and
+    /// Makes a change of the admin group that fits. The only error is that memory ran out, and
     /// the cell is halted then.
     #[tactic(auto, using(crate::proofs::Changes::place_facts))]
     fn makes_admin(&mut self, alloc: Global, change: &GroupChange<Act>) -> Result<(), AllocError>
@@ -126,7 +126,7 @@ impl Held {
         Ok(())
     }
 
-    /// Whether a change of the service group fits. An error comes for want of memory alone.
+    /// Whether a change of the service group fits. The only error is that memory ran out.
     #[tactic(auto, using(crate::proofs::Changes::fits_may))]
     fn fits_service(&self, alloc: Global, change: &GroupChange<Batch>) -> Result<bool, AllocError>
         ensures { IfOk result (λ b. b ≡
@@ -148,7 +148,7 @@ impl Held {
         self.batches.fits(alloc, change)
     }
 
-    /// Makes a change of the service group that fits. An error comes for want of memory alone, and
+    /// Makes a change of the service group that fits. The only error is that memory ran out, and
     /// the cell is halted then.
     #[tactic(auto, using(crate::proofs::Changes::place_facts))]
     fn makes_service(

@@ -34,7 +34,7 @@ pub(crate) fn copy_change<V: Value>(
     }
 }
 
-/// The changes, and behind them those of a group.
+/// The changes, and after them those of a group.
 #[tactic(auto, using(crate::proofs::Steps::changes_more))]
 #[inline(always)]
 pub(crate) fn with_changes<L: Lane>(

@@ -115,7 +115,7 @@ impl Held {
         }
     }
 
-    /// Keeps the digests of the state anew.
+    /// Renews the digests of the state.
     pub(crate) fn renew(&mut self, cache: &mut RunCache)
         ensures { self.new ≡ self.old }
     {

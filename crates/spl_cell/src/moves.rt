@@ -76,7 +76,7 @@ impl Site {
         }
     }
 
-    /// A cell behind a stop.
+    /// A cell after a stop.
     pub(crate) fn stopped(&self, state: State) -> State
         requires at { IsAt (site_of self.now) state }
         ensures cell { cell_of result ≡ stopped_cell (cell_of state) }

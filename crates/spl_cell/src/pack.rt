@@ -20,7 +20,7 @@ use std::alloc::{AllocError, Global};
 /// The changes that memory is taken for before a cell is packed: most cells have no more.
 const ROOM: usize = 8;
 
-/// The changes, and behind them those of a group.
+/// The changes, and after them those of a group.
 #[tactic(auto, using(crate::proofs::Steps::changes_more))]
 fn behind<L: Lane>(
     first: Vec<Change>,
@@ -37,7 +37,7 @@ fn behind<L: Lane>(
     Ok(all)
 }
 
-/// The changes, and behind them that of a mark.
+/// The changes, and after them that of a mark.
 fn mark_behind(first: Vec<Change>, mark: Mark) -> Result<Vec<Change>, AllocError>
     ensures { IfOk result (λ cs. cs.items ≡ first.items ++ packed_mark mark) }
 {
@@ -50,7 +50,7 @@ fn mark_behind(first: Vec<Change>, mark: Mark) -> Result<Vec<Change>, AllocError
 }
 
 impl Held {
-    /// The changes, and behind them those of the service group, where it goes on.
+    /// The changes, and after them those of the service group, where it goes on.
     fn batches_packed(&self, alloc: Global, first: Vec<Change>) -> Result<Vec<Change>, AllocError>
         ensures { IfOk result (λ cs. cs.items ≡ first.items ++ packed_batches self.now.bound) }
     {
@@ -71,7 +71,7 @@ impl Held {
         Ok(all)
     }
 
-    /// The changes, and behind them those of the admin group.
+    /// The changes, and after them those of the admin group.
     fn acts_packed(&self, alloc: Global, first: Vec<Change>) -> Result<Vec<Change>, AllocError>
         ensures { IfOk result (λ cs. cs.items ≡ first.items ++ map durable.Admin (packed_member self.now.bound.acts)) }
     {

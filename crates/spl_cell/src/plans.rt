@@ -90,7 +90,7 @@ impl Site {
         })
     }
 
-    /// What a group of a definition gives, behind first changes. A message came from `back`.
+    /// What a group of a definition gives, after first changes. A message came from `back`.
     #[inline(always)]
     pub(crate) fn lane_plan<L: Lane>(
         &self,

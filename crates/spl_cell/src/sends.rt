@@ -35,7 +35,7 @@ impl Site {
         Ok(Outgoing { to, message })
     }
 
-    /// The messages, and behind them those of a group of a definition.
+    /// The messages, and after them those of a group of a definition.
     #[tactic(auto, using(crate::proofs::Steps::sends_more))]
     #[inline(always)]
     pub(crate) fn with_sends<L: Lane>(

@@ -42,7 +42,7 @@ impl Settled<'_> {
         Ok(refuses(alloc, Refusal::IdTaken))
     }
 
-    /// The node submits a batch: it is queued, or the first reason against it is told.
+    /// The node submits a batch: it is queued, or the first reason against it is reported.
     pub(crate) fn submits(&self, alloc: Global, batch: &Batch) -> Result<Plan, AllocError>
         ensures { IfOk result (λ p. p ≡ planned self.now.site (submits self.now.site self.now.bound batch.now)) }
     {

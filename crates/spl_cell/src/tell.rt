@@ -1,4 +1,4 @@
-//! What a bound cell tells of itself.
+//! What a bound cell reports of itself.
 ghost use Rattle.std.specs.Prelude.{◌≡◌, ◌≤◌, length, is_some, IfOk};
 ghost use Rattle.spl_agree.specs.declared.limit.TheConstants.{MOST_PENDING};
 ghost use Rattle.spl_rules.specs.Cells.{Tells, shows, details};

@@ -27,6 +27,6 @@ places_below d place l (a ∷ rest) h =
     let behind = places_below d (suc place) (life_after d place l a.node a.kind) rest (omega (arith, first)) in
     omega (arith, behind)
 
--- a disband stands at no place behind the acts
+-- a disband stands at no place after the acts
 pub place_below : (d : Definition) (acts : List Act) → (life d acts).disband.place ≤ length acts
 place_below d acts = let below = places_below d 0 no_life acts (omega arith) in omega (arith, below)

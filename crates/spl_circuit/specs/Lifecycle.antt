@@ -56,12 +56,12 @@ life_after d place l n (kind.DisbandAccept p) =
 life_after d place l n (kind.DisbandReject p) = record { state = lifecycle.Active; circuit = l.circuit; disband = l.disband }
 life_after d place l n (kind.DisbandRemove p) = record { state = lifecycle.Active; circuit = l.circuit; disband = l.disband }
 
--- behind acts that begin at this place
+-- after acts that begin at this place
 abbrev pub life_from : Definition → ℕ → Life → List Act → Life
 life_from d place l [] = l
 life_from d place l (a ∷ rest) = life_from d (suc place) (life_after d place l a.node a.kind) rest
 
--- behind the committed acts
+-- after the committed acts
 abbrev pub life : Definition → List Act → Life
 life d acts = life_from d 0 no_life acts
 
@@ -93,7 +93,7 @@ is_running l = is_active l || is_disbanding l
 abbrev pub has_run : Lifecycle → Bool
 has_run l = is_running l || is_disbanded l
 
--- the proposal that is told of, which is the open one where one is: the disband where the circuit is disbanding or disbanded
+-- the proposal that is reported, which is the open one where one is: the disband where the circuit is disbanding or disbanded
 abbrev pub current : Life → Proposal
 current l = if is_disbanding l.state || is_disbanded l.state then l.disband else l.circuit
 

@@ -17,7 +17,7 @@ use std::alloc::{AllocError, Global};
 
 impl Definition {
     /// Appends the byte form, which a definition of at most 16 members and at most 16 services
-    /// has. After want of memory the writer is as it was.
+    /// has. When memory runs out the writer is as it was.
     pub fn write(&self, alloc: Global, w: &mut Writer) -> Result<(), AllocError>
         requires few { IsTrue (definition.bounded self.now) }
         ensures ok { OnOk result (w.new ≡ w.old ++ definition.spell self.now) }
@@ -27,8 +27,8 @@ impl Definition {
         self.put(alloc, w)
     }
 
-    /// Reads a definition from the front, whether or not it keeps the rules. The fault is the
-    /// place of the first field that cannot be read, or want of memory; the reader then stands
+    /// Reads a definition from the beginning, whether or not it keeps the rules. The fault is the
+    /// place of the first field that cannot be read, or that memory ran out; the reader then stands
     /// where it stood.
     pub fn read(alloc: Global, r: &mut Reader) -> Result<Definition, Malformed>
         ensures read { Reads (λ x. x) result r.new (definition.parse r.old) }
@@ -51,7 +51,7 @@ impl Definition {
 
 impl Act {
     /// Appends the byte form, which an act has where the definition that it proposes has one.
-    /// After want of memory the writer is as it was.
+    /// When memory runs out the writer is as it was.
     pub fn write(&self, alloc: Global, w: &mut Writer) -> Result<(), AllocError>
         requires few { IsTrue (act.bounded self.now) }
         ensures ok { OnOk result (w.new ≡ w.old ++ act.spell self.now) }
@@ -61,8 +61,8 @@ impl Act {
         self.put(alloc, w)
     }
 
-    /// Reads an act from the front. The fault is the place of the first field that cannot be
-    /// read, or want of memory; the reader then stands where it stood.
+    /// Reads an act from the beginning. The fault is the place of the first field that cannot be
+    /// read, or that memory ran out; the reader then stands where it stood.
     pub fn read(alloc: Global, r: &mut Reader) -> Result<Act, Malformed>
         ensures read { Reads (λ x. x) result r.new (act.parse r.old) }
         ensures unmoved { OnErr result (r.new ≡ r.old) }

@@ -1,4 +1,4 @@
--- The changes that receipts tell make the state that the commands left.
+-- The changes that receipts report make the state that the commands left.
 use Rattle.std.proofs.Common.{◌≡◌, ℕ, Bool, true, false, cond, List, [], ◌∷◌, ◌++◌, Option, Some, None, refl, sym, ap, subst, ◌∙◌}
 use Rattle.std.specs.Prelude.{fold, is_some, if◌then◌else◌}
 use Rattle.std.specs.Map.{remove_entry}

@@ -15,7 +15,7 @@ use Rattle.spl_command.specs.declared.receipt.Verdict.TheVariants as verdict
 use Rattle.spl_command.specs.Execution.{Values, values_of, values_after, receipt_after, Ran, begun, ran, unless, run, after_run, verdict_from, cause_in, cause_among, numbered, cause_from, cause_of, verdict_on, told_cause}
 use Rattle.spl_command.specs.Runs.{value_after, values_behind, receipt_of, receipts_of}
 
--- one address of the state behind a command, and behind commands
+-- one address of the state after a command, and after commands
 pub after_at : (m : Values) (c : Command) (a : Address) → values_after m c a ≡ value_after a (m a) c
 after_at m (Set b w) a = refl
 after_at m c a = refl
@@ -56,7 +56,7 @@ verdict_from_is (t ∷ ts) n m rs =
     ∙ ap (λ xs. verdict_or (cause_from (n + 1) ts) xs) (append_assoc rs (r.receipt ∷ []) (receipts_of r.values ts) ∙ ap (λ v. rs ++ (r.receipt ∷ receipts_of v ts)) values) in
     ap (after_run n next) (run_is t t.commands (begun m)) ∙ went_on n (cause_among t t.commands) r next (cause_from (n + 1) ts) (rs ++ receipts_of m (t ∷ ts)) later
 
--- the value at an address, one transaction further, and behind all and some commands
+-- the value at an address, one transaction further, and after all and some commands
 pub value_further : (m : Values) (ts : List Transaction) (i : ℕ) (a : Address) (t : Transaction) (cs : List Command) (v w : Option (List ℕ)) → i < length ts → t ≡ get_or ts i t → cs ≡ t.commands
     → v ≡ values_behind m (take i ts) a → w ≡ fold (value_after a) v cs → w ≡ values_behind m (take (i + 1) ts) a
 value_further m ts i a t cs v w lt is own so_far e =

@@ -77,7 +77,7 @@ abbrev pub after_run : ℕ → (Ran → Verdict) → Result Ran ℕ → Verdict
 after_run n next (Ok r) = next r
 after_run n next (Err cause) = verdict.Invalid n cause
 
--- transactions in order, the first of them the n-th, behind others with these receipts
+-- transactions in order, the first of them the n-th, after others with these receipts
 abbrev pub verdict_from : ℕ → List Transaction → Values → List Receipt → Verdict
 verdict_from n [] m rs = verdict.Valid rs
 verdict_from n (t ∷ ts) m rs = after_run n (λ r. verdict_from (n + 1) ts r.values (rs ++ r.receipt ∷ [])) (run t t.commands (begun m))
@@ -103,7 +103,7 @@ cause_from n (t ∷ ts) = numbered n (cause_from (n + 1) ts) (cause_among t t.co
 abbrev pub cause_of : Batch → Option (ℕ × ℕ)
 cause_of b = cause_from 1 b.transactions
 
--- the cause that a verdict tells, with the number of its transaction
+-- the cause that a verdict reports, with the number of its transaction
 abbrev pub told_cause : Verdict → Option (ℕ × ℕ)
 told_cause (verdict.Valid rs) = None
 told_cause (verdict.Invalid t cause) = Some (t, cause)

@@ -38,7 +38,7 @@ after_batch m b = after_verdict m (verdict_on m b)
 abbrev pub state_of : List Batch → List Entry
 state_of bs = fold after_batch [] bs
 
--- the receipts of a batch behind others
+-- the receipts of a batch after others
 abbrev pub receipts_behind : List Batch → Batch → List Receipt
 receipts_behind bs b = receipts_in (verdict_on (state_of bs) b)
 

@@ -9,17 +9,17 @@ use Rattle.spl_command.specs.declared.batch.Transaction.{Transaction}
 use Rattle.spl_command.specs.declared.receipt.Receipt.{Receipt}
 use Rattle.spl_command.specs.Execution.{Values, values_of, values_after, begun, ran}
 
--- the value at an address behind a command
+-- the value at an address after a command
 abbrev pub value_after : Address → Option (List ℕ) → Command → Option (List ℕ)
 value_after a v (Set b w) = if is_at (address_cmp a) b then Some w else v
 value_after a v (Delete b) = if is_at (address_cmp a) b then None else v
 value_after a v _ = v
 
--- the state behind transactions
+-- the state after transactions
 abbrev pub values_behind : Values → List Transaction → Values
 values_behind m ts = fold (λ m t. fold values_after m t.commands) m ts
 
--- the state behind transactions and some commands of the next
+-- the state after transactions and some commands of the next
 abbrev pub values_before : List Entry → List Transaction → List Command → Values
 values_before m ts cs = fold values_after (values_behind (values_of m) ts) cs
 

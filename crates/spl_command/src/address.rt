@@ -15,7 +15,7 @@ pub(crate) fn put_address(a: &Address, w: &mut Writer) -> Result<(), AllocError>
     w.put_raw(&a.0)
 }
 
-/// Reads the bytes of an address from the front.
+/// Reads the bytes of an address from the beginning.
 pub(crate) fn take_address(r: &mut Reader) -> Result<Address, Malformed>
     ensures { Reads (λ x. x) result r.new (address.parse r.old) }
 {

@@ -35,8 +35,8 @@ fn count(receipts: &[Receipt]) -> usize {
     count
 }
 
-/// Makes the changes of receipts in a draft, in their order. An error comes for want of memory
-/// alone; some of the changes are made then, and the draft can still be undone.
+/// Makes the changes of receipts in a draft, in their order. The only error is that memory ran out;
+/// some of the changes are made then, and the draft can still be undone.
 pub fn apply_receipts(draft: &mut Draft, receipts: &Receipts) -> Result<(), AllocError>
     ensures before { draft.new.before ≡ draft.old.before }
     ensures ok { OnOk result (draft.new.entries ≡ with_receipts draft.old.entries receipts.now) }

@@ -21,7 +21,7 @@ pub enum Command {
     Get(Address),
     /// Removes the value at an address, if there is one.
     Delete(Address),
-    /// Tells an event of a type, with its data.
+    /// Reports an event of a type, with its data.
     Event(Label, Piece),
     /// Returns data.
     Data(Piece),

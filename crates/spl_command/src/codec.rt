@@ -12,7 +12,7 @@ use std::alloc::{AllocError, Global};
 
 impl Batch {
     /// Appends the byte form, which a batch has where its lists have at most 1,024 items and its
-    /// byte strings at most 1,024 bytes. After want of memory the writer is as it was.
+    /// byte strings at most 1,024 bytes. When memory runs out the writer is as it was.
     pub fn write(&self, alloc: Global, w: &mut Writer) -> Result<(), AllocError>
         requires few { IsTrue (batch.bounded self.now) }
         ensures ok { OnOk result (w.new ≡ w.old ++ batch.spell self.now) }
@@ -22,8 +22,8 @@ impl Batch {
         self.put(alloc, w)
     }
 
-    /// Reads a batch from the front, whether or not it keeps the rules. The fault is the place
-    /// of the first field that cannot be read, or want of memory; the reader then stands where it
+    /// Reads a batch from the beginning, whether or not it keeps the rules. The fault is the place
+    /// of the first field that cannot be read, or that memory ran out; the reader then stands where it
     /// stood.
     pub fn read(alloc: Global, r: &mut Reader) -> Result<Batch, Malformed>
         ensures read { Reads (λ x. x) result r.new (batch.parse r.old) }

@@ -11,7 +11,7 @@ use spl_base::{Listing, Piece, Value};
 use spl_state::{Address, State};
 use std::alloc::{AllocError, Global};
 
-/// The value at an address behind a command, where `value` is the one before it.
+/// The value at an address after a command, where `value` is the one before it.
 fn value_after<'a>(
     value: Option<&'a [u8]>,
     command: &'a Command,
@@ -36,7 +36,7 @@ fn value_after<'a>(
     }
 }
 
-/// The value at an address behind commands, where `value` is the one before them.
+/// The value at an address after commands, where `value` is the one before them.
 fn value_behind<'a>(
     value: Option<&'a [u8]>,
     commands: &'a [Command],
@@ -61,7 +61,7 @@ struct Past<'a> {
 }
 
 impl<'a> Past<'a> {
-    /// The value at an address: the state's own, behind what the batch did so far.
+    /// The value at an address: the state's own, after what the batch did so far.
     fn value_at(&self, address: &Address) -> Option<&'a [u8]>
         ensures { option_copied result ≡ values_before self.now.state.now self.now.transactions.now self.now.commands.now address.now }
     {
@@ -120,7 +120,7 @@ impl Receipt {
     }
 }
 
-/// The receipt of a transaction with these commands, behind others.
+/// The receipt of a transaction with these commands, after others.
 fn receipt(
     alloc: Global,
     state: &State,
@@ -158,8 +158,7 @@ fn receipts(
 }
 
 /// What a batch that breaks no rule is on a state, which stays as it is. It takes look-ups in
-/// the state, and passes over the commands of the batch itself. An error comes for want of memory
-/// alone.
+/// the state, and passes over the commands of the batch itself. The only error is that memory ran out.
 pub fn execute(alloc: Global, state: &State, batch: &Batch) -> Result<Verdict, AllocError>
     requires { broken_batch batch.now ≡ None }
     ensures { IfOk result (λ v. v ≡ verdict_on state.now batch.now) }

@@ -101,7 +101,7 @@ impl Prefixes {
         })
     }
 
-    /// One prefix more, at the end. After want of memory the list is as it was.
+    /// One prefix more, at the end. When memory runs out the list is as it was.
     pub fn push(&mut self, prefix: Prefix) -> Result<(), AllocError>
         ensures ok { OnOk result (self.new ≡ self.old ++ prefix ∷ []) }
         ensures err { OnErr result (self.new ≡ self.old) }
@@ -116,7 +116,7 @@ impl Prefixes {
         self.items.len()
     }
 
-    /// The prefix at a position from 0; None exactly behind the end.
+    /// The prefix at a position from 0; None exactly after the end.
     pub fn get(&self, i: usize) -> Option<&Prefix>
         ensures { option_copied result ≡ slice_get self.now i }
     {

@@ -11,7 +11,7 @@ pub enum StateChange {
     Delete(Address),
 }
 
-/// An event that a transaction told: its type and its data.
+/// An event that a transaction reported: its type and its data.
 #[derive(Drop)]
 pub struct StateEvent {
     pub kind: Label,
@@ -21,7 +21,7 @@ pub struct StateEvent {
 /// Changes of the state, in the order in which they were made.
 pub type Changes = Listing<StateChange>;
 
-/// Events, in the order in which they were told.
+/// Events, in the order in which they were reported.
 pub type Events = Listing<StateEvent>;
 
 /// Byte strings.

@@ -9,7 +9,7 @@ use crate::prefixes::{PrefixItem, Prefixes};
 use spl_base::Field;
 use spl_state::Address;
 
-/// A value that tells the length of its byte form without writing it.
+/// A value that reports the length of its byte form without writing it.
 trait Measured: Field {
     /// The length of the byte form, or the greatest number where that is more.
     fn size(&self) -> usize

@@ -13,7 +13,7 @@ abbrev pub place_with : Bool → ℕ → Option ℕ
 place_with true n = Some n
 place_with false n = None
 
--- a key behind the others
+-- a key after the others
 pub place_of-more : {K : Type 0} (p : K → Bool) (ks : List K) (k : K) → place_of p (ks ++ k ∷ []) ≡ or_else (place_of p ks) (place_with (p k) (length ks))
 place_of-more p [] k = last (p k)
   where

@@ -37,7 +37,7 @@ module _ {V : Type 0} where
   pub queued_next : (first : List (GroupChange V)) (vs : List V) (i : ℕ) (v : V) → slice_get vs i ≡ Some v → first ++ queued_each (take (i + 1) vs) ≡ (first ++ queued_each (take i vs)) ++ change.Queue v ∷ []
   queued_next = next queued_each (λ v. change.Queue v) refl (λ v vs. refl)
 
--- one step, and the end, of what is done to each value of a list that may stand behind keys
+-- one step, and the end, of what is done to each value of a list that may stand after keys
 module _ {A B : Type 0} (of : List A → List B) (one : A → B) (one-more : (first : List B) (xs : List A) (i : ℕ) (x : A) → slice_get xs i ≡ Some x → first ++ of (take (i + 1) xs) ≡ (first ++ of (take i xs)) ++ one x ∷ []) where
   pub step_one : (first all new : List B) (xs : List A) (i : ℕ) (x : A) (y : B) → slice_get xs i ≡ Some x → y ≡ one x → all ≡ first ++ of (take i xs) → new ≡ all ++ y ∷ [] → new ≡ first ++ of (take (i + 1) xs)
   step_one first all new xs i x y at is so e = e ∙ (ap (λ zs. zs ++ y ∷ []) so ∙ (ap (λ z. (first ++ of (take i xs)) ++ z ∷ []) is ∙ sym (one-more first xs i x at)))

@@ -23,7 +23,7 @@ fn no_memory<V: Drop>(fault: OfferFault<V>) -> AllocError
 }
 
 impl<M: Agreed> Member<M> {
-    /// Makes a durable change that fits. An error comes for want of memory alone; the member keeps
+    /// Makes a durable change that fits. The only error is that memory ran out; the member keeps
     /// what it kept then, so that it goes on.
     pub fn apply(&mut self, alloc: Global, change: GroupChange<M::Value>) -> Result<(), AllocError>
         requires { fits (M.rules self.old.content) any_value self.old.state change ≡ true }

@@ -9,7 +9,7 @@ use spl_queue::Known;
 use std::alloc::{AllocError, Global};
 
 impl<M: Agreed> Member<M> {
-    /// Whether a change fits, so that it can be made. An error comes for want of memory alone.
+    /// Whether a change fits, so that it can be made. The only error is that memory ran out.
     pub fn fits(&self, alloc: Global, change: &GroupChange<M::Value>) -> Result<bool, AllocError>
         ensures { IfOk result (λ b. b ≡ fits (M.rules self.now.content) any_value self.now.state change.now) }
     {

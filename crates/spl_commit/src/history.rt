@@ -88,7 +88,7 @@ impl<M: Agreed> History<M> {
         }
     }
 
-    /// A round and its value join it and the list of a content. After want of memory both are as
+    /// A round and its value join it and the list of a content. When memory runs out both are as
     /// they were.
     pub fn commit(
         &mut self,

@@ -131,7 +131,7 @@ impl<M: Agreed> Member<M> {
 }
 
 impl<M: Agreed + Renew> Member<M> {
-    /// Makes anew what its content keeps beside the list; nothing that is seen changes.
+    /// Makes again what its content keeps beside the list; nothing that is seen changes.
     pub fn renew(&mut self, cache: &mut M::Cache)
         ensures { self.new ≡ self.old }
     {

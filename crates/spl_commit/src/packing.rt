@@ -34,7 +34,7 @@ impl<M: Agreed> Member<M> {
         }
     }
 
-    /// The changes, and behind them one for each refused value.
+    /// The changes, and after them one for each refused value.
     fn with_refused(
         &self,
         alloc: Global,
@@ -51,7 +51,7 @@ impl<M: Agreed> Member<M> {
         Ok(all)
     }
 
-    /// The changes, and behind them one for each value of the history.
+    /// The changes, and after them one for each value of the history.
     fn with_history(
         &self,
         alloc: Global,
@@ -69,7 +69,7 @@ impl<M: Agreed> Member<M> {
         Ok(all)
     }
 
-    /// The changes, and behind them one for each pending value.
+    /// The changes, and after them one for each pending value.
     fn with_pending(
         &self,
         alloc: Global,
@@ -86,7 +86,7 @@ impl<M: Agreed> Member<M> {
         Ok(all)
     }
 
-    /// The changes, and behind them the promise, if there is one.
+    /// The changes, and after them the promise, if there is one.
     fn with_promise(
         &self,
         alloc: Global,

@@ -10,7 +10,7 @@ use std::alloc::{AllocError, Global};
 
 impl<M: Agreed> Member<M> {
     /// What an event gives: a note, durable changes, a move of the open round and messages, by the
-    /// rules of a group. Nothing is changed. An error comes for want of memory alone.
+    /// rules of a group. Nothing is changed. The only error is that memory ran out.
     pub fn plan(
         &self,
         alloc: Global,

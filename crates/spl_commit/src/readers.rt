@@ -1,4 +1,4 @@
-//! What a member tells of itself.
+//! What a member reports of itself.
 ghost use Rattle.std.specs.Prelude.{◌≡◌, option_copied, slice_get, length, Some, None};
 ghost use Rattle.std.specs.Option.{option_map};
 ghost use Rattle.spl_agree.specs.Member.{known_by, found, found_refused, values};

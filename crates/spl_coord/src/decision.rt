@@ -1,4 +1,4 @@
-//! What a coordinator tells of a round.
+//! What a coordinator reports of a round.
 ghost use Rattle.std.specs.Prelude.{◌≡◌, ◌==◌};
 ghost use Rattle.std.specs.List.{list_any};
 ghost use Rattle.spl_agree.specs.Member.{decision_by};

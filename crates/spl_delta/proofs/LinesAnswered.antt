@@ -14,7 +14,7 @@ use Rattle.spl_projection.proofs.Owns.{IsAlikeFor, AllConcern, all-concern, kept
 use Rattle.spl_delta.specs.Watches.{watch_circuit}
 use Rattle.spl_delta.specs.Worlds.{Task, Line, OfWatcher, lines_in, asked_in, concerned_in, Watched, lines_watched, watch_done, task_done, tasks_done, first_watched, watched_before, OfLine, task_answer}
 
--- ---- the world behind tasks is that behind the lines among them
+-- ---- the world after tasks is that after the lines among them
 
 watched-lines : (z : Watched) (rs : List Ran) → (lines_watched z rs).world ≡ lines_world z.world rs
 watched-lines z [] = refl

@@ -32,7 +32,7 @@ pub record TakesOneList (ns : List NodeId) (ts : List Task) (c : CircuitId) (t :
   pub taken : taken_by (blank ns) c t.name ts ≡ deltas list t.start (t.next - t.start)
   pub state : replayed (state_of (take t.start list)) (taken_by (blank ns) c t.name ts) ≡ state_of (take t.next list)
 
--- so it is with each watcher behind any tasks, whatever members it asked and whatever stopped between
+-- so it is with each watcher after any tasks, whatever members it asked and whatever stopped between
 abbrev pub WatchersTakeOneList : List NodeId → List Task → Type 0
 WatchersTakeOneList ns ts = (c : CircuitId) (name : List ℕ) (t : Watcher) → watcher_named name (circuit_watched (blank ns) c ts).watchers ≡ Some t
     → TakesOneList ns ts c t (batch_list ns t.definition (whole_happened (blank ns) c (lines_in ts)))

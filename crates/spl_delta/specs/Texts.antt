@@ -21,7 +21,7 @@ abbrev pub changes_text : List StateChange → List ℕ
 changes_text [] = codes "-"
 changes_text (x ∷ xs) = join_with_byte 44 (change_texts (x ∷ xs))
 
--- PLACE:BATCH: and its changes, each behind a space
+-- PLACE:BATCH: and its changes, each after a space
 abbrev pub deltas_text : List Delta → List ℕ
 deltas_text [] = []
 deltas_text (d ∷ ds) = 32 ∷ (decimal d.place ++ (58 ∷ (decimal d.batch ++ (58 ∷ (changes_text d.changes ++ deltas_text ds)))))

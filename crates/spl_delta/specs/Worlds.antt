@@ -44,7 +44,7 @@ lines_watched z (r ∷ rs) = lines_watched (record { world = line_world z.world 
 abbrev pub watch_done : Watched → WatchLine → Watched
 watch_done z l = record { world = z.world; watchers = watchers_after (z.world.at (watch_node l)) z.watchers l (watch_answer z.world z.watchers l) }
 
--- behind a task, where these nodes are concerned with the circuit
+-- after a task, where these nodes are concerned with the circuit
 abbrev pub task_done : CircuitId → List NodeId → Watched → Task → Watched
 task_done c ns z (Line r) = lines_watched z (own_line c ns r)
 task_done c ns z (OfWatcher l) = if bytes_eq (watch_circuit l) c then watch_done z l else z
@@ -57,7 +57,7 @@ tasks_done c ns z (t ∷ ts) = tasks_done c ns (task_done c ns z t) ts
 abbrev pub first_watched : Origin → CircuitId → Watched
 first_watched o c = record { world = first_world o c; watchers = [] }
 
--- behind a circuit's own tasks
+-- after a circuit's own tasks
 abbrev pub circuit_watched : Origin → CircuitId → List Task → Watched
 circuit_watched o c ts = tasks_done c (concerned_in o c ts) (first_watched o c) ts
 
@@ -71,7 +71,7 @@ pub data TaskAnswer : Type 0 where
   OfLine : Answer → TaskAnswer
   OfWatch : WatchAnswer → TaskAnswer
 
--- the answer to a task behind others
+-- the answer to a task after others
 abbrev pub task_answer : Origin → List Task → Task → TaskAnswer
 task_answer o before (Line r) =
     OfLine (line_answer (λ c. (watched_before o c before (Line r)).world) (λ n. roll_answer o (lines_in (before ++ Line r ∷ [])) n) r.line r.kept)

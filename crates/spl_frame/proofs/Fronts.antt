@@ -1,4 +1,4 @@
--- What stands at the front of a stream.
+-- What stands at the beginning of a stream.
 use Rattle.std.proofs.Common.{◌≡◌, ◌≢◌, ℕ, ◌+◌, ◌^◌, ◌<◌, ◌≤◌, Bool, true, false, cond, ltb, ◌==◌, List, ◌++◌, length, take, drop, Option, Some, None, Result, Ok, Err, refl, sym, ap, subst, ◌∙◌, ne_eqb, arith}
 use Rattle.std.specs.Int.{w16, w32, from_be_bytes, to_be_bytes}
 use Rattle.std.proofs.lemmas.Bool.{ltb-true, ltb-false, lt-ltb, le-ltb, eqb-true, eqb-false}
@@ -98,7 +98,7 @@ faulty_front bytes NoMemory f = absurd f
 faulty_front bytes (BadVersion v) f = bad_front bytes f.1 ∙ ap (λ k. Err (BadVersion k)) f.0
 faulty_front bytes (TooLong n) f = long_front bytes f.1 ∙ ap (λ k. Err (TooLong k)) f.0
 
--- ---- more bytes behind
+-- ---- more bytes after
 
 version_grows : (xs ys : List ℕ) → 2 ≤ length xs → version_of (xs ++ ys) ≡ version_of xs
 version_grows xs ys l = ap (from_be_bytes w16) (take-append-le 2 xs ys l)

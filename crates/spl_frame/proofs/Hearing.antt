@@ -23,7 +23,7 @@ heard_fault old piece new heard frames e f g k h more =
     let b = after_fault new more e k in
     (s.0 ∙ ap (λ fs. frames ++ fs) (a.0 ∙ sym g ∙ sym b.0), s.1 ∙ a.1 ∙ sym b.1)
 
--- a frame at the front stays there, whatever comes
+-- a frame at the beginning stays there, whatever comes
 pub front_stays : (old new body more : List ℕ) → stream_of old ≡ behind body (stream_of new) → stream_of (old ++ more) ≡ behind body (stream_of (new ++ more))
 front_stays old new body more e =
     stream_append more old

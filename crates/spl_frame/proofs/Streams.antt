@@ -50,7 +50,7 @@ stream_front bytes =
 pub stream_is : (bytes : List ℕ) (r : Result (Option ℕ) FrameFault) → front bytes ≡ r → stream_of bytes ≡ stream_by r stream_of bytes
 stream_is bytes r e = stream_front bytes ∙ ap (λ v. stream_by v stream_of bytes) e
 
--- by the front, or by the bytes behind the frame there
+-- by the beginning, or by the bytes after the frame there
 pub by_front : (P : List ℕ → Type 0)
     → ((bytes : List ℕ) → front bytes ≡ Ok None → P bytes)
     → ((bytes : List ℕ) (e : FrameFault) → front bytes ≡ Err e → P bytes)
@@ -64,7 +64,7 @@ by_front P part fault more bytes = down (length bytes) bytes (omega arith) (fron
     down zero bytes l (Ok (Some n)) e = absurd (let w = front_whole bytes n e in omega (arith, w.size, w.there, l))
     down (suc k) bytes l (Ok (Some n)) e = more bytes n e (down k (drop n bytes) (shorter k n bytes e l) (front (drop n bytes)) refl)
 
--- ---- more bytes behind
+-- ---- more bytes after
 
 abbrev pub joined : List (List ℕ) → Stream → Stream
 joined fs s = record { frames = fs ++ s.frames; rest = s.rest; fault = s.fault }
@@ -82,7 +82,7 @@ stream_append ys = by_front (λ xs. stream_of (xs ++ ys) ≡ joined (stream_of x
     ∙ ap (behind (drop 6 (take n xs))) h
     ∙ sym (ap (λ s. joined s.frames (stream_of (s.rest ++ ys))) (stream_is xs (Ok (Some n)) e)))
 
--- what the front of the rest is
+-- what the prefix of the rest is
 abbrev pub ended : Option FrameFault → Result (Option ℕ) FrameFault
 ended None = Ok None
 ended (Some e) = Err e
@@ -93,7 +93,7 @@ rest_front = by_front (λ xs. front (stream_of xs).rest ≡ ended (stream_of xs)
     (λ xs f e. subst (λ s. front s.rest ≡ ended s.fault) (sym (stream_is xs (Err f) e)) e)
     (λ xs n e h. subst (λ s. front s.rest ≡ ended s.fault) (sym (stream_is xs (Ok (Some n)) e)) h)
 
--- behind a fault nothing changes
+-- after a fault nothing changes
 pub after_fault : (xs ys : List ℕ) (f : FrameFault) → (stream_of xs).fault ≡ Some f → ((stream_of (xs ++ ys)).frames ≡ (stream_of xs).frames) × ((stream_of (xs ++ ys)).fault ≡ Some f)
 after_fault xs ys f e =
     let shown = fault_grows (stream_of xs).rest ys f (rest_front xs ∙ ap ended e) in
@@ -168,14 +168,14 @@ stream_is_read = by_front (λ bytes. IsBytes bytes → IsStream bytes (stream_of
 
 -- ---- what a walk over the buffer keeps
 
--- what stands behind the frames from one place on, seen from a later one
+-- what stands after the frames from one place on, seen from a later one
 abbrev pub SameEnd : Stream → Stream → Type 0
 SameEnd s t = (s.rest ≡ t.rest) × (s.fault ≡ t.fault)
 
 pub end_more : (bytes : List ℕ) (n : ℕ) → front bytes ≡ Ok (Some n) → SameEnd (stream_of bytes) (stream_of (drop n bytes))
 end_more bytes n e = let s = stream_is bytes (Ok (Some n)) e in (ap (λ s. s.rest) s, ap (λ s. s.fault) s)
 
--- bytes that come behind the rest
+-- bytes that come after the rest
 pub end_append : (ys xs : List ℕ) → SameEnd (stream_of (xs ++ ys)) (stream_of ((stream_of xs).rest ++ ys))
 end_append ys xs = let s = stream_append ys xs in (ap (λ s. s.rest) s, ap (λ s. s.fault) s)
 
@@ -204,6 +204,6 @@ frames_after_fault xs ys f e = sym (after_fault xs ys f e).0
 pub fault_after_fault : (xs ys : List ℕ) (f : FrameFault) → (stream_of xs).fault ≡ Some f → (stream_of (xs ++ ys)).fault ≡ Some f
 fault_after_fault xs ys f e = (after_fault xs ys f e).1
 
--- want of memory is no fault of a stream
+-- running out of memory is no fault of a stream
 pub fault_is_real : (xs : List ℕ) → (stream_of xs).fault ≡ Some NoMemory → ⊥
 fault_is_real xs e = front_faulty (stream_of xs).rest NoMemory (rest_front xs ∙ ap ended e)

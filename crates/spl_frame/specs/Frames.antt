@@ -20,7 +20,7 @@ version_of bytes = from_be_bytes w16 (take 2 bytes)
 abbrev pub length_of : List ℕ → ℕ
 length_of bytes = from_be_bytes w32 (take 4 (drop 2 bytes))
 
--- how many bytes the frame at the front has, once all of them are there; the version is judged once two bytes are there, the length once six are there
+-- how many bytes the frame at the beginning has, once all of them are there; the version is judged once two bytes are there, the length once six are there
 abbrev pub front : List ℕ → Result (Option ℕ) FrameFault
 front bytes =
     if nat_lt (length bytes) 2 then Ok None
@@ -31,7 +31,7 @@ front bytes =
     else Ok (Some (6 + length_of bytes)))
     else Err (BadVersion (version_of bytes))
 
--- a stream: the bodies of its frames, the bytes behind them, and the fault that these show, if they do
+-- a stream: the bodies of its frames, the bytes after them, and the fault that these show, if they do
 pub record Stream : Type 0 where
   pub frames : List (List ℕ)
   pub rest : List ℕ
@@ -40,7 +40,7 @@ pub record Stream : Type 0 where
 abbrev pub behind : List ℕ → Stream → Stream
 behind body s = record { frames = body ∷ s.frames; rest = s.rest; fault = s.fault }
 
--- by what the front is, and how to go on with the bytes behind a frame
+-- by what the beginning is, and how to go on with the bytes after a frame
 abbrev pub stream_by : Result (Option ℕ) FrameFault → (List ℕ → Stream) → List ℕ → Stream
 stream_by (Err fault) onward bytes = record { frames = []; rest = bytes; fault = Some fault }
 stream_by (Ok None) onward bytes = record { frames = []; rest = bytes; fault = None }

@@ -51,7 +51,7 @@ fn scan(bytes: &[u8], from: usize) -> (usize, Option<FrameFault>)
     }
 }
 
-/// The body of the frame at the front.
+/// The body of the frame at the beginning.
 fn first_body(bytes: &[u8]) -> Option<&[u8]>
     ensures some { IfSome result (λ body. stream_of bytes.now ≡ behind body.now (stream_of (drop (6 + length body.now) bytes.now))) }
     ensures within { IfSome result (λ body. 6 + length body.now ≤ length bytes.now) }

@@ -24,7 +24,7 @@ fn length_of(bytes: &[u8]) -> u32
     u32::from_be_bytes([length[0], length[1], length[2], length[3]])
 }
 
-/// How many bytes the frame at the front has, once all of them are there.
+/// How many bytes the frame at the beginning has, once all of them are there.
 pub(crate) fn front(bytes: &[u8]) -> Result<Option<usize>, FrameFault>
     ensures { result ≡ front bytes.now }
 {

@@ -76,7 +76,7 @@ restart_fits d =
     let h : IsTrue (is_node_id n) = node_passes (λ i. is_node_id (node i)) (d % 4) refl (mod_below d 4 (omega arith)) in
     and_from (is_node_id n) (is_node_id n && true) h (and_from (is_node_id n) true h refl)
 
--- where a test passes a restart, it passes what stands behind each batch
+-- where a test passes a restart, it passes what stands after each batch
 pub restarted_pass : (p : Line → Bool) → ((d : ℕ) → IsTrue (list_all p (restart (1 + d % 4)))) → (k x : ℕ) → IsTrue (list_all p (restarted k x))
 restarted_pass p h k x = elim (k % 50 == 0) as (λ b. IsTrue (list_all p (if b then restart (1 + draw x % 4) else []))) [ true ↦ h (draw x) | false ↦ refl ]
 

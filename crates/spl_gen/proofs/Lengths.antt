@@ -25,7 +25,7 @@ use Rattle.spl_gen.proofs.Bounds.{Passes, both, generated_pass, restarted_pass}
 abbrev is_short : Line → Bool
 is_short l = nat_le (length (spelling l)) LONGEST_LINE
 
--- a word, a byte and the bytes behind them
+-- a word, a byte and the bytes after them
 behind_word : (word rest : List ℕ) (c : ℕ) → length (word ++ c ∷ rest) ≡ length word + 1 + length rest
 behind_word word rest c = omega (arith, length-append word (c ∷ rest))
 
@@ -43,7 +43,7 @@ calm_short c =
     let number : length (decimal 8) ≤ 20 = length-decimal-le 20 8 (omega arith) (omega arith) (omega arith) in
     le-leb _ LONGEST_LINE (omega (arith, number, id_length c, behind_word (codes "calm") (id c ++ 32 ∷ decimal 8) 32, behind_word (id c) (decimal 8) 32))
 
--- the words of a batch behind its number
+-- the words of a batch after its number
 abbrev written : ℕ → ℕ → List ℕ
 written place value = codes "set:" ++ (flat_map hex_byte (address place).0 ++ 61 ∷ flat_map hex_byte (to_be_bytes w32 value))
 
@@ -61,7 +61,7 @@ written_length place value =
       length-append (codes "set:") (flat_map hex_byte (address place).0 ++ 61 ∷ flat_map hex_byte (to_be_bytes w32 value)),
     )
 
--- NODE ID NUMBER and the words behind
+-- NODE ID NUMBER and the words after
 submit_length : (n i k rest : List ℕ) → length n ≡ 2 → length i ≡ 11 → length k ≤ 20 → length rest ≤ 100 → length (codes "submit" ++ 32 ∷ (n ++ 32 ∷ (i ++ 32 ∷ (k ++ 32 ∷ rest)))) ≤ LONGEST_LINE
 submit_length n i k rest hn hi hk hr =
     omega (arith, behind_word (codes "submit") (n ++ 32 ∷ (i ++ 32 ∷ (k ++ 32 ∷ rest))) 32, behind_word n (i ++ 32 ∷ (k ++ 32 ∷ rest)) 32, behind_word i (k ++ 32 ∷ rest) 32, behind_word k rest 32)

@@ -1,4 +1,4 @@
--- Texts of lines behind one another.
+-- Texts of lines after one another.
 use Rattle.std.proofs.Common.{◌≡◌, ℕ, ◌+◌, ◌-◌, ◌<◌, List, [], ◌∷◌, ◌++◌, length, get_or, take, drop, refl, sym, ap, ◌∙◌, append_assoc}
 use Rattle.std.specs.Prelude.{Result, Ok, Err, OnOk}
 use Rattle.std.specs.List.{flat_map}
@@ -19,7 +19,7 @@ pub text_none : (w : List ℕ) → w ≡ w ++ text_of []
 unfolding text_of
 text_none w = sym (append-nil w)
 
--- some lines behind a text, and then others
+-- some lines after a text, and then others
 pub text_then : (xs ys : List Line) (w v u : List ℕ) → v ≡ w ++ text_of xs → u ≡ v ++ text_of ys → u ≡ w ++ text_of (xs ++ ys)
 text_then xs ys w v u hv hu = hu ∙ ap (λ (z : List ℕ). z ++ text_of ys) hv ∙ append_assoc w (text_of xs) (text_of ys) ∙ ap (λ (z : List ℕ). w ++ z) (sym (text-append xs ys))
 
@@ -37,7 +37,7 @@ further First = refl
 further Second = refl
 further Third = refl
 
--- behind a text the lines of some items, and then those of one item more
+-- after a text the lines of some items, and then those of one item more
 pub text_more : {A : Type 0} (f : A → List Line) (w v u : List ℕ) (xs : List A) (i : ℕ) (d : A) → i < length xs → v ≡ w ++ text_of (flat_map f (take i xs)) → u ≡ v ++ text_of (f (get_or xs i d)) → u ≡ w ++ text_of (flat_map f (take (i + 1) xs))
 text_more f w v u xs i d lt hv hu =
     let x = get_or xs i d in

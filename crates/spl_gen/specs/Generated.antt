@@ -16,7 +16,7 @@ use Rattle.spl_gen.specs.Batches.{batch}
 abbrev pub at : Circuit → Event → ℕ → Line
 at c e i = line.Step (At (node i) (id c) e)
 
--- a line of a circuit, and a calm behind it
+-- a line of a circuit, and a calm after it
 abbrev pub settled : Circuit → Line → List Line
 settled c l = l ∷ line.Calm (id c) 8 ∷ []
 
@@ -38,21 +38,21 @@ submitted k x =
 abbrev pub restart : ℕ → List Line
 restart i = line.Stop (node i) ∷ line.Start (node i) ∷ []
 
--- one does, by one draw more, behind each fiftieth batch
+-- one does, by one draw more, after each fiftieth batch
 abbrev pub restarted : ℕ → ℕ → List Line
 restarted k x = if k % 50 == 0 then restart (1 + draw x % 4) else []
 
 abbrev pub restarted_state : ℕ → ℕ → ℕ
 restarted_state k x = if k % 50 == 0 then next x else x
 
--- the lines of batch k, and the state behind them
+-- the lines of batch k, and the state after them
 abbrev pub batch_lines : ℕ → ℕ → List Line
 batch_lines k x = submitted k x ++ restarted k (next (next (next x)))
 
 abbrev pub batch_state : ℕ → ℕ → ℕ
 batch_state k x = restarted_state k (next (next (next x)))
 
--- the state behind the first n batches, and their lines
+-- the state after the first n batches, and their lines
 abbrev pub state : ℕ → ℕ → ℕ
 state zero seed = seed
 state (suc n) seed = batch_state (suc n) (state n seed)

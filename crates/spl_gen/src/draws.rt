@@ -19,7 +19,7 @@ impl Model for Draws {
 }
 
 impl Draws {
-    /// The draws behind this state.
+    /// The draws after this state.
     pub(crate) fn new(seed: u64) -> Draws
         ensures { result ≡ seed }
     {

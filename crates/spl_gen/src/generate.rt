@@ -17,7 +17,7 @@ use std::alloc::{AllocError, Global};
 /// How many batches a generated schedule has at most.
 pub const MOST_BATCHES: u16 = 400;
 
-/// Behind so many batches a node stops and starts.
+/// After so many batches a node stops and starts.
 const BATCHES_TO_A_RESTART: u64 = 50;
 
 const CIRCUITS: [Circuit; 3] = [Circuit::First, Circuit::Second, Circuit::Third];
@@ -143,7 +143,7 @@ fn put_roots(alloc: Global, w: &mut Writer) -> Result<(), AllocError>
 }
 
 /// The text of the schedule that has n batches and is made from the seed (docs/RULES.md, Generated
-/// schedules). An error comes for want of memory alone.
+/// schedules). The only error is that memory ran out.
 pub fn schedule(alloc: Global, n: u16, seed: u64) -> Result<Piece, AllocError>
     requires low { 1 ≤ n }
     requires high { n ≤ MOST_BATCHES }

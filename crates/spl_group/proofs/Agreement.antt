@@ -229,7 +229,7 @@ agrees-start {V} g at fresh = record {
     no_promise : (i : ℕ) (e : ℕ × V) → (at i).promise ≡ Some e → ⊥
     no_promise i e p = let q : (at i).promise ≡ None = fresh.free i in cc
 
--- what is sent stays behind what is sent later
+-- what is sent stays after what is sent later
 pub was-behind : {V : Type 0} (front sent : List (Sent V)) (s : Sent V) → Was s sent → Was s (front ++ sent)
 was-behind [] sent s w = w
 was-behind (x ∷ xs) sent s w = inr (was-behind xs sent s w)
@@ -256,7 +256,7 @@ agrees-put-stopped {V} g at sent here m l a =
     agrees-same g (put (put at here m) here (restarted m)) (put at here (restarted m)) sent (put-put at here m (restarted m))
     (subst (λ (k : Member V). Agrees g (record { at = put (put at here m) here (restarted k); sent = sent })) (put-same at here m) (agrees-stopped g (record { at = put at here m; sent = sent }) here l a))
 
--- a stop behind any front of a plan's changes: it is a stop, or one behind the whole plan with nothing sent
+-- a stop after any prefix of a plan's changes: it is a stop, or one after the whole plan with nothing sent
 pub agrees-cut : {V : Type 0} (g : Group V) (w : World V) (here : ℕ) (e : GroupEvent V) (made rest : List (GroupChange V)) → here < g.members → MayHappen g w here e → made ++ rest ≡ (row g here (w.at here) e).changes → Agrees g w → Agrees g (cut_short g w here made)
 agrees-cut {V} g w here e made rest l may f a = go (single-front made rest (row g here (w.at here) e).changes f (single-row g here (w.at here) e))
   where

@@ -105,7 +105,7 @@ pub open_ballot : {V : Type 0} (l : Lead V) (o : ℕ × List ℕ) (us : List V) 
 open_ballot l o [] e p led = let k : (b : Ballot _) × (l.ballot ≡ Some b) = led.settled o e in let q : l.ballot ≡ Some k.0 = k.1 in cc
 open_ballot l o (v ∷ vs) e p led = (record { round = o.0; value = v; missing = o.1 }, p, refl)
 
--- that it is aborted may be told of a round that was open, once it is closed
+-- that it is aborted may be reported of a round that was open, once it is closed
 pub aborted-told : {V : Type 0} (l : Lead V) (o : ℕ × List ℕ) (us : List V) → l.opened ≡ Some o → l.ballot ≡ ballot_of (Some o) us → IsLed l → Told (closed l) (msg.Decision 0 o.0 false)
 aborted-told {V} l o us e p led =
     let k : (b : Ballot V) × (l.ballot ≡ Some b) × (b.round ≡ o.0) = open_ballot l o us e p led in
@@ -181,7 +181,7 @@ not_open r None us b h e = cc
 not_open r (Some o) [] b h e = cc
 not_open {V} r (Some o) (v ∷ vs) b h e = let k : b.round ≡ o.0 = round_is (record { round = o.0; value = v; missing = o.1 }) b e in let d : o.0 ≢ r = eqb_not o.0 r h in λ q. d (sym k ∙ q)
 
--- the decision that is known is told
+-- the decision that is known is reported
 abbrev pub TellsTruly : {V : Type 0} → Lead V → ℕ → Option Bool → Type 0
 TellsTruly l r None = Unit {0}
 TellsTruly l r (Some commit) = Told l (msg.Decision 0 r commit)

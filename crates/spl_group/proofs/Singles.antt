@@ -26,7 +26,7 @@ IsSingle [] = Unit {0}
 IsSingle (x ∷ []) = IsPlanned x
 IsSingle (x ∷ y ∷ zs) = ⊥
 
--- a front of it is nothing, or the whole
+-- a prefix of it is nothing, or the whole
 pub single-front : {V : Type 0} (made rest cs : List (GroupChange V)) → made ++ rest ≡ cs → IsSingle cs → (made ≡ []) ⊎ (made ≡ cs)
 single-front [] rest cs e s = inl refl
 single-front (x ∷ xs) rest [] e s = absurd (let q : x ∷ (xs ++ rest) ≡ [] = e in cc)

@@ -19,7 +19,7 @@ pub fn histories_agree<M: Agreed>()
 {}
 
 /// The fact by which the histories agree: it holds at first and from any fresh members on; it
-/// outlives any row, a stop, a stop after any front of a plan's changes, and the loss of messages;
+/// outlives any row, a stop, a stop after any prefix of a plan's changes, and the loss of messages;
 /// a message that was sent may come, and so may a stranger's; and it gives the prefix.
 pub fn group_agrees<V>()
     ensures new { (g : Group V) → Agrees g new_world }

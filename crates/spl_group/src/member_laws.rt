@@ -6,7 +6,7 @@ ghost use Rattle.spl_agree.specs.Rows.{row};
 ghost use Rattle.spl_agree.specs.World.{after};
 ghost use Rattle.spl_agree.specs.Fits.{IsSound, IsRoomy, IsDue, MayQueue, AllFit, FitsMove, AllGood, KeysDiffer, RefusesKnown, any_value};
 
-/// The changes of a plan, made in order, fit, and its move fits behind them: at a sound and roomy
+/// The changes of a plan, made in order, fit, and its move fits after them: at a sound and roomy
 /// member, for an event that is due. `may` says which values the content lets into the pending
 /// ones.
 pub fn plans_fit<V>()

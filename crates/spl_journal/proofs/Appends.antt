@@ -45,11 +45,11 @@ module _ (gate : ℕ) (piece bytes : List ℕ) (byte : ℕ) (within : gate < len
 pub length-sized : (r : List ℕ) → length (sized r) ≡ 5 + length r
 length-sized r = omega (arith, length-append (size_bytes (length r) ++ r) (0 ∷ []), length-append (size_bytes (length r)) r, length-size_bytes (length r))
 
--- a front has the head in it
+-- a prefix has the head in it
 front_17 : (gate : ℕ) (c bytes : List ℕ) → 17 ≤ gate → take gate c ≡ take gate bytes → take 17 c ≡ take 17 bytes
 front_17 gate c bytes low same = sym (take-take 17 gate c low) ∙ ap (take 17) same ∙ take-take 17 gate bytes low
 
--- the gate is open: one record more, and a closed gate behind it
+-- the gate is open: one record more, and a closed gate after it
 module _ (fits : List ℕ → Bool) (gate : ℕ) (rs : List (List ℕ)) (bytes r c : List ℕ) (front : IsFront fits gate rs bytes) (form : form_in bytes ≡ Some WRITTEN) (good : IsGood fits r) (is : c ≡ behind gate (sized r) bytes 1) where
   rest : drop gate c ≡ block r ++ 0 ∷ drop (gate + 1 + length (sized r)) bytes
   rest = rest_is gate (sized r) bytes 1 front.room c is ∙ ap (λ (l : List ℕ). 1 ∷ l) (append_assoc (size_bytes (length r) ++ r) (0 ∷ []) (drop (gate + 1 + length (sized r)) bytes))
@@ -155,7 +155,7 @@ module _ (fits : List ℕ → Bool) (gate extent epoch : ℕ) (r : List ℕ) whe
   records_told None new stands good is = tt
   records_told (Some i) new stands good is = subst (λ (o : Option Image). IfSome o (λ j. records fits j.bytes ≡ Ok (records_of fits i.bytes ++ r ∷ []))) (sym is) (records_after i stands good)
 
--- what told goes on telling
+-- what reported goes on reporting
 pub still_told : (told new : Option Image) (f : Image → Image) → new ≡ option_map f told → IfSome told (λ i. IsSome new)
 still_told None new f is = tt
 still_told (Some i) new f is = subst (λ (o : Option Image). IsSome o) (sym is) refl

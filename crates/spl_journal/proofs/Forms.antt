@@ -9,7 +9,7 @@ use Rattle.spl_journal.specs.declared.journal_form.JournalForm.{JournalForm}
 use Rattle.spl_journal.specs.declared.journal_form.TheConstants.{FORMS, WRITTEN}
 use Rattle.spl_journal.specs.Records.{form_in, head_fault, is_headed, longest_in, magic}
 
--- a form shows in the first 17 bytes, and four bytes tell the length of a record
+-- a form shows in the first 17 bytes, and four bytes report the length of a record
 abbrev is_told : JournalForm → Bool
 is_told f = nat_le (length f.magic) 17
 

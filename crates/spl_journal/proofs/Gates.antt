@@ -97,7 +97,7 @@ pub then_4 : (gate : ℕ) (piece : List ℕ) (told old new : Option Image) → n
 then_4 gate piece None old new is was = is ∙ ap (λ (o : Option Image). option_map after_sync o) was
 then_4 gate piece (Some i) old new is was = is ∙ ap (λ (o : Option Image). option_map after_sync o) was
 
--- the failing call came behind so many
+-- the failing call came after so many
 pub by_calls : {T : Type 0} (most : ℕ) (x y z : DiskView) (calls : ℕ) (f : ℕ → Image → Image) (g : Image → Image) (Part : Image → Image → Type 0) (e : DeviceError)
     → y.moment ≡ x.moment + calls → calls < most → image_now y ≡ option_map (f calls) (image_now x) → y.armed ≡ x.armed → ((j : ℕ) → j < calls → IsTrue (fails_at x.armed (x.moment + j)) → ⊥)
     → SamePast y z → IsCall {T = T} y z (Err e) → Changes {T = T} (fails_now y) (Err e) g Part (image_now y) (image_now z)

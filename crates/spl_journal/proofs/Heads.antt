@@ -1,4 +1,4 @@
--- Which bytes have an open head, and what a disk that stands tells.
+-- Which bytes have an open head, and what a disk that stands reports.
 use Rattle.std.proofs.Common.{◌≡◌, ◌⊎◌, inl, inr, ⊎_elim, ℕ, ◌+◌, ◌<◌, ◌≤◌, List, [], length, get_or, take, Bool, true, false, nat_le, ◌==◌, ◌&&◌, if◌then◌else◌, is_none, is_some, IsTrue, Option, None, Some, IfSome, Ok, sym, ◌∙◌, ap, subst, arith}
 use Rattle.std.specs.Option.{option_map}
 use Rattle.std.proofs.lemmas.Bool.{cases_lt}

@@ -19,7 +19,7 @@ only i c none least greatest left = ext_get_or 0 c i.synced (omega (arith, least
 pub only_settled : (i : Image) (c : List ℕ) → IsSettled i → MayLeave i c → c ≡ i.bytes
 only_settled i c settled left = only i c settled.none (settled.least ∙ ap length (sym settled.same)) (settled.greatest ∙ ap length (sym settled.same)) left ∙ settled.same
 
--- the front stays where all that was written stands behind it
+-- the beginning stays where all that was written stands after it
 pub front_stays : (i : Image) (c : List ℕ) (at n : ℕ) → i.touched ≡ (at, n) ∷ [] → at ≤ length i.synced → at ≤ i.least → MayLeave i c → take at c ≡ take at i.synced
 front_stays i c at n touched within least left =
     ext_get_or 0 (take at c) (take at i.synced) (omega (arith, length-take at c, length-take at i.synced, within, least, left.no_shorter))

@@ -10,7 +10,7 @@ use Rattle.spl_journal.proofs.Forms.{longest_of, only_form}
 use Rattle.spl_journal.proofs.Walks.{closed, broken, front_more, front_same}
 use Rattle.spl_journal.proofs.Pieces.{lift1, lift2, front_first}
 
--- the records in front of a gate
+-- the records before a gate
 pub before_is : (fits : List ℕ → Bool) (at : ℕ) (rs : List (List ℕ)) (bytes : List ℕ) → IsFront fits at rs bytes → records_before fits at bytes ≡ rs
 before_is fits at rs bytes front = ap (λ (r : Result (List (List ℕ)) ℕ). result_unwrap_or r []) (closed fits at rs c (front_same fits at rs bytes c front (take_at (take at bytes) (0 ∷ []) at long) room) shut)
   where

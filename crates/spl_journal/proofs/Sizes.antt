@@ -44,7 +44,7 @@ epoch_back n small = from_be_bytes-to_be_bytes_8 n small
 pub length-closed_front : (epoch : ℕ) → length (closed_front epoch) ≡ 17
 length-closed_front epoch = omega (arith, length-append (magic ++ epoch_bytes epoch) (0 ∷ []), length-append magic (epoch_bytes epoch), length-epoch_bytes epoch)
 
--- the epoch behind the first eight bytes
+-- the epoch after the first eight bytes
 pub epoch_is : (epoch : ℕ) (more : List ℕ) → epoch < 2 ^ 64 → epoch_in ((magic ++ epoch_bytes epoch) ++ more) ≡ epoch
 epoch_is epoch more small =
     ap (λ (l : List ℕ). epoch_from (take 8 (drop 8 l))) (append_assoc magic (epoch_bytes epoch) more)

@@ -46,7 +46,7 @@ patched_again old at x y within = ext_get_or 0 (take (length once) twice) (patch
         (cases_lt k (at + 1)))
         (cases_lt k at)
 
--- a range behind the gate that is painted
+-- a range after the gate that is painted
 painted_front : (b at n m : ℕ) (bytes : List ℕ) → m ≤ at → take m (painted b (at, n) bytes) ≡ take m bytes
 painted_front b at n m bytes le = ext_get_or 0 (take m (painted b (at, n) bytes)) (take m bytes) (omega (arith, length-take m (painted b (at, n) bytes), length-take m bytes, length-painted b at n bytes))
     (λ k lt. get_or-take m (painted b (at, n) bytes) k 0 (omega (arith, length-take m (painted b (at, n) bytes), lt))
@@ -121,7 +121,7 @@ module _ (fits : List ℕ → Bool) (gate extent epoch : ℕ) (i : Image) (r : L
   left_same : (c : List ℕ) → c ≡ i.bytes → IsBehindGate gate (sized r) i.bytes c
   left_same c same = left_up c (ap (take (gate + 1)) same) (omega (arith, ap length same, s.holds.front.room))
 
-  -- and all that is picked is the front, or the whole piece behind the gate
+  -- and all that is picked is the beginning, or the whole piece after the gate
   left : (calls : ℕ) (fill : Fill) → IsBehindGate gate (sized r) i.bytes (picked_bytes fill (opened gate (sized r) calls i))
   left zero Old = left_same i.synced s.holds.settled.same
   left zero New = left_same i.bytes refl

@@ -1,4 +1,4 @@
--- What a journal's bytes say, from a front of whole records on.
+-- What a journal's bytes say, from a prefix of whole records on.
 use Rattle.std.proofs.Common.{◌≡◌, ◌≢◌, ℕ, suc, ◌+◌, ◌-◌, ◌<◌, ◌≤◌, ◌^◌, List, [], ◌∷◌, ◌++◌, length, get_or, take, drop, Bool, true, false, nat_le, ◌&&◌, ◌==◌, if◌then◌else◌, Option, None, Some, Result, Ok, Err, refl, sym, ◌∙◌, ap, subst, arith, append_assoc, length-append, length-drop, take-append-drop}
 use Rattle.std.proofs.lemmas.List.{take_at, drop_at, take-take, drop-take, get_or-drop, append-nil, append_cancel_left}
 use Rattle.std.proofs.lemmas.Bool.Decides.{nat_tests}
@@ -127,14 +127,14 @@ module _ (fits : List ℕ → Bool) (at : ℕ) (rs : List (List ℕ)) (bytes : L
   first : get_or (drop at bytes) 0 0 ≡ get_or bytes at 0
   first = let place : at + 0 ≡ at = omega arith in get_or-drop at bytes 0 0 ∙ ap (λ (n : ℕ). get_or bytes n 0) place
 
-  -- a closed gate ends the records, whatever stands behind it
+  -- a closed gate ends the records, whatever stands after it
   pub closed : get_or bytes at 0 ≢ 1 → records fits bytes ≡ Ok rs
   closed shut = records_are ∙ ap (onto_all rs) (if_false (get_or (drop at bytes) 0 0 == 1) _ _ (no_test (get_or (drop at bytes) 0 0) (λ is. shut (sym first ∙ is)))) ∙ onto_all-ok rs
 
   pub broken : get_or bytes at 0 ≡ 1 → is_block (longest_in bytes) fits (drop at bytes) ≡ false → records fits bytes ≡ Err at
   broken one whole = records_are ∙ ap (onto_all rs) (if_true (get_or (drop at bytes) 0 0 == 1) _ _ (yes_test (get_or (drop at bytes) 0 0) (first ∙ one)) ∙ if_false (is_block (longest_in bytes) fits (drop at bytes)) _ _ whole) ∙ onto_all-err rs at
 
--- a front and one record more
+-- a prefix and one record more
 pub front_more : (fits : List ℕ → Bool) (at : ℕ) (rs : List (List ℕ)) (bytes r : List ℕ) → IsFront fits at rs bytes → IsRecord (longest_in bytes) fits r → take (5 + length r) (drop at bytes) ≡ block r → at + 5 + length r < length bytes → IsFront fits (at + 5 + length r) (rs ++ r ∷ []) bytes
 front_more fits at rs bytes r front good is room = record {
   head = front.head;
@@ -145,7 +145,7 @@ front_more fits at rs bytes r front good is room = record {
   room = room;
 }
 
--- the same front in other bytes
+-- the same prefix in other bytes
 pub front_same : (fits : List ℕ → Bool) (at : ℕ) (rs : List (List ℕ)) (bytes c : List ℕ) → IsFront fits at rs bytes → take at c ≡ take at bytes → at < length c → IsFront fits at rs c
 front_same fits at rs bytes c front same room = record {
   head = head_same;

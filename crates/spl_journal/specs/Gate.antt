@@ -1,4 +1,4 @@
--- Bytes behind a closed gate, which is then opened.
+-- Bytes after a closed gate, which is then opened.
 use Rattle.std.specs.Prelude.{◌≡◌, ◌⊎◌, ◌≤◌, ◌<◌, ◌+◌, ℕ, zero, suc, List, [], ◌∷◌, length, take, Option, IfSome, IsTrue}
 use Rattle.std.specs.Option.{option_map}
 use Rattle.spl_edge.specs.Image.{Image, IsSettled, MayLeave, patched, after_write, after_sync}
@@ -19,11 +19,11 @@ LeavesBetween at first last P = (k : ℕ) → first ≤ k → k ≤ last → IfS
 abbrev pub LeavesSince : DiskView → DiskView → (List ℕ → Type 0) → Type 0
 LeavesSince x y P = LeavesBetween y.image_at x.moment y.moment P
 
--- the piece stands behind the gate, which has this byte
+-- the piece stands after the gate, which has this byte
 abbrev pub behind : ℕ → List ℕ → List ℕ → ℕ → List ℕ
 behind gate piece bytes byte = patched (patched bytes (gate + 1) piece) gate (byte ∷ [])
 
--- a crash left all as it was up to the gate, or the whole piece behind it
+-- a crash left all as it was up to the gate, or the whole piece after it
 pub record IsUpToGate (gate : ℕ) (bytes c : List ℕ) : Type 0 where
   pub same : take (gate + 1) c ≡ take (gate + 1) bytes
   pub within : gate < length c
@@ -44,7 +44,7 @@ abbrev pub NamesOne : Armed → ℕ → ℕ → Type 0
 NamesOne armed first most = (j : ℕ) × (j < most) × IsTrue (fails_at armed (first + j))
 
 -- of so many calls at most that took a disk from x to y, some succeeded, each leaving what f has for it, and at most one
--- failed behind them, which is the one that the arming names where it is armed
+-- failed after them, which is the one that the arming names where it is armed
 pub record ByCalls (most : ℕ) (x y : DiskView) (f : ℕ → Image → Image) (ok failed : Type 0) : Type 0 where
   pub calls : ℕ
   pub at_most : calls ≤ most

@@ -7,7 +7,7 @@ use Rattle.spl_journal.specs.declared.walk.Walk.{Walk}
 use Rattle.spl_journal.specs.declared.clearing.Cleared.{Cleared}
 use Rattle.spl_journal.specs.Records.{records_before, Standing, Walking}
 
--- the place of the closed gate behind the records
+-- the place of the closed gate after the records
 abbrev pub end_of : {R : Type 0} → Journal R → ℕ
 end_of j = j.end
 

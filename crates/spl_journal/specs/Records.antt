@@ -41,7 +41,7 @@ epoch_in image = epoch_from (take 8 (drop 8 image))
 abbrev pub closed_front : ℕ → List ℕ
 closed_front epoch = magic ++ epoch_bytes epoch ++ 0 ∷ []
 
--- and the first gate behind it, closed too
+-- and the first gate after it, closed too
 abbrev pub closed_head : ℕ → List ℕ
 closed_head epoch = magic ++ epoch_bytes epoch ++ 0 ∷ 0 ∷ []
 
@@ -53,11 +53,11 @@ abbrev pub blocks : List (List ℕ) → List ℕ
 blocks [] = []
 blocks (r ∷ rs) = block r ++ blocks rs
 
--- these records behind open gates, and a closed gate
+-- these records after open gates, and a closed gate
 abbrev pub filling : List (List ℕ) → List ℕ
 filling rs = blocks rs ++ 0 ∷ []
 
--- what stands behind the gate of a record, with the next gate closed
+-- what stands after the gate of a record, with the next gate closed
 abbrev pub sized : List ℕ → List ℕ
 sized r = size_bytes (length r) ++ r ++ 0 ∷ []
 
@@ -77,7 +77,7 @@ abbrev pub onto : List ℕ → Result (List (List ℕ)) ℕ → Result (List (Li
 onto r (Ok rs) = Ok (r ∷ rs)
 onto r (Err at) = Err at
 
--- the records from a gate on, or the place of the gate behind which there is none; the second number bounds the steps
+-- the records from a gate on, or the place of the gate after which there is none; the second number bounds the steps
 abbrev pub walk : ℕ → (List ℕ → Bool) → ℕ → ℕ → List ℕ → Result (List (List ℕ)) ℕ
 walk longest fits zero at bytes = Err at
 walk longest fits (suc n) at bytes = if get_or bytes 0 0 == 1
@@ -105,7 +105,7 @@ records fits image = walk_behind (head_fault image) (walk (longest_in image) fit
 abbrev pub records_of : (List ℕ → Bool) → List ℕ → List (List ℕ)
 records_of fits image = result_unwrap_or (records fits image) []
 
--- the records in front of the gate at this place: those of the bytes with that gate closed and nothing behind it
+-- the records before the gate at this place: those of the bytes with that gate closed and nothing after it
 abbrev pub records_before : (List ℕ → Bool) → ℕ → List ℕ → List (List ℕ)
 records_before fits at image = records_of fits (take at image ++ 0 ∷ [])
 
@@ -130,7 +130,7 @@ IsGood fits r = IsRecord WRITTEN.longest fits r
 abbrev pub AreGood : (List ℕ → Bool) → List (List ℕ) → Type 0
 AreGood fits rs = AreRecords WRITTEN.longest fits rs
 
--- these records stand in front of the gate at this place
+-- these records stand before the gate at this place
 pub record IsFront (fits : List ℕ → Bool) (at : ℕ) (rs : List (List ℕ)) (bytes : List ℕ) : Type 0 where
   pub head : head_fault bytes ≡ None
   pub good : AreRecords (longest_in bytes) fits rs
@@ -138,7 +138,7 @@ pub record IsFront (fits : List ℕ → Bool) (at : ℕ) (rs : List (List ℕ)) 
   pub place : at ≡ 17 + length (blocks rs)
   pub room : at < length bytes
 
--- the disk holds these records, the gate behind them is closed, and nothing is pending
+-- the disk holds these records, the gate after them is closed, and nothing is pending
 pub record Holds (fits : List ℕ → Bool) (at : ℕ) (rs : List (List ℕ)) (i : Image) : Type 0 where
   pub front : IsFront fits at rs i.bytes
   pub shut : get_or i.bytes at 0 ≢ 1
@@ -157,7 +157,7 @@ pub record SameHead (bytes c : List ℕ) : Type 0 where
   pub same : take 17 c ≡ take 17 bytes
   pub room : 17 < length c
 
--- the disk holds a journal in the form in which they are made: its records end in front of the closed gate at this
+-- the disk holds a journal in the form in which they are made: its records end before the closed gate at this
 -- place, it has so many bytes and this epoch
 pub record Standing (fits : List ℕ → Bool) (end extent epoch : ℕ) (i : Image) : Type 0 where
   pub holds : Holds fits end (records_of fits i.bytes) i

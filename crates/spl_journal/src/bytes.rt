@@ -41,7 +41,7 @@ pub(crate) fn closed_front(epoch: u64) -> [u8; 17]
     front
 }
 
-/// The head of a journal and the first gate behind it, both closed.
+/// The head of a journal and the first gate after it, both closed.
 pub(crate) fn closed_head(alloc: Global, epoch: u64) -> Result<Vec<u8>, AllocError>
     ensures { IfOk result (λ head. head.items ≡ closed_head epoch) }
 {
@@ -69,7 +69,7 @@ pub(crate) fn head_form(bytes: &[u8]) -> Result<JournalForm, u64>
     Ok(form)
 }
 
-/// What an append writes behind the closed gate: the length, the record and the next gate. It takes the memory of what
+/// What an append writes after the closed gate: the length, the record and the next gate. It takes the memory of what
 /// the last one wrote, where there was one.
 pub(crate) fn sized(
     alloc: Global,

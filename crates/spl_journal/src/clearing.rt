@@ -48,7 +48,7 @@ fn clear_to<D: Disk>(disk: &mut D, len: u64, head: &[u8]) -> Result<(), DeviceEr
     Ok(())
 }
 
-/// Makes a disk ready for a journal of this epoch, by four calls. Its length has to be told, and nothing pending on it.
+/// Makes a disk ready for a journal of this epoch, by four calls. Its length has to be reported, and nothing pending on it.
 pub fn clear<D: Disk>(disk: &mut D, len: u64, epoch: u64) -> Result<Cleared, JournalFault>
     requires rest { IfSome (image_now (D.view disk.old)) (IsAtRest len) }
     ensures cleared { OnOk result (image_now (D.view disk.new)

@@ -28,7 +28,7 @@ fn put_block(piece: &mut Vec<u8>, bytes: &[u8]) -> Result<(), AllocError>
     Ok(())
 }
 
-/// How many bytes records have behind their gates, with a closed gate.
+/// How many bytes records have after their gates, with a closed gate.
 fn room_for(items: &[Piece]) -> usize {
     let mut room = 1usize;
     for item in items {
@@ -37,7 +37,7 @@ fn room_for(items: &[Piece]) -> usize {
     room
 }
 
-/// The records behind their open gates, and a closed gate.
+/// The records after their open gates, and a closed gate.
 fn filling<R: Form>(alloc: Global, items: &[Piece]) -> Result<Vec<u8>, AllocError>
     requires good { AreGood R.is_record items.now }
     ensures { IfOk result (λ piece. piece.items ≡ filling items.now) }

@@ -18,7 +18,7 @@ pub trait Form {
     /// The bytes of a record that was read.
     ghost bytes_of: { Self.Read → List ℕ };
 
-    /// The record that bytes are, or None where they aren't one. An error comes for want of memory alone.
+    /// The record that bytes are, or None where they aren't one. The only error is that memory ran out.
     fn read(alloc: Global, bytes: Vec<u8>) -> Result<Option<Self::Read>, AllocError>
         ensures record { IfOk result (λ found. is_some found ≡ is_record bytes.items) }
         ensures bytes { IfOk result (λ found. IfSome found (λ r. bytes_of r ≡ bytes.items)) };

@@ -1,4 +1,4 @@
-//! Bytes behind a closed gate, which is then opened.
+//! Bytes after a closed gate, which is then opened.
 ghost use Rattle.std.specs.Prelude.{◌≡◌, ◌<◌, ◌≤◌, ◌+◌, ◌^◌, ℕ, length, OnOk, IfSome, IsOk, IsErrOf};
 ghost use Rattle.std.specs.Option.{option_map};
 ghost use Rattle.spl_edge.specs.Causes.{Rose};
@@ -8,7 +8,7 @@ ghost use Rattle.spl_journal.specs.Gate.{IsReady, LeavesSince, IsBehindGate, ByC
 
 use spl_edge::{DeviceError, Disk};
 
-/// Writes behind a closed gate and then opens it, by four calls.
+/// Writes after a closed gate and then opens it, by four calls.
 pub(crate) fn open_gate<D: Disk>(disk: &mut D, gate: u64, piece: &[u8]) -> Result<(), DeviceError>
     requires ready { IfSome (image_now (D.view disk.old)) (IsReady gate) }
     requires small { gate + 1 < 2 ^ 64 }
@@ -18,7 +18,7 @@ pub(crate) fn open_gate<D: Disk>(disk: &mut D, gate: u64, piece: &[u8]) -> Resul
     ensures four { OnOk result ((D.view disk.new).moment ≡ (D.view disk.old).moment + 4) }
     ensures bound { OnOk result (gate + 1 + length piece.now < 2 ^ 63) }
 
-    // Until the end a stop leaves the gate closed as it was, or the whole piece behind it.
+    // Until the end a stop leaves the gate closed as it was, or the whole piece after it.
     ensures any_moment { IfSome (image_now (D.view disk.old)) (λ i.
         LeavesSince (D.view disk.old) (D.view disk.new) (IsBehindGate gate piece.now i.bytes)) }
     ensures by_calls { ByCalls 4 (D.view disk.old) (D.view disk.new) (opened gate piece.now) (IsOk result) (IsErrOf result DeviceError.Failed) }

@@ -19,7 +19,7 @@ pub const SLACK: u64 = 65_536;
 /// The place where the records of a disk end, and how many bytes they have. It keeps no record.
 #[derive(Drop)]
 pub struct Journal<R> {
-    /// The closed gate behind the records.
+    /// The closed gate after the records.
     pub(crate) end: u64,
     pub(crate) base: u64,
     pub(crate) epoch: u64,
@@ -37,7 +37,7 @@ pub struct Journal<R> {
 impl<R: Form> Journal<R> {
     ghost use Rattle.spl_journal.specs.Journals.{end_of, len_of, base_of, epoch_of, extent_of, is_halted, has_room, Stands};
 
-    /// How many bytes the journal has: the offset behind the closed gate.
+    /// How many bytes the journal has: the offset after the closed gate.
     pub fn len(&self) -> u64
         ensures { result ≡ len_of self.now }
     {

@@ -8,7 +8,7 @@ ghost use Rattle.spl_journal.specs.Records.{sized, records, records_of, IsGood, 
 ghost use Rattle.spl_journal.specs.Stops.{is_kept, kept_records};
 
 /// Where so many calls of an append succeeded and a fill is picked, the records are those of before, with the new one
-/// behind four calls, and behind three where the fill leaves its gate open.
+/// after four calls, and after three where the fill leaves its gate open.
 pub fn appends_are_kept_or_lost()
     ensures records { (fits : List ℕ → Bool) (end extent epoch : ℕ) (i : Image) (r : List ℕ) (calls : ℕ) (fill : Fill)
         → Standing fits end extent epoch i → IsGood fits r

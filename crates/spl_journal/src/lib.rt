@@ -1,4 +1,4 @@
-//! Records on a disk, each behind a gate that is opened once the record is synced.
+//! Records on a disk, each after a gate that is opened once the record is synced.
 #![tactic(auto)]
 
 mod bytes;

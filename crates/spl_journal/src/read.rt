@@ -43,7 +43,7 @@ pub(crate) fn read_head<D: Disk>(disk: &mut D) -> Result<(u64, JournalForm), Jou
     Ok((epoch_from(epoch), form))
 }
 
-/// The record behind the gate at this place and how many bytes it has, at most so many, or None where the gate is
+/// The record after the gate at this place and how many bytes it has, at most so many, or None where the gate is
 /// closed.
 pub(crate) fn read_next<R: Form, D: Disk>(
     alloc: Global,

@@ -29,7 +29,7 @@ impl Records {
         }
     }
 
-    /// One record more, at the end. After want of memory the list is as it was.
+    /// One record more, at the end. When memory runs out the list is as it was.
     pub fn push(&mut self, alloc: Global, bytes: &[u8]) -> Result<(), AllocError>
         ensures ok { OnOk result (self.new ≡ self.old ++ bytes.now ∷ []) }
         ensures err { OnErr result (self.new ≡ self.old) }
@@ -37,7 +37,7 @@ impl Records {
         self.take(Piece::from(alloc, bytes)?)
     }
 
-    /// One record more, at the end, kept without a copy. After want of memory the list is as it was.
+    /// One record more, at the end, kept without a copy. When memory runs out the list is as it was.
     pub fn take(&mut self, piece: Piece) -> Result<(), AllocError>
         ensures ok { OnOk result (self.new ≡ self.old ++ piece ∷ []) }
         ensures err { OnErr result (self.new ≡ self.old) }

@@ -17,7 +17,7 @@ use std::marker::PhantomData;
 /// How far the journal of a disk was read. It keeps no record.
 #[derive(Drop)]
 pub struct Walk<R> {
-    /// The gate behind the records that it has given.
+    /// The gate after the records that it has given.
     at: u64,
     /// How many bytes the disk has.
     extent: u64,
@@ -83,7 +83,7 @@ impl<R: Form> Walk<R> {
         self.extent
     }
 
-    /// The next record, or None behind the last one. After an error the walk is as it was.
+    /// The next record, or None after the last one. After an error the walk is as it was.
     pub fn next<D: Disk>(
         &mut self,
         alloc: Global,

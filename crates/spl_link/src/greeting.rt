@@ -26,7 +26,7 @@ pub(crate) fn write_greeting(alloc: Global, opens: bool, name: &NodeId) -> Resul
     Ok(w.into_piece())
 }
 
-/// The tag, the version and the name of a greeting at the front.
+/// The tag, the version and the name of a greeting at the beginning.
 fn take_greeting(r: &mut Reader) -> Option<(u8, (u16, NodeId))>
     ensures { result_ok (greeting_form.parse r.old) ≡ option_map (λ x. (x, r.new)) result }
 {

@@ -82,7 +82,7 @@ module _ (c : CircuitId) where
   nothing : (m n : ℕ) → m ≤ n → m - n ≡ 0
   nothing m n h = omega (arith, h)
 
-  -- its turn takes nothing: it only counts anew
+  -- its turn takes nothing: it only counts again
   counted : (z : Calming) (a b : NodeId) → length (messages z.world a b) ≤ z.taken a b → IsStill z (takes z a b (length (messages z.world a b)))
   counted z a b h = record { world = refl; happened = refl; on = on; back = back }
     where

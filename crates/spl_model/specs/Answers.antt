@@ -39,7 +39,7 @@ line_answer worlds roll (line.Roll n) kept = roll n
 line_answer worlds roll (line.Cut calls fill s) kept = halt_answer answer.Cut (worlds (step_circuit s)) s kept
 line_answer worlds roll (line.Fail call s) kept = halt_answer answer.Fault (worlds (step_circuit s)) s kept
 
--- the world of a circuit behind a line of its own
+-- the world of a circuit after a line of its own
 abbrev pub line_world : World → Line → Bool → World
 line_world w (line.Step s) kept = step_world w s
 line_world w (line.Calm c k) kept = (calm c w k).world
@@ -69,7 +69,7 @@ abbrev pub occurrences_from : World → List Ran → List Occurrence
 occurrences_from w [] = []
 occurrences_from w (r ∷ rs) = occurrences_in w r.line r.kept ++ occurrences_from (line_world w r.line r.kept) rs
 
--- the world of a circuit in a run that begins there, behind the lines of a schedule: its own lines alone count
+-- the world of a circuit in a run that begins there, after the lines of a schedule: its own lines alone count
 abbrev pub circuit_world : Origin → CircuitId → List Ran → World
 circuit_world o c rs = lines_world (first_world o c) (own o c rs)
 
@@ -94,7 +94,7 @@ abbrev pub up_from : NodeId → Bool → List Ran → Bool
 up_from n up [] = up
 up_from n up (r ∷ rs) = up_from n (up_after n up r.line) rs
 
--- the node is up behind these lines
+-- the node is up after these lines
 abbrev pub is_up : NodeId → List Ran → Bool
 is_up n rs = up_from n true rs
 
@@ -120,11 +120,11 @@ roll_answer o rs n = if is_up n rs then answer.Roll (bound_at o rs n) else answe
 
 -- ---- answers
 
--- the answer to a line behind the lines that ran before it
+-- the answer to a line after the lines that ran before it
 unfoldable pub answer_to : Origin → List Ran → Ran → Answer
 answer_to o before r = line_answer (λ c. world_before o c before r) (λ n. roll_answer o (before ++ r ∷ []) n) r.line r.kept
 
--- the answers to lines that run behind others
+-- the answers to lines that run after others
 abbrev pub answers : Origin → List Ran → List Ran → List Answer
 answers o before [] = []
 answers o before (r ∷ rs) = answer_to o before r ∷ answers o (before ++ r ∷ []) rs

@@ -13,7 +13,7 @@ abbrev pub line_events : (CircuitId → World) → Line → ℕ
 line_events worlds (line.Calm c k) = length (calm c (worlds c) k).happened
 line_events worlds _ = 1
 
--- the events of lines that run behind others
+-- the events of lines that run after others
 abbrev pub events_behind : Origin → List Ran → List Ran → ℕ
 events_behind o before [] = 0
 events_behind o before (r ∷ rs) = line_events (λ c. world_before o c before r) r.line + events_behind o (before ++ r ∷ []) rs

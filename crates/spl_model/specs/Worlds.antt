@@ -128,7 +128,7 @@ abbrev pub occur : World → List Occurrence → World
 occur w [] = w
 occur w (e ∷ es) = occur (happens w e) es
 
--- the world behind what happened, where nothing was kept at first
+-- the world after what happened, where nothing was kept at first
 abbrev pub world_behind : List NodeId → List Occurrence → World
 world_behind ns es = occur (empty_world ns) es
 

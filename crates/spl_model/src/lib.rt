@@ -30,7 +30,7 @@ pub fn refused_lines_change_nothing()
 {}
 
 /// A calm in which nothing is left to do stays so: a pass leaves the world as it is, and has no
-/// event but a tick for each open node, which is idle. So have all the passes behind it.
+/// event but a tick for each open node, which is idle. So have all the passes after it.
 pub fn quiet_calms_stay()
     ensures world { (c : CircuitId) (ns : List NodeId) (z : Calming) → IsQuiet c ns z → (pass c ns z).world ≡ z.world }
     ensures happened { (c : CircuitId) (ns : List NodeId) (z : Calming) →

@@ -25,7 +25,7 @@ abbrev pub with_up : (NodeId → Bool) → World → World
 with_up up w = record { nodes = w.nodes; up = up; at = w.at; sent = w.sent }
 
 module _ (ns : List NodeId) where
-  -- one world is the other but for who is up, and at these nodes it is so there too
+  -- one world is the other except who is up, and at these nodes it is so there too
   pub record IsAlike (w v : World) : Type 0 where
     pub other : NodeId → Bool
     pub is : w ≡ with_up other v

@@ -1,4 +1,4 @@
--- A line more has the events that it has in the worlds behind all lines.
+-- A line more has the events that it has in the worlds after all lines.
 use Rattle.std.proofs.Common.{◌≡◌, ℕ, ◌+◌, ◌≤◌, Bool, true, List, [], ◌∷◌, ◌++◌, append-nil, append_assoc, length, length-append, refl, sym, ap, subst, ◌∙◌, arith}
 use Rattle.spl_agree.proofs.Tests.{if_holds}
 use Rattle.spl_circuit.specs.Nodes.{NodeId, CircuitId}
@@ -16,7 +16,7 @@ use Rattle.spl_projection.specs.Apart.{whole_from-append}
 use Rattle.spl_projection.proofs.Calms.{calm-alike}
 use Rattle.spl_projection.proofs.Owns.{IsPair, fits-left, pair-before}
 
--- the events of a line, in the worlds of the circuit behind the own lines and behind all
+-- the events of a line, in the worlds of the circuit after the own lines and after all
 events-same : (ns : CircuitId → List NodeId) (ws vs : CircuitId → World) (l : Line) → ((c : CircuitId) → names c l ≡ true → IsPair (ns c) (ws c) (vs c)) → line_events ws l ≡ line_events vs l
 events-same ns ws vs (line.Calm c k) h =
     let p : IsPair (ns c) (ws c) (vs c) = h c (node_same c) in

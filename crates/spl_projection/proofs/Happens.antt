@@ -1,4 +1,4 @@
--- The world of a circuit behind all lines is the one behind what happens in them.
+-- The world of a circuit after all lines is the one after what happens in them.
 use Rattle.std.proofs.Common.{◌≡◌, Bool, true, false, List, [], ◌∷◌, ◌++◌, append_assoc, refl, sym, ap, ◌∙◌}
 use Rattle.spl_agree.proofs.Tests.{if_holds, and_left, and_right}
 use Rattle.spl_circuit.specs.Nodes.{CircuitId}

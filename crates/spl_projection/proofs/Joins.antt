@@ -131,7 +131,7 @@ module _ {V : Type 0} (may : V → Bool) where
   join-row g here m (event.Submit v) k = if_holds Join (here == g.coordinator) _ _ (λ q. rw k) (λ q. rw k)
   join-row g here m (event.From sender x) k = join-message g here m sender x k
 
-  -- ---- what is pending behind changes
+  -- ---- what is pending after changes
 
   pub all-append : (xs ys : List V) → list_all may xs ≡ true → list_all may ys ≡ true → list_all may (xs ++ ys) ≡ true
   all-append [] ys h k = k

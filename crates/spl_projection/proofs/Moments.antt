@@ -49,7 +49,7 @@ module _ (ns : List NodeId) where
         (run-alike ns w v i.happened p.alike (here-front i.happened i.later (subst (λ (es : List Occurrence). AllHere ns es) (sym i.all) (occurrences-here w v r.line r.kept h p))))),
   )
 
--- a moment of a line in the world behind all lines is one in the world of the circuit
+-- a moment of a line in the world after all lines is one in the world of the circuit
 pub moment-whole : (o : Origin) (c : CircuitId) (before : List Ran) (r : Ran) (m : World) → IsOrigin o → lines_fit (before ++ r ∷ []) ≡ true → names c r.line ≡ true → IsMoment (whole_world o c before) r m → (n : World) × IsMoment (world_before o c before r) r n × IsSameFor (concerned o c (before ++ r ∷ [])) n m
 moment-whole o c before r m i f q w = moment-alike all (world_before o c before r) (whole_world o c before) m r (named-within all c r.line q (k.1.0 q)) (pair-before o c before r i f) w
   where
@@ -71,7 +71,7 @@ cells-whole o before r cells i f k = record {
 
 -- ---- the moments of a calm
 
--- what has happened in the one is a front of what has happened in the other
+-- what has happened in the one is a prefix of what has happened in the other
 pub record IsFront (z z2 : Calming) : Type 0 where
   pub later : List Occurrence
   pub is : z2.happened ≡ z.happened ++ later

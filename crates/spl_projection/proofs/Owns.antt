@@ -30,7 +30,7 @@ use Rattle.spl_projection.proofs.Confined.{IsConfined, confined-first, IsStepWit
 use Rattle.spl_projection.proofs.Alike.{IsAlike, alike-same, same-alike, up-alike, plan-alike, step-alike, happens-alike, stops-aside, starts-aside}
 use Rattle.spl_projection.proofs.Calms.{calm-alike}
 
--- the step behind a cut or a fail is within its bounds
+-- the step after a cut or a fail is within its bounds
 pub cut-fits : (calls : ℕ) (f : Rattle.spl_edge.specs.declared.fill.Fill.Fill) (s : Step) → is_line (line.Cut calls f s) ≡ true → is_step s ≡ true
 cut-fits calls f s h = and_right (nat_lt calls (2 ^ 8) && is_fill f) (is_step s) h
 
@@ -232,7 +232,7 @@ concerned-all o c rs = all-concern (concerned o c rs) c rs (within-right (concer
 
 -- ---- the laws
 
--- the world of a circuit behind its own lines, and behind all lines
+-- the world of a circuit after its own lines, and after all lines
 pub own-pair : (o : Origin) (c : CircuitId) (rs : List Ran) → IsOrigin o → lines_fit rs ≡ true → IsPair (concerned o c rs) (circuit_world o c rs) (whole_world o c rs)
 own-pair o c rs i f = lines-pair (concerned o c rs) c (first_world o c) (first_world o c) rs f (concerned-all o c rs) (pair-first (concerned o c rs) o c (concerned-keep o c rs i))
 
@@ -249,7 +249,7 @@ pub concern-left : (ns : List NodeId) (c : CircuitId) (xs ys : List Ran) → All
 concern-left ns c [] ys h = (tt, h)
 concern-left ns c (x ∷ xs) ys h = let k = concern-left ns c xs ys h.1 in ((h.0, k.0), k.1)
 
--- the worlds in which a line runs, behind the own lines and behind all
+-- the worlds in which a line runs, after the own lines and after all
 pub pair-before : (o : Origin) (c : CircuitId) (before : List Ran) (r : Ran) → IsOrigin o → lines_fit (before ++ r ∷ []) ≡ true → IsPair (concerned o c (before ++ r ∷ [])) (world_before o c before r) (whole_world o c before)
 pair-before o c before r i f = lines-pair all c (first_world o c) (first_world o c) before (fits-left before (r ∷ []) f) k.0 (pair-first all o c (concerned-keep o c (before ++ r ∷ []) i))
   where
@@ -286,7 +286,7 @@ answer-alike ws vs roll (line.Fail call s) kept h =
     halt-same k.nodes answer.Fault (ws (step_circuit s)) (vs (step_circuit s)) s kept k.within k.alike
 answer-alike ws vs roll _ kept h = refl
 
--- among any nodes that have all that is concerned, the world behind the own lines is alike to the one behind all lines
+-- among any nodes that have all that is concerned, the world after the own lines is alike to the one after all lines
 pub alike-for : (o : Origin) (ns : List NodeId) (c : CircuitId) (before : List Ran) (r : Ran) → ((n : NodeId) → IsCellWithin ns n (o.kept c n)) → lines_fit (before ++ r ∷ []) ≡ true → AllConcern ns c (before ++ r ∷ []) → names c r.line ≡ true → IsAlikeFor r.line (lines_world (first_world o c) (own_among c ns before)) (whole_world o c before)
 alike-for o ns c before r i f h q = record { nodes = ns; within = named-within ns c r.line q (k.1.0 q); alike = p.alike }
   where

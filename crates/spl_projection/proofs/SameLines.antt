@@ -48,7 +48,7 @@ named-beside c w ns (line.Fail call s) xs = named-one c w ns (step_node s) (line
 named-beside c w ns _ xs = refl
 
 module _ (o : Origin) (c : CircuitId) (ns : List NodeId) (i : IsOrigin o) (kept : (n : NodeId) → IsCellWithin ns n (o.kept c n)) where
-  -- the world behind own lines
+  -- the world after own lines
   abbrev here : List Ran → World
   here rs = lines_world (first_world o c) (own_among c ns rs)
 

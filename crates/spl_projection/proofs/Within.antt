@@ -195,7 +195,7 @@ module _ (ns : List NodeId) where
       }
   within-planned site _ h w = record { changes = refl; sends = refl }
 
-  -- the cell behind a plan
+  -- the cell after a plan
   pub within-after : (n : NodeId) (k : Cell) (p : Plan) → has_node ns n ≡ true → IsPlanWithin p → IsCellWithin n k → IsCellWithin n (after_plan n k p)
   within-after n k p h w i = within-moved n (made n k p.changes) p.admin p.service (within-made n k p.changes h w.changes i)
 

@@ -6,7 +6,7 @@ use Rattle.spl_model.specs.Worlds.{World, Occurrence, occur}
 use Rattle.spl_model.specs.Projection.{Ran, names}
 use Rattle.spl_model.specs.Answers.{occurrences_in}
 
--- a world at a moment of a line: behind what has happened of it so far
+-- a world at a moment of a line: after what has happened of it so far
 pub record IsMoment (w : World) (r : Ran) (m : World) : Type 0 where
   pub happened : List Occurrence
   pub later : List Occurrence

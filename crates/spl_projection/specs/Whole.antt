@@ -24,6 +24,6 @@ abbrev pub whole_from : CircuitId → World → List Ran → World
 whole_from c w [] = w
 whole_from c w (r ∷ rs) = whole_from c (world_after c w r) rs
 
--- the world of a circuit behind all lines: nodes that keep all circuits stand for this one
+-- the world of a circuit after all lines: nodes that keep all circuits stand for this one
 abbrev pub whole_world : Origin → CircuitId → List Ran → World
 whole_world o c rs = whole_from c (first_world o c) rs

@@ -28,9 +28,9 @@ pub fn circuits_are_apart()
         whole_world o c (before ++ r ∷ []) ≡ world_beside (whole_world o c before) r.line }
 {}
 
-/// A circuit's world behind its own lines and the one behind all lines have the same cells and the
+/// A circuit's world after its own lines and the one after all lines have the same cells and the
 /// same messages, and of the nodes concerned the same are up; at any other node nothing is kept. So
-/// a line is answered as in the worlds behind all lines. A node is up in that
+/// a line is answered as in the worlds after all lines. A node is up in that
 /// world of each circuit, or of none. Each moment of a line is one in both worlds.
 pub fn own_lines_suffice()
     ensures same { (o : Origin) (c : CircuitId) (rs : List Ran) →
@@ -90,7 +90,7 @@ pub fn nothing_is_lost_of_nothing()
     ensures { (w : World) (s : Step) (kept wanted : Bool) → (step_plan w s).changes ≡ [] → happens w (Halts kept s) ≡ happens w (Halts wanted s) }
 {}
 
-/// A line more has as many events as in the worlds behind all lines. No more happens in the world of
+/// A line more has as many events as in the worlds after all lines. No more happens in the world of
 /// a circuit than the lines have events.
 pub fn events_are_counted()
     ensures more { (o : Origin) (before : List Ran) (r : Ran) →

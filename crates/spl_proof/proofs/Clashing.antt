@@ -14,7 +14,7 @@ use Rattle.spl_proof.specs.Forms.{level}
 use Rattle.spl_proof.specs.FormLaws.{exact_level}
 use Rattle.spl_proof.specs.Accepted.{Level, level_bytes, level_digest, end_digest, Leads}
 
--- both lead down from one digest, behind levels that are the same
+-- both lead down from one digest, after levels that are the same
 pub record IsBeside (i : ℕ) (a : Address) (xs ys : List Level) (e f : End) : Type 0 where
   pub digest : List ℕ
   pub first : Leads digest i a (drop i xs) e

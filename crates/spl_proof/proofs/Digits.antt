@@ -9,7 +9,7 @@ more_suc (suc n) k a =
     let at : k + 1 + n ≡ k + suc n = omega arith in
     ap (λ r. digit_of a k ∷ r) (more_suc n (k + 1) a ∙ ap (λ i. digits_of n (k + 1) a ++ digit_of a i ∷ []) at)
 
--- the digit behind some
+-- the digit after some
 pub digits_more : (n k : ℕ) (a : List ℕ) → digits_of (n + 1) k a ≡ digits_of n k a ++ digit_of a (k + n) ∷ []
 digits_more n k a = ap (λ m. digits_of m k a) (add-one n) ∙ more_suc n k a
 

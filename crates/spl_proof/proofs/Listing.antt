@@ -74,7 +74,7 @@ module _ {A : Type 0} where
   pub listed_is : (f : ℕ → A) (n : ℕ) → behind f n 0 ≡ listed f n
   listed_is f n = ap (λ xs. xs ++ behind f n 0) (sym (listed_none f)) ∙ listed_behind f n 0 n (zero-add n)
 
--- the digests of a level, one behind the other
+-- the digests of a level, one after the other
 pub joined_listed : (g : ℕ → List ℕ) (n : ℕ) → joined g n ≡ flat_map (λ d. d) (listed g n)
 unfolding joined
 joined_listed g zero = ap (flat_map (λ d. d)) (sym (listed_none g))

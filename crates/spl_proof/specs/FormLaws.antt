@@ -15,7 +15,7 @@ use Rattle.spl_proof.specs.declared.proof.End.{End}
 use Rattle.spl_proof.specs.declared.proof.End.TheVariants.{Empty, Leaf}
 use Rattle.spl_proof.specs.Forms.{any_bytes, digest, repeated, few_of, level, levels, leaf, ends, end_fields, end, proof, whole_of, nothing_behind}
 
--- ---- values one behind the other
+-- ---- values one after the other
 
 module _ {A : Type 0} (f : Form A) (p : IsExact f) where
   module _ (n : ℕ) where

@@ -18,7 +18,7 @@ any_bytes xs = true
 abbrev pub digest : Form (List ℕ)
 digest = raw 32 any_bytes
 
--- so many values, one behind the other
+-- so many values, one after the other
 abbrev pub repeated : {A : Type 0} → ℕ → Form A → Form (List A)
 repeated n f = record {
   spell = flat_map f.spell;

@@ -13,7 +13,7 @@ unfoldable pub listed : {A : Type 0} → (ℕ → A) → ℕ → List A
 listed part zero = []
 listed part (suc m) = listed part m ++ part m ∷ []
 
--- the first number from i on that passes a test, of so many, and the one behind them where none does
+-- the first number from i on that passes a test, of so many, and the one after them where none does
 abbrev pub first_from : (ℕ → Bool) → ℕ → ℕ → ℕ
 first_from test zero i = i
 first_from test (suc k) i = if test i then i else first_from test k (i + 1)
@@ -31,7 +31,7 @@ under_first n a m = under (digits_of n 0 a.0) m
 unfoldable pub depth : Address → List Entry → ℕ
 depth a m = first_from (λ n. at_most_one (under_first n a m)) 70 0
 
--- the nodes of the first i digits of an address with each digit behind them
+-- the nodes of the first i digits of an address with each digit after them
 abbrev pub level_at : ℕ → Address → List Entry → Level
 level_at i a m = listed (λ d. node_at (69 - i) (digits_of i 0 a.0 ++ d ∷ []) m) 16
 

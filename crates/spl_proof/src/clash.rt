@@ -123,7 +123,7 @@ fn clash_of_proofs(
 }
 
 /// What a proof gives away that is accepted under the root of a state with a claim that isn't what
-/// the state has. An error comes for want of memory alone.
+/// the state has. The only error is that memory ran out.
 pub fn extract(
     alloc: Global,
     state: &State,

@@ -21,7 +21,7 @@ pub(crate) fn put_level(x: &Level, w: &mut Writer) -> Result<(), AllocError>
     Ok(())
 }
 
-/// Reads a digest from the front.
+/// Reads a digest from the beginning.
 fn take_digest(r: &mut Reader) -> Result<[u8; 32], Malformed>
     ensures { Reads (λ x. x) result r.new (digest.parse r.old) }
 {
@@ -31,7 +31,7 @@ fn take_digest(r: &mut Reader) -> Result<[u8; 32], Malformed>
     Ok(cells)
 }
 
-/// Reads the digests of a level from the front.
+/// Reads the digests of a level from the beginning.
 fn take_level(r: &mut Reader) -> Result<Level, Malformed>
     ensures { Reads (λ x. x) result r.new (level.parse r.old) }
 {
@@ -42,7 +42,7 @@ fn take_level(r: &mut Reader) -> Result<Level, Malformed>
     Ok(x)
 }
 
-/// Reads so many levels from the front.
+/// Reads so many levels from the beginning.
 fn take_levels(alloc: Global, r: &mut Reader, count: u8) -> Result<Levels, Malformed>
     requires { count ≤ 70 }
     ensures { Reads (λ x. x) result r.new (items_at level.parse count r.old) }
@@ -55,7 +55,7 @@ fn take_levels(alloc: Global, r: &mut Reader, count: u8) -> Result<Levels, Malfo
     Ok(levels)
 }
 
-/// Reads an address and a value from the front.
+/// Reads an address and a value from the beginning.
 fn take_leaf(alloc: Global, r: &mut Reader) -> Result<(Address, Piece), Malformed>
     ensures { Reads (λ x. x) result r.new (leaf.parse r.old) }
 {
@@ -148,7 +148,7 @@ impl Field for Proof {
 
 impl Proof {
     /// The byte form, which a proof has where the value of its entry has at most 8,192 bytes. An
-    /// error comes for want of memory alone.
+    /// error comes only when memory runs out.
     pub fn write(&self, alloc: Global) -> Result<Piece, AllocError>
         requires { IsTrue (proof.bounded self.now) }
         ensures spelled { IfOk result (λ p. p ≡ proof.spell self.now) }
@@ -158,7 +158,7 @@ impl Proof {
     }
 
     /// Reads a proof, which is all of the bytes. The fault is the place of the first field that
-    /// cannot be read, or the end of the proof where bytes follow it, or want of memory.
+    /// cannot be read, or the end of the proof where bytes follow it, or that memory ran out.
     pub fn read(alloc: Global, bytes: &[u8]) -> Result<Proof, Malformed>
         ensures { Answers result (whole_of proof bytes.now) }
     {

@@ -59,7 +59,7 @@ fn digits_are_small(a: &Address)
 }
 
 /// The proof of the value that a state has at an address, or that it has none there. An error comes
-/// for want of memory alone.
+/// only when memory runs out.
 pub fn prove(alloc: Global, state: &State, a: &Address) -> Result<Proof, AllocError>
     ensures made { IfOk result (λ p. p ≡ proof state.now a.now) }
     ensures accepted { IfOk result (λ p. IsAccepted (node_at 70 [] state.now) a.now (lookup (is_at (address_cmp a.now)) state.now) p) }

@@ -42,7 +42,7 @@ impl Levels {
         }
     }
 
-    /// One level more, below the others. After want of memory the list is as it was.
+    /// One level more, below the others. When memory runs out the list is as it was.
     pub fn push(&mut self, level: Level) -> Result<(), AllocError>
         requires { length self.old < MOST_LEVELS }
         ensures ok { OnOk result (self.new ≡ self.old ++ level ∷ []) }

@@ -1,4 +1,4 @@
--- A queue as two lists of entries, in the order in which they came (docs/RULES.md, "Groups"). `eq` tells which keys are equal.
+-- A queue as two lists of entries, in the order in which they came (docs/RULES.md, "Groups"). `eq` says which keys are equal.
 use Rattle.std.specs.Prelude.{◌≡◌, ◌≤◌, length, Bool, List, [], ◌∷◌, Option, None, Some}
 use Rattle.std.specs.Map.{lookup}
 use Rattle.spl_agree.specs.declared.limit.TheConstants.{MOST_PENDING}

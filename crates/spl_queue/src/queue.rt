@@ -42,7 +42,7 @@ pub enum Offered {
 pub enum OfferFault<V> {
     /// `MOST_PENDING` values are pending. The value is given back.
     Full { value: V },
-    /// Want of memory. The value is lost.
+    /// Running out of memory. The value is lost.
     NoMemory,
 }
 
@@ -134,7 +134,7 @@ impl<K: Copy + Eq + Hash, V: Drop> Queue<K, V> {
     }
 
     /// A value whose key is not known here joins the pending ones. It is `Full`
-    /// exactly where `MOST_PENDING` are pending, and gives the value back then; after want of memory
+    /// exactly where `MOST_PENDING` are pending, and gives the value back then; when memory runs out
     /// the value is lost. After either fault nothing is changed.
     pub fn offer(&mut self, key: K, value: V) -> Result<Offered, OfferFault<V>>
         requires not_pending { at K.eq self.old.pending key ≡ None }
@@ -153,8 +153,8 @@ impl<K: Copy + Eq + Hash, V: Drop> Queue<K, V> {
         }
     }
 
-    /// A value whose key is not refused joins the refused ones, where nothing is pending. After
-    /// want of memory nothing is changed.
+    /// A value whose key is not refused joins the refused ones, where nothing is pending. When
+    /// memory runs out nothing is changed.
     pub fn keep(&mut self, key: K, value: V, reason: Reason) -> Result<(), AllocError>
         requires nothing_pending { self.old.pending ≡ [] }
         requires not_refused { at K.eq self.old.refused key ≡ None }
@@ -169,7 +169,7 @@ impl<K: Copy + Eq + Hash, V: Drop> Queue<K, V> {
     }
 
     /// Takes the pending value of a key out; with a reason it joins the refused ones. Nothing
-    /// happens where no value of the key is pending. After want of memory nothing is changed;
+    /// happens where no value of the key is pending. When memory runs out nothing is changed;
     /// without a reason there is none.
     pub fn settle(&mut self, key: &K, reason: Option<Reason>) -> Result<(), AllocError>
         ensures pending { OnOk result (self.new.pending ≡ remove_entry (K.eq key.now) self.old.pending) }

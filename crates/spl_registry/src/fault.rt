@@ -14,7 +14,7 @@ pub enum RegistryFault {
     BadEntry { index: u32 },
     #[error("repeated {index}")]
     Repeated { index: u32 },
-    /// More than 16; a count above 2^32 - 1 is told as that.
+    /// More than 16; a count above 2^32 - 1 is reported as that.
     #[error("{count} entries")]
     TooMany { count: u32 },
     #[error("out of memory")]

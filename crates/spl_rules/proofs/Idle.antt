@@ -1,4 +1,4 @@
--- A tick that is told as idle is nothing but its answer.
+-- A tick that is reported as idle is nothing but its answer.
 use Rattle.std.proofs.Common.{◌≡◌, ℕ, true, List, [], ◌∷◌, refl, ap, ◌∙◌}
 use Rattle.std.specs.Prelude.{Option, Some, None, ◌==◌}
 use Rattle.spl_agree.specs.declared.event.GroupEvent.TheVariants as group

@@ -32,7 +32,7 @@ module _ (here : NodeId) where
   abbrev pub owns : List Act → Bool
   owns us = list_any (λ u. bytes_eq u.node here) us
 
-  -- an own act stands behind no other one, and has the node's turn
+  -- an own act stands after no other one, and has the node's turn
   abbrev pub Mine : ℕ → List Act → List Act → Type 0
   Mine turn before [] = Unit {0}
   Mine turn before (v ∷ vs) = (bytes_eq v.node here ≡ true → (owns before ≡ false) × (v.turn ≡ turn)) × Mine turn (before ++ v ∷ []) vs
@@ -81,7 +81,7 @@ module _ (here : NodeId) where
   le_same : (n : ℕ) → nat_le n n ≡ true
   le_same n = grind (arith, nat_tests)
 
-  -- so each may be queued again behind those before it, at the node's turn
+  -- so each may be queued again after those before it, at the node's turn
   pub mine-may : (turn : ℕ) (before us : List Act) → Mine turn before us → MayInTurn (may_queue here turn) before us
   mine-may turn before [] m = tt
   mine-may turn before (v ∷ vs) m = (go (bool_cases (bytes_eq v.node here)), mine-may turn (before ++ v ∷ []) vs m.1)

@@ -237,7 +237,7 @@ module _ {V : Type 0} (P : GroupChange V → Type 0) where
   each-packed : (m : Member V) → ((n s : ℕ) → P (change.Restore n s)) → Each (λ u. P (change.Kept u.0 u.1)) m.refused → ((r : ℕ) (v : V) → P (change.Commit r v)) → Each (λ v. P (change.Queue v)) m.pending → ((r : ℕ) (v : V) → P (change.Promise r v)) → Each P (packed_member m)
   each-packed m f k g q p = (f _ _, each-append P (kept_each m.refused) _ (each-kept m.refused k) (each-append P (committed_each m.history) _ (each-committed m.history g) (each-append P (queued_each m.pending) _ (each-queued m.pending q) (each-promised m.promise p))))
 
--- the turn stays behind each change of the packed form
+-- the turn stays after each change of the packed form
 abbrev Stays : NodeId → ℕ → GroupChange Act → Type 0
 Stays here turn x = turn_after here turn x ≡ turn
 
@@ -275,7 +275,7 @@ any-may before [] h = tt
 any-may before (v ∷ vs) h = (and_left (may_serve v) (list_all may_serve vs) h, any-may (before ++ v ∷ []) vs (and_right (may_serve v) (list_all may_serve vs) h))
 
 module _ (site : Site) (h : Bound) (s : IsMade site h) where
-  -- the cell behind the first two changes, behind the acts, and behind the batches
+  -- the cell after the first two changes, after the acts, and after the batches
   abbrev begun : Bound
   begun = record h { mark = mark.Open; acts = new_member; batches = new_member }
 

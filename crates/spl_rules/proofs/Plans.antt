@@ -39,7 +39,7 @@ use Rattle.spl_rules.proofs.Carried.{AllCarry, Brings, send_carries, carry-row}
 use Rattle.spl_rules.proofs.Running.{running-keeps}
 use Rattle.spl_rules.proofs.Deeds.{FitsRow, FitsEvent, FitsServed, ActsAt, ServesAt, TurnsAt, AbandonsAt, PurgesAt, FitsDeed}
 
--- each change of a plan fits behind those before it, and the moves fit behind them
+-- each change of a plan fits after those before it, and the moves fit after them
 pub record PlanFits (site : Site) (k : Cell) (xs : List Change) (x y : OpenMove) : Type 0 where
   pub changes : applied site k xs ≡ made site.here k xs
   pub moves : FitsMoveAt site.here (made site.here k xs) x y
@@ -114,7 +114,7 @@ module _ (site : Site) (h : Bound) where
   abbrev batch_changes : GroupEvent Batch → List (GroupChange Batch)
   batch_changes e = (group_row (service_lane site h.definition) h.batches e).changes
 
-  -- the cell behind changes of acts
+  -- the cell after changes of acts
   abbrev with_acts : List (GroupChange Act) → ℕ → Bound
   with_acts xs t = record h { turn = t; acts = changed_by (act_rules h.definition) h.acts xs }
 

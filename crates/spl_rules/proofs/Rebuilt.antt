@@ -13,12 +13,12 @@ use Rattle.spl_group.proofs.Fits.{length-one, commit-fits, queue-fits}
 use Rattle.spl_rules.proofs.Keys.{Each, RefusedDiffer}
 use Rattle.spl_rules.proofs.Built.{IsPromised, IsUnsettled, IsBuilt}
 
--- each change fits behind those before it, where `may` tells by what is pending which values may be
+-- each change fits after those before it, where `may` reports by what is pending which values may be
 abbrev pub FitInTurn : {V : Type 0} → Rules V → (List V → V → Bool) → Member V → List (GroupChange V) → Type 0
 FitInTurn rules may m [] = Unit {0}
 FitInTurn rules may m (x ∷ xs) = (fits rules (may m.pending) m x ≡ true) × FitInTurn rules may (changed rules m x) xs
 
--- each value may be pending behind those before it
+-- each value may be pending after those before it
 abbrev pub MayInTurn : {V : Type 0} → (List V → V → Bool) → List V → List V → Type 0
 MayInTurn may before [] = Unit {0}
 MayInTurn may before (v ∷ vs) = (may before v ≡ true) × MayInTurn may (before ++ v ∷ []) vs

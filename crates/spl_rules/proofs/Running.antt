@@ -1,4 +1,4 @@
--- Once a circuit has run it goes on so: behind its acts no act is good but those of a disband.
+-- Once a circuit has run it goes on so: after its acts no act is good but those of a disband.
 use Rattle.std.proofs.Common.{◌≡◌, ◌⊎◌, ◌-◌, ◌^◌, Bool, true, false, List, [], ◌∷◌, ◌++◌, length, refl, sym, subst, inl, inr}
 use Rattle.std.specs.Prelude.{None, nat_lt, is_none}
 use Rattle.std.proofs.lemmas.Option.{none-some}

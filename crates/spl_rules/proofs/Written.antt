@@ -138,7 +138,7 @@ act-turn v h = (both_true (word.fits v.turn) _ (both_true (node_id.fits v.node) 
 generation-fits : (d : Definition) → IsTrue (definition.fits d) → IsTrue (word.fits d.generation)
 generation-fits d h = (both_true (word.fits d.generation) _ (both_true (circuit_id.fits d.id) _ h).1).0
 
--- the turn behind it
+-- the turn after it
 written-turn : (here : NodeId) (turn : ℕ) (x : GroupChange Act) → IsTrue (fits_change act x) → IsTrue (word.fits turn) → IsTrue (word.fits (turn_after here turn x))
 written-turn here turn (change.Queue v) w h = if_holds (λ (n : ℕ). IsTrue (word.fits n)) (bytes_eq v.node here) v.turn turn (λ q. act-turn v w) (λ q. h)
 written-turn here turn _ w h = h

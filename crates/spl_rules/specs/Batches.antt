@@ -52,7 +52,7 @@ submits site h v =
     else (if not (is_open h.mark) then Refuses refusal.Closed
     else submits_ruled site h v (broken_batch v))
 
--- ---- what is told of the batches that are committed here
+-- ---- what is reported of the batches that are committed here
 
 -- only of a circuit that runs
 abbrev pub when_active : Bound → Deed → Deed

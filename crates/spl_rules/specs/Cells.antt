@@ -92,7 +92,7 @@ own_life h = life h.definition (values h.acts.history)
 abbrev pub is_active_here : Bound → Bool
 is_active_here h = is_active (own_life h).state
 
--- its service group runs: batches are taken and told, messages are routed, and the group is ticked
+-- its service group runs: batches are taken and reported, messages are routed, and the group is ticked
 abbrev pub runs : Bound → Bool
 runs h = is_running (own_life h).state
 
@@ -234,7 +234,7 @@ purges h = if is_open h.mark && is_waiting (own_life h).state h.acts then Refuse
 
 -- ---- show, detail
 
--- the members that have accepted what is told of, in member order
+-- the members that have accepted what is reported of, in member order
 abbrev pub accepted_in_order : Bound → List NodeId
 accepted_in_order h = filter (λ m. has_node (current (own_life h)).accepted m) h.definition.members
 

@@ -52,7 +52,7 @@ made here k (x ∷ xs) = made here (made_one here k x) xs
 
 -- ---- where a change fits
 
--- an act of this node is queued alone, and with no turn behind
+-- an act of this node is queued alone, and with no turn after
 abbrev pub may_queue : NodeId → ℕ → List Act → Act → Bool
 may_queue here turn pending v =
     if bytes_eq v.node here then not (list_any (λ u. bytes_eq u.node here) pending) && nat_le turn v.turn else true
@@ -107,6 +107,6 @@ abbrev pub stopped_cell : Cell → Cell
 stopped_cell (Held h) = Held (record h { acts = restarted h.acts; batches = restarted h.batches })
 stopped_cell k = k
 
--- the cell behind a plan: its changes and its moves are made
+-- the cell after a plan: its changes and its moves are made
 abbrev pub after_plan : NodeId → Cell → Plan → Cell
 after_plan here k p = moved_cell here (made here k p.changes) p.admin p.service

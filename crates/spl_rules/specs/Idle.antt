@@ -1,4 +1,4 @@
--- What is told where nothing is left to do at a cell (docs/RULES.md, Calm).
+-- What is reported where nothing is left to do at a cell (docs/RULES.md, Calm).
 use Rattle.std.specs.Prelude.{Bool, true, false, ◌&&◌}
 use Rattle.spl_agree.specs.declared.event.Note.{Note}
 use Rattle.spl_agree.specs.declared.event.Note.TheVariants as note

@@ -85,7 +85,7 @@ outgoing lane back s = record { to = node_or lane.members back s.0; message = la
 abbrev pub group_sends : {V : Type 0} → Lane V → NodeId → List (ℕ × CommitMsg V) → List Outgoing
 group_sends lane back ss = map (outgoing lane back) ss
 
--- what a group gives, behind first changes
+-- what a group gives, after first changes
 abbrev pub group_plan : {V : Type 0} → Lane V → Say → List Change → NodeId → GroupPlan V → Plan
 group_plan lane say first back p = record {
   answer = said say p.note;

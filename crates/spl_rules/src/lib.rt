@@ -23,7 +23,7 @@ ghost use Rattle.spl_wire.specs.declared.change.Change.{Change};
 ghost use Rattle.spl_wire.specs.declared.record.Record.{Record};
 ghost use Rattle.spl_agree.specs.declared.event.OpenMove.{OpenMove};
 
-/// An event that is refused changes nothing and sends nothing; one that only tells something does
+/// An event that is refused changes nothing and sends nothing; one that only reports something does
 /// neither.
 pub fn refusals_change_nothing()
     ensures refused { (site : Site) (k : Cell) (e : Event) (r : Refusal) →
@@ -50,8 +50,8 @@ pub fn records_are_formed()
     ensures { (r : Record) → IsTrue (record_form.fits r) → are_formed r.changes ≡ true }
 {}
 
-/// At a valid cell each change of a plan fits behind those before it, and the moves fit behind
-/// them; so the cell behind a plan is valid. Each message of a plan is one that a cell may hear.
+/// At a valid cell each change of a plan fits after those before it, and the moves fit after
+/// them; so the cell after a plan is valid. Each message of a plan is one that a cell may hear.
 pub fn plans_fit_cells()
     ensures changes { (site : Site) (k : Cell) (e : Event) →
         IsNamed site → IsFor site e → IsValid site k →

@@ -19,7 +19,7 @@ abbrev pub reason_of : Option (ℕ × ℕ) → Option Reason
 reason_of None = None
 reason_of (Some x) = Some (record { code = x.1; at = x.0 })
 
--- a batch that breaks no rule, behind others
+-- a batch that breaks no rule, after others
 abbrev pub misfit_valid : List Batch → Batch → Option Reason
 misfit_valid bs b = if is_taken bs b.id then Some ID_TAKEN else reason_of (told_cause (verdict_on (state_of bs) b))
 

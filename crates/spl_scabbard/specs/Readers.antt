@@ -1,4 +1,4 @@
--- What is told of a list of batches (docs/RULES.md, Batches).
+-- What is reported of a list of batches (docs/RULES.md, Batches).
 use Rattle.std.specs.Prelude.{ℕ, ◌==◌, List, [], ◌∷◌, map, position, if◌then◌else◌, Option, Some, None}
 use Rattle.spl_state.specs.Entries.{Entry}
 use Rattle.spl_command.specs.declared.batch.Batch.{Batch}

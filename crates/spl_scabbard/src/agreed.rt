@@ -83,8 +83,8 @@ impl Agreed for Service {
     }
 }
 
-/// Makes the changes of receipts in a draft, and adds the id of their batch to the others. After
-/// want of memory the ids are unchanged, and the draft can still be undone.
+/// Makes the changes of receipts in a draft, and adds the id of their batch to the others. When
+/// memory runs out the ids are unchanged, and the draft can still be undone.
 fn extend(
     draft: &mut Draft,
     ids: &mut BatchIds,

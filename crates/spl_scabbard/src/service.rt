@@ -123,7 +123,7 @@ impl Service {
         }
     }
 
-    /// The receipts that the batch leaves behind the others.
+    /// The receipts that the batch leaves after the others.
     pub(crate) fn run(&self, alloc: Global, batch: &Batch) -> Result<Receipts, AllocError>
         requires { broken_batch batch.now ≡ None }
         ensures { IfOk result (λ rs. rs ≡ receipts_behind self.now batch.now) }
@@ -138,7 +138,7 @@ impl Service {
 impl Renew for Service {
     type Cache = RunCache;
 
-    /// Makes the state's stale digests anew.
+    /// Makes the state's stale digests again.
     fn renew(&mut self, cache: &mut RunCache) {
         self.state.renew(cache);
     }

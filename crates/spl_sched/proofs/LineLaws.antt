@@ -207,7 +207,7 @@ step_seen (Deliver from to id number) h =
       lack = and_from (lacks 32 (codes "deliver")) _ refl (sound_delivery.lack.free (from, (to, (id, (number, tt)))) fits);
     }
 
--- a node and a circuit between the name and the words behind it
+-- a node and a circuit between the name and the words after it
 abbrev between : List ℕ → List ℕ → List (List ℕ) → List (List ℕ)
 between n id [] = []
 between n id (x ∷ xs) = x ∷ n ∷ id ∷ xs

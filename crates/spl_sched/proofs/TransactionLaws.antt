@@ -64,7 +64,7 @@ part_only xs p e = fronts_only part_text is_part part_fronts (command_word.read 
 
 -- ---- what is read is spelled so
 
--- the words behind tx
+-- the words after tx
 abbrev inner : Transaction → List (List ℕ)
 inner t = map input_text t.inputs ++ (map output_text t.outputs ++ map command_text t.commands)
 
@@ -136,7 +136,7 @@ word_grown t word u e h =
     let g = grown t m.0 u m.2 h o.1 in
     (g.0 ∙ ap (λ (w : List ℕ). inner t ++ w ∷ []) (sym o.0), g.1)
 
--- these words, behind those of an open transaction, spell transactions
+-- these words, after those of an open transaction, spell transactions
 abbrev SpelledBehind : Transaction → List (List ℕ) → List Transaction → Type 0
 SpelledBehind t words ts = (codes "tx" ∷ (inner t ++ words) ≡ words_of_transactions ts) × IsTrue (list_all is_transaction ts)
 

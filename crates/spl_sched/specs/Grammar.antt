@@ -60,7 +60,7 @@ event_name (event.Deliver from message) = codes "deliver"
 abbrev pub accept_text : Bool → List ℕ
 accept_text accept = if accept then codes "accept" else codes "reject"
 
--- the words behind name, node and circuit
+-- the words after name, node and circuit
 abbrev pub event_words : Event → List (List ℕ)
 event_words (event.Propose d) = words_of_terms d
 event_words (event.Vote accept) = accept_text accept ∷ []
@@ -263,7 +263,7 @@ delivery = that is_between_two (text is_node_id & text is_node_id & text is_circ
 abbrev pub delivered : Delivery → Step
 delivered x = Deliver x.0 x.1.0 x.1.1.0 x.1.1.1.0
 
--- the questions without words behind node and id
+-- the questions without words after node and id
 abbrev pub asking_kinds : List (Kind Event)
 asking_kinds =
     kind (codes "show") end (λ x. event.Show)

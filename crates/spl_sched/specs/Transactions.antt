@@ -133,7 +133,7 @@ with_part t (part.Command c) = Some (record t { commands = t.commands ++ c ∷ [
 abbrev pub with_word : Transaction → List ℕ → Option Transaction
 with_word t word = read_part word >>= λ p. with_part t p
 
--- this transaction with the words that follow, and the transactions behind it
+-- this transaction with the words that follow, and the transactions after it
 abbrev pub read_open : Transaction → List (List ℕ) → Option (List Transaction)
 read_open t [] = Some (t ∷ [])
 read_open t (word ∷ words) =

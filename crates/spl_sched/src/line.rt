@@ -41,7 +41,7 @@ pub enum Line {
     Start(NodeId),
     /// The node is asked for its bound cells.
     Roll(NodeId),
-    /// The node of the step goes down in it, behind so many calls on its disks, which keep this of
+    /// The node of the step goes down in it, after so many calls on its disks, which keep this of
     /// what wasn't synced.
     Cut { calls: u8, fill: Fill, step: Step },
     /// In the step the call of this number, from 1, on the disks of its node fails.

@@ -35,7 +35,7 @@ fn take_call(alloc: Global, words: &mut WordReader) -> Result<u8, LineFault>
     Ok(call)
 }
 
-/// A node and nothing behind it.
+/// A node and nothing after it.
 fn read_node(alloc: Global, words: &mut WordReader) -> Result<NodeId, LineFault>
     ensures { Reads result (option_map (λ x. x.0) (node.read words.old)) }
 {
@@ -80,7 +80,7 @@ fn read_failing(alloc: Global, words: &mut WordReader) -> Result<Line, LineFault
     Ok(Line::Fail { call, step })
 }
 
-/// The line that the words behind its name spell. A name that is none of these is a step's.
+/// The line that the words after its name spell. A name that is none of these is a step's.
 fn read_named(alloc: Global, name: &[u8], words: &mut WordReader) -> Result<Line, LineFault>
     ensures { Reads result (read_words (name.now ∷ words.old)) }
 {

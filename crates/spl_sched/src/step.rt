@@ -128,7 +128,7 @@ fn read_route(alloc: Global, words: &mut WordReader) -> Result<Event, LineFault>
     })
 }
 
-/// The event of this name at the circuit, where it is one with words behind node and id.
+/// The event of this name at the circuit, where it is one with words after node and id.
 fn read_worded(
     alloc: Global,
     name: &[u8],
@@ -164,7 +164,7 @@ fn read_worded(
     Err(LineFault::BadLine)
 }
 
-/// The event of this name at the circuit, where it asks for nothing or has words behind node and id.
+/// The event of this name at the circuit, where it asks for nothing or has words after node and id.
 fn read_acting(
     alloc: Global,
     name: &[u8],
@@ -263,7 +263,7 @@ fn read_at(alloc: Global, name: &[u8], words: &mut WordReader) -> Result<Step, L
     })
 }
 
-/// The step that the words behind its name spell.
+/// The step that the words after its name spell.
 pub(crate) fn read_step(
     alloc: Global,
     name: &[u8],

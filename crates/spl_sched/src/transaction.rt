@@ -77,7 +77,7 @@ fn with_word(alloc: Global, transaction: Transaction, word: &[u8]) -> Result<Tra
     with_part(transaction, part)
 }
 
-/// The transactions whose words, behind the first `tx`, these are.
+/// The transactions whose words, after the first `tx`, these are.
 fn read_behind(alloc: Global, words: &mut WordReader) -> Result<Transactions, LineFault>
     ensures { Reads result (read_open no_parts words.old) }
 {
@@ -154,7 +154,7 @@ fn put_transaction(transaction: &Transaction, w: &mut Writer) -> Result<(), Allo
     put_commands(transaction.commands.as_slice(), w)
 }
 
-/// Appends the words of transactions, each behind a space.
+/// Appends the words of transactions, each after a space.
 pub(crate) fn put_transactions(
     transactions: &[Transaction],
     w: &mut Writer,

@@ -145,6 +145,6 @@ kept-idle {V} g h k here e d ready idle = go (bool_cases (eqb here g.coordinator
     go (inl q) = as_lead here (eqb_is here g.coordinator q) ready
     go (inr q) = idle-seat g h k here e d ready (eqb_not here g.coordinator q) idle
 
--- the history of the coordinator is the same behind a calm
+-- the history of the coordinator is the same after a calm
 pub idle-calm : {V : Type 0} (g : Group V) (os : List Order) (w : World V) → AllFull g.members os → ((i : ℕ) → i < g.members → (w.at i).pending ≡ []) → (w.at g.coordinator).opened ≡ None → ((calm_by g os w).at g.coordinator).history ≡ (w.at g.coordinator).history
 idle-calm g os w full empty shut = (kept-passes g (Idle g (w.at g.coordinator).history) (kept-idle g (w.at g.coordinator).history) os full (begins w) (record { empty = empty; shut = shut; none = λ a b x. x; stays = refl })).stays

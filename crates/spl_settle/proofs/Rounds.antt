@@ -43,7 +43,7 @@ tick-asks {V} g here m q u n p = if_false (λ (x : GroupPlan V). AnyOf (IsAsking
     go None e = absurd (let z : ◌≡◌ {A = Option (ℕ × V)} None (Some (q, u)) = e in cc)
     go (Some x) e = mail-one (IsAsking g.generation q) g.coordinator (msg.DecisionRequest g.generation x.0) (ap (λ (j : ℕ). msg.DecisionRequest g.generation j) (let z : ◌≡◌ {A = ℕ × V} x (q, u) = cc in ap (λ (y : ℕ × V). y.0) z))
 
--- the coordinator tells of a round that is not open
+-- the coordinator reports of a round that is not open
 pub lead-tells : {V : Type 0} (g : Group V) (m : Member V) (i q r : ℕ) (missing : List ℕ) → m.opened ≡ Some (r, missing) → q ≢ r → q < m.next → has i (others g g.coordinator) ≡ true → AnyOf (IsAnswer g.generation q) (mail i (row g g.coordinator m (event.From i (msg.DecisionRequest g.generation q))).sends)
 lead-tells {V} g m i q r missing o n l h = if_true (λ (x : GroupPlan V). AnyOf (IsAnswer g.generation q) (mail i x.sends)) (g.coordinator == g.coordinator && has i (others g g.coordinator)) _ _ (rw (eqb_same g.coordinator) h)
     (if_holds D (has_round q m.history) _ _ (λ t. known true) (λ t. if_true D (nat_lt q m.next && not (is_open q m.opened)) _ _ both (known false)))

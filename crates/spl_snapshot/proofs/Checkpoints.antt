@@ -46,7 +46,7 @@ eight_passed armed then first m place same before behind n lt due = ⊎_elim
 -- ---- on both
 
 module _ (fits : List ℕ → Bool) (rs : List (List ℕ)) (end extent epoch other : ℕ) where
-  -- the first disk counts, and the second is written anew
+  -- the first disk counts, and the second is written again
   pub second_anew : (o p : Option Image) (at other_at : ℕ → Option Image) (m n last : ℕ) → IfSome o (Standing fits end extent epoch) → IfBoth o p (λ i j. second_counts i.bytes j.bytes ≡ false) → at m ≡ o
       → IfSome p (λ j. LeavesBetween other_at n last (IsSameOrAnew fits (epoch + 1) rs j.bytes))
       → IfBoth o p (λ i j. PairLeavesBetween at m m other_at n last (HaveEither fits (pair_records_of fits i.bytes j.bytes) rs))
@@ -58,7 +58,7 @@ module _ (fits : List ℕ → Bool) (rs : List (List ℕ)) (end extent epoch oth
       (anew_second fits i.bytes j.bytes d rs epoch counts (standing_open fits end extent epoch i stands) stands.epoch_is (standing_records fits end extent epoch i stands) anew))
       (leaves_rest at m i here stands.holds.settled) left
 
-  -- the second disk counts, and the first is written anew
+  -- the second disk counts, and the first is written again
   pub first_anew : (o p : Option Image) (other_at at : ℕ → Option Image) (n last m : ℕ) → IfSome p (Standing fits end extent epoch) → IfBoth o p (λ i j. second_counts i.bytes j.bytes ≡ true) → at m ≡ p
       → IfSome o (λ i. LeavesBetween other_at n last (IsSameOrAnew fits (epoch + 1) rs i.bytes))
       → IfBoth o p (λ i j. PairLeavesBetween other_at n last at m m (HaveEither fits (pair_records_of fits i.bytes j.bytes) rs))
@@ -77,7 +77,7 @@ module _ (fits : List ℕ → Bool) (rs : List (List ℕ)) (end extent epoch oth
     above_first : (k j : Image) → Standing fits end extent epoch j → Standing fits new_end new_extent (epoch + 1) k → second_counts k.bytes j.bytes ≡ false
     above_first k j old new = first_above k.bytes j.bytes (standing_open fits new_end new_extent (epoch + 1) k new) (standing_open fits end extent epoch j old) (omega (arith, old.epoch_is, new.epoch_is))
 
-    -- the disk written anew counts
+    -- the disk written again counts
     pub counts_second : (o n : Option Image) → IfSome o (Standing fits end extent epoch) → IfSome n (Standing fits new_end new_extent (epoch + 1)) → IfBoth o n (λ i k. second_counts i.bytes k.bytes ≡ true)
     counts_second None n old new = tt
     counts_second (Some i) None old new = tt

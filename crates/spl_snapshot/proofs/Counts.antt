@@ -66,7 +66,7 @@ appended_second fits a b d r is head kept = ⊎_elim
     now : pair_records fits a d ≡ records fits d
     now = of_second fits a d (same_second a b d (same_open b d head kept ∙ sym (ap (λ (h : Option ℕ). is_none h) head)) (kept_epoch b d kept) ∙ is)
 
--- where the other disk is written anew
+-- where the other disk is written again
 pub anew_second : (fits : List ℕ → Bool) (a b d : List ℕ) (rs : List (List ℕ)) (epoch : ℕ) → second_counts a b ≡ false → is_open a ≡ true → epoch_in a ≡ epoch → records fits a ≡ Ok (records_of fits a) → IsSameOrAnew fits (epoch + 1) rs b d
     → HaveEither fits (pair_records_of fits a b) rs a d
 anew_second fits a b d rs epoch is open_a at all = ⊎_elim

@@ -27,7 +27,7 @@ pair_map at other from to start end P Q f h k l a b c d = both_map P Q f (at k) 
 pub in_any_turn : (second : Bool) (at other : ℕ → Option Image) (from to start end : ℕ) (P : List ℕ → List ℕ → Type 0) → PairLeavesBetween at from to other start end P → PairLeavesBetweenInTurn second at from to other start end P
 in_any_turn second at other from to start end P h k l a b c d turn = h k l a b c d
 
--- two disks, before, between and behind two calls of them
+-- two disks, before, between and after two calls of them
 module _ {D : Type 0} (view : D → DiskView) (a b a1 b1 a2 b2 : D) (P : List ℕ → List ℕ → Type 0)
     (first_past : ((t : ℕ) → t ≤ (view a1).moment → (view a2).image_at t ≡ (view a1).image_at t)) (first_later : (view a1).moment ≤ (view a2).moment) (second_past : ((t : ℕ) → t ≤ (view b1).moment → (view b2).image_at t ≡ (view b1).image_at t)) (second_later : (view b1).moment ≤ (view b2).moment) where
   pub joined : (second : Bool) → chosen second b1 a1 ≡ chosen second b a → chosen second a2 b2 ≡ chosen second a1 b1
@@ -134,7 +134,7 @@ stands_settled fits q o p stands = settled_both q.second o p
     (if_map (chosen q.second o p) (Stands fits q.journal) IsSettled stands.counting (λ i s. s.holds.settled))
     (if_map (chosen q.second p o) (IsAtRest q.other) IsSettled stands.other (λ i s. s.settled))
 
--- two disks that tell where they did
+-- two disks that report where they did
 both_tell : (o p x y : Option Image) → TellsAs o x → TellsAs p y → IfBoth o p (λ i j. IsSome x × IsSome y)
 both_tell None p x y told other_told = tt
 both_tell (Some i) None x y told other_told = tt

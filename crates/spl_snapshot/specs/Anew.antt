@@ -1,4 +1,4 @@
--- What a journal that is written anew leaves.
+-- What a journal that is written again leaves.
 use Rattle.std.specs.Prelude.{◌⊎◌, ℕ, List, Bool}
 use Rattle.spl_journal.specs.Clear.{IsShortOrSame}
 use Rattle.spl_journal.specs.Records.{IsClosedOrFilled}

@@ -31,11 +31,11 @@ pair_records fits first second = records fits (counting_bytes first second)
 abbrev pub pair_records_of : (List ℕ → Bool) → List ℕ → List ℕ → List (List ℕ)
 pair_records_of fits first second = records_of fits (counting_bytes first second)
 
--- where both disks tell
+-- where both disks report
 abbrev pub IfBoth : Option Image → Option Image → (Image → Image → Type 0) → Type 0
 IfBoth first second P = IfSome first (λ i. IfSome second (λ j. P i j))
 
--- a disk tells exactly where it did
+-- a disk reports exactly where it did
 abbrev pub TellsAs : Option Image → Option Image → Type 0
 TellsAs old new = is_some new ≡ is_some old
 
@@ -86,7 +86,7 @@ pub record PairStays (p q : PairView) : Type 0 where
   pub first : Stays p.first q.first
   pub second : Stays p.second q.second
 
--- each of the two tells exactly where it did
+-- each of the two reports exactly where it did
 abbrev pub PairTellsAs : PairView → PairView → Type 0
 PairTellsAs p q = TellsAs (image_now p.first) (image_now q.first) × TellsAs (image_now p.second) (image_now q.second)
 

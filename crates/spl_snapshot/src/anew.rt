@@ -1,4 +1,4 @@
-//! A journal written anew on a disk that doesn't count.
+//! A journal written again on a disk that doesn't count.
 ghost use Rattle.std.specs.Prelude.{◌≡◌, ◌≤◌, ◌<◌, ◌+◌, ℕ, Ok, false, length, IsTrue, OnOk, IfOk, IfSome, IsErrOf};
 ghost use Rattle.spl_edge.specs.Calls.{fails_at, Onward};
 ghost use Rattle.spl_edge.specs.Causes.{Rose};

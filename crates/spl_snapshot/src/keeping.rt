@@ -19,13 +19,13 @@ use std::alloc::{AllocError, Global};
 pub trait Packed {
     ghost packed: { Self → List (List ℕ) };
 
-    /// Its records. An error comes for want of memory alone.
+    /// Its records. The only error is that memory ran out.
     fn pack(&self, alloc: Global) -> Result<Records, AllocError>
         ensures { IfOk result (λ records. records ≡ packed self.now) };
 }
 
 impl<R: Form> Pairing<R> {
-    /// Adds a record, and where that leaves no room writes anew what packs into the records of now. After an error it is
+    /// Adds a record, and where that leaves no room writes again what packs into the records of now. After an error it is
     /// halted.
     pub fn keep<P: Packed, D: Disk>(
         &mut self,
@@ -55,7 +55,7 @@ impl<R: Form> Pairing<R> {
             ⊎ (base_of (journal_in self.new) ≡ 18 + length (blocks (P.packed state.now)))) }
 
         // The append comes first: it ended the call, and the other disk is as it was; or each of its four calls
-        // succeeded, and a stop behind the call leaves the new record or the packed ones.
+        // succeeded, and a stop after the call leaves the new record or the packed ones.
         ensures by_calls { (ByCalls 4 (D.view (chosen (is_second self.old) disks.old.first disks.old.second))
             (D.view (chosen (is_second self.old) disks.new.first disks.new.second)) (opened (end_of (journal_in self.old)) (sized bytes.now))
             (IsOk result) (IsErrOf result JournalFault.Disk)
@@ -66,7 +66,7 @@ impl<R: Form> Pairing<R> {
             PairLeaves (pair_view D.view disks.new) (pair_view D.view disks.new)
             (HaveEither R.is_record (pair_records_of R.is_record i.bytes j.bytes ++ bytes.now ∷ []) (P.packed state.now)))) }
 
-        // Where it leaves no room the other disk counts behind Ok, and none of its eight calls was one that it is armed for.
+        // Where it leaves no room the other disk counts after Ok, and none of its eight calls was one that it is armed for.
         ensures turned { OnOk result (2 * base_of (journal_in self.old) + SLACK < len_of (journal_in self.old) + 5 + length bytes.now
             → epoch_of (journal_in self.old) < 2 ^ 64 - 1
             → is_second self.new ≡ not (is_second self.old)) }
@@ -80,7 +80,7 @@ impl<R: Form> Pairing<R> {
             × (is_second self.new ≡ is_second self.old) }
 
         // Where it leaves no room, the disk that counts is armed for none of its four calls, and the other for one
-        // of its eight, the other has failed, unless memory was wanting.
+        // of its eight, the other has failed, unless memory ran out.
         ensures risen { IsFilledBy (length bytes.now) (journal_in self.old)
             → IsArmed (D.view (chosen (is_second self.old) disks.old.first disks.old.second)).armed
             → (NamesOne (D.view (chosen (is_second self.old) disks.old.first disks.old.second)).armed

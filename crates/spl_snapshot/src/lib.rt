@@ -1,4 +1,4 @@
-//! Records on two disks, of which one counts; a checkpoint writes them anew on the other.
+//! Records on two disks, of which one counts; a checkpoint writes them again on the other.
 #![tactic(auto)]
 
 mod anew;

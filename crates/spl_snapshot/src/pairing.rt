@@ -120,7 +120,7 @@ impl<R: Form> Pairing<R> {
             PairLeaves (pair_view D.view disks.new) (pair_view D.view disks.new)
             (HaveRecords R.is_record (pair_records_of R.is_record i.bytes j.bytes ++ bytes.now ∷ [])))) }
 
-        // After Ok each disk tells where it did.
+        // After Ok each disk reports where it did.
         ensures told { OnOk result (PairTellsAs (pair_view D.view disks.old) (pair_view D.view disks.new)) }
         ensures by_calls { ByCalls 4 (D.view (chosen (is_second self.old) disks.old.first disks.old.second))
             (D.view (chosen (is_second self.old) disks.new.first disks.new.second)) (opened (end_of (journal_in self.old)) (sized bytes.now))
@@ -166,7 +166,7 @@ impl<R: Form> Pairing<R> {
         self.halted = false;
     }
 
-    /// Writes these records anew on the other disk, which counts from then on, by eight calls. After an error it is halted.
+    /// Writes these records again on the other disk, which counts from then on, by eight calls. After an error it is halted.
     pub fn checkpoint<D: Disk>(
         &mut self,
         alloc: Global,

@@ -53,7 +53,7 @@ pub fn walk_pair<R: Form, D: Disk>(disks: &mut Pair<D>) -> Result<PairWalk<R>, J
 }
 
 impl<R: Form> PairWalk<R> {
-    /// The next record, or None behind the last one. After an error the walk is as it was.
+    /// The next record, or None after the last one. After an error the walk is as it was.
     pub fn next<D: Disk>(
         &mut self,
         alloc: Global,

@@ -145,7 +145,7 @@ same_by (suc n) k a p e h =
 pub same_turned : (n k : ℕ) (a b : Address) → same_digits n k a b ≡ true → same_digits n k b a ≡ true
 same_turned n k a b h = sym (same_by n k b a b h) ∙ same_alike n k b b refl
 
--- the order of the digits behind a run that is the same, and of one that isn't
+-- the order of the digits after a run that is the same, and of one that isn't
 along_by : (n d m : ℕ) (a b : Address) → d + n ≡ m → m ≤ 70 → same_digits n d a b ≡ true → tail_cmp d a b ≡ tail_cmp m a b
 along_by zero d m a b at high h =
     let end : d ≡ m = omega arith in

@@ -58,7 +58,7 @@ crossed : (s t : Bool) (x y : Option (List ℕ)) → cond (cond s false t) None 
 crossed true t x y = refl
 crossed false t x y = refl
 
--- a write behind removals is one before them, but for that at its own address
+-- a write after removals is one before them, except that at its own address
 pub write_behind : (a : Address) (v : List ℕ) (gone : List Address) (es : List Entry) → Rises es
     → without (insert_entry address_cmp es a v) (left_out a gone) ≡ insert_entry address_cmp (without es gone) a v
 write_behind a v gone es h =

@@ -1,4 +1,4 @@
--- Entries that have the digits of an address: what is done with them is done behind these.
+-- Entries that have the digits of an address: what is done with them is done after these.
 use Rattle.std.proofs.Common.{◌≡◌, ◌≢◌, ℕ, zero, suc, ◌+◌, ◌-◌, ◌<◌, ◌≤◌, ◌==◌, ◌&&◌, Bool, true, false, cond, List, [], ◌∷◌, length, Ordering, Less, Equal, Greater, None, Some, refl, sym, ap, ◌∙◌, arith, replicate}
 use Rattle.std.specs.Map.{lookup, remove_entry}
 use Rattle.std.specs.BTreeMap.{insert_entry, is_at}

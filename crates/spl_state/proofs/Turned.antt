@@ -4,7 +4,7 @@ use Rattle.std.proofs.lemmas.Bool.{cases_lt}
 use Rattle.std.specs.Prelude.{if◌then◌else◌}
 use Rattle.spl_state.specs.Root.{digit_of, digits_of}
 
--- the digit behind some
+-- the digit after some
 more_suc : (n k : ℕ) (a : List ℕ) → digits_of (suc n) k a ≡ digits_of n k a ++ digit_of a (k + n) ∷ []
 more_suc zero k a = ap (λ i. digit_of a i ∷ []) (sym (add-zero k))
 more_suc (suc n) k a =

@@ -6,7 +6,7 @@ use Rattle.spl_state.specs.declared.address.Address.{Address}
 use Rattle.spl_state.specs.declared.state.Replaced.{Replaced}
 use Rattle.spl_state.specs.Entries.{Entry, address_cmp}
 
--- the entries before the changes, and those behind them
+-- the entries before the changes, and those after them
 pub record Drafted : Type 0 where
   pub before : List Entry
   pub entries : List Entry
@@ -28,10 +28,10 @@ abbrev pub undone : List Entry → List Replaced → List Entry
 undone es [] = es
 undone es (r ∷ rs) = put_back (undone es rs) r
 
--- the entries but for that at an address
+-- the entries except that at an address
 abbrev pub without_one : List Entry → Address → List Entry
 without_one es a = remove_entry (is_at (address_cmp a)) es
 
--- the entries but for those at some addresses
+-- the entries except those at some addresses
 abbrev pub without : List Entry → List Address → List Entry
 without es addresses = fold without_one es addresses

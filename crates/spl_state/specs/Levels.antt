@@ -8,7 +8,7 @@ use Rattle.spl_state.specs.Root.{digit_of, leaf_of}
 abbrev pub branch : ℕ → ℕ → List Entry → List Entry
 branch k d es = filter (λ e. digit_of e.0.0 k == d) es
 
--- what `node` gives for the branches at digit k, for the digits below m, one behind the other
+-- what `node` gives for the branches at digit k, for the digits below m, one after the other
 unfoldable pub children : (List Entry → List ℕ) → ℕ → List Entry → ℕ → List ℕ
 children node k es zero = []
 children node k es (suc d) = children node k es d ++ node (branch k d es)

@@ -26,7 +26,7 @@ by_count [] inner = replicate 32 0
 by_count (e ∷ []) inner = leaf_of e
 by_count (e ∷ f ∷ es) inner = inner
 
--- what `part` gives for the digits below m, one behind the other
+-- what `part` gives for the digits below m, one after the other
 unfoldable pub joined : (ℕ → List ℕ) → ℕ → List ℕ
 joined part zero = []
 joined part (suc d) = joined part d ++ part d

@@ -10,7 +10,7 @@ use std::alloc::{AllocError, Global};
 use std::marker::Model;
 
 /// Changes of a state, which the state takes whole or not at all. Contracts see its entries
-/// before the changes and behind them.
+/// before the changes and after them.
 ///
 /// A write is made at once, and what it replaced is kept; a removal waits for the end, since the
 /// memory that it would free is what undoing it would want.
@@ -51,7 +51,7 @@ impl Draft {
         self.replaced.reserve(writes)
     }
 
-    /// Writes a value at an address, over the one there. After want of memory nothing is changed.
+    /// Writes a value at an address, over the one there. When memory runs out nothing is changed.
     pub fn set(&mut self, address: Address, value: &[u8]) -> Result<(), AllocError>
         ensures before { self.new.before ≡ self.old.before }
         ensures ok { OnOk result (self.new.entries ≡ insert_entry address_cmp self.old.entries address value.now) }
@@ -64,7 +64,7 @@ impl Draft {
         Ok(())
     }
 
-    /// Removes the entry at an address, if there is one. After want of memory nothing is changed.
+    /// Removes the entry at an address, if there is one. When memory runs out nothing is changed.
     pub fn delete(&mut self, address: Address) -> Result<(), AllocError>
         ensures before { self.new.before ≡ self.old.before }
         ensures ok { OnOk result (self.new.entries ≡ remove_entry (is_at (address_cmp address)) self.old.entries) }

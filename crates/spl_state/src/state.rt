@@ -24,7 +24,7 @@ pub(crate) struct Replaced {
 
 /// A finite map from addresses to bytes (docs/RULES.md, State). Contracts see its entries in
 /// address order. It keeps the digests of its parts: a write makes those above it stale, and
-/// `renew` makes them anew.
+/// `renew` makes them again.
 #[derive(Drop)]
 pub struct State {
     tree: Tree,
@@ -58,7 +58,7 @@ impl State {
         self.tree.get(address)
     }
 
-    /// Writes a value at an address, over the one there. After want of memory nothing is changed.
+    /// Writes a value at an address, over the one there. When memory runs out nothing is changed.
     pub fn set(&mut self, alloc: Global, address: Address, value: &[u8]) -> Result<(), AllocError>
         ensures ok { OnOk result (self.new ≡ insert_entry address_cmp self.old address value.now) }
         ensures err { OnErr result (self.new ≡ self.old) }
@@ -67,8 +67,8 @@ impl State {
         Ok(())
     }
 
-    /// Writes a value at an address, and tells what it replaced, by which `put_back` makes the
-    /// state of before. After want of memory nothing is changed.
+    /// Writes a value at an address, and says what it replaced, by which `put_back` makes the
+    /// state of before. When memory runs out nothing is changed.
     #[tactic(auto, using(crate::proofs::Bytes::insert_by_bytes, crate::proofs::Bytes::state_same, crate::proofs::Bytes::state_written))]
     pub(crate) fn swap(
         &mut self,
@@ -161,7 +161,7 @@ impl State {
         (digits as u8, entry)
     }
 
-    /// Makes each stale digest anew, so that the next root costs nothing. The entries stay. Most of
+    /// Makes each stale digest again, so that the next root costs nothing. The entries stay. Most of
     /// the work is shared by states that are equal and are renewed with one cache in turn.
     pub fn renew(&mut self, cache: &mut RunCache)
         ensures { self.new ≡ self.old }

@@ -77,7 +77,7 @@ impl Tree {
         }
     }
 
-    /// The digest of the entries, without memory: what is kept, and what is stale anew.
+    /// The digest of the entries, without memory: what is kept, and what is stale again.
     pub(crate) fn digest(&self) -> [u8; 32]
         ensures { result ≡ node_of (70 - self.now.depth) self.now.depth self.now.entries }
     {
@@ -137,7 +137,7 @@ impl Tree {
         }
     }
 
-    /// Makes each stale digest of the whole tree anew. A run of lone parts at the top is looked up
+    /// Makes each stale digest of the whole tree again. A run of lone parts at the top is looked up
     /// in the cache, and kept there.
     pub(crate) fn renew_all(&mut self, cache: &mut RunCache)
         requires { self.old.depth ≡ 0 }
@@ -153,7 +153,7 @@ impl Tree {
         }
     }
 
-    /// Makes each stale digest anew.
+    /// Makes each stale digest again.
     fn renew(&mut self)
         ensures { self.new ≡ self.old }
     {

@@ -1,4 +1,4 @@
--- A schedule and its trace are one run: line by line, in the worlds behind all lines.
+-- A schedule and its trace are one run: line by line, in the worlds after all lines.
 use Rattle.std.proofs.Common.{◌≡◌, ◌⊎◌, ℕ, Bool, true, false, List, [], ◌∷◌, ◌++◌, append-nil, append_assoc, map, refl, sym, ap, subst, ◌∙◌, inl, inr}
 use Rattle.std.proofs.Math.Path.{fun_ext}
 use Rattle.std.specs.Prelude.{if◌then◌else◌}
@@ -48,7 +48,7 @@ flat-same worlds (line.Fail call s) kept h = refl
 
 -- ---- a line
 
--- a calm and its lines, which are those of the world behind its circuit's own lines
+-- a calm and its lines, which are those of the world after its circuit's own lines
 calm-step : (c i : CircuitId) (w v own : World) (k : ℕ) (kept : Bool) → (calm i own k).happened ≡ (calm i v k).happened → (bytes_eq i c ≡ true → v ≡ w) → whole_from c w (map plainly (calm_lines i own k)) ≡ world_after c w (record { line = line.Calm i k; kept = kept })
 calm-step c i w v own k kept same is = ap (λ (es : List Occurrence). whole_from c w (map plainly (steps_in es))) same ∙ go (bool_cases (bytes_eq i c))
   where

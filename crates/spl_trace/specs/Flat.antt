@@ -28,7 +28,7 @@ abbrev pub flat_line : (CircuitId → World) → Line → Bool → List Ran
 flat_line worlds (line.Calm c k) kept = map plainly (calm_lines c (worlds c) k)
 flat_line worlds l kept = record { line = l; kept = kept } ∷ []
 
--- those of a line behind others
+-- those of a line after others
 abbrev pub flat_ran : Origin → List Ran → Ran → List Ran
 flat_ran o before r = flat_line (λ c. world_before o c before r) r.line r.kept
 
@@ -40,7 +40,7 @@ flat_behind o before (r ∷ rs) = flat_ran o before r ++ flat_behind o (before +
 abbrev pub flat : Origin → List Ran → List Ran
 flat o rs = flat_behind o [] rs
 
--- each line with a line feed behind it
+-- each line with a line feed after it
 abbrev pub written : List Ran → List ℕ
 written [] = []
 written (r ∷ rs) = spelling r.line ++ (10 ∷ written rs)

@@ -7,7 +7,7 @@ use Rattle.spl_model.specs.Answers.{circuit_world, is_up, answer_to}
 use Rattle.spl_projection.specs.Whole.{whole_world}
 use Rattle.spl_trace.specs.Flat.{is_calm, flat}
 
--- each line but the calms is answered behind the trace of what stands before it as it is answered in the schedule; and the
+-- each line but the calms is answered after the trace of what stands before it as it is answered in the schedule; and the
 -- schedule and its trace leave the same worlds
 pub record IsOneRun (o : Origin) (rs : List Ran) : Type 0 where
   pub answers : (before behind : List Ran) (r : Ran) → before ++ r ∷ behind ≡ rs → is_calm r.line ≡ false → answer_to o (flat o before) r ≡ answer_to o before r

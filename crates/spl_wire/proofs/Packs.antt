@@ -14,7 +14,7 @@ use Rattle.spl_wire.specs.Grouping.{most_bytes, record_of, record_size, has_plac
 use Rattle.spl_wire.specs.Packing.{PackingView, sealed_size, is_full, taken, finished}
 use Rattle.spl_wire.proofs.Sizes.{size-of}
 
--- the bytes of changes, one behind the other
+-- the bytes of changes, one after the other
 abbrev bytes_of : List Change → List ℕ
 bytes_of xs = flat_map change_form.spell xs
 

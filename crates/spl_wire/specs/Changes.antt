@@ -81,7 +81,7 @@ put (Gone n) = put_by cell_changes (filled 14 n)
 abbrev pub made : {A B : Type 0} → (A → B) → Parsed A → Parsed B
 made to r = r >>= λ x. Ok (to x.0, x.1)
 
--- the fields behind the number of a group
+-- the fields after the number of a group
 abbrev pub of_group : ℕ → ℕ → ℕ → Input → Parsed Change
 of_group tag zero at s = Err at
 of_group tag (suc zero) at s = made (λ x. Admin x) ((group_tags act).take tag s.place s)
@@ -122,7 +122,7 @@ module _ {V : Type 0} (value : Form V) (p : IsExact value) where
   has_group (Queue v) = refl
   has_group x = refl
 
-  -- a change of a group behind the group's number
+  -- a change of a group after the group's number
   again_group : (group : ℕ) (to : GroupChange V → Change) (x : GroupChange V) (rest : List ℕ) (place : ℕ) → group < 256
       → ((at : ℕ) (s : Input) → of_group (put_change value x).tag group at s ≡ made to ((group_tags value).take (put_change value x).tag s.place s))
       → IsTrue (fits_change value x)

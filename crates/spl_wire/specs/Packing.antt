@@ -20,11 +20,11 @@ sealed c n w = c ++ (number_bytes w16 n ++ w)
 abbrev pub sealed_size : List ℕ → List ℕ → ℕ
 sealed_size c w = length c + 2 + length w
 
--- a record of so many changes has no place for one more, whose bytes stand behind theirs already
+-- a record of so many changes has no place for one more, whose bytes stand after theirs already
 abbrev pub is_full : List ℕ → ℕ → List ℕ → Bool
 is_full c n w = nat_lt 0 n && not (nat_lt n MOST_CHANGES && nat_le (sealed_size c w) most_bytes)
 
--- the record of the first bytes is the last one, and the one that is begun has those behind them, and no change yet
+-- the record of the first bytes is the last one, and the one that is begun has those after them, and no change yet
 abbrev pub closed : ℕ → PackingView → PackingView
 closed start p = record {
   circuit = p.circuit;

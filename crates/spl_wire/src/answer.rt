@@ -158,7 +158,7 @@ pub enum Answer {
     },
     /// The circuits that are bound at a node, in the order of their ids.
     Roll(Listing<CircuitId>),
-    /// The node stopped in the event, behind some calls on its disks.
+    /// The node stopped in the event, after some calls on its disks.
     Cut(Bit),
     /// A call on its disks failed in the event, and the node stopped.
     Fault(Bit),

@@ -23,7 +23,7 @@ pub(crate) fn take_reason(alloc: Global, r: &mut Reader) -> Result<Reason, Malfo
     Ok(Reason { code, at })
 }
 
-/// Appends two values, one behind the other.
+/// Appends two values, one after the other.
 pub(crate) fn put_two<A: Field, B: Field>(a: &A, b: &B, w: &mut Writer) -> Result<(), AllocError>
     requires first { IsTrue (A.form.bounded a.now) }
     requires second { IsTrue (B.form.bounded b.now) }
@@ -34,7 +34,7 @@ pub(crate) fn put_two<A: Field, B: Field>(a: &A, b: &B, w: &mut Writer) -> Resul
     b.put_parts(w)
 }
 
-/// Reads two values, one behind the other.
+/// Reads two values, one after the other.
 pub(crate) fn take_two<A: Field, B: Field>(
     alloc: Global,
     r: &mut Reader,
@@ -108,7 +108,7 @@ pub(crate) fn put_body<V: Field>(message: &CommitMsg<V>, w: &mut Writer) -> Resu
     }
 }
 
-/// Reads a body from the front.
+/// Reads a body from the beginning.
 pub(crate) fn take_body<V: Field>(alloc: Global, r: &mut Reader) -> Result<CommitMsg<V>, Malformed>
     ensures { Reads (λ x. x) result r.new ((form.body V.form).parse r.old) }
 {

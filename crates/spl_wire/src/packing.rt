@@ -25,7 +25,7 @@ fn sealed_size(circuit: CircuitId, changes: &[u8]) -> usize
     circuit.bytes().len() + 2 + changes.len()
 }
 
-/// The byte form of the record of so many changes, which have these bytes. An error comes for want of memory alone.
+/// The byte form of the record of so many changes, which have these bytes. The only error is that memory ran out.
 fn sealed(
     alloc: Global,
     circuit: CircuitId,
@@ -41,7 +41,7 @@ fn sealed(
     Ok(w.into_piece())
 }
 
-/// Whether a record of so many changes has no place for one more, whose bytes stand behind theirs already.
+/// Whether a record of so many changes has no place for one more, whose bytes stand after theirs already.
 fn is_full(circuit: CircuitId, count: u16, changes: &[u8]) -> bool
     ensures { result ≡ is_full circuit count changes.now }
 {
@@ -49,7 +49,7 @@ fn is_full(circuit: CircuitId, count: u16, changes: &[u8]) -> bool
 }
 
 /// Byte forms of records so far, and of the record that is begun how many changes it has, and their bytes. Each change
-/// is spelled once, right behind those before it.
+/// is spelled once, right after those before it.
 #[derive(Drop)]
 struct Packing {
     circuit: CircuitId,
@@ -79,7 +79,7 @@ impl Packing {
         })
     }
 
-    /// The record of the first bytes is the last one, and those behind them begin one.
+    /// The record of the first bytes is the last one, and those after them begin one.
     fn close(&mut self, alloc: Global, start: usize) -> Result<(), AllocError>
         requires { start ≤ length self.old.written }
         ensures { OnOk result (self.new ≡ closed start self.old) }
@@ -141,7 +141,7 @@ impl Packing {
 }
 
 /// The byte forms of the records of changes of a circuit, in order. A new record begins where the next change would
-/// make it too long. An error comes for want of memory alone.
+/// make it too long. The only error is that memory ran out.
 #[tactic(auto, using(crate::proofs::Packs::packed_none))]
 pub fn packed_records(
     alloc: Global,

@@ -21,7 +21,7 @@ no_way : {A : Type 0} (b : Bool) → cond b (nothing {A = A}) nothing ≡ nothin
 no_way true = refl
 no_way false = refl
 
--- one more at the end of the front
+-- one more at the end of the beginning
 pub moved : {A : Type 0} (front : List A) (x : A) (others : Option (List A)) → with_front front (others >>= λ xs. Some (x ∷ xs)) ≡ with_front (front ++ x ∷ []) others
 moved front x None = refl
 moved {A} front x (Some xs) = ap (λ (ys : List A). Some ys) (simp append_assoc)
@@ -81,7 +81,7 @@ module _ {A : Type 0} (f : A → List ℕ) where
       let more : join_with_byte 44 (map f (take (i + 1 + 1) items)) ≡ join_with_byte 44 (map f (take (i + 1) items)) ++ (44 ∷ f x) = rw e (item_behind first others i x lt here) in
       rw (n, c, h, more) (simp append_assoc)
 
--- one more word written behind a space
+-- one more word written after a space
 pub word_put : {A : Type 0} (f : A → List ℕ) (old w new : List ℕ) (items : List A) (i : ℕ) (x : A) → Some x ≡ slice_get items i → w ≡ old ++ behind_spaces (map f (take i items)) → new ≡ w ++ (32 ∷ f x)
     → new ≡ old ++ behind_spaces (map f (take (i + 1) items))
 word_put {A} f old w new items i x here h n =

@@ -41,7 +41,7 @@ is_name xs = nat_le 1 (length xs) && is_label xs
 abbrev pub is_decimal : List ℕ → Bool
 is_decimal xs = nat_le 1 (length xs) && list_all is_digit xs && (length xs == 1 || not (slice_index xs 0 == 48))
 
--- the number that digits stand for, behind those of n
+-- the number that digits stand for, after those of n
 abbrev pub value_behind : ℕ → List ℕ → ℕ
 value_behind n [] = n
 value_behind n (b ∷ bs) = value_behind (n * 10 + (b - 48)) bs
@@ -98,7 +98,7 @@ read_end (x ∷ xs) = None
 abbrev pub end : Words (Unit {0})
 end = record { spell = λ _. []; read = read_end; fits = λ _. true }
 
--- the first word, and the words behind it
+-- the first word, and the words after it
 abbrev pub read_first : {A : Type 0} → Word A → List (List ℕ) → Option (A × List (List ℕ))
 read_first w [] = None
 read_first w (x ∷ xs) = w.read x >>= λ a. Some (a, xs)
@@ -133,7 +133,7 @@ meaning ok to from s = record { spell = λ x. s.spell (from x); read = λ xs. op
 abbrev pub that : {S A : Type 0} → (A → Bool) → Spelling S A → Spelling S A
 that ok s = record { spell = s.spell; read = λ x. s.read x >>= λ a. if ok a then Some a else None; fits = λ a. ok a && s.fits a }
 
--- words in a row behind a name, and what they mean
+-- words in a row after a name, and what they mean
 pub record Kind (A : Type 0) : Type 0 where
   pub name : List ℕ
   pub read : List (List ℕ) → Option A
@@ -141,7 +141,7 @@ pub record Kind (A : Type 0) : Type 0 where
 abbrev pub kind : {A B : Type 0} → List ℕ → Words A → (A → B) → Kind B
 kind name ws to = record { name = name; read = λ xs. option_map to (ws.read xs) }
 
--- what the words behind a name mean, by the first kind of that name
+-- what the words after a name mean, by the first kind of that name
 abbrev pub read_kind : {A : Type 0} → List (Kind A) → Option A → List ℕ → List (List ℕ) → Option A
 read_kind [] other name xs = other
 read_kind (k ∷ ks) other name xs = if bytes_eq name k.name then k.read xs else read_kind ks other name xs
@@ -150,11 +150,11 @@ read_kind (k ∷ ks) other name xs = if bytes_eq name k.name then k.read xs else
 abbrev pub has_kind : {A : Type 0} → List (Kind A) → List ℕ → Bool
 has_kind ks name = list_any (λ k. bytes_eq name k.name) ks
 
--- what stands behind these bytes, where a word begins with them
+-- what stands after these bytes, where a word begins with them
 abbrev pub behind : List ℕ → List ℕ → Option (List ℕ)
 behind front xs = if bytes_eq (take (length front) xs) front then Some (drop (length front) xs) else None
 
--- a word behind these bytes, and what it means
+-- a word after these bytes, and what it means
 pub record Front (A : Type 0) : Type 0 where
   pub bytes : List ℕ
   pub read : List ℕ → Option A
@@ -171,7 +171,7 @@ abbrev pub read_front : {A : Type 0} → List (Front A) → Option A → List �
 read_front [] other xs = other
 read_front (f ∷ fs) other xs = read_behind (behind f.bytes xs) f.read (read_front fs other xs)
 
--- each word behind a space
+-- each word after a space
 abbrev pub behind_spaces : List (List ℕ) → List ℕ
 behind_spaces ws = flat_map (λ w. 32 ∷ w) ws
 
@@ -186,7 +186,7 @@ abbrev pub Reads : {A : Type 0} → Result A LineFault → Option A → Type 0
 Reads (Ok x) found = found ≡ Some x
 Reads (Err e) found = Fails e found
 
--- The same of a call that takes words from the front, and these are the words behind.
+-- The same of a call that takes words from the beginning, and these are the words after.
 abbrev pub Takes : {A : Type 0} → Result A LineFault → List (List ℕ) → Option (A × List (List ℕ)) → Type 0
 Takes (Ok x) behind found = found ≡ Some (x, behind)
 Takes (Err e) behind found = Fails e found

@@ -27,7 +27,7 @@ fn are_digits(bytes: &[u8]) -> bool
     all
 }
 
-/// Reads as many bytes as there are cells, two digits for each, and tells whether that is what the
+/// Reads as many bytes as there are cells, two digits for each, and says whether that is what the
 /// digits spell.
 pub fn read_cells(digits: &[u8], cells: &mut [u8]) -> bool
     ensures read { result ≡ true → read_hex_string digits.now ≡ Some cells.new }

@@ -1,4 +1,4 @@
-//! Words of a line: reading them from the front of its bytes, and writing them.
+//! Words of a line: reading them from the beginning of its bytes, and writing them.
 #![tactic(auto)]
 
 mod digits;

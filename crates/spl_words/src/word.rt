@@ -51,6 +51,7 @@ impl Word for NodeId {
 
     ghost word = { text is_node_id };
 
+    #[inline(always)]
     fn read(_alloc: Global, bytes: &[u8]) -> Result<NodeId, LineFault> {
         NodeId::read(bytes).ok_or(LineFault::BadLine)
     }
@@ -68,6 +69,7 @@ impl Word for CircuitId {
 
     ghost word = { text is_circuit_id };
 
+    #[inline(always)]
     fn read(_alloc: Global, bytes: &[u8]) -> Result<CircuitId, LineFault> {
         CircuitId::read(bytes).ok_or(LineFault::BadLine)
     }

@@ -1,4 +1,4 @@
-//! Taking words from the front of bytes.
+//! Taking words from the beginning of bytes.
 ghost use Rattle.std.specs.Prelude.{◌≡◌, ◌∷◌, [], ◌==◌, MatchOption, Some, None};
 ghost use Rattle.std.specs.List.{position};
 ghost use Rattle.spl_words.specs.Words.{split, behind, read_end, Reads};
@@ -6,13 +6,15 @@ ghost use Rattle.spl_words.specs.Words.{split, behind, read_end, Reads};
 use crate::fault::LineFault;
 use std::marker::Model;
 
+#[inline(always)]
 fn place_of(bytes: &[u8], by: u8) -> Option<usize>
     ensures { result ≡ position (λ b. b == by) bytes.now }
 {
     bytes.iter().position(|b| *b == by)
 }
 
-/// What stands before the first such byte, and what stands behind it, where there is one.
+/// What stands before the first such byte, and what stands after it, where there is one.
+#[inline(always)]
 fn first_part(bytes: &[u8], by: u8) -> Option<(&[u8], &[u8])>
     ensures { MatchOption result (split by bytes.now ≡ bytes.now ∷ []) (λ p. split by bytes.now ≡ p.0.now ∷ split by p.1.now) }
 {
@@ -22,14 +24,15 @@ fn first_part(bytes: &[u8], by: u8) -> Option<(&[u8], &[u8])>
     }
 }
 
-/// What stands behind these bytes, where a word begins with them.
+/// What stands after these bytes, where a word begins with them.
+#[inline(always)]
 pub fn behind<'a>(front: &[u8], word: &'a [u8]) -> Option<&'a [u8]>
     ensures { MatchOption result (behind front.now word.now ≡ None) (λ rest. behind front.now word.now ≡ Some rest.now) }
 {
     word.strip_prefix(front)
 }
 
-/// Takes words from the front of bytes that have one byte between each two words.
+/// Takes words from the beginning of bytes that have one byte between each two words.
 #[derive(Drop)]
 pub struct WordReader<'a> {
     rest: &'a [u8],
@@ -47,6 +50,7 @@ impl<'a> Model for WordReader<'a> {
 }
 
 impl<'a> WordReader<'a> {
+    #[inline(always)]
     pub fn new(bytes: &'a [u8], by: u8) -> WordReader<'a>
         ensures { result ≡ split by bytes.now }
     {
@@ -58,6 +62,7 @@ impl<'a> WordReader<'a> {
     }
 
     /// The next word.
+    #[inline(always)]
     pub fn next(&mut self) -> Option<&'a [u8]>
         ensures { MatchOption result (self.old ≡ []) (λ w. self.old ≡ w.now ∷ self.new) }
     {
@@ -77,6 +82,7 @@ impl<'a> WordReader<'a> {
     }
 
     /// Fails where a word is left.
+    #[inline(always)]
     pub fn end(&self) -> Result<(), LineFault>
         ensures { Reads result (read_end self.now) }
     {

@@ -1,4 +1,4 @@
--- By the bindings that are behind a run.
+-- By the bindings that are after a run.
 use Rattle.spl_agreement.proofs.Occurrences.{stays-behind, first-proposal}
 use Rattle.spl_agreement.proofs.bindings_are_final.Goals as goal
 

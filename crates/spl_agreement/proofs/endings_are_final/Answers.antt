@@ -1,4 +1,4 @@
--- Behind the acts of a circuit that has ended none is good.
+-- After the acts of a circuit that has ended none is good.
 use Rattle.spl_agreement.proofs.Ended.{ends-behind}
 use Rattle.spl_agreement.proofs.endings_are_final.Goals as goal
 

@@ -15,7 +15,7 @@ use std::mem;
 
 impl Tree {
     /// Writes a value at an address, and gives back the one that it replaced. Where one stands
-    /// there it takes no memory; after want of memory the entries are unchanged.
+    /// there it takes no memory; when memory runs out the entries are unchanged.
     pub(crate) fn swap(
         &mut self,
         alloc: Global,
@@ -143,7 +143,7 @@ impl Tree {
         self.body = Body::Empty;
     }
 
-    /// Gives up levels that tell no entries apart: all where no entry is left, and the next where
+    /// Gives up levels that report no entries apart: all where no entry is left, and the next where
     /// one is left in a leaf of it.
     #[inline]
     pub(crate) fn shrink(&mut self)

@@ -1,4 +1,4 @@
--- Each digest is hashed behind those before it.
+-- Each digest is hashed after those before it.
 use Rattle.std.proofs.Common.{rules, ◌∷◌, [], ap, subst, ◌∙◌, arith}
 use Rattle.sha2.specs.Sha256.{sha256}
 use Rattle.sha2.specs.Hashers.{Holds256}

@@ -1,4 +1,4 @@
--- What the whole list spells is what the rest spells behind the nodes found.
+-- What the whole list spells is what the rest spells after the nodes found.
 use Rattle.std.proofs.Common.{◌≡◌, ◌+◌, [], drop}
 use Rattle.toml.specs.View.{items_view}
 use Rattle.spl_registry.specs.Tree.{entries_from}

@@ -1,4 +1,4 @@
--- The write is undone first, and stands behind the removals but for that at its own address.
+-- The write is undone first, and stands after the removals except that at its own address.
 use Rattle.std.proofs.Common.{◌≡◌, [], ◌∷◌, ◌++◌, ap, ◌∙◌, arith}
 use Rattle.std.proofs.lemmas.Grind.{common_steps}
 use Rattle.std.specs.BTreeMap.{insert_entry}

@@ -1,4 +1,4 @@
--- The part of the address's digits loses the entry, and levels that tell none apart.
+-- The part of the address's digits loses the entry, and levels that report none apart.
 use Rattle.std.proofs.Common.{◌≡◌, ◌<◌, ◌-◌, true, false, length, min, sym, subst, ap, ◌∙◌, arith, is_some}
 use Rattle.std.specs.BTreeMap.{is_at}
 use Rattle.spl_state.specs.Digits.{tail_cmp, same_digits}
