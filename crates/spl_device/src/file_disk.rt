@@ -1,4 +1,4 @@
-//! A file as a disk, which doesn't tell what it holds.
+//! A file as a disk, which doesn't say what it holds.
 ghost use Rattle.std.specs.Prelude.{◌≡◌, ◌<◌, ◌≤◌, ◌+◌, ◌^◌, None, Some, length, IfOk, IfSome, OnSome};
 ghost use Rattle.spl_edge.specs.Calls.{Passes, armed_with};
 ghost use Rattle.spl_edge.specs.declared.disk.Arming.TheVariants.{Off};
@@ -12,7 +12,7 @@ use std::os::unix::fs::FileExt;
 /// The greatest length of a file.
 const MOST: u64 = i64::MAX as u64;
 
-/// A file that is read and written at offsets, or none, where each call fails. It tells nothing of what it holds, counts
+/// A file that is read and written at offsets, or none, where each call fails. It reports nothing of what it holds, counts
 /// its calls, and counts a fault at each call that the system refuses. That a read gives what was written last, and that
 /// a stop leaves what stood at a sync that succeeded, is trusted.
 #[derive(Drop)]
@@ -65,7 +65,7 @@ fn len_of<F: OpenFile>(file: &F) -> Option<u64>
     Some(len)
 }
 
-/// Fills the buffer from an offset on, and tells how many bytes came before the file's end.
+/// Fills the buffer from an offset on, and says how many bytes came before the file's end.
 fn read_from<F: FileExt>(file: &F, at: u64, buf: &mut [u8]) -> io::Result<usize>
     ensures { IfOk result (λ n. n ≤ length buf.new) }
 {
@@ -99,6 +99,8 @@ impl<F: FileExt + OpenFile + Drop> Disk for FileDisk<F> {
     ghost use Rattle.spl_edge.specs.Views.{untold_disk};
 
     ghost view = { λ d. untold_disk d.moment d.faults };
+
+    ghost possible = { λ _. tt };
 
     fn len(&mut self) -> Result<u64, DeviceError> {
         let found = match &self.file {

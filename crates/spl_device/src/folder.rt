@@ -4,8 +4,8 @@ ghost use Rattle.std.specs.Prelude.{◌≡◌, length, IfOk};
 use crate::file_disk::FileDisk;
 use spl_edge::{Pair, Shelf};
 use std::alloc::AllocError;
+use std::fs;
 use std::fs::{File, Files, OpenOptions};
-use std::{fs, io};
 
 /// How many nodes have disks.
 const NODES: usize = 16;
@@ -54,24 +54,47 @@ where
     Ok(pairs)
 }
 
-/// Makes the names of files in a folder last.
-fn sync_folder<R: Files<File = File>>(rt: &R, folder: &String) -> io::Result<()> {
-    fs::open(rt, folder.as_str())?.sync_all()
+/// A folder that no other run uses, held by a lock on it that ends with the process at the latest.
+fn held<R: Files<File = File>>(rt: &R, name: &String) -> Option<File> {
+    let folder = fs::open(rt, name.as_str()).ok()?;
+    folder.try_lock().ok()?;
+    Some(folder)
 }
 
-/// The disks of sixteen nodes: of the node at position 7 the files `d07a` and `d07b` in a folder, made where they are
-/// missing, and never cut. A file that can't be opened or made is a disk that fails at each call. So are all without a
-/// folder, and where the folder's own sync fails, by which the names of its files last. An error comes where memory runs out.
-pub fn shelf<R>(rt: &R, folder: Option<&String>) -> Result<Shelf<FileDisk<File>>, AllocError>
-where
-    R: Files<File = File> + AllocGlobal,
-    ensures { IfOk result (λ shelf. length shelf.pairs.items ≡ 16) }
-{
-    let pairs = pairs_in(rt, folder)?;
-    match folder {
-        Some(folder) if sync_folder(rt, folder).is_err() => Ok(Shelf {
-            pairs: pairs_in(rt, None)?,
-        }),
-        _ => Ok(Shelf { pairs }),
+/// The disks of sixteen nodes, and the folder that has their files, where there is one. No other run uses it as long as
+/// this is kept.
+#[derive(Drop)]
+pub struct Folder {
+    pub shelf: Shelf<FileDisk<File>>,
+    held: Option<File>,
+}
+
+impl Folder {
+    /// Of the node at position 7 the disks are the files `d07a` and `d07b` in the folder of this name, made where they are
+    /// missing, and never cut. A file that can't be opened or made is a disk that fails at each call. So are all, and no file
+    /// is made, without a name, and where the folder can't be opened, another run uses it, or its own sync fails, by which
+    /// the names of its files last. An error comes where memory runs out.
+    pub fn open<R>(rt: &R, name: Option<&String>) -> Result<Folder, AllocError>
+    where
+        R: Files<File = File> + AllocGlobal,
+        ensures { IfOk result (λ folder. length folder.shelf.pairs.items ≡ 16) }
+    {
+        let held = match name {
+            Some(name) => held(rt, name),
+            None => None,
+        };
+        let pairs = pairs_in(rt, if held.is_some() { name } else { None })?;
+        match &held {
+            Some(folder) if folder.sync_all().is_err() => Ok(Folder {
+                shelf: Shelf {
+                    pairs: pairs_in(rt, None)?,
+                },
+                held,
+            }),
+            _ => Ok(Folder {
+                shelf: Shelf { pairs },
+                held,
+            }),
+        }
     }
 }

@@ -10,9 +10,9 @@ mod link;
 mod std_sink;
 mod tcp_fabric;
 
-pub use endpoints::fabric;
+pub use endpoints::registry_of;
 pub use file_disk::FileDisk;
 pub use file_source::FileSource;
-pub use folder::shelf;
+pub use folder::Folder;
 pub use std_sink::StdSink;
 pub use tcp_fabric::TcpFabric;

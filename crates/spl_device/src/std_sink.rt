@@ -1,10 +1,11 @@
-//! Standard output as a sink, which doesn't tell what it took.
-ghost use Rattle.std.specs.Prelude.{◌≡◌, None};
+//! Standard output as a sink, which doesn't say what it took.
+ghost use Rattle.std.specs.Prelude.{◌≡◌, ◌≤◌, IfOk, None, length};
 
 use spl_edge::{DeviceError, Sink, count_fault};
-use std::io::Write;
+use std::io;
+use std::io::{ErrorKind, Write};
 
-/// Where answers go. To take nothing of a piece that isn't empty is a fault.
+/// Where answers go. To take nothing of a piece that isn't empty is a fault. A write that a signal interrupted is made again.
 #[derive(Drop)]
 pub struct StdSink<W: Write + Drop> {
     out: W,
@@ -21,11 +22,24 @@ impl<W: Write + Drop> StdSink<W> {
     }
 }
 
+/// Writes once, and again where a signal interrupted that.
+pub(crate) fn write_once<W: Write>(out: &mut W, piece: &[u8]) -> io::Result<usize>
+    ensures { IfOk result (λ n. n ≤ length piece.now) }
+{
+    for _ in 0..u64::MAX {
+        match out.write(piece) {
+            Err(error) if error.kind() == ErrorKind::Interrupted => {}
+            done => return done,
+        }
+    }
+    Err(ErrorKind::TimedOut.into())
+}
+
 impl<W: Write + Drop> Sink for StdSink<W> {
     ghost view = { λ s. record { written = None; faults = s.faults } };
 
     fn write(&mut self, piece: &[u8]) -> Result<usize, DeviceError> {
-        match self.out.write(piece) {
+        match write_once(&mut self.out, piece) {
             Ok(count) if count > 0 || piece.is_empty() => Ok(count),
             _ => Err(count_fault(&mut self.faults)),
         }

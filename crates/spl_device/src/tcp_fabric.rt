@@ -10,7 +10,7 @@ use std::net::{Net, TcpListener};
 use std::str;
 
 /// Streams between the nodes of a registry, of which each listens where it is reached first. Bytes from one node to
-/// another have a connection of their own, made when the first are put, whose two ends are in this process. It tells
+/// another have a connection of their own, made when the first are put, whose two ends are in this process. It reports
 /// nothing of what passed, and counts a fault at each call that the system refuses. That what is taken is what was put,
 /// in its order, is trusted.
 #[derive(Drop)]

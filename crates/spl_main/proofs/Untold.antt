@@ -1,4 +1,4 @@
--- Disks that tell nothing.
+-- Disks that report nothing.
 use Rattle.std.proofs.Common.{◌≡◌, ℕ, zero, suc, List, [], ◌∷◌, refl, subst}
 use Rattle.spl_edge.specs.declared.bench.Pair.{Pair}
 use Rattle.spl_edge.specs.Views.{DiskView, bench, pair_view, untold_disk}

@@ -6,13 +6,15 @@ ghost use Rattle.std.specs.IoError.{error_kind};
 ghost use Rattle.spl_edge.specs.Views.{bench};
 
 use spl_app::{Status, blank_bench, splinter};
-use spl_device::{FileSource, StdSink, fabric, shelf};
+use spl_device::{FileSource, Folder, StdSink, TcpFabric, registry_of};
+use std::alloc::AllocError;
 use std::fs::File;
 use std::io::{ErrorKind, Write};
+use std::os::fd::AsRawFd;
 use std::process::ExitCode;
 use std::{env, fs, io};
 
-// The words behind the program's name.
+// The words after the program's name.
 fn words_of(rt: &HostRuntime) -> io::Result<Vec<String>> {
     let mut words = Vec::new(rt.alloc());
     for word in env::args(rt)?.skip(1) {
@@ -41,45 +43,59 @@ fn source(rt: &HostRuntime, name: Option<&String>) -> FileSource<File> {
     FileSource::new(rt.alloc(), file)
 }
 
-// The names of the registry and of the folder, where the words ask for a run over links.
-fn linked(words: &[String]) -> (Option<&String>, Option<&String>) {
+// The name of the folder, where the words ask for a run over links.
+fn folder_of(words: &[String]) -> Option<&String> {
     match words {
-        [first, registry, _, folder] if first.as_str() == "links" => (Some(registry), Some(folder)),
-        _ => (None, None),
+        [first, _, _, folder] if first.as_str() == "links" => Some(folder),
+        _ => None,
     }
 }
 
-fn run(rt: &HostRuntime) -> Status {
+// Files that can be neither read nor written, in the place of standard descriptors that are closed, so that no other file
+// gets their numbers.
+fn held_descriptors(rt: &HostRuntime) -> io::Result<Vec<File>> {
+    let mut held = Vec::new(rt.alloc());
+    for _ in 0..3 {
+        let folder = fs::open(rt, "/")?;
+        if folder.as_raw_fd() > 2 {
+            break;
+        }
+        held.push(folder)?;
+    }
+    Ok(held)
+}
+
+// Over links the registry is read here, for the endpoints, and handed on from its first byte. Without one no file is made.
+fn run(rt: &HostRuntime) -> Result<Status, AllocError> {
     let words = match words_of(rt) {
         Ok(words) => words,
-        Err(error) => return unread(&error),
+        Err(error) => return Ok(unread(&error)),
     };
     let mut registry = source(rt, words.get(1));
     let mut schedule = source(rt, words.get(2));
     let mut out = StdSink::new(rt.stdout());
-    let mut bench = match blank_bench(rt.alloc()) {
-        Ok(bench) => bench,
-        Err(_) => return Status::NoMemory,
-    };
-    let (network, folder) = linked(&words);
-    let mut shelf = match shelf(rt, folder) {
-        Ok(shelf) => shelf,
-        Err(_) => return Status::NoMemory,
-    };
-    let mut fabric = match fabric(rt, network) {
-        Ok(fabric) => fabric,
-        Err(_) => return Status::NoMemory,
-    };
-    splinter(
+    let mut bench = blank_bench(rt.alloc())?;
+    let mut name = folder_of(&words);
+    let mut nodes = None;
+    if name.is_some() {
+        nodes = registry_of(rt.alloc(), &mut registry)?;
+        registry = registry.again(rt.alloc());
+    }
+    if nodes.is_none() {
+        name = None;
+    }
+    let mut folder = Folder::open(rt, name)?;
+    let mut fabric = TcpFabric::new(rt.alloc(), rt, nodes.as_ref())?;
+    Ok(splinter(
         rt.alloc(),
         &words,
         &mut registry,
         &mut schedule,
         &mut out,
         &mut bench,
-        &mut shelf,
+        &mut folder.shelf,
         &mut fabric,
-    )
+    ))
 }
 
 // One line on standard error.
@@ -95,7 +111,8 @@ fn report(rt: &HostRuntime, status: &Status) -> io::Result<()> {
 }
 
 fn main(rt: HostRuntime) -> ExitCode {
-    let status = run(&rt);
+    let _held = held_descriptors(&rt);
+    let status = run(&rt).unwrap_or(Status::NoMemory);
     if !matches!(status, Status::Ok) {
         let _ = report(&rt, &status);
     }

@@ -3,7 +3,7 @@
 use crate::devices::fabrics::{REGISTRY, steps};
 use crate::devices::memory::call_text;
 use crate::words::{Answered, RowFault, add, long, made, words};
-use spl_device::{fabric, shelf};
+use spl_device::{FileSource, Folder, TcpFabric, registry_of};
 use spl_edge::{DeviceError, Disk};
 use std::{fs, io};
 
@@ -24,7 +24,13 @@ pub fn endpoints(rt: &HostRuntime, text: &str) -> Answered {
     if *word == "there" {
         had(fs::write(rt, &name, REGISTRY))?;
     }
-    let mut fabric = fabric(rt, given)?;
+    let file = match given {
+        Some(name) => fs::open(rt, name).ok(),
+        None => None,
+    };
+    let mut source = FileSource::new(rt.alloc(), file);
+    let registry = registry_of(rt.alloc(), &mut source)?;
+    let mut fabric = TcpFabric::new(rt.alloc(), rt, registry.as_ref())?;
     if *word == "there" {
         had(fs::remove_file(rt, &name))?;
     }
@@ -38,13 +44,14 @@ fn written_and_read(
     text: &str,
     len: u64,
 ) -> Result<String, DeviceError> {
-    let mut first = shelf(rt, Some(folder))?;
-    first.pairs[15].second.write_at(0, text.as_bytes())?;
-    first.pairs[15].second.sync()?;
-    first.pairs[15].second.cut(len)?;
-    let mut second = shelf(rt, Some(folder))?;
+    let mut first = Folder::open(rt, Some(folder))?;
+    first.shelf.pairs[15].second.write_at(0, text.as_bytes())?;
+    first.shelf.pairs[15].second.sync()?;
+    first.shelf.pairs[15].second.cut(len)?;
+    drop(first);
+    let mut second = Folder::open(rt, Some(folder))?;
     let mut bytes = vec![in rt.alloc(); b'.'; text.len()]?;
-    second.pairs[15].second.read(0, &mut bytes)?;
+    second.shelf.pairs[15].second.read(0, &mut bytes)?;
     Ok(String::from_utf8_lossy(rt.alloc(), &bytes)?)
 }
 
@@ -64,8 +71,8 @@ fn over_folder(rt: &HostRuntime, folder: &String, text: &str, len: u64) -> Answe
 
 /// How long a disk in a folder is that is gone.
 fn without_folder(rt: &HostRuntime, folder: &String) -> Answered {
-    let mut shelf = shelf(rt, Some(folder))?;
-    match shelf.pairs[0].first.len() {
+    let mut folder = Folder::open(rt, Some(folder))?;
+    match folder.shelf.pairs[0].first.len() {
         Ok(len) => made(format!(in rt.alloc(); "{len}")),
         Err(fault) => call_text(rt.alloc(), Err(fault)),
     }

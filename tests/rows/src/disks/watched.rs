@@ -54,6 +54,8 @@ impl WatchedDisk {
 impl Disk for WatchedDisk {
     ghost view = { _ };
 
+    ghost possible = { _ };
+
     fn len(&mut self) -> Result<u64, DeviceError> {
         self.disk.len()
     }
