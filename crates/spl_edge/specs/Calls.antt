@@ -58,7 +58,7 @@ pub record Onward (x y : DiskView) : Type 0 where
   pub armed : y.armed ≡ x.armed
   pub picks : y.picks ≡ x.picks
 
--- where it tells: at Ok the change is made, and at Err something that may have been done of it; nothing, where the arming names the call
+-- where it reports: at Ok the change is made, and at Err something that may have been done of it; nothing, where the arming names the call
 pub record Changes {T : Type 0} (armed : Bool) (result : Result T DeviceError) (f : Image → Image) (Part : Image → Image → Type 0) (old new : Option Image) : Type 0 where
   pub done : OnOk result (new ≡ option_map f old)
   pub stopped : IsTrue armed → new ≡ old

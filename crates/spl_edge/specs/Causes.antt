@@ -12,7 +12,7 @@ next count = min (count + 1) (2 ^ 64 - 1)
 abbrev pub Rose : ℕ → ℕ → Type 0
 Rose before now = before < now
 
--- a count has not fallen, and `Failed` is told only where it rose
+-- a count has not fallen, and `Failed` is reported only where it rose
 pub record HasCause {T : Type 0} (before now : ℕ) (result : Result T DeviceError) : Type 0 where
   pub later : before ≤ now
   pub failed : IsErrOf result Failed → Rose before now
@@ -22,6 +22,6 @@ abbrev pub moved_by : {E : Type 0} → Result ℕ E → List ℕ → List ℕ
 moved_by (Ok n) buf = take n buf
 moved_by (Err e) buf = []
 
--- known bytes grow by some front of these
+-- known bytes grow by some prefix of these
 abbrev pub AppendsPart : Option (List ℕ) → Option (List ℕ) → List ℕ → Type 0
 AppendsPart old new all = (done : List ℕ) × (more : List ℕ) × (all ≡ done ++ more) × Appends old new done

@@ -1,11 +1,11 @@
 //! Disks, which a stop may leave with other bytes than a read gave.
 ghost use Rattle.std.specs.Prelude.{◌≡◌, ◌<◌, ◌≤◌, ◌+◌, ◌-◌, ◌^◌, ℕ, List, length, take, drop, min, [], IfOk, IfSome, IsSome, OnOk, OnErr, Option};
-ghost use Rattle.spl_edge.specs.Image.{Image, after_write, after_cut, after_sync};
+ghost use Rattle.spl_edge.specs.Image.{Image, MayLeave, after_write, after_cut, after_sync};
 
 use crate::{DeviceError, Fill};
 use std::alloc::{AllocError, Global};
 
-/// Which calls fail: none; all behind the first so many; or the one of this number, from 1 on.
+/// Which calls fail: none; all after the first so many; or the one of this number, from 1 on.
 #[derive(Clone, Copy, PartialEq, Eq)]
 pub enum Arming {
     Off,
@@ -26,7 +26,7 @@ pub trait Disk {
     ghost use Rattle.spl_edge.specs.Calls.{IsCall, SamePast, Changes, PartOfWrite, PartOfCut, fails_now};
     ghost use Rattle.spl_edge.specs.Views.{DiskView, image_now};
 
-    /// What it tells of itself.
+    /// What it reports of itself.
     ghost view: { Self → DiskView };
 
     /// How many bytes there are, at most 2^63 - 1.
@@ -79,9 +79,12 @@ pub trait Disk {
         ensures call { IsCall (view self.old) (view self.new) result }
         ensures armed { (view self.new).armed ≡ (view self.old).armed }
         ensures picks { (view self.new).picks ≡ (view self.old).picks };
+
+    /// What a read gives now is one of the contents that a stop may leave.
+    ghost possible: { (d : Self) → IfSome (image_now (view d)) (λ i. MayLeave i i.bytes) };
 }
 
-/// A disk that always tells, and that is made to stop. While it is armed exactly the calls that its arming names fail,
+/// A disk that always reports, and that is made to stop. While it is armed exactly the calls that its arming names fail,
 /// and such a call changes nothing of what it holds. Nothing but a pick disarms it.
 pub trait StopDisk: Disk {
     ghost use Rattle.spl_edge.specs.Calls.{SamePast, armed_with};
@@ -89,7 +92,7 @@ pub trait StopDisk: Disk {
     ghost use Rattle.spl_edge.specs.Views.{image_now};
     ghost use Rattle.spl_edge.specs.declared.disk.Arming.TheVariants.{Off, After, At};
 
-    /// Lets so many more calls pass, and none behind them.
+    /// Lets so many more calls pass, and none after them.
     fn stop_after(&mut self, calls: u32)
         ensures armed { (Self.view self.new).armed ≡ armed_with (After calls) (Self.view self.old).moment }
         ensures same { (t : ℕ) → (Self.view self.new).image_at t ≡ (Self.view self.old).image_at t }
@@ -116,6 +119,6 @@ pub trait StopDisk: Disk {
         ensures err { OnErr result (((Self.view self.new).moment ≡ (Self.view self.old).moment) × ((Self.view self.new).armed ≡ (Self.view self.old).armed)
             × ((Self.view self.new).picks ≡ (Self.view self.old).picks)) };
 
-    /// It tells what it holds.
+    /// It says what it holds.
     ghost tells: { (d : Self) → IsSome (image_now (Self.Disk.view d)) };
 }

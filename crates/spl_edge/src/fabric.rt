@@ -15,10 +15,10 @@ pub trait Fabric {
     ghost use Rattle.spl_edge.specs.Fabrics.{AreTaken, AreLeft, IsOtherPair};
     ghost use Rattle.spl_edge.specs.Views.{FabricView};
 
-    /// What it tells of itself.
+    /// What it reports of itself.
     ghost view: { Self → FabricView };
 
-    /// Takes in some bytes from the front of a piece, and tells how many. To take in nothing of a piece that isn't
+    /// Takes in some bytes from the beginning of a piece, and says how many. To take in nothing of a piece that isn't
     /// empty counts as a fault.
     fn put(&mut self, from: u8, to: u8, bytes: &[u8]) -> Result<usize, DeviceError>
         requires most { length bytes.now ≤ PIECE }
@@ -30,8 +30,8 @@ pub trait Fabric {
         ensures nothing { IfOk result (λ n. n ≡ 0 → 0 < length bytes.now → Rose (view self.old).faults (view self.new).faults) }
         ensures cause { HasCause (view self.old).faults (view self.new).faults result };
 
-    /// Hands out some of the next bytes, and tells how many. To hand out nothing into a buffer that isn't empty, while
-    /// bytes are left, counts as a fault; where the object doesn't tell, always.
+    /// Hands out some of the next bytes, and says how many. To hand out nothing into a buffer that isn't empty, while
+    /// bytes are left, counts as a fault; where the object doesn't report, always.
     fn take(&mut self, from: u8, to: u8, buf: &mut [u8]) -> Result<usize, DeviceError>
         ensures bound { IfOk result (λ n. n ≤ length buf.new) }
         ensures taken { (view self.new).taken from to ≡ append_known ((view self.old).taken from to) (moved_by result buf.new) }

@@ -32,7 +32,7 @@ impl<T: Drop> From<AllocFailed<T>> for DeviceError {
     }
 }
 
-/// Counts a fault, and tells what the call answers.
+/// Counts a fault, and says what the call answers.
 pub fn count_fault(faults: &mut u64) -> DeviceError
     ensures later { faults.old ≤ faults.new }
     ensures failed { result ≡ DeviceError.Failed → Rose faults.old faults.new }

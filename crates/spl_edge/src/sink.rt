@@ -8,10 +8,10 @@ use crate::DeviceError;
 
 /// Where bytes go, one piece after another.
 pub trait Sink {
-    /// What it tells of itself.
+    /// What it reports of itself.
     ghost view: { Self → SinkView };
 
-    /// Takes some bytes from the front of a piece, and tells how many. To take nothing of a piece that isn't empty
+    /// Takes some bytes from the beginning of a piece, and says how many. To take nothing of a piece that isn't empty
     /// counts as a fault. A call that fails takes nothing.
     fn write(&mut self, piece: &[u8]) -> Result<usize, DeviceError>
         ensures bound { IfOk result (λ n. n ≤ length piece.now) }
@@ -20,7 +20,7 @@ pub trait Sink {
         ensures cause { HasCause (view self.old).faults (view self.new).faults result };
 }
 
-/// Writes a whole piece. Where that fails, a front of the piece was written.
+/// Writes a whole piece. Where that fails, a prefix of the piece was written.
 pub fn write_all<W: Sink>(sink: &mut W, piece: &[u8]) -> Result<(), DeviceError>
     ensures ok { OnOk result (Appends (W.view sink.old).written (W.view sink.new).written piece.now) }
     ensures part { AppendsPart (W.view sink.old).written (W.view sink.new).written piece.now }

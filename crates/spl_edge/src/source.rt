@@ -9,10 +9,10 @@ use std::alloc::Global;
 
 /// Where bytes come from, one piece after another.
 pub trait Source {
-    /// What it tells of itself.
+    /// What it reports of itself.
     ghost view: { Self → SourceView };
 
-    /// Takes some of the next bytes, and tells how many. A read of 0 into a buffer that isn't empty is the end.
+    /// Takes some of the next bytes, and says how many. A read of 0 into a buffer that isn't empty is the end.
     /// A call that fails takes nothing.
     fn read(&mut self, buf: &mut [u8]) -> Result<usize, DeviceError>
         ensures bound { IfOk result (λ n. n ≤ length buf.new) }

@@ -54,7 +54,7 @@ pushed moment f kept calls c now does keeps = record {
   picks = λ i. picks-push i calls c ∙ ap (λ (l : List Picked). picks_of i calls ++ l) (keeps (replayed i calls));
 }
 
--- what is told where nothing changed
+-- what is reported where nothing changed
 pub told_same : (s : Image) (calls : List Call) (m k : ℕ) → all_until m calls ≡ true → m ≤ k → Some (replayed s (until k calls)) ≡ Some (replayed s (until m calls))
 told_same s calls m k all le = let same : until k calls ≡ until m calls = until_all m k calls all le ∙ sym (until_all m m calls all (omega arith)) in ap (λ (l : List Call). Some (replayed s l)) same
 

@@ -10,7 +10,7 @@ pub counts-push : (marks : List Mark) (m : Mark) → counts (marks ++ m ∷ []) 
 counts-push [] m = omega arith
 counts-push (x ∷ marks) m = omega (arith, counts-push marks m)
 
--- behind the bytes of the earlier writes stand those of the new one
+-- after the bytes of the earlier writes stand those of the new one
 pub calls-push : (marks : List Mark) (written piece : List ℕ) (m : Mark) → counts marks ≡ length written → count_of m.kind ≡ length piece → calls_of (marks ++ m ∷ []) (written ++ piece) ≡ calls_of marks written ++ call_of m piece ∷ []
 calls-push [] [] piece m all own = ap (λ (l : List ℕ). call_of m l ∷ []) (ap (λ (n : ℕ). take n piece) own ∙ take-length piece)
 calls-push [] (b ∷ written) piece m all own = absurd (omega (arith, all))

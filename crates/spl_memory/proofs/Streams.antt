@@ -43,7 +43,7 @@ taken_grown [] x (suc k) none = refl
 taken_grown (l ∷ lanes) x zero none = refl
 taken_grown (l ∷ lanes) x (suc k) none = taken_grown lanes x k none
 
--- bytes moved to the front of a buffer
+-- bytes moved to the beginning of a buffer
 pub taken_more : (put buf piece : List ℕ) (t n : ℕ) → length piece ≡ n → piece ≡ take n (drop t put) → take (t + n) put ≡ take t put ++ take n (piece ++ drop n buf)
 taken_more put buf piece t n long is = take-add t n put ∙ ap (λ (l : List ℕ). take t put ++ l) (sym is ∙ sym (take_at piece (drop n buf) n long))
 
@@ -53,7 +53,7 @@ taken_still put more t le = take-append-le t put more le
 pub all_taken : (put : List ℕ) (t n room : ℕ) → n ≡ min room (length put - t) → n ≡ 0 → 0 < room → length put ≤ length (take t put)
 all_taken put t n room is none some = omega (arith, length-take t put, is, none, some)
 
--- what was taken is a front
+-- what was taken is a prefix
 pub taken_front : (lanes : List Lane) (k : ℕ) → taken_in lanes k ≡ take (length (taken_in lanes k)) (put_in lanes k)
 taken_front lanes k = by (slice_get lanes k)
   where

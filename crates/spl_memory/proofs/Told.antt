@@ -1,4 +1,4 @@
--- What a call of a disk in memory tells.
+-- What a call of a disk in memory reports.
 use Rattle.std.proofs.Common.{◌≡◌, inl, ℕ, ◌≤◌, ◌-◌, min, List, ◌++◌, length, take, drop, length-append, length-drop, Bool, IsTrue, OnOk, OnErr, true, Option, Some, Result, Ok, Err, sym, ◌∙◌, ap, arith}
 use Rattle.std.proofs.lemmas.List.{take_at, drop_min}
 use Rattle.std.proofs.Math.Nat.{min_comm}

@@ -10,7 +10,7 @@ pub data Change : Type 0 where
   Synced : Change
   Picked : Fill → Arming → (faults : ℕ) → Change
 
--- a change, and the moment behind it
+-- a change, and the moment after it
 pub record Call : Type 0 where
   pub moment : ℕ
   pub change : Change

@@ -1,4 +1,4 @@
--- What a fabric in memory tells.
+-- What a fabric in memory reports.
 use Rattle.std.specs.Prelude.{ℕ, List, Some}
 use Rattle.spl_edge.specs.Views.{FabricView}
 use Rattle.spl_memory.specs.declared.mem_fabric.MemFabric.{MemFabric}

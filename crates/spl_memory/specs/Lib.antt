@@ -4,3 +4,4 @@ pub mod Replay
 pub mod MemDisks
 pub mod Lanes
 pub mod Fabrics
+pub mod Possible

@@ -1,4 +1,4 @@
--- How changes stand in a log: what is known of each, and the bytes of all writes one behind the other.
+-- How changes stand in a log: what is known of each, and the bytes of all writes one after the other.
 use Rattle.std.specs.Prelude.{ℕ, zero, ◌+◌, List, [], ◌∷◌, take, drop}
 use Rattle.spl_memory.specs.Changes.{Change, Wrote, Cut, Synced, Picked, Call}
 use Rattle.spl_memory.specs.declared.log.Kind.{Kind}

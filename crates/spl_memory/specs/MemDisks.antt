@@ -1,4 +1,4 @@
--- What a disk in memory tells.
+-- What a disk in memory reports.
 use Rattle.std.specs.Prelude.{◌≡◌, ℕ, List, [], Some}
 use Rattle.spl_edge.specs.Calls.{armed_with}
 use Rattle.spl_edge.specs.Image.{settled_at}

@@ -15,14 +15,14 @@ pub enum Kind {
     Picked(Fill, Arming, u64),
 }
 
-/// A change, and the moment behind it.
+/// A change, and the moment after it.
 #[derive(Clone, Copy)]
 pub struct Mark {
     pub moment: u64,
     pub kind: Kind,
 }
 
-/// Changes, and the bytes of all writes one behind the other. Contracts see the list of the changes, each with its bytes.
+/// Changes, and the bytes of all writes one after the other. Contracts see the list of the changes, each with its bytes.
 #[derive(Drop)]
 pub struct Log {
     marks: Vec<Mark>,
@@ -52,7 +52,7 @@ impl Log {
         }
     }
 
-    /// A write more. After want of memory the log is as it was, as behind each of these calls.
+    /// A write more. When memory runs out the log is as it was, as after each of these calls.
     pub(crate) fn wrote(&mut self, moment: u64, at: usize, piece: &[u8]) -> Result<(), AllocError>
         ensures ok { OnOk result (self.new ≡ self.old ++ record { moment = moment; change = Wrote at piece.now } ∷ []) }
         ensures err { OnErr result (self.new ≡ self.old) }

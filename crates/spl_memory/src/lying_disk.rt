@@ -1,4 +1,4 @@
-//! A disk in memory that doesn't tell what it holds, and changes bytes by itself.
+//! A disk in memory that doesn't say what it holds, and changes bytes by itself.
 ghost use Rattle.std.specs.Prelude.{[], ◌≡◌, ◌≤◌, ◌<◌, ◌+◌, ◌^◌, None, length, OnOk, IsErrOf};
 ghost use Rattle.spl_edge.specs.Calls.{Passes, armed_with};
 ghost use Rattle.spl_edge.specs.declared.disk.Arming.TheVariants.{Off};
@@ -8,7 +8,7 @@ use crate::mem_disk::{MOST, patch};
 use spl_edge::{DeviceError, Disk, count_fault};
 use std::alloc::Global;
 
-/// A disk that doesn't tell. The calls with the numbers given, counted from 1, fail, and so does a write behind the end.
+/// A disk that doesn't report. The calls with the numbers given, counted from 1, fail, and so does a write after the end.
 /// Before the call of a lie its byte becomes another.
 #[derive(Drop)]
 pub struct LyingDisk {
@@ -61,6 +61,8 @@ impl Disk for LyingDisk {
     ghost use Rattle.spl_edge.specs.Views.{untold_disk};
 
     ghost view = { λ d. untold_disk d.moment d.faults };
+
+    ghost possible = { λ _. tt };
 
     fn len(&mut self) -> Result<u64, DeviceError> {
         if let Err(fault) = self.begin() {

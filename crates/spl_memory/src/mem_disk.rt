@@ -296,8 +296,11 @@ fn picked(
 
 impl Disk for MemDisk {
     ghost use Rattle.spl_memory.specs.MemDisks.{disk_view};
+    ghost use Rattle.spl_memory.specs.Possible.{possible_now};
 
     ghost view = { disk_view };
+
+    ghost possible = { λ d. possible_now (settled_at d.first.items) d.moment d.calls d.timely d.held.sound.new };
 
     fn len(&mut self) -> Result<u64, DeviceError> {
         if let Err(fault) = begin(

@@ -84,7 +84,7 @@ impl MemFabric {
     }
 }
 
-/// What was taken of a fabric in memory is a front of what was put.
+/// What was taken of a fabric in memory is a prefix of what was put.
 pub fn memory_is_honest(fabric: &MemFabric)
     ensures { IsHonest (fabric_view fabric.now).put (fabric_view fabric.now).taken }
 {}
@@ -112,7 +112,7 @@ impl Fabric for MemFabric {
     }
 }
 
-/// Bytes between nodes in memory that doesn't tell. The calls with the numbers given, counted from 1, fail, and at the
+/// Bytes between nodes in memory that doesn't report. The calls with the numbers given, counted from 1, fail, and at the
 /// call of a lie the byte at its offset of what was taken becomes another.
 #[derive(Drop)]
 pub struct LyingFabric {

@@ -28,7 +28,7 @@ use Rattle.spl_node.proofs.Maps.{order}
 all_both : (p : Change → Bool) (xs ys : List Change) → IsTrue (list_all p xs) → IsTrue (list_all p ys) → IsTrue (list_all p (xs ++ ys))
 all_both p xs ys a b = list_all-append p xs ys ∙ and_true (list_all p xs) (list_all p ys) a b
 
--- a cell that stands but for its open rounds where these changes lead
+-- a cell that stands except its open rounds where these changes lead
 sound_where : (v : CellView) (ys : List Change) → v.halted ≡ false → IsTrue (circuit_id.fits v.site.circuit) → IsTrue (list_all change_form.fits ys) → stopped_cell v.state ≡ applied v.site Empty ys → IsSound v
 sound_where v ys running named fit is =
     let same : packed v.state ≡ packed (applied v.site Empty ys) = sym (packed-stopped v.state) ∙ ap packed is in
@@ -43,7 +43,7 @@ sound_where v ys running named fit is =
 pub sound_empty : (v : CellView) → v.state ≡ Empty → v.halted ≡ false → IsTrue (circuit_id.fits v.site.circuit) → IsSound v
 sound_empty v empty running named = sound_where v [] running named refl (ap stopped_cell empty)
 
--- changes and moves behind a sound cell
+-- changes and moves after a sound cell
 pub sound_moved : (v w : CellView) (xs : List Change) (x y : OpenMove) → IsSound v → w.site ≡ v.site → w.halted ≡ false → IsTrue (list_all change_form.fits xs)
     → w.state ≡ moved_cell v.site.here (applied v.site v.state xs) x y → IsSound w
 sound_moved v w xs x y sound same running fit is = sound_where w (packed v.state ++ xs) running (subst (λ (s : Site). IsTrue (circuit_id.fits s.circuit)) (sym same) sound.named)

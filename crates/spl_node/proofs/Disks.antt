@@ -122,7 +122,7 @@ no_calls x f ok failed none no_ok no_failed = record {
     by None = refl
     by (Some i) = ap (λ (k : Image). Some k) (sym (none i))
 
--- the same calls, told of by another answer
+-- the same calls, reported of by another answer
 pub calls_as : (most : ℕ) (x y : DiskView) (f : ℕ → Image → Image) (ok failed other_ok other_failed : Type 0) → (other_ok → ok) → (other_failed → failed)
     → ByCalls most x y f ok failed → ByCalls most x y f other_ok other_failed
 calls_as most x y f ok failed other_ok other_failed oks fails c = record {

@@ -76,13 +76,13 @@ module _ (here : NodeId) (c : CircuitId) (before : CircuitId → Cell) (e : Even
   pub more_kept : (bytes : List ℕ) → d.bytes ≡ Some bytes → (rs : List (List ℕ)) → Make here before rs → Make here (cells_after here before c e) (rs ++ bytes ∷ [])
   more_kept bytes some = more_made here c before e bytes (subst (λ (o : Option (List ℕ)). IfSome o (λ b. record_in b ≡ Some (record_of c (plan_of (site_at here c) (before c) e).changes))) some given.read) given.fits
 
--- the cells behind an event pack into records that make them
+-- the cells after an event pack into records that make them
 pub again_made : (here : NodeId) (after : CircuitId → Cell) (v : CellsView) → v.here ≡ here → ((c : CircuitId) → cell_at v.entries c ≡ after c) → IsStrictlySortedBy order (keys_of v.entries) → AreOwn v.here v.entries → Make here after (packed_node v.entries)
 again_made here after v same cells ordered own c = subst (λ (n : NodeId). recorded_cell n c (packed_node v.entries) ≡ stopped_cell (cell_at v.entries c)) same (made_again v.here c v.entries ordered own) ∙ ap stopped_cell (cells c)
 
--- ---- the node behind it
+-- ---- the node after it
 
--- the same cells, told otherwise
+-- the same cells, reported otherwise
 pub stand_like : (here other : NodeId) (cells like : CircuitId → Cell) (c d : List ℕ) → other ≡ here → ((i : CircuitId) → like i ≡ cells i) → StandFor here cells c d → StandFor other like c d
 stand_like here other cells like c d same all stands = subst (λ (n : NodeId). StandFor n like c d) (sym same) (stand_same here cells like c d (λ i. ap stopped_cell (sym (all i))) stands)
 

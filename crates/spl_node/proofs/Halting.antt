@@ -189,7 +189,7 @@ module _ (here : NodeId) (c : CircuitId) (before : CircuitId → Cell) where
 
 -- ---- what is picked
 
--- two disks that tell stand for the cells, and something follows from that
+-- two disks that report stand for the cells, and something follows from that
 pub stand_then : (here : NodeId) (before : CircuitId → Cell) (o p : Option Image) (Q : Type 0) → IsSome o → IsSome p → IfBoth o p (λ i j. StandFor here before i.bytes j.bytes) → IfBoth o p (λ i j. StandFor here before i.bytes j.bytes → Q) → Q
 stand_then here before o p Q told other_told stands h = both_told o p (λ i j. Q) Q told other_told (both_apply o p (λ i j. StandFor here before i.bytes j.bytes) (λ i j. Q) stands h) (λ i j is other_is q. q)
 
@@ -275,7 +275,7 @@ pub rose_within : {D : Type 0} (view : D → DiskView) (second : Bool) (a b a1 b
 rose_within view false a b a1 b1 a2 b2 a3 b3 same other_same last other_last rose = omega (arith, other_same, other_last, rose)
 rose_within view true a b a1 b1 a2 b2 a3 b3 same other_same last other_last rose = omega (arith, same, last, rose)
 
--- a disk that was armed tells what it told
+-- a disk that was armed says what it reported
 pub arms_told : (arming : Arming) (x y : DiskView) → Arms arming x y → image_now y ≡ image_now x
 arms_told arming x y arms = ap y.image_at arms.moment ∙ arms.same x.moment
 
@@ -310,7 +310,7 @@ picks_armed fill arming x x1 x2 x3 arms on picks =
       no_less = omega (arith, none, more, stay);
     }
 
--- ---- the host behind it
+-- ---- the host after it
 
 module _ (fill : Fill) (here : NodeId) (target : CircuitId → Cell) (o p x y : Option Image) (i j : Image) (is : o ≡ Some i) (other_is : p ≡ Some j) (left : MayLeave i (picked_bytes fill i)) (other_left : MayLeave j (picked_bytes fill j))
     (holds : x ≡ Some (settled_at (picked_bytes fill i))) (other_holds : y ≡ Some (settled_at (picked_bytes fill j))) (make : IfBoth o p (PicksMake fill here target)) where

@@ -19,9 +19,9 @@ use Rattle.spl_node.proofs.Disks.{both_if, settled_pair}
 use Rattle.spl_node.proofs.Standing.{makes}
 use Rattle.spl_node.proofs.Stops.{applied-still}
 
--- ---- two disks that tell
+-- ---- two disks that report
 
--- what follows where both tell
+-- what follows where both report
 pub both_told : (o p : Option Image) (P : Image → Image → Type 0) (Q : Type 0) → IsSome o → IsSome p → IfBoth o p P → ((i j : Image) → o ≡ Some i → p ≡ Some j → P i j → Q) → Q
 both_told (Some i) (Some j) P Q a b h f = f i j refl refl h
 both_told (Some i) None P Q a b h f = cc
@@ -60,7 +60,7 @@ when_down None P down h = h
 pub runs_stand : (here : NodeId) (first second : Option Image) (n : Node) → Runs here first second n → IfBoth first second (λ i j. StandFor here (cell_of n) i.bytes j.bytes)
 runs_stand here first second n runs = subst (λ (m : NodeId). IfBoth first second (λ i j. StandFor m (cell_of n) i.bytes j.bytes)) runs.here_is runs.stands.cells
 
--- where a step left the disks telling as they did
+-- where a step left the disks reporting as they did
 stands_told : (n : Node) (first second now now_other : Option Image) → TellsAs first now → TellsAs second now_other → PairStands is_record n.pairing now now_other → IfBoth first second (λ i j. NodeStands n now now_other) → NodeStands n now now_other
 stands_told n (Some i) (Some j) now now_other told other_told pair stands = stands
 stands_told n None second None now_other told other_told pair stands = record { pair = pair; cells = tt }

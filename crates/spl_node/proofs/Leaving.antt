@@ -1,9 +1,10 @@
 -- What a stop leaves of two disks that were called or picked from, whatever the result.
-use Rattle.std.proofs.Common.{◌≡◌, ◌⊎◌, inl, inr, ℕ, ◌≤◌, Bool, true, false, List, Option, Some, None, IfSome, OnOk, OnErr, Result, Ok, Err, refl, sym, ap, ◌∙◌, subst, arith}
+use Rattle.std.proofs.Common.{◌≡◌, ◌⊎◌, inl, inr, ℕ, ◌≤◌, Bool, true, false, List, [], ◌∷◌, ◌++◌, Option, Some, None, IfSome, OnOk, OnErr, Result, Ok, Err, refl, sym, ap, ◌∙◌, subst, arith}
 use Rattle.std.specs.Prelude.{IsSome, IfNone}
 use Rattle.spl_circuit.specs.Nodes.{NodeId, CircuitId}
 use Rattle.spl_edge.specs.Image.{Image, IsSettled, MayLeave, settled_at}
-use Rattle.spl_edge.specs.Picks.{Picked, Picks, picked_bytes}
+use Rattle.spl_edge.specs.Picks.{Picked, Picks, picked_bytes, picked_of}
+use Rattle.spl_edge.specs.Views.{DiskView, image_now}
 use Rattle.spl_edge.specs.declared.disk.Arming.{Arming}
 use Rattle.spl_edge.specs.declared.fill.Fill.{Fill}
 use Rattle.spl_journal.proofs.Images.{only_settled}
@@ -17,7 +18,7 @@ use Rattle.spl_node.specs.Hosts.{Rests, Runs, kept_cell}
 use Rattle.spl_node.specs.Kept.{cells_after}
 use Rattle.spl_node.specs.Records.{site_at}
 use Rattle.spl_node.specs.Stands.{StandFor}
-use Rattle.spl_node.specs.Stopping.{LeavesNoMore, StandForEither, cells_stopped}
+use Rattle.spl_node.specs.Stopping.{LeavesNoMore, PicksAtMostOnce, StandForEither, cells_stopped}
 use Rattle.spl_node.proofs.Disks.{leaves_map, rest_leaves}
 use Rattle.spl_node.proofs.Halting.{after_cells, stand_then}
 use Rattle.spl_node.proofs.Hosting.{kept_settled, kept_stand, settled_now}
@@ -84,7 +85,7 @@ still_stopped (Held h) = refl
 still_stopped (Purged old) = refl
 
 module _ (here : NodeId) (before : CircuitId → Cell) (c : CircuitId) where
-  -- those after an event are those behind a stop in it whose record is kept
+  -- those after an event are those after a stop in it whose record is kept
   either_stopped : (e : Event) (x y : List ℕ) → StandFor here before x y ⊎ StandFor here (cells_after here before c e) x y → StandForEither here before c (plan_of (site_at here c) (before c) e).changes x y
   either_stopped e x y (inl h) = inl h
   either_stopped e x y (inr h) = inr (stand_same here (cells_after here before c e) (cells_stopped here before c (plan_of (site_at here c) (before c) e).changes true) x y same h)
@@ -115,3 +116,14 @@ pub host_leaves : (here : NodeId) (o : Option Node) (at other : ℕ → Option I
 host_leaves here o at other m n told other_told up down =
     let rest = kept_settled here o (at m) (other n) up down in
     rest_told here (kept_cell here o (at m) (other n)) (StandFor here (kept_cell here o (at m) (other n))) at other m n told other_told rest.0 rest.1 (λ x y h. h) (kept_stand here o (at m) (other n) up down)
+
+-- ---- how often a disk was picked from
+
+-- behind calls that pick nothing
+pub picks_then : (x y z : DiskView) → y.picks ≡ x.picks → PicksAtMostOnce y z → PicksAtMostOnce x z
+picks_then x y z same (inl e) = inl (e ∙ same)
+picks_then x y z same (inr (pick, e)) = inr (pick, e ∙ ap (λ (l : List Picked). l ++ pick ∷ []) same)
+
+pub picks_asked : {A E : Type 0} (r : Result A E) (fill : Fill) (x y : DiskView) → OnOk r (Picks fill x.armed.arming x.faults x.picks y.picks (image_now x) (image_now y)) → OnErr r (y.picks ≡ x.picks) → PicksAtMostOnce x y
+picks_asked (Ok a) fill x y picks same = inr (picked_of fill x.armed.arming x.faults picks.image, picks.kept)
+picks_asked (Err e) fill x y picks same = inl same

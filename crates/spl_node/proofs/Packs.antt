@@ -41,7 +41,7 @@ good_node here es own = good_cells (values_of es) (sound_of here es own)
 
 -- ---- the cell of one circuit among them
 
--- behind a key that is found in an ordered list no other is
+-- after a key that is found in an ordered list no other is
 later_apart : (k c : CircuitId) (ks : List CircuitId) → is_at (order c) k ≡ true → AllByRecursion (λ (y : CircuitId). order k y ≡ Less) ks → AllByRecursion (λ (y : CircuitId). bytes_eq y c ≡ false) ks
 later_apart k c [] found below = tt
 later_apart k c (y ∷ ys) found below = (by (bool_cases (bytes_eq y c)), later_apart k c ys found below.1)
@@ -88,7 +88,7 @@ changes_packed here c (e ∷ es) ordered own = by (bool_cases (is_at (order c) e
             over (inl q) = absurd (let x : true ≡ false = sym (is_eq-slice_cmp d k ∙ subst (λ (z : CircuitId). bytes_eq d z ≡ true) (sym (bytes_are k d q)) (bytes_same d)) ∙ unlike in (cc))
             over (inr q) = q
 
--- and they make it again but for its open rounds
+-- and they make it again except its open rounds
 pub made_again : (here : NodeId) (c : CircuitId) (es : Entries) → IsStrictlySortedBy order (keys_of es) → AreOwn here es → recorded_cell here c (packed_node es) ≡ stopped_cell (cell_at es c)
 made_again here c es ordered own = ap (λ (xs : List Change). applied (site_at here c) Empty xs) (changes_packed here c es ordered own) ∙ by (lookup (is_at (order c)) es) refl
   where

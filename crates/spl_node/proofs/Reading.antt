@@ -1,4 +1,4 @@
--- The changes of records, behind one another.
+-- The changes of records, after one another.
 use Rattle.std.proofs.Common.{◌≡◌, ◌≢◌, ℕ, ◌+◌, List, [], ◌∷◌, ◌++◌, length, true, false, ◌==◌, if◌then◌else◌, Option, Some, Result, Ok, Err, refl, sym, ◌∙◌, ap, subst, inl, inr, ◌⊎◌, append_assoc, append-nil, zero-add, arith}
 use Rattle.std.specs.Prelude.{IsTrue, is_some, drop}
 use Rattle.std.proofs.lemmas.List.{drop_all}
@@ -33,7 +33,7 @@ record_again r fits =
 pub is_record_again : (r : Record) → IsTrue (record_form.fits r) → is_record (record_bytes r) ≡ true
 is_record_again r fits = ap (λ (o : Option Record). is_some o) (record_again r fits)
 
--- ---- changes behind changes
+-- ---- changes after changes
 
 pub applied-append : (site : Site) (k : Cell) (xs ys : List Change) → applied site k (xs ++ ys) ≡ applied site (applied site k xs) ys
 applied-append site k [] ys = refl

@@ -39,7 +39,7 @@ make_of here cells (Err at) h = absurd h
 pub makes : (here : NodeId) (cells : CircuitId → Cell) (c d : List ℕ) → StandFor here cells c d → Make here cells (pair_records_of is_record c d)
 makes here cells c d stands = make_of here cells (pair_records is_record c d) stands
 
--- cells that are the same but for open rounds
+-- cells that are the same except open rounds
 pub stand_same : (here : NodeId) (cells other : CircuitId → Cell) (c d : List ℕ) → ((i : CircuitId) → stopped_cell (cells i) ≡ stopped_cell (other i)) → StandFor here cells c d → StandFor here other c d
 stand_same here cells other c d same stands = by (pair_records is_record c d) stands
   where
@@ -62,7 +62,7 @@ module _ (here : NodeId) (c : CircuitId) (before : CircuitId → Cell) (e : Even
           ∙ (ap (λ (xs : List Change). stopped_cell (made here (before c) xs)) none ∙ ap (λ (k : CircuitId). stopped_cell (before k)) (bytes_are c i h)))
       by (inr h) = rw h refl
 
-  -- the record of its changes behind those of the cells before it
+  -- the record of its changes after those of the cells before it
   pub more_made : (bytes : List ℕ) → record_in bytes ≡ Some (record_of c plan.changes) → applied (site_at here c) (before c) plan.changes ≡ made here (before c) plan.changes
       → (rs : List (List ℕ)) → Make here before rs → Make here (cells_after here before c e) (rs ++ bytes ∷ [])
   more_made bytes is fits rs make i = recorded_more here i rs bytes (record_of c (plan_of (site_at here c) (before c) e).changes) is ∙ by (bool_cases (bytes_eq c i))

@@ -1,4 +1,4 @@
--- Records that are read one behind the other.
+-- Records that are read one after the other.
 use Rattle.std.proofs.Common.{◌≡◌, ◌⊎◌, inl, inr, ⊎_elim, ℕ, ◌<◌, ◌≤◌, List, [], ◌∷◌, ◌++◌, Option, None, Some, Result, Ok, Err, sym, ◌∙◌, ap, subst, arith}
 use Rattle.std.specs.Prelude.{IsErr, IsErrAnd, IsErrOf}
 use Rattle.std.specs.Result.{IsOkAnd}

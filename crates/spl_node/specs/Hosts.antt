@@ -22,7 +22,7 @@ host_id h = h.id
 abbrev pub is_up : Host → Bool
 is_up h = is_some h.node
 
--- the cell that the records of two disks make, where both tell
+-- the cell that the records of two disks make, where both report
 abbrev pub made_cell : NodeId → CircuitId → Option Image → Option Image → Cell
 made_cell here c (Some i) (Some j) = recorded_cell here c (pair_records_of is_record i.bytes j.bytes)
 made_cell here c (Some i) None = Empty
@@ -56,11 +56,11 @@ pub record Rests (first second : Option Image) : Type 0 where
   pub second_is : IfSome second IsSettled
   pub journal : IfBoth first second (λ i j. IsOk (pair_records is_record i.bytes j.bytes))
 
--- both disks tell
+-- both disks report
 abbrev pub BothTell : Option Image → Option Image → Type 0
 BothTell first second = IsSome first × IsSome second
 
--- the disks, where they tell, are as the host takes them
+-- the disks, where they report, are as the host takes them
 pub record HostStands (h : Host) (first second : Option Image) : Type 0 where
   pub up : IfSome h.node (Runs h.id first second)
   pub down : IfNone h.node (Rests first second)

@@ -36,11 +36,11 @@ state_or_empty (Some v) = v.state
 abbrev pub cell_at : Entries → CircuitId → Cell
 cell_at es c = state_or_empty (lookup (is_at (slice_cmp nat_cmp c)) es)
 
--- the cells behind an event at a circuit: its plan is carried out there, and the others stay
+-- the cells after an event at a circuit: its plan is carried out there, and the others stay
 abbrev pub cells_after : NodeId → (CircuitId → Cell) → CircuitId → Event → CircuitId → Cell
 cells_after here cells c e id = if bytes_eq c id then after_plan here (cells c) (plan_of (site_at here c) (cells c) e) else cells id
 
--- the cells behind changes of a circuit that were read
+-- the cells after changes of a circuit that were read
 abbrev pub cells_with : NodeId → (CircuitId → Cell) → CircuitId → List Change → CircuitId → Cell
 cells_with here cells c xs id = if bytes_eq c id then applied (site_at here c) (cells c) xs else cells id
 
@@ -50,7 +50,7 @@ cells_with here cells c xs id = if bytes_eq c id then applied (site_at here c) (
 abbrev pub packed_cell : CellView → List (List ℕ)
 packed_cell v = spelled (records_of v.site.circuit (grouped v.site.circuit (packed v.state)))
 
--- and those of cells, one behind the other
+-- and those of cells, one after the other
 abbrev pub packed_cells : List CellView → List (List ℕ)
 packed_cells [] = []
 packed_cells (v ∷ vs) = packed_cell v ++ packed_cells vs
@@ -59,7 +59,7 @@ packed_cells (v ∷ vs) = packed_cell v ++ packed_cells vs
 abbrev pub packed_node : Entries → List (List ℕ)
 packed_node es = packed_cells (values_of es)
 
--- a cell goes on; its packed form can be written, and makes it again but for its open rounds
+-- a cell goes on; its packed form can be written, and makes it again except its open rounds
 pub record IsSound (v : CellView) : Type 0 where
   pub running : v.halted ≡ false
   pub named : IsTrue (circuit_id.fits v.site.circuit)

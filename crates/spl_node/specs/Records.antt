@@ -18,7 +18,7 @@ abbrev pub whole : ℕ → Result (Record × ℕ) ℕ → Option Record
 whole size (Ok x) = if x.1 == size then Some x.0 else None
 whole size (Err at) = None
 
--- the record that bytes are, with nothing behind it
+-- the record that bytes are, with nothing after it
 unfoldable pub record_in : List ℕ → Option Record
 record_in bytes = whole (length bytes) (front_of record_form bytes)
 

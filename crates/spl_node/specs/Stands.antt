@@ -11,7 +11,7 @@ use Rattle.spl_node.specs.Kept.{cell_at}
 use Rattle.spl_node.specs.Records.{is_record, recorded_cell}
 use Rattle.spl_node.specs.declared.node.Node.{Node}
 
--- a journal's records make each of these cells but for its open rounds
+-- a journal's records make each of these cells except its open rounds
 abbrev pub Make : NodeId → (CircuitId → Cell) → List (List ℕ) → Type 0
 Make here cells rs = (c : CircuitId) → recorded_cell here c rs ≡ stopped_cell (cells c)
 
@@ -32,7 +32,7 @@ cell_of n c = cell_at n.cells.entries c
 abbrev pub is_halted : Node → Bool
 is_halted n = n.halted || pairing_halted n.pairing
 
--- the disks, where they tell, are as the node takes them, and stand for its cells
+-- the disks, where they report, are as the node takes them, and stand for its cells
 pub record NodeStands (n : Node) (first second : Option Image) : Type 0 where
   pub pair : PairStands is_record n.pairing first second
   pub cells : IfBoth first second (λ i j. StandFor (here_of n) (cell_of n) i.bytes j.bytes)

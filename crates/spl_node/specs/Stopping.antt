@@ -5,12 +5,12 @@ use Rattle.std.specs.Str.{bytes_eq}
 use Rattle.spl_circuit.specs.Nodes.{NodeId, CircuitId}
 use Rattle.spl_edge.specs.Calls.{SamePast, armed_with}
 use Rattle.spl_edge.specs.Image.{Image, MayLeave, settled_at}
-use Rattle.spl_edge.specs.Picks.{picked_bytes}
+use Rattle.spl_edge.specs.Picks.{Picked, picked_bytes}
 use Rattle.spl_edge.specs.declared.disk.Arming.{Arming}
 use Rattle.spl_edge.specs.declared.disk.Arming.TheVariants.{Off, After, At}
 use Rattle.spl_edge.specs.declared.fill.Fill.{Fill}
 use Rattle.spl_edge.specs.declared.fill.Fill.TheVariants.{Old}
-use Rattle.spl_edge.specs.Views.{DiskView, image_now}
+use Rattle.spl_edge.specs.Views.{DiskView, PairView, image_now}
 use Rattle.spl_journal.specs.Journals.{IsFilledBy}
 use Rattle.spl_journal.specs.Stops.{is_kept}
 use Rattle.spl_snapshot.specs.Counting.{pair_records}
@@ -33,7 +33,7 @@ abbrev pub counting_arming : Stopping → Arming
 counting_arming (Cut calls fill) = After calls
 counting_arming (Fail call) = if nat_le call 4 then At call else After 4
 
--- and the other, which has those behind them
+-- and the other, which has those after them
 abbrev pub other_arming : Stopping → Arming
 other_arming (Cut calls fill) = After (calls - 4)
 other_arming (Fail call) = if nat_le call 4 then After 4 else At (call - 4)
@@ -57,7 +57,7 @@ abbrev pub IsStopping : Stopping → Type 0
 IsStopping (Cut calls fill) = Unit {0}
 IsStopping (Fail call) = 1 ≤ call
 
--- it comes to one of the eight calls of a checkpoint, behind the four of a record
+-- it comes to one of the eight calls of a checkpoint, after the four of a record
 pub record IsInCheckpoint (h : Stopping) : Type 0 where
   pub behind : 4 ≤ passing h
   pub before : passing h < 12
@@ -79,7 +79,7 @@ abbrev pub has_changes : List Change → Bool
 has_changes [] = false
 has_changes (x ∷ xs) = true
 
--- the cells behind a stop in an event: open rounds are forgotten, and the changes are made where their record is kept
+-- the cells after a stop in an event: open rounds are forgotten, and the changes are made where their record is kept
 abbrev pub cells_stopped : NodeId → (CircuitId → Cell) → CircuitId → List Change → Bool → CircuitId → Cell
 cells_stopped here cells c xs kept id = if bytes_eq c id then stopped_cell (if kept then made here (cells c) xs else cells c) else stopped_cell (cells id)
 
@@ -91,7 +91,7 @@ HaveCells here cells first second = IsOkAnd (pair_records is_record first second
 abbrev pub PicksMake : Fill → NodeId → (CircuitId → Cell) → Image → Image → Type 0
 PicksMake fill here cells i j = MayLeave i (picked_bytes fill i) → MayLeave j (picked_bytes fill j) → HaveCells here cells (picked_bytes fill i) (picked_bytes fill j)
 
--- two disks stand for the cells before a stop in an event with these changes, or for those behind it where their record is kept
+-- two disks stand for the cells before a stop in an event with these changes, or for those after it where their record is kept
 abbrev pub StandForEither : NodeId → (CircuitId → Cell) → CircuitId → List Change → List ℕ → List ℕ → Type 0
 StandForEither here cells c xs first second = StandFor here cells first second ⊎ StandFor here (cells_stopped here cells c xs true) first second
 
@@ -106,6 +106,15 @@ pub record Arms (arming : Arming) (x y : DiskView) : Type 0 where
   pub moment : y.moment ≡ x.moment
   pub faults_stay : y.faults ≡ x.faults
   pub picks_stay : y.picks ≡ x.picks
+
+-- a disk has the picks that it had, and at most one more
+abbrev pub PicksAtMostOnce : DiskView → DiskView → Type 0
+PicksAtMostOnce x y = (y.picks ≡ x.picks) ⊎ ((pick : Picked) × (y.picks ≡ x.picks ++ pick ∷ []))
+
+-- so has each of the two disks of a node
+pub record BothPickAtMostOnce (p q : PairView) : Type 0 where
+  pub first : PicksAtMostOnce p.first q.first
+  pub second : PicksAtMostOnce p.second q.second
 
 -- a disk that was armed so picked with this fill, and isn't armed any more; no fault is forgotten
 pub record PicksArmed (fill : Fill) (arming : Arming) (x y : DiskView) : Type 0 where

@@ -44,7 +44,7 @@ impl Model for Cells {
     ghost invariant = { λ s. AreOwn s.here s.map.entries };
 }
 
-/// A cell more is kept, unless it is empty. An error comes for want of memory alone.
+/// A cell more is kept, unless it is empty. The only error is that memory ran out.
 fn keep(
     map: &mut BTreeMap<CircuitId, Cell>,
     circuit: CircuitId,
@@ -110,8 +110,8 @@ impl Cells {
         }
     }
 
-    /// Carries out the plan of an event at the cell of a circuit. After an error, which comes for
-    /// want of memory alone, that cell is lost.
+    /// Carries out the plan of an event at the cell of a circuit. After an error, which comes
+    /// only when memory runs out, that cell is lost.
     #[inline(always)]
     pub fn handle(
         &mut self,
@@ -159,7 +159,7 @@ impl Cells {
         Ok(done)
     }
 
-    /// Makes the digests of the state of a circuit's cell anew, so that telling its root costs
+    /// Makes the digests of the state of a circuit's cell again, so that reporting its root costs
     /// nothing; nothing that is seen changes.
     pub fn renew(&mut self, circuit: &CircuitId, cache: &mut RunCache)
         ensures { self.new ≡ self.old }
@@ -170,7 +170,7 @@ impl Cells {
     }
 
     /// Makes the changes of a record that was read at the cell of its circuit. After an error,
-    /// which comes for want of memory alone, that cell is lost.
+    /// which comes only when memory runs out, that cell is lost.
     pub fn replay(&mut self, alloc: Global, found: Record) -> Result<(), AllocError>
         requires still { (c : CircuitId) → IsStill (cell_at self.old.entries c) }
         requires written { IsTrue (record_form.fits found) }

@@ -39,7 +39,7 @@ pub(crate) fn no_circuit(alloc: Global) -> Done
     }
 }
 
-/// The bytes of the record of changes, where there are any. An error comes for want of memory alone.
+/// The bytes of the record of changes, where there are any. The only error is that memory ran out.
 fn recorded(
     alloc: Global,
     circuit: CircuitId,

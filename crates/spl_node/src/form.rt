@@ -7,7 +7,7 @@ use spl_journal::Form;
 use spl_wire::Record;
 use std::alloc::{AllocError, Global};
 
-/// The form of the records of a node: bytes are exactly one record, with nothing behind it.
+/// The form of the records of a node: bytes are exactly one record, with nothing after it.
 pub struct CellForm;
 
 /// A record that was read. It has a byte form.

@@ -23,7 +23,8 @@ ghost use Rattle.spl_node.specs.Hosts.{BothTell, HostStands, PicksOld, host_id, 
 ghost use Rattle.spl_node.specs.Kept.{cells_after};
 ghost use Rattle.spl_node.specs.Records.{site_at};
 ghost use Rattle.spl_node.specs.Stands.{StandFor};
-ghost use Rattle.spl_node.specs.Stopping.{FillsHost, IsInCheckpoint, IsStopping, PicksArmed, StandForEither, cells_stopped, counting_arming, event_changes, fill_of, has_changes, keeps, other_arming, passing};
+ghost use Rattle.spl_node.specs.Stopping.{BothPickAtMostOnce, FillsHost, IsInCheckpoint, IsStopping, PicksArmed, StandForEither, cells_stopped};
+ghost use Rattle.spl_node.specs.Stopping.{counting_arming, event_changes, fill_of, has_changes, keeps, other_arming, passing};
 ghost use Rattle.spl_node.specs.declared.host.Host.{Host as Kept};
 
 use crate::stopping::{arm, handle_armed, pick_both};
@@ -97,8 +98,8 @@ impl Host {
         }
     }
 
-    /// Makes the digests of the state of a circuit's cell anew, where the node is up, so that
-    /// telling its root costs nothing; nothing that is seen changes.
+    /// Makes the digests of the state of a circuit's cell again, where the node is up, so that
+    /// reporting its root costs nothing; nothing that is seen changes.
     pub fn renew(&mut self, circuit: &CircuitId, cache: &mut RunCache)
         ensures { self.new ≡ self.old }
     {
@@ -157,7 +158,7 @@ impl Host {
     }
 
     /// Takes the node down: nothing of it stays in memory, and each of its disks keeps what it had
-    /// at its last sync. A node that is down stays as it is. An error comes for want of memory alone.
+    /// at its last sync. A node that is down stays as it is. The only error is that memory ran out.
     pub fn stop<D: StopDisk>(
         &mut self,
         alloc: Global,
@@ -184,6 +185,7 @@ impl Host {
         // Whatever the result, a stop leaves what stands for the cells.
         ensures leaves { PairLeaves (pair_view D.view disks.new) (pair_view D.view disks.new)
             (StandFor (host_id self.old) (host_cell self.old (image_now (D.view disks.old.first)) (image_now (D.view disks.old.second)))) }
+        ensures once { BothPickAtMostOnce (pair_view D.view disks.old) (pair_view D.view disks.new) }
         ensures first_stays { (D.view disks.old.first).faults ≤ (D.view disks.new.first).faults }
         ensures second_stays { (D.view disks.old.second).faults ≤ (D.view disks.new.second).faults }
     {
@@ -201,7 +203,7 @@ impl Host {
         ensures down { is_up self.new ≡ false }
         ensures same { is_up self.old ≡ false → self.new ≡ self.old }
 
-        // Its disks are as it takes them, and where both tell it keeps its cells but for their open rounds.
+        // Its disks are as it takes them, and where both report it keeps its cells except their open rounds.
         ensures stands { (first second : Option Image) → HostStands self.old first second → HostStands self.new first second }
         ensures cells { (first second : Option Image) → HostStands self.old first second → BothTell first second → (c : CircuitId)
             → host_cell self.new first second c ≡ stopped_cell (host_cell self.old first second c) }
@@ -210,8 +212,8 @@ impl Host {
     }
 
     /// Takes the node down in an event at the cell of a circuit, or in none: its disks are armed, the
-    /// event is handled, and each disk picks what it keeps. Nothing is sent. It tells whether the
-    /// event has changes. An error comes for want of memory alone.
+    /// event is handled, and each disk picks what it keeps. Nothing is sent. It says whether the
+    /// event has changes. The only error is that memory ran out.
     pub fn stop_in<D: StopDisk>(
         &mut self,
         alloc: Global,
@@ -238,7 +240,7 @@ impl Host {
             (event_changes (host_id self.old) (host_cell self.old (image_now (D.view disks.old.first)) (image_now (D.view disks.old.second)))
             circuit.now (option_copied event.entry)) (keeps stopping)) c) }
 
-        // The disk that counts is armed for the first four calls of the event, and the other for those behind them; both pick.
+        // The disk that counts is armed for the first four calls of the event, and the other for those after them; both pick.
         ensures counts { IfBoth (image_now (D.view disks.old.first)) (image_now (D.view disks.old.second))
             (λ i j. second_counts i.bytes j.bytes ≡ host_second self.old) }
         ensures picks_first { OnOk result (PicksArmed (fill_of stopping)
@@ -246,7 +248,7 @@ impl Host {
         ensures picks_second { OnOk result (PicksArmed (fill_of stopping)
             (chosen (host_second self.old) (other_arming stopping) (counting_arming stopping)) (D.view disks.old.second) (D.view disks.new.second)) }
 
-        // Whatever the result, a stop leaves what stands for the cells before the event or for those behind the stop in it.
+        // Whatever the result, a stop leaves what stands for the cells before the event or for those after the stop in it.
         ensures leaves { PairLeaves (pair_view D.view disks.new) (pair_view D.view disks.new)
             (StandForEither (host_id self.old) (host_cell self.old (image_now (D.view disks.old.first)) (image_now (D.view disks.old.second)))
             circuit.now (event_changes (host_id self.old)
@@ -264,6 +266,7 @@ impl Host {
             circuit.now (option_copied event.entry)) → IsInCheckpoint stopping
             → Rose (D.view (chosen (host_second self.old) disks.old.second disks.old.first)).faults
             (D.view (chosen (host_second self.old) disks.new.second disks.new.first)).faults) }
+        ensures once { BothPickAtMostOnce (pair_view D.view disks.old) (pair_view D.view disks.new) }
         ensures first_stays { (D.view disks.old.first).faults ≤ (D.view disks.new.first).faults }
         ensures second_stays { (D.view disks.old.second).faults ≤ (D.view disks.new.second).faults }
     {
@@ -302,8 +305,7 @@ impl Host {
         Ok(())
     }
 
-    /// The ids of the circuits that are bound here, in order. An error comes for want of memory
-    /// alone.
+    /// The ids of the circuits that are bound here, in order. The only error is that memory ran out.
     pub fn roll(&self, alloc: Global) -> Result<Listing<CircuitId>, AllocError>
         requires { is_up self.now ≡ true }
         ensures sorted { IfOk result (λ ids. IsStrictlySortedBy (slice_cmp nat_cmp) ids) }

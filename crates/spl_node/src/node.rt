@@ -109,7 +109,7 @@ impl Node {
         self.pairing.counting()
     }
 
-    /// Makes the digests of the state of a circuit's cell anew, so that telling its root costs
+    /// Makes the digests of the state of a circuit's cell again, so that reporting its root costs
     /// nothing; nothing that is seen changes.
     pub fn renew(&mut self, circuit: &CircuitId, cache: &mut RunCache)
         ensures { self.new ≡ self.old }
@@ -119,7 +119,7 @@ impl Node {
 
     /// An event at the cell of a circuit. Where it changes the cell, the record of the changes is
     /// kept before the answer comes, and where that leaves no room for more, all cells are written
-    /// anew on the other disk. After an error the node is halted.
+    /// again on the other disk. After an error the node is halted.
     #[inline(always)]
     pub fn step<D: Disk>(
         &mut self,
@@ -160,7 +160,7 @@ impl Node {
 
         // Without changes no call of a disk is made. With changes the record of them is kept, by four calls of the
         // disk that counts: the last of them ended the step, and the other disk is as it was; or each of them
-        // succeeded, and a stop behind the step leaves disks that stand for the cells after the event.
+        // succeeded, and a stop after the step leaves disks that stand for the cells after the event.
         ensures no_calls { (plan_of (site_at (here_of self.old) circuit.now) (cell_of self.old circuit.now) event.now).changes ≡ [] → disks.new ≡ disks.old }
         ensures by_calls { (plan_of (site_at (here_of self.old) circuit.now) (cell_of self.old circuit.now) event.now).changes ≢ [] →
             (ByCalls 4 (D.view (chosen (is_second self.old.pairing) disks.old.first disks.old.second))
@@ -180,7 +180,7 @@ impl Node {
             PairLeaves (pair_view D.view disks.new) (pair_view D.view disks.new)
             (StandFor (here_of self.old) (cells_after (here_of self.old) (cell_of self.old) circuit.now event.now)))) }
 
-        // A stop behind so many of these calls leaves disks that stand for the cells after the event where they keep
+        // A stop after so many of these calls leaves disks that stand for the cells after the event where they keep
         // the record, and for those before it otherwise.
         ensures stopped { IsErrOf result JournalFault.Disk → (calls : ℕ) (fill : Fill)
             → IfBoth (image_now (D.view disks.old.first)) (image_now (D.view disks.old.second))
@@ -194,7 +194,7 @@ impl Node {
             (sized (record_bytes (record_of circuit.now
             (plan_of (site_at (here_of self.old) circuit.now) (cell_of self.old circuit.now) event.now).changes))) calls j)) }
 
-        // Where the record leaves no room the other disk counts behind Ok, and none of its eight calls was one that it is armed for.
+        // Where the record leaves no room the other disk counts after Ok, and none of its eight calls was one that it is armed for.
         ensures turned { OnOk result ((plan_of (site_at (here_of self.old) circuit.now) (cell_of self.old circuit.now) event.now).changes ≢ []
             → 2 * base_of (journal_in self.old.pairing) + SLACK < len_of (journal_in self.old.pairing) + 5 + length
             (record_bytes (record_of circuit.now (plan_of (site_at (here_of self.old) circuit.now)
@@ -213,7 +213,7 @@ impl Node {
             (is_second self.old.pairing) disks.old.second disks.old.first) × (is_second self.new.pairing ≡ is_second self.old.pairing) }
 
         // Where it leaves no room, the disk that counts is armed for none of its four calls, and the other for one
-        // of its eight, the other has failed, unless memory was wanting.
+        // of its eight, the other has failed, unless memory ran out.
         ensures risen { (plan_of (site_at (here_of self.old) circuit.now) (cell_of self.old circuit.now) event.now).changes ≢ []
             → IsFilledBy (length (record_bytes (record_of circuit.now
             (plan_of (site_at (here_of self.old) circuit.now) (cell_of self.old circuit.now) event.now).changes))) (journal_in self.old.pairing)
@@ -268,8 +268,7 @@ impl Node {
         })
     }
 
-    /// The ids of the circuits that are bound here, in order. An error comes for want of memory
-    /// alone.
+    /// The ids of the circuits that are bound here, in order. The only error is that memory ran out.
     pub fn roll(&self, alloc: Global) -> Result<Listing<CircuitId>, AllocError>
         ensures sorted { IfOk result (λ ids. IsStrictlySortedBy (slice_cmp nat_cmp) ids) }
         ensures bound { IfOk result (λ ids. (c : CircuitId) → list_any (bytes_eq c) ids ≡ is_bound (cell_of self.now c)) }

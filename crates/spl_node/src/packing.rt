@@ -70,7 +70,7 @@ impl Packed for Cells {
 }
 
 impl Cells {
-    /// The ids of the bound cells, in order. An error comes for want of memory alone.
+    /// The ids of the bound cells, in order. The only error is that memory ran out.
     pub fn bound(&self, alloc: Global) -> Result<Listing<CircuitId>, AllocError>
         ensures { IfOk result (λ ids. ids ≡ bound_ids self.now.entries) }
     {

@@ -11,7 +11,8 @@ ghost use Rattle.spl_rules.specs.Valid.{IsFor};
 ghost use Rattle.spl_node.specs.Hosts.{PicksWith};
 ghost use Rattle.spl_node.specs.Records.{site_at};
 ghost use Rattle.spl_node.specs.Stands.{NodeStands, here_of, cell_of, is_halted};
-ghost use Rattle.spl_node.specs.Stopping.{Arms, FillsJournal, IsInCheckpoint, IsStopping, LeavesNoMore, PicksMake, StandForEither, cells_stopped, counting_arming, event_changes, fill_of, has_changes, keeps, other_arming, passing};
+ghost use Rattle.spl_node.specs.Stopping.{Arms, BothPickAtMostOnce, FillsJournal, IsInCheckpoint, IsStopping, LeavesNoMore, PicksMake, StandForEither};
+ghost use Rattle.spl_node.specs.Stopping.{cells_stopped, counting_arming, event_changes, fill_of, has_changes, keeps, other_arming, passing};
 
 use crate::Node;
 use spl_base::CircuitId;
@@ -23,7 +24,7 @@ use std::alloc::{AllocError, Global};
 /// How a node is stopped in an event (docs/RULES.md, Stops in an event).
 #[derive(Clone, Copy, PartialEq, Eq)]
 pub enum Stopping {
-    /// So many calls of its disks pass, and none behind them. The disks keep this of what wasn't
+    /// So many calls of its disks pass, and none after them. The disks keep this of what wasn't
     /// synced.
     Cut { calls: u8, fill: Fill },
     /// The call of this number, from 1 on, fails. The disks keep nothing that wasn't synced.
@@ -58,7 +59,7 @@ fn arm_counting<D: StopDisk>(disk: &mut D, stopping: Stopping)
     }
 }
 
-/// Arms the other disk, which has the calls behind them.
+/// Arms the other disk, which has the calls after them.
 fn arm_other<D: StopDisk>(disk: &mut D, stopping: Stopping)
     ensures { Arms (other_arming stopping) (D.view disk.old) (D.view disk.new) }
 {
@@ -88,7 +89,7 @@ pub(crate) fn arm<D: StopDisk>(disks: &mut Pair<D>, second: bool, stopping: Stop
     }
 }
 
-/// Lets both disks pick. An error comes for want of memory alone.
+/// Lets both disks pick. The only error is that memory ran out.
 pub(crate) fn pick_both<D: StopDisk>(
     alloc: Global,
     disks: &mut Pair<D>,
@@ -99,6 +100,7 @@ pub(crate) fn pick_both<D: StopDisk>(
     // Whatever the result, a stop leaves nothing of a disk that it couldn't leave before.
     ensures first_left { IfBoth (image_now (D.view disks.old.first)) (image_now (D.view disks.new.first)) LeavesNoMore }
     ensures second_left { IfBoth (image_now (D.view disks.old.second)) (image_now (D.view disks.new.second)) LeavesNoMore }
+    ensures once { BothPickAtMostOnce (pair_view D.view disks.old) (pair_view D.view disks.new) }
     ensures first_faults { (D.view disks.new.first).faults ≡ (D.view disks.old.first).faults }
     ensures second_faults { (D.view disks.new.second).faults ≡ (D.view disks.old.second).faults }
 {
@@ -106,8 +108,8 @@ pub(crate) fn pick_both<D: StopDisk>(
     disks.second.pick(alloc, fill)
 }
 
-/// An event at a node whose disk that counts is armed so. It tells whether the event has changes; an
-/// error comes for want of memory alone.
+/// An event at a node whose disk that counts is armed so. It says whether the event has changes; an
+/// error comes only when memory runs out.
 fn step_armed<D: StopDisk>(
     node: &mut Node,
     alloc: Global,
@@ -129,7 +131,7 @@ fn step_armed<D: StopDisk>(
         (PicksMake (fill_of stopping) (here_of node.old)
         (cells_stopped (here_of node.old) (cell_of node.old) circuit.now
         (plan_of (site_at (here_of node.old) circuit.now) (cell_of node.old circuit.now) event.now).changes (keeps stopping)))) }
-    // Whatever the result, a stop leaves what stands for the cells before the event or for those behind the stop in it.
+    // Whatever the result, a stop leaves what stands for the cells before the event or for those after the stop in it.
     ensures leaves { PairLeaves (pair_view D.view disks.new) (pair_view D.view disks.new)
         (StandForEither (here_of node.old) (cell_of node.old) circuit.now
         (plan_of (site_at (here_of node.old) circuit.now) (cell_of node.old circuit.now) event.now).changes) }

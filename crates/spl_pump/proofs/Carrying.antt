@@ -122,7 +122,7 @@ met_has met low high h = rw h refl
 met_new : (met : List (ℕ × ℕ)) (low high : ℕ) → have_met met low high ≡ false → met_after met low high ≡ met ++ (low, high) ∷ []
 met_new met low high h = rw h refl
 
--- behind a message two nodes have met where they had, or where it went between them
+-- after a message two nodes have met where they had, or where it went between them
 met_more : (met : List (ℕ × ℕ)) (c : Carried) (a b : ℕ) → c.from ≢ c.to → have_met (met_after met (min c.from c.to) (max c.from c.to)) (min a b) (max a b) ≡ (have_met met (min a b) (max a b) || is_between a b c)
 met_more met c a b apart = go (tells (have_met met low high)) (tells (is_between a b c))
   where

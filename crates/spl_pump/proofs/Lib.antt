@@ -4,3 +4,4 @@ pub mod Carrying
 pub mod Messages
 pub mod Meetings
 pub mod Honest
+pub mod Lies

@@ -46,7 +46,7 @@ some_due n None taken due pos = tt
 some_due n (Some p) None due pos = tt
 some_due n (Some p) (Some t) due pos = omega (arith, due, pos)
 
--- a front of a piece came, and nothing since
+-- a prefix of a piece came, and nothing since
 pub part_is : (from to n : ℕ) (piece : List ℕ) (a b c : Streams) → b from to ≡ append_known (a from to) (take n piece) → ((x y : ℕ) → x < 256 → y < 256 → IsOtherPair x y from to → b x y ≡ a x y) → ((x y : ℕ) → c x y ≡ b x y) → GrowsPart from to piece a c
 part_is from to n piece a b c here others same = (
   take n piece,
@@ -58,7 +58,7 @@ part_is from to n piece a b c here others same = (
   },
 )
 
--- a front of what is left came behind what came before
+-- a prefix of what is left came after what came before
 pub part_more : (from to n : ℕ) (all : List ℕ) (a b c : Streams) → Grows from to (take n all) a b → GrowsPart from to (drop n all) b c → GrowsPart from to all a c
 part_more from to n all a b c first (done, more, is, grows) = (take n all ++ done, more, sym (take-append-drop n all) ∙ ap (λ (l : List ℕ). take n all ++ l) is ∙ sym (append_assoc (take n all) done more), grows_more from to (take n all) done a b c first grows)
 
@@ -74,7 +74,7 @@ take_front (suc k) (suc m) (x ∷ xs) le = ap (λ (l : List ℕ). x ∷ l) (take
 part_of_front : (from to m : ℕ) (rest piece : List ℕ) (b c : Streams) → piece ≡ take m rest → GrowsPart from to piece b c → GrowsPart from to rest b c
 part_of_front from to m rest piece b c is (done, more, parts, grows) = (done, more ++ drop m rest, sym (take-append-drop m rest) ∙ ap (λ (l : List ℕ). l ++ drop m rest) (sym is ∙ parts) ∙ append_assoc done more (drop m rest), grows)
 
--- where a piece of what is left failed, a front of all was put
+-- where a piece of what is left failed, a prefix of all was put
 pub part_at : (from to n m : ℕ) (bytes rest piece : List ℕ) (a b c : Streams) → rest ≡ drop n bytes → piece ≡ take m rest → Grows from to (take n bytes) a b → GrowsPart from to piece b c → GrowsPart from to bytes a c
 part_at from to n m bytes rest piece a b c left is before part =
     part_more from to n bytes a b c before (subst (λ (l : List ℕ). GrowsPart from to l b c) left (part_of_front from to m rest piece b c is part))

@@ -67,7 +67,7 @@ puts_then_part f h a b c first second = λ x y p q. let (done, more, is, grows) 
 pub part_no_more : (f h : ℕ → ℕ → List ℕ) (a b : Streams) → PutsPart f a b → PutsPart (λ x y. f x y ++ h x y) a b
 part_no_more f h a b first = λ x y p q. let (done, more, is, grows) = first x y p q in (done, more ++ h x y, ap (λ (l : List ℕ). l ++ h x y) is ∙ append_assoc done more (h x y), grows)
 
--- a front of what begins other bytes is one of those
+-- a prefix of what begins other bytes is one of those
 pub part_of_more : (f h : ℕ → ℕ → List ℕ) (a b : Streams) → ((x y : ℕ) → IsPrefixOf (f x y) (h x y)) → PutsPart f a b → PutsPart h a b
 part_of_more f h a b front part = λ x y p q. let (done, more, is, grows) = part x y p q in let (rest, all) = front x y in (done, more ++ rest, sym all ∙ ap (λ (l : List ℕ). l ++ rest) is ∙ append_assoc done more rest, grows)
 

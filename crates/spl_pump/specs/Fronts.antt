@@ -32,6 +32,11 @@ begins false false others hand own rest none =
 pub wire_front : (es : List Entry) (met : List (ℕ × ℕ)) (sent later : List Carried) (a b : ℕ)
     → IsPrefixOf (wire_from es met sent a b) (wire_from es met (sent ++ later) a b)
 wire_front es met sent later a b =
-    subst (λ (any : Bool). IsPrefixOf (wire_from es met sent a b) (cond (have_met met (min a b) (max a b)) (frames_of (sent ++ later) a b) (cond any (hand es a b) [] ++ frames_of (sent ++ later) a b))) (sym (list_any-append (is_between a b) sent later))
-    (subst (λ (frames : List ℕ). IsPrefixOf (wire_from es met sent a b) (cond (have_met met (min a b) (max a b)) frames (cond (list_any (is_between a b) sent || list_any (is_between a b) later) (hand es a b) [] ++ frames))) (sym (frames_more sent later a b))
-    (begins (have_met met (min a b) (max a b)) (list_any (is_between a b) sent) (list_any (is_between a b) later) (hand es a b) (frames_of sent a b) (frames_of later a b) (no_frames sent a b)))
+    let known : Bool = have_met met (min a b) (max a b) in
+    let own : List ℕ = wire_from es met sent a b in
+    let all : List ℕ = frames_of (sent ++ later) a b in
+    let some : Bool = list_any (is_between a b) sent in
+    let others : Bool = list_any (is_between a b) later in
+    subst (λ (any : Bool). IsPrefixOf own (cond known all (cond any (hand es a b) [] ++ all))) (sym (list_any-append (is_between a b) sent later))
+    (subst (λ (frames : List ℕ). IsPrefixOf own (cond known frames (cond (some || others) (hand es a b) [] ++ frames))) (sym (frames_more sent later a b))
+    (begins known some others (hand es a b) (frames_of sent a b) (frames_of later a b) (no_frames sent a b)))

@@ -14,21 +14,21 @@ abbrev pub fault_of : DeviceError → PumpFault
 fault_of device.Failed = Link
 fault_of device.NoMemory = NoMemory
 
--- on one pair of nodes these bytes came behind the others
+-- on one pair of nodes these bytes came after the others
 pub record Grows (from to : ℕ) (bytes : List ℕ) (old new : Streams) : Type 0 where
   pub here : new from to ≡ append_known (old from to) bytes
   pub others : (a b : ℕ) → a < 256 → b < 256 → IsOtherPair a b from to → new a b ≡ old a b
 
--- so many bytes were put and not taken, where both are told
+-- so many bytes were put and not taken, where both are reported
 abbrev pub AreDue : ℕ → Option (List ℕ) → Option (List ℕ) → Type 0
 AreDue n put taken = IfSome put (λ p. IfSome taken (λ t. length t + n ≡ length p))
 
--- a count has not fallen, and `Link` is told only where it rose
+-- a count has not fallen, and `Link` is reported only where it rose
 pub record HasCause {T : Type 0} (before now : ℕ) (result : Result T PumpFault) : Type 0 where
   pub later : before ≤ now
   pub failed : IsErrOf result Link → Rose before now
 
--- a front of these bytes came on a pair
+-- a prefix of these bytes came on a pair
 abbrev pub GrowsPart : ℕ → ℕ → List ℕ → Streams → Streams → Type 0
 GrowsPart from to all old new = (done : List ℕ) × (more : List ℕ) × (all ≡ done ++ more) × Grows from to done old new
 

@@ -1,5 +1,5 @@
 -- What is put on a fabric where messages are carried over it (docs/RULES.md, Links).
-use Rattle.std.specs.Prelude.{◌≡◌, ◌≢◌, ◌<◌, ℕ, min, max, ◌==◌, Bool, ◌&&◌, ◌||◌, nat_lt, List, [], ◌∷◌, ◌++◌, length, Option, IfSome, if◌then◌else◌, ⊤}
+use Rattle.std.specs.Prelude.{◌≡◌, ◌≢◌, ◌⊎◌, ◌<◌, ℕ, min, max, ◌==◌, Bool, ◌&&◌, ◌||◌, nat_lt, List, [], ◌∷◌, ◌++◌, length, Option, IfSome, if◌then◌else◌, ⊤}
 use Rattle.std.specs.List.{list_any, flat_map, filter}
 use Rattle.std.specs.Option.{IsSome, option_map_or}
 use Rattle.std.specs.Io.KnownBytes.{append_known}
@@ -83,8 +83,10 @@ pub record CarryView : Type 0 where
   pub failed : Bool
   -- the bytes that carrying messages, one after another, puts on the pair from one node to another
   pub wire : Wire
+  -- the frame by which one node names itself to another
+  pub hello : ℕ → ℕ → List ℕ
 
--- once these messages are carried, what others put comes behind what they put
+-- once these messages are carried, what others put comes after what they put
 pub record GoesOn (sent : List Carried) (old new : Wire) : Type 0 where
   pub behind : (later : List Carried) (a b : ℕ) → old (sent ++ later) a b ≡ old sent a b ++ new later a b
 
@@ -92,16 +94,16 @@ pub record GoesOn (sent : List Carried) (old new : Wire) : Type 0 where
 abbrev pub AllTaken : Streams → Streams → Type 0
 AllTaken put taken = (a b : ℕ) → a < 256 → b < 256 → AreTaken (put a b) (taken a b)
 
--- on each pair of nodes these bytes came behind the others
+-- on each pair of nodes these bytes came after the others
 abbrev pub Puts : (ℕ → ℕ → List ℕ) → Streams → Streams → Type 0
 Puts bytes old new = (a b : ℕ) → a < 256 → b < 256 → new a b ≡ append_known (old a b) (bytes a b)
 
--- on each pair a front of these
+-- on each pair a prefix of these
 abbrev pub PutsPart : (ℕ → ℕ → List ℕ) → Streams → Streams → Type 0
 PutsPart bytes old new = (a b : ℕ) → a < 256 → b < 256
     → (done : List ℕ) × (more : List ℕ) × (bytes a b ≡ done ++ more) × (new a b ≡ append_known (old a b) done)
 
--- the bytes put and taken are told
+-- the bytes put and taken are reported
 abbrev pub AreTold : Streams → Streams → Type 0
 AreTold put taken = (a b : ℕ) → IsSome (put a b) × IsSome (taken a b)
 
@@ -115,6 +117,28 @@ LiesOf Link put taken = ⊤
 LiesOf NoMemory put taken = ⊤
 LiesOf (Lied sent got) put taken = (sent ≢ got) × (length got ≡ length sent)
     × ((a : ℕ) × (b : ℕ) × AreTaken (put a b) (taken a b) × Ends sent (put a b) × Ends got (taken a b))
+
+-- where it is a lie this frame was put
+abbrev pub LiesIn : List ℕ → PumpFault → Type 0
+LiesIn bytes Link = ⊤
+LiesIn bytes NoMemory = ⊤
+LiesIn bytes (Lied sent got) = sent ≡ bytes
+
+-- or one by which two nodes name themselves to each other
+abbrev pub LiesAtMeeting : (ℕ → ℕ → List ℕ) → ℕ → ℕ → PumpFault → Type 0
+LiesAtMeeting hello a b Link = ⊤
+LiesAtMeeting hello a b NoMemory = ⊤
+LiesAtMeeting hello a b (Lied sent got) = (sent ≡ hello a b) ⊎ (sent ≡ hello b a)
+
+-- a frame that is due where a message goes from one node to another: its own, or one by which the two name themselves to each other
+abbrev pub IsDue : (ℕ → ℕ → List ℕ) → ℕ → ℕ → Message → List ℕ → Type 0
+IsDue hello from to m bytes = (bytes ≡ frame (message_form.spell m)) ⊎ ((bytes ≡ hello from to) ⊎ (bytes ≡ hello to from))
+
+-- where it is a lie, a frame was put that is due where this message goes
+abbrev pub LiesBy : (ℕ → ℕ → List ℕ) → ℕ → ℕ → Message → PumpFault → Type 0
+LiesBy hello from to m Link = ⊤
+LiesBy hello from to m NoMemory = ⊤
+LiesBy hello from to m (Lied sent got) = IsDue hello from to m sent
 
 -- which pairs have met, the lower position first, and whether a fault was answered
 pub record Pumped : Type 0 where

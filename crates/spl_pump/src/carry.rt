@@ -13,14 +13,15 @@ use std::alloc::Global;
 
 /// What carries messages from one node to another. Nodes are named by their positions in the registry.
 pub trait Carry {
-    ghost use Rattle.spl_pump.specs.Wires.{Puts, PutsPart, LiesOf};
+    ghost use Rattle.spl_pump.specs.Wires.{Puts, PutsPart, LiesBy, LiesOf};
 
-    /// What it tells of itself.
+    /// What it reports of itself.
     ghost view: { Self → CarryView };
 
     /// Carries a message: what comes out is equal to it. `Link` comes only where the fabric failed more often, `Lied`
-    /// where other bytes were taken than were put, and any other error is want of memory. After an error a front of
-    /// the message's bytes was put, and nothing more is carried.
+    /// where other bytes were taken than were put, of the message's frame or of one by which the two nodes name
+    /// themselves to each other; any other error is running out of memory. After an error a prefix of the message's bytes was
+    /// put, and nothing more is carried.
     fn carry<F: Fabric>(
         &mut self,
         alloc: Global,
@@ -44,7 +45,9 @@ pub trait Carry {
         ensures onward { OnOk result (GoesOn (only from to message.now) (view self.old).wire (view self.new).wire) }
         ensures taken { OnOk result (AllTaken (F.view fabric.new).put (F.view fabric.new).taken) }
         ensures cause { HasCause (F.view fabric.old).faults (F.view fabric.new).faults result }
-        ensures lied { IfErr result (λ e. LiesOf e (F.view fabric.new).put (F.view fabric.new).taken) };
+        ensures lied { IfErr result (λ e. LiesOf e (F.view fabric.new).put (F.view fabric.new).taken) }
+        ensures hello { (view self.new).hello ≡ (view self.old).hello }
+        ensures due { IfErr result (LiesBy (view self.old).hello from to message.now) };
 
     /// Where no message is carried, nothing is put.
     ghost idle: { (carrier : Self) (a b : ℕ) → (view carrier).wire [] a b ≡ [] };

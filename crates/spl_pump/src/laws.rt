@@ -19,7 +19,7 @@ pub fn messages_go_on()
     ensures format { (es : List Entry) (sent : List Carried) (a b : ℕ) → wire_from es [] sent a b ≡ wire_of es sent a b }
 {}
 
-/// Over a fabric that tells its bytes, and on which what was taken is a front of what was put, nothing lies.
+/// Over a fabric that reports its bytes, and on which what was taken is a prefix of what was put, nothing lies.
 #[tactic(auto, using(crate::proofs::Honest::never_lies))]
 pub fn honest_fabrics_never_lie()
     ensures { (put taken : Streams) (e : Fault) → AreTold put taken → IsHonest put taken → LiesOf e put taken → IsFault e }

@@ -6,7 +6,8 @@ ghost use Rattle.spl_wire.specs.Bounds.{IsSendable};
 ghost use Rattle.spl_wire.specs.Forms.{message_form};
 ghost use Rattle.spl_wire.specs.declared.message.Message.{Message as MessageValue};
 ghost use Rattle.spl_pump.specs.Moves.{Grows, GrowsPart, HasCause, IsLie};
-ghost use Rattle.spl_pump.specs.Wires.{GoesOn, hand, hands, hands_if, on_pair, only, have_met, met_after, wire_from, Puts, PutsPart, AllTaken, LiesOf};
+ghost use Rattle.spl_pump.specs.Wires.{GoesOn, hand, hands, hands_if, on_pair, only, have_met, met_after, wire_from, Puts, PutsPart, AllTaken};
+ghost use Rattle.spl_pump.specs.Wires.{LiesAtMeeting, LiesBy, LiesIn, LiesOf};
 
 use crate::carry::Carry;
 use crate::exchange::exchange;
@@ -107,6 +108,7 @@ fn present<F: Fabric>(
     ensures taken { OnOk result (AllTaken (F.view fabric.new).put (F.view fabric.new).taken) }
     ensures cause { HasCause (F.view fabric.old).faults (F.view fabric.new).faults result }
     ensures lied { IfErr result (λ e. LiesOf e (F.view fabric.new).put (F.view fabric.new).taken) }
+    ensures due { IfErr result (LiesIn (hand registry.now from to)) }
 {
     match greet(alloc, fabric, registry, from, to) {
         Ok(()) => Ok(()),
@@ -131,6 +133,7 @@ fn send<F: Fabric>(
     ensures taken { OnOk result (AllTaken (F.view fabric.new).put (F.view fabric.new).taken) }
     ensures cause { HasCause (F.view fabric.old).faults (F.view fabric.new).faults result }
     ensures lied { IfErr result (λ e. LiesOf e (F.view fabric.new).put (F.view fabric.new).taken) }
+    ensures due { IfErr result (LiesIn (frame (message_form.spell message.now))) }
 {
     match carry_message(alloc, fabric, from, to, message) {
         Ok(copy) => Ok(copy),
@@ -154,6 +157,7 @@ fn introduce<F: Fabric>(
     ensures taken { OnOk result (AllTaken (F.view fabric.new).put (F.view fabric.new).taken) }
     ensures cause { HasCause (F.view fabric.old).faults (F.view fabric.new).faults result }
     ensures lied { IfErr result (λ e. LiesOf e (F.view fabric.new).put (F.view fabric.new).taken) }
+    ensures due { IfErr result (LiesAtMeeting (hand registry.now) low high) }
 {
     present(alloc, fabric, registry, low, high)?;
     present(alloc, fabric, registry, high, low)?;
@@ -215,6 +219,7 @@ impl Pump {
         ensures taken { OnOk result (AllTaken (F.view fabric.new).put (F.view fabric.new).taken) }
         ensures cause { HasCause (F.view fabric.old).faults (F.view fabric.new).faults result }
         ensures lied { IfErr result (λ e. LiesOf e (F.view fabric.new).put (F.view fabric.new).taken) }
+        ensures due { IfErr result (LiesAtMeeting (hand self.old.entries) low high) }
     {
         if have_met(self.met.as_slice(), low, high) {
             return Ok(());
@@ -248,6 +253,7 @@ impl Pump {
         ensures taken { OnOk result (AllTaken (F.view fabric.new).put (F.view fabric.new).taken) }
         ensures cause { HasCause (F.view fabric.old).faults (F.view fabric.new).faults result }
         ensures lied { IfErr result (λ e. LiesOf e (F.view fabric.new).put (F.view fabric.new).taken) }
+        ensures due { IfErr result (LiesBy (hand self.old.entries) from to message.now) }
     {
         self.meet(alloc, fabric, from.min(to), from.max(to))?;
         let got = send(alloc, fabric, from, to, message)?;
@@ -258,11 +264,11 @@ impl Pump {
 
 impl Carry for Pump {
     ghost use Rattle.std.specs.Prelude.{length};
-    ghost use Rattle.spl_pump.specs.Wires.{wire_from};
+    ghost use Rattle.spl_pump.specs.Wires.{hand, wire_from};
     ghost use Rattle.spl_pump.specs.Idle.{idle_wire};
     ghost use Rattle.spl_pump.specs.Fronts.{wire_front};
 
-    ghost view = { λ p. record { slots = length p.entries; failed = p.failed; wire = wire_from p.entries p.met } };
+    ghost view = { λ p. record { slots = length p.entries; failed = p.failed; wire = wire_from p.entries p.met; hello = hand p.entries } };
 
     ghost idle = { λ p. idle_wire p.entries p.met };
 

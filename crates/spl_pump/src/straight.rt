@@ -23,7 +23,7 @@ impl Straight {
 }
 
 impl Carry for Straight {
-    ghost view = { λ s. record { slots = 16; failed = s.failed; wire = λ sent a b. [] } };
+    ghost view = { λ s. record { slots = 16; failed = s.failed; wire = λ sent a b. []; hello = λ a b. [] } };
 
     ghost idle = { λ _ _ _. refl };
 

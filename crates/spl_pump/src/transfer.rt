@@ -46,7 +46,7 @@ fn piece_of(rest: &Bytes) -> Result<Bytes, AllocError>
     rest.slice(..rest.len().min(PIECE))
 }
 
-/// Puts a front of a piece, and takes as many bytes.
+/// Puts a prefix of a piece, and takes as many bytes.
 fn hand_some<F: Fabric>(
     alloc: Global,
     fabric: &mut F,

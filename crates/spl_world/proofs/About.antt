@@ -106,6 +106,6 @@ sends_about_take c os zero h = refl
 sends_about_take c [] (suc i) h = refl
 sends_about_take c (o ∷ os) (suc i) h = let p = both_true (send_belongs c o) (list_all (send_belongs c) os) h in and_true (send_belongs c o) _ p.0 (sends_about_take c os i p.1)
 
--- what was sent behind messages about the circuit
+-- what was sent after messages about the circuit
 pub posted_about : (c : CircuitId) (xs ys : List Message) (b : NodeId) (os : List Outgoing) → AllBelong c xs → SendsBelong c os → ys ≡ xs ++ sends_to b os → AllBelong c ys
 posted_about c xs ys b os h k e = subst (AllBelong c) (sym e) (about_append c xs (sends_to b os) h (sends_to_about c b os k))

@@ -41,7 +41,7 @@ pub from_all_more : (c : CircuitId) (z : Calming) (all ns : List NodeId) (n : No
 from_all_more c z all [] n = refl
 from_all_more c z all (m ∷ ms) n = from_all_more c (to_all c z m all) all ms n
 
--- ---- a front of each
+-- ---- a prefix of each
 
 to_all_split : (c : CircuitId) (z : Calming) (a : NodeId) (xs ys : List NodeId) → to_all c z a (xs ++ ys) ≡ to_all c (to_all c z a xs) a ys
 to_all_split c z a [] ys = refl

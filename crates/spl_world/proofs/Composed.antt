@@ -1,4 +1,4 @@
--- What happens one behind the other.
+-- What happens one after the other.
 use Rattle.spl_circuit.specs.Nodes.{CircuitId}
 use Rattle.spl_model.specs.Worlds.{World as CircuitWorld}
 use Rattle.spl_world.specs.Views.{Nodes, Moves, Spares}

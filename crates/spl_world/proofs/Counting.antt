@@ -1,4 +1,4 @@
--- Counting, one call behind the other.
+-- Counting, one call after the other.
 use Rattle.std.proofs.Common.{◌≡◌, ℕ, ◌+◌, ◌-◌, ◌*◌, ◌<◌, ◌≤◌, suc, Result, Ok, Err, refl, ap, subst, ◌∙◌, arith, mul_comm}
 use Rattle.std.specs.Prelude.{IsErr, IsErrOf}
 use Rattle.std.specs.Result.{IsErrAnd}
@@ -14,7 +14,7 @@ failed A f = Err f
 pub counts_none : {A : Type 0} (a : A) (e n : ℕ) → Counts (Ok a) e e n n
 counts_none a e n = record { ok = refl; many = λ which q. cc }
 
--- want of memory counts for nothing
+-- running out of memory counts for nothing
 pub counts_memory : {A : Type 0} (r : Result A WorldFault) → IsErr r × IsErrAnd r (λ y. y ≡ NoMemory) → (old new before after : ℕ) → Counts r old new before after
 counts_memory (Ok a) h old new before after = absurd h.1
 counts_memory (Err y) h old new before after = record { ok = tt; many = λ which q. let same : y ≡ NoMemory = h.1 in cc }
@@ -31,7 +31,7 @@ counts_done a old new before after e = record { ok = e; many = λ which q. cc }
 pub counts_ok : {A : Type 0} (a : A) (old new before after : ℕ) → Counts (Ok a) old new before after → new + before ≡ old + after
 counts_ok a old new before after k = k.ok
 
--- a call behind what was counted so far
+-- a call after what was counted so far
 pub counts_then : {A : Type 0} (r : Result A WorldFault) (old now new before so_far after : ℕ) → now + before ≡ old + so_far → Counts r now new so_far after → Counts r old new before after
 counts_then r old now new before so_far after e k = record {
   ok = at_ok r (λ (q : new + so_far ≡ now + after). (let sum : new + before ≡ old + after = omega (arith, e, q) in sum)) k.ok;

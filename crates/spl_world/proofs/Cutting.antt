@@ -108,7 +108,7 @@ module _ (xs : Nodes) (i : ℕ) (x : Slot) (m : CircuitWorld) (s : Step) (c : Ci
 pub stopped_else : (here : NodeId) (cells : CircuitId → Cell) (c : CircuitId) (ys : List Change) (kept : Bool) (d : CircuitId) → bytes_eq c d ≡ false → cells_stopped here cells c ys kept d ≡ stopped_cell (cells d)
 stopped_else here cells c ys kept d off = ap (λ (b : Bool). if b then stopped_cell (if kept then made here (cells c) ys else cells c) else stopped_cell (cells d)) off
 
--- the cells behind a stop in a step are, but for open rounds, those of the world behind it
+-- the cells after a stop in a step are, except open rounds, those of the world after it
 module _ (xs : Nodes) (i : ℕ) (x : Slot) (m : CircuitWorld) (s : Step) (c : CircuitId) (e : Option Event) (h : Holds c m xs) (there : slice_get xs.slots i ≡ Some x) (id : slot_id x ≡ step_node s) (about : step_circuit s ≡ c) (is : IsEventOf e m s) (up : slot_up x ≡ true) where
   abbrev cells : CircuitId → Cell
   cells = (view_in xs x).cells
@@ -151,7 +151,7 @@ down_not_filled h c xs down full = by h.node down full
     by (Some n) off f = cc
     by None off f = f
 
--- ---- what is told
+-- ---- what is reported
 
 pub bit_up : (m : CircuitWorld) (s : Step) (kept : Bool) → m.up (step_node s) ≡ true → bit_in m s kept ≡ Some (bit_of kept (step_plan m s).changes)
 bit_up m s kept up = ap (λ (b : Bool). if b then Some (bit_of kept (step_plan m s).changes) else None) up

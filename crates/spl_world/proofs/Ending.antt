@@ -3,7 +3,7 @@ use Rattle.std.proofs.Common.{◌≡◌, ◌⊎◌, inl, inr, ℕ, ◌≤◌, Bo
 use Rattle.std.specs.Prelude.{IsErrOf, IsSome, IfErr, if◌then◌else◌}
 use Rattle.std.specs.Str.{bytes_eq}
 use Rattle.spl_circuit.specs.Nodes.{NodeId, CircuitId}
-use Rattle.spl_edge.specs.Image.{Image, IsSettled}
+use Rattle.spl_edge.specs.Image.{Image, IsSettled, MayLeave}
 use Rattle.spl_edge.specs.declared.bench.Pair.{Pair}
 use Rattle.spl_edge.specs.Views.{image_now, DiskView, pair_view}
 use Rattle.spl_journal.proofs.Images.{only_settled}
@@ -27,7 +27,7 @@ use Rattle.spl_sched.specs.Grammar.{step_circuit, step_node}
 use Rattle.spl_sched.specs.declared.line.Step.{Step}
 use Rattle.spl_wire.specs.declared.event.Event.{Event}
 use Rattle.spl_world.specs.Disks.{Images, images, images_at, images_of, images_or_none}
-use Rattle.spl_world.specs.Ended.{EventEnds, LeaveEither, HoldFor, LeaveNow, cells_in}
+use Rattle.spl_world.specs.Ended.{EventEnds, Hold, LeaveEither, HoldFor, LeaveNow, cells_in}
 use Rattle.spl_world.specs.Halts.{IsEventOf}
 use Rattle.spl_world.specs.Kept.{NodeView}
 use Rattle.spl_world.specs.Views.{Holds, Nodes, Sits, node_view, slot_id, slot_ids, slot_up, view_in}
@@ -53,15 +53,35 @@ left_in_turn second o p at other k m l n P told other_told low other_low h =
     both_told o p (λ i j. PairLeavesBetweenInTurn second at k m other l n P) (LeaveNow P (at m, other n)) told other_told h
     (λ i j is other_is left. left_last at other m n P (leaves_last second at other k m l n P low other_low left))
 
+-- a read gives one of the contents that a stop may leave
+abbrev MayStay : Option Image → Type 0
+MayStay o = IfSome o (λ i. MayLeave i i.bytes)
+
+read_left : (P : List ℕ → List ℕ → Type 0) (o p : Option Image) → MayStay o → MayStay p → LeaveNow P (o, p) → IfBoth o p (λ i j. P i.bytes j.bytes)
+read_left P None p a b h = tt
+read_left P (Some i) None a b h = tt
+read_left P (Some i) (Some j) a b h = h i.bytes j.bytes a b
+
+pub hold_left : (P : List ℕ → List ℕ → Type 0) (is : Images) → MayStay is.0 → MayStay is.1 → LeaveNow P is → Hold P is
+hold_left P is a b h = record { read = read_left P is.0 is.1 a b h; left = h }
+
+pub hold_map : (P Q : List ℕ → List ℕ → Type 0) → ((c d : List ℕ) → P c d → Q c d) → (is : Images) → Hold P is → Hold Q is
+hold_map P Q f is h = record {
+  read = both_if is.0 is.1 (λ i j. P i.bytes j.bytes) (λ i j. Q i.bytes j.bytes) h.read (λ i j p. f i.bytes j.bytes p);
+  left = safe_map P Q f is.0 is.1 h.left;
+}
+
 -- an event at a host
 pub host_left : {D : Type 0} (view : D → DiskView) (h : Host) (old new : Pair D) (c : CircuitId) (e : Event) → IsSome (image_now (view old.first)) → IsSome (image_now (view old.second)) → (view old.first).moment ≤ (view new.first).moment → (view old.second).moment ≤ (view new.second).moment
     → IfBoth (image_now (view old.first)) (image_now (view old.second)) (λ i j. PairLeavesInTurn (host_second h) (pair_view view old) (pair_view view new)
     (λ x y. StandFor (host_id h) (host_cell h (image_now (view old.first)) (image_now (view old.second))) x y ⊎ StandFor (host_id h) (cells_after (host_id h) (host_cell h (image_now (view old.first)) (image_now (view old.second))) c e) x y))
+    → MayStay (image_now (view new.first)) → MayStay (image_now (view new.second))
     → LeaveEither (host_id h) (host_cell h (image_now (view old.first)) (image_now (view old.second))) (cells_after (host_id h) (host_cell h (image_now (view old.first)) (image_now (view old.second))) c e) (images_of view new)
-host_left view h old new c e told other_told low other_low left =
-    left_in_turn (host_second h) (image_now (view old.first)) (image_now (view old.second)) (view new.first).image_at (view new.second).image_at (view old.first).moment (view new.first).moment (view old.second).moment (view new.second).moment
+host_left view h old new c e told other_told low other_low left stay other_stay =
+    hold_left (λ x y. StandFor (host_id h) (host_cell h (image_now (view old.first)) (image_now (view old.second))) x y ⊎ StandFor (host_id h) (cells_after (host_id h) (host_cell h (image_now (view old.first)) (image_now (view old.second))) c e) x y) (images_of view new) stay other_stay
+    (left_in_turn (host_second h) (image_now (view old.first)) (image_now (view old.second)) (view new.first).image_at (view new.second).image_at (view old.first).moment (view new.first).moment (view old.second).moment (view new.second).moment
     (λ x y. StandFor (host_id h) (host_cell h (image_now (view old.first)) (image_now (view old.second))) x y ⊎ StandFor (host_id h) (cells_after (host_id h) (host_cell h (image_now (view old.first)) (image_now (view old.second))) c e) x y)
-    told other_told low other_low left
+    told other_told low other_low left)
 
 pub held_still : {D : Type 0} (view : D → DiskView) (old new : Pair D) → Stays (view old.first) (view new.first) → Stays (view old.second) (view new.second) → images_of view new ≡ images_of view old
 held_still view old new s t =
@@ -92,31 +112,25 @@ stand_as : (n : NodeId) (f g : CircuitId → Cell) → ((c : CircuitId) → f c 
 stand_as n f g same x y h = stand_same n f g x y (λ c. ap stopped_cell (same c)) h
 
 pub hold_as : (n : NodeId) (f g : CircuitId → Cell) → ((c : CircuitId) → f c ≡ g c) → (is : Images) → HoldFor n f is → HoldFor n g is
-hold_as n f g same is h = record {
-  read = both_if is.0 is.1 (λ i j. StandFor n f i.bytes j.bytes) (λ i j. StandFor n g i.bytes j.bytes) h.read (λ i j p. stand_as n f g same i.bytes j.bytes p);
-  left = safe_map (StandFor n f) (StandFor n g) (stand_as n f g same) is.0 is.1 h.left;
-}
+hold_as n f g same is h = hold_map (StandFor n f) (StandFor n g) (stand_as n f g same) is h
 
 pub either_as : (n : NodeId) (f g k l : CircuitId → Cell) → ((c : CircuitId) → f c ≡ k c) → ((c : CircuitId) → g c ≡ l c) → (is : Images) → LeaveEither n f g is → LeaveEither n k l is
-either_as n f g k l same other is h = safe_map (λ x y. StandFor n f x y ⊎ StandFor n g x y) (λ x y. StandFor n k x y ⊎ StandFor n l x y) both is.0 is.1 h
+either_as n f g k l same other is h = hold_map (λ x y. StandFor n f x y ⊎ StandFor n g x y) (λ x y. StandFor n k x y ⊎ StandFor n l x y) both is h
   where
     both : (x y : List ℕ) → StandFor n f x y ⊎ StandFor n g x y → StandFor n k x y ⊎ StandFor n l x y
     both x y (inl p) = inl (stand_as n f k same x y p)
     both x y (inr p) = inr (stand_as n g l other x y p)
 
 pub hold_either : (n : NodeId) (f g : CircuitId → Cell) (is : Images) → HoldFor n f is → LeaveEither n f g is
-hold_either n f g is h = safe_map (StandFor n f) (λ x y. StandFor n f x y ⊎ StandFor n g x y) (λ x y p. inl p) is.0 is.1 h.left
+hold_either n f g is h = hold_map (StandFor n f) (λ x y. StandFor n f x y ⊎ StandFor n g x y) (λ x y p. inl p) is h
 
--- the same but for open rounds
+-- the same except open rounds
 either_stands : (n : NodeId) (f g k : CircuitId → Cell) → ((c : CircuitId) → stopped_cell (g c) ≡ stopped_cell (k c)) → (is : Images) → LeaveEither n f g is → LeaveEither n f k is
-either_stands n f g k same is h = safe_map (λ x y. StandFor n f x y ⊎ StandFor n g x y) (λ x y. StandFor n f x y ⊎ StandFor n k x y) one is.0 is.1 h
+either_stands n f g k same is h = hold_map (λ x y. StandFor n f x y ⊎ StandFor n g x y) (λ x y. StandFor n f x y ⊎ StandFor n k x y) one is h
   where
     one : (x y : List ℕ) → StandFor n f x y ⊎ StandFor n g x y → StandFor n f x y ⊎ StandFor n k x y
     one x y (inl p) = inl p
     one x y (inr p) = inr (stand_same n g k x y same p)
-
-left_either : (n : NodeId) (f : CircuitId → Cell) (is : Images) → LeaveNow (StandFor n f) is → LeaveEither n f f is
-left_either n f is h = safe_map (StandFor n f) (λ x y. StandFor n f x y ⊎ StandFor n f x y) (λ x y p. inl p) is.0 is.1 h
 
 -- ---- results
 
@@ -165,9 +179,9 @@ module _ {D : Type 0} (view : D → DiskView) (ss : List Slot) (ps : List (Pair 
         (subst (λ (is : Images). LeaveEither (slot_id s) (view_in nodes s).cells (cells_in c behind (slot_id s) (view_in nodes s).cells) is) (sym own_disks)
         (either_stands (slot_id s) (view_in nodes s).cells later (cells_in c behind (slot_id s) (view_in nodes s).cells) same (images_of view r) left))
 
-    pub own_stopped : (c : CircuitId) (m : CircuitWorld) → Holds c m nodes → LeaveNow (StandFor (slot_id s) (node_view s (images_of view p)).cells) (images_of view r) → EventEnds c m NoMemory nodes (images view (slice_set ps k r))
-    own_stopped c m h left = own_memory c m (view_in nodes s).cells (λ d. ap stopped_cell (same d)) (left_either (slot_id s) (view_in nodes s).cells (images_of view r)
-        (subst (λ (v : NodeView). LeaveNow (StandFor (slot_id s) v.cells) (images_of view r)) (sym (own_view view ss ps i s sits there k place p pair)) left))
+    pub own_stopped : (c : CircuitId) (m : CircuitWorld) → Holds c m nodes → HoldFor (slot_id s) (node_view s (images_of view p)).cells (images_of view r) → EventEnds c m NoMemory nodes (images view (slice_set ps k r))
+    own_stopped c m h left = own_memory c m (view_in nodes s).cells (λ d. ap stopped_cell (same d)) (hold_either (slot_id s) (view_in nodes s).cells (view_in nodes s).cells (images_of view r)
+        (subst (λ (v : NodeView). HoldFor (slot_id s) v.cells (images_of view r)) (sym (own_view view ss ps i s sits there k place p pair)) left))
       where
         same : (d : CircuitId) → (view_in nodes s).cells d ≡ cells_in c m (slot_id s) (view_in nodes s).cells d
         same d = go (bool_cases (bytes_eq c d))

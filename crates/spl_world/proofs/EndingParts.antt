@@ -88,7 +88,7 @@ module _ (c : CircuitId) where
   leads_passes ns zero z = leads_same z
   leads_passes ns (suc k) z = leads_then z (pass c ns z) (passes c ns k (pass c ns z)) (leads_pass ns z) (leads_passes ns k (pass c ns z))
 
-  -- ---- a front of each leads on to the whole
+  -- ---- a prefix of each leads on to the whole
 
   ticks_split : (z : Calming) (xs ys : List NodeId) → ticks c z (xs ++ ys) ≡ ticks c (ticks c z xs) ys
   ticks_split z [] ys = refl
@@ -137,7 +137,7 @@ module _ (c : CircuitId) where
   passes_leads ns (suc i) zero z h = absurd (omega arith)
   passes_leads ns (suc i) (suc k) z h = passes_leads ns i k (pass c ns z) (omega (arith, h))
 
-  -- behind one more pass
+  -- after one more pass
   pub next_pass_leads : (ns : List NodeId) (i k : ℕ) (z : Calming) → i + 1 ≤ k → Leads (pass c ns (passes c ns i z)) (passes c ns k z)
   next_pass_leads ns i k z h = subst (λ (y : Calming). Leads y (passes c ns k z)) (passes_next c ns i z) (passes_leads ns (i + 1) k z h)
 

@@ -37,7 +37,7 @@ module _ {D : Type 0} (view : D → DiskView) (ss : List Slot) (ps : List (Pair 
     pub own_stands : HostStands s.host (images_of view p).0 (images_of view p).1
     own_stands = subst (λ (q : Images). HostStands s.host q.0 q.1) own_are (sits.each i s there)
 
-    -- and tells where the nodes stand for a world
+    -- and says where the nodes stand for a world
     pub own_told : (c : CircuitId) (m : CircuitWorld) → Holds c m nodes → Tell (images_of view p)
     own_told c m h = subst Tell own_are (h.told i s there)
 
@@ -66,7 +66,7 @@ module _ {D : Type 0} (view : D → DiskView) (ss : List Slot) (ps : List (Pair 
           (subst (λ (v : NodeView). IsDone (slot_id s) (plan_of (site_at (slot_id s) c) (v.cells c) e) (place_of v c) (place_of (node_view t (images_of view r)) c)) (sym own_view) done)
           (λ d off. subst (λ (v : NodeView). place_of (node_view t (images_of view r)) d ≡ place_of v d) (sym own_view) (others d off)))
 
--- the disks behind it
+-- the disks after it
 pub one_leaves : {D A : Type 0} (view : D → DiskView) (x : Result A WorldFault) (ps : List (Pair D)) (k : ℕ) (p r : Pair D) (position : ℕ) → slice_get ps k ≡ Some p → k ≡ position
     → PairOnward (pair_view view p) (pair_view view r)
     → ((slot : ℕ) → IsErrOf x (Disk slot) → (slot ≡ position) × HasRisen (pair_view view p) (pair_view view r))

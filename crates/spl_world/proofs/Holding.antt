@@ -134,7 +134,7 @@ each_as P Q ids ns places ks start ps same put more h = λ i n k s p at place wa
     more n s p (h i n k s p (ap (λ (xs : List NodeId). slice_get xs i) (sym same) ∙ at) (ap (λ (xs : List ℕ). slice_get xs i) (sym put) ∙ place) was there)
 
 module _ (start : List PairView) (before : List Ran) (r : Ran) (w v : World) (old new : List PairView) (same : ids_of v ≡ ids_of w) (put : places_of v ≡ places_of w) where
-  -- where all pick by a line, they have picked behind it
+  -- where all pick by a line, they have picked after it
   pub all_picked_by : AllPicked start before w old → AllPickBy before r w old new → AllPicked start (before ++ r ∷ []) v new
   all_picked_by h by = each_as (HasPicked (ids_of w) (before ++ r ∷ [])) (HasPicked (ids_of v) (before ++ r ∷ [])) (ids_of w) (ids_of v) (places_of w) (places_of v) start new same put
       (λ n s p x. subst (λ (ns : List NodeId). HasPicked ns (before ++ r ∷ []) n s p) (sym same) x)
@@ -203,7 +203,7 @@ failed_since s p q one other on (inr rose) =
     let last : last_count s.second.faults q.second.picks ≡ last_count s.second.faults p.second.picks = ap (last_count s.second.faults) on.second.picks in
     inr (omega (arith, last, other.later, rose))
 
--- a disk that fails does so behind its last pick
+-- a disk that fails does so after its last pick
 pub failed_behind : (start : List PairView) (before : List Ran) (w : World) (old new : List PairView) (slot : ℕ) → AllPicked start before w old → AllGoOn old new → RoseAt slot old new → IsPlace (places_of w) slot → FailedSince slot start new
 failed_behind start before w old new slot h on rose place = record {
   below = subst (λ (n : ℕ). slot < n) (sym on.as_many) rose.below;

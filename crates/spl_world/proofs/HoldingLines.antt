@@ -1,4 +1,4 @@
--- Behind each line the disks of all nodes hold what the nodes keep.
+-- After each line the disks of all nodes hold what the nodes keep.
 use Rattle.std.proofs.Common.{◌≡◌, ℕ, true, false, true≢false, List, [], ◌∷◌, ◌++◌, slice_get, Option, Some, Result, Ok, Err, OnOk, refl}
 use Rattle.std.specs.Prelude.{IsErrOf}
 use Rattle.spl_circuit.specs.Nodes.{NodeId}
@@ -30,7 +30,7 @@ steps_none (line.Cut calls f s) h n = absurd (true≢false h)
 steps_none (line.Fail call s) h n = absurd (true≢false h)
 steps_none _ h n = refl
 
--- behind one that does no disk is armed, where none was
+-- after one that does no disk is armed, where none was
 pub unarmed_halt : {A : Type 0} (x : Result A WorldFault) (l : Line) (xs : Nodes) (old new : List PairView) → OnOk x (StopsBy l xs old new) → AllUnarmed old → OnOk x (AllUnarmed new)
 unarmed_halt (Ok a) l xs old new s off = unarmed_behind _ _ s.slot.slot.position old new s.slot.stop (λ p q picked h. let both = picked h in (both.first_is.disarmed, both.second_is.disarmed)) off
 unarmed_halt (Err e) l xs old new s off = tt

@@ -56,7 +56,7 @@ module _ {D : Type 0} (view : D → DiskView) where
   abbrev told : List (Pair D) → List PairView
   told ps = bench view ps
 
-  -- what a pair tells is what it holds
+  -- what a pair reports is what it holds
   pub told_images : (ps : List (Pair D)) (k : ℕ) (p : PairView) → slice_get (told ps) k ≡ Some p → images_at (images view ps) k ≡ (image_now p.first, image_now p.second)
   told_images [] k p e = absurd cc
   told_images (r ∷ ps) zero p e = let same : pair_view view r ≡ p = cc in ap (λ (v : PairView). (image_now v.first, image_now v.second)) same

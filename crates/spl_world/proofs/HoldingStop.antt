@@ -31,7 +31,7 @@ use Rattle.spl_base.specs.Booleans.{bytes_are, bytes_same}
 images_are : (o p : Option Image) (a b : Image) (P : Image → Image → Type 0) → o ≡ Some a → p ≡ Some b → IfBoth o p P → P a b
 images_are o p a b P e f h = subst (λ (y : Option Image). IfBoth (Some a) y P) f (subst (λ (x : Option Image). IfBoth x p P) e h)
 
--- two disks picked by a line, and stand for the cells behind it
+-- two disks picked by a line, and stand for the cells after it
 pub picked_once : (ns : List NodeId) (t : Point) (n : NodeId) (p q : PairView) → HavePicked (stopping_of t.ran.line) p q → (IsTorn ns t.before t.ran.line → HasRisen p q)
     → IfBoth (image_now q.first) (image_now q.second) (λ i j. StandFor n (cells_behind ns (behind_point t) n) i.bytes j.bytes) → PicksOnce ns t n p q
 picked_once ns t n p q one rose stand =
@@ -71,7 +71,7 @@ same_pair xs ys k p q same e f = let h : Some q ≡ Some p = sym f ∙ same ∙ 
 same_slot : (ss : List Slot) (i j : ℕ) (x z : Slot) → slice_get ss i ≡ Some x → slice_get ss j ≡ Some z → j ≡ i → x ≡ z
 same_slot ss i j x z e f at = let h : Some x ≡ Some z = sym e ∙ ap (λ (k : ℕ). slice_get ss k) (sym at) ∙ f in cc
 
--- where no disk was armed before a stop, none is behind it
+-- where no disk was armed before a stop, none is after it
 pub unarmed_behind : (P : PairView → PairView → Type 0) (up : Bool) (k : ℕ) (xs ys : List PairView) → StopsAt P up k xs ys → ((p q : PairView) → P p q → IsPairUnarmed p → IsPairUnarmed q) → AllUnarmed xs → AllUnarmed ys
 unarmed_behind P up k xs ys stop off h = λ i q there. go i q there (bool_cases up) (bool_cases (eqb i k))
   where
@@ -119,7 +119,7 @@ module _ {D : Type 0} (view : D → DiskView) where
     abbrev stop : StopsAt (PickUnarmed (stopping_of r.line)) (slot_up x) x.position (told old) (told new)
     stop = stopped.slot.stop
 
-    -- what its disks hold behind the line
+    -- what its disks hold after the line
     stand_behind : (q : PairView) → slice_get (told new) x.position ≡ Some q → IfBoth (image_now q.first) (image_now q.second) (λ i j. StandFor (slot_id x) (cells_behind (ids_of w) (before ++ r ∷ []) (slot_id x)) i.bytes j.bytes)
     stand_behind q is =
         let now = pair_held view (before ++ r ∷ []) v new after i (slot_id x) x.position q (ap (λ (ns : List NodeId). slice_get ns i) same ∙ id_at w.slots.items i x there) (ap (λ (ks : List ℕ). slice_get ks i) put ∙ place_at w.slots.items i x there) is in
@@ -200,7 +200,7 @@ module _ {D : Type 0} (view : D → DiskView) where
           subst (λ (m : NodeId). PicksBy (ids_of w) before r m p q) s.id_is
           (by_slot j z p q s.there (ap (slice_get (told old)) s.place_is ∙ was) (ap (slice_get (told new)) s.place_is ∙ is) off)
 
-    -- behind the stop all have picked
+    -- after the stop all have picked
     pub picked_behind_stop : (start : List PairView) → AllPicked start before w (told old) → AllPicked start (before ++ r ∷ []) v (told new)
     picked_behind_stop start h = go (bool_cases (slot_up x))
       where

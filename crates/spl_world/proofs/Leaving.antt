@@ -1,4 +1,4 @@
--- How calls leave the disks, one behind the other.
+-- How calls leave the disks, one after the other.
 use Rattle.std.proofs.Common.{◌≡◌, ◌⊎◌, inl, inr, ℕ, zero, suc, ◌<◌, ◌≤◌, false, true≢false, List, [], ◌∷◌, length, slice_get, slice_set, Option, Some, Result, Ok, Err, OnErr, refl, ap, sym, subst, ◌∙◌, arith}
 use Rattle.std.specs.Prelude.{IfErr, IsErr, IsErrOf}
 use Rattle.std.specs.Result.{IsErrAnd}
@@ -68,14 +68,14 @@ leaves_ok a xs ys on = record { onward = on; failed = λ slot q. absurd cc }
 pub leaves_same : {A : Type 0} (a : A) (xs : List PairView) → LeavesDisks (Ok a) xs xs
 leaves_same a xs = leaves_ok a xs xs (all_itself xs)
 
--- a disk that failed, behind calls that let all go on
+-- a disk that failed, after calls that let all go on
 pub rose_behind : (slot : ℕ) (xs ys zs : List PairView) → AllGoOn xs ys → RoseAt slot ys zs → RoseAt slot xs zs
 rose_behind slot xs ys zs on rose = record {
   below = subst (λ (n : ℕ). slot < n) on.as_many rose.below;
   rose = λ p z e f. let m = between xs ys slot p on e in rose_then p m.0 z (on.each slot p m.0 e m.1) (rose.rose m.0 z m.1 f);
 }
 
--- a call behind another
+-- a call after another
 pub leaves_then : {A : Type 0} (r : Result A WorldFault) (xs ys zs : List PairView) → AllGoOn xs ys → LeavesDisks r ys zs → LeavesDisks r xs zs
 leaves_then r xs ys zs on k = record {
   onward = all_then xs ys zs on k.onward;

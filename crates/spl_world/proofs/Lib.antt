@@ -9,6 +9,7 @@ pub mod Unmade
 mod Moving
 pub mod Handling
 pub mod Leaving
+pub mod Sparing
 pub mod Pairing
 mod Posting
 mod Quieting

@@ -1,4 +1,4 @@
--- How calls leave the faults of the links, one behind the other.
+-- How calls leave the faults of the links, one after the other.
 use Rattle.std.proofs.Common.{◌≡◌, ℕ, ◌<◌, true, false, Result, Ok, Err, refl, sym, ap, subst, ◌∙◌, arith}
 use Rattle.std.specs.Prelude.{IsErr}
 use Rattle.std.specs.Result.{IsErrAnd}
@@ -40,7 +40,7 @@ faults_off (Err f) x y off on = record {
 pub faults_still : {A : Type 0} (r : Result A WorldFault) (x : LinkView) → IsOff r → LeavesLinks r x x
 faults_still r x off = faults_off r x x off (links_itself x)
 
--- a call behind others
+-- a call after others
 pub faults_then : {A : Type 0} (r : Result A WorldFault) (x y z : LinkView) → LinksGoOn x y → LeavesLinks r y z → LeavesLinks r x z
 faults_then r x y z on k = record {
   onward = links_then x y z on k.onward;

@@ -1,5 +1,5 @@
--- How calls leave the links, one behind the other.
-use Rattle.std.proofs.Common.{◌≡◌, ℕ, ◌≤◌, Bool, true, false, List, [], ◌++◌, Result, Ok, Err, OnErr, refl, sym, ap, subst, ◌∙◌, arith}
+-- How calls leave the links, one after the other.
+use Rattle.std.proofs.Common.{◌≡◌, ℕ, ◌≤◌, Bool, true, false, List, [], ◌++◌, append_assoc, Result, Ok, Err, OnErr, refl, sym, ap, subst, ◌∙◌, arith}
 use Rattle.std.specs.Prelude.{IfErr, IsErr, IsErrOf}
 use Rattle.std.specs.List.{list_any}
 use Rattle.std.specs.Result.{IsErrAnd}
@@ -10,11 +10,11 @@ use Rattle.spl_pump.proofs.Wires.{part_of_more, puts_nothing, puts_nothing_part,
 use Rattle.std.proofs.lemmas.Bool.{eq-eqb, or_left, or_right}
 use Rattle.spl_edge.specs.Causes.{Rose}
 use Rattle.spl_edge.specs.Views.{Streams}
-use Rattle.spl_pump.specs.Wires.{Carried, LiesOf, Puts, PutsPart, is_on, only}
+use Rattle.spl_pump.specs.Wires.{Carried, LiesBy, LiesOf, Puts, PutsPart, is_on, only}
 use Rattle.spl_pump.specs.declared.fault.PumpFault.{PumpFault}
 use Rattle.spl_pump.specs.declared.fault.PumpFault.TheVariants as pump
 use Rattle.spl_wire.specs.declared.message.Message.{Message}
-use Rattle.spl_world.specs.Links.{Carries, CarriesPart, Delivers, HasLinkCause, LinkView, carry_fault, is_of_links}
+use Rattle.spl_world.specs.Links.{Carries, CarriesPart, Delivers, HasLinkCause, LinkView, WasDue, carry_fault, is_of_links}
 use Rattle.spl_world.specs.declared.fault.WorldFault.{WorldFault}
 use Rattle.spl_world.specs.declared.fault.WorldFault.TheVariants.{Disk, Lied, Link, NoMemory, NotAJournal, TooMany}
 
@@ -40,13 +40,14 @@ idle_puts : (x : LinkView) (s : Streams) → IsIdle x → Puts (x.wire []) s s
 idle_puts x s idle = same_puts (λ a b. []) (x.wire []) s s (λ a b. sym (idle a b)) (puts_nothing s)
 
 pub carries_nothing : (x : LinkView) → IsIdle x → Carries [] x x
-carries_nothing x idle = record { onward = goes_on_none x.wire idle; put = idle_puts x x.put idle; no_less = omega arith }
+carries_nothing x idle = record { onward = goes_on_none x.wire idle; put = idle_puts x x.put idle; no_less = omega arith; hello = refl }
 
 pub carries_then : (xs ys : List Carried) (x y z : LinkView) → Carries xs x y → Carries ys y z → Carries (xs ++ ys) x z
 carries_then xs ys x y z a b = record {
   onward = goes_on_more xs ys x.wire y.wire z.wire a.onward b.onward;
   put = puts_on xs ys x.wire y.wire x.put y.put z.put a.onward a.put b.put;
   no_less = omega (arith, a.no_less, b.no_less);
+  hello = b.hello ∙ a.hello;
 }
 
 -- ---- a part of them
@@ -57,17 +58,44 @@ any_front p xs ys h = list_any-append p xs ys ∙ or_left (list_any p xs) (list_
 any_behind : (p : Carried → Bool) (xs ys : List Carried) → list_any p ys ≡ true → list_any p (xs ++ ys) ≡ true
 any_behind p xs ys h = list_any-append p xs ys ∙ or_right (list_any p xs) (list_any p ys) h
 
-cause_behind : (e : WorldFault) (xs ys : List Carried) (x y z : LinkView) → x.faults ≤ y.faults → HasLinkCause e ys y z → HasLinkCause e (xs ++ ys) x z
-cause_behind Link xs ys x y z less c = omega (arith, less, c)
-cause_behind (Lied from to put got) xs ys x y z less c = (any_behind (is_on from to) xs ys c.0, c.1)
-cause_behind (TooMany which) xs ys x y z less c = tt
-cause_behind (Disk slot) xs ys x y z less c = tt
-cause_behind (NotAJournal slot at) xs ys x y z less c = tt
-cause_behind NoMemory xs ys x y z less c = tt
+due_behind : (hello : ℕ → ℕ → List ℕ) (from to : ℕ) (xs ys : List Carried) (bytes : List ℕ) → WasDue hello from to ys bytes → WasDue hello from to (xs ++ ys) bytes
+due_behind hello from to xs ys bytes d = record {
+  before = xs ++ d.before;
+  message = d.message;
+  later = d.later;
+  there = ap (λ (l : List Carried). xs ++ l) d.there ∙ sym (append_assoc xs d.before (only from to d.message ++ d.later));
+  due = d.due;
+}
+
+due_more : (hello : ℕ → ℕ → List ℕ) (from to : ℕ) (xs ys : List Carried) (bytes : List ℕ) → WasDue hello from to xs bytes → WasDue hello from to (xs ++ ys) bytes
+due_more hello from to xs ys bytes d = record {
+  before = d.before;
+  message = d.message;
+  later = d.later ++ ys;
+  there = ap (λ (l : List Carried). l ++ ys) d.there ∙ append_assoc d.before (only from to d.message ++ d.later) ys;
+  due = d.due;
+}
+
+-- a cause stands from an earlier moment on
+pub cause_since : (e : WorldFault) (sent : List Carried) (x y z : LinkView) → x.faults ≤ y.faults → y.hello ≡ x.hello → HasLinkCause e sent y z → HasLinkCause e sent x z
+cause_since Link sent x y z less same c = omega (arith, less, c)
+cause_since (Lied from to put got) sent x y z less same c = (c.0, c.1, subst (λ (hello : ℕ → ℕ → List ℕ). WasDue hello from to sent put) same c.2)
+cause_since (TooMany which) sent x y z less same c = tt
+cause_since (Disk slot) sent x y z less same c = tt
+cause_since (NotAJournal slot at) sent x y z less same c = tt
+cause_since NoMemory sent x y z less same c = tt
+
+cause_behind : (e : WorldFault) (xs ys : List Carried) (y z : LinkView) → HasLinkCause e ys y z → HasLinkCause e (xs ++ ys) y z
+cause_behind Link xs ys y z c = c
+cause_behind (Lied from to put got) xs ys y z c = (any_behind (is_on from to) xs ys c.0, c.1, due_behind y.hello from to xs ys put c.2)
+cause_behind (TooMany which) xs ys y z c = tt
+cause_behind (Disk slot) xs ys y z c = tt
+cause_behind (NotAJournal slot at) xs ys y z c = tt
+cause_behind NoMemory xs ys y z c = tt
 
 cause_more : (e : WorldFault) (xs ys : List Carried) (x y : LinkView) → HasLinkCause e xs x y → HasLinkCause e (xs ++ ys) x y
 cause_more Link xs ys x y c = c
-cause_more (Lied from to put got) xs ys x y c = (any_front (is_on from to) xs ys c.0, c.1)
+cause_more (Lied from to put got) xs ys x y c = (any_front (is_on from to) xs ys c.0, c.1, due_more x.hello from to xs ys put c.2)
 cause_more (TooMany which) xs ys x y c = tt
 cause_more (Disk slot) xs ys x y c = tt
 cause_more (NotAJournal slot at) xs ys x y c = tt
@@ -85,7 +113,7 @@ pub part_behind : (e : WorldFault) (xs ys : List Carried) (x y z : LinkView) →
 part_behind e xs ys x y z a b = record {
   put = puts_on_part xs ys x.wire y.wire x.put y.put z.put a.onward a.put b.put;
   no_less = omega (arith, a.no_less, b.no_less);
-  cause = cause_behind e xs ys x y z a.no_less b.cause;
+  cause = cause_since e (xs ++ ys) x y z a.no_less a.hello (cause_behind e xs ys y z b.cause);
 }
 
 pub part_more : (e : WorldFault) (xs ys : List Carried) (x y : LinkView) → HasFronts x → CarriesPart e xs x y → CarriesPart e (xs ++ ys) x y
@@ -107,7 +135,7 @@ carries_part e xs x y off k = record {
 pub delivers_as : {A : Type 0} (r : Result A WorldFault) (xs ys : List Carried) (x y : LinkView) → xs ≡ ys → Delivers r xs x y → Delivers r ys x y
 delivers_as r xs ys x y same d = subst (λ (l : List Carried). Delivers r l x y) same d
 
--- a call that carried these, and another behind it
+-- a call that carried these, and another after it
 pub delivers_then : {A : Type 0} (r : Result A WorldFault) (xs ys : List Carried) (x y z : LinkView) → Carries xs x y → Delivers r ys y z → Delivers r (xs ++ ys) x z
 delivers_then (Ok a) xs ys x y z k d = carries_then xs ys x y z k d
 delivers_then (Err e) xs ys x y z k d = part_behind e xs ys x y z k d
@@ -142,17 +170,17 @@ off_memory (Err g) e = ap is_of_links e.1
 on_own : (from to : ℕ) (m : Message) → list_any (is_on from to) (only from to m) ≡ true
 on_own from to m = rw (eq-eqb from from refl, eq-eqb to to refl) refl
 
-fault_cause : (e : PumpFault) (from to : ℕ) (m : Message) (x y : LinkView) → (e ≡ pump.Link → Rose x.faults y.faults) → LiesOf e y.put y.taken → HasLinkCause (carry_fault from to e) (only from to m) x y
-fault_cause pump.Link from to m x y rose lies = rose refl
-fault_cause (pump.Lied sent got) from to m x y rose lies = (on_own from to m, lies)
-fault_cause pump.NoMemory from to m x y rose lies = tt
+fault_cause : (e : PumpFault) (from to : ℕ) (m : Message) (x y : LinkView) → (e ≡ pump.Link → Rose x.faults y.faults) → LiesOf e y.put y.taken → LiesBy x.hello from to m e → HasLinkCause (carry_fault from to e) (only from to m) x y
+fault_cause pump.Link from to m x y rose lies due = rose refl
+fault_cause (pump.Lied sent got) from to m x y rose lies due = (on_own from to m, lies, record { before = []; message = m; later = []; there = refl; due = due })
+fault_cause pump.NoMemory from to m x y rose lies due = tt
 
 -- it was not carried
-pub fault_part : (f : WorldFault) (e : PumpFault) (from to : ℕ) (m : Message) (x y : LinkView) → f ≡ carry_fault from to e → PutsPart (x.wire (only from to m)) x.put y.put → x.faults ≤ y.faults → (e ≡ pump.Link → Rose x.faults y.faults) → LiesOf e y.put y.taken → CarriesPart f (only from to m) x y
-fault_part f e from to m x y is part less rose lies = subst (λ (g : WorldFault). CarriesPart g (only from to m) x y) (sym is) (record {
+pub fault_part : (f : WorldFault) (e : PumpFault) (from to : ℕ) (m : Message) (x y : LinkView) → f ≡ carry_fault from to e → PutsPart (x.wire (only from to m)) x.put y.put → x.faults ≤ y.faults → (e ≡ pump.Link → Rose x.faults y.faults) → LiesOf e y.put y.taken → LiesBy x.hello from to m e → CarriesPart f (only from to m) x y
+fault_part f e from to m x y is part less rose lies due = subst (λ (g : WorldFault). CarriesPart g (only from to m) x y) (sym is) (record {
   put = part;
   no_less = less;
-  cause = fault_cause e from to m x y rose lies;
+  cause = fault_cause e from to m x y rose lies due;
 })
 
 -- nothing was carried yet

@@ -33,7 +33,7 @@ module _ (place : NodeId → ℕ) where
       ap (λ (l : List Carried). carried_at place w e ++ l) (carried_append (happens w e) es ys)
       ∙ sym (append_assoc (carried_at place w e) (carried_in place (happens w e) es) (carried_in place (occur (happens w e) es) ys))
 
-  -- ---- one part behind another
+  -- ---- one part after another
 
   both_lead : (z y w : Calming) (f : Leads z y) (g : Leads y w) → w.happened ≡ z.happened ++ (f.steps ++ g.steps)
   both_lead z y w f g = g.happened ∙ (ap (λ (es : List Occurrence). es ++ g.steps) f.happened ∙ append_assoc z.happened f.steps g.steps)
@@ -59,7 +59,7 @@ module _ (place : NodeId → ℕ) where
         (part_more e (carried_in place z.world f.0.steps) (carried_in place y.world g.steps) p q fronts f.1),
   )
 
-  -- so behind another
+  -- so after another
   pub err_then : (e : WorldFault) (z y v w : Calming) (p q s : LinkView) → HasFronts p → PartDelivers done place z y p q → PartFails e y v q s → Leads v w → PartFails e z w p s
   err_then e z y v w p q s fronts f g more = err_more e z v w p s fronts (ok_then (failed (Unit {0}) e) z y v p q s f g) more
 
@@ -149,7 +149,7 @@ module _ (place : NodeId → ℕ) where
     part_quiet ns (suc k) z x q idle =
         ok_then done z (pass c ns z) (passes c ns k (pass c ns z)) x x x (one_quiet ns z x q idle) (part_quiet ns k (pass c ns z) x (quiet-stays c ns z q) idle)
 
-    -- behind a pass that was quiet the passes that are left carry nothing
+    -- after a pass that was quiet the passes that are left carry nothing
     pub part_left : (ns : List NodeId) (z : Calming) (behind all : ℕ) (p q s : LinkView) → behind < all → IsQuiet c ns (passes c ns behind z) → IsIdle s
         → PartDelivers done place z (passes c ns behind z) p q → PartDelivers done place (passes c ns behind z) (pass c ns (passes c ns behind z)) q s → PartDelivers done place z (passes c ns all z) p s
     part_left ns z behind all p q s early quiet idle so_far one =

@@ -1,4 +1,4 @@
--- The nodes of a registry, one behind the other.
+-- The nodes of a registry, one after the other.
 use Rattle.std.proofs.Common.{◌≡◌, ◌⊎◌, inl, inr, ℕ, zero, suc, ◌+◌, ◌<◌, ◌≤◌, true, false, true≢false, List, [], ◌∷◌, ◌++◌, length, take, option_map, Some, IsSome, slice_get, slice_set, refl, ap, sym, ◌∙◌, subst, arith}
 use Rattle.std.proofs.lemmas.Bool.{cases_eq}
 use Rattle.std.specs.List.{position_from}
@@ -72,7 +72,7 @@ once (m ∷ ms) (suc i) (suc j) n a e f = ap suc (once ms i j n (tail_ascends m 
 -- ---- the nodes so far
 
 -- they have the first of the ids, nothing happened at them, and each stands over the pair at its position; the other pairs hold
--- what they held. Disks that told tell
+-- what they held. Disks that reported report
 pub record AreMade (es : List Entry) (ns : List NodeId) (k : ℕ) (ss : List Slot) (start now : List Images) : Type 0 where
   pub ids : slot_ids ss ≡ take k ns
   pub fresh : (i : ℕ) (s : Slot) → slice_get ss i ≡ Some s → IsFresh s

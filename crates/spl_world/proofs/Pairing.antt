@@ -63,7 +63,7 @@ pub changed_alone : (xs : Nodes) (i : ℕ) (x y : Slot) → Sits xs → slice_ge
 changed_alone xs i x y sits there =
     ap (λ (is : List Images). record { slots = slice_set xs.slots i y; disks = is }) (set_same xs.disks x.position (images_at xs.disks x.position) (pair_there xs.disks x.position (sits.below i x there)))
 
--- the disks tell as before, where those that were written do
+-- the disks report as before, where those that were written do
 pub told_changed : (xs : Nodes) (i : ℕ) (x y : Slot) (q : Images) → Sits xs → slice_get xs.slots i ≡ Some x → y.position ≡ x.position → Tell q
     → ((j : ℕ) (z : Slot) → slice_get xs.slots j ≡ Some z → Tell (images_at xs.disks z.position)) → (j : ℕ) (z : Slot) → slice_get (slice_set xs.slots i y) j ≡ Some z → Tell (images_at (slice_set xs.disks x.position q) z.position)
 told_changed xs i x y q sits there place own told j z at = go (set_cases xs.slots i j y z at)
@@ -78,7 +78,7 @@ module _ (xs : Nodes) (i : ℕ) (x y : Slot) (q : Images) (sits : Sits xs) (ther
   below_each j z (inl e) = subst (λ (k : ℕ). k < length (slice_set xs.disks x.position q)) (sym place ∙ ap (λ (u : Slot). u.position) e.1) (subst (λ (n : ℕ). x.position < n) (sym (set_length xs.disks x.position q)) (sits.below i x there))
   below_each j z (inr e) = subst (λ (n : ℕ). z.position < n) (sym (set_length xs.disks x.position q)) (sits.below j z e.1)
 
-  -- a node behind the write has the position of one before it
+  -- a node after the write has the position of one before it
   before : (j : ℕ) (z : Slot) → ((j ≡ i) × (y ≡ z)) ⊎ ((j ≡ i → ⊥) × (slice_get xs.slots j ≡ Some z)) → (u : Slot) × (slice_get xs.slots j ≡ Some u) × (z.position ≡ u.position)
   before j z (inl e) = (x, ap (λ (k : ℕ). slice_get xs.slots k) e.0 ∙ there, ap (λ (u : Slot). u.position) (sym e.1) ∙ place)
   before j z (inr e) = (z, e.1, refl)

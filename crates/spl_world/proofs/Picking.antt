@@ -114,7 +114,7 @@ stops_none P up k xs down = record { as_many = refl; others = λ i off. refl; pi
 
 -- ---- by the pair itself
 
--- the count of the disk that doesn't count, as it is told
+-- the count of the disk that doesn't count, as it is reported
 pub count_seen : {D : Type 0} (view : D → DiskView) (second : Bool) (p r : Pair D) → (view (chosen second p.second p.first)).faults < (view (chosen second r.second r.first)).faults
     → (chosen second (pair_view view p).second (pair_view view p).first).faults < (chosen second (pair_view view r).second (pair_view view r).first).faults
 count_seen view true p r h = h
@@ -130,7 +130,7 @@ module _ {D : Type 0} (view : D → DiskView) (ps : List (Pair D)) (k : ℕ) (p 
   there : slice_get (told ps) k ≡ Some (one p)
   there = bench_here view ps k p pair
 
-  -- what is said of all pairs behind the write
+  -- what is said of all pairs after the write
   behind : (P : List PairView → Type 0) → P (slice_set (told ps) k (one r)) → P (told (slice_set ps k r))
   behind P h = subst P (sym (bench_set view ps k r)) h
 

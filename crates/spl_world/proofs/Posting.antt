@@ -1,4 +1,4 @@
--- What was ever sent, behind more about one circuit.
+-- What was ever sent, after more about one circuit.
 use Rattle.std.proofs.Common.{◌≡◌, ◌⊎◌, inl, inr, true, false, sym, subst}
 use Rattle.std.specs.Str.{bytes_eq}
 use Rattle.spl_circuit.specs.Nodes.{NodeId, CircuitId}

@@ -37,7 +37,7 @@ pub record IsSameBut (n : NodeId) (m m2 : CircuitWorld) : Type 0 where
   pub at : (k : NodeId) → bytes_eq k n ≡ false → m2.at k ≡ m.at k
 
 module _ (xs : Nodes) (i : ℕ) (x y : Slot) (q : Images) (sits : Sits xs) (there : slice_get xs.slots i ≡ Some x) (place : y.position ≡ x.position) (same : slot_id y ≡ slot_id x) (tells : Tell q) where
-  -- the cells of the node, before and behind
+  -- the cells of the node, before and after
   abbrev was_at : CircuitId → Cell
   was_at c = (view_in xs x).cells c
 

@@ -1,4 +1,4 @@
--- A calm that stops behind a quiet pass, and counts the ticks of the passes that it leaves out.
+-- A calm that stops after a quiet pass, and counts the ticks of the passes that it leaves out.
 use Rattle.std.proofs.Common.{◌≡◌, ℕ, ◌+◌, ◌-◌, ◌*◌, ◌<◌, Result, List, length, ap, sym, ◌∙◌, arith}
 use Rattle.spl_circuit.specs.Nodes.{NodeId, CircuitId, sorted}
 use Rattle.spl_model.specs.Worlds.{World as CircuitWorld}
@@ -22,7 +22,7 @@ module _ (c : CircuitId) (ids : List NodeId) (z : Calming) (done all : ℕ) (ear
   whole : passes c ids all z ≡ passes c ids (all - done) (passes c ids done z)
   whole = ap (λ (k : ℕ). passes c ids k z) (sym rest) ∙ passes_split c ids done (all - done) z
 
-  -- the world is what it is behind the quiet pass
+  -- the world is what it is after the quiet pass
   pub left_world : (passes c ids all z).world ≡ (pass c ids (passes c ids done z)).world
   left_world = ap (λ (y : Calming). y.world) whole ∙ quiet-worlds c ids (all - done) (passes c ids done z) quiet ∙ sym (quiet-world c ids (passes c ids done z) quiet)
 

@@ -58,6 +58,6 @@ carried_between place xs i j x y a b m o placed there also at to is = carried_so
 pub places_as : (place : NodeId → ℕ) (ns ms : List NodeId) (ks ls : List ℕ) → ms ≡ ns → ls ≡ ks → Places place ns ks → Places place ms ls
 places_as place ns ms ks ls same also placed = subst (λ (ids : List NodeId). Places place ids ls) (sym same) (subst (λ (ps : List ℕ). Places place ns ps) (sym also) placed)
 
--- behind a message that was carried
+-- after a message that was carried
 pub moved_ready : (ks : List ℕ) (x y : LinkView) → y.slots ≡ x.slots → y.failed ≡ false → AllTaken y.put y.taken → IsReady ks x → IsReady ks y
 moved_ready ks x y same going taken ready = record { below = λ k at. subst (λ (n : ℕ). k < n) (sym same) (ready.below k at); going = going; taken = taken }

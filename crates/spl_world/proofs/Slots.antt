@@ -61,7 +61,7 @@ same_places [] i x y e s = refl
 same_places (z ∷ xs) zero x y e s = let same : z ≡ x = cc in ap (λ n. n ∷ slot_places xs) (s ∙ ap (λ (u : Slot). u.position) (sym same))
 same_places (z ∷ xs) (suc i) x y e s = ap (λ ns. z.position ∷ ns) (same_places xs i x y e s)
 
--- what stands at an index behind a write: what was written, or what stood there
+-- what stands at an index after a write: what was written, or what stood there
 pub set_cases : {X : Type 0} (xs : List X) (i j : ℕ) (y z : X) → slice_get (slice_set xs i y) j ≡ Some z → ((j ≡ i) × (y ≡ z)) ⊎ ((j ≡ i → ⊥) × (slice_get xs j ≡ Some z))
 set_cases [] i j y z h = absurd cc
 set_cases (x ∷ xs) zero zero y z h = let same : y ≡ z = cc in inl (refl, same)

@@ -1,4 +1,4 @@
--- What stands behind a line more.
+-- What stands after a line more.
 use Rattle.std.proofs.Common.{◌≡◌, ◌⊎◌, inl, inr, ℕ, ◌+◌, ◌<◌, ◌≤◌, Bool, true, false, true≢false, List, [], ◌∷◌, ◌++◌, Some, Result, IfOk, refl, ap, sym, ◌∙◌, subst, arith, Ok, Err}
 use Rattle.std.specs.Prelude.{IsErrOf, IsErr}
 use Rattle.std.specs.Str.{bytes_eq}
@@ -38,7 +38,7 @@ use Rattle.spl_base.specs.Booleans.{bytes_are}
 pub fits_after : (before : List Ran) (l : Line) → lines_fit before ≡ true → is_line l ≡ true → lines_fit (before ++ by_rule l ∷ []) ≡ true
 fits_after before l h k = fit-append before (by_rule l ∷ []) h (rw k)
 
--- the events of lines, and of one more, which are so many in the world behind all lines
+-- the events of lines, and of one more, which are so many in the world after all lines
 pub events_after : (old : World) (was : List Images) (before : List Ran) (l : Line) (n : ℕ) → Stands before old was → is_line l ≡ true → line_events (λ c. whole_world (blank (ids_of old)) c before) l ≡ n → events_of (blank (ids_of old)) (before ++ by_rule l ∷ []) ≡ old.events + n
 events_after old was before l n stands fits e =
     events-more (blank (ids_of old)) before (by_rule l) (is-blank (ids_of old)) (fits_after before l stands.fit fits)

@@ -1,4 +1,4 @@
--- Disks that tell what they hold.
+-- Disks that say what they hold.
 use Rattle.std.proofs.Common.{ℕ, zero, suc, ◌<◌, ◌≤◌, List, [], ◌∷◌, length, Option, ◌∙◌, arith}
 use Rattle.std.specs.Prelude.{IsSome}
 use Rattle.spl_edge.specs.Image.{Image}
@@ -6,11 +6,11 @@ use Rattle.spl_edge.specs.declared.bench.Pair.{Pair}
 use Rattle.spl_edge.specs.Views.{image_now, DiskView}
 use Rattle.spl_world.specs.Disks.{AllTell, Images, Tell, TellAs, images, images_at}
 
--- disks that tell as others did, which told
+-- disks that report as others did, which reported
 pub told_as : (is js : Images) → TellAs is js → Tell is → Tell js
 told_as is js same h = (same.0 ∙ h.0, same.1 ∙ h.1)
 
--- of disks each of which tells all pairs do
+-- of disks each of which reports all pairs do
 module _ {D : Type 0} (view : D → DiskView) (tells : (d : D) → IsSome (image_now (view d))) where
   each_tells : (ps : List (Pair D)) (i : ℕ) → i < length ps → Tell (images_at (images view ps) i)
   each_tells [] i below = absurd (omega (arith, below))

@@ -30,7 +30,7 @@ use Rattle.spl_world.proofs.Sends.{bool_cases}
 use Rattle.spl_world.proofs.Slots.{take_one, not_before}
 use Rattle.spl_world.proofs.Up.{step_up}
 
--- the world behind the ticks of these nodes
+-- the world after the ticks of these nodes
 abbrev pub ticked : CircuitId → Calming → List NodeId → CircuitWorld → CircuitWorld
 ticked c z ns m = (ticks c (record z { world = m }) (open_nodes m ns)).world
 
@@ -47,7 +47,7 @@ without p (x ∷ xs) n h = go (bool_cases (bytes_eq x n)) (bool_cases (p x)) (wi
     go (inr q) (inl r) rest = rw (r, q) (rest (rw q at h))
     go (inr q) (inr r) rest = rw r (rest (rw q at h))
 
--- a front of the nodes has no more ticks
+-- a prefix of the nodes has no more ticks
 pub open_front : (m : CircuitWorld) (ids : List NodeId) (i : ℕ) → length (open_nodes m (take i ids)) ≤ length (open_nodes m ids)
 open_front m ids i =
     let parts : length (open_nodes m ids) ≡ length (open_nodes m (take i ids)) + length (open_nodes m (drop i ids)) =
@@ -64,7 +64,7 @@ module _ (c : CircuitId) (z : Calming) (ids : List NodeId) (i : ℕ) (n : NodeId
   untouched : has_node (take i ids) n ≡ false → (ticked c z (take i ids) m).at n ≡ m.at n
   untouched h = ticks_at c (record z { world = m }) (open_nodes m (take i ids)) n (without is_ticked (take i ids) n h)
 
-  -- whether the node is ticked, behind the ticks of others
+  -- whether the node is ticked, after the ticks of others
   now : has_node (take i ids) n ≡ false → ((ticked c z (take i ids) m).up n && is_open_cell ((ticked c z (take i ids) m).at n)) ≡ is_ticked n
   now h = ap (λ (f : NodeId → Bool). f n && is_open_cell ((ticked c z (take i ids) m).at n)) (ticks-up c (record z { world = m }) (open_nodes m (take i ids))) ∙ ap (λ (k : Cell). m.up n && is_open_cell k) (untouched h)
 

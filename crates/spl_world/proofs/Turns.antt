@@ -17,7 +17,7 @@ use Rattle.spl_agree.proofs.Tests.{if_holds}
 use Rattle.spl_world.proofs.Slots.{apart, take_one, set_cases, differ, differ_back, below_after, tail_ascends}
 use Rattle.spl_base.specs.Booleans.{bytes_same}
 
--- the world behind so many deliveries, from this number on
+-- the world after so many deliveries, from this number on
 abbrev pub delivered : CircuitId → Calming → NodeId → NodeId → ℕ → ℕ → CircuitWorld → CircuitWorld
 delivered c z a b first k m = (delivers c (record z { world = m }) a b first k).world
 

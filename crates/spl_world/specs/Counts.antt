@@ -8,7 +8,7 @@ use Rattle.spl_model.specs.Projection.{Ran}
 use Rattle.spl_world.specs.declared.fault.WorldFault.{WorldFault}
 use Rattle.spl_world.specs.declared.fault.WorldFault.TheVariants.{TooMany}
 
--- a call that takes a line with so many events to one with as many more counts these: behind success they are counted, and it
+-- a call that takes a line with so many events to one with as many more counts these: after success they are counted, and it
 -- finds no room only where there are too many
 pub record Counts {A : Type 0} (r : Result A WorldFault) (old new before after : ℕ) : Type 0 where
   pub ok : OnOk r (new + before ≡ old + after)
@@ -21,4 +21,6 @@ is_of_limit _ = false
 
 -- lines have more events than a run may, which is limit 1; or no more, and stop more often than it may, which is limit 2
 abbrev pub IsOver : List NodeId → List Ran → ℕ → Type 0
-IsOver ns rs which = ((which ≡ 1) × (MOST_EVENTS < events_of (blank ns) rs)) ⊎ ((which ≡ 2) × (events_of (blank ns) rs ≤ MOST_EVENTS) × (MOST_STOPS < stops_of rs))
+IsOver ns rs which =
+    ((which ≡ 1) × (MOST_EVENTS < events_of (blank ns) rs))
+    ⊎ ((which ≡ 2) × (events_of (blank ns) rs ≤ MOST_EVENTS) × (MOST_STOPS < stops_of rs))

@@ -1,4 +1,4 @@
--- What the disks of the nodes tell, and how a call leaves them.
+-- What the disks of the nodes report, and how a call leaves them.
 use Rattle.std.specs.Prelude.{◌≡◌, ◌⊎◌, ◌<◌, ◌≤◌, ℕ, Bool, true, false, List, [], ◌∷◌, length, slice_get, Option, Some, None, Result, IsErrOf, IfSome}
 use Rattle.spl_edge.specs.Image.{Image}
 use Rattle.spl_edge.specs.Views.{DiskView, PairView, image_now}
@@ -10,7 +10,7 @@ use Rattle.spl_snapshot.specs.Counting.{HasRisen, PairOnward, TellsAs}
 use Rattle.spl_world.specs.declared.fault.WorldFault.{WorldFault}
 use Rattle.spl_world.specs.declared.fault.WorldFault.TheVariants.{Disk, NotAJournal}
 
--- what the two disks of a node hold now, where they tell
+-- what the two disks of a node hold now, where they report
 abbrev pub Images : Type 0
 Images = Option Image × Option Image
 
@@ -30,7 +30,7 @@ images_or_none (Some is) = is
 abbrev pub images_at : List Images → ℕ → Images
 images_at is i = images_or_none (slice_get is i)
 
--- both disks of a node tell what they hold
+-- both disks of a node say what they hold
 abbrev pub Tell : Images → Type 0
 Tell is = BothTell is.0 is.1
 
@@ -38,11 +38,11 @@ Tell is = BothTell is.0 is.1
 abbrev pub AllTell : ℕ → List Images → Type 0
 AllTell n is = (i : ℕ) → i < n → Tell (images_at is i)
 
--- each of the two tells exactly where it did
+-- each of the two reports exactly where it did
 abbrev pub TellAs : Images → Images → Type 0
 TellAs old new = TellsAs old.0 new.0 × TellsAs old.1 new.1
 
--- both disks are blank, where they tell
+-- both disks are blank, where they report
 pub record AreBlank (is : Images) : Type 0 where
   pub first : IfSome is.0 IsBlank
   pub second : IfSome is.1 IsBlank
@@ -64,7 +64,7 @@ abbrev pub is_of_journal : WorldFault → Bool
 is_of_journal (NotAJournal slot at) = true
 is_of_journal _ = false
 
--- a call lets all pairs go on, and one that ends because the disks of a node failed tells the position of a pair of which one
+-- a call lets all pairs go on, and one that ends because the disks of a node failed reports the position of a pair of which one
 -- failed more often
 pub record LeavesDisks {A : Type 0} (r : Result A WorldFault) (old new : List PairView) : Type 0 where
   pub onward : AllGoOn old new

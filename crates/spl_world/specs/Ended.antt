@@ -24,14 +24,18 @@ use Rattle.spl_world.specs.declared.slot.Slot.{Slot}
 abbrev pub LeaveNow : (List ℕ → List ℕ → Type 0) → Images → Type 0
 LeaveNow P is = IfBoth is.0 is.1 (λ i j. (c d : List ℕ) → MayLeave i c → MayLeave j d → P c d)
 
--- what a read gives of them stands for these cells of a node, and so does whatever a stop leaves
-pub record HoldFor (n : NodeId) (cells : CircuitId → Cell) (is : Images) : Type 0 where
-  pub read : IfBoth is.0 is.1 (λ i j. StandFor n cells i.bytes j.bytes)
-  pub left : LeaveNow (StandFor n cells) is
+-- and so has what a read gives of them
+pub record Hold (P : List ℕ → List ℕ → Type 0) (is : Images) : Type 0 where
+  pub read : IfBoth is.0 is.1 (λ i j. P i.bytes j.bytes)
+  pub left : LeaveNow P is
 
--- whatever a stop leaves stands for these cells or for those
+-- both stand for these cells of a node
+abbrev pub HoldFor : NodeId → (CircuitId → Cell) → Images → Type 0
+HoldFor n cells is = Hold (StandFor n cells) is
+
+-- or for these or those
 abbrev pub LeaveEither : NodeId → (CircuitId → Cell) → (CircuitId → Cell) → Images → Type 0
-LeaveEither n before behind is = LeaveNow (λ c d. StandFor n before c d ⊎ StandFor n behind c d) is
+LeaveEither n before behind is = Hold (λ c d. StandFor n before c d ⊎ StandFor n behind c d) is
 
 -- ---- an event
 

@@ -14,7 +14,7 @@ use Rattle.spl_wire.specs.declared.event.Event.{Event}
 use Rattle.spl_wire.specs.declared.event.Event.TheVariants as event
 use Rattle.spl_wire.specs.declared.message.Message.{Message}
 
--- what became of the record of a step in which its node stopped; nothing is told of a node that was down
+-- what became of the record of a step in which its node stopped; nothing is reported of a node that was down
 abbrev pub bit_in : CircuitWorld → Step → Bool → Option Bit
 bit_in m s kept = if m.up (step_node s) then Some (bit_of kept (step_plan m s).changes) else None
 

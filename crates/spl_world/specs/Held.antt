@@ -1,4 +1,4 @@
--- What the disks of a node hold behind the lines that ran (docs/RULES.md, Journals, Stops in an event).
+-- What the disks of a node hold after the lines that ran (docs/RULES.md, Journals, Stops in an event).
 use Rattle.std.specs.Prelude.{◌≡◌, ◌≢◌, ◌⊎◌, ◌<◌, ◌≤◌, ℕ, Bool, true, false, ◌&&◌, List, [], ◌∷◌, ◌++◌, length, slice_get, Option, Some, None, if◌then◌else◌}
 use Rattle.std.specs.Str.{bytes_eq}
 use Rattle.spl_circuit.specs.Nodes.{NodeId, CircuitId}
@@ -25,11 +25,11 @@ use Rattle.spl_sched.specs.declared.line.Step.{Step}
 use Rattle.spl_sched.specs.Grammar.{step_circuit, step_node}
 use Rattle.spl_snapshot.specs.Counting.{chosen, second_counts, IfBoth}
 use Rattle.spl_world.specs.Disks.{IsPairUnarmed, IsUnarmed, RoseAt}
-use Rattle.spl_world.specs.Views.{Holds, Nodes, ids_of, places_of, slot_id, slot_up}
+use Rattle.spl_world.specs.Views.{Holds, Nodes, OnlyAt, ids_of, places_of, slot_id, slot_up}
 use Rattle.spl_world.specs.declared.slot.Slot.{Slot}
 use Rattle.spl_world.specs.declared.world.World.{World}
 
--- what a node keeps of each circuit behind these lines
+-- what a node keeps of each circuit after these lines
 abbrev pub cells_behind : List NodeId → List Ran → NodeId → CircuitId → Cell
 cells_behind ns rs n c = (whole_world (blank ns) c rs).at n
 
@@ -42,7 +42,7 @@ stops_at n (line.Cut calls fill s) = bytes_eq n (step_node s)
 stops_at n (line.Fail call s) = bytes_eq n (step_node s)
 stops_at n _ = false
 
--- and finds it up behind the lines before it
+-- and finds it up after the lines before it
 abbrev pub picks_at : NodeId → List Ran → Ran → Bool
 picks_at n before r = stops_at n r.line && is_up n before
 
@@ -65,6 +65,13 @@ abbrev pub armed_other : Option Stopping → Arming
 armed_other None = Off
 armed_other (Some h) = other_arming h
 
+-- and so the first and the second disk, by whether the second counted
+abbrev pub armed_first : Option Stopping → Bool → Arming
+armed_first how second = chosen second (armed_counting how) (armed_other how)
+
+abbrev pub armed_second : Option Stopping → Bool → Arming
+armed_second how second = chosen second (armed_other how) (armed_counting how)
+
 -- an event with changes in this world was stopped before its record was written
 abbrev pub IsTornBy : CircuitWorld → Stopping → Step → Type 0
 IsTornBy m h s = (passing h < 4) × ((step_plan m s).changes ≢ [])
@@ -83,7 +90,7 @@ IsInCheckpointIn worlds (line.Cut calls fill s) x = IsInCheckpointBy (worlds (st
 IsInCheckpointIn worlds (line.Fail call s) x = IsInCheckpointBy (worlds (step_circuit s)) (stopping.Fail call) s x
 IsInCheckpointIn worlds _ x = ⊥
 
--- so was that of a line behind these lines
+-- so was that of a line after these lines
 abbrev pub IsTorn : List NodeId → List Ran → Line → Type 0
 IsTorn ns before l = IsTornIn (λ c. whole_world (blank ns) c before) l
 
@@ -111,11 +118,11 @@ pub record IsPick (fill : Fill) (arming : Arming) (count : ℕ) (p : Picked) : T
   pub arming_is : p.arming ≡ arming
   pub later : count ≤ p.faults
 
--- two picks of the disks of a node by a line that stopped it; `second` is whether the second disk counted. The images stand for the cells behind the line
+-- two picks of the disks of a node by a line that stopped it; `second` is whether the second disk counted. The images stand for the cells after the line
 pub record ArePicksAt (ns : List NodeId) (n : NodeId) (t : Point) (a b : ℕ) (p q : Picked) : Type 0 where
   pub second : Bool
-  pub first_is : IsPick (pick_fill (stopping_of t.ran.line)) (chosen second (armed_counting (stopping_of t.ran.line)) (armed_other (stopping_of t.ran.line))) a p
-  pub second_is : IsPick (pick_fill (stopping_of t.ran.line)) (chosen second (armed_other (stopping_of t.ran.line)) (armed_counting (stopping_of t.ran.line))) b q
+  pub first_is : IsPick (pick_fill (stopping_of t.ran.line)) (armed_first (stopping_of t.ran.line) second) a p
+  pub second_is : IsPick (pick_fill (stopping_of t.ran.line)) (armed_second (stopping_of t.ran.line) second) b q
   pub risen : IsTorn ns t.before t.ran.line → (a < p.faults) ⊎ (b < q.faults)
   pub stand : StandFor n (cells_behind ns (behind_point t) n) p.image q.image
 
@@ -147,13 +154,13 @@ pub record IsCounted (s p : DiskView) : Type 0 where
   pub off : IsUnarmed p
   pub later : last_count s.faults p.picks ≤ p.faults
 
--- behind these lines the disks of the node, which were so at the start, picked at each line that stopped it, and nowhere else
+-- after these lines the disks of the node, which were so at the start, picked at each line that stopped it, and nowhere else
 pub record HasPicked (ns : List NodeId) (rs : List Ran) (n : NodeId) (s p : PairView) : Type 0 where
   pub picks : ArePickedAt ns n s.first.faults s.second.faults (pick_points n [] rs) p.first.picks p.second.picks
   pub first : IsCounted s.first p.first
   pub second : IsCounted s.second p.second
 
--- the disks of the node hold what it keeps behind these lines, and so did what they picked at its stops
+-- the disks of the node hold what it keeps after these lines, and so did what they picked at its stops
 pub record IsHeld (ns : List NodeId) (rs : List Ran) (n : NodeId) (s p : PairView) : Type 0 where
   pub picked : HasPicked ns rs n s p
   pub now : IfBoth (image_now p.first) (image_now p.second) (λ i j. StandFor n (cells_behind ns rs n) i.bytes j.bytes)
@@ -164,8 +171,8 @@ pub record IsHeld (ns : List NodeId) (rs : List Ran) (n : NodeId) (s p : PairVie
 pub record HavePicked (how : Option Stopping) (p q : PairView) : Type 0 where
   pub second : Bool
   pub counts : IfBoth (image_now p.first) (image_now p.second) (λ i j. second_counts i.bytes j.bytes ≡ second)
-  pub first_is : PicksArmed (pick_fill how) (chosen second (armed_counting how) (armed_other how)) p.first q.first
-  pub second_is : PicksArmed (pick_fill how) (chosen second (armed_other how) (armed_counting how)) p.second q.second
+  pub first_is : PicksArmed (pick_fill how) (armed_first how second) p.first q.first
+  pub second_is : PicksArmed (pick_fill how) (armed_second how second) p.second q.second
 
 -- a disk picked once more, and keeps with that a higher count of faults than it had
 pub record PicksHigher (x y : DiskView) : Type 0 where
@@ -175,7 +182,8 @@ pub record PicksHigher (x y : DiskView) : Type 0 where
 
 -- so did, of the disks of a node, the one that didn't count
 abbrev pub OtherPicksHigher : PairView → PairView → Type 0
-OtherPicksHigher p q = IfBoth (image_now p.first) (image_now p.second) (λ i j. PicksHigher (chosen (second_counts i.bytes j.bytes) p.second p.first) (chosen (second_counts i.bytes j.bytes) q.second q.first))
+OtherPicksHigher p q = IfBoth (image_now p.first) (image_now p.second)
+    (λ i j. PicksHigher (chosen (second_counts i.bytes j.bytes) p.second p.first) (chosen (second_counts i.bytes j.bytes) q.second q.first))
 
 -- that of the pair at this place
 abbrev pub HigherAt : ℕ → List PairView → List PairView → Type 0
@@ -211,8 +219,12 @@ FailsIn worlds (line.Cut calls fill s) x old new = FailsBy (worlds (step_circuit
 FailsIn worlds (line.Fail call s) x old new = FailsBy (worlds (step_circuit s)) (stopping.Fail call) s x old new
 FailsIn worlds _ x old new = Unit {0}
 
+-- how the disks of a node fail, in these worlds
+abbrev pub Failing : Type 1
+Failing = (CircuitId → CircuitWorld) → Slot → List PairView → List PairView → Type 0
+
 -- the node of a slot stopped so, and its disks failed as they had to in the worlds that the nodes stood for
-pub record StopsSlot (here : NodeId) (how : Option Stopping) (fails : (CircuitId → CircuitWorld) → Slot → List PairView → List PairView → Type 0) (xs : Nodes) (old new : List PairView) : Type 0 where
+pub record StopsSlot (here : NodeId) (how : Option Stopping) (fails : Failing) (xs : Nodes) (old new : List PairView) : Type 0 where
   pub index : ℕ
   pub slot : Slot
   pub there : slice_get xs.slots index ≡ Some slot
@@ -225,6 +237,20 @@ pub record StopsBy (l : Line) (xs : Nodes) (old new : List PairView) : Type 0 wh
   pub here : NodeId
   pub named : (n : NodeId) → stops_at n l ≡ bytes_eq n here
   pub slot : StopsSlot here (stopping_of l) (λ worlds. FailsIn worlds l) xs old new
+
+-- no disks but those of a node of this id changed
+pub record OnlyOf (here : NodeId) (xs : Nodes) (old new : List PairView) : Type 0 where
+  pub index : ℕ
+  pub slot : Slot
+  pub there : slice_get xs.slots index ≡ Some slot
+  pub id_is : slot_id slot ≡ here
+  pub only : OnlyAt slot.position old new
+
+-- no disks but those of the node that a line stops
+pub record OnlyBy (l : Line) (xs : Nodes) (old new : List PairView) : Type 0 where
+  pub here : NodeId
+  pub named : (n : NodeId) → stops_at n l ≡ bytes_eq n here
+  pub node : OnlyOf here xs old new
 
 -- a disk of the pair has failed since it was last picked from
 abbrev pub HasFailedSince : PairView → PairView → Type 0
@@ -239,9 +265,10 @@ pub record FailedSince (i : ℕ) (start now : List PairView) : Type 0 where
 
 -- this holds of each of these nodes and the pair at its place, as it was at the start and as it is
 abbrev pub EachPair : (NodeId → PairView → PairView → Type 0) → List NodeId → List ℕ → List PairView → List PairView → Type 0
-EachPair P ids places start ps = (i : ℕ) (n : NodeId) (k : ℕ) (s p : PairView) → slice_get ids i ≡ Some n → slice_get places i ≡ Some k → slice_get start k ≡ Some s → slice_get ps k ≡ Some p → P n s p
+EachPair P ids places start ps = (i : ℕ) (n : NodeId) (k : ℕ) (s p : PairView) → slice_get ids i ≡ Some n → slice_get places i ≡ Some k
+    → slice_get start k ≡ Some s → slice_get ps k ≡ Some p → P n s p
 
--- the disks of all nodes of a world behind these lines
+-- the disks of all nodes of a world after these lines
 abbrev pub AllPicked : List PairView → List Ran → World → List PairView → Type 0
 AllPicked start rs w ps = EachPair (HasPicked (ids_of w) rs) (ids_of w) (places_of w) start ps
 
@@ -250,11 +277,12 @@ AllHeld start rs w ps = EachPair (IsHeld (ids_of w) rs) (ids_of w) (places_of w)
 
 -- each node of a registry, with the pair at its position there
 abbrev pub AreHeld : List PairView → List NodeId → List Ran → List Entry → List PairView → Type 0
-AreHeld start ns rs es ps = (k : ℕ) (n : NodeId) (s p : PairView) → node_at es k ≡ Some n → slice_get start k ≡ Some s → slice_get ps k ≡ Some p → IsHeld ns rs n s p
+AreHeld start ns rs es ps = (k : ℕ) (n : NodeId) (s p : PairView) → node_at es k ≡ Some n → slice_get start k ≡ Some s
+    → slice_get ps k ≡ Some p → IsHeld ns rs n s p
 
 -- ---- a line
 
--- each of two disks picked once more by a line, of which the images stand for the cells of the node behind it, and neither is armed
+-- each of two disks picked once more by a line, of which the images stand for the cells of the node after it, and neither is armed
 pub record PicksOnce (ns : List NodeId) (t : Point) (n : NodeId) (p q : PairView) : Type 0 where
   pub first : Picked
   pub second : Picked
@@ -283,4 +311,5 @@ pub record PicksBy (ns : List NodeId) (before : List Ran) (r : Ran) (n : NodeId)
 -- so do those of all nodes, where they weren't armed before
 pub record AllPickBy (before : List Ran) (r : Ran) (w : World) (old new : List PairView) : Type 0 where
   pub as_many : length new ≡ length old
-  pub each : (i : ℕ) (n : NodeId) (k : ℕ) (p q : PairView) → slice_get (ids_of w) i ≡ Some n → slice_get (places_of w) i ≡ Some k → slice_get old k ≡ Some p → slice_get new k ≡ Some q → IsPairUnarmed p → PicksBy (ids_of w) before r n p q
+  pub each : (i : ℕ) (n : NodeId) (k : ℕ) (p q : PairView) → slice_get (ids_of w) i ≡ Some n → slice_get (places_of w) i ≡ Some k
+      → slice_get old k ≡ Some p → slice_get new k ≡ Some q → IsPairUnarmed p → PicksBy (ids_of w) before r n p q

@@ -8,7 +8,7 @@ use Rattle.spl_edge.specs.Causes.{Rose}
 use Rattle.spl_edge.specs.Views.{Streams, FabricView}
 use Rattle.spl_model.specs.Calm.{Calming, calm}
 use Rattle.spl_model.specs.Worlds.{World as CircuitWorld, Occurrence, Steps, happens, messages}
-use Rattle.spl_pump.specs.Wires.{AllTaken, CarryView, Carried, GoesOn, LiesOf, Puts, PutsPart, Wire, is_on, only}
+use Rattle.spl_pump.specs.Wires.{AllTaken, CarryView, Carried, GoesOn, IsDue, LiesOf, Puts, PutsPart, Wire, is_on, only}
 use Rattle.spl_pump.specs.declared.fault.PumpFault.{PumpFault}
 use Rattle.spl_pump.specs.declared.fault.PumpFault.TheVariants as pump
 use Rattle.spl_registry.specs.Nodes.{Entry, slot_of}
@@ -55,17 +55,18 @@ seat_of es n = option_map_or (λ k. k) (slot_of es n) 0
 
 -- ---- a carrier and its fabric
 
--- what they tell of themselves
+-- what they report of themselves
 pub record LinkView : Type 0 where
   pub slots : ℕ
   pub failed : Bool
   pub wire : Wire
+  pub hello : ℕ → ℕ → List ℕ
   pub put : Streams
   pub taken : Streams
   pub faults : ℕ
 
 abbrev pub link_view : CarryView → FabricView → LinkView
-link_view c f = record { slots = c.slots; failed = c.failed; wire = c.wire; put = f.put; taken = f.taken; faults = f.faults }
+link_view c f = record { slots = c.slots; failed = c.failed; wire = c.wire; hello = c.hello; put = f.put; taken = f.taken; faults = f.faults }
 
 -- there is a slot for each of these places, no fault was answered, and all bytes put were taken
 pub record IsReady (places : List ℕ) (x : LinkView) : Type 0 where
@@ -86,21 +87,31 @@ pub record Carries (sent : List Carried) (x y : LinkView) : Type 0 where
   pub onward : GoesOn sent x.wire y.wire
   pub put : Puts (x.wire sent) x.put y.put
   pub no_less : x.faults ≤ y.faults
+  pub hello : y.hello ≡ x.hello
 
--- where the links are at fault the fabric failed more often, or other bytes were taken than were put, and one of these
--- messages was to go between these places
+-- these bytes were to go as a frame where one of these messages was to go from one place to the other
+pub record WasDue (hello : ℕ → ℕ → List ℕ) (from to : ℕ) (sent : List Carried) (bytes : List ℕ) : Type 0 where
+  pub before : List Carried
+  pub message : Message
+  pub later : List Carried
+  pub there : sent ≡ before ++ (only from to message ++ later)
+  pub due : IsDue hello from to message bytes
+
+-- where the links are at fault the fabric failed more often, or other bytes were taken than were put: those of a frame that was
+-- to go where one of these messages was to go between these places
 abbrev pub HasLinkCause : WorldFault → List Carried → LinkView → LinkView → Type 0
 HasLinkCause Link sent x y = Rose x.faults y.faults
-HasLinkCause (Lied from to put got) sent x y = (list_any (is_on from to) sent ≡ true) × LiesOf (pump.Lied put got) y.put y.taken
+HasLinkCause (Lied from to put got) sent x y =
+    (list_any (is_on from to) sent ≡ true) × LiesOf (pump.Lied put got) y.put y.taken × WasDue x.hello from to sent put
 HasLinkCause _ sent x y = ⊤
 
--- a front of what these messages put was put on each pair
+-- a prefix of what these messages put was put on each pair
 pub record CarriesPart (e : WorldFault) (sent : List Carried) (x y : LinkView) : Type 0 where
   pub put : PutsPart (x.wire sent) x.put y.put
   pub no_less : x.faults ≤ y.faults
   pub cause : HasLinkCause e sent x y
 
--- a call carried these messages, or ended with an error before or behind one of them
+-- a call carried these messages, or ended with an error before or after one of them
 abbrev pub Delivers : {A : Type 0} → Result A WorldFault → List Carried → LinkView → LinkView → Type 0
 Delivers (Ok a) sent x y = Carries sent x y
 Delivers (Err e) sent x y = CarriesPart e sent x y
@@ -118,7 +129,8 @@ pub record LinksGoOn (x y : LinkView) : Type 0 where
 pub record LeavesLinks {A : Type 0} (r : Result A WorldFault) (x y : LinkView) : Type 0 where
   pub onward : LinksGoOn x y
   pub link : IsErrOf r Link → Rose x.faults y.faults
-  pub lied : (from to : ℕ) (sent got : List ℕ) → IsErrOf r (Lied from to sent got) → (from < x.slots) × (to < x.slots) × LiesOf (pump.Lied sent got) y.put y.taken
+  pub lied : (from to : ℕ) (sent got : List ℕ) → IsErrOf r (Lied from to sent got)
+      → (from < x.slots) × (to < x.slots) × LiesOf (pump.Lied sent got) y.put y.taken
 
 -- the links are at fault
 abbrev pub is_of_links : WorldFault → Bool

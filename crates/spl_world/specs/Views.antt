@@ -5,11 +5,12 @@ use Rattle.spl_circuit.specs.Nodes.{NodeId, CircuitId, has_node}
 use Rattle.spl_circuit.specs.Rules.{ascends}
 use Rattle.spl_edge.specs.Image.{Image}
 use Rattle.spl_edge.specs.declared.bench.Pair.{Pair}
-use Rattle.spl_edge.specs.Views.{DiskView}
+use Rattle.spl_edge.specs.Views.{DiskView, PairView}
 use Rattle.spl_model.specs.Worlds.{blank, World as CircuitWorld, on_pair}
 use Rattle.spl_model.specs.Projection.{Ran, lines_fit}
 use Rattle.spl_model.specs.Counts.{events_of, stops_of}
 use Rattle.spl_node.specs.Hosts.{HostStands, host_id, host_cell, is_up}
+use Rattle.spl_node.specs.Stopping.{BothPickAtMostOnce}
 use Rattle.spl_projection.specs.Whole.{whole_world}
 use Rattle.spl_registry.specs.Nodes.{Entry, node_at}
 use Rattle.spl_rules.specs.Cells.{Empty}
@@ -57,6 +58,19 @@ places_of w = slot_places w.slots.items
 -- one of them is this
 abbrev pub IsPlace : List ℕ → ℕ → Type 0
 IsPlace ks k = (i : ℕ) × (slice_get ks i ≡ Some k)
+
+-- the pairs at all other places stay as they were
+abbrev pub SpareStay : List ℕ → List PairView → List PairView → Type 0
+SpareStay places old new = (k : ℕ) → (IsPlace places k → ⊥) → slice_get new k ≡ slice_get old k
+
+-- each disk of the pair at this place has the picks that it had, and at most one more
+abbrev pub PicksOnceAt : ℕ → List PairView → List PairView → Type 0
+PicksOnceAt place old new = (p q : PairView) → slice_get old place ≡ Some p → slice_get new place ≡ Some q → BothPickAtMostOnce p q
+
+-- so has each disk of the one pair that changed
+pub record OnlyAt (place : ℕ) (old new : List PairView) : Type 0 where
+  pub others : (k : ℕ) → (k ≡ place → ⊥) → slice_get new k ≡ slice_get old k
+  pub once : PicksOnceAt place old new
 
 -- the node of this index has this id
 abbrev pub IsAt : World → ℕ → NodeId → Type 0
@@ -125,14 +139,14 @@ pub record IsAs (c : CircuitId) (m : CircuitWorld) (x : NodeView) : Type 0 where
   pub state : (place_of x c).state ≡ m.at x.id
   pub sent : (b : NodeId) → has_node m.nodes b ≡ true → sent_to (place_of x c).sent b ≡ on_pair x.id b m.sent
 
--- the nodes stand for a world of a circuit, and their disks tell what they hold
+-- the nodes stand for a world of a circuit, and their disks say what they hold
 pub record Holds (c : CircuitId) (m : CircuitWorld) (xs : Nodes) : Type 0 where
   pub ordered : ascends (ids_in xs) ≡ true
   pub nodes : m.nodes ≡ ids_in xs
   pub each : (i : ℕ) (s : Slot) → slice_get xs.slots i ≡ Some s → IsAs c m (view_in xs s)
   pub told : (i : ℕ) (s : Slot) → slice_get xs.slots i ≡ Some s → Tell (images_at xs.disks s.position)
 
--- behind these lines each node keeps, about each circuit, what the world of that circuit behind all of them has there; and
+-- after these lines each node keeps, about each circuit, what the world of that circuit after all of them has there; and
 -- what it sent to each other is what was sent in that world. Their events and their stops are counted. Each node stands over its own disks
 pub record Stands (before : List Ran) (w : World) (is : List Images) : Type 0 where
   pub fit : lines_fit before ≡ true

@@ -13,7 +13,7 @@ ghost use Rattle.spl_world.specs.Disks.{Images, LeavesDisks, images, is_of_journ
 ghost use Rattle.spl_world.specs.Ended.{EventEnds, PartEnds};
 ghost use Rattle.spl_world.specs.Links.{Delivers, IsReady, PartDelivers, Places, carried_in, is_of_links, link_view};
 ghost use Rattle.spl_world.specs.Links.{LeavesLinks};
-ghost use Rattle.spl_world.specs.Views.{IsPlace, Holds, IsAt, IsUp, Moves, Sits, Spares, places_of, ids_of, over, seen};
+ghost use Rattle.spl_world.specs.Views.{IsPlace, Holds, IsAt, IsUp, Moves, Sits, SpareStay, Spares, places_of, ids_of, over, seen};
 
 use crate::fault::WorldFault;
 use crate::world::World;
@@ -77,6 +77,7 @@ impl World {
             (Moves circuit (tick_at circuit n) (seen D.view self.old pairs.old.items) (seen D.view self.new pairs.new.items)) }
         ensures sits { OnOk result (Sits (seen D.view self.new pairs.new.items)) }
         ensures disks { LeavesDisks result (bench D.view pairs.old.items) (bench D.view pairs.new.items) }
+        ensures spare { SpareStay (places_of self.old) (bench D.view pairs.old.items) (bench D.view pairs.new.items) }
         ensures place { (slot : ℕ) → IsErrOf result (WorldFault.Disk slot) → IsPlace (places_of self.old) slot }
         ensures sound { IfErr result (λ e. is_of_journal e ≡ false) }
         ensures ended { (m : CircuitWorld) (n : Id) → Holds circuit m (seen D.view self.old pairs.old.items) → IsAt self.old slot n
@@ -115,6 +116,7 @@ impl World {
             (seen D.view self.old pairs.old.items) (seen D.view self.new pairs.new.items)) }
         ensures sits { OnOk result (Sits (seen D.view self.new pairs.new.items)) }
         ensures disks { LeavesDisks result (bench D.view pairs.old.items) (bench D.view pairs.new.items) }
+        ensures spare { SpareStay (places_of self.old) (bench D.view pairs.old.items) (bench D.view pairs.new.items) }
         ensures place { (slot : ℕ) → IsErrOf result (WorldFault.Disk slot) → IsPlace (places_of self.old) slot }
         ensures sound { IfErr result (λ e. is_of_journal e ≡ false) }
         ensures ended { (z : Calming) → Holds circuit z.world (seen D.view self.old pairs.old.items)
@@ -158,6 +160,7 @@ impl World {
             (seen D.view self.old pairs.old.items) (seen D.view self.new pairs.new.items)) }
         ensures sits { OnOk result (Sits (seen D.view self.new pairs.new.items)) }
         ensures disks { LeavesDisks result (bench D.view pairs.old.items) (bench D.view pairs.new.items) }
+        ensures spare { SpareStay (places_of self.old) (bench D.view pairs.old.items) (bench D.view pairs.new.items) }
         ensures place { (slot : ℕ) → IsErrOf result (WorldFault.Disk slot) → IsPlace (places_of self.old) slot }
         ensures sound { IfErr result (λ e. is_of_journal e ≡ false) }
         ensures ended { (z : Calming) (a b : Id) → Holds circuit z.world (seen D.view self.old pairs.old.items) → IsAt self.old from a
@@ -207,6 +210,7 @@ impl World {
             (seen D.view self.new pairs.new.items)) }
         ensures sits { OnOk result (Sits (seen D.view self.new pairs.new.items)) }
         ensures disks { LeavesDisks result (bench D.view pairs.old.items) (bench D.view pairs.new.items) }
+        ensures spare { SpareStay (places_of self.old) (bench D.view pairs.old.items) (bench D.view pairs.new.items) }
         ensures place { (slot : ℕ) → IsErrOf result (WorldFault.Disk slot) → IsPlace (places_of self.old) slot }
         ensures sound { IfErr result (λ e. is_of_journal e ≡ false) }
         ensures ended { (z : Calming) (a b : Id) → Holds circuit z.world (seen D.view self.old pairs.old.items) → IsAt self.old from a
@@ -260,6 +264,7 @@ impl World {
         ensures others { OnOk result (Spares circuit (seen D.view self.old pairs.old.items) (seen D.view self.new pairs.new.items)) }
         ensures sits { OnOk result (Sits (seen D.view self.new pairs.new.items)) }
         ensures disks { LeavesDisks result (bench D.view pairs.old.items) (bench D.view pairs.new.items) }
+        ensures spare { SpareStay (places_of self.old) (bench D.view pairs.old.items) (bench D.view pairs.new.items) }
         ensures place { (slot : ℕ) → IsErrOf result (WorldFault.Disk slot) → IsPlace (places_of self.old) slot }
         ensures sound { IfErr result (λ e. is_of_journal e ≡ false) }
         ensures ended { (z : Calming) (a : Id) → Holds circuit z.world (seen D.view self.old pairs.old.items) → IsAt self.old from a
@@ -305,6 +310,7 @@ impl World {
         ensures others { OnOk result (Spares circuit (seen D.view self.old pairs.old.items) (seen D.view self.new pairs.new.items)) }
         ensures sits { OnOk result (Sits (seen D.view self.new pairs.new.items)) }
         ensures disks { LeavesDisks result (bench D.view pairs.old.items) (bench D.view pairs.new.items) }
+        ensures spare { SpareStay (places_of self.old) (bench D.view pairs.old.items) (bench D.view pairs.new.items) }
         ensures place { (slot : ℕ) → IsErrOf result (WorldFault.Disk slot) → IsPlace (places_of self.old) slot }
         ensures sound { IfErr result (λ e. is_of_journal e ≡ false) }
         ensures ended { (z : Calming) → Holds circuit z.world (seen D.view self.old pairs.old.items)
@@ -360,6 +366,7 @@ impl World {
         ensures others { OnOk result (Spares circuit (seen D.view self.old pairs.old.items) (seen D.view self.new pairs.new.items)) }
         ensures sits { OnOk result (Sits (seen D.view self.new pairs.new.items)) }
         ensures disks { LeavesDisks result (bench D.view pairs.old.items) (bench D.view pairs.new.items) }
+        ensures spare { SpareStay (places_of self.old) (bench D.view pairs.old.items) (bench D.view pairs.new.items) }
         ensures place { (slot : ℕ) → IsErrOf result (WorldFault.Disk slot) → IsPlace (places_of self.old) slot }
         ensures sound { IfErr result (λ e. is_of_journal e ≡ false) }
         ensures ended { (z : Calming) → Holds circuit z.world (seen D.view self.old pairs.old.items)
@@ -379,7 +386,7 @@ impl World {
         Ok(moved | delivered)
     }
 
-    // So many passes. Behind one in which there was nothing to do the others have its ticks alone,
+    // So many passes. After one in which there was nothing to do the others have its ticks alone,
     // which are counted. After an error the world is done.
     pub(crate) fn calm<D: Disk, C: Carry, F: Fabric>(
         &mut self,
@@ -401,6 +408,7 @@ impl World {
             (seen D.view self.new pairs.new.items)) }
         ensures sits { OnOk result (Sits (seen D.view self.new pairs.new.items)) }
         ensures disks { LeavesDisks result (bench D.view pairs.old.items) (bench D.view pairs.new.items) }
+        ensures spare { SpareStay (places_of self.old) (bench D.view pairs.old.items) (bench D.view pairs.new.items) }
         ensures place { (slot : ℕ) → IsErrOf result (WorldFault.Disk slot) → IsPlace (places_of self.old) slot }
         ensures sound { IfErr result (λ e. is_of_journal e ≡ false) }
         ensures ended { (m : CircuitWorld) → Holds circuit m (seen D.view self.old pairs.old.items)

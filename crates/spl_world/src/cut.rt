@@ -15,8 +15,8 @@ ghost use Rattle.spl_wire.specs.declared.change.Change.{Change};
 ghost use Rattle.spl_world.specs.Disks.{NoneForgotten, images};
 ghost use Rattle.spl_world.specs.Ended.{EventEnds};
 ghost use Rattle.spl_world.specs.Halts.{IsEventOf, bit_in};
-ghost use Rattle.spl_world.specs.Held.{FailsBy, PickUnarmed, StopsAt, StopsSlot};
-ghost use Rattle.spl_world.specs.Views.{Holds, IsAt, IsUp, Sits, ids_of, places_of, seen, slot_up};
+ghost use Rattle.spl_world.specs.Held.{FailsBy, OnlyOf, PickUnarmed, StopsAt, StopsSlot};
+ghost use Rattle.spl_world.specs.Views.{Holds, IsAt, IsUp, OnlyAt, Sits, ids_of, places_of, seen, slot_up};
 ghost use Rattle.spl_world.specs.declared.slot.Slot.{Slot as Seat};
 
 use crate::fault::WorldFault;
@@ -90,6 +90,8 @@ impl World {
         ensures others { (d n : Id) (m : CircuitWorld) → IsAt self.old slot n → bytes_eq circuit.now d ≡ false
             → Holds d m (seen D.view self.old pairs.old.items) → OnOk result (Holds d (happens m (Stops n)) (seen D.view self.new pairs.new.items)) }
         ensures sits { OnOk result (Sits (seen D.view self.new pairs.new.items)) }
+        ensures only { (t : Seat) → slice_get self.old.slots.items slot ≡ Some t
+            → OnlyAt t.position (bench D.view pairs.old.items) (bench D.view pairs.new.items) }
         ensures picks { (t : Seat) → slice_get self.old.slots.items slot ≡ Some t
             → OnOk result (StopsAt (PickUnarmed (Some stopping)) (slot_up t) t.position (bench D.view pairs.old.items)
             (bench D.view pairs.new.items)) }
@@ -135,6 +137,8 @@ impl World {
         ensures others { (d : Id) (m : CircuitWorld) → bytes_eq (step_circuit step.now) d ≡ false → Holds d m (seen D.view self.old pairs.old.items)
             → OnOk result (Holds d (happens m (Stops (step_node step.now))) (seen D.view self.new pairs.new.items)) }
         ensures sits { OnOk result (Sits (seen D.view self.new pairs.new.items)) }
+        ensures only { (t : Seat) → slice_get self.old.slots.items slot ≡ Some t
+            → OnlyAt t.position (bench D.view pairs.old.items) (bench D.view pairs.new.items) }
         ensures picks { (t : Seat) → slice_get self.old.slots.items slot ≡ Some t
             → OnOk result (StopsAt (PickUnarmed (Some stopping)) (slot_up t) t.position (bench D.view pairs.old.items)
             (bench D.view pairs.new.items)) }
@@ -193,6 +197,8 @@ impl World {
         ensures others { (d : Id) (m : CircuitWorld) → bytes_eq (step_circuit step.now) d ≡ false → Holds d m (seen D.view self.old pairs.old.items)
             → OnOk result (Holds d (happens m (Stops (step_node step.now))) (seen D.view self.new pairs.new.items)) }
         ensures sits { OnOk result (Sits (seen D.view self.new pairs.new.items)) }
+        ensures only { OnlyOf (step_node step.now) (seen D.view self.old pairs.old.items) (bench D.view pairs.old.items)
+            (bench D.view pairs.new.items) }
         ensures slot { OnOk result (StopsSlot (step_node step.now) (Some stopping)
             (λ worlds. FailsBy (worlds (step_circuit step.now)) stopping step.now) (seen D.view self.old pairs.old.items)
             (bench D.view pairs.old.items) (bench D.view pairs.new.items)) }

@@ -14,10 +14,10 @@ ghost use Rattle.spl_world.specs.Counts.{IsOver};
 ghost use Rattle.spl_world.specs.Disks.{AllUnarmed, NoneForgotten, images, is_of_journal};
 ghost use Rattle.spl_world.specs.Ended.{LineEnds};
 ghost use Rattle.spl_world.specs.Halts.{said};
-ghost use Rattle.spl_world.specs.Held.{AllHeld, HigherAt, IsInCheckpointIn, StopsBy, StopsPair, cells_behind, stopping_of, stops_at};
+ghost use Rattle.spl_world.specs.Held.{AllHeld, HigherAt, IsInCheckpointIn, OnlyBy, StopsBy, StopsPair, cells_behind, stopping_of, stops_at};
 ghost use Rattle.spl_world.specs.Lines.{stops};
 ghost use Rattle.spl_world.specs.Links.{is_of_links};
-ghost use Rattle.spl_world.specs.Views.{Holds, Sits, Stands, ids_of, is_halted, places_of, seen, slot_id, slot_up};
+ghost use Rattle.spl_world.specs.Views.{Holds, PicksOnceAt, Sits, SpareStay, Stands, ids_of, is_halted, places_of, seen, slot_id, slot_up};
 ghost use Rattle.spl_world.specs.declared.slot.Slot.{Slot as Seat};
 
 use crate::fault::WorldFault;
@@ -53,7 +53,7 @@ impl World {
     /// Runs a line that stops a node, and answers it: a stop, or a step in which its node goes down.
     /// `before` are the lines that ran so far. `TooMany` comes exactly where the events of these
     /// lines and of this one are more than `MOST_EVENTS`, or, where they aren't, their stops more
-    /// than `MOST_STOPS`. Any other error is want of memory. After an error the world is halted.
+    /// than `MOST_STOPS`. Any other error is that memory ran out. After an error the world is halted.
     pub fn halt<D: StopDisk>(
         &mut self,
         alloc: Global,
@@ -96,8 +96,14 @@ impl World {
         ensures held { (start : List PairView) (before : List Ran) → Stands before self.old (images D.view pairs.old.items)
             → AllHeld start before self.old (bench D.view pairs.old.items)
             → OnOk result (AllHeld start (before ++ by_rule line.now ∷ []) self.new (bench D.view pairs.new.items)) }
-        // Where it ends with an error, the disks of all nodes hold what the nodes keep, but for one node where memory was wanting;
-        // what a stop leaves of the disks of that node stands for what it keeps or for what it has behind the line, with the
+        // Whatever the result, the pair of a node that the line does not stop, and a pair that no node has, stay as they were, and
+        // no disk has more than one pick more.
+        ensures others { (i : ℕ) (s : Seat) → slice_get self.old.slots.items i ≡ Some s → stops_at (slot_id s) line.now ≡ false
+            → slice_get (bench D.view pairs.new.items) s.position ≡ slice_get (bench D.view pairs.old.items) s.position }
+        ensures once { (k : ℕ) → PicksOnceAt k (bench D.view pairs.old.items) (bench D.view pairs.new.items) }
+        ensures spare { SpareStay (places_of self.old) (bench D.view pairs.old.items) (bench D.view pairs.new.items) }
+        // Where it ends with an error, the disks of all nodes hold what the nodes keep, except one node where memory ran out;
+        // what a stop leaves of the disks of that node stands for what it keeps or for what it has after the line, with the
         // changes of the line's event.
         ensures ended { (before : List Ran) → Stands before self.old (images D.view pairs.old.items)
             → IfErr result (λ e. LineEnds (λ c. whole_world (blank (ids_of self.old)) c before) line.now e (ids_of self.old) (places_of self.old)
@@ -139,6 +145,10 @@ impl World {
         ensures kept { (which : ℕ) → IsErrOf result (WorldFault.TooMany which) → pairs.new ≡ pairs.old }
         ensures disk { (slot : ℕ) → IsErrOf result (WorldFault.Disk slot) → ⊥ }
         ensures sits { OnOk result (Sits (seen D.view self.new pairs.new.items)) }
+        ensures others { (i : ℕ) (s : Seat) → slice_get self.old.slots.items i ≡ Some s → stops_at (slot_id s) line.now ≡ false
+            → slice_get (bench D.view pairs.new.items) s.position ≡ slice_get (bench D.view pairs.old.items) s.position }
+        ensures once { (k : ℕ) → PicksOnceAt k (bench D.view pairs.old.items) (bench D.view pairs.new.items) }
+        ensures spare { SpareStay (places_of self.old) (bench D.view pairs.old.items) (bench D.view pairs.new.items) }
         ensures slot { OnOk result (StopsBy line.now (seen D.view self.old pairs.old.items) (bench D.view pairs.old.items) (bench D.view pairs.new.items)) }
         ensures ended { (before : List Ran) → Stands before self.old (images D.view pairs.old.items)
             → IfErr result (λ e. LineEnds (λ c. whole_world (blank (ids_of self.old)) c before) line.now e (ids_of self.old) (places_of self.old)
@@ -172,6 +182,7 @@ impl World {
         ensures holds { (c : Id) (m : CircuitWorld) → Holds c m (seen D.view self.old pairs.old.items)
             → OnOk result (Holds c (world_after c m (by_rule line.now)) (seen D.view self.new pairs.new.items)) }
         ensures sits { OnOk result (Sits (seen D.view self.new pairs.new.items)) }
+        ensures only { OnlyBy line.now (seen D.view self.old pairs.old.items) (bench D.view pairs.old.items) (bench D.view pairs.new.items) }
         ensures slot { OnOk result (StopsBy line.now (seen D.view self.old pairs.old.items) (bench D.view pairs.old.items) (bench D.view pairs.new.items)) }
         ensures ended { (worlds : Id → CircuitWorld) → ((c : Id) → Holds c (worlds c) (seen D.view self.old pairs.old.items))
             → OnErr result (LineEnds worlds line.now WorldFault.NoMemory (ids_of self.old) (places_of self.old) (images D.view pairs.new.items)) }

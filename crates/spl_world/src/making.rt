@@ -1,5 +1,5 @@
 //! The nodes of a registry, where nothing happened yet.
-ghost use Rattle.std.specs.Prelude.{◌≡◌, ◌≢◌, ◌≤◌, ◌<◌, ◌++◌, ◌∷◌, ℕ, [], length, true, false, IfErr, IfOk, OnOk, IsErrOf};
+ghost use Rattle.std.specs.Prelude.{◌≡◌, ◌≢◌, ◌≤◌, ◌<◌, ◌++◌, ◌∷◌, ℕ, [], length, slice_get, true, false, IfErr, IfOk, OnOk, IsErrOf};
 ghost use Rattle.std.specs.List.{AllPairs};
 ghost use Rattle.spl_edge.specs.Views.{bench};
 ghost use Rattle.spl_circuit.specs.Nodes.{sorted};
@@ -22,7 +22,7 @@ use spl_registry::Registry;
 use spl_state::RunCache;
 use std::alloc::{AllocError, Global};
 
-/// The ids of the nodes of a registry, in order. It fails for want of memory alone.
+/// The ids of the nodes of a registry, in order. It fails only when memory runs out.
 pub fn sorted_ids(alloc: Global, registry: &Registry) -> Result<Vec<NodeId>, AllocError>
     ensures ids { IfOk result (λ v. v.items ≡ sorted (registered registry.now)) }
     ensures apart { OnOk result (AllPairs (λ a b. a ≢ b) (registered registry.now)) }
@@ -44,7 +44,7 @@ fn join(slots: &mut Vec<Slot>, slot: Slot) -> Result<(), AllocError>
 impl World {
     /// The nodes of a registry, in the order of their ids, each of them up. The disks of a node are
     /// the pair at its position in the registry. Nothing happened yet, and those disks are blank.
-    /// What the nodes stand for is told where the disks tell what they hold.
+    /// What the nodes stand for is reported where the disks say what they hold.
     pub fn new<D: Disk>(
         alloc: Global,
         registry: &Registry,
@@ -60,12 +60,15 @@ impl World {
         ensures placed { IfOk result (ArePlaced registry.now) }
         ensures below { IfOk result (λ w. (k : ℕ) → IsPlace (places_of w) k → k < length registry.now) }
         ensures running { IfOk result (λ w. is_halted w ≡ false) }
-        // Whatever the disks tell, each node stands over its own.
+        // Whatever the disks report, each node stands over its own.
         ensures sits { IfOk result (λ w. Sits (seen D.view w pairs.new.items)) }
         ensures stands { AllTell (length registry.now) (images D.view pairs.old.items) → IfOk result (λ w. Stands [] w (images D.view pairs.new.items)) }
         ensures held { AllTell (length registry.now) (images D.view pairs.old.items) → AllUnpicked (bench D.view pairs.old.items)
             → IfOk result (λ w. AllHeld (bench D.view pairs.old.items) [] w (bench D.view pairs.new.items)) }
         ensures disks { LeavesDisks result (bench D.view pairs.old.items) (bench D.view pairs.new.items) }
+        // A pair that no node of the registry has stays as it was.
+        ensures spare { (k : ℕ) → length registry.now ≤ k
+            → slice_get (bench D.view pairs.new.items) k ≡ slice_get (bench D.view pairs.old.items) k }
         // Where it ends with an error one node may be half made, and each other is made or not begun.
         ensures unmade { AllUnpicked (bench D.view pairs.old.items) → IfErr result
             (λ e. AreMadeBut (sorted (registered registry.now)) registry.now e (bench D.view pairs.old.items) (bench D.view pairs.new.items)) }

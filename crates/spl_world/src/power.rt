@@ -13,7 +13,7 @@ ghost use Rattle.spl_world.specs.Disks.{Images, LeavesDisks, NoneForgotten, imag
 ghost use Rattle.spl_world.specs.Ended.{EventEnds};
 ghost use Rattle.spl_world.specs.Links.{is_of_links};
 ghost use Rattle.spl_world.specs.Held.{PickUnarmed, StopsAt};
-ghost use Rattle.spl_world.specs.Views.{IsPlace, Holds, IsAt, Sits, ids_of, over, places_of, seen, slot_up};
+ghost use Rattle.spl_world.specs.Views.{IsPlace, Holds, IsAt, OnlyAt, Sits, SpareStay, ids_of, over, places_of, seen, slot_up};
 ghost use Rattle.spl_world.specs.declared.slot.Slot.{Slot as Seat};
 
 use crate::fault::WorldFault;
@@ -40,6 +40,7 @@ impl World {
             → OnOk result (Holds c (happens m (Starts n)) (seen D.view self.new pairs.new.items)) }
         ensures sits { OnOk result (Sits (seen D.view self.new pairs.new.items)) }
         ensures disks { LeavesDisks result (bench D.view pairs.old.items) (bench D.view pairs.new.items) }
+        ensures spare { SpareStay (places_of self.old) (bench D.view pairs.old.items) (bench D.view pairs.new.items) }
         ensures place { (slot : ℕ) → IsErrOf result (WorldFault.Disk slot) → IsPlace (places_of self.old) slot }
         ensures sound { (c : Id) (m : CircuitWorld) (slot at : ℕ) → Holds c m (seen D.view self.old pairs.old.items)
             → IsErrOf result (WorldFault.NotAJournal slot at) → ⊥ }
@@ -69,6 +70,8 @@ impl World {
         ensures holds { (c n : Id) (m : CircuitWorld) → IsAt self.old slot n → Holds c m (seen D.view self.old pairs.old.items)
             → OnOk result (Holds c (happens m (Stops n)) (seen D.view self.new pairs.new.items)) }
         ensures sits { OnOk result (Sits (seen D.view self.new pairs.new.items)) }
+        ensures only { (s : Seat) → slice_get self.old.slots.items slot ≡ Some s
+            → OnlyAt s.position (bench D.view pairs.old.items) (bench D.view pairs.new.items) }
         ensures picks { (s : Seat) → slice_get self.old.slots.items slot ≡ Some s
             → OnOk result (StopsAt (PickUnarmed None) (slot_up s) s.position (bench D.view pairs.old.items) (bench D.view pairs.new.items)) }
         ensures ended { (c : Id) (m : CircuitWorld) → Holds c m (seen D.view self.old pairs.old.items)

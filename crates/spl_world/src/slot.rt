@@ -1,5 +1,6 @@
 //! A node of the world.
-ghost use Rattle.std.specs.Prelude.{◌≡◌, ◌≢◌, ◌<◌, ◌≤◌, ℕ, [], length, slice_get, Option, Some, None, is_some, if◌then◌else◌, true, false, IfErr, IfOk, IfSome, OnOk, IsErrOf};
+ghost use Rattle.std.specs.Prelude.{◌≡◌, ◌≢◌, ◌<◌, ◌≤◌, ℕ, [], length, slice_get, Option, Some, None, is_some, if◌then◌else◌, true, false};
+ghost use Rattle.std.specs.Prelude.{IfErr, IfOk, IfSome, OnOk, IsErrOf};
 ghost use Rattle.std.specs.Option.{option_copied};
 ghost use Rattle.std.specs.List.{list_any};
 ghost use Rattle.std.specs.List.Sorted.{IsStrictlySortedBy};
@@ -16,12 +17,11 @@ ghost use Rattle.spl_rules.specs.Cells.{is_bound};
 ghost use Rattle.spl_rules.specs.Changes.{stopped_cell};
 ghost use Rattle.spl_rules.specs.Plans.{plan_of};
 ghost use Rattle.spl_rules.specs.Valid.{IsFor};
-ghost use Rattle.spl_node.specs.Stands.{StandFor};
-ghost use Rattle.spl_node.specs.Stopping.{FillsHost, IsInCheckpoint, IsStopping, cells_stopped, event_changes, has_changes, keeps, passing};
+ghost use Rattle.spl_node.specs.Stopping.{BothPickAtMostOnce, FillsHost, IsInCheckpoint, IsStopping, cells_stopped, event_changes, has_changes, keeps, passing};
 ghost use Rattle.spl_world.specs.Disks.{AreBlank, Images, Tell, TellAs, images_of, is_of_journal};
 ghost use Rattle.spl_world.specs.Held.{HavePicked, OtherPicksHigher, PickUnarmed};
 ghost use Rattle.spl_node.specs.Kept.{cells_after};
-ghost use Rattle.spl_world.specs.Ended.{LeaveEither, LeaveNow};
+ghost use Rattle.spl_world.specs.Ended.{HoldFor, LeaveEither};
 ghost use Rattle.spl_world.specs.Links.{is_of_links};
 ghost use Rattle.spl_world.specs.Kept.{IsDone, AllBelong, place_of, lists_about, sent_to};
 ghost use Rattle.spl_world.specs.Views.{IsFresh, node_view, slot_id, slot_up};
@@ -105,7 +105,7 @@ impl Slot {
         self.host.due(circuit)
     }
 
-    /// Makes the digests of the state of a circuit's cell anew before an event that tells its root;
+    /// Makes the digests of the state of a circuit's cell again before an event that reports its root;
     /// nothing that is seen changes.
     pub fn prepare(&mut self, circuit: &CircuitId, event: &Event, cache: &mut RunCache)
         ensures { self.new ≡ self.old }
@@ -140,8 +140,8 @@ impl Slot {
         ensures stands { OnOk result (HostStands self.new.host (image_now (D.view disks.new.first)) (image_now (D.view disks.new.second))) }
         ensures tells { OnOk result (TellAs (images_of D.view disks.old) (images_of D.view disks.new)) }
         ensures onward { PairOnward (pair_view D.view disks.old) (pair_view D.view disks.new) }
-        // Whatever the result, a stop leaves what stands for the cells before the event or for those after it, where the disks
-        // told before it.
+        // Whatever the result, a read gives what stands for the cells before the event or for those after it, and so does what a
+        // stop leaves, where the disks reported before it.
         ensures leaves { Tell (images_of D.view disks.old) → LeaveEither (slot_id self.old) (node_view self.old (images_of D.view disks.old)).cells
             (cells_after (slot_id self.old) (node_view self.old (images_of D.view disks.old)).cells circuit.now event.now)
             (images_of D.view disks.new) }
@@ -175,7 +175,7 @@ impl Slot {
         ensures same { images_of D.view disks.new ≡ images_of D.view disks.old }
         ensures failed { (slot : ℕ) → IsErrOf result (WorldFault.Disk slot)
             → (slot ≡ self.old.position) × HasRisen (pair_view D.view disks.old) (pair_view D.view disks.new) }
-        // What disks that tell hold is a journal.
+        // What disks that report hold is a journal.
         ensures sound { Tell (images_of D.view disks.old) → (slot at : ℕ) → IsErrOf result (WorldFault.NotAJournal slot at) → ⊥ }
         ensures journal { (slot at : ℕ) → IsErrOf result (WorldFault.NotAJournal slot at) → slot ≡ self.old.position }
         ensures few { (which : ℕ) → IsErrOf result (WorldFault.TooMany which) → ⊥ }
@@ -205,10 +205,11 @@ impl Slot {
             ≡ (node_view self.old (images_of D.view disks.old)).cells c }
         ensures none { slot_up self.old ≡ false → disks.new ≡ disks.old }
         ensures stands { OnOk result (HostStands self.new.host (image_now (D.view disks.new.first)) (image_now (D.view disks.new.second))) }
-        // Whatever the result, a stop leaves what stands for its cells.
-        ensures leaves { LeaveNow (StandFor (slot_id self.old) (node_view self.old (images_of D.view disks.old)).cells) (images_of D.view disks.new) }
+        // Whatever the result, a read gives what stands for its cells, and a stop leaves it.
+        ensures leaves { HoldFor (slot_id self.old) (node_view self.old (images_of D.view disks.old)).cells (images_of D.view disks.new) }
         // Where it was up both disks picked what they had.
         ensures picks { OnOk result (slot_up self.old ≡ true → PickUnarmed None (pair_view D.view disks.old) (pair_view D.view disks.new)) }
+        ensures once { BothPickAtMostOnce (pair_view D.view disks.old) (pair_view D.view disks.new) }
         ensures first_stays { (D.view disks.old.first).faults ≤ (D.view disks.new.first).faults }
         ensures second_stays { (D.view disks.old.second).faults ≤ (D.view disks.new.second).faults }
     {
@@ -222,7 +223,7 @@ impl Slot {
         ensures position { self.new.position ≡ self.old.position }
         ensures posts { self.new.posts ≡ self.old.posts }
         ensures down { slot_up self.new ≡ false }
-        // Where its disks tell it keeps its cells but for the open rounds.
+        // Where its disks report it keeps its cells except the open rounds.
         ensures stopped { slot_up self.old ≡ true → (is : Images) → HostStands self.old.host is.0 is.1 → Tell is → (c : Id)
             → (node_view self.new is).cells c ≡ stopped_cell ((node_view self.old is).cells c) }
         ensures same { slot_up self.old ≡ false → (is : Images) (c : Id) → (node_view self.new is).cells c ≡ (node_view self.old is).cells c }
@@ -257,7 +258,8 @@ impl Slot {
             (event_changes (slot_id self.old) (node_view self.old (images_of D.view disks.old)).cells circuit.now (option_copied event.entry))
             (keeps stopping)) c) }
         ensures stands { OnOk result (HostStands self.new.host (image_now (D.view disks.new.first)) (image_now (D.view disks.new.second))) }
-        // Whatever the result, a stop leaves what stands for its cells before the event or for those behind the stop in it.
+        // Whatever the result, a read gives what stands for its cells before the event or for those after the stop in it, and a
+        // stop leaves it.
         ensures leaves { LeaveEither (slot_id self.old) (node_view self.old (images_of D.view disks.old)).cells
             (cells_stopped (slot_id self.old) (node_view self.old (images_of D.view disks.old)).cells circuit.now
             (event_changes (slot_id self.old) (node_view self.old (images_of D.view disks.old)).cells circuit.now (option_copied event.entry)) true)
@@ -270,6 +272,7 @@ impl Slot {
         ensures risen_other { OnOk result (FillsHost self.old.host circuit.now
             (event_changes (slot_id self.old) (node_view self.old (images_of D.view disks.old)).cells circuit.now (option_copied event.entry))
             → IsInCheckpoint stopping → OtherPicksHigher (pair_view D.view disks.old) (pair_view D.view disks.new)) }
+        ensures once { BothPickAtMostOnce (pair_view D.view disks.old) (pair_view D.view disks.new) }
         ensures first_stays { (D.view disks.old.first).faults ≤ (D.view disks.new.first).faults }
         ensures second_stays { (D.view disks.old.second).faults ≤ (D.view disks.new.second).faults }
     {

@@ -16,7 +16,7 @@ ghost use Rattle.spl_projection.specs.Whole.{whole_world};
 ghost use Rattle.spl_world.specs.Ended.{EventEnds, LineEnds};
 ghost use Rattle.spl_world.specs.Links.{LeavesLinks};
 ghost use Rattle.spl_world.specs.Links.{Delivers, IsReady, Places, carried_at, line_carried, link_view};
-ghost use Rattle.spl_world.specs.Views.{HasPlace, IsPlace, Holds, Moves, Sits, Stands, Stays, places_of, ids_of, is_halted, seen};
+ghost use Rattle.spl_world.specs.Views.{HasPlace, IsPlace, Holds, Moves, Sits, SpareStay, Stands, Stays, places_of, ids_of, is_halted, seen};
 
 use crate::fault::WorldFault;
 use crate::world::World;
@@ -51,6 +51,7 @@ impl World {
             (seen D.view self.new pairs.new.items)) }
         ensures sits { OnOk result (Sits (seen D.view self.new pairs.new.items)) }
         ensures disks { LeavesDisks result (bench D.view pairs.old.items) (bench D.view pairs.new.items) }
+        ensures spare { SpareStay (places_of self.old) (bench D.view pairs.old.items) (bench D.view pairs.new.items) }
         ensures place { (slot : ℕ) → IsErrOf result (WorldFault.Disk slot) → IsPlace (places_of self.old) slot }
         ensures sound { IfErr result (λ e. is_of_journal e ≡ false) }
         ensures few { (which : ℕ) → IsErrOf result (WorldFault.TooMany which) → ⊥ }
@@ -98,9 +99,9 @@ impl World {
     /// Runs a line that stops no node, and answers it. `before` are the lines that ran so far. `TooMany` comes exactly
     /// where the events of these lines and of this one are more than `MOST_EVENTS`, and is about
     /// them; `Disk` only where a disk of that node failed more often; `NotAJournal` only where the
-    /// line starts that node, and never where its disks tell what they hold; `Link` only where the
+    /// line starts that node, and never where its disks say what they hold; `Link` only where the
     /// fabric failed more often; and `Lied` only where other bytes were taken from it than were put.
-    /// Any other error is want of memory. After an error the world is halted.
+    /// Any other error is that memory ran out. After an error the world is halted.
     ///
     /// Each message that is delivered goes through the carrier, and nothing else does.
     pub fn step<D: Disk, C: Carry, F: Fabric>(
@@ -134,6 +135,8 @@ impl World {
             (λ a. a ≡ Answer.Refused why → Stays (seen D.view self.old pairs.old.items) (seen D.view self.new pairs.new.items)) }
         ensures sits { OnOk result (Sits (seen D.view self.new pairs.new.items)) }
         ensures disks { LeavesDisks result (bench D.view pairs.old.items) (bench D.view pairs.new.items) }
+        // A pair that no node has stays as it was.
+        ensures spare { SpareStay (places_of self.old) (bench D.view pairs.old.items) (bench D.view pairs.new.items) }
         // What the disks hold stands for what the nodes keep, and so does what they picked.
         ensures held { (start : List PairView) (before : List Ran) → Stands before self.old (images D.view pairs.old.items)
             → AllHeld start before self.old (bench D.view pairs.old.items)
@@ -141,15 +144,15 @@ impl World {
         ensures failed { (start : List PairView) (before : List Ran) (slot : ℕ) → IsErrOf result (WorldFault.Disk slot)
             → AllHeld start before self.old (bench D.view pairs.old.items) → FailedSince slot start (bench D.view pairs.new.items) }
         ensures place { (slot : ℕ) → IsErrOf result (WorldFault.Disk slot) → IsPlace (places_of self.old) slot }
-        // Only a line that starts a node ends because its disks hold no journal, and over disks that tell none does.
+        // Only a line that starts a node ends because its disks hold no journal, and over disks that report none does.
         ensures sound { (before : List Ran) (slot at : ℕ) → Stands before self.old (images D.view pairs.old.items)
             → IsErrOf result (WorldFault.NotAJournal slot at) → ⊥ }
         ensures journal { (slot at : ℕ) → IsErrOf result (WorldFault.NotAJournal slot at) → IsPlace (places_of self.old) slot × (starts line.now ≡ true) }
         ensures own { (n : Id) (slot at : ℕ) → line.now ≡ Line.Start n → IsErrOf result (WorldFault.NotAJournal slot at) → HasPlace self.old n slot }
         ensures running { OnOk result (is_halted self.new ≡ false) }
         ensures halted { OnErr result (is_halted self.new ≡ true) }
-        // Where it ends with an error, the disks of all nodes hold what the nodes keep at one moment of the line, but for one node
-        // where a disk failed or memory was wanting, and those of that node hold what it keeps at that moment or another.
+        // Where it ends with an error, the disks of all nodes hold what the nodes keep at one moment of the line, except one node
+        // where a disk failed or memory ran out, and those of that node hold what it keeps at that moment or another.
         ensures ended { (before : List Ran) → Stands before self.old (images D.view pairs.old.items)
             → IfErr result (λ e. LineEnds (λ c. whole_world (blank (ids_of self.old)) c before) line.now e (ids_of self.old) (places_of self.old)
             (images D.view pairs.new.items)) }
@@ -197,6 +200,7 @@ impl World {
         ensures refused { (why : Refusal) → IfOk result
             (λ a. a ≡ Answer.Refused why → Stays (seen D.view self.old pairs.old.items) (seen D.view self.new pairs.new.items)) }
         ensures disks { LeavesDisks result (bench D.view pairs.old.items) (bench D.view pairs.new.items) }
+        ensures spare { SpareStay (places_of self.old) (bench D.view pairs.old.items) (bench D.view pairs.new.items) }
         ensures place { (slot : ℕ) → IsErrOf result (WorldFault.Disk slot) → IsPlace (places_of self.old) slot }
         ensures sound { (before : List Ran) (slot at : ℕ) → Stands before self.old (images D.view pairs.old.items)
             → IsErrOf result (WorldFault.NotAJournal slot at) → ⊥ }

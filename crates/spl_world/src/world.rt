@@ -16,7 +16,7 @@ ghost use Rattle.spl_world.specs.Ended.{EventEnds};
 ghost use Rattle.spl_world.specs.Kept.{belongs};
 ghost use Rattle.spl_world.specs.Links.{Delivers, IsReady, Places, carried_at, is_of_links, link_view};
 ghost use Rattle.spl_world.specs.Links.{LeavesLinks};
-ghost use Rattle.spl_world.specs.Views.{IsPlace, Holds, IsAt, IsUp, Moves, Sits, has_id, places_of, ids_of, is_halted, over, seen, ups_of};
+ghost use Rattle.spl_world.specs.Views.{IsPlace, Holds, IsAt, IsUp, Moves, Sits, SpareStay, has_id, places_of, ids_of, is_halted, over, seen, ups_of};
 
 use crate::events::Events;
 use crate::fault::WorldFault;
@@ -112,6 +112,7 @@ impl World {
             (seen D.view self.new pairs.new.items)) }
         ensures sits { OnOk result (Sits (seen D.view self.new pairs.new.items)) }
         ensures disks { LeavesDisks result (bench D.view pairs.old.items) (bench D.view pairs.new.items) }
+        ensures spare { SpareStay (places_of self.old) (bench D.view pairs.old.items) (bench D.view pairs.new.items) }
         ensures place { (slot : ℕ) → IsErrOf result (WorldFault.Disk slot) → IsPlace (places_of self.old) slot }
         ensures ended { (m : CircuitWorld) (n : Id) → Holds circuit m (seen D.view self.old pairs.old.items) → IsAt self.old slot n
             → IfErr result (λ e. EventEnds circuit (carried_out m n (plan_of (site_at n circuit) (m.at n) event.now)) e
@@ -249,6 +250,7 @@ impl World {
             (seen D.view self.new pairs.new.items)) }
         ensures sits { OnOk result (Sits (seen D.view self.new pairs.new.items)) }
         ensures disks { LeavesDisks result (bench D.view pairs.old.items) (bench D.view pairs.new.items) }
+        ensures spare { SpareStay (places_of self.old) (bench D.view pairs.old.items) (bench D.view pairs.new.items) }
         ensures place { (slot : ℕ) → IsErrOf result (WorldFault.Disk slot) → IsPlace (places_of self.old) slot }
         ensures ended { (m : CircuitWorld) (a b : Id) → Holds circuit m (seen D.view self.old pairs.old.items) → IsAt self.old from a
             → IsAt self.old to b → IfErr result (λ e. EventEnds circuit (step_world m (step.Deliver a b circuit (index + 1))) e

@@ -71,6 +71,8 @@ impl Disk for PlainDisk {
 
     ghost view = { λ d. untold_disk (disk_view d.disk).moment (disk_view d.disk).faults };
 
+    ghost possible = { λ _. tt };
+
     fn len(&mut self) -> Result<u64, DeviceError> {
         self.disk.len()
     }

@@ -1,5 +1,7 @@
 use Rattle.spl_pump.specs.Wires.{hand, on_pair}
 use Rattle.spl_pump.proofs.Wires.{part_no_more, puts_then_part}
+use Rattle.spl_pump.proofs.Lies.{err_from, lies_first, lies_second}
+use Rattle.spl_pump.specs.Wires.{LiesAtMeeting}
 use Rattle.spl_pump.proofs.pump.introduce.Goals as goal
 
 pub returns-in_err-present-clause-part : goal.returns-in_err-present-clause-part
@@ -10,3 +12,13 @@ returns-in_err-present-2-clause-part g c = puts_then_part (on_pair c.args.low c.
 
 pub returns-clause-part : goal.returns-clause-part
 returns-clause-part g c = puts_then_part (on_pair c.args.low c.args.high (hand c.args.registry.now c.args.low c.args.high)) (on_pair c.args.high c.args.low (hand c.args.registry.now c.args.high c.args.low)) (g.F.Fabric.view c.args.fabric.now).put (g.F.Fabric.view c.present.new.fabric).put (g.F.Fabric.view c.present-2.new.fabric).put c.in_ok-present.ensures.put c.present-2.ensures.part
+
+pub returns-in_err-present-clause-due : goal.returns-in_err-present-clause-due
+returns-in_err-present-clause-due g c =
+    let e = c.in_err-present.field-0.0 in
+    err_from c.from_residual.result e (LiesAtMeeting (hand c.args.registry.now) c.args.low c.args.high) c.from_residual.ensures (lies_first (hand c.args.registry.now) c.args.low c.args.high e c.in_err-present.ensures.due)
+
+pub returns-in_err-present-2-clause-due : goal.returns-in_err-present-2-clause-due
+returns-in_err-present-2-clause-due g c =
+    let e = c.in_err-present-2.field-0.0 in
+    err_from c.from_residual-in_err-present-2.result e (LiesAtMeeting (hand c.args.registry.now) c.args.low c.args.high) c.from_residual-in_err-present-2.ensures (lies_second (hand c.args.registry.now) c.args.low c.args.high e c.in_err-present-2.ensures.due)

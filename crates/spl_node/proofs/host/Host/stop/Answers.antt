@@ -1,4 +1,4 @@
-use Rattle.std.proofs.Common.{◌≡◌, ◌∙◌, Option, sym, ap, subst}
+use Rattle.std.proofs.Common.{◌≡◌, ◌∙◌, Option, inl, refl, sym, ap, subst}
 use Rattle.spl_edge.specs.Views.{image_now}
 use Rattle.spl_rules.specs.Changes.{stopped_cell}
 use Rattle.spl_snapshot.specs.Counting.{IfBoth}
@@ -40,3 +40,6 @@ returns-then-is_none-clause-leaves g c = host_leaves c.args.self.now.id c.args.s
 pub returns-clause-leaves : goal.returns-clause-leaves
 returns-clause-leaves g c = leaves_picked (g.D.Disk.view c.args.disks.now.first).image_at (g.D.Disk.view c.args.disks.now.second).image_at (g.D.Disk.view c.pick_both.new.disks.first).image_at (g.D.Disk.view c.pick_both.new.disks.second).image_at (g.D.Disk.view c.args.disks.now.first).moment (g.D.Disk.view c.args.disks.now.second).moment (g.D.Disk.view c.pick_both.new.disks.first).moment (g.D.Disk.view c.pick_both.new.disks.second).moment (StandFor c.args.self.now.id (kept_cell c.args.self.now.id c.args.self.now.node (image_now (g.D.Disk.view c.args.disks.now.first)) (image_now (g.D.Disk.view c.args.disks.now.second)))) (g.met.D.StopDisk.tells c.args.disks.now.first) (g.met.D.StopDisk.tells c.args.disks.now.second) c.pick_both.ensures.first_left c.pick_both.ensures.second_left
     (host_leaves c.args.self.now.id c.args.self.now.node (g.D.Disk.view c.args.disks.now.first).image_at (g.D.Disk.view c.args.disks.now.second).image_at (g.D.Disk.view c.args.disks.now.first).moment (g.D.Disk.view c.args.disks.now.second).moment (g.met.D.StopDisk.tells c.args.disks.now.first) (g.met.D.StopDisk.tells c.args.disks.now.second) c.requires.stands.up c.requires.stands.down)
+
+pub returns-then-is_none-clause-once : goal.returns-then-is_none-clause-once
+returns-then-is_none-clause-once g c = record { first = inl refl; second = inl refl }

@@ -1,4 +1,4 @@
-use Rattle.std.proofs.Common.{◌≡◌, ◌∙◌, ◌==◌, ℕ, Bool, Option, Some, None, ap, sym, subst, rules}
+use Rattle.std.proofs.Common.{◌≡◌, ◌∙◌, ◌==◌, ℕ, Bool, Option, Some, None, inl, ap, sym, subst, rules}
 use Rattle.std.specs.Option.{option_copied}
 use Rattle.spl_edge.specs.Causes.{Rose}
 use Rattle.spl_edge.specs.declared.fill.Fill.{Fill}
@@ -11,7 +11,7 @@ use Rattle.spl_node.specs.Stands.{here_of, cell_of}
 use Rattle.spl_node.specs.Stopping.{FillsJournal, IsInCheckpoint, PicksArmed, PicksMake, StandForEither, cells_stopped, counting_arming, event_changes, fill_of, keeps, other_arming}
 use Rattle.spl_node.proofs.Halting.{is_one, picked_cells, picks_armed, rose_within}
 use Rattle.spl_node.proofs.Hosting.{as_host, up_runs}
-use Rattle.spl_node.proofs.Leaving.{leaves_picked}
+use Rattle.spl_node.proofs.Leaving.{leaves_picked, picks_then}
 use Rattle.spl_node.proofs.host.Host.stop_in.Goals as goal
 
 pub returns-clause-cells : goal.returns-clause-cells
@@ -72,3 +72,23 @@ returns-clause-risen_other g c = λ full within.
     subst (λ (second : Bool). Rose (g.D.Disk.view (chosen second c.args.disks.now.second c.args.disks.now.first)).faults (g.D.Disk.view (chosen second c.pick_both.new.disks.second c.pick_both.new.disks.first)).faults) (sym (ap counts_second is))
     (rose_within g.D.Disk.view (is_second c.in-Some.node.pairing) c.args.disks.now.first c.args.disks.now.second c.arm.new.disks.first c.arm.new.disks.second c.handle_armed.new.disks.first c.handle_armed.new.disks.second c.pick_both.new.disks.first c.pick_both.new.disks.second
     c.arm.ensures.first.faults_stay c.arm.ensures.second.faults_stay c.pick_both.ensures.first_faults c.pick_both.ensures.second_faults rose)
+
+-- ---- how often they pick
+
+pub returns-in_err-changed-clause-once : goal.returns-in_err-changed-clause-once
+returns-in_err-changed-clause-once g c = record {
+  first = inl (c.handle_armed.ensures.onward.first.picks ∙ c.arm.ensures.first.picks_stay);
+  second = inl (c.handle_armed.ensures.onward.second.picks ∙ c.arm.ensures.second.picks_stay);
+}
+
+pub returns-in_err-pick_both-clause-once : goal.returns-in_err-pick_both-clause-once
+returns-in_err-pick_both-clause-once g c = record {
+  first = picks_then (g.D.Disk.view c.args.disks.now.first) (g.D.Disk.view c.handle_armed.new.disks.first) (g.D.Disk.view c.pick_both.new.disks.first) (c.handle_armed.ensures.onward.first.picks ∙ c.arm.ensures.first.picks_stay) c.pick_both.ensures.once.first;
+  second = picks_then (g.D.Disk.view c.args.disks.now.second) (g.D.Disk.view c.handle_armed.new.disks.second) (g.D.Disk.view c.pick_both.new.disks.second) (c.handle_armed.ensures.onward.second.picks ∙ c.arm.ensures.second.picks_stay) c.pick_both.ensures.once.second;
+}
+
+pub returns-clause-once : goal.returns-clause-once
+returns-clause-once g c = record {
+  first = picks_then (g.D.Disk.view c.args.disks.now.first) (g.D.Disk.view c.handle_armed.new.disks.first) (g.D.Disk.view c.pick_both.new.disks.first) (c.handle_armed.ensures.onward.first.picks ∙ c.arm.ensures.first.picks_stay) c.pick_both.ensures.once.first;
+  second = picks_then (g.D.Disk.view c.args.disks.now.second) (g.D.Disk.view c.handle_armed.new.disks.second) (g.D.Disk.view c.pick_both.new.disks.second) (c.handle_armed.ensures.onward.second.picks ∙ c.arm.ensures.second.picks_stay) c.pick_both.ensures.once.second;
+}

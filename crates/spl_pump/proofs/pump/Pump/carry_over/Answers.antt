@@ -1,5 +1,7 @@
 use Rattle.std.proofs.Common.{◌≡◌, min, max, rules}
 use Rattle.spl_pump.proofs.Carrying.{carried_puts, carried_met, carried_part, carried_on}
+use Rattle.spl_pump.proofs.Lies.{err_from, lies_meeting, lies_own}
+use Rattle.spl_pump.specs.Wires.{LiesBy, hand}
 use Rattle.spl_pump.proofs.pump.Pump.carry_over.Goals as goal
 
 pub returns-in_err-meet-clause-part : goal.returns-in_err-meet-clause-part
@@ -37,3 +39,17 @@ returns-clause-onward g c =
     let low : c.min.result ≡ min c.args.from c.args.to = search rules in
     let high : c.max.result ≡ max c.args.from c.args.to = search rules in
     carried_on c.args.self.now.entries c.args.self.now.met (record { from = c.args.from; to = c.args.to; message = c.args.message.now }) c.min.result c.max.result (g.F.Fabric.view c.args.fabric.now).put (g.F.Fabric.view c.meet.new.fabric).put (g.F.Fabric.view c.send.new.fabric).put c.requires.apart low high _ _ c.meet.ensures.entries c.in_ok-meet.ensures.met
+
+pub returns-in_err-meet-clause-due : goal.returns-in_err-meet-clause-due
+returns-in_err-meet-clause-due g c =
+    let low : c.min.result ≡ min c.args.from c.args.to = search rules in
+    let high : c.max.result ≡ max c.args.from c.args.to = search rules in
+    let e = c.in_err-meet.field-0.0 in
+    err_from c.from_residual.result e (LiesBy (hand c.args.self.now.entries) c.args.from c.args.to c.args.message.now) c.from_residual.ensures
+    (lies_meeting (hand c.args.self.now.entries) c.args.from c.args.to c.min.result c.max.result c.args.message.now e low high c.in_err-meet.ensures.due)
+
+pub returns-in_err-got-clause-due : goal.returns-in_err-got-clause-due
+returns-in_err-got-clause-due g c =
+    let e = c.in_err-got.field-0.0 in
+    err_from c.from_residual-in_err-got.result e (LiesBy (hand c.args.self.now.entries) c.args.from c.args.to c.args.message.now) c.from_residual-in_err-got.ensures
+    (lies_own (hand c.args.self.now.entries) c.args.from c.args.to c.args.message.now e c.in_err-got.ensures.due)

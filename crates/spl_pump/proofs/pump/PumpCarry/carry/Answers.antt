@@ -8,3 +8,6 @@ returns-in-Ok-clause-part g c = rw c.get.ensures at c.in-Ok.ensures.part
 
 pub returns-in-Err-clause-part : goal.returns-in-Err-clause-part
 returns-in-Err-clause-part g c = rw c.get.ensures at c.in-Err.ensures.part
+
+pub returns-in-Err-clause-due : goal.returns-in-Err-clause-due
+returns-in-Err-clause-due g c = rw c.get.ensures at c.in-Err.ensures.due

@@ -19,12 +19,12 @@ post-requires g c =
 
 pub returns-in_err-post-in-Ok-clause-leaves : goal.returns-in_err-post-in-Ok-clause-leaves
 returns-in_err-post-in-Ok-clause-leaves g c = λ tell.
-    host_left g.D.Disk.view c.args.self.now.host c.args.disks.now c.handle.new.disks c.args.circuit.now c.args.event.now tell.0 tell.1 c.handle.ensures.onward.first.later c.handle.ensures.onward.second.later c.handle.ensures.any_moment
+    host_left g.D.Disk.view c.args.self.now.host c.args.disks.now c.handle.new.disks c.args.circuit.now c.args.event.now tell.0 tell.1 c.handle.ensures.onward.first.later c.handle.ensures.onward.second.later c.handle.ensures.any_moment (g.met.D.Disk.possible c.handle.new.disks.first) (g.met.D.Disk.possible c.handle.new.disks.second)
 
 pub returns-in_ok-post-in-Ok-clause-leaves : goal.returns-in_ok-post-in-Ok-clause-leaves
 returns-in_ok-post-in-Ok-clause-leaves g c = λ tell.
-    host_left g.D.Disk.view c.args.self.now.host c.args.disks.now c.handle.new.disks c.args.circuit.now c.args.event.now tell.0 tell.1 c.handle.ensures.onward.first.later c.handle.ensures.onward.second.later c.handle.ensures.any_moment
+    host_left g.D.Disk.view c.args.self.now.host c.args.disks.now c.handle.new.disks c.args.circuit.now c.args.event.now tell.0 tell.1 c.handle.ensures.onward.first.later c.handle.ensures.onward.second.later c.handle.ensures.any_moment (g.met.D.Disk.possible c.handle.new.disks.first) (g.met.D.Disk.possible c.handle.new.disks.second)
 
 pub returns-in-Err-clause-leaves : goal.returns-in-Err-clause-leaves
 returns-in-Err-clause-leaves g c = λ tell.
-    host_left g.D.Disk.view c.args.self.now.host c.args.disks.now c.handle.new.disks c.args.circuit.now c.args.event.now tell.0 tell.1 c.handle.ensures.onward.first.later c.handle.ensures.onward.second.later c.handle.ensures.any_moment
+    host_left g.D.Disk.view c.args.self.now.host c.args.disks.now c.handle.new.disks c.args.circuit.now c.args.event.now tell.0 tell.1 c.handle.ensures.onward.first.later c.handle.ensures.onward.second.later c.handle.ensures.any_moment (g.met.D.Disk.possible c.handle.new.disks.first) (g.met.D.Disk.possible c.handle.new.disks.second)

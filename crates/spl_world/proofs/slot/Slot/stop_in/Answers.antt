@@ -1,7 +1,8 @@
 use Rattle.spl_node.specs.Hosts.{host_second}
 use Rattle.spl_node.specs.Stopping.{counting_arming, fill_of, other_arming}
 use Rattle.spl_snapshot.specs.Counting.{chosen}
-use Rattle.spl_world.proofs.Ending.{left_last}
+use Rattle.spl_world.specs.Disks.{images_of}
+use Rattle.spl_world.proofs.Ending.{hold_left, left_last}
 use Rattle.spl_world.proofs.Picking.{count_seen, other_higher}
 use Rattle.spl_world.proofs.Results.{ok_both, ok_three}
 use Rattle.spl_world.proofs.slot.Slot.stop_in.Goals as goal
@@ -13,7 +14,8 @@ returns-clause-picks g c = ok_both c.stop_in.result
     c.stop_in.ensures.picks_first c.stop_in.ensures.picks_second
 
 pub returns-clause-leaves : goal.returns-clause-leaves
-returns-clause-leaves g c = left_last (g.D.Disk.view c.stop_in.new.disks.first).image_at (g.D.Disk.view c.stop_in.new.disks.second).image_at (g.D.Disk.view c.stop_in.new.disks.first).moment (g.D.Disk.view c.stop_in.new.disks.second).moment _ c.stop_in.ensures.leaves
+returns-clause-leaves g c = hold_left _ (images_of g.D.Disk.view c.stop_in.new.disks) (g.met.D.Disk.possible c.stop_in.new.disks.first) (g.met.D.Disk.possible c.stop_in.new.disks.second)
+    (left_last (g.D.Disk.view c.stop_in.new.disks.first).image_at (g.D.Disk.view c.stop_in.new.disks.second).image_at (g.D.Disk.view c.stop_in.new.disks.first).moment (g.D.Disk.view c.stop_in.new.disks.second).moment _ c.stop_in.ensures.leaves)
 
 pub returns-clause-risen_other : goal.returns-clause-risen_other
 returns-clause-risen_other g c =

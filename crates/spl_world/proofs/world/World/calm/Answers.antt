@@ -25,6 +25,7 @@ use Rattle.spl_world.specs.Views.{places_of}
 use Rattle.spl_world.specs.declared.fault.WorldFault.TheVariants.{NoMemory}
 use Rattle.spl_world.proofs.LinkFaults.{faults_failed, faults_off, faults_ok, faults_still, faults_then, links_itself, links_then}
 use Rattle.spl_world.proofs.Linking.{off_memory}
+use Rattle.spl_world.proofs.Sparing.{spare_on}
 use Rattle.spl_world.proofs.world.World.calm.Goals as goal
 
 pub pass-requires-clause-square : goal.pass-requires-clause-square
@@ -70,6 +71,7 @@ loop-done-preserved g c =
           part_to place done (calming m) (pass c.args.circuit ids y) (passes c.args.circuit ids (c.loop-done.done + 1) (calming m)) p s (sym (passes_next c.args.circuit ids c.loop-done.done (calming m)))
           (ok_then place done (calming m) y (pass c.args.circuit ids y) p q s carried one),
       links_then _ _ _ c.loop-done.invariant.12 c.in_ok-pass.ensures.faults.onward,
+      spare_on g.D.Disk.view c.args.self.now c.loop-done.self c.args.pairs.now.items c.loop-done.pairs.items c.pass.new.pairs.items c.loop-done.invariant.8 c.loop-done.invariant.13 c.pass.ensures.spare,
     )
 
 pub returns-clause-moves : goal.returns-clause-moves
@@ -82,7 +84,7 @@ returns-clause-moves g c =
     }
 
 pub loop-done-init : goal.loop-done-init
-loop-done-init g c = (refl, refl, c.in_ok-rows.ensures.square, λ m h. (h, c.in_ok-rows.ensures.counts (images g.D.Disk.view c.args.pairs.now.items) m h), λ d m off h. h, λ m h. refl, c.requires.sits, all_itself _, refl, refl, c.requires.ready, λ place m placed h. part_same place (calming m) (link_view (g.C.Carry.view c.args.carrier.now) (g.F.Fabric.view c.args.fabric.now)) (g.met.C.Carry.idle c.args.carrier.now), links_itself _)
+loop-done-init g c = (refl, refl, c.in_ok-rows.ensures.square, λ m h. (h, c.in_ok-rows.ensures.counts (images g.D.Disk.view c.args.pairs.now.items) m h), λ d m off h. h, λ m h. refl, c.requires.sits, all_itself _, refl, refl, c.requires.ready, λ place m placed h. part_same place (calming m) (link_view (g.C.Carry.view c.args.carrier.now) (g.F.Fabric.view c.args.fabric.now)) (g.met.C.Carry.idle c.args.carrier.now), links_itself _, λ k off. refl)
 
 -- ---- how many events
 
@@ -108,7 +110,7 @@ returns-clause-counts g c = λ m h.
     (subst (λ (w : Calming). c.loop-done.self.events + 0 ≡ c.args.self.now.events + length w.happened) (calm_is c.args.circuit m (seen g.D.Disk.view c.args.self.now c.args.pairs.now.items) c.args.passes h)
     (subst (λ (k : ℕ). c.loop-done.self.events + 0 ≡ c.args.self.now.events + length (passes c.args.circuit (ids_of c.args.self.now) k (calming m)).happened) all (c.loop-done.invariant.5 m h)))
 
--- ---- behind a quiet pass
+-- ---- after a quiet pass
 
 pub returns-then-not-branch-clause-counts : goal.returns-then-not-branch-clause-counts
 returns-then-not-branch-clause-counts g c = λ m h.
@@ -284,3 +286,14 @@ returns-then-not-branch-clause-faults g c =
 
 pub returns-clause-faults : goal.returns-clause-faults
 returns-clause-faults g c = faults_ok _ _ _ c.loop-done.invariant.12
+
+-- ---- the pairs that no node has
+
+pub returns-in_err-pass-clause-spare : goal.returns-in_err-pass-clause-spare
+returns-in_err-pass-clause-spare g c = spare_on g.D.Disk.view c.args.self.now c.loop-done.self c.args.pairs.now.items c.loop-done.pairs.items c.pass.new.pairs.items c.loop-done.invariant.8 c.loop-done.invariant.13 c.pass.ensures.spare
+
+pub returns-clause-spare : goal.returns-clause-spare
+returns-clause-spare g c = c.loop-done.invariant.13
+
+pub returns-then-not-branch-clause-spare : goal.returns-then-not-branch-clause-spare
+returns-then-not-branch-clause-spare g c = spare_on g.D.Disk.view c.args.self.now c.loop-done.self c.args.pairs.now.items c.loop-done.pairs.items c.pass.new.pairs.items c.loop-done.invariant.8 c.loop-done.invariant.13 c.pass.ensures.spare

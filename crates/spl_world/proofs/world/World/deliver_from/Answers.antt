@@ -26,6 +26,7 @@ use Rattle.spl_world.specs.Views.{ids_of, places_of}
 use Rattle.spl_world.proofs.LinkFaults.{faults_failed, faults_off, faults_ok, faults_then, links_itself, links_then}
 use Rattle.spl_world.proofs.Linking.{off_failed}
 use Rattle.spl_world.proofs.Results.{err_from}
+use Rattle.spl_world.proofs.Sparing.{spare_on}
 use Rattle.spl_world.proofs.world.World.deliver_from.Goals as goal
 
 pub deliver-requires-clause-from_below : goal.deliver-requires-clause-from_below
@@ -77,6 +78,7 @@ loop-index-preserved g c =
           part_to place done z (calming_step here one) next p s (deliver_next c.args.circuit z a b c.args.taken c.loop-index.index c.loop-index.invariant.3)
           (ok_then place done z here (calming_step here one) p q s so_far (part_step place done here one q s (c.in_ok-deliver.ensures.links place here.world a b seats (moves.own z.world h) first second))),
       links_then _ _ _ c.loop-index.invariant.13 c.in_ok-deliver.ensures.faults.onward,
+      spare_on g.D.Disk.view c.args.self.now c.loop-index.self c.args.pairs.now.items c.loop-index.pairs.items c.deliver.new.pairs.items c.loop-index.invariant.9 c.loop-index.invariant.14 c.deliver.ensures.spare,
     )
 
 pub returns-clause-moves : goal.returns-clause-moves
@@ -120,6 +122,7 @@ loop-index-init g c =
           let p = (link_view (g.C.Carry.view c.args.carrier.now) (g.F.Fabric.view c.args.fabric.now)) in
           part_to place done z z (delivers c.args.circuit z a b (c.args.taken + 1) (c.args.taken - c.args.taken)) p p (sym (ap (delivers c.args.circuit z a b (c.args.taken + 1)) none)) (part_same place z p (g.met.C.Carry.idle c.args.carrier.now)),
       links_itself _,
+      λ k off. refl,
     )
 
 pub deliver-requires-clause-sits : goal.deliver-requires-clause-sits
@@ -228,3 +231,14 @@ returns-in_err-deliver-clause-faults g c = faults_failed c.from_residual-in_err-
 
 pub returns-clause-faults : goal.returns-clause-faults
 returns-clause-faults g c = faults_ok _ _ _ c.loop-index.invariant.13
+
+-- ---- the pairs that no node has
+
+pub returns-in_err-deliver-clause-spare : goal.returns-in_err-deliver-clause-spare
+returns-in_err-deliver-clause-spare g c = spare_on g.D.Disk.view c.args.self.now c.loop-index.self c.args.pairs.now.items c.loop-index.pairs.items c.deliver.new.pairs.items c.loop-index.invariant.9 c.loop-index.invariant.14 c.deliver.ensures.spare
+
+pub returns-clause-spare : goal.returns-clause-spare
+returns-clause-spare g c = c.loop-index.invariant.14
+
+pub returns-in_err-add-clause-spare : goal.returns-in_err-add-clause-spare
+returns-in_err-add-clause-spare g c = c.loop-index.invariant.14

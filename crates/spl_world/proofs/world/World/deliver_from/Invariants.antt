@@ -2,7 +2,7 @@ use Rattle.std.proofs.Common.{◌≡◌, ◌+◌, ◌-◌, ◌≤◌, length}
 use Rattle.spl_circuit.specs.Nodes.{NodeId}
 use Rattle.spl_model.specs.Calm.{Calming, delivers}
 use Rattle.spl_world.specs.Disks.{AllGoOn}
-use Rattle.spl_world.specs.Views.{Holds, IsAt, Moves, ids_of, ups_of, Sits, places_of, seen}
+use Rattle.spl_world.specs.Views.{Holds, IsAt, Moves, ids_of, ups_of, Sits, places_of, seen, SpareStay}
 use Rattle.spl_world.proofs.Turns.{delivered}
 use Rattle.std.proofs.Common.{ℕ}
 use Rattle.spl_edge.specs.Views.{bench}
@@ -22,3 +22,4 @@ invariant-loop-index g l = (length l.self.slots.items ≡ length l.fn.self.slots
     × ((place : NodeId → ℕ) (z : Calming) (a b : NodeId) → Places place (ids_of l.fn.self) (places_of l.fn.self) → Holds l.circuit z.world (seen g.D.Disk.view l.fn.self l.fn.pairs.items) → IsAt l.fn.self l.from a → IsAt l.fn.self l.to b
     → PartDelivers done place z (delivers l.circuit z a b (l.taken + 1) (l.index - l.taken)) (link_view (g.C.Carry.view l.fn.carrier) (g.F.Fabric.view l.fn.fabric)) (link_view (g.C.Carry.view l.carrier) (g.F.Fabric.view l.fabric)))
     × LinksGoOn (link_view (g.C.Carry.view l.fn.carrier) (g.F.Fabric.view l.fn.fabric)) (link_view (g.C.Carry.view l.carrier) (g.F.Fabric.view l.fabric))
+    × SpareStay (places_of l.fn.self) (bench g.D.Disk.view l.fn.pairs.items) (bench g.D.Disk.view l.pairs.items)

@@ -20,8 +20,9 @@ use Rattle.spl_world.proofs.LinkingParts.{err_then, ok_then, part_failed, part_s
 use Rattle.spl_world.proofs.Seating.{places_as}
 use Rattle.spl_world.specs.Links.{PartDelivers, link_view}
 use Rattle.spl_world.specs.Views.{places_of}
-use Rattle.spl_world.proofs.LinkFaults.{faults_failed, faults_ok, faults_then, links_itself}
+use Rattle.spl_world.proofs.LinkFaults.{faults_failed, faults_ok, faults_then, links_itself, links_then}
 use Rattle.spl_world.proofs.Results.{err_from}
+use Rattle.spl_world.proofs.Sparing.{spare_on}
 use Rattle.spl_world.proofs.world.World.from_all.Goals as goal
 
 pub loop-from-preserved : goal.loop-from-preserved
@@ -70,7 +71,8 @@ loop-from-preserved g c =
           let one = subst (λ (ns : List NodeId). PartDelivers done place y (to_all c.args.circuit y sender.0 ns) q s) c.loop-from.invariant.1 (c.in_ok-to_all.ensures.links place y sender.0 seats so_far.0 here row) in
           part_to place done z (to_all c.args.circuit y sender.0 (ids_of c.args.self.now)) (from_all c.args.circuit z (ids_of c.args.self.now) (take (c.loop-from.from + 1) (ids_of c.args.self.now))) p s (sym (from_all_next c.args.circuit z (ids_of c.args.self.now) c.loop-from.from sender.0 sender.1))
           (ok_then place done z y (to_all c.args.circuit y sender.0 (ids_of c.args.self.now)) p q s carried one),
-      omega (arith, c.loop-from.invariant.12, c.in_ok-to_all.ensures.faults.onward),
+      links_then _ _ _ c.loop-from.invariant.12 c.in_ok-to_all.ensures.faults.onward,
+      spare_on g.D.Disk.view c.args.self.now c.loop-from.self c.args.pairs.now.items c.loop-from.pairs.items c.to_all.new.pairs.items c.loop-from.invariant.8 c.loop-from.invariant.13 c.to_all.ensures.spare,
     )
 
 pub returns-clause-own : goal.returns-clause-own
@@ -111,7 +113,7 @@ returns-clause-counts g c = λ z h rows.
 -- ---- the disks
 
 pub loop-from-init : goal.loop-from-init
-loop-from-init g c = (refl, refl, c.requires.square, λ z h rows. (h, rows), λ d m off h. h, λ z h rows. refl, c.requires.sits, all_itself _, refl, refl, c.requires.ready, λ place z placed h rows. part_same place z (link_view (g.C.Carry.view c.args.carrier.now) (g.F.Fabric.view c.args.fabric.now)) (g.met.C.Carry.idle c.args.carrier.now), links_itself _)
+loop-from-init g c = (refl, refl, c.requires.square, λ z h rows. (h, rows), λ d m off h. h, λ z h rows. refl, c.requires.sits, all_itself _, refl, refl, c.requires.ready, λ place z placed h rows. part_same place z (link_view (g.C.Carry.view c.args.carrier.now) (g.F.Fabric.view c.args.fabric.now)) (g.met.C.Carry.idle c.args.carrier.now), links_itself _, λ k off. refl)
 
 pub to_all-requires-clause-sits : goal.to_all-requires-clause-sits
 to_all-requires-clause-sits g c = c.loop-from.invariant.6
@@ -188,3 +190,11 @@ returns-in_err-to_all-clause-faults g c = faults_failed c.from_residual.result _
 
 pub returns-clause-faults : goal.returns-clause-faults
 returns-clause-faults g c = faults_ok _ _ _ c.loop-from.invariant.12
+
+-- ---- the pairs that no node has
+
+pub returns-in_err-to_all-clause-spare : goal.returns-in_err-to_all-clause-spare
+returns-in_err-to_all-clause-spare g c = spare_on g.D.Disk.view c.args.self.now c.loop-from.self c.args.pairs.now.items c.loop-from.pairs.items c.to_all.new.pairs.items c.loop-from.invariant.8 c.loop-from.invariant.13 c.to_all.ensures.spare
+
+pub returns-clause-spare : goal.returns-clause-spare
+returns-clause-spare g c = c.loop-from.invariant.13

@@ -16,6 +16,9 @@ use Rattle.spl_world.proofs.Picking.{forgets_none}
 use Rattle.spl_world.proofs.Powering.{stands_line}
 use Rattle.spl_world.proofs.Standing.{events_after, limit_is, one_event, one_stop, over_line, over_stops, power_answered}
 use Rattle.spl_world.proofs.Results.{err_from}
+use Rattle.spl_edge.specs.Views.{bench}
+use Rattle.spl_world.specs.Views.{seen}
+use Rattle.spl_world.proofs.Sparing.{by_once, by_others, by_spare, once_all}
 use Rattle.spl_world.proofs.world.World.halt_line.Goals as goal
 
 pub returns-clause-answer : goal.returns-clause-answer
@@ -83,3 +86,29 @@ pub returns-in_err-halt_node-clause-ended : goal.returns-in_err-halt_node-clause
 returns-in_err-halt_node-clause-ended g c = λ before stands.
     err_from c.from_residual-in_err-halt_node.result NoMemory (λ e. LineEnds (λ k. whole_world (blank (ids_of c.args.self.now)) k before) c.args.line.now e (ids_of c.args.self.now) (places_of c.args.self.now) (images g.D.Disk.view c.halt_node.new.pairs.items)) c.from_residual-in_err-halt_node.ensures
     (c.in_err-halt_node.ensures.ended (λ k. whole_world (blank (ids_of c.args.self.now)) k before) stands.each)
+
+-- ---- the other pairs
+
+pub returns-in_err-halt_node-clause-spare : goal.returns-in_err-halt_node-clause-spare
+returns-in_err-halt_node-clause-spare g c = by_spare c.args.line.now (seen g.D.Disk.view c.args.self.now c.args.pairs.now.items) (bench g.D.Disk.view c.args.pairs.now.items) (bench g.D.Disk.view c.halt_node.new.pairs.items) c.halt_node.ensures.only
+
+pub returns-in_err-halt_node-clause-others : goal.returns-in_err-halt_node-clause-others
+returns-in_err-halt_node-clause-others g c = by_others c.args.line.now (seen g.D.Disk.view c.args.self.now c.args.pairs.now.items) (bench g.D.Disk.view c.args.pairs.now.items) (bench g.D.Disk.view c.halt_node.new.pairs.items) c.halt_node.ensures.only c.requires.sits
+
+pub returns-clause-spare : goal.returns-clause-spare
+returns-clause-spare g c = by_spare c.args.line.now (seen g.D.Disk.view c.args.self.now c.args.pairs.now.items) (bench g.D.Disk.view c.args.pairs.now.items) (bench g.D.Disk.view c.halt_node.new.pairs.items) c.halt_node.ensures.only
+
+pub returns-clause-others : goal.returns-clause-others
+returns-clause-others g c = by_others c.args.line.now (seen g.D.Disk.view c.args.self.now c.args.pairs.now.items) (bench g.D.Disk.view c.args.pairs.now.items) (bench g.D.Disk.view c.halt_node.new.pairs.items) c.halt_node.ensures.only c.requires.sits
+
+pub returns-in_err-halt_node-clause-once : goal.returns-in_err-halt_node-clause-once
+returns-in_err-halt_node-clause-once g c = by_once c.args.line.now (seen g.D.Disk.view c.args.self.now c.args.pairs.now.items) (bench g.D.Disk.view c.args.pairs.now.items) (bench g.D.Disk.view c.halt_node.new.pairs.items) c.halt_node.ensures.only
+
+pub returns-clause-once : goal.returns-clause-once
+returns-clause-once g c = by_once c.args.line.now (seen g.D.Disk.view c.args.self.now c.args.pairs.now.items) (bench g.D.Disk.view c.args.pairs.now.items) (bench g.D.Disk.view c.halt_node.new.pairs.items) c.halt_node.ensures.only
+
+pub returns-in_err-add-clause-once : goal.returns-in_err-add-clause-once
+returns-in_err-add-clause-once g c = once_all _
+
+pub returns-in_err-add-2-clause-once : goal.returns-in_err-add-2-clause-once
+returns-in_err-add-2-clause-once g c = once_all _

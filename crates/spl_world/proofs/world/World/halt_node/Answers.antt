@@ -78,7 +78,7 @@ returns-in_ok-bit-in-Fail-clause-holds g c = λ k m h.
 pub returns-in_ok-bit-in-Fail-clause-slot : goal.returns-in_ok-bit-in-Fail-clause-slot
 returns-in_ok-bit-in-Fail-clause-slot g c = rw (c.in-Fail.is) (record { here = step_node c.in-Fail.step; named = λ n. refl; slot = c.in_ok-bit-in-Fail.ensures.slot })
 
--- ---- want of memory
+-- ---- running out of memory
 
 pub returns-in_err-stop_at-in-Stop-clause-ended : goal.returns-in_err-stop_at-in-Stop-clause-ended
 returns-in_err-stop_at-in-Stop-clause-ended g c = λ worlds h. on_err c.from_residual.result
@@ -91,3 +91,37 @@ returns-in_err-bit-in-Cut-clause-ended g c = λ worlds h. on_err c.from_residual
 pub returns-in_err-bit-in-Fail-clause-ended : goal.returns-in_err-bit-in-Fail-clause-ended
 returns-in_err-bit-in-Fail-clause-ended g c = λ worlds h. on_err c.from_residual-in_err-bit-in-Fail.result
     (rw (c.in-Fail.is) (ended_fail worlds (seen g.D.Disk.view c.args.self.now c.args.pairs.now.items) c.requires.sits h (images g.D.Disk.view c.halt_step-in-Fail.new.pairs.items) c.in-Fail.call c.in-Fail.step (c.in_err-bit-in-Fail.ensures.ended (worlds (step_circuit c.in-Fail.step)) (h (step_circuit c.in-Fail.step)))))
+
+-- ---- the other pairs
+
+pub returns-in_err-stop_at-in-Stop-clause-only : goal.returns-in_err-stop_at-in-Stop-clause-only
+returns-in_err-stop_at-in-Stop-clause-only g c =
+    let ss = c.args.self.now.slots.items in
+    let z = seat_at ss c.slot-slot.result c.in-Stop.node c.slot-slot.ensures.at in
+    rw (c.in-Stop.is) (record {
+      here = c.in-Stop.node;
+      named = λ n. refl;
+      node = record { index = c.slot-slot.result; slot = z.0; there = z.1; id_is = same_at ss c.slot-slot.result z.0 c.in-Stop.node z.1 c.slot-slot.ensures.at; only = c.stop_at.ensures.only z.0 z.1 };
+    })
+
+pub returns-in_ok-stop_at-in-Stop-clause-only : goal.returns-in_ok-stop_at-in-Stop-clause-only
+returns-in_ok-stop_at-in-Stop-clause-only g c =
+    let ss = c.args.self.now.slots.items in
+    let z = seat_at ss c.slot-slot.result c.in-Stop.node c.slot-slot.ensures.at in
+    rw (c.in-Stop.is) (record {
+      here = c.in-Stop.node;
+      named = λ n. refl;
+      node = record { index = c.slot-slot.result; slot = z.0; there = z.1; id_is = same_at ss c.slot-slot.result z.0 c.in-Stop.node z.1 c.slot-slot.ensures.at; only = c.stop_at.ensures.only z.0 z.1 };
+    })
+
+pub returns-in_err-bit-in-Cut-clause-only : goal.returns-in_err-bit-in-Cut-clause-only
+returns-in_err-bit-in-Cut-clause-only g c = rw (c.in-Cut.is) (record { here = step_node c.in-Cut.step; named = λ n. refl; node = c.halt_step.ensures.only })
+
+pub returns-in_ok-bit-in-Cut-clause-only : goal.returns-in_ok-bit-in-Cut-clause-only
+returns-in_ok-bit-in-Cut-clause-only g c = rw (c.in-Cut.is) (record { here = step_node c.in-Cut.step; named = λ n. refl; node = c.halt_step.ensures.only })
+
+pub returns-in_err-bit-in-Fail-clause-only : goal.returns-in_err-bit-in-Fail-clause-only
+returns-in_err-bit-in-Fail-clause-only g c = rw (c.in-Fail.is) (record { here = step_node c.in-Fail.step; named = λ n. refl; node = c.halt_step-in-Fail.ensures.only })
+
+pub returns-in_ok-bit-in-Fail-clause-only : goal.returns-in_ok-bit-in-Fail-clause-only
+returns-in_ok-bit-in-Fail-clause-only g c = rw (c.in-Fail.is) (record { here = step_node c.in-Fail.step; named = λ n. refl; node = c.halt_step-in-Fail.ensures.only })

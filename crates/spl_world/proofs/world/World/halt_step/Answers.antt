@@ -1,4 +1,4 @@
-use Rattle.std.proofs.Common.{◌≡◌, ◌∙◌, Some, true, ap, sym, subst}
+use Rattle.std.proofs.Common.{refl, ◌≡◌, ◌∙◌, Some, true, ap, sym, subst}
 use Rattle.spl_circuit.specs.Nodes.{NodeId, has_node}
 use Rattle.spl_model.specs.Answers.{bit_of}
 use Rattle.spl_model.specs.Worlds.{step_plan}
@@ -13,6 +13,7 @@ use Rattle.spl_world.proofs.Powering.{halt_none, stop_none}
 use Rattle.spl_world.proofs.Results.{on_err}
 use Rattle.spl_world.proofs.Slots.{same_at}
 use Rattle.spl_world.proofs.Steps.{node_known}
+use Rattle.spl_world.proofs.Sparing.{only_same}
 use Rattle.spl_world.proofs.world.World.halt_step.Goals as goal
 
 pub slot-slot-requires : goal.slot-slot-requires
@@ -80,3 +81,29 @@ returns-clause-slot g c =
 
 pub returns-in_err-changes-clause-ended : goal.returns-in_err-changes-clause-ended
 returns-in_err-changes-clause-ended g c = λ m h. on_err c.from_residual.result (c.in_err-changes.ensures.ended m h)
+
+-- ---- the other pairs
+
+pub returns-then-not-is_up-clause-only : goal.returns-then-not-is_up-clause-only
+returns-then-not-is_up-clause-only g c =
+    let s = c.args.step.now in
+    let ss = c.args.self.now.slots.items in
+    let at = c.slot-slot.ensures.at ∙ ap Some c.node.ensures in
+    let z = seat_at ss c.slot-slot.result (step_node s) at in
+    record { index = c.slot-slot.result; slot = z.0; there = z.1; id_is = same_at ss c.slot-slot.result z.0 (step_node s) z.1 at; only = only_same _ _ }
+
+pub returns-in_err-changes-clause-only : goal.returns-in_err-changes-clause-only
+returns-in_err-changes-clause-only g c =
+    let s = c.args.step.now in
+    let ss = c.args.self.now.slots.items in
+    let at = c.slot-slot.ensures.at ∙ ap Some c.node.ensures in
+    let z = seat_at ss c.slot-slot.result (step_node s) at in
+    record { index = c.slot-slot.result; slot = z.0; there = z.1; id_is = same_at ss c.slot-slot.result z.0 (step_node s) z.1 at; only = c.stop_in_step.ensures.only z.0 z.1 }
+
+pub returns-clause-only : goal.returns-clause-only
+returns-clause-only g c =
+    let s = c.args.step.now in
+    let ss = c.args.self.now.slots.items in
+    let at = c.slot-slot.ensures.at ∙ ap Some c.node.ensures in
+    let z = seat_at ss c.slot-slot.result (step_node s) at in
+    record { index = c.slot-slot.result; slot = z.0; there = z.1; id_is = same_at ss c.slot-slot.result z.0 (step_node s) z.1 at; only = c.stop_in_step.ensures.only z.0 z.1 }

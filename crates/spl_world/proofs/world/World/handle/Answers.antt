@@ -11,6 +11,7 @@ use Rattle.spl_world.proofs.Results.{at_ok, ok_three, when_ok}
 use Rattle.spl_world.proofs.Slots.{same_ids, same_places, id_at, place_at}
 use Rattle.spl_world.proofs.Up.{is_there_up, same_ups}
 use Rattle.spl_world.proofs.Ending.{own_ended}
+use Rattle.spl_world.proofs.Sparing.{one_spare}
 use Rattle.spl_world.proofs.world.World.handle.Goals as goal
 
 pub index_mut-disks-requires : goal.index_mut-disks-requires
@@ -116,3 +117,11 @@ returns-clause-ended g c = λ m n h at.
     own_ended g.D.Disk.view ss ps c.args.slot s c.requires.sits there c.position.result c.position.ensures c.index_mut-disks.result.now pair c.handle.new.self c.handle.new.disks c.args.circuit n c.args.event.now m at h
     c.handle.result c.handle.ensures.few (λ slot q. (c.handle.ensures.failed slot q).0)
     (c.handle.ensures.leaves (own_told g.D.Disk.view ss ps c.args.slot s c.requires.sits there c.position.result c.position.ensures c.index_mut-disks.result.now pair c.args.circuit m h))
+
+-- ---- the pairs that no node has
+
+pub returns-clause-spare : goal.returns-clause-spare
+returns-clause-spare g c =
+    let ss = c.args.self.now.slots.items in
+    let there = slice_get_read ss (length ss) c.args.slot c.index_mut-here.result.now refl c.requires.below c.index_mut-here.ensures.value ∙ ap Some (sym c.prepare.ensures) in
+    one_spare g.D.Disk.view ss c.args.pairs.now.items c.args.slot c.prepare.new.self c.position.result c.handle.new.disks there c.position.ensures

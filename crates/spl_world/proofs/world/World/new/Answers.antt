@@ -21,6 +21,7 @@ use Rattle.spl_world.proofs.Made.{AreMade, IsEntry, entry_at, entry_below, known
 use Rattle.spl_world.proofs.Unmade.{else_still, made_but, made_none}
 use Rattle.spl_world.proofs.Pairing.{images_here, images_length, images_set, pair_here}
 use Rattle.spl_world.proofs.Results.{err_from}
+use Rattle.spl_world.proofs.Sparing.{one_far}
 use Rattle.spl_world.proofs.world.World.new.Goals as goal
 
 pub loop-id-init : goal.loop-id-init
@@ -28,6 +29,7 @@ loop-id-init g c = record {
   made = subst (λ (ss : List Slot). AreMade c.args.registry.now c.deref-id-items.result.now 0 ss (images g.D.Disk.view c.args.pairs.now.items) (images g.D.Disk.view c.args.pairs.now.items)) (sym c.new-slots.ensures.items)
       (none_made c.args.registry.now c.deref-id-items.result.now (images g.D.Disk.view c.args.pairs.now.items));
   onward = all_itself _;
+  spare = λ k far. refl;
 }
 
 pub unwrap-position-requires : goal.unwrap-position-requires
@@ -85,6 +87,7 @@ loop-id-preserved g c =
       made = subst (λ (ss : List Slot). AreMade es ns (c.loop-id.id-index + 1) ss start (images g.D.Disk.view (slice_set ps c.from.result r))) (sym c.in_ok-join.ensures)
           (subst (λ (is : List Images). AreMade es ns (c.loop-id.id-index + 1) (c.loop-id.slots.items ++ c.in_ok-slot.slot ∷ []) start is) (sym (images_set g.D.Disk.view ps c.from.result r)) more);
       onward = all_then _ _ _ c.loop-id.invariant.onward (one_onward g.D.Disk.view ps c.from.result c.index_mut-disks.result.now r pair c.new.ensures.onward);
+      spare = one_far g.D.Disk.view ps (bench g.D.Disk.view c.args.pairs.now.items) (length es) c.from.result r few c.loop-id.invariant.spare;
     }
 
 pub returns-in_err-ids-clause-disks : goal.returns-in_err-ids-clause-disks
@@ -211,3 +214,22 @@ returns-in_err-join-clause-unmade g c = λ unpicked.
     (made_but g.D.Disk.view all es ns c.loop-id.id-index c.loop-id.slots.items NoMemory old ps (slice_set ps c.from.result r) c.loop-id.invariant.made unpicked
     (all_then _ _ _ c.loop-id.invariant.onward (one_onward g.D.Disk.view ps c.from.result c.index_mut-disks.result.now r pair c.new.ensures.onward))
     c.from.result (else_still g.D.Disk.view ps c.from.result r) (λ k q. cc))
+
+-- ---- the pairs that no node has
+
+pub returns-in_err-slot-clause-spare : goal.returns-in_err-slot-clause-spare
+returns-in_err-slot-clause-spare g c =
+    let es = c.args.registry.now in
+    let n = c.id-item.result in
+    let entry : IsEntry es c.from.result n = subst (λ (j : ℕ). IsEntry es j n) (sym c.from.ensures) (entry_at es n c.unwrap-position.result (sym c.slot.ensures.value ∙ c.unwrap-position.ensures)) in
+    one_far g.D.Disk.view c.loop-id.pairs.items (bench g.D.Disk.view c.args.pairs.now.items) (length es) c.from.result c.new.new.disks (entry_below es c.from.result n entry) c.loop-id.invariant.spare
+
+pub returns-in_err-join-clause-spare : goal.returns-in_err-join-clause-spare
+returns-in_err-join-clause-spare g c =
+    let es = c.args.registry.now in
+    let n = c.id-item.result in
+    let entry : IsEntry es c.from.result n = subst (λ (j : ℕ). IsEntry es j n) (sym c.from.ensures) (entry_at es n c.unwrap-position.result (sym c.slot.ensures.value ∙ c.unwrap-position.ensures)) in
+    one_far g.D.Disk.view c.loop-id.pairs.items (bench g.D.Disk.view c.args.pairs.now.items) (length es) c.from.result c.new.new.disks (entry_below es c.from.result n entry) c.loop-id.invariant.spare
+
+pub returns-clause-spare : goal.returns-clause-spare
+returns-clause-spare g c = c.loop-id.invariant.spare

@@ -25,6 +25,7 @@ use Rattle.spl_world.specs.Views.{places_of}
 use Rattle.spl_world.proofs.LinkFaults.{faults_failed, faults_ok, faults_still}
 use Rattle.spl_world.proofs.Linking.{off_failed}
 use Rattle.spl_world.proofs.Results.{err_from}
+use Rattle.spl_world.proofs.Sparing.{spare_on}
 use Rattle.spl_world.proofs.world.World.pass.Goals as goal
 
 pub from_all-requires-clause-square : goal.from_all-requires-clause-square
@@ -176,3 +177,11 @@ returns-in_err-from_all-clause-faults g c = faults_failed c.from_residual-in_err
 
 pub returns-clause-faults : goal.returns-clause-faults
 returns-clause-faults g c = faults_ok _ _ _ c.in_ok-from_all.ensures.faults.onward
+
+-- ---- the pairs that no node has
+
+pub returns-in_err-from_all-clause-spare : goal.returns-in_err-from_all-clause-spare
+returns-in_err-from_all-clause-spare g c = spare_on g.D.Disk.view c.args.self.now c.tick_all.new.self c.args.pairs.now.items c.tick_all.new.pairs.items c.from_all.new.pairs.items c.tick_all.ensures.places c.tick_all.ensures.spare c.from_all.ensures.spare
+
+pub returns-clause-spare : goal.returns-clause-spare
+returns-clause-spare g c = spare_on g.D.Disk.view c.args.self.now c.tick_all.new.self c.args.pairs.now.items c.tick_all.new.pairs.items c.from_all.new.pairs.items c.tick_all.ensures.places c.tick_all.ensures.spare c.from_all.ensures.spare

@@ -10,6 +10,7 @@ use Rattle.spl_world.proofs.Powering.{starts}
 use Rattle.spl_world.proofs.Results.{at_ok, ok_both}
 use Rattle.spl_world.proofs.Slots.{same_at, same_ids, same_places, place_at}
 use Rattle.spl_world.proofs.Ending.{same_images}
+use Rattle.spl_world.proofs.Sparing.{one_spare}
 use Rattle.spl_world.proofs.world.World.start_at.Goals as goal
 
 pub index_mut-disks-requires : goal.index_mut-disks-requires
@@ -110,3 +111,12 @@ returns-clause-same g c =
     let below = pair_below g.D.Disk.view ss ps c.args.slot s c.requires.sits there c.position.result c.position.ensures in
     let pair = slice_get_read ps (length ps) c.position.result c.index_mut-disks.result.now refl below c.index_mut-disks.ensures.value in
     same_images g.D.Disk.view ps c.position.result c.index_mut-disks.result.now c.start.new.disks pair c.start.ensures.same
+
+-- ---- the pairs that no node has
+
+pub returns-clause-spare : goal.returns-clause-spare
+returns-clause-spare g c =
+    let ss = c.args.self.now.slots.items in
+    let s = c.index_mut-here.result.now in
+    let there = slice_get_read ss (length ss) c.args.slot s refl c.requires.below c.index_mut-here.ensures.value in
+    one_spare g.D.Disk.view ss c.args.pairs.now.items c.args.slot s c.position.result c.start.new.disks there c.position.ensures

@@ -15,6 +15,7 @@ use Rattle.spl_world.proofs.Picking.{one_forgets, one_stops}
 use Rattle.spl_world.proofs.Powering.{stops}
 use Rattle.spl_world.proofs.Results.{at_ok, ok_both, on_err}
 use Rattle.spl_world.proofs.Slots.{same_at, same_ids, same_places}
+use Rattle.spl_world.proofs.Sparing.{one_only}
 use Rattle.spl_world.proofs.world.World.stop_at.Goals as goal
 
 pub index_mut-disks-requires : goal.index_mut-disks-requires
@@ -103,3 +104,16 @@ returns-clause-ended g c = λ k m h.
     let below = pair_below g.D.Disk.view ss ps c.args.slot s c.requires.sits there c.position.result c.position.ensures in
     let pair = slice_get_read ps (length ps) c.position.result c.index_mut-disks.result.now refl below c.index_mut-disks.ensures.value in
     on_err c.stop.result (own_stopped g.D.Disk.view ss ps c.args.slot s c.requires.sits there c.position.result c.position.ensures c.index_mut-disks.result.now pair c.stop.new.self c.stop.new.disks k m h c.stop.ensures.leaves)
+
+-- ---- the other pairs
+
+pub returns-clause-only : goal.returns-clause-only
+returns-clause-only g c = λ t at.
+    let ss = c.args.self.now.slots.items in
+    let ps = c.args.pairs.now.items in
+    let s = c.index_mut-here.result.now in
+    let there = slice_get_read ss (length ss) c.args.slot s refl c.requires.below c.index_mut-here.ensures.value in
+    let same : s ≡ t = (let e : Some s ≡ Some t = sym there ∙ at in cc) in
+    let below = pair_below g.D.Disk.view ss ps c.args.slot s c.requires.sits there c.position.result c.position.ensures in
+    let pair = slice_get_read ps (length ps) c.position.result c.index_mut-disks.result.now refl below c.index_mut-disks.ensures.value in
+    one_only g.D.Disk.view ps c.position.result t.position c.index_mut-disks.result.now c.stop.new.disks (c.position.ensures ∙ ap (λ (u : Slot). u.position) same) pair c.stop.ensures.once

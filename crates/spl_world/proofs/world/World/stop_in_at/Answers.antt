@@ -20,6 +20,7 @@ use Rattle.spl_world.proofs.Powering.{halt_holds, stop_holds}
 use Rattle.spl_world.proofs.Results.{at_ok, ok_both, on_err, when_ok}
 use Rattle.spl_world.proofs.Slots.{id_at, same_at, same_ids, same_places}
 use Rattle.spl_world.proofs.Up.{is_there_up}
+use Rattle.spl_world.proofs.Sparing.{one_only}
 use Rattle.spl_world.proofs.world.World.stop_in_at.Goals as goal
 
 pub index_mut-disks-requires : goal.index_mut-disks-requires
@@ -165,3 +166,16 @@ returns-clause-ended g c = λ m step at about is h.
     let pair = slice_get_read ps (length ps) c.position.result c.index_mut-disks.result.now refl below c.index_mut-disks.ensures.value in
     on_err c.stop_in.result (own_halted g.D.Disk.view ss ps c.args.slot s c.requires.sits there c.position.result c.position.ensures c.index_mut-disks.result.now pair c.stop_in.new.self c.stop_in.new.disks
     c.args.circuit.now (option_copied c.args.event) m step h (is_there_up ss c.args.slot s there c.requires.up) (same_at ss c.args.slot s _ there at) about is c.stop_in.ensures.leaves)
+
+-- ---- the other pairs
+
+pub returns-clause-only : goal.returns-clause-only
+returns-clause-only g c = λ t at.
+    let ss = c.args.self.now.slots.items in
+    let ps = c.args.pairs.now.items in
+    let s = c.index_mut-here.result.now in
+    let there = slice_get_read ss (length ss) c.args.slot s refl c.requires.below c.index_mut-here.ensures.value in
+    let same : s ≡ t = (let e : Some s ≡ Some t = sym there ∙ at in cc) in
+    let below = pair_below g.D.Disk.view ss ps c.args.slot s c.requires.sits there c.position.result c.position.ensures in
+    let pair = slice_get_read ps (length ps) c.position.result c.index_mut-disks.result.now refl below c.index_mut-disks.ensures.value in
+    one_only g.D.Disk.view ps c.position.result t.position c.index_mut-disks.result.now c.stop_in.new.disks (c.position.ensures ∙ ap (λ (u : Slot). u.position) same) pair c.stop_in.ensures.once

@@ -10,6 +10,7 @@ use Rattle.spl_world.proofs.Ending.{still_ended}
 use Rattle.spl_world.proofs.Results.{on_err}
 use Rattle.spl_world.proofs.Steps.{number_back, pair_apart, step_for}
 use Rattle.spl_world.proofs.Up.{node_up}
+use Rattle.spl_world.proofs.Sparing.{only_same}
 use Rattle.spl_world.proofs.world.World.stop_in_step.Goals as goal
 
 -- ---- an event at a node
@@ -161,3 +162,6 @@ returns-in-None-clause-ended g c = λ m h.
 
 pub returns-in_err-delivery-in-Deliver-clause-ended : goal.returns-in_err-delivery-in-Deliver-clause-ended
 returns-in_err-delivery-in-Deliver-clause-ended g c = λ m h. on_err c.from_residual.result (still_ended _ _ _ _)
+
+pub returns-in_err-delivery-in-Deliver-clause-only : goal.returns-in_err-delivery-in-Deliver-clause-only
+returns-in_err-delivery-in-Deliver-clause-only g c = λ t at. only_same _ _

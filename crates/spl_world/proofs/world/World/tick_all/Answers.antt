@@ -17,6 +17,7 @@ use Rattle.spl_world.proofs.EndingParts.{leads_ticks, part_event, ticks_front, t
 use Rattle.spl_world.specs.Ended.{EventEnds, PartEnds}
 use Rattle.spl_world.specs.Disks.{images}
 use Rattle.spl_world.proofs.Results.{err_from}
+use Rattle.spl_world.proofs.Sparing.{spare_on}
 use Rattle.spl_world.proofs.world.World.tick_all.Goals as goal
 
 pub loop-slot-preserved : goal.loop-slot-preserved
@@ -46,6 +47,7 @@ loop-slot-preserved g c =
       all_then _ _ _ c.loop-slot.invariant.6 c.in_ok-one.ensures.disks.onward,
       c.tick.ensures.places ∙ c.loop-slot.invariant.7,
       c.tick.ensures.stops ∙ c.loop-slot.invariant.8,
+      spare_on g.D.Disk.view c.args.self.now c.loop-slot.self c.args.pairs.now.items c.loop-slot.pairs.items c.tick.new.pairs.items c.loop-slot.invariant.7 c.loop-slot.invariant.9 c.tick.ensures.spare,
     )
 
 pub returns-clause-moves : goal.returns-clause-moves
@@ -77,7 +79,7 @@ returns-clause-idle g c = λ m h still.
 -- ---- the disks
 
 pub loop-slot-init : goal.loop-slot-init
-loop-slot-init g c = (refl, refl, λ z. record { own = λ m h. h; others = λ d m off h. h }, λ m h. refl, λ m h still. tt, c.requires.sits, all_itself _, refl, refl)
+loop-slot-init g c = (refl, refl, λ z. record { own = λ m h. h; others = λ d m off h. h }, λ m h. refl, λ m h still. tt, c.requires.sits, all_itself _, refl, refl, λ k off. refl)
 
 pub tick-requires-clause-sits : goal.tick-requires-clause-sits
 tick-requires-clause-sits g c = c.loop-slot.invariant.5
@@ -109,3 +111,11 @@ returns-in_err-one-clause-ended g c = λ z h.
     err_from c.from_residual.result _ (λ e. PartEnds c.args.circuit z all e old is) c.from_residual.ensures
     (part_event c.args.circuit z here next all c.in_err-one.field-0.0 old mid is (leads_ticks c.args.circuit z (open_nodes z.world (take c.loop-slot.slot ids))) (ticks_next c.args.circuit z ids c.loop-slot.slot n.0 n.1) (ticks_front c.args.circuit z ids (c.loop-slot.slot + 1))
     c.loop-slot.invariant.1 c.loop-slot.invariant.7 c.loop-slot.invariant.5 holds (c.loop-slot.invariant.2 z).others ended)
+
+-- ---- the pairs that no node has
+
+pub returns-in_err-one-clause-spare : goal.returns-in_err-one-clause-spare
+returns-in_err-one-clause-spare g c = spare_on g.D.Disk.view c.args.self.now c.loop-slot.self c.args.pairs.now.items c.loop-slot.pairs.items c.tick.new.pairs.items c.loop-slot.invariant.7 c.loop-slot.invariant.9 c.tick.ensures.spare
+
+pub returns-clause-spare : goal.returns-clause-spare
+returns-clause-spare g c = c.loop-slot.invariant.9

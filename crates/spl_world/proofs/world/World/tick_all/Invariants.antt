@@ -5,7 +5,7 @@ use Rattle.spl_model.specs.Worlds.{World as CircuitWorld}
 use Rattle.spl_model.specs.Calm.{Calming, open_nodes}
 use Rattle.spl_model.specs.Quiet.{IsIdleAt}
 use Rattle.spl_world.specs.Disks.{AllGoOn}
-use Rattle.spl_world.specs.Views.{Holds, Moves, ids_of, Sits, places_of, seen}
+use Rattle.spl_world.specs.Views.{Holds, Moves, ids_of, Sits, places_of, seen, SpareStay}
 use Rattle.spl_world.proofs.Ticking.{ticked}
 use Rattle.spl_world.proofs.world.World.tick_all.Given as goal
 
@@ -18,3 +18,4 @@ invariant-loop-slot g l = (length l.self.slots.items ≡ length l.fn.self.slots.
     × Sits (seen g.D.Disk.view l.self l.pairs.items)
     × AllGoOn (bench g.D.Disk.view l.fn.pairs.items) (bench g.D.Disk.view l.pairs.items)
     × (places_of l.self ≡ places_of l.fn.self) × (l.self.stops ≡ l.fn.self.stops)
+    × SpareStay (places_of l.fn.self) (bench g.D.Disk.view l.fn.pairs.items) (bench g.D.Disk.view l.pairs.items)

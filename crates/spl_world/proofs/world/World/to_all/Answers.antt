@@ -20,6 +20,7 @@ use Rattle.spl_world.specs.Links.{PartDelivers, link_view}
 use Rattle.spl_world.specs.Views.{places_of}
 use Rattle.spl_world.proofs.LinkFaults.{faults_failed, faults_ok, faults_then, links_itself, links_then}
 use Rattle.spl_world.proofs.Results.{err_from}
+use Rattle.spl_world.proofs.Sparing.{spare_on}
 use Rattle.spl_world.proofs.world.World.to_all.Goals as goal
 
 pub loop-to-preserved : goal.loop-to-preserved
@@ -66,6 +67,7 @@ loop-to-preserved g c =
           part_to place done z (pair_turn c.args.circuit y a recipient.0) (to_all c.args.circuit z a (take (c.loop-to.to + 1) (ids_of c.args.self.now))) p s (sym (to_all_next c.args.circuit z a (ids_of c.args.self.now) c.loop-to.to recipient.0 recipient.1))
           (ok_then place done z y (pair_turn c.args.circuit y a recipient.0) p q s carried (c.in_ok-row.ensures.links place y a recipient.0 seats so_far.0 here to taken)),
       links_then _ _ _ c.loop-to.invariant.12 c.in_ok-row.ensures.faults.onward,
+      spare_on g.D.Disk.view c.args.self.now c.loop-to.self c.args.pairs.now.items c.loop-to.pairs.items c.pair_turn.new.pairs.items c.loop-to.invariant.8 c.loop-to.invariant.13 c.pair_turn.ensures.spare,
     )
 
 pub returns-clause-own : goal.returns-clause-own
@@ -95,7 +97,7 @@ returns-clause-counts g c = λ z a h at row.
 -- ---- the disks
 
 pub loop-to-init : goal.loop-to-init
-loop-to-init g c = (refl, refl, refl, λ z a h at row. (h, row), λ d m off h. h, λ z a h at row. refl, c.requires.sits, all_itself _, refl, refl, c.requires.ready, λ place z a placed h at row. part_same place z (link_view (g.C.Carry.view c.args.carrier.now) (g.F.Fabric.view c.args.fabric.now)) (g.met.C.Carry.idle c.args.carrier.now), links_itself _)
+loop-to-init g c = (refl, refl, refl, λ z a h at row. (h, row), λ d m off h. h, λ z a h at row. refl, c.requires.sits, all_itself _, refl, refl, c.requires.ready, λ place z a placed h at row. part_same place z (link_view (g.C.Carry.view c.args.carrier.now) (g.F.Fabric.view c.args.fabric.now)) (g.met.C.Carry.idle c.args.carrier.now), links_itself _, λ k off. refl)
 
 pub pair_turn-requires-clause-sits : goal.pair_turn-requires-clause-sits
 pair_turn-requires-clause-sits g c = c.loop-to.invariant.6
@@ -166,3 +168,11 @@ returns-in_err-row-clause-faults g c = faults_failed c.from_residual.result _ c.
 
 pub returns-clause-faults : goal.returns-clause-faults
 returns-clause-faults g c = faults_ok _ _ _ c.loop-to.invariant.12
+
+-- ---- the pairs that no node has
+
+pub returns-in_err-row-clause-spare : goal.returns-in_err-row-clause-spare
+returns-in_err-row-clause-spare g c = spare_on g.D.Disk.view c.args.self.now c.loop-to.self c.args.pairs.now.items c.loop-to.pairs.items c.pair_turn.new.pairs.items c.loop-to.invariant.8 c.loop-to.invariant.13 c.pair_turn.ensures.spare
+
+pub returns-clause-spare : goal.returns-clause-spare
+returns-clause-spare g c = c.loop-to.invariant.13
