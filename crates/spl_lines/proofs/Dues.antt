@@ -16,7 +16,7 @@ due_done a b all wrote = record { done = all; is = sym (append-nil all); written
 pub done_due : (a b : Option (List ℕ)) (all : List ℕ) → IsDue a b [] all → Appends a b all
 done_due a b all due = subst (Appends a b) (sym (due.is ∙ append-nil due.done)) due.written
 
--- a front of it was handed over, and nothing waits
+-- a prefix of it was handed over, and nothing waits
 pub part_done : (a b : Option (List ℕ)) (all : List ℕ) → AppendsPart a b all → IsDuePart a b [] all
 part_done a b all (done, more, is, wrote) = record { due = done; more = more; is = is; so_far = due_done a b done wrote }
 
@@ -31,7 +31,7 @@ due_more a b waiting all line due = record {
   written = due.written;
 }
 
--- all is a front of more
+-- all is a prefix of more
 pub due_part : (a b : Option (List ℕ)) (waiting all more : List ℕ) → IsDue a b waiting all → IsDuePart a b waiting (all ++ more)
 due_part a b waiting all more due = record { due = all; more = more; is = refl; so_far = due }
 

@@ -52,7 +52,7 @@ free_all xs none =
     let past : length xs ≤ position_or_len (λ b. b == 10) xs = none_by (λ b. b == 10) xs (ltb (position_or_len (λ b. b == 10) xs) (length xs)) refl none in
     subst NoFeed (take_all (length xs) xs (omega arith)) (free_to xs (length xs) (omega arith) (λ k less. other_byte (get_or xs k 0) (fails_before_first (λ b. b == 10) xs k 0 (omega arith))))
 
--- a search behind the first bytes that wait, of which none is a line feed
+-- a search after the first bytes that wait, of which none is a line feed
 module _ (items lent : List ℕ) (start seen : ℕ) (same : lent ≡ items) (within : seen ≤ length (drop start items)) (none : has_feed (take seen (drop start items)) ≡ false) where
   unseen : take (length lent - (start + seen)) (drop (start + seen) lent) ≡ drop seen (drop start items)
   unseen = take_rest lent (start + seen) ∙ ap (λ (l : List ℕ). drop (start + seen) l) same ∙ sym (drop-drop seen start items)
@@ -75,7 +75,7 @@ module _ (items lent : List ℕ) (start seen : ℕ) (same : lent ≡ items) (wit
       (free_to (drop seen (drop start items)) count (omega (arith, found.0)) (λ k less. other_byte (get_or (drop seen (drop start items)) k 0) (found.2 k less)))) in
       rw (place, more) (split_at (drop start items) (seen + count) here feed, no_feed (take (seen + count) (drop start items)) free_line)
 
--- ---- lines before a line feed, and behind it
+-- ---- lines before a line feed, and after it
 
 some_lines : (front : List ℕ) → (first : List ℕ) × (more : List (List ℕ)) × ((ys : List ℕ) → lines_of (front ++ 10 ∷ ys) ≡ first ∷ (more ++ lines_of ys))
 some_lines [] = ([], [], λ ys. refl)

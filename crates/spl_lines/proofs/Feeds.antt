@@ -41,7 +41,7 @@ onto_more : (b : ℕ) (xs more : List (List ℕ)) → (rest : List (List ℕ)) �
 onto_more b [] more = (onto_line b more, refl)
 onto_more b (x ∷ xs) more = (more, refl)
 
--- the lines of a front of a text are a front of its lines
+-- the lines of a prefix of a text are a prefix of its lines
 pub lines_front : (a b : List ℕ) → (rest : List (List ℕ)) × (lines_of (a ++ b) ≡ lines_of a ++ rest)
 lines_front [] b = (lines_of b, refl)
 lines_front (c ∷ a) b = ⊎_elim
@@ -56,7 +56,7 @@ pub all_front : (P : List ℕ → Type 0) (xs ys : List (List ℕ)) → AllByRec
 all_front P [] ys all = tt
 all_front P (x ∷ xs) ys all = (all.0, all_front P xs ys all.1)
 
--- a text is what stands before a place, the byte there and what stands behind it
+-- a text is what stands before a place, the byte there and what stands after it
 pub split_at : (bytes : List ℕ) (i : ℕ) → i < length bytes → get_or bytes i 0 ≡ 10 → bytes ≡ take i bytes ++ 10 ∷ drop (i + 1) bytes
 split_at bytes i within feed =
     sym (take-append-drop i bytes) ∙ ap (λ (l : List ℕ). take i bytes ++ l) (drop_more bytes i 0 within ∙ ap (λ (b : ℕ). b ∷ drop (i + 1) bytes) feed)

@@ -10,7 +10,7 @@ pub limit_is : limit ≡ 67108864
 unfolding limit
 limit_is = refl
 
--- the bytes that a source gave are those behind the ones that it had given before
+-- the bytes that a source gave are those after the ones that it had given before
 pub gives : (before after bytes : List ℕ) → after ≡ before ++ bytes → appended_bytes before after ≡ bytes
 gives before after bytes taken = ap (λ (l : List ℕ). drop (length before) l) taken ∙ drop_at before bytes (length before) refl
 

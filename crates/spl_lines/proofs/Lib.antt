@@ -1,7 +1,6 @@
 pub mod Dues
 pub mod Fed
 pub mod Feeds
-pub mod Fits
 pub mod Given
 pub mod Longest
 pub mod Outputs

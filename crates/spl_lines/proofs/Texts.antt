@@ -27,7 +27,7 @@ module _ {A : Type 0} (f : A → List ℕ) where
       let rest = flat_map (λ x. f x ++ 10 ∷ []) xs in
       ap lines_of (append_assoc (f x) (10 ∷ []) rest) ∙ lines_first (f x) rest (free_of (f x) both.0) ∙ ap (λ (ls : List (List ℕ)). f x ∷ ls) (lines_text xs both.1)
 
-  -- and nothing stands behind the last
+  -- and nothing stands after the last
   pub rest_text : (xs : List A) → rest_of (flat_map (λ x. f x ++ 10 ∷ []) xs) ≡ []
   rest_text [] = refl
   rest_text (x ∷ xs) =

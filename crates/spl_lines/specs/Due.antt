@@ -2,13 +2,13 @@
 use Rattle.std.specs.Prelude.{◌≡◌, ℕ, List, ◌++◌, Option}
 use Rattle.std.specs.Io.KnownBytes.{Appends}
 
--- what was written since, and behind it what waits, are all of these bytes
+-- what was written since, and after it what waits, are all of these bytes
 pub record IsDue (old new : Option (List ℕ)) (waiting all : List ℕ) : Type 0 where
   pub done : List ℕ
   pub is : all ≡ done ++ waiting
   pub written : Appends old new done
 
--- what was written since, and behind it what waits, are a front of these bytes
+-- what was written since, and after it what waits, are a prefix of these bytes
 pub record IsDuePart (old new : Option (List ℕ)) (waiting all : List ℕ) : Type 0 where
   pub due : List ℕ
   pub more : List ℕ

@@ -22,7 +22,7 @@ abbrev pub has_line : {E : Type 0} → Result Bool E → Bool
 has_line (Ok more) = more
 has_line (Err fault) = false
 
--- so many bytes were read; within the limit they are these lines, which were given, and behind them what waits
+-- so many bytes were read; within the limit they are these lines, which were given, and after them what waits
 pub record IsFed (given : List ℕ) (lines : List (List ℕ)) (waiting : List ℕ) (count : ℕ) : Type 0 where
   pub counted : count ≡ length given
   pub run : lines_of (take limit given) ≡ lines ++ lines_of waiting

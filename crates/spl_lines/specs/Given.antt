@@ -7,7 +7,7 @@ use Rattle.spl_lines.specs.Lines.{IsLong, lines_of, rest_of, limit}
 abbrev pub run_of : List ℕ → List (List ℕ)
 run_of given = lines_of (take limit given)
 
--- what a source had; what it gave, where it doesn't tell
+-- what a source had; what it gave, where it doesn't report
 abbrev pub had : Option (List ℕ) → List ℕ → List ℕ
 had None given = given
 had (Some all) given = all

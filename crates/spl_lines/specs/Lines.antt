@@ -3,7 +3,7 @@ use Rattle.std.specs.Prelude.{◌≤◌, ◌<◌, ℕ, max, nat_eq, List, [], �
 use Rattle.std.specs.List.{starts_with}
 use Rattle.spl_base.specs.declared.limit.TheConstants.{LONGEST_LINE}
 
--- b goes to the front of the first of these lines
+-- b goes to the beginning of the first of these lines
 abbrev pub onto_line : ℕ → List (List ℕ) → List (List ℕ)
 onto_line b [] = []
 onto_line b (line ∷ lines) = (b ∷ line) ∷ lines
@@ -17,7 +17,7 @@ abbrev pub has_feed : List ℕ → Bool
 has_feed [] = false
 has_feed (b ∷ bytes) = b == 10 || has_feed bytes
 
--- what stands behind the last line feed
+-- what stands after the last line feed
 abbrev pub rest_of : List ℕ → List ℕ
 rest_of [] = []
 rest_of (b ∷ bytes) = if has_feed (b ∷ bytes) then rest_of bytes else b ∷ bytes

@@ -23,7 +23,7 @@ abbrev pub numbered_answer : Option ℕ → List ℕ → List ℕ
 numbered_answer None answer = []
 numbered_answer (Some n) answer = printed n answer
 
--- the answers to tasks behind these lines
+-- the answers to tasks after these lines
 abbrev pub answers_after : List Node → List Ran → List Task → List ℕ
 answers_after ns before [] = []
 answers_after ns before (t ∷ ts) = numbered_answer t.number (text (answer_to (blank ns) before (by_rule t.line))) ++ answers_after ns (before ++ by_rule t.line ∷ []) ts

@@ -1,16 +1,13 @@
 -- The lines of a schedule, and what a run writes (docs/RULES.md, Schedules, Answers).
-use Rattle.std.specs.Prelude.{◌⊎◌, ◌≤◌, ◌+◌, ℕ, List, [], ◌∷◌, ◌++◌, Option, Some, None, IsSomeAnd, IsTrue, if◌then◌else◌, take, drop, length, map, decimal, nat_le}
+use Rattle.std.specs.Prelude.{◌⊎◌, ◌≤◌, ℕ, List, [], ◌∷◌, ◌++◌, Option, None, IsSomeAnd, IsTrue, if◌then◌else◌, decimal, nat_le}
 use Rattle.std.specs.List.{list_all}
 use Rattle.spl_circuit.specs.Nodes.{Node, has_node}
 use Rattle.spl_model.specs.Worlds.{blank}
 use Rattle.spl_sched.specs.declared.line.Line.{Line}
 use Rattle.spl_sched.specs.Grammar.{line_of, nodes_of, is_line}
 use Rattle.spl_model.specs.Projection.{Ran}
-use Rattle.spl_model.specs.Outcomes.{by_rule}
-use Rattle.spl_model.specs.Answers.{answer_to}
 use Rattle.spl_model.specs.Counts.{events_of, stops_of}
 use Rattle.spl_model.specs.declared.TheConstants.{MOST_EVENTS, MOST_STOPS}
-use Rattle.spl_answer.specs.Texts.{text}
 use Rattle.spl_lines.specs.Lines.{IsShort, is_silent}
 
 -- the line names no other node than these
@@ -30,37 +27,11 @@ IsLine ns line = IsShort line × (IsTrue (is_silent line) ⊎ IsSomeAnd (line_of
 abbrev pub said : List ℕ → Option Line
 said line = if is_silent line then None else line_of line
 
-abbrev pub with_number : ℕ → Option Line → List (ℕ × Line) → List (ℕ × Line)
-with_number n None ls = ls
-with_number n (Some l) ls = (n, l) ∷ ls
-
--- the lines that are run, with their numbers, which count from n
-abbrev pub numbered : ℕ → List (List ℕ) → List (ℕ × Line)
-numbered n [] = []
-numbered n (line ∷ lines) = with_number n (said line) (numbered (n + 1) lines)
-
--- the lines that ran
-abbrev pub ran : List (List ℕ) → List Ran
-ran lines = map (λ x. by_rule x.1) (numbered 1 lines)
-
 -- a number, a text and a line feed
 abbrev pub printed : ℕ → List ℕ → List ℕ
 printed n answer = decimal n ++ 32 ∷ answer ++ 10 ∷ []
 
--- the answers to lines that run behind others, with the numbers of the lines
-abbrev pub outputs : List Node → List Ran → List (ℕ × Line) → List ℕ
-outputs ns before [] = []
-outputs ns before (x ∷ xs) = printed x.0 (text (answer_to (blank ns) before (by_rule x.1))) ++ outputs ns (before ++ by_rule x.1 ∷ []) xs
-
--- what a run of these lines over these nodes writes
-abbrev pub answers : List Node → List (List ℕ) → List ℕ
-answers ns lines = outputs ns [] (numbered 1 lines)
-
--- what it writes that answers only the lines behind the first n
-abbrev pub answers_behind : ℕ → List Node → List (List ℕ) → List ℕ
-answers_behind n ns lines = outputs ns (ran (take n lines)) (numbered (1 + n) (drop n lines))
-
--- the answer to the line of this number, where that is behind the first n
+-- the answer to the line of this number, where that is after the first n
 abbrev pub shown : ℕ → ℕ → List ℕ → List ℕ
 shown n number answer = if nat_le number n then [] else printed number answer
 

@@ -55,7 +55,7 @@ fn place_of_feed(bytes: &[u8]) -> Option<usize>
 impl Feed {
     ghost use Rattle.spl_lines.specs.Feed.{Feeds, count_of, has_line, last_line, waiting};
 
-    /// A feed that has read nothing. It takes all its memory here, but for lines of more than `LONGEST_LINE` bytes.
+    /// A feed that has read nothing. It takes all its memory here, except lines of more than `LONGEST_LINE` bytes.
     pub fn new(alloc: Global) -> Result<Feed, AllocError>
         ensures { IfOk result (λ feed. (before : List ℕ) → (left : Option (List ℕ)) → Feeds before left [] before left feed) }
     {
@@ -123,7 +123,7 @@ impl Feed {
         }
     }
 
-    // Moves what waits to the front.
+    // Moves what waits to the beginning.
     fn shift(&mut self)
         ensures waits { waiting self.new ≡ waiting self.old }
         ensures front { self.new.start ≡ 0 }
@@ -153,7 +153,7 @@ impl Feed {
         self.taken += piece.len();
     }
 
-    // Reads a piece, and tells how long it is.
+    // Reads a piece, and says how long it is.
     fn fill<S: Source>(&mut self, source: &mut S) -> Result<usize, DeviceError>
         requires short { IsShort (waiting self.old) }
         requires within { count_of self.old ≤ limit }
@@ -178,7 +178,7 @@ impl Feed {
         Ok(count)
     }
 
-    /// Takes the next line, and tells whether there is one: the source is at its end where there
+    /// Takes the next line, and says whether there is one: the source is at its end where there
     /// isn't. A line that stands whole within the limit comes before a fault.
     pub fn advance<S: Source>(&mut self, source: &mut S) -> Result<bool, FeedFault>
         ensures line { has_line result ≡ true → (before : List ℕ) → (had : Option (List ℕ)) → (lines : List (List ℕ))

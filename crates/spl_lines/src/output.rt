@@ -10,10 +10,11 @@ use spl_edge::{DeviceError, PIECE, Sink, write_all};
 use std::alloc::{AllocError, Global};
 use std::marker::Model;
 
-/// Bytes that wait to be handed to a sink.
+/// Bytes that wait to be handed to a sink, in pieces or each answer at once.
 #[derive(Drop)]
 pub struct Output {
     waiting: Vec<u8>,
+    at_once: bool,
 }
 
 impl Model for Output {
@@ -25,12 +26,13 @@ impl Model for Output {
 }
 
 impl Output {
-    /// Nothing waits yet.
-    pub fn new(alloc: Global) -> Result<Output, AllocError>
+    /// Nothing waits yet. Answers are handed over each at once, or, where it isn't `at_once`, in pieces.
+    pub fn new(alloc: Global, at_once: bool) -> Result<Output, AllocError>
         ensures { IfOk result (λ o. o ≡ []) }
     {
         Ok(Output {
             waiting: Vec::with_capacity(alloc, PIECE)?,
+            at_once,
         })
     }
 
@@ -46,7 +48,7 @@ impl Output {
         sent
     }
 
-    // Lets an answer wait behind the others.
+    // Lets an answer wait after the others.
     fn append(&mut self, number: &[u8], text: &[u8]) -> Result<(), AllocError>
         ensures ok { OnOk result (self.new ≡ self.old ++ (number.now ++ 32 ∷ text.now ++ 10 ∷ [])) }
         ensures err { OnErr result (self.new ≡ self.old) }
@@ -57,6 +59,18 @@ impl Output {
         self.waiting.push(b' ').unwrap();
         self.waiting.extend_from_slice(text).unwrap();
         self.waiting.push(b'\n').unwrap();
+        Ok(())
+    }
+
+    // Hands over what waits, where nothing is to wait.
+    fn settle<W: Sink>(&mut self, sink: &mut W) -> Result<(), DeviceError>
+        ensures ok { OnOk result (IsDue (W.view sink.old).written (W.view sink.new).written self.new self.old) }
+        ensures part { IsDuePart (W.view sink.old).written (W.view sink.new).written self.new self.old }
+        ensures cause { HasCause (W.view sink.old).faults (W.view sink.new).faults result }
+    {
+        if self.at_once {
+            return self.flush(sink);
+        }
         Ok(())
     }
 
@@ -72,8 +86,8 @@ impl Output {
         Ok(())
     }
 
-    /// Lets an answer wait, with the number of its line. It hands over what waits before, where
-    /// both together are more than a piece.
+    /// Lets an answer wait, with the number of its line, or hands it over at once. It hands over what
+    /// waits before, where both together are more than a piece.
     pub fn put<W: Sink>(
         &mut self,
         sink: &mut W,
@@ -89,10 +103,10 @@ impl Output {
         let size = digits.len().saturating_add(text.len()).saturating_add(2);
         self.make_room(sink, size)?;
         self.append(digits, text)?;
-        Ok(())
+        self.settle(sink)
     }
 
-    /// Lets the answer to a line wait, where that is behind the first `skip` lines.
+    /// Lets the answer to a line wait, where that is after the first `skip` lines.
     pub fn put_behind<W: Sink>(
         &mut self,
         sink: &mut W,
