@@ -1,21 +1,18 @@
 -- What a run runs is within the bounds of lines.
-use Rattle.std.proofs.Common.{◌≡◌, ℕ, ◌+◌, Bool, true, false, ◌&&◌, List, [], ◌∷◌, ◌++◌, Option, Some, None, IsTrue, if◌then◌else◌, refl, subst, sym}
+use Rattle.std.proofs.Common.{◌≡◌, ℕ, ◌+◌, Bool, true, false, ◌&&◌, List, [], ◌∷◌, ◌++◌, Option, Some, None, IsTrue, if◌then◌else◌, refl, subst}
 use Rattle.spl_base.specs.FormLaws.{and_true}
 use Rattle.spl_base.specs.Ids.{is_circuit_id, is_node_id}
 use Rattle.spl_circuit.specs.Nodes.{CircuitId}
 use Rattle.spl_lines.specs.Lines.{is_silent}
 use Rattle.spl_lines.specs.Written.{said}
 use Rattle.spl_lines.specs.Tasks.{Task, ran_by}
-use Rattle.spl_links.specs.Tasks.{calm_in, calm_passes, tasks, tasks_of}
-use Rattle.spl_lines.proofs.Fits.{ran_fits}
-use Rattle.spl_model.specs.Projection.{Ran, lines_fit}
+use Rattle.spl_runs.specs.Tasks.{Way, calm_in, calm_passes, tasks, tasks_from, tasks_of}
+use Rattle.spl_model.specs.Projection.{lines_fit}
 use Rattle.spl_sched.specs.Grammar.{circuit_of, is_line, is_step, line_of, spelling, step_circuit}
 use Rattle.spl_sched.specs.declared.line.Line.{Line}
 use Rattle.spl_sched.specs.declared.line.Line.TheVariants as line
 use Rattle.spl_sched.specs.declared.line.Step.{Step}
 use Rattle.spl_sched.specs.declared.line.Step.TheVariants as step
-use Rattle.spl_app.specs.Headline.{Gen, Links, Mode, Replay, tasks as plan_tasks}
-use Rattle.spl_app.proofs.Plans.{linked_are, ran_tasks}
 use Rattle.spl_agree.proofs.Booleans.{and_left, and_right}
 
 -- ---- the circuit of a line that fits
@@ -46,20 +43,22 @@ module _ (law : (bytes : List ℕ) (l : Line) → line_of bytes ≡ Some l → (
   said_fits : (bytes : List ℕ) (l : Line) → said bytes ≡ Some l → is_line l ≡ true
   said_fits bytes l e = (law bytes l (spelled (is_silent bytes) (line_of bytes) l e)).1
 
-  fits_behind : (l : Line) (c : Option CircuitId) (rest : List Task) → is_line l ≡ true → circuit_of l ≡ c → lines_fit (ran_by rest) ≡ true → lines_fit (ran_by (calm_in c ++ rest)) ≡ true
-  fits_behind l None rest fits about h = h
-  fits_behind l (Some c) rest fits about h = and_true (is_line (line.Calm c calm_passes)) _ (calm_fits c (line_id l c about fits)) h
+  calm_after : (l : Line) (c : Option CircuitId) (rest : List Task) → is_line l ≡ true → circuit_of l ≡ c → lines_fit (ran_by rest) ≡ true → lines_fit (ran_by (calm_in c ++ rest)) ≡ true
+  calm_after l None rest fits about h = h
+  calm_after l (Some c) rest fits about h = and_true (is_line (line.Calm c calm_passes)) _ (calm_fits c (line_id l c about fits)) h
 
-  fits_of : (n : ℕ) (bytes : List ℕ) (o : Option Line) (rest : List Task) → said bytes ≡ o → lines_fit (ran_by rest) ≡ true → lines_fit (ran_by (tasks_of n o ++ rest)) ≡ true
-  fits_of n bytes None rest e h = h
-  fits_of n bytes (Some l) rest e h = let fits = said_fits bytes l e in and_true (is_line l) _ fits (fits_behind l (circuit_of l) rest fits refl h)
+  fits_after : (linked : Bool) (l : Line) (rest : List Task) → is_line l ≡ true → lines_fit (ran_by rest) ≡ true → lines_fit (ran_by ((if linked then calm_in (circuit_of l) else []) ++ rest)) ≡ true
+  fits_after true l rest fits h = calm_after l (circuit_of l) rest fits refl h
+  fits_after false l rest fits h = h
 
-  tasks_fit : (n : ℕ) (lines : List (List ℕ)) → lines_fit (ran_by (tasks n lines)) ≡ true
-  tasks_fit n [] = refl
-  tasks_fit n (bytes ∷ lines) = fits_of n bytes (said bytes) (tasks (n + 1) lines) refl (tasks_fit (n + 1) lines)
+  fits_of : (w : Way) (n : ℕ) (bytes : List ℕ) (o : Option Line) (rest : List Task) → said bytes ≡ o → lines_fit (ran_by rest) ≡ true → lines_fit (ran_by (tasks_of w n o ++ rest)) ≡ true
+  fits_of w n bytes None rest e h = h
+  fits_of w n bytes (Some l) rest e h = let fits = said_fits bytes l e in and_true (is_line l) _ fits (fits_after w.linked l rest fits h)
 
-  -- and so is what a plan runs
-  pub plan_fits : (m : Mode) (lines : List (List ℕ)) → lines_fit (ran_by (plan_tasks m lines)) ≡ true
-  plan_fits Replay lines = subst (λ (rs : List Ran). lines_fit rs ≡ true) (sym (ran_tasks Replay tt lines)) (ran_fits law lines)
-  plan_fits (Gen n seed) lines = subst (λ (rs : List Ran). lines_fit rs ≡ true) (sym (ran_tasks (Gen n seed) tt lines)) (ran_fits law lines)
-  plan_fits Links lines = subst (λ (ts : List Task). lines_fit (ran_by ts) ≡ true) (sym (linked_are lines)) (tasks_fit 1 lines)
+  fits_from : (w : Way) (n : ℕ) (lines : List (List ℕ)) → lines_fit (ran_by (tasks_from w n lines)) ≡ true
+  fits_from w n [] = refl
+  fits_from w n (bytes ∷ lines) = fits_of w n bytes (said bytes) (tasks_from w (n + 1) lines) refl (fits_from w (n + 1) lines)
+
+  -- and so is what is run of lines
+  pub tasks_fit : (w : Way) (lines : List (List ℕ)) → lines_fit (ran_by (tasks w lines)) ≡ true
+  tasks_fit w lines = fits_from w 1 lines

@@ -30,7 +30,7 @@ blank_more (q ∷ ps) p all blank (suc i) lt = blank_more ps p (λ k h. (let mor
 
 -- ---- nothing was picked
 
--- what each pair tells
+-- what each pair reports
 abbrev pub told : List (Pair MemDisk) → List PairView
 told ps = bench disk_view ps
 
@@ -63,10 +63,6 @@ none_more (q ∷ ps) p none one = (none.0, none.1, none_more ps p none.2 one)
 pub first_more : (calls : List ℕ) (ps : List (Pair MemDisk)) (p : Pair MemDisk) → 0 < length ps → FirstFails calls ps → IsSound p → FirstFails calls (ps ++ p ∷ [])
 first_more calls [] p some first one = absurd (omega (arith, some))
 first_more calls (q ∷ ps) p some first one = (first.0, first.1, none_more ps p first.2 one)
-
-pub first_none : (ps : List (Pair MemDisk)) → FirstFails [] ps → NoneFails ps
-first_none [] h = tt
-first_none (p ∷ ps) h = h
 
 pub first_one : (calls : List ℕ) (ps : List (Pair MemDisk)) (p : Pair MemDisk) → ps ≡ [] → failing_of p.first ≡ calls → failing_of p.second ≡ [] → FirstFails calls (ps ++ p ∷ [])
 first_one calls [] p none first second = (first, second, tt)

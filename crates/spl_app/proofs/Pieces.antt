@@ -6,7 +6,7 @@ module _ (xs buf piece : List ℕ) (i n : ℕ) (long : length piece ≡ n) (is :
   moved : take n (drop i xs) ≡ take n (piece ++ drop n buf)
   moved = sym is ∙ sym (take_at piece (drop n buf) n long)
 
-  -- what stands behind a prefix, moved to the front of a buffer
+  -- what stands after a prefix, moved to the beginning of a buffer
   pub taken_further : take (i + n) xs ≡ take i xs ++ take n (piece ++ drop n buf)
   taken_further = take-add i n xs ∙ ap (λ (l : List ℕ). take i xs ++ l) moved
 

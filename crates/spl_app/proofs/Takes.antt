@@ -1,5 +1,5 @@
 -- Each line of a generated text is one that a schedule over its nodes may have.
-use Rattle.std.proofs.Common.{◌≡◌, inr, ◌≤◌, List, [], ◌∷◌, Option, Some, length, map, IsTrue, sym, subst}
+use Rattle.std.proofs.Common.{◌≡◌, inr, List, [], ◌∷◌, Option, Some, length, map, IsTrue, sym, subst}
 use Rattle.std.specs.Prelude.{nat_le, IsSomeAnd}
 use Rattle.std.specs.List.{AllByRecursion, list_all}
 use Rattle.std.proofs.lemmas.Bool.{and_parts, leb-true}

@@ -1,15 +1,17 @@
 -- Disks that hold no bytes (docs/RULES.md, Links).
-use Rattle.std.specs.Prelude.{◌≡◌, ◌≢◌, ◌⊎◌, ◌<◌, ℕ, List, [], IfSome}
+use Rattle.std.specs.Prelude.{◌≡◌, ◌≢◌, ◌⊎◌, ◌<◌, ◌≤◌, ℕ, List, [], IfSome, slice_get}
 use Rattle.spl_edge.specs.Image.{IsSettled}
+use Rattle.spl_edge.specs.Views.{PairView}
+use Rattle.spl_runs.specs.Run.{held_on}
 use Rattle.spl_snapshot.specs.Counting.{IfBoth}
-use Rattle.spl_world.specs.Disks.{Images, images_at}
+use Rattle.spl_world.specs.Disks.{AllGoOn, Images, images_at}
 
--- neither of two disks holds bytes, where it tells
+-- neither of two disks holds bytes, where it reports
 pub record AreEmpty (is : Images) : Type 0 where
   pub first : IfSome is.0 (λ i. i.bytes ≡ [])
   pub second : IfSome is.1 (λ i. i.bytes ≡ [])
 
--- one of the two does, where both tell
+-- one of the two does, where both report
 abbrev pub HaveBytes : Images → Type 0
 HaveBytes is = IfBoth is.0 is.1 (λ i j. (i.bytes ≢ []) ⊎ (j.bytes ≢ []))
 
@@ -22,7 +24,14 @@ pub record IsFirstWithBytes (slot : ℕ) (is : List Images) : Type 0 where
   pub here : HaveBytes (images_at is slot)
   pub before : AllEmpty slot is
 
--- nothing is pending on two disks, where they tell
+-- nothing is pending on two disks, where they report
 pub record AreSettled (is : Images) : Type 0 where
   pub first : IfSome is.0 IsSettled
   pub second : IfSome is.1 IsSettled
+
+-- the first n pairs were asked whether they hold bytes: they hold none, where they report it, and nothing was changed
+pub record WereAsked (n : ℕ) (old new : List PairView) : Type 0 where
+  pub empty : AllEmpty n (held_on old)
+  pub same : held_on new ≡ held_on old
+  pub onward : AllGoOn old new
+  pub spared : (k : ℕ) → n ≤ k → slice_get new k ≡ slice_get old k

@@ -1,7 +1,10 @@
 -- What the words of a command line ask for (docs/RULES.md, Generated schedules, Statuses).
 use Rattle.std.specs.Prelude.{◌≡◌, ◌≤◌, ◌<◌, ◌^◌, ◌⊎◌, ℕ, List, [], ◌∷◌, codes, decimal}
-use Rattle.spl_app.specs.Schedule.{IsReplay}
 use Rattle.spl_gen.specs.declared.generate.TheConstants.{MOST_BATCHES}
+
+-- replay REGISTRY SCHEDULE
+abbrev pub IsReplay : List (List ℕ) → Type 0
+IsReplay words = (registry : List ℕ) × (schedule : List ℕ) × (words ≡ codes "replay" ∷ registry ∷ schedule ∷ [])
 
 -- gen N SEED, both in decimal digits: a schedule of n batches that is made from the seed
 pub record IsGen (words : List (List ℕ)) (n seed : ℕ) : Type 0 where

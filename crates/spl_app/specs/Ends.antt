@@ -1,100 +1,73 @@
--- Where a run ended, and what the disks of its nodes hold then (docs/RULES.md, Journals, Statuses).
-use Rattle.std.specs.Prelude.{◌≡◌, ◌⊎◌, ℕ, true, false, List, [], ◌∷◌, ◌++◌, map, Some}
-use Rattle.spl_edge.specs.Views.{PairView}
+-- Which status an end has (docs/RULES.md, Statuses).
+use Rattle.std.specs.Prelude.{◌≡◌, ◌<◌, ◌≤◌, ℕ, Bool, true, false, List, length, Option, Some, Ok, Err, ⊤}
+use Rattle.std.specs.Io.KnownBytes.{IsAtEnd}
 use Rattle.spl_circuit.specs.Nodes.{Node}
-use Rattle.spl_model.specs.Worlds.{blank}
-use Rattle.spl_model.specs.Outcomes.{by_rule}
-use Rattle.spl_model.specs.Projection.{Ran}
-use Rattle.spl_projection.specs.Whole.{whole_world}
-use Rattle.spl_registry.specs.Nodes.{Entry}
-use Rattle.spl_sched.specs.declared.line.Line.{Line}
-use Rattle.spl_world.specs.Counts.{IsOver}
-use Rattle.spl_world.specs.Disks.{Images, is_of_journal}
-use Rattle.spl_world.specs.Ended.{LineEnds}
-use Rattle.spl_world.specs.Held.{AreHeld, EachPair, FailedSince, HasPicked, IsHeld}
-use Rattle.spl_world.specs.Lines.{stops}
-use Rattle.spl_world.specs.Links.{is_of_links}
-use Rattle.spl_world.specs.Making.{AreMadeBut, EachSeat, images_now}
+use Rattle.spl_edge.specs.Causes.{Rose}
+use Rattle.spl_edge.specs.Views.{SourceView}
+use Rattle.spl_lines.specs.Lines.{limit}
+use Rattle.spl_registry.specs.Nodes.{Entry, node_at}
+use Rattle.spl_registry.specs.Tree.{registry_of}
+use Rattle.spl_lines.specs.Given.{run_of}
+use Rattle.spl_runs.specs.Run.{Ended, Plan, given, plan}
+use Rattle.spl_runs.specs.declared.fault.RunEnd.TheVariants as end
+use Rattle.spl_runs.specs.declared.fault.RunFault.TheVariants as fault
 use Rattle.spl_world.specs.declared.fault.WorldFault.{WorldFault}
 use Rattle.spl_world.specs.declared.fault.WorldFault.TheVariants as error
-use Rattle.spl_lines.specs.Written.{IsLine, IsWithin, ran, said}
-use Rattle.spl_links.specs.Tasks.{nodes_in, places_in}
-use Rattle.spl_app.specs.declared.fault.RunFault.{RunFault}
-use Rattle.spl_app.specs.declared.fault.RunFault.TheVariants as fault
-use Rattle.spl_app.specs.Run.{HasFront}
+use Rattle.spl_app.specs.declared.status.Status.{Status}
+use Rattle.spl_app.specs.declared.status.Status.TheVariants as status
 
--- ---- over the nodes of a world, whose pairs have these places
+-- the nodes that an error names, by their positions, are of the registry
+abbrev pub NamesNodes : List Entry → WorldFault → Type 0
+NamesNodes es (error.Disk slot) = slot < length es
+NamesNodes es (error.NotAJournal slot at) = slot < length es
+NamesNodes es (error.Lied from to sent got) = (from < length es) × (to < length es)
+NamesNodes es e = ⊤
 
--- what each pair holds now
-abbrev pub all_images : List PairView → List Images
-all_images ps = map images_now ps
+-- so are those that an end names
+abbrev pub EndNamesNodes : List Entry → Ended → Type 0
+EndNamesNodes es (Err (fault.World e)) = NamesNodes es e
+EndNamesNodes es ended = ⊤
 
--- the disks hold what the nodes keep behind these lines, and so did what they picked
-abbrev pub HeldAt : List Node → List ℕ → List Ran → List PairView → List PairView → Type 0
-HeldAt ns places rs start now = EachPair (IsHeld ns rs) ns places start now
+-- the status of an error of a task
+abbrev pub IsErrorStatus : List Entry → WorldFault → Status → Type 0
+IsErrorStatus es (error.TooMany which) s = s ≡ status.TooMany which
+IsErrorStatus es (error.Disk slot) s = (n : Node) × (node_at es slot ≡ Some n) × (s ≡ status.DiskFault n)
+IsErrorStatus es error.Link s = s ≡ status.LinkFault
+IsErrorStatus es (error.Lied from to sent got) s =
+    (a : Node) × (b : Node) × (node_at es from ≡ Some a) × (node_at es to ≡ Some b) × (s ≡ status.Lied a b sent got)
+IsErrorStatus es (error.NotAJournal slot at) s = (n : Node) × (node_at es slot ≡ Some n) × (s ≡ status.NotAJournal n at)
+IsErrorStatus es error.NoMemory s = s ≡ status.NoMemory
 
--- The line behind these ended with an error. The disks hold what `LineEnds` says, and picked at each line before it that
--- stopped their node, and nowhere else; but where a line that stops a node finds no memory. In such a line no disk fails
-pub record EndsAt (ns : List Node) (places : List ℕ) (before : List Ran) (l : Line) (e : WorldFault) (start now : List PairView) : Type 0 where
-  pub ends : LineEnds (λ c. whole_world (blank ns) c before) l e ns places (all_images now)
-  pub picked : (stops l ≡ true → e ≡ error.NoMemory → ⊥) → EachPair (HasPicked ns before) ns places start now
-  pub failed : (k : ℕ) → e ≡ error.Disk k → stops l ≡ false
+-- the status of an end
+abbrev pub IsStatusOf : List Entry → Ended → Status → Type 0
+IsStatusOf es (Ok end.Whole) s = s ≡ status.Ok
+IsStatusOf es (Ok end.Read) s = s ≡ status.ReadFault
+IsStatusOf es (Ok end.TooLong) s = s ≡ status.TooLong
+IsStatusOf es (Err (fault.BadLine n)) s = s ≡ status.BadSchedule n
+IsStatusOf es (Err (fault.World e)) s = IsErrorStatus es e s
+IsStatusOf es (Err fault.Write) s = s ≡ status.WriteFault
+IsStatusOf es (Err fault.NoMemory) s = s ≡ status.NoMemory
 
--- and the error has its cause: the lines pass the limit that it names, or a disk of the node failed since it was last picked from
-pub record EndsWith (ns : List Node) (places : List ℕ) (before : List Ran) (l : Line) (e : WorldFault) (start now : List PairView) : Type 0 where
-  pub at : EndsAt ns places before l e start now
-  pub over : (which : ℕ) → e ≡ error.TooMany which → IsOver ns (before ++ by_rule l ∷ []) which
-  pub risen : (k : ℕ) → e ≡ error.Disk k → FailedSince k start now
-  pub linkless : is_of_links e ≡ false
-  pub sound : is_of_journal e ≡ false
+-- the text of a schedule is why it ended
+abbrev pub is_of_text : Ended → Bool
+is_of_text (Ok end.Read) = true
+is_of_text (Ok end.TooLong) = true
+is_of_text (Err (fault.BadLine n)) = true
+is_of_text e = false
 
--- it ran
-pub record RanOn (ns : List Node) (places : List ℕ) (before : List Ran) (l : Line) (start now : List PairView) : Type 0 where
-  pub held : HeldAt ns places (before ++ by_rule l ∷ []) start now
-  pub few : IsWithin ns before → IsWithin ns (before ++ by_rule l ∷ [])
+-- the reading of the registry ended the run: its bytes have this fault or are too many, its source failed, or memory ran out
+abbrev pub EndsReading : Status → SourceView → SourceView → Type 0
+EndsReading (status.BadRegistry why) r q = (registry_of (given r q) ≡ Err why) × IsAtEnd q.left × (length (given r q) ≤ limit)
+EndsReading status.ReadFault r q = Rose r.faults q.faults × (length (given r q) ≤ limit)
+EndsReading status.TooLong r q = limit < length (given r q)
+EndsReading status.NoMemory r q = ⊤
+EndsReading s r q = ⊥
 
--- the line behind these front lines is one that a schedule over these nodes may have, and this is run of it
-pub record IsNext (ns : List Node) (lines front : List (List ℕ)) (l : Line) : Type 0 where
-  pub bytes : List ℕ
-  pub behind : List (List ℕ)
-  pub place : lines ≡ front ++ bytes ∷ behind
-  pub good : IsLine ns bytes
-  pub says : said bytes ≡ Some l
+-- the registry was read to its end
+pub record IsRead (text : List ℕ) (left : Option (List ℕ)) : Type 0 where
+  pub ended : IsAtEnd left
+  pub short : length text ≤ limit
 
--- the line behind these front lines ended with an error
-pub record EndsBehind (ns : List Node) (places : List ℕ) (lines front : List (List ℕ)) (e : WorldFault) (start now : List PairView) : Type 0 where
-  pub line : Line
-  pub next : IsNext ns lines front line
-  pub ends : EndsWith ns places (ran front) line e start now
-
--- the front lines ran, or the one behind them ended with an error of this kind
-abbrev pub HeldOrEnds : (WorldFault → Type 0) → List Node → List ℕ → List (List ℕ) → List PairView → List PairView → List (List ℕ) → Type 0
-HeldOrEnds E ns places lines start now front = HeldAt ns places (ran front) start now ⊎ ((e : WorldFault) × E e × EndsBehind ns places lines front e start now)
-
--- a run ended with this fault at a line: with an error of the world, or behind lines that ran
-abbrev pub FaultEnds : (WorldFault → Type 0) → Type 0 → RunFault → Type 0
-FaultEnds Ends Ran (fault.TooMany number which) = Ends (error.TooMany which)
-FaultEnds Ends Ran (fault.Disk slot) = Ends (error.Disk slot)
-FaultEnds Ends Ran fault.NoMemory = Ends error.NoMemory ⊎ Ran
-FaultEnds Ends Ran fault.Write = Ran
-FaultEnds Ends Ran (fault.BadLine number) = Ran
-
--- ---- over the nodes of a registry, each with the pair at its position there
-
--- the line behind these front lines ended the run with an error; the disks of each node picked as is said above
-pub record EndsIn (es : List Entry) (lines front : List (List ℕ)) (e : WorldFault) (start now : List PairView) : Type 0 where
-  pub behind : EndsBehind (nodes_in es) (places_in es) lines front e start now
-  pub picked : (stops behind.line ≡ true → e ≡ error.NoMemory → ⊥) → EachSeat (λ k n s q. HasPicked (nodes_in es) (ran front) n s q) es start now
-
--- a front of these lines ran, of which this holds, and the disks hold what the nodes keep behind it, or the line behind it ended the run with an error of this kind
-abbrev pub EndsSomewhere : (WorldFault → Type 0) → List Entry → List (List ℕ) → (List (List ℕ) → Type 0) → List PairView → List PairView → Type 0
-EndsSomewhere E es lines P start now = HasFront (nodes_in es) lines (λ ls. P ls × (AreHeld start (nodes_in es) (ran ls) es now ⊎ ((e : WorldFault) × E e × EndsIn es lines ls e start now)))
-
--- a disk at this position failed, where the nodes were made or in the line behind a front of these; this holds of the lines that ran
-abbrev pub EndsFailed : List Entry → List (List ℕ) → ℕ → (List (List ℕ) → Type 0) → List PairView → List PairView → Type 0
-EndsFailed es lines position P start now = (P [] × AreMadeBut (nodes_in es) es (error.Disk position) start now)
-    ⊎ HasFront (nodes_in es) lines (λ ls. P ls × EndsIn es lines ls (error.Disk position) start now)
-
--- memory ran out, where the nodes were made, and the first holds where no line ran, or anywhere, and the second of the lines that ran
-abbrev pub EndsShort : List Entry → List (List ℕ) → (List (List ℕ) → Type 0) → (List (List ℕ) → Type 0) → List PairView → List PairView → Type 0
-EndsShort es lines P Q start now = (P [] × AreMadeBut (nodes_in es) es error.NoMemory start now) ⊎ EndsSomewhere (λ e. Unit {0}) es lines Q start now
+-- the nodes of a registry, and the lines that a source gave since
+abbrev pub plan_given : List Entry → SourceView → SourceView → Plan
+plan_given es s t = plan es (run_of (given s t))

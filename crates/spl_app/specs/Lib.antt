@@ -1,15 +1,7 @@
-pub mod Faults
-pub mod Run
-pub mod Able
-pub mod Behind
-pub mod Schedule
-pub mod Registered
 pub mod Statuses
 pub mod Command
 pub mod Generated
 pub mod Ends
 pub mod Benches
 pub mod Blank
-pub mod Links
-pub mod Devices
 pub mod Headline

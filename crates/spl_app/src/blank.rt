@@ -1,5 +1,5 @@
 //! Whether the disks of nodes hold no bytes yet.
-ghost use Rattle.std.specs.Prelude.{◌≡◌, ◌<◌, ◌≤◌, ℕ, length, true, false, IfOk, OnOk, IsErrOf};
+ghost use Rattle.std.specs.Prelude.{◌≡◌, ◌<◌, ◌≤◌, ℕ, length, slice_get, true, false, IfOk, OnOk, IsErrOf};
 ghost use Rattle.spl_edge.specs.Views.{pair_view, bench};
 ghost use Rattle.spl_snapshot.specs.Counting.{PairOnward, HasRisen};
 ghost use Rattle.spl_world.specs.Disks.{AllGoOn, RoseAt, images, images_at, images_of};
@@ -45,12 +45,13 @@ fn are_empty_at<E: Disk>(pairs: &mut Vec<Pair<E>>, slot: u8) -> Result<bool, Dev
     ensures same { images E.view pairs.new.items ≡ images E.view pairs.old.items }
     ensures onward { AllGoOn (bench E.view pairs.old.items) (bench E.view pairs.new.items) }
     ensures failed { IsErrOf result DeviceError.Failed → RoseAt slot (bench E.view pairs.old.items) (bench E.view pairs.new.items) }
+    ensures others { (k : ℕ) → (k ≡ slot → ⊥) → slice_get (bench E.view pairs.new.items) k ≡ slice_get (bench E.view pairs.old.items) k }
 {
     are_empty(&mut pairs[usize::from(slot)])
 }
 
 /// Asks the disks of the first `count` nodes, by their positions, whether they hold bytes. `NotBlank` comes at the first node
-/// of which a disk does, and `Disk` only where a disk of that node failed. The disks hold what they held.
+/// of which a disk does, and `Disk` only where a disk of that node failed. The disks hold what they held, and no others are asked.
 pub fn check_blank<E: Disk>(pairs: &mut Vec<Pair<E>>, count: u8) -> Result<(), BlankFault>
     requires room { count ≤ length pairs.old.items }
     ensures empty { OnOk result (AllEmpty count (images E.view pairs.old.items)) }
@@ -59,6 +60,7 @@ pub fn check_blank<E: Disk>(pairs: &mut Vec<Pair<E>>, count: u8) -> Result<(), B
         → (slot < count) × RoseAt slot (bench E.view pairs.old.items) (bench E.view pairs.new.items) }
     ensures same { images E.view pairs.new.items ≡ images E.view pairs.old.items }
     ensures onward { AllGoOn (bench E.view pairs.old.items) (bench E.view pairs.new.items) }
+    ensures spared { (k : ℕ) → count ≤ k → slice_get (bench E.view pairs.new.items) k ≡ slice_get (bench E.view pairs.old.items) k }
 {
     'slots: for slot in 0..count {
         match are_empty_at(pairs, slot) {

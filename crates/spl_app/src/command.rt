@@ -1,10 +1,21 @@
 //! The words of a command line.
 ghost use Rattle.std.specs.Prelude.{◌≡◌, ◌<◌, ◌^◌, ◌↔◌, ℕ, Some, IfSome, IsTrue, decimal, map, string_bytes};
-ghost use Rattle.spl_app.specs.Command.{IsGen, IsLinks};
-ghost use Rattle.spl_app.specs.Schedule.{IsReplay};
+ghost use Rattle.spl_app.specs.Command.{IsGen, IsLinks, IsReplay};
+ghost use Rattle.spl_app.specs.Headline.{Asks};
 
 use itoa::Buffer;
 use spl_gen::MOST_BATCHES;
+
+/// What a command line asks for.
+#[derive(Clone, Copy, PartialEq, Eq)]
+pub enum Command {
+    /// To run a schedule in memory.
+    Replay,
+    /// To run a schedule over links and files.
+    Links,
+    /// To run the schedule of so many batches that is made from this seed.
+    Gen { batches: u16, seed: u64 },
+}
 
 // The number that a word spells in decimal digits, where it has 64 bits. The first digit is 0 only
 // where it is alone.
@@ -18,8 +29,8 @@ fn read_number(word: &str) -> Option<u64>
     }
 }
 
-/// How many batches and which seed the words `gen N SEED` name.
-pub fn read_gen(words: &[String]) -> Option<(u16, u64)>
+// How many batches and which seed the words `gen N SEED` name.
+fn read_gen(words: &[String]) -> Option<(u16, u64)>
     ensures spelled { IfSome result (λ found. IsGen (map string_bytes words.now) found.0 found.1) }
     ensures all { (n seed : ℕ) → IsGen (map string_bytes words.now) n seed → result ≡ Some (n, seed) }
 {
@@ -37,8 +48,8 @@ pub fn read_gen(words: &[String]) -> Option<(u16, u64)>
     }
 }
 
-/// Whether the words are `replay` and two more.
-pub fn is_replay(words: &[String]) -> bool
+// Whether the words are `replay` and two more.
+fn is_replay(words: &[String]) -> bool
     ensures { IsTrue result ↔ IsReplay (map string_bytes words.now) }
 {
     match words {
@@ -47,12 +58,29 @@ pub fn is_replay(words: &[String]) -> bool
     }
 }
 
-/// Whether the words are `links` and three more.
-pub fn is_links(words: &[String]) -> bool
+// Whether the words are `links` and three more.
+fn is_links(words: &[String]) -> bool
     ensures { IsTrue result ↔ IsLinks (map string_bytes words.now) }
 {
     match words {
         [first, _, _, _] => first.as_str() == "links",
         _ => false,
+    }
+}
+
+/// What the words ask for, where they are a command.
+pub fn command_of(words: &[String]) -> Option<Command>
+    ensures asked { IfSome result (λ m. Asks (map string_bytes words.now) m) }
+    ensures all { (m : Command) → Asks (map string_bytes words.now) m → result ≡ Some m }
+{
+    if is_replay(words) {
+        return Some(Command::Replay);
+    }
+    if is_links(words) {
+        return Some(Command::Links);
+    }
+    match read_gen(words) {
+        Some((batches, seed)) => Some(Command::Gen { batches, seed }),
+        None => None,
     }
 }

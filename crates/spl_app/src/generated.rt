@@ -12,7 +12,7 @@ use spl_gen::{
     generated_lines_are_counted, generated_lines_are_lines, generated_lines_are_spelled,
 };
 
-/// The lines of a generated text are the lines that it was made of, and nothing stands behind the
+/// The lines of a generated text are the lines that it was made of, and nothing stands after the
 /// last. A schedule over its nodes may have each of its lines, and has room for them.
 pub fn generated_texts_are_lines()
     ensures lines { (n seed : ℕ) → n < 2 ^ 64 → lines_of (text n seed) ≡ map spelling (generated n seed) }

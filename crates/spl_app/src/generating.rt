@@ -1,21 +1,20 @@
 //! Runs generated schedules.
-ghost use Rattle.std.specs.Prelude.{◌≡◌, ◌<◌, ◌≤◌, ◌+◌, ◌*◌, ◌/◌, ℕ, IfOk, IsTrue, length};
-ghost use Rattle.spl_edge.specs.Views.{bench, SourceView};
+ghost use Rattle.std.specs.Prelude.{◌≡◌, ◌<◌, ◌≤◌, ◌+◌, ◌*◌, ◌/◌, ℕ, List, IfOk, IsTrue, length};
+ghost use Rattle.spl_edge.specs.Views.{FabricView, PairView, SourceView, bench};
 ghost use Rattle.spl_base.specs.Ids.{is_node_id};
 ghost use Rattle.spl_gen.specs.Circuits.{nodes};
 ghost use Rattle.spl_gen.specs.declared.generate.TheConstants.{MOST_BATCHES};
 ghost use Rattle.spl_registry.specs.Nodes.{made};
 ghost use Rattle.spl_world.specs.Disks.{AllUnarmed, AreBlank, NoneForgotten, images, images_at};
 ghost use Rattle.spl_world.specs.Held.{AllUnpicked};
-ghost use Rattle.spl_world.specs.Links.{LinkView};
-ghost use Rattle.spl_app.specs.Devices.{devices};
 ghost use Rattle.spl_app.specs.Generated.{generated_lines};
-ghost use Rattle.spl_app.specs.Headline.{Comes, Gen};
+ghost use Rattle.spl_app.specs.Headline.{Began, outside};
 
 use crate::Status;
-use crate::fault::{RunEnd, RunFault};
+use crate::command::Command;
 use crate::generated::generated_texts_are_lines;
-use crate::run::run_lines;
+use crate::replay::run_in_memory;
+use crate::status::status_of;
 use crate::text::TextSource;
 use spl_base::NodeId;
 use spl_edge::{Pair, Sink, StopDisk};
@@ -72,10 +71,10 @@ pub fn run_generated<W: Sink, D: StopDisk>(
     requires pairs { 4 ≤ length pairs.old.items }
     requires blank { (i : ℕ) → i < 4 → AreBlank (images_at (images D.view pairs.old.items) i) }
     requires unpicked { AllUnpicked (bench D.view pairs.old.items) }
-    // What comes of its lines, whatever a source and links tell: none is used.
-    ensures comes { (schedule : SourceView) (links : LinkView) → Comes result (Gen n seed)
-        (record { nodes = made nodes; lines = generated_lines n seed }) (devices schedule (W.view out.old) (bench D.view pairs.old.items) links)
-        (devices schedule (W.view out.new) (bench D.view pairs.new.items) links) }
+    // Whatever else there is: none of it is used.
+    ensures began { (old new : SourceView) (shelf : List PairView) (fabric : FabricView) → Began result (Command.Gen n seed)
+        (record { nodes = made nodes; lines = generated_lines n seed }) old new
+        (outside (W.view out.old) (bench D.view pairs.old.items) shelf fabric) (outside (W.view out.new) (bench D.view pairs.new.items) shelf fabric) }
     ensures onward { NoneForgotten (bench D.view pairs.old.items) (bench D.view pairs.new.items) }
     ensures unarmed { (result ≡ Status.NoMemory → ⊥) → AllUnarmed (bench D.view pairs.new.items) }
 {
@@ -87,17 +86,6 @@ pub fn run_generated<W: Sink, D: StopDisk>(
         return Status::NoMemory;
     };
     let mut source = TextSource::new(text);
-    let skip = first_lines(n);
-    match run_lines(alloc, &registry, pairs, &mut source, out, skip) {
-        Ok(RunEnd::Whole) => Status::Ok,
-        Ok(RunEnd::TooLong) => unreachable!(),
-        Ok(RunEnd::Read) => unreachable!(),
-        Err(RunFault::BadLine(line)) => unreachable!(),
-        Err(RunFault::TooMany { line, which }) => Status::TooMany { which },
-        Err(RunFault::Disk(slot)) => Status::DiskFault {
-            node: registry.node(slot),
-        },
-        Err(RunFault::Write) => Status::WriteFault,
-        Err(RunFault::NoMemory) => Status::NoMemory,
-    }
+    let ended = run_in_memory(alloc, &registry, pairs, &mut source, out, first_lines(n));
+    status_of(&registry, ended)
 }

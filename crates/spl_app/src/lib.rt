@@ -7,17 +7,13 @@ mod bench;
 mod blank;
 mod command;
 mod fabric;
-mod fault;
 mod generated;
 mod generating;
-mod linking;
 mod links;
 mod memory;
 mod registered;
 mod replay;
-mod run;
 mod status;
-mod take;
 mod text;
 mod top;
 

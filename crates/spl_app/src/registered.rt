@@ -1,14 +1,11 @@
 //! The nodes of a run: those of the registry that a source gives.
-ghost use Rattle.std.specs.Prelude.{◌≡◌, ◌<◌, ◌≤◌, Ok, Err, length, IfOk, OnOk, IsErrOf};
-ghost use Rattle.std.specs.Io.{appended_bytes};
-ghost use Rattle.std.specs.Io.KnownBytes.{Consumes, IsAtEnd};
-ghost use Rattle.spl_edge.specs.Causes.{Rose};
-ghost use Rattle.spl_registry.specs.declared.fault.RegistryFault.{RegistryFault as Fault};
+ghost use Rattle.std.specs.Prelude.{◌≡◌, ◌≤◌, Ok, length, IfErr, IfOk, OnOk};
+ghost use Rattle.std.specs.Io.KnownBytes.{Consumes};
 ghost use Rattle.spl_registry.specs.Tree.{registry_of};
-ghost use Rattle.spl_lines.specs.Lines.{limit};
-ghost use Rattle.spl_app.specs.Registered.{IsRegistryText};
+ghost use Rattle.spl_runs.specs.Run.{given};
+ghost use Rattle.spl_app.specs.Ends.{EndsReading, IsRead};
 
-use crate::fault::NodesFault;
+use crate::Status;
 use spl_edge::{ReadEnd, Source, read_all};
 use spl_lines::MOST_BYTES;
 use spl_registry::{Registry, RegistryFault};
@@ -21,28 +18,22 @@ pub fn registries_are_small(registry: &Registry)
     registry.len();
 }
 
-/// The registry that a source gives.
-pub fn read_registry<S: Source>(alloc: Global, registry: &mut S) -> Result<Registry, NodesFault>
-    ensures ended { OnOk result (IsAtEnd (S.view registry.new).left) }
-    ensures text { OnOk result (IsRegistryText (appended_bytes (S.view registry.old).gave (S.view registry.new).gave)) }
-    ensures entries { IfOk result (λ r. registry_of (appended_bytes (S.view registry.old).gave (S.view registry.new).gave) ≡ Ok r) }
-    ensures bad { (fault : Fault) → IsErrOf result (NodesFault.Bad fault)
-        → (registry_of (appended_bytes (S.view registry.old).gave (S.view registry.new).gave) ≡ Err fault)
-        × IsAtEnd (S.view registry.new).left × (length (appended_bytes (S.view registry.old).gave (S.view registry.new).gave) ≤ limit) }
-    ensures read { IsErrOf result NodesFault.Read → Rose (S.view registry.old).faults (S.view registry.new).faults
-        × (length (appended_bytes (S.view registry.old).gave (S.view registry.new).gave) ≤ limit) }
-    ensures long { IsErrOf result NodesFault.TooLong → limit < length (appended_bytes (S.view registry.old).gave (S.view registry.new).gave) }
-    ensures taken { Consumes (S.view registry.old).left (S.view registry.new).left (appended_bytes (S.view registry.old).gave (S.view registry.new).gave) }
+/// The registry that a source gives, or the status of a run that its reading ends.
+pub fn read_registry<S: Source>(alloc: Global, registry: &mut S) -> Result<Registry, Status>
+    ensures read { OnOk result (IsRead (given (S.view registry.old) (S.view registry.new)) (S.view registry.new).left) }
+    ensures entries { IfOk result (λ r. registry_of (given (S.view registry.old) (S.view registry.new)) ≡ Ok r) }
+    ensures ended { IfErr result (λ s. EndsReading s (S.view registry.old) (S.view registry.new)) }
+    ensures taken { Consumes (S.view registry.old).left (S.view registry.new).left (given (S.view registry.old) (S.view registry.new)) }
 {
     let reading = read_all(alloc, MOST_BYTES, registry);
     match reading.end {
         ReadEnd::Whole => match Registry::read(alloc, &reading.bytes) {
             Ok(found) => Ok(found),
-            Err(RegistryFault::NoMemory) => Err(NodesFault::NoMemory),
-            Err(fault) => Err(NodesFault::Bad(fault)),
+            Err(RegistryFault::NoMemory) => Err(Status::NoMemory),
+            Err(fault) => Err(Status::BadRegistry(fault)),
         },
-        ReadEnd::TooLong => Err(NodesFault::TooLong),
-        ReadEnd::Fault => Err(NodesFault::Read),
-        ReadEnd::NoMemory => Err(NodesFault::NoMemory),
+        ReadEnd::TooLong => Err(Status::TooLong),
+        ReadEnd::Fault => Err(Status::ReadFault),
+        ReadEnd::NoMemory => Err(Status::NoMemory),
     }
 }

@@ -1,24 +1,62 @@
-//! Reads a schedule and runs its lines.
-ghost use Rattle.std.specs.Prelude.{◌≡◌, ◌<◌, ◌≤◌, ℕ, length};
-ghost use Rattle.std.specs.Io.{appended_bytes};
+//! Runs a schedule in memory.
+ghost use Rattle.std.specs.Prelude.{◌≡◌, ◌<◌, ◌≤◌, ℕ, List, Err, false, length};
 ghost use Rattle.std.specs.Io.KnownBytes.{Consumes};
-ghost use Rattle.spl_edge.specs.Views.{bench};
-ghost use Rattle.spl_lines.specs.Given.{run_of};
-ghost use Rattle.spl_world.specs.Disks.{AllUnarmed, AreBlank, NoneForgotten, images, images_at};
+ghost use Rattle.spl_edge.specs.Views.{FabricView, PairView, bench};
+ghost use Rattle.spl_runs.specs.Run.{DisksGoOn, EndsText, Ran, devices, given, held_on};
+ghost use Rattle.spl_runs.specs.Tasks.{way};
+ghost use Rattle.spl_world.specs.Disks.{AllTell, AllUnarmed, AreBlank, NoneForgotten, images, images_at};
 ghost use Rattle.spl_world.specs.Held.{AllUnpicked};
-ghost use Rattle.spl_world.specs.Links.{LinkView};
-ghost use Rattle.spl_app.specs.Devices.{devices};
-ghost use Rattle.spl_app.specs.Headline.{Comes, Replay};
+ghost use Rattle.spl_app.specs.Ends.{plan_given};
+ghost use Rattle.spl_app.specs.Headline.{Began, no_links, outside};
 
 use crate::Status;
-use crate::fault::{RunEnd, RunFault};
-use crate::run::run_lines;
+use crate::command::Command;
+use crate::fabric::NoFabric;
+use crate::registered::registries_are_small;
+use crate::status::status_of;
 use spl_edge::{Pair, Sink, Source, StopDisk};
+use spl_pump::Straight;
 use spl_registry::Registry;
+use spl_runs::{Picking, RunEnd, RunFault, run_lines};
 use std::alloc::Global;
 
-/// Runs the schedule that a source gives over the nodes of a registry, whose disks are blank, and
-/// writes the answers.
+/// Runs each line that a source gives over the nodes of a registry, whose disks are blank, and writes the answers to all lines
+/// but the first so many. Messages are handed over in memory, and a node that goes down picks what its disks keep.
+pub fn run_in_memory<S: Source, W: Sink, D: StopDisk>(
+    alloc: Global,
+    registry: &Registry,
+    pairs: &mut Vec<Pair<D>>,
+    source: &mut S,
+    out: &mut W,
+    unanswered: u32,
+) -> Result<RunEnd, RunFault>
+    requires pairs { length registry.now ≤ length pairs.old.items }
+    requires blank { (i : ℕ) → i < length registry.now → AreBlank (images_at (images D.view pairs.old.items) i) }
+    requires unpicked { AllUnpicked (bench D.view pairs.old.items) }
+    ensures text { EndsText result (way false unanswered) (plan_given registry.now (S.view source.old) (S.view source.new))
+        (S.view source.old) (S.view source.new) }
+    ensures taken { Consumes (S.view source.old).left (S.view source.new).left (given (S.view source.old) (S.view source.new)) }
+    ensures ran { Ran result (way false unanswered) (plan_given registry.now (S.view source.old) (S.view source.new))
+        (devices (W.view out.old) (bench D.view pairs.old.items) no_links) (devices (W.view out.new) (bench D.view pairs.new.items) no_links) }
+    ensures report { AllTell (length registry.now) (held_on (bench D.view pairs.old.items)) }
+    ensures onward { DisksGoOn result false (bench D.view pairs.old.items) (bench D.view pairs.new.items) }
+{
+    registries_are_small(registry);
+    let mut carrier = Straight::new();
+    let mut fabric = NoFabric;
+    run_lines::<Picking, S, W, D, Straight, NoFabric>(
+        alloc,
+        registry,
+        pairs,
+        &mut carrier,
+        &mut fabric,
+        source,
+        out,
+        unanswered,
+    )
+}
+
+/// Runs the schedule that a source gives over the nodes of a registry, whose disks are blank, and writes the answers.
 pub fn replay<S: Source, W: Sink, D: StopDisk>(
     alloc: Global,
     registry: &Registry,
@@ -29,25 +67,14 @@ pub fn replay<S: Source, W: Sink, D: StopDisk>(
     requires pairs { length registry.now ≤ length pairs.old.items }
     requires blank { (i : ℕ) → i < length registry.now → AreBlank (images_at (images D.view pairs.old.items) i) }
     requires unpicked { AllUnpicked (bench D.view pairs.old.items) }
-    // What comes of the lines given, whatever links there are: no message goes over one.
-    ensures comes { (links : LinkView) → Comes result Replay
-        (record { nodes = registry.now; lines = run_of (appended_bytes (S.view schedule.old).gave (S.view schedule.new).gave) })
-        (devices (S.view schedule.old) (W.view out.old) (bench D.view pairs.old.items) links)
-        (devices (S.view schedule.new) (W.view out.new) (bench D.view pairs.new.items) links) }
+    // Whatever else there is: none of it is used.
+    ensures began { (shelf : List PairView) (fabric : FabricView) → Began result Command.Replay
+        (plan_given registry.now (S.view schedule.old) (S.view schedule.new)) (S.view schedule.old) (S.view schedule.new)
+        (outside (W.view out.old) (bench D.view pairs.old.items) shelf fabric) (outside (W.view out.new) (bench D.view pairs.new.items) shelf fabric) }
     ensures onward { NoneForgotten (bench D.view pairs.old.items) (bench D.view pairs.new.items) }
     ensures unarmed { (result ≡ Status.NoMemory → ⊥) → AllUnarmed (bench D.view pairs.new.items) }
-    ensures taken { Consumes (S.view schedule.old).left (S.view schedule.new).left (appended_bytes (S.view schedule.old).gave (S.view schedule.new).gave) }
+    ensures taken { Consumes (S.view schedule.old).left (S.view schedule.new).left (given (S.view schedule.old) (S.view schedule.new)) }
 {
-    match run_lines(alloc, registry, pairs, schedule, out, 0) {
-        Ok(RunEnd::Whole) => Status::Ok,
-        Ok(RunEnd::TooLong) => Status::TooLong,
-        Ok(RunEnd::Read) => Status::ReadFault,
-        Err(RunFault::BadLine(line)) => Status::BadSchedule { line },
-        Err(RunFault::TooMany { line, which }) => Status::TooMany { which },
-        Err(RunFault::Disk(slot)) => Status::DiskFault {
-            node: registry.node(slot),
-        },
-        Err(RunFault::Write) => Status::WriteFault,
-        Err(RunFault::NoMemory) => Status::NoMemory,
-    }
+    let ended = run_in_memory(alloc, registry, pairs, schedule, out, 0);
+    status_of(registry, ended)
 }

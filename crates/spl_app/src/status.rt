@@ -1,9 +1,12 @@
 //! How a run ends.
 ghost use Rattle.std.specs.Prelude.{◌≡◌, ◌++◌, codes, decimal, IfOk};
+ghost use Rattle.spl_app.specs.Ends.{EndNamesNodes, IsErrorStatus, IsStatusOf, NamesNodes};
 ghost use Rattle.spl_app.specs.Statuses.{fault_text};
 
 use spl_base::{NodeId, Piece};
-use spl_registry::RegistryFault;
+use spl_registry::{Registry, RegistryFault};
+use spl_runs::{RunEnd, RunFault};
+use spl_world::WorldFault;
 use std::alloc::{AllocError, Global};
 
 /// How a run ended (docs/RULES.md, Statuses).
@@ -13,7 +16,7 @@ pub enum Status {
     Ok,
     /// The words aren't a command.
     Usage,
-    /// The registry's bytes have this fault. Want of memory is none of them.
+    /// The registry's bytes have this fault. Running out of memory is none of them.
     BadRegistry(RegistryFault),
     /// This is the first line that a schedule may not have.
     BadSchedule {
@@ -154,5 +157,51 @@ impl Status {
             Status::NoMemory => Piece::from(alloc, b"out of memory"),
             Status::NotAJournal { node, at } => journal_text(alloc, node, *at),
         }
+    }
+}
+
+// The status of an error that ended a run over these nodes.
+fn error_status(registry: &Registry, error: WorldFault) -> Status
+    requires { NamesNodes registry.now error }
+    ensures { IsErrorStatus registry.now error result }
+{
+    match error {
+        WorldFault::TooMany { which } => Status::TooMany { which },
+        WorldFault::Disk { slot } => Status::DiskFault {
+            node: registry.node(slot),
+        },
+        WorldFault::NotAJournal { slot, at } => Status::NotAJournal {
+            node: registry.node(slot),
+            at,
+        },
+        WorldFault::Link => Status::LinkFault,
+        WorldFault::Lied {
+            from,
+            to,
+            sent,
+            got,
+        } => Status::Lied {
+            from: registry.node(from),
+            to: registry.node(to),
+            sent,
+            got,
+        },
+        WorldFault::NoMemory => Status::NoMemory,
+    }
+}
+
+/// The status of a run over these nodes that ended so.
+pub fn status_of(registry: &Registry, ended: Result<RunEnd, RunFault>) -> Status
+    requires { EndNamesNodes registry.now ended }
+    ensures { IsStatusOf registry.now ended result }
+{
+    match ended {
+        Ok(RunEnd::Whole) => Status::Ok,
+        Ok(RunEnd::TooLong) => Status::TooLong,
+        Ok(RunEnd::Read) => Status::ReadFault,
+        Err(RunFault::BadLine(line)) => Status::BadSchedule { line },
+        Err(RunFault::World(error)) => error_status(registry, error),
+        Err(RunFault::Write) => Status::WriteFault,
+        Err(RunFault::NoMemory) => Status::NoMemory,
     }
 }

@@ -1,37 +1,86 @@
 //! The call that does all that the program does.
-ghost use Rattle.std.specs.Prelude.{◌≡◌, ◌<◌, ◌≤◌, ◌↔◌, ◌⊎◌, ℕ, [], true, Some, length, map, string_bytes};
-ghost use Rattle.std.specs.Io.{appended_bytes};
+ghost use Rattle.std.specs.Prelude.{◌≡◌, ◌<◌, ◌≤◌, ◌↔◌, ◌⊎◌, ℕ, [], false, true, Some, length, map, string_bytes};
 ghost use Rattle.std.specs.Io.KnownBytes.{Appends, Consumes};
 ghost use Rattle.spl_edge.specs.Views.{bench as bench_of};
-ghost use Rattle.spl_app.specs.Links.{without_carrier};
+ghost use Rattle.spl_gen.specs.declared.generate.TheConstants.{MOST_BATCHES};
 ghost use Rattle.spl_lines.specs.Given.{had};
 ghost use Rattle.spl_lines.specs.Lines.{limit};
 ghost use Rattle.spl_pump.specs.Wires.{AllTaken};
+ghost use Rattle.spl_runs.specs.Run.{Plan, given, ids};
+ghost use Rattle.spl_runs.specs.Tasks.{tasks};
 ghost use Rattle.spl_world.specs.Disks.{AllGoOn, AllUnarmed, AreBlank, NoneForgotten, images, images_at};
 ghost use Rattle.spl_world.specs.Held.{AllUnpicked};
 ghost use Rattle.spl_app.specs.Blank.{AreSettled};
 ghost use Rattle.spl_app.specs.Command.{IsCommand, IsGen, IsLinks};
-ghost use Rattle.spl_app.specs.Devices.{devices};
-ghost use Rattle.spl_app.specs.Headline.{AgreeOn, Asks, Came, CanEnd, EndsReading, Mode, NothingFailed, Plan, disks_of, ids, plan_of, reads, tasks};
+ghost use Rattle.spl_app.specs.Ends.{EndsReading};
+ghost use Rattle.spl_app.specs.Headline.{AgreeOn, Asks, Came, CanEnd, NothingFailed, outside, plan_of, reads, way_of};
 
 use crate::Status;
 use crate::agree::runs_agree;
-use crate::command::{is_links, is_replay, read_gen};
-use crate::fault::NodesFault;
+use crate::command::{Command, command_of};
 use crate::generating::run_generated;
-use crate::linking::run_links;
-use crate::registered::read_registry;
+use crate::links::links;
+use crate::registered::{read_registry, registries_are_small};
 use crate::replay::replay;
 use spl_edge::{Bench, Disk, Fabric, Shelf, Sink, Source, StopDisk};
 use std::alloc::Global;
+
+// Does what a command asks for.
+fn run_command<S: Source, W: Sink, D: StopDisk, E: Disk, F: Fabric>(
+    alloc: Global,
+    command: Command,
+    registry: &mut S,
+    schedule: &mut S,
+    out: &mut W,
+    bench: &mut Bench<D>,
+    shelf: &mut Shelf<E>,
+    fabric: &mut F,
+) -> Status
+    requires counted { (n seed : ℕ) → command ≡ Command.Gen n seed → (1 ≤ n) × (n ≤ MOST_BATCHES) }
+    requires pairs { length bench.old.pairs.items ≡ 16 }
+    requires blank { (i : ℕ) → i < 16 → AreBlank (images_at (images D.view bench.old.pairs.items) i) }
+    requires unpicked { AllUnpicked (bench_of D.view bench.old.pairs.items) }
+    requires shelf { length shelf.old.pairs.items ≡ 16 }
+    requires settled { (i : ℕ) → i < 16 → AreSettled (images_at (images E.view shelf.old.pairs.items) i) }
+    requires untouched { AllUnpicked (bench_of E.view shelf.old.pairs.items) }
+    requires links { AllTaken (F.view fabric.old).put (F.view fabric.old).taken }
+    ensures own_bench { command ≡ Command.Links → bench.new ≡ bench.old }
+    ensures own_shelf { (command ≡ Command.Links → ⊥) → (shelf.new ≡ shelf.old) × (fabric.new ≡ fabric.old) }
+    ensures unread { reads command ≡ false → (registry.new ≡ registry.old) × (schedule.new ≡ schedule.old) }
+    ensures nodes_taken { Consumes (S.view registry.old).left (S.view registry.new).left (given (S.view registry.old) (S.view registry.new)) }
+    ensures taken { Consumes (S.view schedule.old).left (S.view schedule.new).left (given (S.view schedule.old) (S.view schedule.new)) }
+    ensures came { ((reads command ≡ true) × EndsReading result (S.view registry.old) (S.view registry.new)
+        × Appends (W.view out.old).written (W.view out.new).written [] × (schedule.new ≡ schedule.old) × (bench.new ≡ bench.old)
+        × (shelf.new ≡ shelf.old) × (fabric.new ≡ fabric.old))
+        ⊎ Came result command (S.view registry.old) (S.view registry.new) (S.view schedule.old) (S.view schedule.new)
+        (outside (W.view out.old) (bench_of D.view bench.old.pairs.items) (bench_of E.view shelf.old.pairs.items) (F.view fabric.old))
+        (outside (W.view out.new) (bench_of D.view bench.new.pairs.items) (bench_of E.view shelf.new.pairs.items) (F.view fabric.new)) }
+    ensures disks { NoneForgotten (bench_of D.view bench.old.pairs.items) (bench_of D.view bench.new.pairs.items)
+        × ((result ≡ Status.NoMemory → ⊥) → AllUnarmed (bench_of D.view bench.new.pairs.items))
+        × AllGoOn (bench_of E.view shelf.old.pairs.items) (bench_of E.view shelf.new.pairs.items) }
+{
+    if let Command::Gen { batches, seed } = command {
+        return run_generated(alloc, batches, seed, out, &mut bench.pairs);
+    }
+    match read_registry(alloc, registry) {
+        Ok(found) => {
+            registries_are_small(&found);
+            match command {
+                Command::Links => links(alloc, &found, schedule, out, &mut shelf.pairs, fabric),
+                _ => replay(alloc, &found, schedule, out, &mut bench.pairs),
+            }
+        }
+        Err(status) => status,
+    }
+}
 
 /// Does what the words ask for: `replay REGISTRY SCHEDULE` reads the registry, runs the schedule line
 /// by line over its nodes, and writes each answer with the number of its line. The names are for the
 /// caller, who opens them. `gen N SEED` runs the schedule of N batches that is made from the seed, and
 /// writes the answers to its last nine lines alone. `links REGISTRY SCHEDULE DIR` runs as `replay` does, but
 /// over the disks of the shelf, which have to be blank, and with messages over the fabric; it takes fewer
-/// kinds of lines, and settles the circuit that a line names behind it. Want of memory can end any run; then
-/// a front of the answers is written. What a run holds in memory is left to the end of the process.
+/// kinds of lines, and settles the circuit that a line names after it. A run can end because memory ran out; then a
+/// prefix of the answers is written. What a run holds in memory is left to the end of the process.
 pub fn splinter<S: Source, W: Sink, D: StopDisk, E: Disk, F: Fabric>(
     alloc: Global,
     words: &[String],
@@ -61,58 +110,43 @@ pub fn splinter<S: Source, W: Sink, D: StopDisk, E: Disk, F: Fabric>(
         × ((n seed : ℕ) → IsGen (map string_bytes words.now) n seed → (registry.new ≡ registry.old) × (schedule.new ≡ schedule.old)) }
 
     // What was taken of the sources is what they had.
-    ensures nodes_taken { Consumes (S.view registry.old).left (S.view registry.new).left
-        (appended_bytes (S.view registry.old).gave (S.view registry.new).gave) }
-    ensures taken { Consumes (S.view schedule.old).left (S.view schedule.new).left (appended_bytes (S.view schedule.old).gave (S.view schedule.new).gave) }
+    ensures nodes_taken { Consumes (S.view registry.old).left (S.view registry.new).left (given (S.view registry.old) (S.view registry.new)) }
+    ensures taken { Consumes (S.view schedule.old).left (S.view schedule.new).left (given (S.view schedule.old) (S.view schedule.new)) }
 
     // The registry's reading ended the run, and nothing else was done. Or the bytes given spell a plan, and this came of it: the
     // run didn't begin, or it came so far, and what is written, on the disks and on the links is that of the tasks that ran.
-    ensures headline { (m : Mode) → Asks (map string_bytes words.now) m
+    ensures headline { (m : Command) → Asks (map string_bytes words.now) m
         → ((reads m ≡ true) × EndsReading result (S.view registry.old) (S.view registry.new)
         × Appends (W.view out.old).written (W.view out.new).written [] × (schedule.new ≡ schedule.old) × (bench.new ≡ bench.old)
         × (shelf.new ≡ shelf.old) × (fabric.new ≡ fabric.old))
-        ⊎ Came result m (S.view registry.old) (S.view registry.new)
-        (devices (S.view schedule.old) (W.view out.old) (disks_of m (bench_of D.view bench.old.pairs.items) (bench_of E.view shelf.old.pairs.items))
-        (without_carrier (F.view fabric.old)))
-        (devices (S.view schedule.new) (W.view out.new) (disks_of m (bench_of D.view bench.new.pairs.items) (bench_of E.view shelf.new.pairs.items))
-        (without_carrier (F.view fabric.new))) }
+        ⊎ Came result m (S.view registry.old) (S.view registry.new) (S.view schedule.old) (S.view schedule.new)
+        (outside (W.view out.old) (bench_of D.view bench.old.pairs.items) (bench_of E.view shelf.old.pairs.items) (F.view fabric.old))
+        (outside (W.view out.new) (bench_of D.view bench.new.pairs.items) (bench_of E.view shelf.new.pairs.items) (F.view fabric.new)) }
 
-    // The members of each circuit agree at each moment of a plan, and tell one list, whatever is written. It is about the
-    // output since what is written are these tasks' answers, by those very definitions (`answer_to`).
-    ensures agreed { (m : Mode) (p : Plan) → AgreeOn (ids p) (tasks m p.lines) }
+    // The members of each circuit agree at each moment of a plan, and what is shown of it is of prefixes of its lists, whatever is
+    // written. It is about the output since what is written are these tasks' answers, by those very definitions (`answer_to`).
+    ensures agreed { (m : Command) (p : Plan) → AgreeOn (ids p) (tasks (way_of m) p.lines) }
 
-    // No fault of a disk is forgotten. But for want of memory no disk of the bench is armed, and none of the shelf ever is.
+    // No fault of a disk is forgotten. Unless memory ran out no disk of the bench is armed, and none of the shelf ever is.
     ensures disks { NoneForgotten (bench_of D.view bench.old.pairs.items) (bench_of D.view bench.new.pairs.items)
         × ((result ≡ Status.NoMemory → ⊥) → AllUnarmed (bench_of D.view bench.new.pairs.items))
         × AllGoOn (bench_of E.view shelf.old.pairs.items) (bench_of E.view shelf.new.pairs.items) }
 
     // Where the sources had a plan that can go to its end, and nothing outside failed, it doesn't give up by itself.
-    ensures complete { (m : Mode) (p : Plan) → Asks (map string_bytes words.now) m
-        → let text = had (S.view registry.old).left (appended_bytes (S.view registry.old).gave (S.view registry.new).gave) in
-        let given = had (S.view schedule.old).left (appended_bytes (S.view schedule.old).gave (S.view schedule.new).gave) in
-        plan_of m text given ≡ Some p → (reads m ≡ true → length text ≤ limit) → CanEnd m p given
-        → NothingFailed m p (S.view registry.old) (S.view registry.new)
-        (devices (S.view schedule.old) (W.view out.old) (disks_of m (bench_of D.view bench.old.pairs.items) (bench_of E.view shelf.old.pairs.items))
-        (without_carrier (F.view fabric.old)))
-        (devices (S.view schedule.new) (W.view out.new) (disks_of m (bench_of D.view bench.new.pairs.items) (bench_of E.view shelf.new.pairs.items))
-        (without_carrier (F.view fabric.new)))
+    ensures complete { (m : Command) (p : Plan) → Asks (map string_bytes words.now) m
+        → let text = had (S.view registry.old).left (given (S.view registry.old) (S.view registry.new)) in
+        let lines = had (S.view schedule.old).left (given (S.view schedule.old) (S.view schedule.new)) in
+        plan_of m text lines ≡ Some p → (reads m ≡ true → length text ≤ limit) → CanEnd m p lines
+        → NothingFailed m p (S.view registry.old) (S.view registry.new) (S.view schedule.old) (S.view schedule.new)
+        (outside (W.view out.old) (bench_of D.view bench.old.pairs.items) (bench_of E.view shelf.old.pairs.items) (F.view fabric.old))
+        (outside (W.view out.new) (bench_of D.view bench.new.pairs.items) (bench_of E.view shelf.new.pairs.items) (F.view fabric.new))
         → (result ≡ Status.Ok) ⊎ (result ≡ Status.NoMemory) }
 {
     runs_agree();
-    if let Some((n, seed)) = read_gen(words) {
-        return run_generated(alloc, n, seed, out, &mut bench.pairs);
-    }
-    if is_links(words) {
-        return run_links(alloc, registry, schedule, out, shelf, fabric);
-    }
-    if !is_replay(words) {
-        return Status::Usage;
-    }
-    match read_registry(alloc, registry) {
-        Ok(found) => replay(alloc, &found, schedule, out, &mut bench.pairs),
-        Err(NodesFault::Bad(fault)) => Status::BadRegistry(fault),
-        Err(NodesFault::Read) => Status::ReadFault,
-        Err(NodesFault::TooLong) => Status::TooLong,
-        Err(NodesFault::NoMemory) => Status::NoMemory,
+    match command_of(words) {
+        Some(command) => run_command(
+            alloc, command, registry, schedule, out, bench, shelf, fabric,
+        ),
+        None => Status::Usage,
     }
 }

@@ -1,10 +1,16 @@
 use Rattle.spl_lines.specs.Tasks.{ran_by}
-use Rattle.spl_app.specs.Headline.{ids, tasks}
-use Rattle.spl_app.proofs.Agreed.{plan_fits}
+use Rattle.spl_runs.specs.Run.{ids}
+use Rattle.spl_runs.specs.Tasks.{tasks}
+use Rattle.spl_app.specs.Headline.{way_of}
+use Rattle.spl_app.proofs.Agreed.{tasks_fit}
 use Rattle.spl_app.proofs.agree.runs_agree.Goals as goal
 
 pub returns : goal.returns
-returns c = λ m p. record {
-  agree = c.circuits_agree.ensures.lines (ids p) (ran_by (tasks m p.lines)) (plan_fits c.lines_have_one_spelling.ensures m p.lines);
-  told = c.members_tell_one_list.ensures (ids p) (ran_by (tasks m p.lines)) (plan_fits c.lines_have_one_spelling.ensures m p.lines);
-}
+returns c = λ m p.
+    let fits = tasks_fit c.lines_have_one_spelling.ensures (way_of m) p.lines in
+    let ran = ran_by (tasks (way_of m) p.lines) in
+    record {
+      agree = c.circuits_agree.ensures.lines (ids p) ran fits;
+      one_list = c.members_tell_one_list.ensures (ids p) ran fits;
+      shown = c.answers_show_fronts.ensures (ids p) ran fits;
+    }

@@ -1,8 +1,8 @@
-use Rattle.std.proofs.Common.{◌≡◌, ◌<◌, true, false, length, arith, refl, sym, subst}
+use Rattle.std.proofs.Common.{◌∙◌, ◌≡◌, ◌<◌, true, false, length, arith, refl, sym, subst}
 use Rattle.std.proofs.lemmas.Option.{slice_get_read}
 use Rattle.std.specs.Prelude.{IfOk}
 use Rattle.spl_app.specs.Blank.{AreEmpty, HaveBytes}
-use Rattle.spl_app.proofs.Emptied.{images_stay}
+use Rattle.spl_app.proofs.Emptied.{images_stay, others_stay}
 use Rattle.spl_world.specs.Disks.{Images}
 use Rattle.spl_world.proofs.Handling.{one_onward}
 use Rattle.spl_world.proofs.Pairing.{own_images}
@@ -45,3 +45,6 @@ returns-clause-failed g c = λ failed.
     let below : c.from.result < length ps = omega (arith, c.from.ensures, c.requires) in
     let there = slice_get_read ps (length ps) c.from.result c.index_mut.result.now refl below c.index_mut.ensures.value in
     one_rose g.E.Disk.view ps c.from.result c.index_mut.result.now c.are_empty.new.pair there c.args.slot c.from.ensures (c.are_empty.ensures.failed failed)
+
+pub returns-clause-others : goal.returns-clause-others
+returns-clause-others g c = λ k off. others_stay g.E.Disk.view c.args.pairs.now.items c.from.result c.are_empty.new.pair k (λ here. off (here ∙ c.from.ensures))

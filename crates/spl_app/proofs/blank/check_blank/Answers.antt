@@ -3,7 +3,7 @@ use Rattle.spl_edge.specs.Views.{bench}
 use Rattle.spl_world.specs.Disks.{Images, RoseAt, images, images_at}
 use Rattle.spl_world.proofs.Leaving.{all_then, rose_behind}
 use Rattle.spl_app.specs.Blank.{AreEmpty}
-use Rattle.spl_app.proofs.Emptied.{as_many, one_more}
+use Rattle.spl_app.proofs.Emptied.{as_many, one_more, spares}
 use Rattle.spl_app.proofs.blank.check_blank.Goals as goal
 
 pub are_empty_at-requires : goal.are_empty_at-requires
@@ -34,4 +34,14 @@ slots-preserved g c = record {
       let here = c.in-Ok-true.ensures.empty (search rules) in
       one_more c.slots.slot (images g.E.Disk.view c.args.pairs.now.items) c.slots.invariant.empty (subst (λ (is : List Images). AreEmpty (images_at is c.slots.slot)) c.slots.invariant.same here);
   onward = all_then _ _ _ c.slots.invariant.onward c.are_empty_at.ensures.onward;
+  spared = λ k past. spares (bench g.E.Disk.view c.args.pairs.now.items) (bench g.E.Disk.view c.slots.pairs.items) (bench g.E.Disk.view c.are_empty_at.new.pairs.items) c.slots.slot c.args.count c.slots-test.true c.are_empty_at.ensures.others c.slots.invariant.spared k past;
 }
+
+pub returns-in-Ok-false-clause-spared : goal.returns-in-Ok-false-clause-spared
+returns-in-Ok-false-clause-spared g c = λ k past. spares (bench g.E.Disk.view c.args.pairs.now.items) (bench g.E.Disk.view c.slots.pairs.items) (bench g.E.Disk.view c.are_empty_at.new.pairs.items) c.slots.slot c.args.count c.slots-test.true c.are_empty_at.ensures.others c.slots.invariant.spared k past
+
+pub returns-in-Err-Failed-clause-spared : goal.returns-in-Err-Failed-clause-spared
+returns-in-Err-Failed-clause-spared g c = λ k past. spares (bench g.E.Disk.view c.args.pairs.now.items) (bench g.E.Disk.view c.slots.pairs.items) (bench g.E.Disk.view c.are_empty_at.new.pairs.items) c.slots.slot c.args.count c.slots-test.true c.are_empty_at.ensures.others c.slots.invariant.spared k past
+
+pub returns-in-Err-NoMemory-clause-spared : goal.returns-in-Err-NoMemory-clause-spared
+returns-in-Err-NoMemory-clause-spared g c = λ k past. spares (bench g.E.Disk.view c.args.pairs.now.items) (bench g.E.Disk.view c.slots.pairs.items) (bench g.E.Disk.view c.are_empty_at.new.pairs.items) c.slots.slot c.args.count c.slots-test.true c.are_empty_at.ensures.others c.slots.invariant.spared k past

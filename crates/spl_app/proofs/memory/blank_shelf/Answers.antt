@@ -1,4 +1,4 @@
-use Rattle.spl_app.proofs.Linked.{settled_pair}
+use Rattle.spl_app.proofs.Untouched.{settled_pair}
 use Rattle.spl_app.proofs.memory.blank_shelf.Goals as goal
 
 pub returns-clause-settled : goal.returns-clause-settled

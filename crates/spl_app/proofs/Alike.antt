@@ -1,0 +1,142 @@
+-- What is said of a run over some devices is said of it over others that report the same, and of a plan of more lines.
+use Rattle.std.proofs.Common.{◌≡◌, ◌⊎◌, ⊎_elim, inl, inr, ◌<◌, ◌-◌, ℕ, Bool, true, false, List, [], ◌++◌, length, take, Ok, Err, refl, sym, ◌∙◌, ap, subst, append_assoc, append-nil}
+use Rattle.spl_edge.specs.Causes.{Rose}
+use Rattle.spl_edge.specs.Views.{PairView, SinkView}
+use Rattle.spl_lines.specs.Tasks.{Task}
+use Rattle.spl_pump.specs.Wires.{LiesOf}
+use Rattle.spl_pump.specs.declared.fault.PumpFault.{PumpFault}
+use Rattle.spl_pump.specs.declared.fault.PumpFault.TheVariants as pump
+use Rattle.spl_registry.specs.Nodes.{Entry}
+use Rattle.spl_runs.specs.Run.{After, AreAllowed, AreUnmade, Devices, Ended, Ends, HasCause, HasFailed, In, Picked, Plan, Ran, Reached, Run, Sent, Spared, Stop, Unmade, Why, devices, held_on, ids, own_messages}
+use Rattle.spl_runs.specs.Tasks.{Way, tasks}
+use Rattle.spl_runs.specs.declared.fault.RunFault.TheVariants as fault
+use Rattle.spl_world.specs.Disks.{AllTell}
+use Rattle.spl_world.specs.Links.{LinkView, WasDue}
+use Rattle.spl_world.specs.Making.{AreMadeBut}
+use Rattle.spl_world.specs.declared.fault.WorldFault.{WorldFault}
+use Rattle.spl_world.specs.declared.fault.WorldFault.TheVariants as error
+
+-- what is said of disks and links from d and l to now and m is said of them from e and k to now and o
+pub record AreAlike (w : Way) (p : Plan) (d e now : List PairView) (l m k o : LinkView) : Type 0 where
+  pub failed : (i : ℕ) → HasFailed w.linked i d now → HasFailed w.linked i e now
+  pub held : held_on d ≡ held_on e
+  pub unmade : (f : WorldFault) → AreMadeBut (ids p) p.nodes f d now → AreMadeBut (ids p) p.nodes f e now
+  pub picked : (before : List Task) (stop : Stop) → Picked w.linked p before stop d now → Picked w.linked p before stop e now
+  pub spared : Spared p d now → Spared p e now
+  pub slots : (i : ℕ) → i < l.slots → i < k.slots
+  pub hello : l.hello ≡ k.hello
+  pub link : Rose l.faults m.faults → Rose k.faults o.faults
+  pub lied : (f : PumpFault) → LiesOf f m.put m.taken → LiesOf f o.put o.taken
+  pub sent : (before : List Task) (stop : Stop) → Sent p before stop l m → Sent p before stop k o
+  pub still : m ≡ l → o ≡ k
+
+-- an error or a failed write ended the run, or memory ran out
+abbrev pub IsBroken : Ended → Type 0
+IsBroken (Ok e) = ⊥
+IsBroken (Err (fault.BadLine n)) = ⊥
+IsBroken e = Unit {0}
+
+module _ (w : Way) (es : List Entry) (lines more all : List (List ℕ)) (place : all ≡ lines ++ more) where
+  abbrev p : Plan
+  p = record { nodes = es; lines = lines }
+
+  abbrev q : Plan
+  q = record { nodes = es; lines = all }
+
+  module _ (old new : SinkView) (d e now : List PairView) (l m k o : LinkView) (alike : AreAlike w p d e now l m k o) where
+    abbrev x : Devices
+    x = devices old d l
+
+    abbrev y : Devices
+    y = devices new now m
+
+    abbrev u : Devices
+    u = devices old e k
+
+    abbrev v : Devices
+    v = devices new now o
+
+    cause : (before : List Task) (stop : Stop) → HasCause w p before stop x y → HasCause w q before stop u v
+    cause before After h = tt
+    cause before (In t (error.Disk i)) h = (alike.failed i h.0, h.1)
+    cause before (In t error.Link) h = alike.link h
+    cause before (In t (error.Lied from to sent got)) h = (h.0, alike.lied (pump.Lied sent got) h.1, subst (λ (hello : ℕ → ℕ → List ℕ). WasDue hello from to (own_messages p before t) sent) alike.hello h.2)
+    cause before (In t f) h = h
+
+    abbrev reached : Reached w p x y → Reached w q u v
+    reached r = record {
+      lines = r.lines;
+      rest = r.rest ++ more;
+      place = place ∙ ap (λ (ls : List (List ℕ)). ls ++ more) r.place ∙ append_assoc r.lines r.rest more;
+      allowed = r.allowed;
+      before = r.before;
+      stop = r.stop;
+      more = r.more;
+      all = r.all;
+      within = r.within;
+      cause = cause r.before r.stop r.cause;
+    }
+
+    ends : (f : Ended) → IsBroken f ⊎ (lines ≡ all) → (r : Reached w p x y) → Ends f r → Ends f (reached r)
+    ends (Ok a) (inl is) r h = absurd is
+    ends (Ok a) (inr same) r h = record { before = h.before ∙ ap (tasks w) same; stop = h.stop }
+    ends (Err (fault.BadLine n)) (inl is) r h = absurd is
+    ends (Err (fault.BadLine n)) (inr same) r h = record { before = h.before ∙ ap (λ (ls : List (List ℕ)). tasks w (take (n - 1) ls)) same; stop = h.stop }
+    ends f whole r h = h
+
+    why : (f : Ended) → IsBroken f ⊎ (lines ≡ all) → Why f w p x y → Why f w q u v
+    why (Ok a) (inl is) h = absurd is
+    why (Ok a) (inr same) h = subst (λ (ls : List (List ℕ)). AreAllowed w p ls) same h
+    why (Err (fault.BadLine n)) (inl is) h = absurd is
+    why (Err (fault.BadLine n)) (inr same) h = subst (λ (ls : List (List ℕ)). AreAllowed w p (take (n - 1) ls)) same h
+    why (Err (fault.World (error.Disk i))) whole h = (h.0, alike.failed i h.1)
+    why (Err (fault.World error.Link)) whole h = alike.link h
+    why (Err (fault.World (error.Lied from to sent got))) whole h = (alike.slots from h.0, alike.slots to h.1, alike.lied (pump.Lied sent got) h.2)
+    why f whole h = h
+
+    unmade : (f : Ended) → AreUnmade f p d now → AreUnmade f q e now
+    unmade (Err (fault.World (error.Disk i))) h = alike.unmade (error.Disk i) h
+    unmade (Err fault.NoMemory) h = alike.unmade error.NoMemory h
+    unmade f h = h
+
+    picked : (linked : Bool) (before : List Task) (stop : Stop) (start end : List PairView) → Picked linked p before stop start end → Picked linked q before stop start end
+    picked true before stop start end h = h
+    picked false before stop start end h = h
+
+    pub ran_alike : (f : Ended) → IsBroken f ⊎ (lines ≡ all) → Ran f w p x y → Ran f w q u v
+    ran_alike f whole h = record {
+      why = why f whole h.why;
+      done = λ told. ⊎_elim
+          (λ (un : Unmade f p x y). inl (record { disks = unmade f un.disks; spared = alike.spared un.spared; written = un.written; links = alike.still un.links }))
+          (λ (r : Run f w p x y). inr (record {
+            reached = reached r.reached;
+            ends = ends f whole r.reached r.ends;
+            written = r.written;
+            held = r.held;
+            picked = picked w.linked r.reached.before r.reached.stop e now (alike.picked r.reached.before r.reached.stop r.picked);
+            spared = alike.spared r.spared;
+            sent = alike.sent r.reached.before r.reached.stop r.sent;
+          }))
+          (h.done (subst (AllTell (length es)) (sym alike.held) told));
+    }
+
+-- over the same disks, and links that report the same except their carriers
+pub same_disks : (w : Way) (p : Plan) (start now : List PairView) (l m k o : LinkView) → ((i : ℕ) → i < l.slots → i < k.slots) → l.hello ≡ k.hello → (Rose l.faults m.faults → Rose k.faults o.faults) → ((f : PumpFault) → LiesOf f m.put m.taken → LiesOf f o.put o.taken)
+    → ((before : List Task) (stop : Stop) → Sent p before stop l m → Sent p before stop k o) → (m ≡ l → o ≡ k) → AreAlike w p start start now l m k o
+same_disks w p start now l m k o slots hello link lied sent still = record {
+  failed = λ i h. h;
+  held = refl;
+  unmade = λ f h. h;
+  picked = λ before stop h. h;
+  spared = λ h. h;
+  slots = slots;
+  hello = hello;
+  link = link;
+  lied = lied;
+  sent = sent;
+  still = still;
+}
+
+-- of the same lines
+pub ran_still : (w : Way) (p : Plan) (old new : SinkView) (d e now : List PairView) (l m k o : LinkView) → AreAlike w p d e now l m k o → (f : Ended) → Ran f w p (devices old d l) (devices new now m) → Ran f w p (devices old e k) (devices new now o)
+ran_still w p old new d e now l m k o alike f h = ran_alike w p.nodes p.lines [] p.lines (sym (append-nil p.lines)) old new d e now l m k o alike f (inr refl) h

@@ -1,0 +1,35 @@
+-- The first of some tasks are within the limits of all.
+use Rattle.std.proofs.Common.{◌≡◌, ◌≤◌, ◌+◌, inl, inr, ℕ, List, [], ◌∷◌, ◌++◌, sym, ◌∙◌, ap, subst, arith}
+use Rattle.std.proofs.lemmas.List.{map-append}
+use Rattle.spl_circuit.specs.Nodes.{Node}
+use Rattle.spl_lines.specs.Tasks.{Task, ran_by}
+use Rattle.spl_lines.specs.Written.{IsWithin}
+use Rattle.spl_model.specs.Worlds.{blank}
+use Rattle.spl_model.specs.Counts.{events_behind, events_of, stops_of}
+use Rattle.spl_model.specs.Outcomes.{by_rule}
+use Rattle.spl_model.specs.Projection.{Ran}
+use Rattle.spl_world.specs.Counts.{IsOver}
+
+events_after : (ns : List Node) (before xs ys : List Ran) → events_behind (blank ns) before xs ≤ events_behind (blank ns) before (xs ++ ys)
+events_after ns before [] ys = omega arith
+events_after ns before (r ∷ xs) ys = let rest = events_after ns (before ++ r ∷ []) xs ys in omega (arith, rest)
+
+stops-append : (xs ys : List Ran) → stops_of (xs ++ ys) ≡ stops_of xs + stops_of ys
+stops-append [] ys = omega arith
+stops-append (x ∷ xs) ys = let rest = stops-append xs ys in omega (arith, rest)
+
+events_first : (ns : List Node) (xs ys : List Ran) → events_of (blank ns) xs ≤ events_of (blank ns) (xs ++ ys)
+unfolding events_of
+events_first ns xs ys = events_after ns [] xs ys
+
+pub within_first : (ns : List Node) (xs ys all : List Task) → all ≡ xs ++ ys → IsWithin ns (ran_by all) → IsWithin ns (ran_by xs)
+within_first ns xs ys all same few =
+    let ran : ran_by all ≡ ran_by xs ++ ran_by ys = ap ran_by same ∙ map-append (λ (t : Task). by_rule t.line) xs ys in
+    let events = subst (λ (rs : List Ran). events_of (blank ns) (ran_by xs) ≤ events_of (blank ns) rs) (sym ran) (events_first ns (ran_by xs) (ran_by ys)) in
+    let stops = subst (λ (rs : List Ran). stops_of (ran_by xs) ≤ stops_of rs) (sym ran) (omega (arith, stops-append (ran_by xs) (ran_by ys))) in
+    (omega (arith, events, few.0), omega (arith, stops, few.1))
+
+-- lines within their limits pass none
+pub not_over : (ns : List Node) (rs : List Ran) (which : ℕ) → IsWithin ns rs → IsOver ns rs which → ⊥
+not_over ns rs which few (inl over) = omega (arith, few.0, over.1)
+not_over ns rs which few (inr over) = omega (arith, few.1, over.2)

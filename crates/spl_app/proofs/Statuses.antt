@@ -1,0 +1,65 @@
+-- What the status of an end says of it.
+use Rattle.std.proofs.Common.{◌≡◌, ◌⊎◌, ⊎_elim, inl, inr, ◌<◌, ℕ, List, [], ◌∷◌, ◌++◌, length, sym, ◌∙◌, Ok, Err, Some, subst}
+use Rattle.spl_edge.specs.Views.{SourceView}
+use Rattle.spl_pump.specs.Wires.{LiesOf}
+use Rattle.spl_pump.specs.declared.fault.PumpFault.TheVariants as pump
+use Rattle.spl_registry.specs.Nodes.{Entry}
+use Rattle.spl_runs.specs.Run.{Devices, Ended, Plan, Why}
+use Rattle.spl_runs.specs.Tasks.{Way}
+use Rattle.spl_runs.specs.declared.fault.RunEnd.TheVariants as end
+use Rattle.spl_runs.specs.declared.fault.RunFault.TheVariants as fault
+use Rattle.spl_world.specs.declared.fault.WorldFault.{WorldFault}
+use Rattle.spl_world.specs.declared.fault.WorldFault.TheVariants as error
+use Rattle.spl_app.specs.Ends.{EndNamesNodes, EndsReading, IsErrorStatus, IsStatusOf}
+use Rattle.spl_app.specs.Headline.{Began, Came, NotBegun, Outside}
+use Rattle.spl_app.specs.declared.command.Command.{Command}
+use Rattle.spl_app.specs.declared.status.Status.{Status}
+use Rattle.spl_app.specs.declared.status.Status.TheVariants as status
+
+-- ---- the nodes that it names
+
+nothing_ends : (before bytes : List ℕ) → [] ≡ before ++ bytes → bytes ≡ []
+nothing_ends [] bytes e = sym e
+nothing_ends (x ∷ before) bytes e = absurd cc
+
+-- nothing that was put and taken is no lie
+pub no_lie : (sent got : List ℕ) → LiesOf (pump.Lied sent got) (λ a b. Some []) (λ a b. Some []) → ⊥
+no_lie sent got (differs, lengths, (a, b, taken, put_ends, got_ends)) = differs (nothing_ends put_ends.0 sent put_ends.1 ∙ sym (nothing_ends got_ends.0 got got_ends.1))
+
+-- those of an end are of the plan
+pub named : (e : Ended) (w : Way) (p : Plan) (x y : Devices) → ((sent got : List ℕ) (i : ℕ) → LiesOf (pump.Lied sent got) y.links.put y.links.taken → i < x.links.slots → i < length p.nodes) → Why e w p x y → EndNamesNodes p.nodes e
+named (Err (fault.World (error.Disk k))) w p x y of_plan h = h.0
+named (Err (fault.World (error.NotAJournal k at))) w p x y of_plan h = h
+named (Err (fault.World (error.Lied from to sent got))) w p x y of_plan h = (of_plan sent got from h.2 h.0, of_plan sent got to h.2 h.1)
+named e w p x y of_plan h = tt
+
+-- where memory ran out it says so
+pub memory_status : (es : List Entry) (e : Ended) (s : Status) → e ≡ Err fault.NoMemory → IsStatusOf es e s → s ≡ status.NoMemory
+memory_status es e s is h = subst (λ (f : Ended). IsStatusOf es f s) is h
+
+-- ---- words that are a command
+
+error_usage : (es : List Entry) (e : WorldFault) → IsErrorStatus es e status.Usage → ⊥
+error_usage es (error.TooMany which) h = cc
+error_usage es (error.Disk k) (n, at, h) = cc
+error_usage es error.Link h = cc
+error_usage es (error.Lied from to sent got) (a, b, first, second, h) = cc
+error_usage es (error.NotAJournal k at) (n, there, h) = cc
+error_usage es error.NoMemory h = cc
+
+end_usage : (es : List Entry) (e : Ended) → IsStatusOf es e status.Usage → ⊥
+end_usage es (Ok end.Whole) h = cc
+end_usage es (Ok end.Read) h = cc
+end_usage es (Ok end.TooLong) h = cc
+end_usage es (Err (fault.BadLine n)) h = cc
+end_usage es (Err (fault.World e)) h = error_usage es e h
+end_usage es (Err fault.Write) h = cc
+end_usage es (Err fault.NoMemory) h = cc
+
+usage_came : (m : Command) (r q c d : SourceView) (x y : Outside) → Came status.Usage m r q c d x y → ⊥
+usage_came m r q c d x y h = ⊎_elim (λ (n : NotBegun status.Usage m h.plan c d x y). n.why) (λ (b : Began status.Usage m h.plan c d x y). end_usage h.plan.nodes b.ended b.status) h.comes
+
+-- of which nothing else comes than Usage
+pub no_usage : (A B C D E F : Type 0) (s : Status) (m : Command) (r q c d : SourceView) (x y : Outside) → (A × EndsReading s r q × B × C × D × E × F) ⊎ Came s m r q c d x y → s ≡ status.Usage → ⊥
+no_usage A B C D E F s m r q c d x y (inl h) is = subst (λ (t : Status). EndsReading t r q) is h.1
+no_usage A B C D E F s m r q c d x y (inr h) is = usage_came m r q c d x y (subst (λ (t : Status). Came t m r q c d x y) is h)

@@ -1,0 +1,40 @@
+use Rattle.std.proofs.Common.{inl, inr, List, Result, refl, ap}
+use Rattle.std.proofs.KnownBytes.{Appends-nil}
+use Rattle.spl_edge.specs.Views.{bench}
+use Rattle.spl_gen.specs.Circuits.{nodes as gen_nodes}
+use Rattle.spl_lines.specs.Given.{run_of}
+use Rattle.spl_registry.specs.Nodes.{Entry, made}
+use Rattle.spl_registry.specs.declared.fault.RegistryFault.{RegistryFault}
+use Rattle.spl_runs.specs.Run.{given}
+use Rattle.spl_app.specs.Ends.{plan_given}
+use Rattle.spl_app.specs.Generated.{generated_lines}
+use Rattle.spl_app.specs.Headline.{plan_over}
+use Rattle.spl_app.proofs.Words.{does_read, is_replay}
+use Rattle.spl_app.proofs.top.run_command.Goals as goal
+
+pub returns-in-Gen-clause-came : goal.returns-in-Gen-clause-came
+returns-in-Gen-clause-came g c = rw c.in-Gen.is (inr (record {
+  plan = record { nodes = made gen_nodes; lines = generated_lines c.in-Gen.batches c.in-Gen.seed };
+  spelled = refl;
+  read = λ read. absurd cc;
+  comes = inr (c.run_generated.ensures.began (g.S.Source.view c.args.schedule.now) (g.S.Source.view c.args.schedule.now) (bench g.E.Disk.view c.args.shelf.now.pairs.items) (g.F.Fabric.view c.args.fabric.now));
+}))
+
+pub returns-in-Links-clause-came : goal.returns-in-Links-clause-came
+returns-in-Links-clause-came g c = rw c.in-Links.is (inr (record {
+  plan = plan_given c.in-Ok.found (g.S.Source.view c.args.schedule.now) (g.S.Source.view c.links.new.schedule);
+  spelled = ap (λ (r : Result (List Entry) RegistryFault). plan_over r (run_of (given (g.S.Source.view c.args.schedule.now) (g.S.Source.view c.links.new.schedule)))) c.in-Ok.ensures.entries;
+  read = λ read. c.in-Ok.ensures.read;
+  comes = c.links.ensures.came (bench g.D.Disk.view c.args.bench.now.pairs.items);
+}))
+
+pub returns-in-Ok-clause-came : goal.returns-in-Ok-clause-came
+returns-in-Ok-clause-came g c = rw (is_replay c.args.command c.in_default-command.not-Links c.in_default.not-Gen) (inr (record {
+  plan = plan_given c.in-Ok.found (g.S.Source.view c.args.schedule.now) (g.S.Source.view c.replay.new.schedule);
+  spelled = ap (λ (r : Result (List Entry) RegistryFault). plan_over r (run_of (given (g.S.Source.view c.args.schedule.now) (g.S.Source.view c.replay.new.schedule)))) c.in-Ok.ensures.entries;
+  read = λ read. c.in-Ok.ensures.read;
+  comes = inr (c.replay.ensures.began (bench g.E.Disk.view c.args.shelf.now.pairs.items) (g.F.Fabric.view c.args.fabric.now));
+}))
+
+pub returns-clause-came : goal.returns-clause-came
+returns-clause-came g c = inl (does_read c.args.command c.in_default.not-Gen, c.in-Err.ensures.ended, Appends-nil _, refl, refl, refl, refl)

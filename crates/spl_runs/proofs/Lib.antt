@@ -1,0 +1,9 @@
+mod Results
+mod Disks
+mod Causes
+pub mod Tasks
+pub mod Schedules
+mod Places
+mod Running
+mod Stops
+mod Ends

@@ -1,0 +1,42 @@
+use Rattle.std.proofs.Common.{inl}
+use Rattle.spl_edge.specs.Views.{bench}
+use Rattle.spl_lines.specs.Tasks.{ran_by}
+use Rattle.spl_world.specs.Links.{link_view, seat_of}
+use Rattle.spl_world.specs.Views.{IsPlace, places_of}
+use Rattle.spl_runs.specs.Run.{devices}
+use Rattle.spl_runs.proofs.Causes.{world_causes}
+use Rattle.spl_runs.proofs.Disks.{on_any}
+use Rattle.spl_runs.proofs.Running.{seated, stands, step_fails, step_runs}
+use Rattle.spl_runs.proofs.run.Run.run.Goals as goal
+
+pub returns-then-stops_node-clause-causes : goal.returns-then-stops_node-clause-causes
+returns-then-stops_node-clause-causes g c = c.halt.ensures.causes (link_view (g.C.Carry.view c.args.carrier.now) (g.F.Fabric.view c.args.fabric.now))
+
+pub returns-else-stops_node-clause-ran : goal.returns-else-stops_node-clause-ran
+returns-else-stops_node-clause-ran g c = λ p ts number x sink r.
+    let w = c.args.self.now.world in
+    let ps = c.args.pairs.now.items in
+    let y = link_view (g.C.Carry.view c.args.carrier.now) (g.F.Fabric.view c.args.fabric.now) in
+    let z = link_view (g.C.Carry.view c.step.new.carrier) (g.F.Fabric.view c.step.new.fabric) in
+    let st = stands g.D.Disk.view g.H.Halt.linked p ts w x sink ps y r in
+    step_runs g.D.Disk.view g.H.Halt.linked p ts w x sink ps y r c.args.line.now number c.step.new.self c.step.new.pairs.items z c.step.result c.step.ensures.disks.onward
+    c.step.ensures.ids c.step.ensures.places (cc) (c.step.ensures.answer (ran_by ts) st) (c.step.ensures.stands (ran_by ts) st) (c.step.ensures.few (ran_by ts) st) (λ start h. c.step.ensures.held start (ran_by ts) st h)
+    (c.step.ensures.links (seat_of p.nodes) (ran_by ts) (seated g.H.Halt.linked p ts w x (devices sink (bench g.D.Disk.view ps) y) r) st)
+
+pub returns-else-stops_node-clause-ended : goal.returns-else-stops_node-clause-ended
+returns-else-stops_node-clause-ended g c = λ p ts number x sink r.
+    let w = c.args.self.now.world in
+    let ps = c.args.pairs.now.items in
+    let y = link_view (g.C.Carry.view c.args.carrier.now) (g.F.Fabric.view c.args.fabric.now) in
+    let z = link_view (g.C.Carry.view c.step.new.carrier) (g.F.Fabric.view c.step.new.fabric) in
+    let st = stands g.D.Disk.view g.H.Halt.linked p ts w x sink ps y r in
+    step_fails g.D.Disk.view g.H.Halt.linked p ts w x sink ps y r c.args.line.now number c.step.new.self c.step.new.pairs.items z c.step.result c.step.ensures.disks.onward
+    (cc) (c.step.ensures.ended (ran_by ts) st) (c.step.ensures.links (seat_of p.nodes) (ran_by ts) (seated g.H.Halt.linked p ts w x (devices sink (bench g.D.Disk.view ps) y) r) st)
+    (λ which q. inl (c.step.ensures.many (ran_by ts) which st q)) (λ k at q. c.step.ensures.sound (ran_by ts) k at st q) c.step.ensures.disks.failed (λ start k q h. c.step.ensures.failed start (ran_by ts) k q h)
+
+pub returns-else-stops_node-clause-causes : goal.returns-else-stops_node-clause-causes
+returns-else-stops_node-clause-causes g c =
+    world_causes g.H.Halt.linked c.step.result (IsPlace (places_of c.args.self.now.world)) (bench g.D.Disk.view c.args.pairs.now.items) (bench g.D.Disk.view c.step.new.pairs.items)
+    (link_view (g.C.Carry.view c.args.carrier.now) (g.F.Fabric.view c.args.fabric.now)) (link_view (g.C.Carry.view c.step.new.carrier) (g.F.Fabric.view c.step.new.fabric))
+    (on_any g.H.Halt.linked _ (bench g.D.Disk.view c.args.pairs.now.items) (bench g.D.Disk.view c.step.new.pairs.items) c.step.ensures.disks.onward) c.step.ensures.spare c.step.ensures.faults.onward (λ k q. (c.step.ensures.place k q, c.step.ensures.disks.failed k q)) (λ k at q. (c.step.ensures.journal k at q).0)
+    c.step.ensures.faults.link c.step.ensures.faults.lied

@@ -1,0 +1,6 @@
+pub mod Tasks
+pub mod Run
+pub mod Faults
+pub mod Causes
+pub mod Moments
+pub mod Stops

@@ -1,0 +1,51 @@
+-- Where a run stands.
+use Rattle.std.specs.Prelude.{◌≡◌, ◌≢◌, ◌≤◌, ℕ, Bool, true, false, List, length}
+use Rattle.std.specs.List.{AllPairs}
+use Rattle.spl_circuit.specs.Nodes.{Node}
+use Rattle.spl_edge.specs.Views.{PairView}
+use Rattle.spl_lines.specs.Due.{IsDue}
+use Rattle.spl_lines.specs.Tasks.{Task, answers_to, ran_by}
+use Rattle.spl_lines.specs.Written.{IsWithin}
+use Rattle.spl_model.specs.Projection.{Ran}
+use Rattle.spl_pump.specs.Wires.{AllTaken}
+use Rattle.spl_registry.specs.Nodes.{Entry, ids_of as registered}
+use Rattle.spl_runs.specs.Run.{Devices, Plan, held_on, ids}
+use Rattle.spl_runs.specs.Tasks.{carried}
+use Rattle.spl_world.specs.Disks.{AllGoOn, Images}
+use Rattle.spl_world.specs.Held.{AllHeld}
+use Rattle.spl_world.specs.Links.{Carries, IsReady, LinkView}
+use Rattle.spl_world.specs.Views.{ArePlaced, Sits, Stands, ids_of, is_halted, over, places_of}
+use Rattle.spl_world.specs.declared.world.World.{World}
+
+-- a carrier between the nodes of a registry, and a fabric of which all bytes put were taken
+pub record CanCarry (es : List Entry) (y : LinkView) : Type 0 where
+  pub slots : length es ≤ y.slots
+  pub going : y.failed ≡ false
+  pub taken : AllTaken y.put y.taken
+
+-- a world of these nodes that may go on, over disks that hold these images, by a carrier and a fabric
+pub record MayGo (ns : List Node) (w : World) (is : List Images) (y : LinkView) : Type 0 where
+  pub nodes : ids_of w ≡ ns
+  pub running : is_halted w ≡ false
+  pub sits : Sits (over w is)
+  pub ready : IsReady (places_of w) y
+
+-- what was picked from the disks of a world after these lines: nothing over links, and else at each line that stopped a node
+abbrev pub WorldPicked : Bool → List Ran → World → List PairView → List PairView → Type 0
+WorldPicked true rs w start now = AllGoOn start now
+WorldPicked false rs w start now = AllHeld start rs w now
+
+-- these tasks ran over the nodes of a plan, within the limits, from x to y
+pub record AreRun (linked : Bool) (p : Plan) (ts : List Task) (w : World) (x y : Devices) : Type 0 where
+  pub nodes : ids_of w ≡ ids p
+  pub apart : AllPairs (λ a b. a ≢ b) (registered p.nodes)
+  pub placed : ArePlaced p.nodes w
+  pub stands : Stands (ran_by ts) w (held_on y.disks)
+  pub within : IsWithin (ids p) (ran_by ts)
+  pub picked : WorldPicked linked (ran_by ts) w x.disks y.disks
+  pub sent : Carries (carried p.nodes ts) x.links y.links
+
+-- and their answers were written since, or wait
+pub record AreDone (linked : Bool) (p : Plan) (ts : List Task) (w : World) (waiting : List ℕ) (x y : Devices) : Type 0 where
+  pub ran : AreRun linked p ts w x y
+  pub due : IsDue x.sink.written y.sink.written waiting (answers_to (ids p) ts)

@@ -1,0 +1,260 @@
+-- What comes of a run: one form for all ways to run, in which every sentence speaks of the same tasks (docs/RULES.md, Statuses).
+use Rattle.std.specs.Prelude.{◌≡◌, ◌⊎◌, ◌<◌, ◌≤◌, ◌+◌, ◌-◌, ℕ, Bool, true, false, List, []}
+use Rattle.std.specs.Prelude.{◌∷◌, ◌++◌, Option, Some, Result, Ok, Err, ⊤, length, take, drop, map}
+use Rattle.std.specs.List.{AllByRecursion, slice_get}
+use Rattle.std.specs.Io.{appended_bytes}
+use Rattle.std.specs.Io.KnownBytes.{Appends, IsAtEnd, append_known}
+use Rattle.spl_circuit.specs.Nodes.{Node}
+use Rattle.spl_edge.specs.Causes.{AppendsPart, Rose}
+use Rattle.spl_edge.specs.Views.{PairView, SinkView, SourceView, Streams}
+use Rattle.spl_lines.specs.Given.{IsOverlong, IsUnfinished}
+use Rattle.spl_lines.specs.Lines.{IsShort, limit, rest_of}
+use Rattle.spl_lines.specs.Tasks.{Task, answers_to, ran_by}
+use Rattle.spl_lines.specs.Written.{IsWithin}
+use Rattle.spl_model.specs.Worlds.{blank}
+use Rattle.spl_model.specs.Projection.{Ran as RanLine}
+use Rattle.spl_node.specs.Stands.{StandFor}
+use Rattle.spl_node.specs.Stopping.{BothPickAtMostOnce}
+use Rattle.spl_projection.specs.Whole.{whole_world}
+use Rattle.spl_pump.specs.Wires.{Carried, LiesOf}
+use Rattle.spl_pump.specs.declared.fault.PumpFault.TheVariants as pump
+use Rattle.spl_registry.specs.Nodes.{Entry, node_at}
+use Rattle.spl_runs.specs.Tasks.{IsAllowed, Way, carried, nodes_in, places_in, tasks}
+use Rattle.spl_runs.specs.declared.fault.RunEnd.{RunEnd}
+use Rattle.spl_runs.specs.declared.fault.RunEnd.TheVariants as end
+use Rattle.spl_runs.specs.declared.fault.RunFault.{RunFault}
+use Rattle.spl_runs.specs.declared.fault.RunFault.TheVariants as fault
+use Rattle.spl_snapshot.specs.Counting.{IfBoth}
+use Rattle.spl_world.specs.Counts.{IsOver}
+use Rattle.spl_world.specs.Disks.{AllGoOn, AllTell, AllUnarmed, Images, NoneForgotten, RoseAt, images_at}
+use Rattle.spl_world.specs.Ended.{LineEnds}
+use Rattle.spl_world.specs.Held.{FailedSince, HasPicked, cells_behind, stops_at}
+use Rattle.spl_world.specs.Lines.{stops}
+use Rattle.spl_world.specs.Links.{HasLinkCause, LinkView, line_carried, seat_of}
+use Rattle.spl_world.specs.Making.{AreMadeBut, EachSeat, images_now}
+use Rattle.spl_world.specs.declared.fault.WorldFault.{WorldFault}
+use Rattle.spl_world.specs.declared.fault.WorldFault.TheVariants as error
+
+-- ---- what is run, over what
+
+-- the nodes, and the lines of the schedule
+pub record Plan : Type 0 where
+  pub nodes : List Entry
+  pub lines : List (List ℕ)
+
+abbrev pub plan : List Entry → List (List ℕ) → Plan
+plan es lines = record { nodes = es; lines = lines }
+
+-- the nodes in the order of their ids
+abbrev pub ids : Plan → List Node
+ids p = nodes_in p.nodes
+
+abbrev pub AreAllowed : Way → Plan → List (List ℕ) → Type 0
+AreAllowed w p lines = AllByRecursion (IsAllowed w (ids p)) lines
+
+-- what the devices of a run report: its sink, the disks of its nodes, and the links between them
+pub record Devices : Type 0 where
+  pub sink : SinkView
+  pub disks : List PairView
+  pub links : LinkView
+
+abbrev pub devices : SinkView → List PairView → LinkView → Devices
+devices sink disks links = record { sink = sink; disks = disks; links = links }
+
+-- what each pair of disks holds
+abbrev pub held_on : List PairView → List Images
+held_on ps = map images_now ps
+
+-- the bytes that a source gave since
+abbrev pub given : SourceView → SourceView → List ℕ
+given s t = appended_bytes s.gave t.gave
+
+-- how a run ended
+abbrev pub Ended : Type 0
+Ended = Result RunEnd RunFault
+
+-- ---- why it ended, whatever the devices report
+
+-- a disk of the node at this position failed: over links in the run, and else since it was last picked from
+abbrev pub HasFailed : Bool → ℕ → List PairView → List PairView → Type 0
+HasFailed true k start now = RoseAt k start now
+HasFailed false k start now = FailedSince k start now
+
+abbrev pub Why : Ended → Way → Plan → Devices → Devices → Type 0
+Why (Ok e) w p x y = AreAllowed w p p.lines
+Why (Err (fault.BadLine n)) w p x y = AreAllowed w p (take (n - 1) p.lines)
+Why (Err (fault.World (error.Disk k))) w p x y = (k < length p.nodes) × HasFailed w.linked k x.disks y.disks
+Why (Err (fault.World (error.NotAJournal k at))) w p x y = k < length p.nodes
+Why (Err (fault.World error.Link)) w p x y = Rose x.links.faults y.links.faults
+Why (Err (fault.World (error.Lied from to sent got))) w p x y =
+    (from < x.links.slots) × (to < x.links.slots) × LiesOf (pump.Lied sent got) y.links.put y.links.taken
+Why (Err (fault.World (error.TooMany which))) w p x y = ⊤
+Why (Err (fault.World error.NoMemory)) w p x y = ⊥
+Why (Err fault.Write) w p x y = Rose x.sink.faults y.sink.faults
+Why (Err fault.NoMemory) w p x y = ⊤
+
+-- a text that was read to its end: it isn't too long, and nothing stands after its last line
+pub record IsWholeText (text : List ℕ) (left : Option (List ℕ)) : Type 0 where
+  pub ended : IsAtEnd left
+  pub short : length text ≤ limit
+  pub whole : rest_of text ≡ []
+
+-- the line of this number is none that the schedule may have
+pub record IsBadLine (w : Way) (p : Plan) (number : ℕ) : Type 0 where
+  pub line : List ℕ
+  pub more : List (List ℕ)
+  pub counted : 0 < number
+  pub place : drop (number - 1) p.lines ≡ line ∷ more
+  pub bad : IsAllowed w (ids p) line → ⊥
+
+-- or the one after all lines given has it, and lacks its line feed or is too long
+pub record IsBadRest (p : Plan) (text : List ℕ) (left : Option (List ℕ)) (number : ℕ) : Type 0 where
+  pub last : number ≡ length p.lines + 1
+  pub bad : IsUnfinished text left ⊎ IsOverlong text
+
+-- what the source of the schedule gave, by how the run ended
+abbrev pub EndsText : Ended → Way → Plan → SourceView → SourceView → Type 0
+EndsText (Ok end.Whole) w p s t = IsWholeText (given s t) t.left
+EndsText (Ok end.Read) w p s t = Rose s.faults t.faults × (length (given s t) ≤ limit) × IsShort (rest_of (given s t))
+EndsText (Ok end.TooLong) w p s t = (limit < length (given s t)) × IsShort (rest_of (take limit (given s t)))
+EndsText (Err (fault.BadLine n)) w p s t = IsBadLine w p n ⊎ IsBadRest p (given s t) t.left n
+EndsText e w p s t = ⊤
+
+-- ---- how far it came
+
+-- where it stood when it ended: after tasks that ran, or in the next one, which ended with an error
+pub data Stop : Type 0 where
+  After : Stop
+  In : Task → WorldFault → Stop
+
+abbrev pub under_way : Stop → List Task
+under_way After = []
+under_way (In t e) = t ∷ []
+
+-- the messages of a task after these
+abbrev pub own_messages : Plan → List Task → Task → List Carried
+own_messages p before t = line_carried (seat_of p.nodes) (λ c. whole_world (blank (ids p)) c (ran_by before)) t.line
+
+-- the cause of an error, after these tasks
+abbrev pub HasCause : Way → Plan → List Task → Stop → Devices → Devices → Type 0
+HasCause w p before After x y = ⊤
+HasCause w p before (In t (error.TooMany which)) x y = IsOver (ids p) (ran_by (before ++ t ∷ [])) which
+HasCause w p before (In t (error.Disk k)) x y = HasFailed w.linked k x.disks y.disks × (stops t.line ≡ false)
+HasCause w p before (In t (error.NotAJournal k at)) x y = ⊥
+HasCause w p before (In t error.NoMemory) x y = ⊤
+HasCause w p before (In t e) x y = HasLinkCause e (own_messages p before t) x.links y.links
+
+-- The tasks that ran, and the one in which it ended, where it ended in one. They are the first of what is run of lines that
+-- the schedule may have, which are the first of the lines given; and those that ran are within the limits
+pub record Reached (w : Way) (p : Plan) (x y : Devices) : Type 0 where
+  pub lines : List (List ℕ)
+  pub rest : List (List ℕ)
+  pub place : p.lines ≡ lines ++ rest
+  pub allowed : AreAllowed w p lines
+  pub before : List Task
+  pub stop : Stop
+  pub more : List Task
+  pub all : tasks w lines ≡ before ++ (under_way stop ++ more)
+  pub within : IsWithin (ids p) (ran_by before)
+  pub cause : HasCause w p before stop x y
+
+-- it ended after all that is run of these lines
+pub record RanAll {w : Way} {p : Plan} {x y : Devices} (r : Reached w p x y) (lines : List (List ℕ)) : Type 0 where
+  pub before : r.before ≡ tasks w lines
+  pub stop : r.stop ≡ After
+
+-- where each end came: after all lines given, or those before the bad one; in a task that found the error; and a failed
+-- write or no memory after any, or in a task with an error, a failed write in none that found no memory
+abbrev pub Ends : Ended → {w : Way} {p : Plan} {x y : Devices} → Reached w p x y → Type 0
+Ends (Ok e) {w} {p} r = RanAll r p.lines
+Ends (Err (fault.BadLine n)) {w} {p} r = RanAll r (take (n - 1) p.lines)
+Ends (Err (fault.World e)) r = (t : Task) × (r.stop ≡ In t e)
+Ends (Err fault.Write) r = (t : Task) → r.stop ≡ In t error.NoMemory → ⊥
+Ends (Err fault.NoMemory) r = ⊤
+
+-- ---- what it leaves
+
+-- all of these answers are written, and a prefix of them where a write failed or memory ran out
+abbrev pub Written : Ended → Option (List ℕ) → Option (List ℕ) → List ℕ → Type 0
+Written (Err fault.Write) old new all = AppendsPart old new all
+Written (Err fault.NoMemory) old new all = AppendsPart old new all
+Written e old new all = Appends old new all
+
+-- the disks of each node, at its position, hold what it keeps after these tasks
+abbrev pub HoldAfter : List Entry → List Task → List Images → Type 0
+HoldAfter es ts is = (k : ℕ) (n : Node) → node_at es k ≡ Some n
+    → IfBoth (images_at is k).0 (images_at is k).1 (λ i j. StandFor n (cells_behind (nodes_in es) (ran_by ts) n) i.bytes j.bytes)
+
+-- so they do where it ended after these; and where it ended in a task, they hold what is kept at one moment of it
+abbrev pub Held : Plan → List Task → Stop → List Images → Type 0
+Held p before After is = HoldAfter p.nodes before is
+Held p before (In t e) is = LineEnds (λ c. whole_world (blank (ids p)) c (ran_by before)) t.line e (ids p) (places_in p.nodes) is
+
+-- the line under way was to stop this node, and found no memory
+abbrev pub IsShortOf : Node → Stop → Type 0
+IsShortOf n (In t error.NoMemory) = stops_at n t.line ≡ true
+IsShortOf n stop = ⊥
+
+-- the disks of a node picked at each of these lines that stopped it, and nowhere else; and at most once more where the line
+-- under way was to stop it, and found no memory
+abbrev pub HasPickedBut : Stop → List Node → List RanLine → Node → PairView → PairView → Type 0
+HasPickedBut stop ns rs n start now = HasPicked ns rs n start now
+    ⊎ (IsShortOf n stop × (until : PairView) × HasPicked ns rs n start until × BothPickAtMostOnce until now)
+
+-- so did those of each node. Over links no disk is picked from
+abbrev pub Picked : Bool → Plan → List Task → Stop → List PairView → List PairView → Type 0
+Picked true p before stop start now = AllGoOn start now
+Picked false p before stop start now = EachSeat (λ k n s q. HasPickedBut stop (ids p) (ran_by before) n s q) p.nodes start now
+
+-- pairs of disks that no node has stay as they were
+abbrev pub Spared : Plan → List PairView → List PairView → Type 0
+Spared p start now = (k : ℕ) → length p.nodes ≤ k → slice_get now k ≡ slice_get start k
+
+-- on each pair all of the first bytes were put, and a prefix of what the second ones have after those
+abbrev pub PutsBetween : (ℕ → ℕ → List ℕ) → (ℕ → ℕ → List ℕ) → Streams → Streams → Type 0
+PutsBetween least most old new = (a b : ℕ) → a < 256 → b < 256 → (done : List ℕ) × (more : List ℕ)
+    × (most a b ≡ (least a b ++ done) ++ more) × (new a b ≡ append_known (old a b) (least a b ++ done))
+
+-- on each link the bytes of the messages of these tasks were put, and a prefix of those of the task under way
+abbrev pub Sent : Plan → List Task → Stop → LinkView → LinkView → Type 0
+Sent p before stop x y = PutsBetween (x.wire (carried p.nodes before)) (x.wire (carried p.nodes (before ++ under_way stop))) x.put y.put
+
+-- ---- the run
+
+-- a run of a plan, from x to y
+pub record Run (e : Ended) (w : Way) (p : Plan) (x y : Devices) : Type 0 where
+  -- how far it came, and why it ended there
+  pub reached : Reached w p x y
+  pub ends : Ends e reached
+  -- the answers to the tasks that ran
+  pub written : Written e x.sink.written y.sink.written (answers_to (ids p) reached.before)
+  -- what the disks hold
+  pub held : Held p reached.before reached.stop (held_on y.disks)
+  pub picked : Picked w.linked p reached.before reached.stop x.disks y.disks
+  pub spared : Spared p x.disks y.disks
+  -- what went over the links
+  pub sent : Sent p reached.before reached.stop x.links y.links
+
+-- an error with which the making of nodes ended, and what the disks hold then
+abbrev pub AreUnmade : Ended → Plan → List PairView → List PairView → Type 0
+AreUnmade (Err (fault.World (error.Disk k))) p start now = AreMadeBut (ids p) p.nodes (error.Disk k) start now
+AreUnmade (Err fault.NoMemory) p start now = AreMadeBut (ids p) p.nodes error.NoMemory start now
+AreUnmade e p start now = ⊥
+
+-- not all nodes were made: nothing was written or put on the links
+pub record Unmade (e : Ended) (p : Plan) (x y : Devices) : Type 0 where
+  pub disks : AreUnmade e p x.disks y.disks
+  pub spared : Spared p x.disks y.disks
+  pub written : Appends x.sink.written y.sink.written []
+  pub links : y.links ≡ x.links
+
+-- what came of a plan: the cause of its end, and, over disks that report what they hold, what was done
+pub record Ran (e : Ended) (w : Way) (p : Plan) (x y : Devices) : Type 0 where
+  pub why : Why e w p x y
+  pub done : AllTell (length p.nodes) (held_on x.disks) → Unmade e p x y ⊎ Run e w p x y
+
+-- whatever the disks report: over links all went on, none picked from; and else no fault is forgotten, and none is armed but
+-- where memory ran out
+abbrev pub DisksGoOn : Ended → Bool → List PairView → List PairView → Type 0
+DisksGoOn e true old new = AllGoOn old new
+DisksGoOn e false old new = NoneForgotten old new × ((e ≡ Err fault.NoMemory → ⊥) → AllUnarmed new)

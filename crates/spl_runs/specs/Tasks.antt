@@ -1,0 +1,100 @@
+-- What is run of a schedule, and which messages that carries (docs/RULES.md, Schedules, Links).
+use Rattle.std.specs.Prelude.{◌≡◌, ◌+◌, ℕ, Bool, true, false, nat_le, if◌then◌else◌}
+use Rattle.std.specs.Prelude.{List, [], ◌∷◌, ◌++◌, Option, Some, None, IfSome, map}
+use Rattle.spl_circuit.specs.Nodes.{CircuitId, Node, sorted}
+use Rattle.spl_lines.specs.Tasks.{Task}
+use Rattle.spl_lines.specs.Written.{IsLine, said}
+use Rattle.spl_model.specs.Worlds.{blank}
+use Rattle.spl_model.specs.Outcomes.{by_rule}
+use Rattle.spl_model.specs.Projection.{Ran}
+use Rattle.spl_projection.specs.Whole.{whole_world}
+use Rattle.spl_pump.specs.Wires.{Carried}
+use Rattle.spl_registry.specs.Nodes.{Entry, ids_of}
+use Rattle.spl_sched.specs.Grammar.{circuit_of}
+use Rattle.spl_sched.specs.declared.line.Line.{Line}
+use Rattle.spl_sched.specs.declared.line.Line.TheVariants as line
+use Rattle.spl_sched.specs.declared.line.Step.TheVariants as step
+use Rattle.spl_wire.specs.declared.event.Event.TheVariants as event
+use Rattle.spl_world.specs.Links.{line_carried, seat_of}
+
+-- how a schedule is run
+pub record Way : Type 0 where
+  -- messages go over links, and a stop picks nothing of the disks
+  pub linked : Bool
+  -- so many of its first lines are run, and not answered
+  pub unanswered : ℕ
+
+abbrev pub way : Bool → ℕ → Way
+way linked unanswered = record { linked = linked; unanswered = unanswered }
+
+-- ---- lines
+
+-- lines that a run over links takes: all but ticks, ends of rounds and deliveries, which it brings about itself, and stops in an event
+abbrev pub is_taken : Line → Bool
+is_taken (line.Step (step.At n c event.Tick)) = false
+is_taken (line.Step (step.At n c event.Expire)) = false
+is_taken (line.Step (step.At n c e)) = true
+is_taken (line.Stop n) = true
+is_taken (line.Start n) = true
+is_taken (line.Roll n) = true
+is_taken _ = false
+
+-- what is run there: a line that is taken, or a calm
+abbrev pub is_run : Line → Bool
+is_run (line.Calm c k) = true
+is_run l = is_taken l
+
+-- a line that a schedule over these nodes may have there
+pub record IsAllowed (w : Way) (ns : List Node) (bytes : List ℕ) : Type 0 where
+  pub good : IsLine ns bytes
+  pub taken : w.linked ≡ true → IfSome (said bytes) (λ l. is_taken l ≡ true)
+
+-- ---- tasks
+
+-- the number with which a line's answer is written
+abbrev pub number_of : Way → ℕ → Option ℕ
+number_of w n = if nat_le n w.unanswered then None else Some n
+
+-- the passes of the calm after a line
+abbrev pub calm_passes : ℕ
+calm_passes = 8
+
+-- a calm of the circuit that a line names, where it names one
+abbrev pub calm_in : Option CircuitId → List Task
+calm_in None = []
+calm_in (Some c) = record { number = None; line = line.Calm c calm_passes } ∷ []
+
+-- what is run after a line: over links a calm of the circuit that it names
+abbrev pub after_line : Way → Line → List Task
+after_line w l = if w.linked then calm_in (circuit_of l) else []
+
+abbrev pub tasks_of : Way → ℕ → Option Line → List Task
+tasks_of w n None = []
+tasks_of w n (Some l) = record { number = number_of w n; line = l } ∷ after_line w l
+
+abbrev pub tasks_from : Way → ℕ → List (List ℕ) → List Task
+tasks_from w n [] = []
+tasks_from w n (bytes ∷ lines) = tasks_of w n (said bytes) ++ tasks_from w (n + 1) lines
+
+-- what is run of lines, which are numbered from 1
+abbrev pub tasks : Way → List (List ℕ) → List Task
+tasks w lines = tasks_from w 1 lines
+
+-- ---- what comes of them
+
+-- the nodes of a registry, in the order of their ids
+abbrev pub nodes_in : List Entry → List Node
+nodes_in es = sorted (ids_of es)
+
+-- and their positions
+abbrev pub places_in : List Entry → List ℕ
+places_in es = map (seat_of es) (nodes_in es)
+
+-- the messages that tasks after these lines carry between the nodes of a registry, in order
+abbrev pub carried_after : List Entry → List Ran → List Task → List Carried
+carried_after es before [] = []
+carried_after es before (t ∷ ts) =
+    line_carried (seat_of es) (λ c. whole_world (blank (nodes_in es)) c before) t.line ++ carried_after es (before ++ by_rule t.line ∷ []) ts
+
+abbrev pub carried : List Entry → List Task → List Carried
+carried es ts = carried_after es [] ts

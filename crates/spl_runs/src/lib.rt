@@ -1,0 +1,12 @@
+//! A run: it takes a schedule line by line, runs the tasks that each line asks for, and writes the answers.
+#![tactic(auto)]
+
+mod fault;
+mod halt;
+mod lines;
+mod run;
+mod whole;
+
+pub use fault::{RunEnd, RunFault};
+pub use halt::{Forgetting, Halt, Picking};
+pub use whole::run_lines;

@@ -1,0 +1,18 @@
+//! Which lines a run over links takes.
+ghost use Rattle.std.specs.Prelude.{◌≡◌};
+ghost use Rattle.spl_runs.specs.Tasks.{is_taken};
+
+use spl_sched::{Line, Step};
+use spl_wire::Event;
+
+/// Whether a run over links takes a line: all but those that order ticks, ends of rounds, deliveries and calms, which it brings
+/// about itself, and stops in an event.
+pub fn is_taken(line: &Line) -> bool
+    ensures { result ≡ is_taken line.now }
+{
+    match line {
+        Line::Step(Step::At { event, .. }) => !matches!(event, Event::Tick | Event::Expire),
+        Line::Stop(_) | Line::Start(_) | Line::Roll(_) => true,
+        _ => false,
+    }
+}

@@ -1,0 +1,65 @@
+//! A whole run.
+ghost use Rattle.std.specs.Prelude.{◌≡◌, ◌<◌, ◌≤◌, ℕ, false, length, IsErrOf};
+ghost use Rattle.std.specs.Io.KnownBytes.{Consumes};
+ghost use Rattle.spl_edge.specs.Views.{bench};
+ghost use Rattle.spl_lines.specs.Given.{run_of};
+ghost use Rattle.spl_runs.specs.Moments.{CanCarry};
+ghost use Rattle.spl_runs.specs.Run.{DisksGoOn, EndsText, Ran, devices, given, plan};
+ghost use Rattle.spl_runs.specs.Tasks.{way};
+ghost use Rattle.spl_world.specs.Disks.{AreBlank, images, images_at};
+ghost use Rattle.spl_world.specs.Held.{AllUnpicked};
+ghost use Rattle.spl_world.specs.Links.{link_view};
+
+use crate::fault::{RunEnd, RunFault};
+use crate::halt::Halt;
+use crate::run::Run;
+use spl_edge::{Disk, Fabric, Pair, Sink, Source};
+use spl_pump::Carry;
+use spl_registry::Registry;
+use std::alloc::Global;
+use std::mem;
+
+// Whether a run ended because memory ran out.
+fn lacks_memory(ended: &Result<RunEnd, RunFault>) -> bool
+    ensures { result ≡ false → IsErrOf ended.now RunFault.NoMemory → ⊥ }
+{
+    matches!(ended, Err(RunFault::NoMemory))
+}
+
+/// Runs each line that a source gives over the nodes of a registry, whose disks are blank, up to the first that a schedule may
+/// not have there or that ends with an error, and writes the answers to those after the first `unanswered`. Over links a calm
+/// of the circuit that a line names is run after it. All messages go through the carrier. Running out of memory is reported before a fault
+/// of the sink, since it may leave disks armed. What the run holds in memory is left to the end of the process.
+pub fn run_lines<H: Halt<D>, S: Source, W: Sink, D: Disk, C: Carry, F: Fabric>(
+    alloc: Global,
+    registry: &Registry,
+    pairs: &mut Vec<Pair<D>>,
+    carrier: &mut C,
+    fabric: &mut F,
+    source: &mut S,
+    out: &mut W,
+    unanswered: u32,
+) -> Result<RunEnd, RunFault>
+    requires pairs { length registry.now ≤ length pairs.old.items }
+    requires blank { (i : ℕ) → i < length registry.now → AreBlank (images_at (images D.view pairs.old.items) i) }
+    requires unpicked { AllUnpicked (bench D.view pairs.old.items) }
+    requires carries { CanCarry registry.now (link_view (C.view carrier.old) (F.view fabric.old)) }
+    ensures text { EndsText result (way H.linked unanswered) (plan registry.now (run_of (given (S.view source.old) (S.view source.new))))
+        (S.view source.old) (S.view source.new) }
+    ensures taken { Consumes (S.view source.old).left (S.view source.new).left (given (S.view source.old) (S.view source.new)) }
+    ensures ran { Ran result (way H.linked unanswered) (plan registry.now (run_of (given (S.view source.old) (S.view source.new))))
+        (devices (W.view out.old) (bench D.view pairs.old.items) (link_view (C.view carrier.old) (F.view fabric.old)))
+        (devices (W.view out.new) (bench D.view pairs.new.items) (link_view (C.view carrier.new) (F.view fabric.new))) }
+    ensures onward { DisksGoOn result H.linked (bench D.view pairs.old.items) (bench D.view pairs.new.items) }
+{
+    let mut run = Run::new::<H, D>(alloc, registry, pairs, unanswered)?;
+    let ended = run.lines::<H, S, W, D, C, F>(alloc, pairs, carrier, fabric, source, out);
+    let flushed = run.flush(out);
+    // The process ends after a run, and gives its memory back at once.
+    mem::forget(run);
+    if lacks_memory(&ended) {
+        return Err(RunFault::NoMemory);
+    }
+    flushed?;
+    ended
+}
