@@ -1,2 +1,6 @@
 pub mod Lists
 pub mod Asks
+pub mod Reading
+pub mod Logs
+pub mod Making
+pub mod Steps

@@ -21,7 +21,7 @@ insert-first : (xs : List Pledge) (x : Pledge) → insert xs 0 x ≡ x ∷ xs
 insert-first [] x = refl
 insert-first (y ∷ ys) x = refl
 
--- a pledge in front is the one of its member
+-- a pledge in prefix is the one of its member
 pub first-is : (xs : List Pledge) (x : Pledge) → pair_among (x ∷ xs) ≡ put (pair_among xs) x.member (Some (x.ballot, x.prepared))
 first-is xs x = fun_ext (λ (j : ℕ). go j (bool_cases (x.member == j)))
   where
@@ -48,6 +48,6 @@ pub pledges-last : (n : ℕ) (pairs : Pairs) → n ≢ 0 → pledges n pairs ≡
 pledges-last zero pairs d = absurd (d refl)
 pledges-last (suc n) pairs d = let e : n ≡ suc n - 1 = omega arith in ap (λ (k : ℕ). pledges k pairs ++ pledge_of (suc n) (pairs (suc n))) e
 
--- sends, or pledges, behind those that stand there
+-- sends, or pledges, after those that stand there
 pub behind : {A : Type 0} (old now start rest more all : List A) → now ≡ old ++ rest → start ≡ now ++ more → all ≡ rest ++ more → start ≡ old ++ all
 behind old now start rest more all e f h = f ∙ ap (λ z. z ++ more) e ∙ append_assoc old rest more ∙ ap (λ z. old ++ z) (sym h)

@@ -6,3 +6,6 @@ pub mod Worlds
 pub mod Held
 pub mod Plans
 pub mod Forms
+pub mod Logs
+pub mod Steps
+pub mod Acceptors

@@ -1,7 +1,7 @@
 -- What each record does to what a process keeps of its round (docs/RULES.md, Paxos Commit).
-use Rattle.std.specs.Prelude.{ℕ, ◌==◌, List, [], ◌∷◌, Some, if◌then◌else◌}
+use Rattle.std.specs.Prelude.{◌≡◌, ℕ, Bool, true, ◌==◌, ◌&&◌, nat_lt, nat_le, List, [], ◌∷◌, Some, if◌then◌else◌}
 use Rattle.spl_agree.specs.World.{put}
-use Rattle.spl_acceptor.specs.Processes.{Acceptor, Member, Leader, new_acceptor, new_member, new_leader}
+use Rattle.spl_acceptor.specs.Processes.{Acceptor, Member, Leader, new_acceptor, new_member, new_leader, stopped_member, stopped_leader}
 use Rattle.spl_acceptor.specs.declared.record.PaxosRecord.{PaxosRecord}
 use Rattle.spl_acceptor.specs.declared.record.PaxosRecord.TheVariants as kept
 
@@ -41,6 +41,10 @@ abbrev pub recorded : {S : Type 0} → (S → PaxosRecord → S) → ℕ → S �
 recorded with r s [] = s
 recorded with r s (x ∷ xs) = recorded with r (if round_kept x == r then with s x else s) xs
 
+-- this is made of it in one round, and every other round is as it was
+abbrev pub IsChangedAt : {S : Type 0} → (ℕ → S) → ℕ → (S → S) → (ℕ → S) → Type 0
+IsChangedAt old here made new = (r : ℕ) → new r ≡ (if here == r then made (old r) else old r)
+
 -- what the records of a journal make, by round
 abbrev pub acceptor_of : List PaxosRecord → ℕ → Acceptor
 acceptor_of xs r = recorded acceptor_with r new_acceptor xs
@@ -50,3 +54,28 @@ member_of xs r = recorded member_with r new_member xs
 
 abbrev pub leader_of_records : List PaxosRecord → ℕ → Leader
 leader_of_records xs r = recorded leader_with r new_leader xs
+
+-- ---- the records of so many members
+
+-- what was accepted of a member is theirs if it is one of them
+abbrev pub is_own : ℕ → PaxosRecord → Bool
+is_own n (kept.Accepted r i b p) = nat_lt 0 i && nat_le i n
+is_own n (kept.Promised r b) = true
+is_own n (kept.Voted r aye) = true
+is_own n (kept.Used r b) = true
+is_own n (kept.Decided r commit) = true
+
+abbrev pub own : ℕ → List PaxosRecord → List PaxosRecord
+own n [] = []
+own n (x ∷ xs) = if is_own n x then x ∷ own n xs else own n xs
+
+-- these records make what an acceptor of so many members keeps, by rounds
+abbrev pub MakeAcceptor : ℕ → (ℕ → Acceptor) → List PaxosRecord → Type 0
+MakeAcceptor n states xs = (r : ℕ) → acceptor_of (own n xs) r ≡ states r
+
+-- what a member or a leader keeps, except what a stop forgets
+abbrev pub MakeMember : ℕ → (ℕ → Member) → List PaxosRecord → Type 0
+MakeMember n states xs = (r : ℕ) → member_of (own n xs) r ≡ stopped_member (states r)
+
+abbrev pub MakeLeader : ℕ → (ℕ → Leader) → List PaxosRecord → Type 0
+MakeLeader n states xs = (r : ℕ) → leader_of_records (own n xs) r ≡ stopped_leader (states r)

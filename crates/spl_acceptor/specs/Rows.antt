@@ -296,3 +296,7 @@ member_after m p = member_moved (member_changed m p.change) p.move
 
 abbrev pub leader_after : Leader → PaxosPlan → Leader
 leader_after l p = leader_moved (leader_changed l p.change) p.move
+
+-- a plan is carried out in its round, and the other rounds stay
+abbrev pub carried_out : {S : Type 0} → (S → PaxosPlan → S) → (ℕ → S) → ℕ → PaxosPlan → ℕ → S
+carried_out after states here p = put states here (after (states here) p)

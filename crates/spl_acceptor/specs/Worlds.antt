@@ -11,7 +11,9 @@ use Rattle.spl_acceptor.specs.declared.kind.TheConstants.{MEMBER, ACCEPTOR, LEAD
 use Rattle.spl_acceptor.specs.declared.message.Name.{Name}
 use Rattle.spl_acceptor.specs.declared.message.PaxosMsg.{PaxosMsg}
 use Rattle.spl_acceptor.specs.declared.message.PaxosMsg.TheVariants as msg
-use Rattle.spl_acceptor.specs.declared.note.PaxosNote.{PaxosNote}
+use Rattle.spl_acceptor.specs.declared.answer.PaxosAnswer.{PaxosAnswer}
+use Rattle.spl_acceptor.specs.declared.answer.PaxosAnswer.TheVariants.{Told, Undecided, Decided, IsDown, IsUp, Refused}
+use Rattle.spl_acceptor.specs.declared.answer.PaxosRefusal.TheVariants.{Down, Voted, NoMessage}
 
 -- a message that was sent
 pub record Sent : Type 0 where
@@ -169,25 +171,11 @@ abbrev pub run : Group → World → List Happening → World
 run g w [] = w
 run g w (e ∷ es) = run g (happens g w e) es
 
--- the world behind a whole schedule
+-- the world after a whole schedule
 abbrev pub world_behind : Group → List Happening → World
 world_behind g es = run g (first_world g) es
 
 -- ---- answers
-
--- refusals, with their numbers
-pub data Refusal : Type 0 where
-  Down : Refusal
-  Voted : Refusal
-  NoMessage : Refusal
-
-pub data PaxosAnswer : Type 0 where
-  Told : PaxosNote → PaxosAnswer
-  Undecided : PaxosAnswer
-  Decided : (commit : Bool) → PaxosAnswer
-  IsDown : PaxosAnswer
-  IsUp : PaxosAnswer
-  Refused : Refusal → PaxosAnswer
 
 abbrev pub shown : Option Bool → PaxosAnswer
 shown None = Undecided

@@ -180,8 +180,8 @@ impl PaxosRecord {
         spelled(alloc, self)
     }
 
-    /// The record at the front, and how many bytes it takes. The fault is the place of the first field that cannot be
-    /// read, or want of memory.
+    /// The record at the beginning, and how many bytes it takes. The fault is the place of the first field that cannot be
+    /// read, or that memory ran out.
     pub fn read(alloc: Global, bytes: &[u8]) -> Result<(PaxosRecord, usize), Malformed>
         ensures exact { Answers result (front_of record_form bytes.now) }
         ensures found { IfOk result (λ x. (bytes.now ≡ record_form.spell x.0 ++ drop x.1 bytes.now) × IsTrue (record_form.fits x.0)) }

@@ -1,4 +1,4 @@
-//! What the processes tell one another.
+//! What the processes say to one another.
 ghost use Rattle.std.specs.Prelude.{◌≡◌, [], ◌∷◌, ◌++◌, OnOk, OnErr};
 
 use spl_agree::Round;
@@ -58,7 +58,7 @@ pub enum PaxosMsg {
         ballot: u64,
         prepared: bool,
     },
-    /// An acceptor has promised a ballot, and tells what it has accepted.
+    /// An acceptor has promised a ballot, and says what it has accepted.
     Promise {
         round: Round,
         ballot: u64,
@@ -81,7 +81,7 @@ pub enum PaxosMsg {
 impl PaxosMsg {
     ghost use Rattle.std.specs.Prelude.{◌≡◌, IfOk};
 
-    /// An equal message. An error comes for want of memory alone.
+    /// An equal message. The only error is that memory ran out.
     pub fn copy(&self, alloc: Global) -> Result<PaxosMsg, AllocError>
         ensures { IfOk result (λ m. m ≡ self.now) }
     {
@@ -155,7 +155,7 @@ impl PaxosSends {
         }
     }
 
-    /// One message more, at the end. After want of memory the list is as it was.
+    /// One message more, at the end. When memory runs out the list is as it was.
     pub fn push(&mut self, to: Name, message: PaxosMsg) -> Result<(), AllocError>
         ensures ok { OnOk result (self.new ≡ self.old ++ (to, message) ∷ []) }
         ensures err { OnErr result (self.new ≡ self.old) }

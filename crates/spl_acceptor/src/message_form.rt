@@ -135,8 +135,8 @@ impl PaxosMsg {
         spelled(alloc, self)
     }
 
-    /// The message at the front, and how many bytes it takes. The fault is the place of the first field that cannot be
-    /// read, or want of memory.
+    /// The message at the beginning, and how many bytes it takes. The fault is the place of the first field that cannot be
+    /// read, or that memory ran out.
     pub fn read(alloc: Global, bytes: &[u8]) -> Result<(PaxosMsg, usize), Malformed>
         ensures exact { Answers result (front_of message_form bytes.now) }
         ensures found { IfOk result (λ x. (bytes.now ≡ message_form.spell x.0 ++ drop x.1 bytes.now) × IsTrue (message_form.fits x.0)) }

@@ -1,8 +1,8 @@
-//! What is told of a step.
+//! What is reported of a step.
 
 use crate::PaxosSends;
 
-/// What is told of a step.
+/// What is reported of a step.
 #[derive(Clone, Copy, PartialEq, Eq)]
 pub enum PaxosNote {
     /// The vote is kept.

@@ -1,4 +1,6 @@
 //! What a process keeps on its disk.
+ghost use Rattle.std.specs.Prelude.{◌≡◌};
+ghost use Rattle.spl_acceptor.specs.Records.{is_own};
 
 use spl_agree::Round;
 
@@ -32,4 +34,14 @@ pub enum PaxosRecord {
         round: Round,
         commit: bool,
     },
+}
+
+/// Whether a record is of one of so many members. One that names no member is.
+pub fn is_own(members: u8, change: &PaxosRecord) -> bool
+    ensures { result ≡ is_own members change.now }
+{
+    match change {
+        PaxosRecord::Accepted { member, .. } => 0 < *member && *member <= members,
+        _ => true,
+    }
 }

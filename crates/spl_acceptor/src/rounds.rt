@@ -1,14 +1,16 @@
 //! What an acceptor keeps of all rounds.
-ghost use Rattle.std.specs.Prelude.{◌≡◌, ℕ, OnOk, IfOk};
+ghost use Rattle.std.specs.Prelude.{◌≡◌, ℕ, OnOk, IfOk, IfSome};
 ghost use Rattle.spl_acceptor.specs.Held.{acceptor_in, row_in, IsChanged};
 ghost use Rattle.spl_acceptor.specs.Plans.{IsPlan};
 ghost use Rattle.spl_acceptor.specs.Processes.{new_acceptor};
 ghost use Rattle.spl_acceptor.specs.declared.group.Group.{Group};
-ghost use Rattle.spl_acceptor.specs.Records.{round_kept};
+ghost use Rattle.spl_acceptor.specs.Records.{round_kept, IsChangedAt};
+ghost use Rattle.spl_acceptor.specs.Rows.{acceptor_changed};
 ghost use Rattle.spl_acceptor.specs.Worlds.{round_of};
 
 use crate::held::Held;
 use crate::plan::AcceptorPlan;
+use crate::replay::Replay;
 use crate::{Name, PaxosMsg, PaxosRecord};
 use spl_agree::Round;
 use std::alloc::{AllocError, Global};
@@ -72,7 +74,7 @@ impl AcceptorRounds {
         }
     }
 
-    /// Makes the change of a record. After want of memory what is kept may be less.
+    /// Makes the change of a record. When memory runs out what is kept may be less.
     pub fn apply(&mut self, alloc: Global, change: &PaxosRecord) -> Result<(), AllocError>
         ensures { OnOk result (IsChanged (acceptor_in self.old) change.now (acceptor_in self.new)) }
     {
@@ -84,5 +86,33 @@ impl AcceptorRounds {
         held.apply(change)?;
         self.rounds.insert(round.0, held)?;
         Ok(())
+    }
+
+    /// Makes the change of a record of this round, where there is one. When memory runs out what is kept may be less.
+    pub fn make(
+        &mut self,
+        alloc: Global,
+        round: Round,
+        change: &Option<PaxosRecord>,
+    ) -> Result<(), AllocError>
+        requires { IfSome change.now (λ x. round_kept x ≡ round) }
+        ensures { OnOk result (IsChangedAt (acceptor_in self.old) round (λ a. acceptor_changed a change.now) (acceptor_in self.new)) }
+    {
+        match change {
+            None => Ok(()),
+            Some(record) => self.apply(alloc, record),
+        }
+    }
+}
+
+impl Replay for AcceptorRounds {
+    ghost use Rattle.std.specs.Prelude.{◌≡◌, ℕ};
+    ghost use Rattle.spl_acceptor.specs.Held.{acceptor_in};
+    ghost use Rattle.spl_acceptor.specs.Records.{acceptor_of};
+
+    ghost is_made_of = { λ a xs. (r : ℕ) → acceptor_of xs r ≡ acceptor_in a r };
+
+    fn replay(&mut self, alloc: Global, change: &PaxosRecord) -> Result<(), AllocError> {
+        self.apply(alloc, change)
     }
 }

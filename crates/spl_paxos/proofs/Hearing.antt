@@ -16,7 +16,7 @@ use Rattle.spl_paxos.specs.declared.heard.OpenBallot.{OpenBallot}
 use Rattle.spl_paxos.specs.Promises.{heard_among, ballot_of}
 use Rattle.spl_paxos.specs.Leaders.{used_or_none, leader_found}
 
--- the one in front is that of its acceptor
+-- the one in prefix is that of its acceptor
 pub first_heard : (xs : List HeardPromise) (x : HeardPromise) → heard_among (x ∷ xs) ≡ put (heard_among xs) x.acceptor (Some (pair_among x.pairs))
 first_heard xs x = fun_ext (λ (a : ℕ). go a (bool_cases (x.acceptor == a)))
   where

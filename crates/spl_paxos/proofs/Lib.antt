@@ -1,2 +1,4 @@
 pub mod Orders
 pub mod Hearing
+pub mod Steps
+pub mod LineLaws

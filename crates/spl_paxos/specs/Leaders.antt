@@ -1,11 +1,11 @@
 -- What a leader keeps, as the code has it (docs/RULES.md, Paxos Commit).
-use Rattle.std.specs.Prelude.{◌≡◌, ℕ, Option, Some, None}
+use Rattle.std.specs.Prelude.{ℕ, Option, Some, None}
 use Rattle.std.specs.Ordering.{nat_cmp}
 use Rattle.std.specs.BTreeMap.{is_at}
 use Rattle.std.specs.Map.{lookup}
 use Rattle.spl_acceptor.specs.Processes.{Ballot, Leader}
 use Rattle.spl_paxos.specs.declared.heard.OpenBallot.{OpenBallot}
-use Rattle.spl_paxos.specs.declared.leader.PaxosLeader.{PaxosLeader}
+use Rattle.spl_paxos.specs.declared.leader_rounds.LeaderRounds.{LeaderRounds}
 use Rattle.spl_paxos.specs.Promises.{ballot_of}
 
 -- no ballot above 0 was used where nothing is found
@@ -22,10 +22,5 @@ abbrev pub leader_found : Option ℕ → Option OpenBallot → Leader
 leader_found used opened = record { used = used_or_none used; opened = opened_or_none opened }
 
 -- what a leader used in a round, and its open ballot
-abbrev pub leader_in : PaxosLeader → ℕ → Leader
+abbrev pub leader_in : LeaderRounds → ℕ → Leader
 leader_in l r = leader_found (lookup (is_at (nat_cmp r)) l.used.entries) (lookup (is_at (nat_cmp r)) l.opened.entries)
-
--- a leader has kept its number and its run
-pub record IsSameLeader (old new : PaxosLeader) : Type 0 where
-  pub here : new.here ≡ old.here
-  pub group : new.group ≡ old.group

@@ -1,5 +1,7 @@
 pub mod Plans
-pub mod Kept
 pub mod Members
 pub mod Promises
 pub mod Leaders
+pub mod Stands
+pub mod Lines
+pub mod Texts

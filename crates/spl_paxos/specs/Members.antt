@@ -1,5 +1,5 @@
 -- What a member keeps, as the code has it (docs/RULES.md, Paxos Commit).
-use Rattle.std.specs.Prelude.{◌≡◌, ℕ, List, [], Option, Some, None, Vec}
+use Rattle.std.specs.Prelude.{ℕ, List, [], Option, Some, None, Vec}
 use Rattle.std.specs.Ordering.{nat_cmp}
 use Rattle.std.specs.BTreeMap.{is_at}
 use Rattle.std.specs.Map.{lookup}
@@ -7,7 +7,7 @@ use Rattle.std.specs.declared.alloc.Global.{Global}
 use Rattle.spl_acceptor.specs.Processes.{Member}
 use Rattle.spl_acceptor.specs.declared.message.Acceptance.{Acceptance}
 use Rattle.spl_paxos.specs.declared.kept.Kept.{Kept}
-use Rattle.spl_paxos.specs.declared.member.PaxosMember.{PaxosMember}
+use Rattle.spl_paxos.specs.declared.member_rounds.MemberRounds.{MemberRounds}
 
 -- what is durable of a round, with nothing counted
 abbrev pub member_of_kept : Kept → Member
@@ -27,10 +27,5 @@ abbrev pub member_found : Option Kept → Option (Vec Acceptance Global) → Mem
 member_found kept counted = record { vote = (kept_or_new kept).vote; decision = (kept_or_new kept).decision; counted = counted_or_none counted }
 
 -- what a member keeps of a round, and what it counted
-abbrev pub member_in : PaxosMember → ℕ → Member
+abbrev pub member_in : MemberRounds → ℕ → Member
 member_in m r = member_found (lookup (is_at (nat_cmp r)) m.kept.entries) (lookup (is_at (nat_cmp r)) m.counted.entries)
-
--- a member has kept its number and its run
-pub record IsSameMember (old new : PaxosMember) : Type 0 where
-  pub here : new.here ≡ old.here
-  pub group : new.group ≡ old.group

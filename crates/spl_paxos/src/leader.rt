@@ -1,202 +1,223 @@
-//! A leader: what it used in all rounds, its open ballots, and what its steps give.
+//! A leader over its disk.
 ghost use Rattle.std.specs.Prelude.{◌≤◌};
 
-use crate::heard::{HeardPromise, OpenBallot};
-use crate::leader_row::{noted, on_higher, on_lead, on_promise};
-use crate::{LeaderMove, LeaderPlan};
-use spl_acceptor::{
-    Group, Name, PaxosMsg, PaxosNote, PaxosRecord, PledgeList, Stepped, round_kept,
-};
+use crate::{LeaderPlan, LeaderRounds};
+use spl_acceptor::{Group, Name, PaxosLog, PaxosMsg, Stepped, round_of};
 use spl_agree::Round;
+use spl_edge::Disk;
+use spl_journal::JournalFault;
 use std::alloc::{AllocError, Global};
-use std::collections::BTreeMap;
 
-/// A leader: its number, the run that it is in, and of each round the last ballot that it used, which is durable, and its
-/// open ballot, which is in memory alone. A look-up takes time by the logarithm of the number of rounds.
+/// A leader of a run: its number there, what it used and opened in all rounds, and the journal that makes the durable part
+/// again.
 #[derive(Drop)]
 pub struct PaxosLeader {
     pub(crate) here: u8,
     pub(crate) group: Group,
-    pub(crate) used: BTreeMap<u64, u64>,
-    pub(crate) opened: BTreeMap<u64, OpenBallot>,
+    pub(crate) rounds: LeaderRounds,
+    pub(crate) log: PaxosLog,
+    pub(crate) halted: bool,
+    ghost small: { group.members ≤ 8 },
     ghost few: { group.faults ≤ 2 },
 }
 
 impl PaxosLeader {
-    ghost use Rattle.std.specs.Prelude.{◌≡◌, ℕ, OnOk, IfOk};
-    ghost use Rattle.spl_acceptor.specs.Processes.{new_leader, stopped_leader};
+    ghost use Rattle.std.specs.Prelude.{◌≡◌, ℕ, true, false, Err, OnOk, OnErr, IfOk, IfSome, IsErrOf};
+    ghost use Rattle.spl_edge.specs.Calls.{Onward};
+    ghost use Rattle.spl_edge.specs.Causes.{Rose};
+    ghost use Rattle.spl_edge.specs.Image.{IsSettled};
+    ghost use Rattle.spl_edge.specs.Views.{image_now};
+    ghost use Rattle.spl_journal.specs.Make.{IsBlank};
+    ghost use Rattle.spl_journal.specs.Reads.{Stays};
+    ghost use Rattle.spl_acceptor.specs.Logs.{records_on, StandFor, TellsAs};
+    ghost use Rattle.spl_acceptor.specs.Processes.{new_leader};
     ghost use Rattle.spl_acceptor.specs.Quorums.{IsWithin};
-    ghost use Rattle.spl_acceptor.specs.Records.{round_kept, leader_with};
-    ghost use Rattle.spl_acceptor.specs.Rows.{Begin, Close, Hear, pair_among};
-    ghost use Rattle.spl_acceptor.specs.Rows.{on_lead, on_promise, leader_row, leader_after, leader_moved};
+    ghost use Rattle.spl_acceptor.specs.Records.{own, leader_of_records, MakeLeader};
+    ghost use Rattle.spl_acceptor.specs.Rows.{leader_after};
+    ghost use Rattle.spl_acceptor.specs.Steps.{WritesIn, CarriesOut};
     ghost use Rattle.spl_acceptor.specs.Worlds.{round_of};
-    ghost use Rattle.spl_paxos.specs.Kept.{IsChangedAt};
-    ghost use Rattle.spl_paxos.specs.Leaders.{leader_in, IsSameLeader};
-    ghost use Rattle.spl_paxos.specs.Plans.{leader_plan, move_of};
+    ghost use Rattle.spl_paxos.specs.Plans.{leader_plan};
+    ghost use Rattle.spl_paxos.specs.Stands.{run_with, leader_at, leader_row_at, lead_at, is_leader_halted, IsSameLeader, LeaderStands};
 
-    /// A leader that used no ballot; nothing is allocated.
-    pub fn new(alloc: Global, here: u8, group: Group) -> PaxosLeader
-        requires members { (2 ≤ group.members) × (group.members ≤ 8) }
-        requires faults { group.faults ≤ 2 }
+    /// A leader that used no ballot; its journal is made on a blank disk, by four calls.
+    pub fn create<D: Disk>(
+        alloc: Global,
+        disk: &mut D,
+        here: u8,
+        members: u8,
+        faults: u8,
+    ) -> Result<PaxosLeader, JournalFault>
+        requires members { (2 ≤ members) × (members ≤ 8) }
+        requires faults { faults ≤ 2 }
         requires own { IsWithin 3 here }
-        ensures here { result.here ≡ here }
-        ensures group { result.group ≡ group }
-        ensures none { (r : ℕ) → leader_in result r ≡ new_leader }
+        requires blank { IfSome (image_now (D.view disk.old)) IsBlank }
+        ensures here { IfOk result (λ l. l.here ≡ here) }
+        ensures group { IfOk result (λ l. l.group ≡ run_with members faults) }
+        ensures none { IfOk result (λ l. (r : ℕ) → leader_at l r ≡ new_leader) }
+        ensures running { IfOk result (λ l. is_leader_halted l ≡ false) }
+        ensures stands { IfOk result (λ l. IfSome (image_now (D.view disk.new)) (LeaderStands l)) }
+        ensures told { OnOk result (TellsAs (image_now (D.view disk.old)) (image_now (D.view disk.new))) }
+        ensures not { (at : ℕ) → IsErrOf result (JournalFault.NotAJournal at) → ⊥ }
+        ensures failed { IsErrOf result JournalFault.Disk → Rose (D.view disk.old).faults (D.view disk.new).faults }
+        ensures onward { Onward (D.view disk.old) (D.view disk.new) }
     {
-        PaxosLeader {
-            here,
-            group,
-            used: BTreeMap::new(alloc),
-            opened: BTreeMap::new(alloc),
+        match PaxosLog::create(alloc, disk) {
+            Ok(log) => Ok(PaxosLeader {
+                here,
+                group: Group { members, faults },
+                rounds: LeaderRounds::new(alloc),
+                log,
+                halted: false,
+            }),
+            Err(fault) => Err(fault),
         }
+    }
+
+    /// The leader that the records of a disk make, on which nothing is pending; no ballot is open. Records of other
+    /// processes are passed over. The disk is no journal of records at the place that the fault reports.
+    pub fn open<D: Disk>(
+        alloc: Global,
+        disk: &mut D,
+        here: u8,
+        members: u8,
+        faults: u8,
+    ) -> Result<PaxosLeader, JournalFault>
+        requires members { (2 ≤ members) × (members ≤ 8) }
+        requires faults { faults ≤ 2 }
+        requires own { IsWithin 3 here }
+        requires settled { IfSome (image_now (D.view disk.old)) IsSettled }
+        ensures here { IfOk result (λ l. l.here ≡ here) }
+        ensures group { IfOk result (λ l. l.group ≡ run_with members faults) }
+        ensures read { IfOk result (λ l. IfSome (image_now (D.view disk.new)) (λ i.
+            StandFor (λ xs. (r : ℕ) → leader_of_records (own members xs) r ≡ leader_at l r) i.bytes)) }
+        ensures running { IfOk result (λ l. is_leader_halted l ≡ false) }
+        ensures stands { IfOk result (λ l. IfSome (image_now (D.view disk.new)) (LeaderStands l)) }
+        ensures not { (at : ℕ) → IsErrOf result (JournalFault.NotAJournal at) → IfSome (image_now (D.view disk.old)) (λ i. records_on i.bytes ≡ Err at) }
+        ensures failed { IsErrOf result JournalFault.Disk → Rose (D.view disk.old).faults (D.view disk.new).faults }
+        ensures stays { Stays (D.view disk.old) (D.view disk.new) }
+        ensures onward { Onward (D.view disk.old) (D.view disk.new) }
+    {
+        let mut rounds = LeaderRounds::new(alloc);
+        match PaxosLog::open(alloc, disk, members, &mut rounds) {
+            Ok(log) => Ok(PaxosLeader {
+                here,
+                group: Group { members, faults },
+                rounds,
+                log,
+                halted: false,
+            }),
+            Err(fault) => Err(fault),
+        }
+    }
+
+    /// Whether a call failed, so that the disk has to be read again.
+    pub fn is_halted(&self) -> bool
+        ensures { result ≡ is_leader_halted self.now }
+    {
+        self.halted || self.log.is_halted()
     }
 
     /// The last ballot that the leader used in a round; 0 where it used none.
     pub fn used(&self, round: Round) -> u64
-        ensures { result ≡ (leader_in self.now round).used }
+        ensures { result ≡ (leader_at self.now round).used }
     {
-        match self.used.get(&round.0) {
-            None => 0,
-            Some(ballot) => *ballot,
-        }
+        self.rounds.used(round)
     }
 
-    /// What leading gives; nothing is changed yet. An error comes for want of memory alone.
-    pub fn plan_lead(&self, alloc: Global, round: Round) -> Result<LeaderPlan, AllocError>
-        ensures { IfOk result (λ p. leader_plan p ≡ on_lead self.now.group self.now.here (leader_in self.now round) round) }
-    {
-        on_lead(alloc, self.group, self.here, self.used(round), round)
-    }
-
-    /// What a promise gives.
-    fn plan_promise(
-        &self,
-        alloc: Global,
-        acceptor: u8,
-        round: Round,
-        ballot: u64,
-        pairs: &PledgeList,
-    ) -> Result<LeaderPlan, AllocError>
-        ensures { IfOk result (λ p. leader_plan p ≡ on_promise self.now.group (leader_in self.now round).opened round acceptor ballot (pair_among pairs.now)) }
-    {
-        match self.opened.get(&round.0) {
-            None => Ok(noted(alloc, PaxosNote::Ignored)),
-            Some(open) => on_promise(alloc, self.group, open, round, acceptor, ballot, pairs),
-        }
-    }
-
-    /// What a message gives; nothing is changed yet. An error comes for want of memory alone.
-    pub fn plan(
-        &self,
-        alloc: Global,
-        from: Name,
-        message: &PaxosMsg,
-    ) -> Result<LeaderPlan, AllocError>
-        ensures { IfOk result (λ p. leader_plan p ≡ leader_row self.now.group (leader_in self.now (round_of message.now)) from message.now) }
-    {
-        match message {
-            PaxosMsg::Promise {
-                round,
-                ballot,
-                pairs,
-            } => self.plan_promise(alloc, from.number, *round, *ballot, pairs),
-            PaxosMsg::Higher { round, ballot } => {
-                Ok(on_higher(alloc, self.used(*round), *round, *ballot))
-            }
-            _ => Ok(noted(alloc, PaxosNote::Ignored)),
-        }
-    }
-
-    fn keep(&mut self, round: Round, change: &PaxosRecord) -> Result<(), AllocError>
-        ensures same { IsSameLeader self.old self.new }
-        ensures kept { OnOk result (IsChangedAt (leader_in self.old) round (λ l. leader_with l change.now) (leader_in self.new)) }
-    {
-        if let PaxosRecord::Used { ballot, .. } = change {
-            self.used.insert(round.0, *ballot)?;
-        }
-        Ok(())
-    }
-
-    fn begin(&mut self, alloc: Global, round: Round, ballot: u64) -> Result<(), AllocError>
-        ensures same { IsSameLeader self.old self.new }
-        ensures begun { OnOk result (IsChangedAt (leader_in self.old) round (λ l. leader_moved l (Begin ballot)) (leader_in self.new)) }
-    {
-        let number = ballot;
-        let heard = Vec::new(alloc);
-        self.opened.insert(round.0, OpenBallot { number, heard })?;
-        Ok(())
-    }
-
-    fn hear(&mut self, round: Round, acceptor: u8, pairs: PledgeList) -> Result<(), AllocError>
-        ensures same { IsSameLeader self.old self.new }
-        ensures heard { OnOk result (IsChangedAt (leader_in self.old) round (λ l. leader_moved l (Hear acceptor (pair_among pairs))) (leader_in self.new)) }
-    {
-        if let Some(open) = self.opened.get_mut(&round.0) {
-            open.heard.insert(0, HeardPromise { acceptor, pairs })?;
-        }
-        Ok(())
-    }
-
-    fn close(&mut self, round: Round)
-        ensures same { IsSameLeader self.old self.new }
-        ensures closed { IsChangedAt (leader_in self.old) round (λ l. leader_moved l Close) (leader_in self.new) }
-    {
-        let _ = self.opened.remove(&round.0);
-    }
-
-    fn go_on(&mut self, alloc: Global, round: Round, opening: LeaderMove) -> Result<(), AllocError>
-        ensures same { IsSameLeader self.old self.new }
-        ensures moved { OnOk result (IsChangedAt (leader_in self.old) round (λ l. leader_moved l (move_of opening)) (leader_in self.new)) }
-    {
-        match opening {
-            LeaderMove::Keep => Ok(()),
-            LeaderMove::Begin { ballot } => self.begin(alloc, round, ballot),
-            LeaderMove::Hear { acceptor, pairs } => self.hear(round, acceptor, pairs),
-            LeaderMove::Close => {
-                self.close(round);
-                Ok(())
-            }
-        }
-    }
-
-    /// Makes the change of a record that was read from a disk, at its round. An error comes for want of memory alone.
-    pub fn replay(&mut self, change: &PaxosRecord) -> Result<(), AllocError>
-        ensures same { IsSameLeader self.old self.new }
-        ensures kept { OnOk result (IsChangedAt (leader_in self.old) (round_kept change.now) (λ l. leader_with l change.now) (leader_in self.new)) }
-    {
-        self.keep(round_kept(change), change)
-    }
-
-    /// Carries out a plan in its round: its record's change is made, and then the move of the open ballot. An error comes
-    /// for want of memory alone; what is kept may then be less.
-    pub fn apply(
+    /// Keeps the record of a plan, where it has one, and then carries it out in its round.
+    fn carry_out<D: Disk>(
         &mut self,
         alloc: Global,
+        disk: &mut D,
         round: Round,
         plan: LeaderPlan,
-    ) -> Result<Stepped, AllocError>
+    ) -> Result<Stepped, JournalFault>
+        requires running { is_leader_halted self.old ≡ false }
+        requires writes { WritesIn round self.old.group.members (leader_plan plan) }
+        requires stands { IfSome (image_now (D.view disk.old)) (LeaderStands self.old) }
         ensures same { IsSameLeader self.old self.new }
-        ensures done { OnOk result (IsChangedAt (leader_in self.old) round (λ l. leader_after l (leader_plan plan)) (leader_in self.new)) }
-        ensures told { IfOk result (λ s. (s.note ≡ plan.note) × (s.sends ≡ plan.sends)) }
+        ensures done { CarriesOut (MakeLeader self.old.group.members) leader_after (leader_at self.old) (leader_at self.new)
+            round (leader_plan plan) (D.view disk.old) (D.view disk.new) result }
+        ensures stands { OnOk result (IfSome (image_now (D.view disk.new)) (LeaderStands self.new)) }
+        ensures told { OnOk result (TellsAs (image_now (D.view disk.old)) (image_now (D.view disk.new))) }
+        ensures halted { OnErr result (is_leader_halted self.new ≡ true) }
+        ensures running { OnOk result (is_leader_halted self.new ≡ false) }
+        ensures not { (at : ℕ) → IsErrOf result (JournalFault.NotAJournal at) → ⊥ }
+        ensures failed { IsErrOf result JournalFault.Disk → Rose (D.view disk.old).faults (D.view disk.new).faults }
+        ensures onward { Onward (D.view disk.old) (D.view disk.new) }
     {
-        let LeaderPlan {
-            note,
-            change,
-            opening,
-            sends,
-        } = plan;
-        if let Some(change) = change {
-            self.keep(round, &change)?;
+        self.halted = true;
+        if let Err(fault) = self.log.keep(alloc, disk, &plan.change) {
+            return Err(fault);
         }
-        self.go_on(alloc, round, opening)?;
-        Ok(Stepped { note, sends })
+        match self.rounds.apply(alloc, round, plan) {
+            Ok(stepped) => {
+                self.halted = false;
+                Ok(stepped)
+            }
+            Err(AllocError) => Err(JournalFault::NoMemory),
+        }
     }
 
-    /// Forgets what a stop forgets, which is the open ballots.
-    pub fn restart(&mut self, alloc: Global)
+    /// What a message gives. Its record, where it has one, is on the disk before the messages are handed out: a stop at
+    /// any moment leaves records that make what was kept before the step, or what is kept after it. After an error the
+    /// leader is halted.
+    pub fn step<D: Disk>(
+        &mut self,
+        alloc: Global,
+        disk: &mut D,
+        from: Name,
+        message: &PaxosMsg,
+    ) -> Result<Stepped, JournalFault>
+        requires running { is_leader_halted self.old ≡ false }
+        requires stands { IfSome (image_now (D.view disk.old)) (LeaderStands self.old) }
         ensures same { IsSameLeader self.old self.new }
-        ensures kept { (r : ℕ) → leader_in self.new r ≡ stopped_leader (leader_in self.old r) }
+        ensures done { CarriesOut (MakeLeader self.old.group.members) leader_after (leader_at self.old) (leader_at self.new)
+            (round_of message.now) (leader_row_at self.old from message.now) (D.view disk.old) (D.view disk.new) result }
+        ensures stands { OnOk result (IfSome (image_now (D.view disk.new)) (LeaderStands self.new)) }
+        ensures told { OnOk result (TellsAs (image_now (D.view disk.old)) (image_now (D.view disk.new))) }
+        ensures halted { OnErr result (is_leader_halted self.new ≡ true) }
+        ensures running { OnOk result (is_leader_halted self.new ≡ false) }
+        ensures not { (at : ℕ) → IsErrOf result (JournalFault.NotAJournal at) → ⊥ }
+        ensures failed { IsErrOf result JournalFault.Disk → Rose (D.view disk.old).faults (D.view disk.new).faults }
+        ensures onward { Onward (D.view disk.old) (D.view disk.new) }
     {
-        self.opened = BTreeMap::new(alloc);
+        match self.rounds.plan(alloc, self.group, from, message) {
+            Ok(plan) => self.carry_out(alloc, disk, round_of(message), plan),
+            Err(AllocError) => {
+                self.halted = true;
+                Err(JournalFault::NoMemory)
+            }
+        }
+    }
+
+    /// Begins the leader's least ballot above those that it used in a round, if it has one. The ballot is on the disk as
+    /// used before the messages are handed out. After an error the leader is halted.
+    pub fn lead<D: Disk>(
+        &mut self,
+        alloc: Global,
+        disk: &mut D,
+        round: Round,
+    ) -> Result<Stepped, JournalFault>
+        requires running { is_leader_halted self.old ≡ false }
+        requires stands { IfSome (image_now (D.view disk.old)) (LeaderStands self.old) }
+        ensures same { IsSameLeader self.old self.new }
+        ensures done { CarriesOut (MakeLeader self.old.group.members) leader_after (leader_at self.old) (leader_at self.new)
+            round (lead_at self.old round) (D.view disk.old) (D.view disk.new) result }
+        ensures stands { OnOk result (IfSome (image_now (D.view disk.new)) (LeaderStands self.new)) }
+        ensures told { OnOk result (TellsAs (image_now (D.view disk.old)) (image_now (D.view disk.new))) }
+        ensures halted { OnErr result (is_leader_halted self.new ≡ true) }
+        ensures running { OnOk result (is_leader_halted self.new ≡ false) }
+        ensures not { (at : ℕ) → IsErrOf result (JournalFault.NotAJournal at) → ⊥ }
+        ensures failed { IsErrOf result JournalFault.Disk → Rose (D.view disk.old).faults (D.view disk.new).faults }
+        ensures onward { Onward (D.view disk.old) (D.view disk.new) }
+    {
+        match self.rounds.plan_lead(alloc, self.group, self.here, round) {
+            Ok(plan) => self.carry_out(alloc, disk, round, plan),
+            Err(AllocError) => {
+                self.halted = true;
+                Err(JournalFault::NoMemory)
+            }
+        }
     }
 }

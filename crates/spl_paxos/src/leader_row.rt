@@ -58,7 +58,7 @@ fn begins(alloc: Global, group: Group, round: Round, ballot: u64) -> Result<Lead
     })
 }
 
-/// What leading gives at a leader of this number that used this ballot. An error comes for want of memory alone.
+/// What leading gives at a leader of this number that used this ballot. The only error is that memory ran out.
 pub(crate) fn on_lead(
     alloc: Global,
     group: Group,
@@ -142,7 +142,7 @@ fn counts_promise(
     })
 }
 
-/// What a promise of an acceptor gives at a leader with this open ballot. An error comes for want of memory alone.
+/// What a promise of an acceptor gives at a leader with this open ballot. The only error is that memory ran out.
 pub(crate) fn on_promise(
     alloc: Global,
     group: Group,

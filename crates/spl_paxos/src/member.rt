@@ -1,164 +1,227 @@
-//! A member: what it keeps of all rounds, and what its steps give.
+//! A member over its disk.
 ghost use Rattle.std.specs.Prelude.{◌≤◌};
 
-use crate::MemberPlan;
-use crate::kept::Kept;
-use crate::member_row::{member_row, on_vote};
-use spl_acceptor::{Acceptance, Group, Name, PaxosMsg, PaxosRecord, Stepped, round_kept, round_of};
+use crate::member_row::on_vote;
+use crate::{MemberPlan, MemberRounds};
+use spl_acceptor::{Group, Name, PaxosLog, PaxosMsg, Stepped, round_of};
 use spl_agree::Round;
+use spl_edge::Disk;
+use spl_journal::JournalFault;
 use std::alloc::{AllocError, Global};
-use std::collections::BTreeMap;
 
-/// A member: its number, the run that it is in, and of each round what it keeps durably and, in memory alone, what it
-/// counted. A look-up takes time by the logarithm of the number of rounds.
+/// A member of a run: its number there, what it keeps of all rounds, and the journal that makes the durable part again.
 #[derive(Drop)]
 pub struct PaxosMember {
     pub(crate) here: u8,
     pub(crate) group: Group,
-    pub(crate) kept: BTreeMap<u64, Kept>,
-    pub(crate) counted: BTreeMap<u64, Vec<Acceptance>>,
+    pub(crate) rounds: MemberRounds,
+    pub(crate) log: PaxosLog,
+    pub(crate) halted: bool,
+    ghost small: { group.members ≤ 8 },
     ghost few: { group.faults ≤ 2 },
 }
 
 impl PaxosMember {
-    ghost use Rattle.std.specs.Prelude.{◌≡◌, ℕ, None, OnOk, IfOk};
-    ghost use Rattle.spl_acceptor.specs.Processes.{new_member, stopped_member};
+    ghost use Rattle.std.specs.Prelude.{◌≡◌, ℕ, true, false, None, Err, OnOk, OnErr, IfOk, IfSome, IsErrOf};
+    ghost use Rattle.spl_edge.specs.Calls.{Onward};
+    ghost use Rattle.spl_edge.specs.Causes.{Rose};
+    ghost use Rattle.spl_edge.specs.Image.{IsSettled};
+    ghost use Rattle.spl_edge.specs.Views.{image_now};
+    ghost use Rattle.spl_journal.specs.Make.{IsBlank};
+    ghost use Rattle.spl_journal.specs.Reads.{Stays};
+    ghost use Rattle.spl_acceptor.specs.Logs.{records_on, StandFor, TellsAs};
+    ghost use Rattle.spl_acceptor.specs.Processes.{new_member};
     ghost use Rattle.spl_acceptor.specs.Quorums.{IsWithin};
-    ghost use Rattle.spl_acceptor.specs.Records.{round_kept, member_with};
-    ghost use Rattle.spl_acceptor.specs.Rows.{on_vote, member_row, member_after, member_changed, member_moved};
+    ghost use Rattle.spl_acceptor.specs.Records.{own, member_of, MakeMember};
+    ghost use Rattle.spl_acceptor.specs.Rows.{on_vote, member_after};
+    ghost use Rattle.spl_acceptor.specs.Steps.{WritesIn, CarriesOut};
     ghost use Rattle.spl_acceptor.specs.Worlds.{round_of};
-    ghost use Rattle.spl_paxos.specs.Kept.{IsChangedAt};
-    ghost use Rattle.spl_paxos.specs.Members.{member_in, IsSameMember};
-    ghost use Rattle.spl_paxos.specs.Plans.{counting, member_plan};
+    ghost use Rattle.spl_paxos.specs.Plans.{member_plan};
+    ghost use Rattle.spl_paxos.specs.Stands.{run_with, member_at, member_row_at, is_member_halted, IsSameMember, MemberStands};
 
-    /// A member that keeps nothing of any round; nothing is allocated.
-    pub fn new(alloc: Global, here: u8, group: Group) -> PaxosMember
-        requires members { (2 ≤ group.members) × (group.members ≤ 8) }
-        requires faults { group.faults ≤ 2 }
-        requires own { IsWithin group.members here }
-        ensures here { result.here ≡ here }
-        ensures group { result.group ≡ group }
-        ensures none { (r : ℕ) → member_in result r ≡ new_member }
+    /// A member that keeps nothing; its journal is made on a blank disk, by four calls.
+    pub fn create<D: Disk>(
+        alloc: Global,
+        disk: &mut D,
+        here: u8,
+        members: u8,
+        faults: u8,
+    ) -> Result<PaxosMember, JournalFault>
+        requires members { (2 ≤ members) × (members ≤ 8) }
+        requires faults { faults ≤ 2 }
+        requires own { IsWithin members here }
+        requires blank { IfSome (image_now (D.view disk.old)) IsBlank }
+        ensures here { IfOk result (λ m. m.here ≡ here) }
+        ensures group { IfOk result (λ m. m.group ≡ run_with members faults) }
+        ensures none { IfOk result (λ m. (r : ℕ) → member_at m r ≡ new_member) }
+        ensures running { IfOk result (λ m. is_member_halted m ≡ false) }
+        ensures stands { IfOk result (λ m. IfSome (image_now (D.view disk.new)) (MemberStands m)) }
+        ensures told { OnOk result (TellsAs (image_now (D.view disk.old)) (image_now (D.view disk.new))) }
+        ensures not { (at : ℕ) → IsErrOf result (JournalFault.NotAJournal at) → ⊥ }
+        ensures failed { IsErrOf result JournalFault.Disk → Rose (D.view disk.old).faults (D.view disk.new).faults }
+        ensures onward { Onward (D.view disk.old) (D.view disk.new) }
     {
-        PaxosMember {
-            here,
-            group,
-            kept: BTreeMap::new(alloc),
-            counted: BTreeMap::new(alloc),
+        match PaxosLog::create(alloc, disk) {
+            Ok(log) => Ok(PaxosMember {
+                here,
+                group: Group { members, faults },
+                rounds: MemberRounds::new(alloc),
+                log,
+                halted: false,
+            }),
+            Err(fault) => Err(fault),
         }
+    }
+
+    /// The member that the records of a disk make, on which nothing is pending; nothing is counted. Records of other
+    /// processes are passed over. The disk is no journal of records at the place that the fault reports.
+    pub fn open<D: Disk>(
+        alloc: Global,
+        disk: &mut D,
+        here: u8,
+        members: u8,
+        faults: u8,
+    ) -> Result<PaxosMember, JournalFault>
+        requires members { (2 ≤ members) × (members ≤ 8) }
+        requires faults { faults ≤ 2 }
+        requires own { IsWithin members here }
+        requires settled { IfSome (image_now (D.view disk.old)) IsSettled }
+        ensures here { IfOk result (λ m. m.here ≡ here) }
+        ensures group { IfOk result (λ m. m.group ≡ run_with members faults) }
+        ensures read { IfOk result (λ m. IfSome (image_now (D.view disk.new)) (λ i.
+            StandFor (λ xs. (r : ℕ) → member_of (own members xs) r ≡ member_at m r) i.bytes)) }
+        ensures running { IfOk result (λ m. is_member_halted m ≡ false) }
+        ensures stands { IfOk result (λ m. IfSome (image_now (D.view disk.new)) (MemberStands m)) }
+        ensures not { (at : ℕ) → IsErrOf result (JournalFault.NotAJournal at) → IfSome (image_now (D.view disk.old)) (λ i. records_on i.bytes ≡ Err at) }
+        ensures failed { IsErrOf result JournalFault.Disk → Rose (D.view disk.old).faults (D.view disk.new).faults }
+        ensures stays { Stays (D.view disk.old) (D.view disk.new) }
+        ensures onward { Onward (D.view disk.old) (D.view disk.new) }
+    {
+        let mut rounds = MemberRounds::new(alloc);
+        match PaxosLog::open(alloc, disk, members, &mut rounds) {
+            Ok(log) => Ok(PaxosMember {
+                here,
+                group: Group { members, faults },
+                rounds,
+                log,
+                halted: false,
+            }),
+            Err(fault) => Err(fault),
+        }
+    }
+
+    /// Whether a call failed, so that the disk has to be read again.
+    pub fn is_halted(&self) -> bool
+        ensures { result ≡ is_member_halted self.now }
+    {
+        self.halted || self.log.is_halted()
     }
 
     /// The vote that is kept in a round; None exactly where the member has none there.
     pub fn voted(&self, round: Round) -> Option<bool>
-        ensures { result ≡ (member_in self.now round).vote }
+        ensures { result ≡ (member_at self.now round).vote }
     {
-        match self.kept.get(&round.0) {
-            None => None,
-            Some(kept) => kept.vote,
-        }
+        self.rounds.voted(round)
     }
 
     /// The decision that is kept in a round; None exactly where the member has none there.
     pub fn decision(&self, round: Round) -> Option<bool>
-        ensures { result ≡ (member_in self.now round).decision }
+        ensures { result ≡ (member_at self.now round).decision }
     {
-        match self.kept.get(&round.0) {
-            None => None,
-            Some(kept) => kept.decision,
-        }
+        self.rounds.decision(round)
     }
 
-    /// What a vote gives; nothing is changed yet. An error comes for want of memory alone.
-    pub fn plan_vote(
-        &self,
-        alloc: Global,
-        round: Round,
-        yes: bool,
-    ) -> Result<MemberPlan, AllocError>
-        requires unvoted { (member_in self.now round).vote ≡ None }
-        ensures { IfOk result (λ p. member_plan p ≡ on_vote self.now.group self.now.here round yes) }
-    {
-        on_vote(alloc, self.group, self.here, round, yes)
-    }
-
-    /// What a message gives; nothing is changed yet.
-    pub fn plan(&self, alloc: Global, from: Name, message: &PaxosMsg) -> MemberPlan
-        ensures { member_plan result ≡ member_row self.now.group (member_in self.now (round_of message.now)) from message.now }
-    {
-        let round = round_of(message);
-        let decision = self.decision(round);
-        match self.counted.get(&round.0) {
-            None => member_row(alloc, self.group, decision, &[], from, message),
-            Some(counted) => member_row(alloc, self.group, decision, counted, from, message),
-        }
-    }
-
-    fn keep(&mut self, round: Round, change: &PaxosRecord) -> Result<(), AllocError>
-        ensures same { IsSameMember self.old self.new }
-        ensures kept { OnOk result (IsChangedAt (member_in self.old) round (λ m. member_with m change.now) (member_in self.new)) }
-    {
-        let kept = match self.kept.get(&round.0) {
-            None => Kept::NONE,
-            Some(kept) => *kept,
-        };
-        self.kept.insert(round.0, kept.with(change))?;
-        Ok(())
-    }
-
-    fn count(&mut self, alloc: Global, round: Round, heard: Acceptance) -> Result<(), AllocError>
-        ensures same { IsSameMember self.old self.new }
-        ensures counted { OnOk result (IsChangedAt (member_in self.old) round (λ m. member_moved m (counting (Some heard))) (member_in self.new)) }
-    {
-        if let Some(counted) = self.counted.get_mut(&round.0) {
-            counted.insert(0, heard)?;
-            return Ok(());
-        }
-        let mut counted = Vec::new(alloc);
-        counted.push(heard)?;
-        self.counted.insert(round.0, counted)?;
-        Ok(())
-    }
-
-    /// Makes the change of a record that was read from a disk, at its round. An error comes for want of memory alone.
-    pub fn replay(&mut self, change: &PaxosRecord) -> Result<(), AllocError>
-        ensures same { IsSameMember self.old self.new }
-        ensures kept { OnOk result (IsChangedAt (member_in self.old) (round_kept change.now) (λ m. member_with m change.now) (member_in self.new)) }
-    {
-        self.keep(round_kept(change), change)
-    }
-
-    /// Carries out a plan in its round: its record's change is made, and what it counts is counted. An error comes for want
-    /// of memory alone; what is kept may then be less.
-    pub fn apply(
+    /// Keeps the record of a plan, where it has one, and then carries it out in its round.
+    fn carry_out<D: Disk>(
         &mut self,
         alloc: Global,
+        disk: &mut D,
         round: Round,
         plan: MemberPlan,
-    ) -> Result<Stepped, AllocError>
+    ) -> Result<Stepped, JournalFault>
+        requires running { is_member_halted self.old ≡ false }
+        requires writes { WritesIn round self.old.group.members (member_plan plan) }
+        requires stands { IfSome (image_now (D.view disk.old)) (MemberStands self.old) }
         ensures same { IsSameMember self.old self.new }
-        ensures done { OnOk result (IsChangedAt (member_in self.old) round (λ m. member_after m (member_plan plan)) (member_in self.new)) }
-        ensures told { IfOk result (λ s. (s.note ≡ plan.note) × (s.sends ≡ plan.sends)) }
+        ensures done { CarriesOut (MakeMember self.old.group.members) member_after (member_at self.old) (member_at self.new)
+            round (member_plan plan) (D.view disk.old) (D.view disk.new) result }
+        ensures stands { OnOk result (IfSome (image_now (D.view disk.new)) (MemberStands self.new)) }
+        ensures told { OnOk result (TellsAs (image_now (D.view disk.old)) (image_now (D.view disk.new))) }
+        ensures halted { OnErr result (is_member_halted self.new ≡ true) }
+        ensures running { OnOk result (is_member_halted self.new ≡ false) }
+        ensures not { (at : ℕ) → IsErrOf result (JournalFault.NotAJournal at) → ⊥ }
+        ensures failed { IsErrOf result JournalFault.Disk → Rose (D.view disk.old).faults (D.view disk.new).faults }
+        ensures onward { Onward (D.view disk.old) (D.view disk.new) }
     {
-        let MemberPlan {
-            note,
-            change,
-            count,
-            sends,
-        } = plan;
-        if let Some(change) = change {
-            self.keep(round, &change)?;
+        self.halted = true;
+        if let Err(fault) = self.log.keep(alloc, disk, &plan.change) {
+            return Err(fault);
         }
-        if let Some(heard) = count {
-            self.count(alloc, round, heard)?;
+        match self.rounds.apply(alloc, round, plan) {
+            Ok(stepped) => {
+                self.halted = false;
+                Ok(stepped)
+            }
+            Err(AllocError) => Err(JournalFault::NoMemory),
         }
-        Ok(Stepped { note, sends })
     }
 
-    /// Forgets what a stop forgets, which is what the member counted.
-    pub fn restart(&mut self, alloc: Global)
+    /// What a message gives. Its record, where it has one, is on the disk before the messages are handed out: a stop at
+    /// any moment leaves records that make what was kept before the step, or what is kept after it. After an error the
+    /// member is halted.
+    pub fn step<D: Disk>(
+        &mut self,
+        alloc: Global,
+        disk: &mut D,
+        from: Name,
+        message: &PaxosMsg,
+    ) -> Result<Stepped, JournalFault>
+        requires running { is_member_halted self.old ≡ false }
+        requires stands { IfSome (image_now (D.view disk.old)) (MemberStands self.old) }
         ensures same { IsSameMember self.old self.new }
-        ensures kept { (r : ℕ) → member_in self.new r ≡ stopped_member (member_in self.old r) }
+        ensures done { CarriesOut (MakeMember self.old.group.members) member_after (member_at self.old) (member_at self.new)
+            (round_of message.now) (member_row_at self.old from message.now) (D.view disk.old) (D.view disk.new) result }
+        ensures stands { OnOk result (IfSome (image_now (D.view disk.new)) (MemberStands self.new)) }
+        ensures told { OnOk result (TellsAs (image_now (D.view disk.old)) (image_now (D.view disk.new))) }
+        ensures halted { OnErr result (is_member_halted self.new ≡ true) }
+        ensures running { OnOk result (is_member_halted self.new ≡ false) }
+        ensures not { (at : ℕ) → IsErrOf result (JournalFault.NotAJournal at) → ⊥ }
+        ensures failed { IsErrOf result JournalFault.Disk → Rose (D.view disk.old).faults (D.view disk.new).faults }
+        ensures onward { Onward (D.view disk.old) (D.view disk.new) }
     {
-        self.counted = BTreeMap::new(alloc);
+        let plan = self.rounds.plan(alloc, self.group, from, message);
+        self.carry_out(alloc, disk, round_of(message), plan)
+    }
+
+    /// A vote in a round in which the member has none. It is on the disk before the messages are handed out. After an
+    /// error the member is halted.
+    pub fn vote<D: Disk>(
+        &mut self,
+        alloc: Global,
+        disk: &mut D,
+        round: Round,
+        yes: bool,
+    ) -> Result<Stepped, JournalFault>
+        requires unvoted { (member_at self.old round).vote ≡ None }
+        requires running { is_member_halted self.old ≡ false }
+        requires stands { IfSome (image_now (D.view disk.old)) (MemberStands self.old) }
+        ensures same { IsSameMember self.old self.new }
+        ensures done { CarriesOut (MakeMember self.old.group.members) member_after (member_at self.old) (member_at self.new)
+            round (on_vote self.old.group self.old.here round yes) (D.view disk.old) (D.view disk.new) result }
+        ensures stands { OnOk result (IfSome (image_now (D.view disk.new)) (MemberStands self.new)) }
+        ensures told { OnOk result (TellsAs (image_now (D.view disk.old)) (image_now (D.view disk.new))) }
+        ensures halted { OnErr result (is_member_halted self.new ≡ true) }
+        ensures running { OnOk result (is_member_halted self.new ≡ false) }
+        ensures not { (at : ℕ) → IsErrOf result (JournalFault.NotAJournal at) → ⊥ }
+        ensures failed { IsErrOf result JournalFault.Disk → Rose (D.view disk.old).faults (D.view disk.new).faults }
+        ensures onward { Onward (D.view disk.old) (D.view disk.new) }
+    {
+        match on_vote(alloc, self.group, self.here, round, yes) {
+            Ok(plan) => self.carry_out(alloc, disk, round, plan),
+            Err(AllocError) => {
+                self.halted = true;
+                Err(JournalFault::NoMemory)
+            }
+        }
     }
 }

@@ -109,7 +109,7 @@ pub(crate) fn member_row(
     }
 }
 
-/// What a vote gives at a member of this number. An error comes for want of memory alone.
+/// What a vote gives at a member of this number. The only error is that memory ran out.
 pub(crate) fn on_vote(
     alloc: Global,
     group: Group,

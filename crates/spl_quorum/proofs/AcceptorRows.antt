@@ -21,7 +21,7 @@ same_number j i = go (bool_cases (eqb j i))
     go (inl q) = inl (eqb_is j i q)
     go (inr q) = inr (eqb_not j i q)
 
--- it promised a ballot that isn't below, and tells what it accepted
+-- it promised a ballot that isn't below, and says what it accepted
 pub promises-sound : (g : Group) (w : Round) (a b : ℕ) (x : Acceptor) (pairs : Pairs) → (w.acceptor a).promised ≤ b → x.promised ≡ b → x.accepted ≡ (w.acceptor a).accepted
     → ((i : ℕ) (z : Pair) → pairs i ≡ Some z → (w.acceptor a).accepted i ≡ Some z)
     → ((i : ℕ) → IsWithin g.members i → pairs i ≡ (w.acceptor a).accepted i)
@@ -114,7 +114,7 @@ accepts-sound g w a i b p x sends l eb ei ej asked only has s = acceptor-sound g
             let h : (b, p) ≡ y = cc in
             inr (subst (λ (z : Pair). Accepts v.sent a j z.0 z.1) h (subst (λ (z : ℕ). Accepts v.sent a z b p) (sym k) (was-front (Accepted a i b p) sends w.sent has)))
 
--- it tells what it promised, and nothing else
+-- it says what it promised, and nothing else
 pub declines-sound : (g : Group) (w : Round) (a b : ℕ) → Sound g w → Sound g (with_acceptor w a (w.acceptor a) (Higher b ∷ []))
 declines-sound g w a b s = acceptor-sound g w a (w.acceptor a) (Higher b ∷ []) (at_most_self _) (λ i c k y. y) given promised none (λ i y e. inl e) s
   where

@@ -13,7 +13,10 @@ use Rattle.spl_acceptor.specs.Processes.{Pairs, Acceptor, Member, Ballot, Leader
 use Rattle.spl_acceptor.specs.declared.message.Acceptance.{Acceptance}
 use Rattle.spl_acceptor.specs.declared.group.Group.{Group}
 use Rattle.spl_acceptor.specs.Rows.{PaxosPlan, nothing, member, acceptor, leader, is_leader_of, to_each, to_acceptors, on_vote, has_accepted, is_chosen, is_prepared, on_accepted, member_row, pledges, may_order, acceptor_row, next_ballot, begins, on_lead, pair_among, choice, orders, counts_promise, on_promise, leader_row}
-use Rattle.spl_acceptor.specs.Worlds.{World, Sent, has_name, first_world, message_at, posted, at_leader, Happening, Votes, Leads, Delivers, Shows, Stops, Starts, Down, PaxosAnswer, Told, Refused, answer, round_of, heard, delivered, happens, run, world_behind}
+use Rattle.spl_acceptor.specs.Worlds.{World, Sent, has_name, first_world, message_at, posted, at_leader, Happening, Votes, Leads, Delivers, Shows, Stops, Starts, answer, round_of, heard, delivered, happens, run, world_behind}
+use Rattle.spl_acceptor.specs.declared.answer.PaxosAnswer.{PaxosAnswer}
+use Rattle.spl_acceptor.specs.declared.answer.PaxosAnswer.TheVariants.{Told, Refused}
+use Rattle.spl_acceptor.specs.declared.answer.PaxosRefusal.TheVariants.{Down}
 use Rattle.spl_quorum.proofs.Round.{Was}
 use Rattle.spl_quorum.proofs.Tests.{was-split}
 use Rattle.spl_quorum.proofs.Said.{Sends, each-is, orders-from}

@@ -15,7 +15,7 @@ use Rattle.spl_quorum.specs.Settling.{for_each}
 use Rattle.spl_quorum.proofs.Lists.{append-nil, numbered-front, pair-append, pair-other}
 use Rattle.spl_quorum.proofs.Runs.{run-append, delivered-up}
 
--- more was sent, behind what was
+-- more was sent, after what was
 abbrev pub Grows : World → World → Type 0
 Grows w v = (extra : List Sent) × (v.sent ≡ w.sent ++ extra)
 

@@ -9,7 +9,7 @@ use Rattle.spl_acceptor.specs.Rows.{leader_of}
 use Rattle.spl_quorum.proofs.Round.{Message, Ask, Accept, Promise, Accepted, Round, Was}
 use Rattle.spl_quorum.proofs.Soundness.{Accepts, Chosen, Blocked, Covers, Given, Promised, Ordered, Opened, Reason, Sound}
 
--- the later world: messages and votes stay, numbers grow, what is accepted anew isn't below the promise, what is opened anew is above what was used
+-- the later world: messages and votes stay, numbers grow, what is accepted again isn't below the promise, what is opened again is above what was used
 pub record Later (v w : Round) : Type 0 where
   pub sent : (x : Message) → Was x v.sent → Was x w.sent
   pub promised : (a : ℕ) → (v.acceptor a).promised ≤ (w.acceptor a).promised

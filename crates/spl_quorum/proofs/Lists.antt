@@ -20,7 +20,7 @@ pub length-append : {A : Type 0} (xs ys : List A) → length (xs ++ ys) ≡ leng
 length-append [] ys = omega arith
 length-append (x ∷ xs) ys = let e : length (xs ++ ys) ≡ length xs + length ys = length-append xs ys in omega arith
 
--- what stands behind a front
+-- what stands after a prefix
 pub slice-behind : {A : Type 0} (xs ys : List A) (k : ℕ) → slice_get (xs ++ ys) (length xs + k) ≡ slice_get ys k
 slice-behind {A} [] ys k = let e : length {A = A} [] + k ≡ k = omega arith in ap (slice_get ys) e
 slice-behind (x ∷ xs) ys k = let e : length (x ∷ xs) + k ≡ suc (length xs + k) = omega arith in ap (slice_get (x ∷ (xs ++ ys))) e ∙ slice-behind xs ys k

@@ -8,7 +8,7 @@ use Rattle.spl_acceptor.specs.Processes.{Pair, Pairs}
 use Rattle.spl_acceptor.specs.Rows.{pledge_of, pledges, pair_among}
 use Rattle.spl_quorum.proofs.AcceptorRows.{same_number}
 
--- a pair among pledges is the same with others behind
+-- a pair among pledges is the same with others after
 append-some : (xs ys : List Pledge) (i : ℕ) (z : Pair) → pair_among xs i ≡ Some z → pair_among (xs ++ ys) i ≡ Some z
 append-some [] ys i z e = cc
 append-some (x ∷ xs) ys i z e = go (x.member == i) (append-some xs ys i z) e
@@ -17,7 +17,7 @@ append-some (x ∷ xs) ys i z e = go (x.member == i) (append-some xs ys i z) e
     go true ih e = e
     go false ih e = ih e
 
--- and where there is none it is the one behind
+-- and where there is none it is the one after
 append-none : (xs ys : List Pledge) (i : ℕ) → pair_among xs i ≡ None → pair_among (xs ++ ys) i ≡ pair_among ys i
 append-none [] ys i e = refl
 append-none (x ∷ xs) ys i e = go (x.member == i) (append-none xs ys i) e

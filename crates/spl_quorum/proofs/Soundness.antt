@@ -1,4 +1,4 @@
--- What holds behind every event of a round.
+-- What holds after every event of a round.
 use Rattle.std.specs.Prelude.{ℕ, zero, ◌<◌, ◌≤◌, ◌≡◌, ◌≢◌, Bool, true, false, List, Option, Some}
 use Rattle.spl_acceptor.specs.Quorums.{IsWithin, acceptors}
 use Rattle.spl_acceptor.specs.Processes.{Pair, Pairs, Ballot}

@@ -23,7 +23,7 @@ below-is m n l = grind (arith)
 
 -- ---- a ballot is begun
 
--- what there is behind it
+-- what there is after it
 pub record Begun (l r b : ℕ) (w v : World) : Type 0 where
   pub up : v.up ≡ w.up
   pub acceptors_same : v.acceptor ≡ w.acceptor

@@ -1,10 +1,11 @@
 -- That a leader began a ballot of a round (docs/RULES.md, Paxos Commit).
 use Rattle.std.specs.Prelude.{◌≡◌, ℕ, List, ◌∷◌, ◌++◌}
 use Rattle.spl_acceptor.specs.declared.group.Group.{Group}
-use Rattle.spl_acceptor.specs.Worlds.{Happening, Leads, Told, answer, world_behind}
+use Rattle.spl_acceptor.specs.Worlds.{Happening, Leads, answer, world_behind}
+use Rattle.spl_acceptor.specs.declared.answer.PaxosAnswer.TheVariants.{Told}
 use Rattle.spl_acceptor.specs.declared.note.PaxosNote.TheVariants as note
 
--- one of these lines told a leader to lead in the round, and was answered with a ballot
+-- one of these lines reported a leader to lead in the round, and was answered with a ballot
 pub record HasBegun (g : Group) (es : List Happening) (r : ℕ) : Type 0 where
   pub before : List Happening
   pub here : ℕ

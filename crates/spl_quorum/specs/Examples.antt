@@ -2,7 +2,10 @@
 use Rattle.std.specs.Prelude.{true, false, List, [], ◌∷◌}
 use Rattle.spl_acceptor.specs.declared.group.Group.{Group}
 use Rattle.spl_acceptor.specs.Rows.{member, acceptor, leader}
-use Rattle.spl_acceptor.specs.Worlds.{Happening, Votes, Leads, Delivers, Shows, Stops, PaxosAnswer, Told, Undecided, IsDown, Refused, Voted}
+use Rattle.spl_acceptor.specs.Worlds.{Happening, Votes, Leads, Delivers, Shows, Stops}
+use Rattle.spl_acceptor.specs.declared.answer.PaxosAnswer.{PaxosAnswer}
+use Rattle.spl_acceptor.specs.declared.answer.PaxosAnswer.TheVariants.{Told, Undecided, IsDown, Refused}
+use Rattle.spl_acceptor.specs.declared.answer.PaxosRefusal.TheVariants.{Voted}
 use Rattle.spl_acceptor.specs.declared.note.PaxosNote.TheVariants as note
 
 -- two members vote yes, and one of them hears that both votes were accepted

@@ -5,10 +5,10 @@ ghost use Rattle.spl_acceptor.specs.Rows.{member, acceptor, leader};
 ghost use Rattle.spl_acceptor.specs.Worlds.{Happening, run, world_behind};
 ghost use Rattle.spl_quorum.specs.Settling.{Was, Distinct, CanSettle, settling};
 
-/// Behind any schedule, where a leader and F + 1 acceptors are up and nothing comes between: two
+/// After any schedule, where a leader and F + 1 acceptors are up and nothing comes between: two
 /// turns of the leader at these acceptors, and the delivery of the second ballot's orders to each
 /// of them and of what they accepted to members, leave each of these members that is up decided.
-/// Their numbers in the round have to leave room for two ballots, which they do behind every
+/// Their numbers in the round have to leave room for two ballots, which they do after every
 /// schedule that isn't very long.
 pub fn leaders_settle()
     ensures room { (g : Group) (es : List Happening) (l r : ℕ) (those ms : List ℕ) →

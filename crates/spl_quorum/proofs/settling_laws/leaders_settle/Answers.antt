@@ -8,7 +8,7 @@ use Rattle.spl_quorum.proofs.Low.{behind-low}
 use Rattle.spl_quorum.proofs.Settled.{settles}
 use Rattle.spl_quorum.proofs.settling_laws.leaders_settle.Goals as goal
 
--- behind a schedule that isn't too long there is room
+-- after a schedule that isn't too long there is room
 short-settles : (g : Group) (es : List Happening) (l r : ℕ) (those ms : List ℕ) → 1 ≤ g.members → (world_behind g es).up (leader l) ≡ true → ((a : ℕ) → Was a those → (world_behind g es).up (acceptor a) ≡ true)
     → Distinct those → suc g.faults ≤ length those → 3 * length es + 6 < 2 ^ 64 → (m : ℕ) → Was m ms → (world_behind g es).up (member m) ≡ true
     → (d : Bool) × (((run g (world_behind g es) (settling g (world_behind g es) l r those ms)).member m r).decision ≡ Some d)

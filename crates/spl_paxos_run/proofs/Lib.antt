@@ -1,0 +1,5 @@
+pub mod Pairs
+pub mod Processes
+pub mod Moves
+pub mod Seating
+pub mod Hearings

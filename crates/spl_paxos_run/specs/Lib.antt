@@ -1,0 +1,4 @@
+pub mod Posts
+pub mod Schedule
+pub mod States
+pub mod Seats
