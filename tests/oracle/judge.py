@@ -1,0 +1,128 @@
+"""What a run over links may leave, wherever it ended (docs/RULES.md, Links, Journals, Statuses): files of one moment of the run, a
+prefix of its output that the files have caught up with, and a status with its text."""
+import importlib.machinery
+import importlib.util
+import pathlib
+import re
+
+from disks import Disk, NotAJournal, head, read
+from links import NAMES_NO_CIRCUIT, PASSES, Files
+from registries import nodes_of
+
+TEXTS = {
+    4: r"too many (events|stops)",
+    5: r"read failed",
+    6: r"write failed",
+    7: r"disk of ([a-z0-9-]+) failed",
+    8: r"link failed",
+    9: r"link from [a-z0-9-]+ to [a-z0-9-]+ lied",
+    10: r"disk of [a-z0-9-]+ not blank",
+    12: r"out of memory",
+    13: r"disk of [a-z0-9-]+ is not a journal at \d+",
+}
+
+
+def plain_checks():
+    """The program that reads byte forms, as a module."""
+    loader = importlib.machinery.SourceFileLoader("plain_checks", str(pathlib.Path(__file__).parent.parent / "plain-checks"))
+    found = importlib.util.module_from_spec(importlib.util.spec_from_loader("plain_checks", loader))
+    loader.exec_module(found)
+    return found
+
+
+FORMS = plain_checks()
+
+
+def is_record(content):
+    try:
+        return FORMS.record(content, 0) == len(content)
+    except FORMS.Unreadable:
+        return False
+
+
+class Moments(Files):
+    """All nodes, and the records of each journal at each moment so far."""
+
+    def __init__(self, nodes):
+        super().__init__(nodes)
+        self.moments = [dict(self.records)]
+
+    def hold(self, node, records):
+        super().hold(node, records)
+        self.moments.append(dict(self.records))
+
+
+class Whole:
+    """A run to its end, by the plain program: its nodes, moments and output, and at which moment each line was answered."""
+
+    def __init__(self, registry, schedule):
+        self.nodes = nodes_of(registry)
+        self.world = Moments(self.nodes)
+        self.answered = {}
+        self.output = "".join(self.answers(schedule))
+
+    def answers(self, schedule):
+        for number, line in enumerate(schedule.split(b"\n")[:-1], 1):
+            if line and not line.startswith(b"#"):
+                words = line.decode("latin-1").split(" ")
+                yield f"{number} {self.world.run(' '.join(words))}\n"
+                self.answered[number] = len(self.world.moments) - 1
+                if words[0] not in NAMES_NO_CIRCUIT:
+                    self.world.calm(words[2], PASSES)
+
+    def moments_of(self, records, left_out=None):
+        """The moments at which these were the records of all nodes, one of which may be left out."""
+        return [
+            i
+            for i, moment in enumerate(self.world.moments)
+            if all(node == left_out or tuple(records[node]) == tuple(moment[node]) for node in self.nodes)
+        ]
+
+
+def content_of(folder, name):
+    path = folder / name
+    return path.read_bytes() if path.exists() else b""
+
+
+def records_in(folder, position):
+    """The records of a node's two files; none where they are blank or a journal is half made."""
+    first, second = (content_of(folder, f"d{position:02}{letter}") for letter in "ab")
+    if not second and (head(1) + b"\0").startswith(first):
+        return ()
+    return tuple(read([Disk(first), Disk(second)], is_record)[1])
+
+
+def status_faults(whole, status, output, error):
+    """What is wrong with a status, where the run wasn't killed."""
+    if status == 0:
+        if output != whole.output:
+            yield "status 0 with a part of the output"
+        if error:
+            yield f"status 0, and on standard error {error!r:.80}"
+    elif status not in TEXTS:
+        yield f"status {status}, which no run over links has: {error!r:.80}"
+    elif not re.fullmatch(TEXTS[status] + "\n", error):
+        yield f"status {status} with the text {error!r:.80}"
+
+
+def faults(whole, folder, status, output, error, killed):
+    """What is wrong with a run that ended, or was killed."""
+    if not killed:
+        yield from status_faults(whole, status, output, error)
+    if not whole.output.startswith(output):
+        yield f"the output is no prefix: {output[-80:]!r}"
+    named = re.fullmatch(TEXTS[7] + "\n", error) if status == 7 else None
+    try:
+        records = {node: records_in(folder, i) for i, node in enumerate(whole.nodes)}
+    except NotAJournal as why:
+        yield f"a file is {why}"
+        return
+    moments = whole.moments_of(records, named and named[1])
+    if not moments:
+        yield "the files are of no common moment"
+        return
+    last = re.findall(r"(?m)^(\d+) .*\n", output)
+    if last and max(moments) < whole.answered[int(last[-1])]:
+        yield f"line {last[-1]} was answered, and the files are of a moment before"
+    if status == 0 and not killed and max(moments) != len(whole.world.moments) - 1:
+        yield "status 0, and the files are of a moment before the end"
