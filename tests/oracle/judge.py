@@ -6,8 +6,9 @@ import pathlib
 import re
 
 from disks import Disk, NotAJournal, head, read
-from links import NAMES_NO_CIRCUIT, PASSES, Files
+from links import NAMES_NO_CIRCUIT, PASSES, Files, run
 from registries import nodes_of
+from schedules import BadLine, TooMany
 
 TEXTS = {
     4: r"too many (events|stops)",
@@ -53,22 +54,27 @@ class Moments(Files):
 
 
 class Whole:
-    """A run to its end, by the plain program: its nodes, moments and output, and at which moment each line was answered."""
+    """A run to its end, by the plain program: its nodes, output, status and what is said of that, its moments, and at which of
+    them each line was answered."""
 
     def __init__(self, registry, schedule):
         self.nodes = nodes_of(registry)
+        self.output, self.status, self.said, _ = run(self.nodes, schedule)
         self.world = Moments(self.nodes)
         self.answered = {}
-        self.output = "".join(self.answers(schedule))
+        lines = schedule.split(b"\n")
+        try:
+            for number in (int(answer.split(" ")[0]) for answer in self.output.splitlines()):
+                self.answer(number, lines[number - 1].decode("latin-1").split(" "))
+        except (BadLine, TooMany):
+            # A calm passed a limit.
+            pass
 
-    def answers(self, schedule):
-        for number, line in enumerate(schedule.split(b"\n")[:-1], 1):
-            if line and not line.startswith(b"#"):
-                words = line.decode("latin-1").split(" ")
-                yield f"{number} {self.world.run(' '.join(words))}\n"
-                self.answered[number] = len(self.world.moments) - 1
-                if words[0] not in NAMES_NO_CIRCUIT:
-                    self.world.calm(words[2], PASSES)
+    def answer(self, number, words):
+        self.world.run(" ".join(words))
+        self.answered[number] = len(self.world.moments) - 1
+        if words[0] not in NAMES_NO_CIRCUIT:
+            self.world.calm(words[2], PASSES)
 
     def moments_of(self, records, left_out=None):
         """The moments at which these were the records of all nodes, one of which may be left out."""
@@ -92,23 +98,23 @@ def records_in(folder, position):
     return tuple(read([Disk(first), Disk(second)], is_record)[1])
 
 
-def status_faults(whole, status, output, error):
-    """What is wrong with a status, where the run wasn't killed."""
-    if status == 0:
+def status_faults(whole, status, output, error, is_cut):
+    """What is wrong with a status, where the run wasn't killed. The line on standard error may be cut short."""
+    if status == whole.status:
         if output != whole.output:
-            yield "status 0 with a part of the output"
-        if error:
-            yield f"status 0, and on standard error {error!r:.80}"
+            yield f"status {status} with a part of the output"
+        if error != whole.said and not (is_cut and whole.said.startswith(error)):
+            yield f"status {status}, and on standard error {error!r:.80}"
     elif status not in TEXTS:
         yield f"status {status}, which no run over links has: {error!r:.80}"
-    elif not re.fullmatch(TEXTS[status] + "\n", error):
+    elif not is_cut and not re.fullmatch(TEXTS[status] + "\n", error):
         yield f"status {status} with the text {error!r:.80}"
 
 
-def faults(whole, folder, status, output, error, killed):
-    """What is wrong with a run that ended, or was killed."""
+def faults(whole, folder, status, output, error, killed, is_cut=False):
+    """What is wrong with a run that ended, or was killed; `is_cut` where a write failed, of which one is that of the text."""
     if not killed:
-        yield from status_faults(whole, status, output, error)
+        yield from status_faults(whole, status, output, error, is_cut)
     if not whole.output.startswith(output):
         yield f"the output is no prefix: {output[-80:]!r}"
     named = re.fullmatch(TEXTS[7] + "\n", error) if status == 7 else None
@@ -124,5 +130,5 @@ def faults(whole, folder, status, output, error, killed):
     last = re.findall(r"(?m)^(\d+) .*\n", output)
     if last and max(moments) < whole.answered[int(last[-1])]:
         yield f"line {last[-1]} was answered, and the files are of a moment before"
-    if status == 0 and not killed and max(moments) != len(whole.world.moments) - 1:
-        yield "status 0, and the files are of a moment before the end"
+    if status == whole.status and not killed and max(moments) != len(whole.world.moments) - 1:
+        yield f"status {status}, and the files are of a moment before the end"
