@@ -1,7 +1,7 @@
 """Paxos Commit, as docs/RULES.md has it: what a run of a schedule answers."""
 from dataclasses import dataclass, field
 
-from schedules import LONGEST_LINE, MOST_BYTES, MOST_EVENTS, MOST_STOPS, BadLine, TooMany, match, number
+from schedules import MOST_EVENTS, MOST_STOPS, BadLine, TooMany, number, run_in
 
 LEADERS = 3
 MOST_ROUND = 2**64 - 1
@@ -236,21 +236,4 @@ class Paxos:
 
 def run(members, faults, schedule):
     """What is written of a schedule, the status, and what is said of that."""
-    world, written = Paxos(members, faults), []
-    ended = lambda status, said: ("".join(written), status, said)
-    *lines, rest = schedule[:MOST_BYTES].split(b"\n")
-    for count, line in enumerate(lines, 1):
-        try:
-            if len(line) > LONGEST_LINE:
-                raise BadLine
-            if line and not line.startswith(b"#"):
-                written.append(f"{count} {world.run(line.decode('latin-1'))}\n")
-        except BadLine:
-            return ended(3, f"bad schedule: line {count}\n")
-        except TooMany as which:
-            return ended(4, f"{which}\n")
-    if len(schedule) > MOST_BYTES and len(rest) <= LONGEST_LINE:
-        return ended(11, "input too long\n")
-    if rest:
-        return ended(3, f"bad schedule: line {len(lines) + 1}\n")
-    return ended(0, "")
+    return run_in(Paxos(members, faults), schedule)

@@ -363,7 +363,12 @@ class World:
 
 def run(nodes, schedule):
     """What is written over these nodes, the status, and what is said of that."""
-    world, written = World(nodes), []
+    return run_in(World(nodes), schedule)
+
+
+def run_in(world, schedule):
+    """What a world writes of a schedule, the status, and what is said of that."""
+    written = []
     *lines, rest = schedule[:MOST_BYTES].split(b"\n")
     for count, line in enumerate(lines, 1):
         try:
