@@ -216,30 +216,6 @@ impl Run {
         Ok(())
     }
 
-    // What is run of a line, the one of this number.
-    fn read<H: Halt<D>, D: Disk>(
-        &self,
-        alloc: Global,
-        number: u32,
-        line: &[u8],
-    ) -> Result<Option<Line>, RunFault>
-        ensures good { (n : ℕ) → OnOk result (IsAllowed (way H.linked n) self.now.nodes.items line.now) }
-        ensures said { IfOk result (λ o. o ≡ said line.now) }
-        ensures known { IfOk result (λ o. IfSome o (λ l. IsRunnable self.now.nodes.items l)) }
-        ensures taken { IfOk result (λ o. IfSome o (λ l. H.linked ≡ true → is_taken l ≡ true)) }
-        ensures bad { (n m : ℕ) → IsErrOf result (RunFault.BadLine n)
-            → (n ≡ number) × (IsAllowed (way H.linked m) self.now.nodes.items line.now → ⊥) }
-        ensures only { (e : WorldFault) → IsErrOf result (RunFault.World e) → ⊥ }
-        ensures written { IsErrOf result RunFault.Write → ⊥ }
-    {
-        match read_admitted(alloc, &self.nodes, line) {
-            Ok(Some(said)) if H::is_linked() && !is_taken(&said) => Err(RunFault::BadLine(number)),
-            Ok(said) => Ok(said),
-            Err(LineFault::BadLine) => Err(RunFault::BadLine(number)),
-            Err(LineFault::NoMemory) => Err(RunFault::NoMemory),
-        }
-    }
-
     // Runs what a line asks for, and answers it. A line that a schedule may not have there changes nothing.
     fn line<H: Halt<D>, W: Sink, D: Disk, C: Carry, F: Fabric>(
         &mut self,
@@ -275,11 +251,15 @@ impl Run {
         ensures write { IsErrOf result RunFault.Write → Rose (W.view out.old).faults (W.view out.new).faults }
         ensures later { (W.view out.old).faults ≤ (W.view out.new).faults }
     {
-        let Some(said) = self.read::<H, D>(alloc, number, line)? else {
-            return Ok(());
-        };
-        self.answer::<H, W, D, C, F>(alloc, pairs, carrier, fabric, out, number, &said)?;
-        self.settle::<H, D, C, F>(alloc, pairs, carrier, fabric, &said)
+        match read_admitted(alloc, &self.nodes, line) {
+            Ok(None) => Ok(()),
+            Ok(Some(said)) if !H::is_linked() || is_taken(&said) => {
+                self.answer::<H, W, D, C, F>(alloc, pairs, carrier, fabric, out, number, &said)?;
+                self.settle::<H, D, C, F>(alloc, pairs, carrier, fabric, &said)
+            }
+            Ok(Some(_)) | Err(LineFault::BadLine) => Err(RunFault::BadLine(number)),
+            Err(LineFault::NoMemory) => Err(RunFault::NoMemory),
+        }
     }
 
     /// Runs each line that a source gives, up to the first that a schedule may not have there or that ends with an error. It

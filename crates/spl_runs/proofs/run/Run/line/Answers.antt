@@ -1,4 +1,4 @@
-use Rattle.std.proofs.Common.{◌≡◌, ◌∙◌, inl, inr, ℕ, Option, Some, List, [], ◌∷◌, ◌++◌, OnOk, sym, subst, append_assoc}
+use Rattle.std.proofs.Common.{◌≡◌, inl, inr, ℕ, Option, Some, List, [], ◌∷◌, ◌++◌, OnOk, sym, subst, append_assoc, rules}
 use Rattle.std.specs.Prelude.{IsErrOf}
 use Rattle.spl_edge.specs.Views.{bench}
 use Rattle.spl_lines.specs.Tasks.{Task}
@@ -6,87 +6,80 @@ use Rattle.spl_lines.specs.Written.{said}
 use Rattle.spl_sched.specs.declared.line.Line.{Line}
 use Rattle.spl_world.specs.Links.{link_view}
 use Rattle.spl_world.specs.Views.{IsPlace, places_of}
-use Rattle.spl_world.proofs.Results.{err_from, err_same, on_ok}
+use Rattle.spl_world.proofs.Results.{err_from}
 use Rattle.spl_runs.specs.Moments.{AreDone}
 use Rattle.spl_runs.specs.Run.{devices}
 use Rattle.spl_runs.specs.Stops.{StopsBy, StopsWith}
 use Rattle.spl_runs.specs.Tasks.{IsAllowed, after_line, number_of, tasks_of, way}
 use Rattle.spl_runs.specs.declared.fault.RunFault.{RunFault}
-use Rattle.spl_runs.specs.declared.fault.RunFault.TheVariants.{BadLine}
+use Rattle.spl_runs.specs.declared.fault.RunFault.TheVariants.{BadLine, NoMemory}
 use Rattle.spl_runs.proofs.Causes.{causes_as, causes_then}
 use Rattle.spl_runs.proofs.Results.{err_as, err_so}
 use Rattle.spl_runs.proofs.Stops.{stops_more, stops_read}
 use Rattle.spl_runs.proofs.run.Run.line.Goals as goal
 
-pub returns-in_err-said-clause-bad : goal.returns-in_err-said-clause-bad
-returns-in_err-said-clause-bad g c = λ n is.
-    let f = c.in_err-said.field-0.0 in
-    c.in_err-said.ensures.bad n c.args.self.now.unanswered (err_as f (BadLine n) (err_same c.from_residual.result f (BadLine n) c.from_residual.ensures is))
-
-pub returns-in_err-said-clause-ended : goal.returns-in_err-said-clause-ended
-returns-in_err-said-clause-ended g c = λ p ts x h.
-    let f = c.in_err-said.field-0.0 in
+pub returns-in_err-answer-in-Ok-Some-clause-ended : goal.returns-in_err-answer-in-Ok-Some-clause-ended
+returns-in_err-answer-in-Ok-Some-clause-ended g c = λ p ts x h.
     let w = way g.H.Halt.linked c.args.self.now.unanswered in
-    let y = devices (g.W.Sink.view c.args.out.now) (bench g.D.Disk.view c.args.pairs.now.items) (link_view (g.C.Carry.view c.args.carrier.now) (g.F.Fabric.view c.args.fabric.now)) in
-    err_from c.from_residual.result f (λ d. StopsBy d w p (IsAllowed w c.args.self.now.nodes.items c.args.line.now) ts (tasks_of w c.args.number (said c.args.line.now)) c.args.self.now.output x y) c.from_residual.ensures
-    (inl (stops_read g.H.Halt.linked c.args.self.now.unanswered p ts c.args.self.now.world c.args.self.now.output x y h f (λ e q. c.in_err-said.ensures.only e (err_as f _ q)) (λ q. c.in_err-said.ensures.written (err_as f _ q))))
-
-pub returns-in_default-clause-good : goal.returns-in_default-clause-good
-returns-in_default-clause-good g c = c.in_ok-said.ensures.good c.args.self.now.unanswered
-
-pub returns-in_err-answer-clause-ended : goal.returns-in_err-answer-clause-ended
-returns-in_err-answer-clause-ended g c = λ p ts x h.
-    let w = way g.H.Halt.linked c.args.self.now.unanswered in
-    let l : Line = c.in-Some.said in
+    let l : Line = c.in-Ok-Some.said in
     let t : Task = record { number = number_of w c.args.number; line = l } in
-    let said_is : said c.args.line.now ≡ Some l = sym c.in_ok-said.ensures.said ∙ c.in-Some.is in
+    let said_is : said c.args.line.now ≡ Some l = search rules in
+    let good : IsAllowed w c.args.self.now.nodes.items c.args.line.now = search rules in
     let y = devices (g.W.Sink.view c.answer.new.out) (bench g.D.Disk.view c.answer.new.pairs.items) (link_view (g.C.Carry.view c.answer.new.carrier) (g.F.Fabric.view c.answer.new.fabric)) in
-    let f = c.in_err-answer.field-0.0 in
-    err_from c.from_residual-in_err-answer.result f (λ d. StopsBy d w p (IsAllowed w c.args.self.now.nodes.items c.args.line.now) ts (tasks_of w c.args.number (said c.args.line.now)) c.answer.new.self.output x y) c.from_residual-in_err-answer.ensures
+    let f = c.in_err-answer-in-Ok-Some.field-0.0 in
+    err_from c.from_residual.result f (λ d. StopsBy d w p (IsAllowed w c.args.self.now.nodes.items c.args.line.now) ts (tasks_of w c.args.number (said c.args.line.now)) c.answer.new.self.output x y) c.from_residual.ensures
     (inr (
-      c.in_ok-said.ensures.good c.args.self.now.unanswered,
+      good,
       subst (λ (found : Option Line). StopsWith f w p (ts ++ tasks_of w c.args.number found) c.answer.new.self.output x y) (sym said_is)
           (subst (λ (us : List Task). StopsWith f w p us c.answer.new.self.output x y) (append_assoc ts (t ∷ []) (after_line w l))
-          (stops_more w p (ts ++ t ∷ []) c.answer.new.self.output x y f (after_line w l) (λ n q. c.in_err-answer.ensures.good n (err_as f (BadLine n) q)) (c.in_err-answer.ensures.ended p ts x h))),
+          (stops_more w p (ts ++ t ∷ []) c.answer.new.self.output x y f (after_line w l) (λ n q. c.in_err-answer-in-Ok-Some.ensures.good n (err_as f (BadLine n) q)) (c.in_err-answer-in-Ok-Some.ensures.ended p ts x h))),
     ))
 
-pub returns-clause-good : goal.returns-clause-good
-returns-clause-good g c = on_ok c.settle.result (c.in_ok-said.ensures.good c.args.self.now.unanswered)
-
-pub returns-clause-done : goal.returns-clause-done
-returns-clause-done g c = λ p ts x h.
+pub returns-in_ok-answer-in-Ok-Some-clause-done : goal.returns-in_ok-answer-in-Ok-Some-clause-done
+returns-in_ok-answer-in-Ok-Some-clause-done g c = λ p ts x h.
     let u = c.args.self.now.unanswered in
     let w = way g.H.Halt.linked u in
-    let l : Line = c.in-Some.said in
+    let l : Line = c.in-Ok-Some.said in
     let t : Task = record { number = number_of w c.args.number; line = l } in
-    let said_is : said c.args.line.now ≡ Some l = sym c.in_ok-said.ensures.said ∙ c.in-Some.is in
+    let said_is : said c.args.line.now ≡ Some l = search rules in
     let y = devices (g.W.Sink.view c.answer.new.out) (bench g.D.Disk.view c.settle.new.pairs.items) (link_view (g.C.Carry.view c.settle.new.carrier) (g.F.Fabric.view c.settle.new.fabric)) in
     subst (λ (found : Option Line). OnOk c.settle.result (AreDone g.H.Halt.linked p (ts ++ tasks_of w c.args.number found) c.settle.new.self.world c.settle.new.self.output x y)) (sym said_is)
     (subst (λ (us : List Task). OnOk c.settle.result (AreDone g.H.Halt.linked p us c.settle.new.self.world c.settle.new.self.output x y)) (append_assoc ts (t ∷ []) (after_line w l))
-    (c.settle.ensures.done p (ts ++ t ∷ []) x (g.W.Sink.view c.answer.new.out) u (c.in_ok-answer.ensures.done p ts x h)))
+    (c.settle.ensures.done p (ts ++ t ∷ []) x (g.W.Sink.view c.answer.new.out) u (c.in_ok-answer-in-Ok-Some.ensures.done p ts x h)))
 
-pub returns-clause-ended : goal.returns-clause-ended
-returns-clause-ended g c = λ p ts x h.
+pub returns-in_ok-answer-in-Ok-Some-clause-ended : goal.returns-in_ok-answer-in-Ok-Some-clause-ended
+returns-in_ok-answer-in-Ok-Some-clause-ended g c = λ p ts x h.
     let u = c.args.self.now.unanswered in
     let w = way g.H.Halt.linked u in
-    let l : Line = c.in-Some.said in
+    let l : Line = c.in-Ok-Some.said in
     let t : Task = record { number = number_of w c.args.number; line = l } in
-    let said_is : said c.args.line.now ≡ Some l = sym c.in_ok-said.ensures.said ∙ c.in-Some.is in
+    let said_is : said c.args.line.now ≡ Some l = search rules in
+    let good : IsAllowed w c.args.self.now.nodes.items c.args.line.now = search rules in
     let y = devices (g.W.Sink.view c.answer.new.out) (bench g.D.Disk.view c.settle.new.pairs.items) (link_view (g.C.Carry.view c.settle.new.carrier) (g.F.Fabric.view c.settle.new.fabric)) in
     err_so c.settle.result (λ f. StopsWith f w p ((ts ++ t ∷ []) ++ after_line w l) c.settle.new.self.output x y) (λ f. StopsBy f w p (IsAllowed w c.args.self.now.nodes.items c.args.line.now) ts (tasks_of w c.args.number (said c.args.line.now)) c.settle.new.self.output x y)
     (λ f is ended. inr (
-      c.in_ok-said.ensures.good u,
+      good,
       subst (λ (found : Option Line). StopsWith f w p (ts ++ tasks_of w c.args.number found) c.settle.new.self.output x y) (sym said_is)
           (subst (λ (us : List Task). StopsWith f w p us c.settle.new.self.output x y) (append_assoc ts (t ∷ []) (after_line w l)) ended),
     ))
-    (c.settle.ensures.ended p (ts ++ t ∷ []) x (g.W.Sink.view c.answer.new.out) u (c.in_ok-answer.ensures.done p ts x h))
+    (c.settle.ensures.ended p (ts ++ t ∷ []) x (g.W.Sink.view c.answer.new.out) u (c.in_ok-answer-in-Ok-Some.ensures.done p ts x h))
 
-pub returns-clause-causes : goal.returns-clause-causes
-returns-clause-causes g c =
+pub returns-in_ok-answer-in-Ok-Some-clause-causes : goal.returns-in_ok-answer-in-Ok-Some-clause-causes
+returns-in_ok-answer-in-Ok-Some-clause-causes g c =
     let ps = bench g.D.Disk.view c.answer.new.pairs.items in
     let qs = bench g.D.Disk.view c.settle.new.pairs.items in
     let y = link_view (g.C.Carry.view c.answer.new.carrier) (g.F.Fabric.view c.answer.new.fabric) in
     let z = link_view (g.C.Carry.view c.settle.new.carrier) (g.F.Fabric.view c.settle.new.fabric) in
     let P : RunFault → Type 0 = λ f. IsErrOf c.settle.result f in
-    causes_then g.H.Halt.linked _ P (IsPlace (places_of c.args.self.now.world)) (bench g.D.Disk.view c.args.pairs.now.items) ps qs (link_view (g.C.Carry.view c.args.carrier.now) (g.F.Fabric.view c.args.fabric.now)) y z (λ is. absurd cc) c.in_ok-answer.ensures.causes
+    causes_then g.H.Halt.linked _ P (IsPlace (places_of c.args.self.now.world)) (bench g.D.Disk.view c.args.pairs.now.items) ps qs (link_view (g.C.Carry.view c.args.carrier.now) (g.F.Fabric.view c.args.fabric.now)) y z (λ is. absurd cc) c.in_ok-answer-in-Ok-Some.ensures.causes
     (causes_as g.H.Halt.linked P P (IsPlace (places_of c.answer.new.self.world)) (IsPlace (places_of c.args.self.now.world)) ps qs y z (λ q. q) (λ e q. q) (λ k q. subst (λ (ks : List ℕ). IsPlace ks k) c.answer.ensures.places q) c.settle.ensures.causes)
+
+pub returns-in-Err-NoMemory-clause-ended : goal.returns-in-Err-NoMemory-clause-ended
+returns-in-Err-NoMemory-clause-ended g c = λ p ts x h.
+    let y = devices (g.W.Sink.view c.args.out.now) (bench g.D.Disk.view c.args.pairs.now.items) (link_view (g.C.Carry.view c.args.carrier.now) (g.F.Fabric.view c.args.fabric.now)) in
+    inl (stops_read g.H.Halt.linked c.args.self.now.unanswered p ts c.args.self.now.world c.args.self.now.output x y h NoMemory (λ e q. cc) (λ q. cc))
+
+pub returns-in-Ok-Some-2-clause-ended : goal.returns-in-Ok-Some-2-clause-ended
+returns-in-Ok-Some-2-clause-ended g c = λ p ts x h.
+    let y = devices (g.W.Sink.view c.args.out.now) (bench g.D.Disk.view c.args.pairs.now.items) (link_view (g.C.Carry.view c.args.carrier.now) (g.F.Fabric.view c.args.fabric.now)) in
+    inl (stops_read g.H.Halt.linked c.args.self.now.unanswered p ts c.args.self.now.world c.args.self.now.output x y h (BadLine c.args.number) (λ e q. cc) (λ q. cc))
