@@ -90,7 +90,7 @@ prefix-on : {A : Type 0} (xs ys zs : List A) → IsPrefixOf xs ys → IsPrefixOf
 prefix-on {A} xs ys zs p q = (p.0 ++ q.0, sym (append_assoc xs p.0 q.0) ∙ (ap (λ (us : List A). us ++ q.0) p.1 ∙ q.1))
 
 -- from the lines before one to all lines
-list-grows : {V : Type 0} (values : List Change → List V) (none : values [] ≡ []) (leader : NodeId) (d : Definition) (ns : List NodeId) (c : CircuitId) (xs ys : List Ran) → IsPrefixOf (list_from values leader d (empty_world ns) (whole_happened (blank ns) c xs)) (list_from values leader d (empty_world ns) (whole_happened (blank ns) c (xs ++ ys)))
+pub list-grows : {V : Type 0} (values : List Change → List V) (none : values [] ≡ []) (leader : NodeId) (d : Definition) (ns : List NodeId) (c : CircuitId) (xs ys : List Ran) → IsPrefixOf (list_from values leader d (empty_world ns) (whole_happened (blank ns) c xs)) (list_from values leader d (empty_world ns) (whole_happened (blank ns) c (xs ++ ys)))
 list-grows values none leader d ns c xs ys = (
   list_from values leader d (occur (empty_world ns) (whole_happened (blank ns) c xs)) later,
   sym (list-append values none leader d (empty_world ns) (whole_happened (blank ns) c xs) later) ∙ ap (λ (es : List Occurrence). list_from values leader d (empty_world ns) es) (sym (happened-append c (empty_world ns) xs ys)),

@@ -1,2 +1,4 @@
 pub mod Replays
 pub mod LinesAnswered
+pub mod WholeWatched
+pub mod Taking

@@ -16,11 +16,11 @@ use Rattle.spl_delta.specs.Worlds.{Task, Line, OfWatcher, lines_in, asked_in, co
 
 -- ---- the world after tasks is that after the lines among them
 
-watched-lines : (z : Watched) (rs : List Ran) → (lines_watched z rs).world ≡ lines_world z.world rs
+pub watched-lines : (z : Watched) (rs : List Ran) → (lines_watched z rs).world ≡ lines_world z.world rs
 watched-lines z [] = refl
 watched-lines z (r ∷ rs) = watched-lines (record { world = line_world z.world r.line r.kept; watchers = z.watchers }) rs
 
-done-world : (c : CircuitId) (ns : List NodeId) (z : Watched) (ts : List Task) → (tasks_done c ns z ts).world ≡ lines_world z.world (own_among c ns (lines_in ts))
+pub done-world : (c : CircuitId) (ns : List NodeId) (z : Watched) (ts : List Task) → (tasks_done c ns z ts).world ≡ lines_world z.world (own_among c ns (lines_in ts))
 done-world c ns z [] = refl
 done-world c ns z (Line r ∷ ts) =
     done-world c ns (lines_watched z (own_line c ns r)) ts
@@ -57,6 +57,9 @@ module _ (o : Origin) (c : CircuitId) (ts : List Task) where
 
   pub keeps : IsOrigin o → (n : NodeId) → IsCellWithin ns n (o.kept c n)
   keeps i = kept-within ns o c i (all-left (has_node ns) (cells_concern (o.kept c) o.nodes) (lines_concern c (lines_in ts)) both)
+
+  pub asked : are_within ns (asked_in c ts) ≡ true
+  asked = all-right (has_node ns) (cells_concern (o.kept c) o.nodes ++ lines_concern c (lines_in ts)) (asked_in c ts) (within-same ns)
 
   pub concerns : AllConcern ns c (lines_in ts)
   concerns = all-concern ns c (lines_in ts) (all-right (has_node ns) (cells_concern (o.kept c) o.nodes) (lines_concern c (lines_in ts)) both)
