@@ -154,7 +154,7 @@ pub fn write_frame(alloc: Global, body: &[u8]) -> Result<Piece, AllocError>
     requires { length body.now ≤ LONGEST_BODY }
     ensures { IfOk result (λ p. p ≡ frame body.now) }
 {
-    let mut w = Writer::new(alloc);
+    let mut w = Writer::with_room(alloc, body.len() + 6)?;
     w.put_u16(1)?;
     w.put_u32(body.len() as u32)?;
     w.put_raw(body)?;

@@ -1,6 +1,5 @@
 -- Bytes that come one after another on a pair of nodes.
 use Rattle.std.proofs.Common.{◌≡◌, ◌≤◌, ◌<◌, ◌+◌, ◌-◌, ℕ, List, [], ◌∷◌, ◌++◌, length, Option, Some, None, refl, ap, sym, ◌∙◌, append_assoc, append-nil, length-append, length-take, length-drop, take, drop, take-add, take-append-drop, subst, zero, suc, arith}
-use Rattle.std.proofs.lemmas.List.{drop-drop}
 use Rattle.spl_frame.specs.Frames.{frame}
 use Rattle.std.specs.Io.KnownBytes.{append_known}
 use Rattle.spl_edge.specs.Fabrics.{AreTaken, AreLeft, IsOtherPair}
@@ -75,24 +74,20 @@ part_of_front : (from to m : ℕ) (rest piece : List ℕ) (b c : Streams) → pi
 part_of_front from to m rest piece b c is (done, more, parts, grows) = (done, more ++ drop m rest, sym (take-append-drop m rest) ∙ ap (λ (l : List ℕ). l ++ drop m rest) (sym is ∙ parts) ∙ append_assoc done more (drop m rest), grows)
 
 -- where a piece of what is left failed, a prefix of all was put
-pub part_at : (from to n m : ℕ) (bytes rest piece : List ℕ) (a b c : Streams) → rest ≡ drop n bytes → piece ≡ take m rest → Grows from to (take n bytes) a b → GrowsPart from to piece b c → GrowsPart from to bytes a c
-part_at from to n m bytes rest piece a b c left is before part =
-    part_more from to n bytes a b c before (subst (λ (l : List ℕ). GrowsPart from to l b c) left (part_of_front from to m rest piece b c is part))
+pub part_at : (from to n m : ℕ) (bytes piece : List ℕ) (a b c : Streams) → piece ≡ take m (drop n bytes) → Grows from to (take n bytes) a b → GrowsPart from to piece b c → GrowsPart from to bytes a c
+part_at from to n m bytes piece a b c is before part = part_more from to n bytes a b c before (part_of_front from to m (drop n bytes) piece b c is part)
 
-module _ (bytes rest piece got taken got' rest' : List ℕ) (m : ℕ) (left : rest ≡ drop (length got) bytes) (is : piece ≡ take m rest) (le : length taken ≤ length piece) (items : got' ≡ got ++ taken) (cut : rest' ≡ drop (length taken) rest) (fits : length got ≤ length bytes) where
+module _ (bytes piece got taken got' : List ℕ) (m : ℕ) (is : piece ≡ take m (drop (length got) bytes)) (le : length taken ≤ length piece) (items : got' ≡ got ++ taken) (fits : length got ≤ length bytes) where
   long : length got' ≡ length got + length taken
   long = ap length items ∙ length-append got taken
 
   pub within_moved : length got' ≤ length bytes
-  within_moved = omega (arith, long, le, ap length is, length-take m rest, ap length left, length-drop (length got) bytes, fits)
-
-  pub rest_moved : rest' ≡ drop (length got') bytes
-  rest_moved = cut ∙ ap (λ (l : List ℕ). drop (length taken) l) left ∙ drop-drop (length taken) (length got) bytes ∙ ap (λ (n : ℕ). drop n bytes) (sym long)
+  within_moved = omega (arith, long, le, ap length is, length-take m (drop (length got) bytes), length-drop (length got) bytes, fits)
 
   pub front_moved : take (length got) bytes ++ take (length taken) piece ≡ take (length got') bytes
   front_moved =
-      let front : take (length taken) piece ≡ take (length taken) rest = ap (λ (l : List ℕ). take (length taken) l) is ∙ take_front (length taken) m rest (subst (λ (l : List ℕ). length taken ≤ length l) is le) in
-      ap (λ (l : List ℕ). take (length got) bytes ++ l) (front ∙ ap (λ (l : List ℕ). take (length taken) l) left) ∙ sym (take-add (length got) (length taken) bytes) ∙ ap (λ (n : ℕ). take n bytes) (sym long)
+      let front : take (length taken) piece ≡ take (length taken) (drop (length got) bytes) = ap (λ (l : List ℕ). take (length taken) l) is ∙ take_front (length taken) m (drop (length got) bytes) (subst (λ (l : List ℕ). length taken ≤ length l) is le) in
+      ap (λ (l : List ℕ). take (length got) bytes ++ l) front ∙ sym (take-add (length got) (length taken) bytes) ∙ ap (λ (n : ℕ). take n bytes) (sym long)
 
   pub put_moved : (from to : ℕ) (a b c : Streams) → Grows from to (take (length got) bytes) a b → Grows from to (take (length taken) piece) b c → Grows from to (take (length got') bytes) a c
   put_moved from to a b c first second = subst (λ (l : List ℕ). Grows from to l a c) front_moved (grows_more from to (take (length got) bytes) (take (length taken) piece) a b c first second)

@@ -8,17 +8,15 @@ use crate::fault::PumpFault;
 use crate::transfer::transfer;
 use spl_base::{Piece, Value};
 use spl_edge::Fabric;
-use spl_frame::{frames_are_read_back, frames_in, write_frame};
+use spl_frame::write_frame;
 use std::alloc::{AllocError, Global};
 
 /// The body of a frame.
 fn unframe(alloc: Global, bytes: Piece) -> Result<Option<Piece>, AllocError>
     ensures { IfOk result (λ o. (body : List ℕ) → IsBody body → bytes ≡ frame body → o ≡ Some body) }
 {
-    frames_are_read_back();
-    let (frames, _) = frames_in(alloc, &[bytes])?;
-    match frames.get(0) {
-        Some(body) => Ok(Some(Piece::from(alloc, body.bytes())?)),
+    match bytes.bytes().get(6..) {
+        Some(body) => Ok(Some(Piece::from(alloc, body)?)),
         None => Ok(None),
     }
 }
@@ -42,7 +40,7 @@ fn echo<F: Fabric>(
         (F.view fabric.new).taken e) }
 {
     let got = transfer(alloc, fabric, from, to, sent.bytes())?;
-    let got = Piece::from(alloc, got.as_slice())?;
+    let got = Piece::from_vec(got);
     if !got.same(&sent) {
         return Err(PumpFault::Lied { sent, got });
     }

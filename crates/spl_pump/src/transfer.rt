@@ -1,13 +1,12 @@
 //! Bytes from one node to another, a piece at a time.
-ghost use Rattle.std.specs.Prelude.{◌≡◌, ◌≤◌, ◌<◌, ℕ, min, length, take, IfOk, IfErr, OnOk};
+ghost use Rattle.std.specs.Prelude.{◌≡◌, ◌≤◌, ◌<◌, ◌-◌, ℕ, min, length, take, drop, IfOk, IfErr, OnOk};
 ghost use Rattle.spl_edge.specs.Fabrics.{AreTaken};
 ghost use Rattle.spl_edge.specs.declared.fabric.TheConstants.{PIECE};
 ghost use Rattle.spl_pump.specs.Moves.{Grows, GrowsPart, AreDue, HasCause, IsFault};
 
 use crate::fault::PumpFault;
-use bytes::Bytes;
 use spl_edge::{Fabric, PIECE};
-use std::alloc::{AllocError, Global};
+use std::alloc::Global;
 
 /// Takes so many bytes.
 fn take_all<F: Fabric>(
@@ -27,23 +26,16 @@ fn take_all<F: Fabric>(
     ensures honest { IfErr result (λ e. IsFault e) }
 {
     let mut got = Vec::new(alloc);
-    let mut buf = [0; PIECE];
-    while got.len() < count {
-        let left = count - got.len();
-        let n = fabric.take(from, to, &mut buf[..left])?;
+    'takes: while got.len() < count {
+        let mut buf = Vec::new(alloc);
+        buf.resize(count - got.len(), 0)?;
+        let n = fabric.take(from, to, buf.as_mut_slice())?;
         if n == 0 {
             return Err(PumpFault::Link);
         }
         got.extend_from_slice(&buf[..n])?;
     }
     Ok(got)
-}
-
-/// The next piece of what is to be put.
-fn piece_of(rest: &Bytes) -> Result<Bytes, AllocError>
-    ensures { IfOk result (λ piece. piece ≡ take (min (length rest.now) PIECE) rest.now) }
-{
-    rest.slice(..rest.len().min(PIECE))
 }
 
 /// Puts a prefix of a piece, and takes as many bytes.
@@ -72,6 +64,15 @@ fn hand_some<F: Fabric>(
     take_all(alloc, fabric, from, to, count)
 }
 
+/// The next piece of what is to be put, after so many bytes.
+fn piece_after(bytes: &[u8], put: usize) -> &[u8]
+    requires { put ≤ length bytes.now }
+    ensures { result.now ≡ take (min (length bytes.now - put) PIECE) (drop put bytes.now) }
+{
+    let rest = &bytes[put..];
+    &rest[..rest.len().min(PIECE)]
+}
+
 /// Puts all bytes, and takes as many. Each piece is taken before the next is put.
 pub(crate) fn transfer<F: Fabric>(
     alloc: Global,
@@ -89,12 +90,10 @@ pub(crate) fn transfer<F: Fabric>(
     ensures cause { HasCause (F.view fabric.old).faults (F.view fabric.new).faults result }
     ensures honest { IfErr result (λ e. IsFault e) }
 {
-    let mut got = Vec::new(alloc);
-    let mut rest = Bytes::copy_from_slice(alloc, bytes)?;
+    let mut got = Vec::with_capacity(alloc, bytes.len())?;
     'pieces: while got.len() < bytes.len() {
-        let piece = piece_of(&rest)?;
-        let taken = hand_some(alloc, fabric, from, to, piece.as_slice())?;
-        let _ = rest.split_to(taken.len())?;
+        let piece = piece_after(bytes, got.len());
+        let taken = hand_some(alloc, fabric, from, to, piece)?;
         got.extend_from_slice(taken.as_slice())?;
     }
     Ok(got)

@@ -2,8 +2,8 @@ use Rattle.std.proofs.Common.{◌≡◌, ◌≤◌, ◌-◌, ℕ, length}
 use Rattle.spl_pump.specs.Moves.{Grows, AreDue}
 use Rattle.spl_pump.proofs.transfer.take_all.Given as goal
 
-abbrev pub invariant-loop-buf : goal.invariant-loop-buf
-invariant-loop-buf g l = record {
+abbrev pub invariant-takes : goal.invariant-takes
+invariant-takes g l = record {
   within : length l.got.items ≤ l.count;
   due : AreDue (l.count - length l.got.items) ((g.F.Fabric.view l.fabric).put l.from l.to) ((g.F.Fabric.view l.fabric).taken l.from l.to);
   taken : Grows l.from l.to l.got.items (g.F.Fabric.view l.initial.fabric).taken (g.F.Fabric.view l.fabric).taken;
@@ -11,5 +11,5 @@ invariant-loop-buf g l = record {
   later : (g.F.Fabric.view l.initial.fabric).faults ≤ (g.F.Fabric.view l.fabric).faults;
 }
 
-abbrev pub decreases-loop-buf : goal.decreases-loop-buf
-decreases-loop-buf g l = l.count - length l.got.items
+abbrev pub decreases-takes : goal.decreases-takes
+decreases-takes g l = l.count - length l.got.items

@@ -1,4 +1,4 @@
-use Rattle.std.proofs.Common.{◌≡◌, ◌≤◌, ◌-◌, length, take, drop}
+use Rattle.std.proofs.Common.{◌≤◌, ◌-◌, length, take}
 use Rattle.spl_edge.specs.Fabrics.{AreTaken}
 use Rattle.spl_pump.specs.Moves.{Grows}
 use Rattle.spl_pump.proofs.transfer.transfer.Given as goal
@@ -6,7 +6,6 @@ use Rattle.spl_pump.proofs.transfer.transfer.Given as goal
 abbrev pub invariant-pieces : goal.invariant-pieces
 invariant-pieces g l = record {
   within : length l.got.items ≤ length l.bytes;
-  rest : l.rest ≡ drop (length l.got.items) l.bytes;
   put : Grows l.from l.to (take (length l.got.items) l.bytes) (g.F.Fabric.view l.initial.fabric).put (g.F.Fabric.view l.fabric).put;
   taken : Grows l.from l.to l.got.items (g.F.Fabric.view l.initial.fabric).taken (g.F.Fabric.view l.fabric).taken;
   all : AreTaken ((g.F.Fabric.view l.fabric).put l.from l.to) ((g.F.Fabric.view l.fabric).taken l.from l.to);
