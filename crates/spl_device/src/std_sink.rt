@@ -9,16 +9,21 @@ use std::io::{ErrorKind, Write};
 #[derive(Drop)]
 pub struct StdSink<W: Write + Drop> {
     out: W,
+    prompt: bool,
     faults: u64,
 }
 
 impl<W: Write + Drop> StdSink<W> {
-    /// A sink that has no fault.
-    pub fn new(out: W) -> Self
+    /// A sink that has no fault, and is `prompt` where somebody waits for each answer.
+    pub fn new(out: W, prompt: bool) -> Self
         ensures out { result.out ≡ out }
         ensures faults { result.faults ≡ 0 }
     {
-        StdSink { out, faults: 0 }
+        StdSink {
+            out,
+            prompt,
+            faults: 0,
+        }
     }
 }
 
@@ -43,5 +48,9 @@ impl<W: Write + Drop> Sink for StdSink<W> {
             Ok(count) if count > 0 || piece.is_empty() => Ok(count),
             _ => Err(count_fault(&mut self.faults)),
         }
+    }
+
+    fn is_prompt(&self) -> bool {
+        self.prompt
     }
 }

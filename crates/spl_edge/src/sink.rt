@@ -18,6 +18,11 @@ pub trait Sink {
         ensures written { Appends (view self.old).written (view self.new).written (moved_by result piece.now) }
         ensures nothing { IfOk result (λ n. n ≡ 0 → 0 < length piece.now → Rose (view self.old).faults (view self.new).faults) }
         ensures cause { HasCause (view self.old).faults (view self.new).faults result };
+
+    /// Whether somebody waits for each answer, as at a terminal, so that none should wait for others.
+    fn is_prompt(&self) -> bool {
+        false
+    }
 }
 
 /// Writes a whole piece. Where that fails, a prefix of the piece was written.

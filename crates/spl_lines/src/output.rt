@@ -26,7 +26,8 @@ impl Model for Output {
 }
 
 impl Output {
-    /// Nothing waits yet. Answers are handed over each at once, or, where it isn't `at_once`, in pieces.
+    /// Nothing waits yet. Answers are handed over each at once, or, where it isn't `at_once` and the sink isn't prompt, in
+    /// pieces.
     pub fn new(alloc: Global, at_once: bool) -> Result<Output, AllocError>
         ensures { IfOk result (λ o. o ≡ []) }
     {
@@ -62,13 +63,13 @@ impl Output {
         Ok(())
     }
 
-    // Hands over what waits, where nothing is to wait.
+    // Hands over what waits, where nothing is to wait, or somebody waits for it.
     fn settle<W: Sink>(&mut self, sink: &mut W) -> Result<(), DeviceError>
         ensures ok { OnOk result (IsDue (W.view sink.old).written (W.view sink.new).written self.new self.old) }
         ensures part { IsDuePart (W.view sink.old).written (W.view sink.new).written self.new self.old }
         ensures cause { HasCause (W.view sink.old).faults (W.view sink.new).faults result }
     {
-        if self.at_once {
+        if self.at_once || sink.is_prompt() {
             return self.flush(sink);
         }
         Ok(())
