@@ -28,3 +28,4 @@ pub mod Told
 pub mod Settled
 pub mod Low
 pub mod Written
+pub mod Owned
