@@ -1,4 +1,0 @@
-pub mod Posts
-pub mod Schedule
-pub mod States
-pub mod Seats

@@ -1,0 +1,16 @@
+pub mod Pairs
+pub mod Processes
+pub mod Moves
+pub mod Seating
+pub mod Hearings
+pub mod Answering
+pub mod Stopping
+pub mod SeatUp
+pub mod Placing
+pub mod Others
+pub mod Lifting
+pub mod Seated
+pub mod Benches
+pub mod Begun
+pub mod Leading
+pub mod Stepping
