@@ -1,12 +1,13 @@
 //! Laws of batches.
-ghost use Rattle.std.specs.Prelude.{◌≡◌, ◌↔◌, ℕ, List, Some, None, IsTrue};
+ghost use Rattle.std.specs.Prelude.{◌≡◌, ◌↔◌, ℕ, List, Some, None, IsTrue, is_none};
+ghost use Rattle.std.specs.List.{list_all};
 ghost use Rattle.std.specs.FinMap.Entries.{is_sorted};
 ghost use Rattle.spl_state.specs.declared.address.Address.{Address};
 ghost use Rattle.spl_state.specs.Entries.{Entry, address_cmp};
 ghost use Rattle.spl_command.specs.declared.batch.Batch.{Batch};
 ghost use Rattle.spl_command.specs.declared.receipt.Verdict.TheVariants as verdict;
 ghost use Rattle.spl_command.specs.Forms.{batch};
-ghost use Rattle.spl_command.specs.Rules.{broken_batch};
+ghost use Rattle.spl_command.specs.Rules.{broken_batch, is_short};
 ghost use Rattle.spl_command.specs.Execution.{values_of, verdict_on, cause_of};
 ghost use Rattle.spl_command.specs.Lists.{after_batch, state_of};
 ghost use Rattle.spl_command.specs.Runs.{values_behind};
@@ -31,4 +32,9 @@ pub fn the_changes_make_the_state()
 /// The state of a list of batches is in address order, each address once.
 pub fn states_are_in_address_order()
     ensures { (bs : List Batch) → IsTrue (is_sorted address_cmp (state_of bs)) }
+{}
+
+/// Where no batch breaks a rule, no value of their state has more than `LONGEST_DATA` bytes.
+pub fn values_of_states_are_short()
+    ensures { (bs : List Batch) → IsTrue (list_all (λ b. is_none (broken_batch b)) bs) → IsTrue (list_all (λ e. is_short e.1) (state_of bs)) }
 {}

@@ -21,7 +21,7 @@ pub use codec::{batches_are_read_back, no_batch_begins_another};
 pub use execution::execute;
 pub use laws::{
     states_are_in_address_order, the_cause_hangs_on_the_batch, the_changes_make_the_state,
-    valid_batches_have_a_form,
+    valid_batches_have_a_form, values_of_states_are_short,
 };
 pub use prefixes::Prefixes;
 pub use receipt::{Changes, Events, Pieces, Receipt, Receipts, StateChange, StateEvent, Verdict};
