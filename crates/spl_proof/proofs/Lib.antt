@@ -4,3 +4,5 @@ pub mod Digits
 pub mod Making
 pub mod Saying
 pub mod Clashing
+pub mod Deciding
+pub mod Bounding

@@ -1,6 +1,7 @@
 -- When a proof shows that an address has a value, or none, under a root (docs/RULES.md, Proofs).
-use Rattle.std.specs.Prelude.{◌≡◌, ◌≢◌, ℕ, ◌+◌, List, [], ◌∷◌, length, replicate, slice_index_or, Option, Some, None}
+use Rattle.std.specs.Prelude.{◌≡◌, ◌≢◌, ℕ, ◌+◌, Bool, true, false, not, ◌&&◌, List, [], ◌∷◌, length, replicate, slice_index_or, Option, Some, None}
 use Rattle.std.specs.List.{flat_map}
+use Rattle.std.specs.Str.{bytes_eq}
 use Rattle.sha2.specs.Sha256.{sha256}
 use Rattle.spl_state.specs.declared.address.Address.{Address}
 use Rattle.spl_state.specs.Root.{digit_of, digits_of, leaf_of}
@@ -46,7 +47,22 @@ pub record IsAccepted (root : List ℕ) (a : Address) (claim : Option (List ℕ)
   pub fit : AllFit 0 a p.levels p.end
   pub says : Says claim (length p.levels) a p.end
 
--- the same from the root down: the levels lead from a digest to the end
+-- ---- the same as tests
+
+abbrev pub are_fit : ℕ → Address → List Level → End → Bool
+are_fit i a [] e = true
+are_fit i a (l ∷ ls) e = bytes_eq (slice_index_or l (digit_of a.0 i) []) (top ls e) && are_fit (i + 1) a ls e
+
+abbrev pub is_said : Option (List ℕ) → ℕ → Address → End → Bool
+is_said (Some v) n a Empty = false
+is_said (Some v) n a (Leaf b w) = bytes_eq b.0 a.0 && bytes_eq w v
+is_said None n a Empty = true
+is_said None n a (Leaf b w) = not (bytes_eq b.0 a.0) && bytes_eq (digits_of n 0 b.0) (digits_of n 0 a.0)
+
+abbrev pub accepts : List ℕ → Address → Option (List ℕ) → Proof → Bool
+accepts root a claim p = bytes_eq (top p.levels p.end) root && are_fit 0 a p.levels p.end && is_said claim (length p.levels) a p.end
+
+-- ---- the same from the root down: the levels lead from a digest to the end
 abbrev pub Leads : List ℕ → ℕ → Address → List Level → End → Type 0
 Leads digest i a [] e = end_digest e ≡ digest
 Leads digest i a (l ∷ ls) e = (level_digest l ≡ digest) × Leads (slice_index_or l (digit_of a.0 i) []) (i + 1) a ls e

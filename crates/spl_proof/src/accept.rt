@@ -1,7 +1,7 @@
 //! Checking a proof by a root alone.
 ghost use Rattle.std.specs.Prelude.{◌≡◌, ◌≤◌, ◌↔◌, IsTrue, Some, None, option_copied, length};
 ghost use Rattle.spl_state.specs.Root.{digits_of};
-ghost use Rattle.spl_proof.specs.Accepted.{IsAccepted, Leads, Says, level_digest, end_digest};
+ghost use Rattle.spl_proof.specs.Accepted.{IsAccepted, accepts, Leads, Says, level_digest, end_digest};
 ghost use Rattle.spl_proof.specs.declared.proof.TheConstants.{MOST_LEVELS};
 
 use crate::proof::{End, Level, Proof};
@@ -117,10 +117,18 @@ fn says(claim: Option<&[u8]>, levels: usize, a: &Address, end: &End) -> bool
     }
 }
 
-/// Whether a proof shows, under a root, that an address has the claimed value, or that it has none.
-pub fn check(root: &[u8; 32], a: &Address, claim: Option<&[u8]>, proof: &Proof) -> bool
+/// Whether a proof is accepted.
+fn is_accepted(root: &[u8; 32], a: &Address, claim: Option<&[u8]>, proof: &Proof) -> bool
     ensures { IsTrue result ↔ IsAccepted root.now a.now (option_copied claim.entry) proof.now }
 {
     let levels = proof.levels.as_slice();
     says(claim, levels.len(), a, &proof.end) && leads(root, a, levels, &proof.end)
+}
+
+/// Whether a proof shows, under a root, that an address has the claimed value, or that it has none.
+pub fn check(root: &[u8; 32], a: &Address, claim: Option<&[u8]>, proof: &Proof) -> bool
+    ensures accepted { IsTrue result ↔ IsAccepted root.now a.now (option_copied claim.entry) proof.now }
+    ensures test { result ≡ accepts root.now a.now (option_copied claim.entry) proof.now }
+{
+    is_accepted(root, a, claim, proof)
 }

@@ -1,8 +1,13 @@
 //! The byte form of proofs.
-ghost use Rattle.std.specs.Prelude.{◌≡◌, ◌≤◌, ◌++◌, ℕ, List, length, Ok, IsTrue, IfOk, OnOk};
+ghost use Rattle.std.specs.Prelude.{◌≡◌, ◌≤◌, ◌++◌, ℕ, List, length, nat_le, Ok, IsTrue, IfOk, OnOk};
+ghost use Rattle.std.specs.List.{list_all};
+ghost use Rattle.spl_state.specs.declared.address.Address.{Address as At};
+ghost use Rattle.spl_state.specs.Entries.{Entry};
 ghost use Rattle.spl_base.specs.Form.{Reads, IsBytes, items_at};
 ghost use Rattle.spl_base.specs.Front.{Answers, NoneBeginsAnother};
 ghost use Rattle.spl_proof.specs.Forms.{digest, level, leaf, proof, whole_of};
+ghost use Rattle.spl_proof.specs.Made.{proof as made};
+ghost use Rattle.spl_proof.specs.declared.proof.TheConstants.{LONGEST_VALUE as MOST_BYTES};
 ghost use Rattle.spl_proof.specs.declared.proof.Proof.{Proof as Shown};
 
 use crate::proof::{End, LONGEST_VALUE, Level, Levels, MOST_LEVELS, Proof};
@@ -175,6 +180,11 @@ impl Proof {
 pub fn proofs_are_read_back()
     ensures again { (p : Shown) → IsTrue (proof.fits p) → whole_of proof (proof.spell p) ≡ Ok p }
     ensures only { (p : Shown) (bytes : List ℕ) → IsBytes bytes → whole_of proof bytes ≡ Ok p → (bytes ≡ proof.spell p) × IsTrue (proof.fits p) }
+{}
+
+/// The proofs of a state have a byte form, where its values have at most `LONGEST_VALUE` bytes.
+pub fn proofs_of_short_values_have_a_form()
+    ensures { (m : List Entry) (a : At) → IsTrue (list_all (λ e. nat_le (length e.1) MOST_BYTES) m) → IsTrue (proof.bounded (made m a)) }
 {}
 
 /// No spelling of a proof begins another.

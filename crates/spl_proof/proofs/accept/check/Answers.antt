@@ -1,17 +1,9 @@
--- A proof is accepted where its levels lead to an end that says what is claimed.
-use Rattle.std.proofs.Common.{length, option_copied, sym, subst}
-use Rattle.spl_proof.specs.Accepted.{Leads, Says}
-use Rattle.spl_proof.proofs.Leading.{accepted_from, accepted_leads}
+use Rattle.std.proofs.Common.{option_copied}
+use Rattle.spl_proof.proofs.Deciding.{same_test}
 use Rattle.spl_proof.proofs.accept.check.Goals as goal
 
-pub returns-then-says : goal.returns-then-says
-returns-then-says c =
-    let root = c.args.root.now in
-    let a = c.args.a.now in
-    let claim = option_copied c.args.claim in
-    let p = c.args.proof.now in
-    let value = c.as_slice-levels.ensures.value in
-    let says = c.says.ensures.0 c.if-says.true in (
-      λ h. accepted_from root a claim p (subst (λ ls. Leads root 0 a ls p.end) value (c.leads.ensures.0 h)) (subst (λ ls. Says claim (length ls) a p.end) value says),
-      λ h. c.leads.ensures.1 (subst (λ ls. Leads root 0 a ls p.end) (sym value) (accepted_leads root a claim p h)),
-    )
+pub returns-clause-accepted : goal.returns-clause-accepted
+returns-clause-accepted c = c.is_accepted.ensures
+
+pub returns-clause-test : goal.returns-clause-test
+returns-clause-test c = same_test c.is_accepted.result c.args.root.now c.args.a.now (option_copied c.args.claim) c.args.proof.now c.is_accepted.ensures
