@@ -50,6 +50,9 @@ pub enum Refusal {
     UnknownId,
     /// The circuit's version is 1, in which it can't be disbanded.
     VersionTooLow,
+    /// The bytes are no proof: the first field that can't be read begins at this byte, or the proof
+    /// ends there and bytes follow it.
+    NotProof { at: usize },
 }
 
 impl Refusal {
@@ -124,6 +127,16 @@ pub enum Answer {
     Root {
         count: u32,
         root: [u8; 32],
+    },
+    /// The root of the state that the committed batches left, and the byte form of a proof, under
+    /// it, of what that state has at an address.
+    Proof {
+        root: Boxed<[u8; 32]>,
+        bytes: Piece,
+    },
+    /// Whether a proof is accepted with what is claimed.
+    Checked {
+        accepted: bool,
     },
     /// The ids of the batches that are committed here, in their order.
     History(BatchIds),

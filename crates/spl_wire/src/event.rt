@@ -35,6 +35,8 @@ pub enum Event {
     History,
     /// The cell is asked for the value at an address.
     Get(Address),
+    /// The cell is asked for a proof of what the state has at an address.
+    Prove(Address),
     /// The cell is asked for the entries under a prefix.
     List(Prefix),
     /// The cell is asked where a batch stands.
