@@ -14,6 +14,8 @@ use Rattle.spl_agree.specs.Fits.{generation_of}
 use Rattle.spl_state.specs.declared.address.Address.{Address}
 use Rattle.spl_state.specs.Entries.{Entry, address_cmp}
 use Rattle.spl_state.specs.Root.{node_at}
+use Rattle.spl_proof.specs.Made.{proof}
+use Rattle.spl_proof.specs.Forms.{proof as proof_form}
 use Rattle.spl_command.specs.declared.batch.Batch.{Batch}
 use Rattle.spl_command.specs.declared.receipt.Receipt.{Receipt}
 use Rattle.spl_command.specs.Rules.{broken_batch}
@@ -63,6 +65,10 @@ state_here b = state_of (values b.history)
 
 abbrev pub root_told : Member Batch → Answer
 root_told b = answer.Root (length b.history) (node_at 70 [] (state_here b))
+
+-- the root, and the byte form of the proof that the state gives of an address
+abbrev pub proof_told : Member Batch → Address → Answer
+proof_told b address = answer.Proof (node_at 70 [] (state_here b)) (proof_form.spell (proof (state_here b) address))
 
 abbrev pub history_told : Member Batch → Answer
 history_told b = answer.History (ids_of (values b.history))

@@ -19,7 +19,7 @@ use Rattle.spl_wire.specs.declared.event.Event.TheVariants as event
 use Rattle.spl_wire.specs.declared.answer.Refusal.TheVariants as refusal
 use Rattle.spl_wire.specs.declared.answer.Answer.TheVariants as answer
 use Rattle.spl_rules.specs.Cells.{Bound, Cell, Held, Site, Deed, Refuses, Tells, Acts, Turns, Delivered, Alone, is_open, runs, own_life, proposes, vote_kind, removal_kind, votes, removes, disbands, abandons, purges, shows, details, hears_first}
-use Rattle.spl_rules.specs.Batches.{submits, when_active, root_told, history_told, value_told, listed, status_told, receipt_told, routed, way, hears_service}
+use Rattle.spl_rules.specs.Batches.{submits, when_active, root_told, proof_told, history_told, value_told, listed, status_told, receipt_told, routed, way, hears_service}
 
 -- ---- tick, expire
 
@@ -69,6 +69,7 @@ held_does site h (event.Submit v) = submits site h v
 held_does site h event.Show = Tells (shows h)
 held_does site h event.Detail = Tells (details h)
 held_does site h event.Root = when_active h (Tells (root_told h.batches))
+held_does site h (event.Prove address) = when_active h (Tells (proof_told h.batches address))
 held_does site h event.History = when_active h (Tells (history_told h.batches))
 held_does site h (event.Get address) = when_active h (Tells (value_told h.batches address))
 held_does site h (event.List prefix) = when_active h (Tells (listed h.batches prefix))
