@@ -1,4 +1,5 @@
 mod CommandLaws
 mod TransactionLaws
+mod CheckLaws
 mod GrammarLaws
 mod LineLaws

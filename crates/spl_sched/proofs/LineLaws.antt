@@ -21,6 +21,8 @@ use Rattle.spl_sched.specs.declared.line.Line.TheVariants as line
 use Rattle.spl_words.specs.Words.{Words, number, joined, end, Reads, that, kind, read_kind, ◌&◌, hex, split}
 use Rattle.spl_sched.specs.Transactions.{is_address, is_prefix}
 use Rattle.spl_sched.specs.Grammar.{event_name, event_words, step_words, words_of, spelling, is_definition, is_event, is_step, is_fill, is_passes, is_line, fill_words, fill_kinds, fill_parts, read_fill, fill, terms, terms_of, definition_of, proposed, answer, work, submitted, place, places, batch, way, delivery, delivered, asking_kinds, acting_kinds, worded_kinds, read_acting, read_event, read_at, read_step, step, calm, node, cut, failing, line_kinds, read_words, line_words, line_of}
+use Rattle.spl_sched.specs.Checks.{check, check_of}
+use Rattle.spl_sched.proofs.CheckLaws.{terms_of_check, check_fits, fits_check, sound_check}
 use Rattle.spl_words.proofs.Splits.{lacks, lacks_from}
 use Rattle.spl_words.proofs.WordLaws.{IsExact, Lacks, IsKind, AllKinds, is_kind, kinds_only, read_as, exact_number, exact_and, exact_joined, exact_end, joined_lacks, map_some, same_bytes, itself}
 use Rattle.spl_words.proofs.HexLaws.{exact_hex, hex_lacks}
@@ -90,6 +92,7 @@ event_seen id (event.Propose d) h =
 event_seen id (event.Vote accept) h = seen id answer (λ x. event.Vote x.0) sound_answer (event.Vote accept) refl (λ xs. refl) (λ xs. refl) (λ xs. refl) (accept, tt) refl refl refl
 event_seen id (event.Submit b) h = seen id work submitted sound_work (event.Submit b) refl (λ xs. refl) (λ xs. refl) (λ xs. refl) (b.id, b.transactions) h refl refl
 event_seen id (event.Get a) h = seen id place (λ x. event.Get x.0) sound_place (event.Get a) refl (λ xs. refl) (λ xs. refl) (λ xs. refl) (a, tt) (more (is_address a) h) refl refl
+event_seen id (event.Prove a) h = seen id place (λ x. event.Prove x.0) sound_place (event.Prove a) refl (λ xs. refl) (λ xs. refl) (λ xs. refl) (a, tt) (more (is_address a) h) refl refl
 event_seen id (event.List p) h = seen id places (λ x. event.List x.0) sound_places (event.List p) refl (λ xs. refl) (λ xs. refl) (λ xs. refl) (p, tt) (more (is_prefix p) h) refl refl
 event_seen id (event.Status b) h = seen id batch (λ x. event.Status x.0) sound_batch (event.Status b) refl (λ xs. refl) (λ xs. refl) (λ xs. refl) (b, tt) (more (ltb b (2 ^ 64)) h) refl refl
 event_seen id (event.Receipt b) h = seen id batch (λ x. event.Receipt x.0) sound_batch (event.Receipt b) refl (λ xs. refl) (λ xs. refl) (λ xs. refl) (b, tt) (more (ltb b (2 ^ 64)) h) refl refl
@@ -137,6 +140,7 @@ all_worded id =
     ▹ kind_is id answer (λ x. event.Vote x.0) sound_answer (λ x h. (refl, refl))
     ▹ kind_is id work submitted sound_work (λ x h. (refl, h))
     ▹ kind_is id place (λ x. event.Get x.0) sound_place (λ x h. (refl, less (is_address x.0) h))
+    ▹ kind_is id place (λ x. event.Prove x.0) sound_place (λ x h. (refl, less (is_address x.0) h))
     ▹ kind_is id places (λ x. event.List x.0) sound_places (λ x h. (refl, less (is_prefix x.0) h))
     ▹ kind_is id batch (λ x. event.Status x.0) sound_batch (λ x h. (refl, less (ltb x.0 (2 ^ 64)) h))
     ▹ kind_is id batch (λ x. event.Receipt x.0) sound_batch (λ x h. (refl, less (ltb x.0 (2 ^ 64)) h))
@@ -310,6 +314,7 @@ line_read (line.Calm id n) h =
 line_read (line.Stop n) h = read_so (codes "stop") node (λ x. line.Stop x.0) sound_one_node refl (λ xs. refl) (n, tt) _ (more _ h) refl refl
 line_read (line.Start n) h = read_so (codes "start") node (λ x. line.Start x.0) sound_one_node refl (λ xs. refl) (n, tt) _ (more _ h) refl refl
 line_read (line.Roll n) h = read_so (codes "roll") node (λ x. line.Roll x.0) sound_one_node refl (λ xs. refl) (n, tt) _ (more _ h) refl refl
+line_read (line.Check c) h = read_so (codes "check") check (λ x. line.Check (check_of x)) sound_check refl (λ xs. refl) (terms_of_check c) _ (check_fits c h) refl refl
 line_read (line.Cut calls f s) h = read_so (codes "cut") cut (λ x. line.Cut x.0 x.1.0 x.1.1) sound_cut refl (λ xs. refl) (calls, (f, s)) _ (sym (and_assoc (ltb calls (2 ^ 8)) (is_fill f) (is_step s)) ∙ h) refl refl
 line_read (line.Fail call s) h = read_so (codes "fail") failing (λ x. line.Fail x.0 x.1) sound_failing refl (λ xs. refl) (call, s) _ h refl refl
 
@@ -324,6 +329,7 @@ all_lines =
     ▹ is_kind words_of is_line (codes "stop") node (λ x. line.Stop x.0) sound_one_node.exact (λ x h. (refl, less _ h))
     ▹ is_kind words_of is_line (codes "start") node (λ x. line.Start x.0) sound_one_node.exact (λ x h. (refl, less _ h))
     ▹ is_kind words_of is_line (codes "roll") node (λ x. line.Roll x.0) sound_one_node.exact (λ x h. (refl, less _ h))
+    ▹ is_kind words_of is_line (codes "check") check (λ x. line.Check (check_of x)) sound_check.exact (λ x h. (refl, fits_check x h))
     ▹ is_kind words_of is_line (codes "cut") cut (λ x. line.Cut x.0 x.1.0 x.1.1) sound_cut.exact (λ x h. (refl, and_assoc (ltb x.0 (2 ^ 8)) (is_fill x.1.0) (is_step x.1.1) ∙ h))
     ▹ is_kind words_of is_line (codes "fail") failing (λ x. line.Fail x.0 x.1) sound_failing.exact (λ x h. (refl, h))
     ▹ tt

@@ -20,6 +20,7 @@ use Rattle.spl_sched.specs.declared.line.Step.TheVariants.{At, Deliver}
 use Rattle.spl_sched.specs.declared.line.Line.{Line}
 use Rattle.spl_sched.specs.declared.line.Line.TheVariants as line
 use Rattle.spl_words.specs.Words.{Word, Words, Kind, is_name, text, number, flag, hex, hex_byte, joined, end, ◌&◌, ◌>>=◌, read_first, up_to, meaning, that, kind, read_kind}
+use Rattle.spl_sched.specs.Checks.{is_check, words_of_check, check, check_of}
 use Rattle.spl_sched.specs.Transactions.{is_address, is_prefix, is_transaction, address, dashed, words_of_transactions, transactions}
 
 -- 1 to 32 bytes of a to z, 0 to 9 and -
@@ -49,6 +50,7 @@ event_name event.Detail = codes "detail"
 event_name event.Root = codes "root"
 event_name event.History = codes "history"
 event_name (event.Get a) = codes "get"
+event_name (event.Prove a) = codes "prove"
 event_name (event.List prefix) = codes "list"
 event_name (event.Status batch) = codes "status"
 event_name (event.Receipt batch) = codes "receipt"
@@ -66,6 +68,7 @@ event_words (event.Propose d) = words_of_terms d
 event_words (event.Vote accept) = accept_text accept ∷ []
 event_words (event.Submit batch) = decimal batch.id ∷ words_of_transactions batch.transactions
 event_words (event.Get a) = address.spell a ∷ []
+event_words (event.Prove a) = address.spell a ∷ []
 event_words (event.List prefix) = dashed.spell prefix ∷ []
 event_words (event.Status batch) = decimal batch ∷ []
 event_words (event.Receipt batch) = decimal batch ∷ []
@@ -91,6 +94,7 @@ words_of (line.Calm id passes) = codes "calm" ∷ id ∷ decimal passes ∷ []
 words_of (line.Stop node) = codes "stop" ∷ node ∷ []
 words_of (line.Start node) = codes "start" ∷ node ∷ []
 words_of (line.Roll node) = codes "roll" ∷ node ∷ []
+words_of (line.Check c) = words_of_check c
 words_of (line.Cut calls fill s) = codes "cut" ∷ decimal calls ∷ fill_text fill ∷ step_words s
 words_of (line.Fail call s) = codes "fail" ∷ decimal call ∷ step_words s
 
@@ -117,6 +121,7 @@ abbrev pub is_event : List ℕ → Event → Bool
 is_event id (event.Propose d) = bytes_eq d.id id && is_definition d
 is_event id (event.Submit batch) = is_batch batch
 is_event id (event.Get a) = is_address a
+is_event id (event.Prove a) = is_address a
 is_event id (event.List prefix) = is_prefix prefix
 is_event id (event.Status batch) = nat_lt batch (2 ^ 64)
 is_event id (event.Receipt batch) = nat_lt batch (2 ^ 64)
@@ -142,6 +147,7 @@ is_line (line.Calm id passes) = is_circuit_id id && is_passes passes
 is_line (line.Stop node) = is_node_id node
 is_line (line.Start node) = is_node_id node
 is_line (line.Roll node) = is_node_id node
+is_line (line.Check c) = is_check c
 is_line (line.Cut calls fill s) = nat_lt calls (2 ^ 8) && is_fill fill && is_step s
 is_line (line.Fail call s) = (nat_le 1 call && nat_lt call (2 ^ 8)) && is_step s
 
@@ -164,6 +170,7 @@ nodes_of (line.Calm id passes) = []
 nodes_of (line.Stop node) = node ∷ []
 nodes_of (line.Start node) = node ∷ []
 nodes_of (line.Roll node) = node ∷ []
+nodes_of (line.Check c) = []
 nodes_of (line.Cut calls fill s) = step_nodes s
 nodes_of (line.Fail call s) = step_nodes s
 
@@ -179,6 +186,7 @@ circuit_of (line.Calm id passes) = Some id
 circuit_of (line.Stop node) = None
 circuit_of (line.Start node) = None
 circuit_of (line.Roll node) = None
+circuit_of (line.Check c) = None
 circuit_of (line.Cut calls fill s) = Some (step_circuit s)
 circuit_of (line.Fail call s) = Some (step_circuit s)
 
@@ -290,6 +298,7 @@ worded_kinds id =
     ∷ kind (codes "vote") answer (λ x. event.Vote x.0)
     ∷ kind (codes "submit") work submitted
     ∷ kind (codes "get") place (λ x. event.Get x.0)
+    ∷ kind (codes "prove") place (λ x. event.Prove x.0)
     ∷ kind (codes "list") places (λ x. event.List x.0)
     ∷ kind (codes "status") batch (λ x. event.Status x.0)
     ∷ kind (codes "receipt") batch (λ x. event.Receipt x.0)
@@ -351,6 +360,7 @@ line_kinds =
     ∷ kind (codes "stop") node (λ x. line.Stop x.0)
     ∷ kind (codes "start") node (λ x. line.Start x.0)
     ∷ kind (codes "roll") node (λ x. line.Roll x.0)
+    ∷ kind (codes "check") check (λ x. line.Check (check_of x))
     ∷ kind (codes "cut") cut (λ x. line.Cut x.0 x.1.0 x.1.1)
     ∷ kind (codes "fail") failing (λ x. line.Fail x.0 x.1)
     ∷ []

@@ -2,6 +2,7 @@
 #![tactic(auto)]
 
 mod address;
+mod check;
 mod command;
 mod fill;
 mod known;
@@ -17,7 +18,7 @@ pub use laws::{
     lines_are_read_back, lines_have_one_spelling, silent_lines_are_no_lines,
     spellings_have_one_line,
 };
-pub use line::{Line, MOST_PASSES, Step};
+pub use line::{Line, MOST_PASSES, ProofCheck, Step};
 pub use read::read_line;
 pub use spl_words::LineFault;
 pub use write::write_line;

@@ -2,8 +2,9 @@
 ghost use Rattle.std.specs.Prelude.{◌≡◌};
 
 use crate::known::{event_known, is_known};
-use spl_base::{CircuitId, NodeId};
+use spl_base::{Boxed, CircuitId, NodeId, Piece};
 use spl_edge::Fill;
+use spl_state::Address;
 use spl_wire::Event;
 
 /// How many passes a calm has at most.
@@ -29,6 +30,16 @@ pub enum Step {
     },
 }
 
+/// A proof that is checked under a root: whether it shows that an address has the claimed value, or
+/// that it has none where none is claimed. The bytes may be any, but there is at least one.
+#[derive(Drop)]
+pub struct ProofCheck {
+    pub root: [u8; 32],
+    pub address: Address,
+    pub claim: Option<Piece>,
+    pub bytes: Piece,
+}
+
 /// A line of a schedule (docs/RULES.md, Schedules).
 #[derive(Drop)]
 pub enum Line {
@@ -41,6 +52,8 @@ pub enum Line {
     Start(NodeId),
     /// The node is asked for its bound cells.
     Roll(NodeId),
+    /// A proof is checked; no node is asked.
+    Check(Boxed<ProofCheck>),
     /// The node of the step goes down in it, after so many calls on its disks, which keep this of
     /// what wasn't synced.
     Cut { calls: u8, fill: Fill, step: Step },
@@ -99,12 +112,14 @@ impl Line {
             Line::Stop(node) => is_known(known, node),
             Line::Start(node) => is_known(known, node),
             Line::Roll(node) => is_known(known, node),
+            Line::Check(_) => true,
             Line::Cut { step, .. } => step.names_only(known),
             Line::Fail { step, .. } => step.names_only(known),
         }
     }
 
-    /// The circuit that the line names. None of a line about a node alone: stop, start and roll.
+    /// The circuit that the line names. None of a line about a node alone: stop, start and roll;
+    /// nor of a check.
     pub fn circuit(&self) -> Option<CircuitId>
         ensures { result ≡ circuit_of self.now }
     {
@@ -114,6 +129,7 @@ impl Line {
             Line::Stop(_) => None,
             Line::Start(_) => None,
             Line::Roll(_) => None,
+            Line::Check(_) => None,
             Line::Cut { step, .. } => Some(step.circuit()),
             Line::Fail { step, .. } => Some(step.circuit()),
         }

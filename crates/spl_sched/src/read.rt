@@ -6,6 +6,7 @@ ghost use Rattle.spl_sched.specs.declared.line.Line.TheVariants as line;
 ghost use Rattle.spl_words.specs.Words.{Reads, Takes, read_first, that, number};
 ghost use Rattle.spl_sched.specs.Grammar.{is_line, is_passes, spelling, calm, cut, failing, node, step, read_words, line_of};
 
+use crate::check::read_check;
 use crate::fill::FillText;
 use crate::line::{Line, MOST_PASSES, Step};
 use crate::step::read_step;
@@ -95,6 +96,9 @@ fn read_named(alloc: Global, name: &[u8], words: &mut WordReader) -> Result<Line
     }
     if name == b"roll".as_slice() {
         return Ok(Line::Roll(read_node(alloc, words)?));
+    }
+    if name == b"check".as_slice() {
+        return read_check(alloc, words);
     }
     if name == b"cut".as_slice() {
         return read_cut(alloc, words);

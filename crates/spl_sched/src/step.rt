@@ -90,6 +90,14 @@ fn read_get(alloc: Global, words: &mut WordReader) -> Result<Event, LineFault>
     Ok(Event::Get(address))
 }
 
+fn read_prove(alloc: Global, words: &mut WordReader) -> Result<Event, LineFault>
+    ensures { Reads result (option_map (λ x. event.Prove x.0) (place.read words.old)) }
+{
+    let address = take::<AddressText>(alloc, words)?;
+    words.end()?;
+    Ok(Event::Prove(address))
+}
+
 fn read_list(alloc: Global, words: &mut WordReader) -> Result<Event, LineFault>
     ensures { Reads result (option_map (λ x. event.List x.0) (places.read words.old)) }
 {
@@ -148,6 +156,9 @@ fn read_worded(
     }
     if name == b"get".as_slice() {
         return read_get(alloc, words);
+    }
+    if name == b"prove".as_slice() {
+        return read_prove(alloc, words);
     }
     if name == b"list".as_slice() {
         return read_list(alloc, words);

@@ -6,6 +6,7 @@ ghost use Rattle.spl_sched.specs.Transactions.{words_of_transactions};
 ghost use Rattle.spl_sched.specs.Grammar.{accept_or_reject, words_of_terms, event_name, event_words, step_words, spelling, line_of, is_line};
 
 use crate::address::{AddressText, PrefixText};
+use crate::check::put_check;
 use crate::fill::FillText;
 use crate::line::{Line, Step};
 use crate::service::ServiceText;
@@ -68,6 +69,7 @@ fn event_name(event: &Event) -> &'static [u8]
         Event::Root => b"root",
         Event::History => b"history",
         Event::Get(_) => b"get",
+        Event::Prove(_) => b"prove",
         Event::List(_) => b"list",
         Event::Status(_) => b"status",
         Event::Receipt(_) => b"receipt",
@@ -89,6 +91,7 @@ fn put_event(event: &Event, w: &mut Writer) -> Result<(), AllocError>
         }
         Event::Submit(batch) => put_batch(batch.get(), w),
         Event::Get(address) => put_next::<AddressText>(address, w),
+        Event::Prove(address) => put_next::<AddressText>(address, w),
         Event::List(prefix) => put_next::<PrefixText>(prefix, w),
         Event::Status(batch) => put_next::<BatchId>(batch, w),
         Event::Receipt(batch) => put_next::<BatchId>(batch, w),
@@ -156,6 +159,7 @@ fn put_line(line: &Line, w: &mut Writer) -> Result<(), AllocError>
             w.put_raw(b"roll")?;
             put_next::<NodeId>(node, w)
         }
+        Line::Check(check) => put_check(check.get(), w),
         Line::Cut { calls, fill, step } => {
             w.put_raw(b"cut")?;
             put_next::<u8>(calls, w)?;
