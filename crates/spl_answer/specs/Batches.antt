@@ -15,6 +15,9 @@ hex_text bytes = encode_lower bytes
 abbrev pub root_text : ℕ → List ℕ → List ℕ
 root_text count root = codes "ok root " ++ (decimal count ++ (32 ∷ hex_text root))
 
+abbrev pub proof_text : List ℕ → List ℕ → List ℕ
+proof_text root bytes = codes "ok proof " ++ (hex_text root ++ (32 ∷ hex_text bytes))
+
 abbrev pub history_text : List ℕ → List ℕ
 history_text ids = codes "ok history " ++ (decimal (length ids) ++ spaced decimal ids)
 

@@ -12,12 +12,12 @@ use Rattle.spl_wire.specs.declared.answer.Refusal.TheVariants as refusal
 use Rattle.spl_wire.specs.declared.answer.BatchStatus.{BatchStatus}
 use Rattle.spl_wire.specs.declared.answer.BatchStatus.TheVariants as status
 use Rattle.spl_wire.specs.declared.answer.Answer.{Answer}
-use Rattle.spl_wire.specs.declared.answer.Answer.TheVariants.{Submitted, Left, Show, Detail, Root, History, Value, Listed, Status, Receipt, Routed, Notes, Delivered, Calm, Power, Roll, Cut, Fault, Refused}
+use Rattle.spl_wire.specs.declared.answer.Answer.TheVariants.{Submitted, Left, Show, Detail, Root, Proof, Checked, History, Value, Listed, Status, Receipt, Routed, Notes, Delivered, Calm, Power, Roll, Cut, Fault, Refused}
 use Rattle.spl_answer.specs.Names.{lifecycle_text, mark_text, fault_text, bit_text}
 use Rattle.spl_answer.specs.Json.{detail_value}
 use Rattle.spl_answer.specs.Receipts.{receipts_value}
 use Rattle.spl_answer.specs.Nodes.{power_text, roll_text}
-use Rattle.spl_answer.specs.Batches.{root_text, history_text, value_text, entries_text}
+use Rattle.spl_answer.specs.Batches.{root_text, proof_text, history_text, value_text, entries_text}
 
 -- each item after a `,`
 abbrev pub others : {A : Type 0} → (A → List ℕ) → List A → List ℕ
@@ -28,7 +28,7 @@ abbrev pub nodes_text : List (List ℕ) → List ℕ
 nodes_text [] = codes "-"
 nodes_text (n ∷ ns) = n ++ others (λ m. m) ns
 
--- the number of a refusal, and the rule, bound generation or fault that it names
+-- the number of a refusal, and the rule, bound generation, fault or place that it names
 abbrev pub refusal_text : Refusal → List ℕ
 refusal_text refusal.Down = codes "1"
 refusal_text refusal.NoCircuit = codes "2"
@@ -50,6 +50,7 @@ refusal_text refusal.NoMessage = codes "17"
 refusal_text (refusal.NotRouted fault) = codes "18 " ++ fault_text fault
 refusal_text refusal.UnknownId = codes "19"
 refusal_text refusal.VersionTooLow = codes "20"
+refusal_text (refusal.NotProof at) = codes "26 " ++ decimal at
 
 -- code, and where in the value
 abbrev pub reason_text : Reason → List ℕ
@@ -93,6 +94,8 @@ text (Show generation lifecycle mark accepted acts acts_pending batches batches_
     codes "ok circuit " ++ standing_text generation lifecycle mark ++ codes " accepted " ++ nodes_text accepted ++ counts_text (codes " acts ") acts acts_pending ++ counts_text (codes " batches ") batches batches_pending
 text (Detail definition hash lifecycle mark accepted requester) = codes "ok detail " ++ compact_text (detail_value definition hash lifecycle mark accepted requester)
 text (Root count root) = root_text count root
+text (Proof root bytes) = proof_text root bytes
+text (Checked accepted) = if accepted then codes "ok yes" else codes "ok no"
 text (History ids) = history_text ids
 text (Value value) = value_text value
 text (Listed entries) = entries_text entries

@@ -3,7 +3,9 @@ ghost use Rattle.std.specs.Prelude.{◌≡◌, ◌++◌, OnOk, IfOk, decimal};
 ghost use Rattle.spl_answer.specs.Names.{lifecycle_text, mark_text};
 ghost use Rattle.spl_answer.specs.Texts.{text, refusal_text, counts_text, standing_text};
 
-use crate::batches::{append_entries, append_history, append_root, append_status, append_value};
+use crate::batches::{
+    append_entries, append_history, append_proof, append_root, append_status, append_value,
+};
 use crate::detail::append_detail;
 use crate::names::{bit_name, fault_name, lifecycle_name, mark_name};
 use crate::nodes::{append_power, append_roll};
@@ -61,6 +63,7 @@ fn append_refusal(refusal: Refusal, out: &mut Vec<u8>) -> Result<(), AllocError>
         }
         Refusal::UnknownId => append(b"19", out),
         Refusal::VersionTooLow => append(b"20", out),
+        Refusal::NotProof { at } => append_numbered(b"26 ", at as u64, out),
     }
 }
 
@@ -143,6 +146,9 @@ pub fn append_text(answer: &Answer, out: &mut Vec<u8>) -> Result<(), AllocError>
             )
         }
         Answer::Root { count, root } => append_root(*count, root, out),
+        Answer::Proof { root, bytes } => append_proof(root.get(), bytes.bytes(), out),
+        Answer::Checked { accepted: true } => append(b"ok yes", out),
+        Answer::Checked { accepted: false } => append(b"ok no", out),
         Answer::History(ids) => append_history(ids.as_slice(), out),
         Answer::Value(value) => append_value(value, out),
         Answer::Listed(entries) => append_entries(entries.as_slice(), out),

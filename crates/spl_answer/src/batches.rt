@@ -1,6 +1,6 @@
 //! The texts of answers about batches and the state that they left.
 ghost use Rattle.std.specs.Prelude.{◌≡◌, ◌++◌, OnOk, decimal};
-ghost use Rattle.spl_answer.specs.Batches.{spaced, hex_text, root_text, history_text, value_text, entry_text, entries_text};
+ghost use Rattle.spl_answer.specs.Batches.{spaced, hex_text, root_text, proof_text, history_text, value_text, entry_text, entries_text};
 ghost use Rattle.spl_answer.specs.Texts.{status_text};
 
 use crate::note::append_reason;
@@ -25,6 +25,16 @@ pub(crate) fn append_root(count: u32, root: &[u8], out: &mut Vec<u8>) -> Result<
     append_numbered(b"ok root ", u64::from(count), out)?;
     append(b" ", out)?;
     append_hex(root, out)
+}
+
+/// Appends the text of a proof under a root.
+pub(crate) fn append_proof(root: &[u8], bytes: &[u8], out: &mut Vec<u8>) -> Result<(), AllocError>
+    ensures { OnOk result (out.new.items ≡ out.old.items ++ proof_text root.now bytes.now) }
+{
+    append(b"ok proof ", out)?;
+    append_hex(root, out)?;
+    append(b" ", out)?;
+    append_hex(bytes, out)
 }
 
 fn append_ids(ids: &[BatchId], out: &mut Vec<u8>) -> Result<(), AllocError>
