@@ -9,3 +9,4 @@ pub mod States
 pub mod Lists
 pub mod Entries
 pub mod Packs
+pub mod Proofs

@@ -15,6 +15,7 @@ mod pack;
 mod plan;
 mod plans;
 mod propose;
+mod proving;
 mod sends;
 mod serve;
 mod settled;

@@ -61,6 +61,7 @@ impl Site {
             Event::Root => held.asks(alloc, Question::Root),
             Event::History => held.asks(alloc, Question::History),
             Event::Get(address) => held.asks(alloc, Question::Value(*address)),
+            Event::Prove(address) => held.proves(alloc, address),
             Event::List(prefix) => held.asks(alloc, Question::Listed(*prefix)),
             Event::Status(id) => held.asks(alloc, Question::Status(*id)),
             Event::Receipt(id) => held.asks(alloc, Question::Receipt(*id)),
