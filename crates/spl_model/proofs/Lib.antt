@@ -4,3 +4,4 @@ pub mod LinesAsOccurrences
 pub mod Unmoved
 pub mod Quiet
 pub mod Pairs
+pub mod Checks

@@ -102,6 +102,7 @@ pub plain-line : (w : World) (l : Line) (kept : Bool) → is_line l ≡ true →
 plain-line w (line.Step s) kept h = (plain-step s h, tt)
 plain-line w (line.Calm c k) kept h = (run-calm c w k).plain
 plain-line w (line.Roll n) kept h = tt
+plain-line w (line.Check k) kept h = tt
 plain-line w (line.Cut calls f s) kept h = (plain-step s (and_right (nat_lt calls (2 ^ 8) && is_fill f) (is_step s) h), tt)
 plain-line w (line.Fail call s) kept h = (plain-step s (and_right (nat_le 1 call && nat_lt call (2 ^ 8)) (is_step s) h), tt)
 plain-line w _ kept h = (tt, tt)

@@ -16,6 +16,7 @@ use Rattle.spl_sched.specs.Grammar.{circuit_of, step_circuit, step_node}
 use Rattle.spl_rules.specs.Cells.{is_bound}
 use Rattle.spl_model.specs.Worlds.{Origin, World, Occurrence, Steps, Stops, Starts, Halts, first_world, step_plan, step_world, happens}
 use Rattle.spl_model.specs.Calm.{calm}
+use Rattle.spl_model.specs.Checks.{check_answer}
 use Rattle.spl_model.specs.Projection.{Ran, names, concerned, own_among, own}
 
 -- ---- a line in a world
@@ -36,6 +37,7 @@ line_answer worlds roll (line.Calm c k) kept = answer.Calm k
 line_answer worlds roll (line.Stop n) kept = answer.Power false
 line_answer worlds roll (line.Start n) kept = answer.Power true
 line_answer worlds roll (line.Roll n) kept = roll n
+line_answer worlds roll (line.Check c) kept = check_answer c
 line_answer worlds roll (line.Cut calls fill s) kept = halt_answer answer.Cut (worlds (step_circuit s)) s kept
 line_answer worlds roll (line.Fail call s) kept = halt_answer answer.Fault (worlds (step_circuit s)) s kept
 
@@ -46,6 +48,7 @@ line_world w (line.Calm c k) kept = (calm c w k).world
 line_world w (line.Stop n) kept = happens w (Stops n)
 line_world w (line.Start n) kept = happens w (Starts n)
 line_world w (line.Roll n) kept = w
+line_world w (line.Check c) kept = w
 line_world w (line.Cut calls fill s) kept = happens w (Halts kept s)
 line_world w (line.Fail call s) kept = happens w (Halts kept s)
 
@@ -56,6 +59,7 @@ occurrences_in w (line.Calm c k) kept = (calm c w k).happened
 occurrences_in w (line.Stop n) kept = Stops n ∷ []
 occurrences_in w (line.Start n) kept = Starts n ∷ []
 occurrences_in w (line.Roll n) kept = []
+occurrences_in w (line.Check c) kept = []
 occurrences_in w (line.Cut calls fill s) kept = Halts kept s ∷ []
 occurrences_in w (line.Fail call s) kept = Halts kept s ∷ []
 

@@ -6,5 +6,6 @@ pub mod Quiet
 pub mod Plain
 pub mod Projection
 pub mod Outcomes
+pub mod Checks
 pub mod Answers
 pub mod Counts

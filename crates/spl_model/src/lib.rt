@@ -12,8 +12,12 @@ ghost use Rattle.spl_sched.specs.declared.line.Line.{Line};
 ghost use Rattle.spl_model.specs.Worlds.{World, IsUnmoved, step_plan, step_world};
 ghost use Rattle.spl_model.specs.Calm.{Calming, open_nodes, pass, passes};
 ghost use Rattle.spl_model.specs.Quiet.{IsQuiet, ticks_at};
-ghost use Rattle.spl_model.specs.Projection.{names};
-ghost use Rattle.spl_model.specs.Answers.{line_answer, line_world};
+ghost use Rattle.spl_sched.specs.declared.line.Line.TheVariants as line;
+ghost use Rattle.spl_sched.specs.declared.line.ProofCheck.{ProofCheck};
+ghost use Rattle.spl_model.specs.Worlds.{Origin};
+ghost use Rattle.spl_model.specs.Checks.{check_answer};
+ghost use Rattle.spl_model.specs.Projection.{Ran, names};
+ghost use Rattle.spl_model.specs.Answers.{line_answer, line_world, answer_to};
 
 /// The most events that the lines of a run have (docs/RULES.md, Limits).
 pub const MOST_EVENTS: u32 = 32_768;
@@ -27,6 +31,12 @@ pub fn refused_lines_change_nothing()
     ensures line { (worlds : CircuitId → World) (roll : NodeId → Answer) (l : Line) (kept : Bool) (why : Refusal) (c : CircuitId) →
         names c l ≡ true → line_answer worlds roll l kept ≡ answer.Refused why →
         IsUnmoved (worlds c) (line_world (worlds c) l kept) }
+{}
+
+/// What a check of a proof is answered hangs on its own line alone: neither on the nodes and what
+/// they keep, nor on the lines before it.
+pub fn checks_hang_on_their_line()
+    ensures { (o : Origin) (before : List Ran) (c : ProofCheck) (kept : Bool) → answer_to o before (record { line = line.Check c; kept = kept }) ≡ check_answer c }
 {}
 
 /// A calm in which nothing is left to do stays so: a pass leaves the world as it is, and has no
