@@ -66,6 +66,7 @@ module _ (site : Site) (b : Bound) where
   shows-cell event.Show = (refl, refl, refl, sym (length-values b.acts.history), sym (length-values b.batches.history))
   shows-cell event.Detail = (refl, refl, refl, refl)
   shows-cell event.Root = if_holds (Shows event.Root) (runs b) _ _ (λ q. (sym (length-values b.batches.history), refl)) (λ q. tt)
+  shows-cell (event.Prove address) = if_holds (Shows (event.Prove address)) (runs b) _ _ (λ q. (refl, refl)) (λ q. tt)
   shows-cell event.History = if_holds (Shows event.History) (runs b) _ _ (λ q. refl) (λ q. tt)
   shows-cell (event.Get address) = if_holds (Shows (event.Get address)) (runs b) _ _ (λ q. refl) (λ q. tt)
   shows-cell (event.List prefix) = if_holds (Shows (event.List prefix)) (runs b) _ _ (λ q. refl) (λ q. tt)
@@ -77,6 +78,7 @@ shows-refused : (d : Definition) (acts : List Act) (batches : List Batch) (e : E
 shows-refused d acts batches event.Show why = tt
 shows-refused d acts batches event.Detail why = tt
 shows-refused d acts batches event.Root why = tt
+shows-refused d acts batches (event.Prove address) why = tt
 shows-refused d acts batches event.History why = tt
 shows-refused d acts batches (event.Get address) why = tt
 shows-refused d acts batches (event.List prefix) why = tt

@@ -17,7 +17,7 @@ use Rattle.spl_wire.specs.declared.answer.Answer.TheVariants as answer
 use Rattle.spl_wire.specs.declared.answer.BatchStatus.TheVariants as status
 use Rattle.spl_wire.specs.declared.answer.Refusal.TheVariants as refusal
 use Rattle.spl_rules.specs.Cells.{Cell, Held, Deed, Refuses, Tells, runs, Bound, Site}
-use Rattle.spl_rules.specs.Batches.{when_active, root_told, history_told, value_told, listed, status_kept, status_told, receipt_kept, receipt_told}
+use Rattle.spl_rules.specs.Batches.{when_active, root_told, proof_told, history_told, value_told, listed, status_kept, status_told, receipt_kept, receipt_told}
 use Rattle.spl_rules.specs.Events.{held_does}
 use Rattle.spl_rules.specs.Plans.{tells_only, planned, plan_of}
 use Rattle.spl_model.specs.Worlds.{World}
@@ -65,6 +65,7 @@ module _ (w : World) (site : Site) (b : Bound) (up : w.up site.here ≡ true) (i
     show = told-show;
     detail = says event.Detail;
     root = λ q. told event.Root (Tells (root_told b.batches)) refl q ∙ ap (λ (k : ℕ). answer.Root k (node_at 70 [] (state_of (values b.batches.history)))) (sym (length-values b.batches.history));
+    prove = λ address q. told (event.Prove address) (Tells (proof_told b.batches address)) refl q;
     history = λ q. told event.History (Tells (history_told b.batches)) refl q;
     get = λ address q. told (event.Get address) (Tells (value_told b.batches address)) refl q;
     list = λ prefix q. told (event.List prefix) (Tells (listed b.batches prefix)) refl q;

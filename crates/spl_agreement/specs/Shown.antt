@@ -5,6 +5,8 @@ use Rattle.std.specs.Map.{lookup}
 use Rattle.std.specs.BTreeMap.{is_at}
 use Rattle.spl_state.specs.Entries.{address_cmp}
 use Rattle.spl_state.specs.Root.{node_at}
+use Rattle.spl_proof.specs.Made.{proof}
+use Rattle.spl_proof.specs.Forms.{proof as proof_form}
 use Rattle.spl_command.specs.declared.batch.Batch.{Batch}
 use Rattle.spl_command.specs.Lists.{state_of, receipts_at}
 use Rattle.spl_scabbard.specs.Readers.{ids_of, place_of}
@@ -32,6 +34,8 @@ IsShownBy d acts batches event.Show (answer.Show generation state mark accepted 
 IsShownBy d acts batches event.Detail (answer.Detail definition hash state mark accepted requester) =
     (definition ≡ d) × (state ≡ (life d acts).state) × (accepted ≡ accepted_by d acts) × (requester ≡ (life d acts).circuit.requester)
 IsShownBy d acts batches event.Root (answer.Root count root) = (count ≡ length batches) × (root ≡ node_at 70 [] (state_of batches))
+IsShownBy d acts batches (event.Prove address) (answer.Proof root bytes) =
+    (root ≡ node_at 70 [] (state_of batches)) × (bytes ≡ proof_form.spell (proof (state_of batches) address))
 IsShownBy d acts batches event.History (answer.History ids) = ids ≡ ids_of batches
 IsShownBy d acts batches (event.Get address) (answer.Value value) = value ≡ lookup (is_at (address_cmp address)) (state_of batches)
 IsShownBy d acts batches (event.List prefix) (answer.Listed entries) = entries ≡ map entry_told (filter (has_prefix prefix) (state_of batches))

@@ -7,6 +7,8 @@ use Rattle.sha2.specs.Sha256.{sha256}
 use Rattle.spl_state.specs.declared.address.Address.{Address}
 use Rattle.spl_state.specs.Entries.{address_cmp}
 use Rattle.spl_state.specs.Root.{node_at}
+use Rattle.spl_proof.specs.Made.{proof}
+use Rattle.spl_proof.specs.Forms.{proof as proof_form}
 use Rattle.spl_command.specs.declared.batch.Batch.{Batch}
 use Rattle.spl_command.specs.declared.receipt.Receipt.{Receipt}
 use Rattle.spl_command.specs.Lists.{state_of, receipts_at}
@@ -51,6 +53,10 @@ pub record TellsLists (asks : Event → Answer) (h : Bound) (acts : List Act) (b
       ≡ answer.Detail h.definition (sha256 (definition.spell h.definition)) (life h.definition acts).state h.mark
       (accepted_by h.definition acts) (life h.definition acts).circuit.requester
   pub root : AreRunning h.definition acts → asks event.Root ≡ answer.Root (length batches) (node_at 70 [] (state_of batches))
+  pub prove :
+      (address : Address) →
+      AreRunning h.definition acts →
+      asks (event.Prove address) ≡ answer.Proof (node_at 70 [] (state_of batches)) (proof_form.spell (proof (state_of batches) address))
   pub history : AreRunning h.definition acts → asks event.History ≡ answer.History (ids_of batches)
   pub get :
       (address : Address) →

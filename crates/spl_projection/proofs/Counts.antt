@@ -51,6 +51,7 @@ few-beside worlds (line.Step s) = omega arith
 few-beside worlds (line.Stop n) = omega arith
 few-beside worlds (line.Start n) = omega arith
 few-beside worlds (line.Roll n) = omega arith
+few-beside worlds (line.Check k) = omega arith
 few-beside worlds (line.Cut calls f s) = omega arith
 few-beside worlds (line.Fail call s) = omega arith
 
@@ -60,6 +61,7 @@ few-named worlds c (line.Step s) kept q = omega arith
 few-named worlds c (line.Stop n) kept q = omega arith
 few-named worlds c (line.Start n) kept q = omega arith
 few-named worlds c (line.Roll n) kept q = omega arith
+few-named worlds c (line.Check k) kept q = omega arith
 few-named worlds c (line.Cut calls f s) kept q = omega arith
 few-named worlds c (line.Fail call s) kept q = omega arith
 

@@ -34,6 +34,7 @@ plain-beside : (l : Line) → AllPlain (happened_beside l)
 plain-beside (line.Step s) = tt
 plain-beside (line.Calm c k) = tt
 plain-beside (line.Roll n) = tt
+plain-beside (line.Check k) = tt
 plain-beside _ = (tt, tt)
 
 plain-after : (c : CircuitId) (w : World) (r : Ran) → line_fits r ≡ true → AllPlain (happened_in c w r)

@@ -34,6 +34,7 @@ module _ (ns : List NodeId) where
   occurrences-here w v (line.Stop n) kept h p = (h, tt)
   occurrences-here w v (line.Start n) kept h p = (h, tt)
   occurrences-here w v (line.Roll n) kept h p = tt
+  occurrences-here w v (line.Check k) kept h p = tt
   occurrences-here w v (line.Cut calls f s) kept h p = (step-here ns s h, tt)
   occurrences-here w v (line.Fail call s) kept h p = (step-here ns s h, tt)
 

@@ -55,6 +55,7 @@ module _ (ns : List NodeId) where
   IsLineWithin (line.Stop n) = has_node ns n ≡ true
   IsLineWithin (line.Start n) = has_node ns n ≡ true
   IsLineWithin (line.Roll n) = Unit {0}
+  IsLineWithin (line.Check k) = Unit {0}
   IsLineWithin (line.Cut calls f s) = IsStepWithin ns s
   IsLineWithin (line.Fail call s) = IsStepWithin ns s
 
@@ -70,6 +71,7 @@ module _ (ns : List NodeId) where
   line-pair w v (line.Stop n) kept f h p = record { alike = happens-alike ns w v (Stops n) p.alike h; confined = confined-happens ns v (Stops n) tt p.confined }
   line-pair w v (line.Start n) kept f h p = record { alike = happens-alike ns w v (Starts n) p.alike h; confined = confined-happens ns v (Starts n) tt p.confined }
   line-pair w v (line.Roll n) kept f h p = p
+  line-pair w v (line.Check k) kept f h p = p
   line-pair w v (line.Cut calls fill s) kept f h p = halts-pair w v s kept (cut-fits calls fill s f) h p
   line-pair w v (line.Fail call s) kept f h p = halts-pair w v s kept (fail-fits call s f) h p
 
@@ -121,6 +123,7 @@ module _ (ns : List NodeId) where
   named-within c (line.Stop n) h k = cc
   named-within c (line.Start n) h k = cc
   named-within c (line.Roll n) h k = tt
+  named-within c (line.Check p) h k = tt
   named-within c _ h k = k
 
   -- where it names the circuit, what it concerns is among the nodes

@@ -43,6 +43,7 @@ flat-same worlds (line.Step s) kept h = refl
 flat-same worlds (line.Stop n) kept h = refl
 flat-same worlds (line.Start n) kept h = refl
 flat-same worlds (line.Roll n) kept h = refl
+flat-same worlds (line.Check k) kept h = refl
 flat-same worlds (line.Cut calls f s) kept h = refl
 flat-same worlds (line.Fail call s) kept h = refl
 
@@ -87,6 +88,7 @@ line-step o c before (line.Step s) kept g f = refl
 line-step o c before (line.Stop n) kept g f = refl
 line-step o c before (line.Start n) kept g f = refl
 line-step o c before (line.Roll n) kept g f = refl
+line-step o c before (line.Check k) kept g f = refl
 line-step o c before (line.Cut calls x s) kept g f = refl
 line-step o c before (line.Fail call s) kept g f = refl
 
