@@ -5,6 +5,7 @@ use Rattle.spl_agree.proofs.Tests.{if_true, if_false}
 use Rattle.spl_circuit.specs.Nodes.{NodeId, CircuitId, has_node}
 use Rattle.spl_circuit.specs.Rules.{ascends}
 use Rattle.spl_sched.specs.declared.line.Step.{Step}
+use Rattle.spl_sched.specs.declared.line.ProofCheck.{ProofCheck}
 use Rattle.spl_sched.specs.declared.line.Line.TheVariants as line
 use Rattle.spl_sched.specs.Grammar.{step_node, is_line}
 use Rattle.spl_rules.specs.Changes.{made, stopped_cell}
@@ -153,6 +154,9 @@ module _ (before : List Ran) (old new : World) (was is : List Images) (ids : ids
   -- by what it does in each world
   pub stands_line : (r : Ran) → is_line r.line ≡ true → IsOne r → line_stops r.line ≡ now → ((c : CircuitId) (m : CircuitWorld) → Holds c m (over old was) → Holds c (world_after c m r) (over new is)) → Stands (before ++ r ∷ []) new is
   stands_line r k n o h = stands_by r k n o (λ c. subst (λ (m : CircuitWorld). Holds c m (over new is)) (sym (whole_from-append c (first_world (blank (ids_of old)) c) before (r ∷ []))) (h c (whole_world (blank (ids_of old)) c before) (stands.each c)))
+
+  pub stands_check : (k : ProofCheck) (kept : Bool) → is_line (line.Check k) ≡ true → 0 ≡ now → ((c : CircuitId) (m : CircuitWorld) → Holds c m (over old was) → Holds c m (over new is)) → Stands (before ++ record { line = line.Check k; kept = kept } ∷ []) new is
+  stands_check k kept fits o h = stands_by (record { line = line.Check k; kept = kept }) fits refl o (λ c. beside (record { line = line.Check k; kept = kept }) c refl (h c (whole_world (blank (ids_of old)) c before) (stands.each c)))
 
   pub stands_start : (n : NodeId) (kept : Bool) → is_line (line.Start n) ≡ true → 0 ≡ now → ((c : CircuitId) (m : CircuitWorld) → Holds c m (over old was) → Holds c (happens m (Starts n)) (over new is)) → Stands (before ++ record { line = line.Start n; kept = kept } ∷ []) new is
   stands_start n kept k o h = stands_by (record { line = line.Start n; kept = kept }) k refl o (λ c. beside (record { line = line.Start n; kept = kept }) c refl (h c (whole_world (blank (ids_of old)) c before) (stands.each c)))

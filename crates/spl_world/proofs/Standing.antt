@@ -117,6 +117,7 @@ none_counted (line.Calm id passes) h = refl
 none_counted (line.Stop n) h = absurd cc
 none_counted (line.Start n) h = refl
 none_counted (line.Roll n) h = refl
+none_counted (line.Check k) h = refl
 none_counted (line.Cut calls fill s) h = absurd cc
 none_counted (line.Fail call s) h = absurd cc
 

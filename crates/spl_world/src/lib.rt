@@ -3,6 +3,7 @@
 
 mod calm;
 mod carrying;
+mod checking;
 mod cut;
 mod down;
 mod events;

@@ -105,12 +105,12 @@ impl Slot {
         self.host.due(circuit)
     }
 
-    /// Makes the digests of the state of a circuit's cell again before an event that reports its root;
-    /// nothing that is seen changes.
+    /// Makes the digests of the state of a circuit's cell again before an event that reports its root,
+    /// or a proof under it; nothing that is seen changes.
     pub fn prepare(&mut self, circuit: &CircuitId, event: &Event, cache: &mut RunCache)
         ensures { self.new ≡ self.old }
     {
-        if matches!(event, Event::Root) {
+        if matches!(event, Event::Root | Event::Prove(_)) {
             self.host.renew(circuit, cache);
         }
     }

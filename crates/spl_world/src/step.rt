@@ -18,6 +18,7 @@ ghost use Rattle.spl_world.specs.Links.{LeavesLinks};
 ghost use Rattle.spl_world.specs.Links.{Delivers, IsReady, Places, carried_at, line_carried, link_view};
 ghost use Rattle.spl_world.specs.Views.{HasPlace, IsPlace, Holds, Moves, Sits, SpareStay, Stands, Stays, places_of, ids_of, is_halted, seen};
 
+use crate::checking::checked;
 use crate::fault::WorldFault;
 use crate::world::World;
 use spl_edge::{Disk, Fabric, Pair};
@@ -235,6 +236,10 @@ impl World {
                 self.events.add(1)?;
                 let slot = self.slot(node);
                 Ok(self.roll_at(alloc, slot)?)
+            }
+            Line::Check(check) => {
+                self.events.add(1)?;
+                Ok(checked(alloc, check.get())?)
             }
             _ => unreachable!(),
         }

@@ -3,13 +3,14 @@ use Rattle.spl_model.specs.Worlds.{blank}
 use Rattle.spl_sched.specs.declared.line.Line.TheVariants as line
 use Rattle.spl_sched.specs.Grammar.{step_circuit}
 use Rattle.spl_model.specs.Calm.{calm}
+use Rattle.spl_model.specs.Checks.{check_answer}
 use Rattle.spl_projection.specs.Whole.{whole_world}
 use Rattle.spl_world.specs.Disks.{images}
 use Rattle.spl_world.specs.Lines.{starts}
 use Rattle.spl_world.specs.Views.{IsAt, ids_of, seen, places_of}
 use Rattle.spl_world.proofs.Counting.{counts_failed, at_least, failed}
 use Rattle.spl_world.proofs.Leaving.{all_itself, leaves_failed, leaves_limit, leaves_ok, limit_no_disk, disk_at, journal_from, memory_no_disk, no_journal}
-use Rattle.spl_world.proofs.Powering.{stands_start, stands_roll}
+use Rattle.spl_world.proofs.Powering.{stands_start, stands_roll, stands_check}
 use Rattle.spl_world.proofs.Results.{err_from, ok_both}
 use Rattle.spl_world.proofs.Standing.{stands_after, counted_line, over_line, step_result, calm_answered, power_answered}
 use Rattle.spl_world.proofs.Staying.{stays_refused}
@@ -299,3 +300,58 @@ returns-in_err-start_at-in-Start-clause-own g c = λ n slot at is q.
     let both : line.Start c.in-Start.node ≡ line.Start n = sym c.in-Start.is ∙ is in
     let same : c.in-Start.node ≡ n = cc in
     (c.slot-slot.result, subst (λ (k : CircuitId). IsAt c.args.self.now c.slot-slot.result k) same c.slot-slot.ensures.at, place)
+
+-- ---- a check
+
+pub returns-in_ok-checked-in-Check-clause-answer : goal.returns-in_ok-checked-in-Check-clause-answer
+returns-in_ok-checked-in-Check-clause-answer g c = λ before stands.
+    let fits = rw (c.in-Check.is) at c.requires.fits in
+    rw (c.in-Check.is) (c.in_ok-checked-in-Check.ensures ∙ ap check_answer c.get.ensures ∙ sym (power_answered (ids_of c.args.self.now) before (line.Check c.in-Check.check) stands.fit fits))
+
+pub returns-in_ok-checked-in-Check-clause-stands : goal.returns-in_ok-checked-in-Check-clause-stands
+returns-in_ok-checked-in-Check-clause-stands g c = λ before stands.
+    let k = c.in-Check.check in
+    let one : c.add-in-Check.new.self ≡ c.args.self.now.events + 1 = omega (arith, c.in_ok-add-in-Check.ensures.counts.ok) in
+    let same : c.args.self.now.stops ≡ c.args.self.now.stops + 0 = omega arith in
+    rw (c.in-Check.is) (stands_check before c.args.self.now (record c.args.self.now { events = c.add-in-Check.new.self }) (images g.D.Disk.view c.args.pairs.now.items) (images g.D.Disk.view c.args.pairs.now.items) refl one 0 same stands stands.sits k false (rw (c.in-Check.is) at c.requires.fits) refl (λ i m h. h))
+
+pub returns-in_err-add-in-Check-clause-many : goal.returns-in_err-add-in-Check-clause-many
+returns-in_err-add-in-Check-clause-many g c = λ before which stands q.
+    let l = line.Check c.in-Check.check in
+    rw (c.in-Check.is) (over_line c.from_residual-in_err-add-in-Check.result 0 which c.args.self.now (images g.D.Disk.view c.args.pairs.now.items) before l 1 stands (rw (c.in-Check.is) at c.requires.fits) refl (counts_failed c.from_residual-in_err-add-in-Check.result _ c.from_residual-in_err-add-in-Check.ensures c.args.self.now.events _ 0 0 1 1 c.in_err-add-in-Check.ensures.counts (at_least 1 1 refl)) q)
+
+pub returns-in_err-add-in-Check-clause-place : goal.returns-in_err-add-in-Check-clause-place
+returns-in_err-add-in-Check-clause-place g c = λ slot q. absurd (limit_no_disk c.from_residual-in_err-add-in-Check.result _ 1 c.from_residual-in_err-add-in-Check.ensures c.in_err-add-in-Check.ensures.fault slot q)
+
+pub returns-in_err-checked-in-Check-clause-place : goal.returns-in_err-checked-in-Check-clause-place
+returns-in_err-checked-in-Check-clause-place g c = λ slot q. absurd (memory_no_disk c.from_residual-in_err-checked-in-Check.result c.from_residual-in_err-checked-in-Check.ensures slot q)
+
+pub returns-in_err-add-in-Check-clause-ended : goal.returns-in_err-add-in-Check-clause-ended
+returns-in_err-add-in-Check-clause-ended g c = λ before stands.
+    let was = images g.D.Disk.view c.args.pairs.now.items in
+    err_from c.from_residual-in_err-add-in-Check.result c.in_err-add-in-Check.field-0.0 (λ e. LineEnds (λ k. whole_world (blank (ids_of c.args.self.now)) k before) c.args.line.now e (ids_of c.args.self.now) (places_of c.args.self.now) was) c.from_residual-in_err-add-in-Check.ensures
+    (ended_still before c.args.self.now was stands c.in_err-add-in-Check.field-0.0 (limit_named c.in_err-add-in-Check.field-0.0 1 (places_of c.args.self.now) c.in_err-add-in-Check.ensures.fault) c.args.line.now was refl)
+
+pub returns-in_err-checked-in-Check-clause-ended : goal.returns-in_err-checked-in-Check-clause-ended
+returns-in_err-checked-in-Check-clause-ended g c = λ before stands.
+    let was = images g.D.Disk.view c.args.pairs.now.items in
+    err_from c.from_residual-in_err-checked-in-Check.result NoMemory (λ e. LineEnds (λ k. whole_world (blank (ids_of c.args.self.now)) k before) c.args.line.now e (ids_of c.args.self.now) (places_of c.args.self.now) was) c.from_residual-in_err-checked-in-Check.ensures
+    (ended_still before c.args.self.now was stands NoMemory (memory_named (places_of c.args.self.now)) c.args.line.now was refl)
+
+pub returns-in_err-add-in-Check-clause-faults : goal.returns-in_err-add-in-Check-clause-faults
+returns-in_err-add-in-Check-clause-faults g c = faults_still c.from_residual-in_err-add-in-Check.result _ (off_failed c.from_residual-in_err-add-in-Check.result _ c.from_residual-in_err-add-in-Check.ensures (off_limit (failed (Unit {0}) c.in_err-add-in-Check.field-0.0) 1 c.in_err-add-in-Check.ensures.fault))
+
+pub returns-in_err-checked-in-Check-clause-faults : goal.returns-in_err-checked-in-Check-clause-faults
+returns-in_err-checked-in-Check-clause-faults g c = faults_still c.from_residual-in_err-checked-in-Check.result _ (off_memory c.from_residual-in_err-checked-in-Check.result c.from_residual-in_err-checked-in-Check.ensures)
+
+pub returns-in_ok-checked-in-Check-clause-faults : goal.returns-in_ok-checked-in-Check-clause-faults
+returns-in_ok-checked-in-Check-clause-faults g c = faults_same _ _
+
+pub returns-in_err-add-in-Check-clause-links : goal.returns-in_err-add-in-Check-clause-links
+returns-in_err-add-in-Check-clause-links g c = λ place before placed stands. fails_early c.from_residual-in_err-add-in-Check.result c.in_err-add-in-Check.field-0.0 c.from_residual-in_err-add-in-Check.ensures (off_limit (failed (Unit {0}) c.in_err-add-in-Check.field-0.0) 1 c.in_err-add-in-Check.ensures.fault) (line_carried place (λ (k : CircuitId). whole_world (blank (ids_of c.args.self.now)) k before) c.args.line.now) (link_view (g.C.Carry.view c.args.carrier.now) (g.F.Fabric.view c.args.fabric.now))
+
+pub returns-in_err-checked-in-Check-clause-links : goal.returns-in_err-checked-in-Check-clause-links
+returns-in_err-checked-in-Check-clause-links g c = λ place before placed stands. fails_early c.from_residual-in_err-checked-in-Check.result NoMemory c.from_residual-in_err-checked-in-Check.ensures refl (line_carried place (λ (k : CircuitId). whole_world (blank (ids_of c.args.self.now)) k before) c.args.line.now) (link_view (g.C.Carry.view c.args.carrier.now) (g.F.Fabric.view c.args.fabric.now))
+
+pub returns-in_ok-checked-in-Check-clause-links : goal.returns-in_ok-checked-in-Check-clause-links
+returns-in_ok-checked-in-Check-clause-links g c = λ place before placed stands. rw (c.in-Check.is) (carries_nothing (link_view (g.C.Carry.view c.args.carrier.now) (g.F.Fabric.view c.args.fabric.now)) (g.met.C.Carry.idle c.args.carrier.now))
