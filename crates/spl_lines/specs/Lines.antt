@@ -1,7 +1,8 @@
 -- A text as lines (docs/RULES.md, Schedules).
-use Rattle.std.specs.Prelude.{◌≤◌, ◌<◌, ℕ, max, nat_eq, List, [], ◌∷◌, length, if◌then◌else◌, ◌==◌, ◌||◌, Bool, true, false}
+use Rattle.std.specs.Prelude.{◌≤◌, ◌<◌, ℕ, max, nat_eq, List, [], ◌∷◌, length, codes, if◌then◌else◌, ◌==◌, ◌||◌, Bool, true, false}
 use Rattle.std.specs.List.{starts_with}
 use Rattle.spl_base.specs.declared.limit.TheConstants.{LONGEST_LINE}
+use Rattle.spl_lines.specs.declared.lines.TheConstants.{LONGEST_CHECK}
 
 -- b goes to the beginning of the first of these lines
 abbrev pub onto_line : ℕ → List (List ℕ) → List (List ℕ)
@@ -24,7 +25,7 @@ rest_of (b ∷ bytes) = if has_feed (b ∷ bytes) then rest_of bytes else b ∷ 
 
 -- how the lines begin that may be longer than others, and the most bytes that these may have
 abbrev pub longer_lines : List (List ℕ × ℕ)
-longer_lines = []
+longer_lines = (codes "check ", LONGEST_CHECK) ∷ []
 
 -- the most bytes that a line may have, by such a table
 abbrev pub longest_by : List (List ℕ × ℕ) → List ℕ → ℕ

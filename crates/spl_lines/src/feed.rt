@@ -123,12 +123,16 @@ impl Feed {
         }
     }
 
-    // Moves what waits to the beginning.
+    // Moves what waits to the beginning. Where it stands there nothing moves, so a long line that comes
+    // in small pieces is moved once.
     fn shift(&mut self)
         ensures waits { waiting self.new ≡ waiting self.old }
         ensures front { self.new.start ≡ 0 }
         ensures same { count_of self.new ≡ count_of self.old }
     {
+        if self.start == 0 {
+            return;
+        }
         let wait = self.wait();
         self.buffer.copy_within(self.start.., 0);
         self.buffer.truncate(wait);

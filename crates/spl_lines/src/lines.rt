@@ -7,10 +7,16 @@ use spl_base::LONGEST_LINE;
 /// The most bytes that a source may give.
 pub const MOST_BYTES: usize = 67_108_864;
 
-/// The most bytes that a line may have which begins like this one; no kind of lines has a limit of its own.
+/// The most bytes that a line may have which checks a proof: enough for every proof of a state.
+pub const LONGEST_CHECK: usize = 98_304;
+
+/// The most bytes that a line may have which begins like this one.
 pub fn longest_line(line: &[u8]) -> usize
     ensures { result ≡ longest_line line.now }
 {
+    if line.starts_with(b"check ") {
+        return LONGEST_CHECK;
+    }
     LONGEST_LINE
 }
 
