@@ -27,6 +27,7 @@ line_id (line.Calm id passes) c about fits = let same : id ≡ c = cc in subst (
 line_id (line.Stop n) c about fits = absurd cc
 line_id (line.Start n) c about fits = absurd cc
 line_id (line.Roll n) c about fits = absurd cc
+line_id (line.Check k) c about fits = absurd cc
 line_id (line.Cut calls fill s) c about fits = let same : step_circuit s ≡ c = cc in subst (λ (d : CircuitId). IsTrue (is_circuit_id d)) same (step_id s (and_right _ (is_step s) fits))
 line_id (line.Fail call s) c about fits = let same : step_circuit s ≡ c = cc in subst (λ (d : CircuitId). IsTrue (is_circuit_id d)) same (step_id s (and_right _ (is_step s) fits))
 

@@ -259,6 +259,7 @@ carries_none place worlds (line.Step s) h = absurd cc
 carries_none place worlds (line.Calm c passes) h = absurd cc
 carries_none place worlds (line.Start n) h = absurd cc
 carries_none place worlds (line.Roll n) h = absurd cc
+carries_none place worlds (line.Check k) h = absurd cc
 
 -- an error that blames no link
 no_blame : (e : WorldFault) (x z : LinkView) → is_of_links e ≡ false → HasLinkCause e [] x z

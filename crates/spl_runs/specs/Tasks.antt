@@ -37,6 +37,7 @@ is_taken (line.Step (step.At n c e)) = true
 is_taken (line.Stop n) = true
 is_taken (line.Start n) = true
 is_taken (line.Roll n) = true
+is_taken (line.Check k) = true
 is_taken _ = false
 
 -- what is run there: a line that is taken, or a calm

@@ -12,7 +12,7 @@ pub fn is_taken(line: &Line) -> bool
 {
     match line {
         Line::Step(Step::At { event, .. }) => !matches!(event, Event::Tick | Event::Expire),
-        Line::Stop(_) | Line::Start(_) | Line::Roll(_) => true,
+        Line::Stop(_) | Line::Start(_) | Line::Roll(_) | Line::Check(_) => true,
         _ => false,
     }
 }
