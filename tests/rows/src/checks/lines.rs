@@ -27,6 +27,10 @@ fn parts_text(alloc: Global, line: &Line) -> Answered {
         Line::Stop(node) => text_of(alloc, node.bytes()),
         Line::Start(node) => text_of(alloc, node.bytes()),
         Line::Roll(node) => text_of(alloc, node.bytes()),
+        Line::Check(check) => {
+            let count = check.get().bytes.bytes().len();
+            made(format!(in alloc; "bytes {count}"))
+        }
     }
 }
 
