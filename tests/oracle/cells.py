@@ -4,7 +4,8 @@ from dataclasses import dataclass, field
 from typing import Any, NamedTuple
 
 from groups import LAST_ROUND, MOST_PENDING, NO_POSITION, Body, Group, Member, Reason, expire, hear, submit, tick
-from values import Act, Acts, Batches, Definition, life, receipts_of, root_of, state_of
+from proofs import proof_of, root_of, written
+from values import Act, Acts, Batches, Definition, life, receipts_of, state_of
 
 LAST_TURN = 2**32 - 1
 
@@ -251,6 +252,10 @@ class Site:
     def root(self):
         batches = self.running().batches.values()
         return f"ok root {len(batches)} {root_of(state_of(batches)).hex()}"
+
+    def prove(self, address):
+        state = state_of(self.running().batches.values())
+        return f"ok proof {root_of(state).hex()} {written(proof_of(state, address)).hex()}"
 
     def history(self):
         batches = self.running().batches.values()

@@ -2,7 +2,10 @@
 and mostly start soon, so that runs go on; a few broken lines, broken registries, and runs that pass a limit."""
 import random
 
+from cells import Bound
+from proofs import proof_of, root_of, written
 from schedules import UNTAKEN, BadLine, TooMany, World
+from values import state_of
 
 NAMES = ["alpha", "beta", "gamma", "a", "a-1", "b", "omega", "0", "alphabet"]
 CIRCUITS = ["Ab3dE-00001", "Ab3dE-00002", "Zz9zZ-00000"]
@@ -11,6 +14,8 @@ SERVICES = ["aaaa", "bbbb", "cccc", "dddd", "eeee"]
 FILLS = ["old", "new", "byte:01", "byte:07"]
 BROKEN = ["show alpha", "show delta Ab3dE-00001", "calm Ab3dE-00001 0", "vote alpha Ab3dE-00001 maybe", "show  alpha Ab3dE-00001"]
 BROKEN += ["stop delta", "start", "roll alpha beta", "cut 256 new", "fail 0", "cut 3 byte:1", "fail 1 calm Ab3dE-00001 1", "cut 1 old stop"]
+BROKEN += [f"cut 3 new prove alpha Ab3dE-00001 {ADDRESSES[0]}", f"fail 1 check {'00' * 32} {ADDRESSES[0]} - 0000", "prove alpha Ab3dE-00001 00"]
+BROKEN += [f"check {'00' * 32} {ADDRESSES[0]} {end}" for end in ("-", "- ", "- 0", "2a 0000", "=2 0000", "- 00 00")]
 
 
 class Draw:
@@ -87,6 +92,8 @@ class Draw:
             self.vote: 7,
             self.submit: 12,
             self.ask: 20,
+            self.prove: 2,
+            self.check: 1,
             self.step: 20,
             self.deliver: 30,
             self.calm: 3,
@@ -136,6 +143,26 @@ class Draw:
         services = self.one([*SERVICES[:3], "zzzz"]), self.one(SERVICES[:3])
         asked.append(f"route {node} {circuit} {self.one(self.nodes)} {services[0]} {services[1]}")
         return self.one(asked)
+
+    def prove(self, circuit, node):
+        return f"prove {node} {circuit} {self.one(ADDRESSES)}"
+
+    def check(self, circuit, node):
+        """What a node has at an address, or something else, by its own proof; in some of them a byte is another one, or the
+        last ones are cut off, or more follow."""
+        cell = self.world.at(node, circuit).cell
+        state = state_of(cell.batches.values()) if isinstance(cell, Bound) else {}
+        address = bytes.fromhex(self.one(ADDRESSES))
+        value, found = state.get(address), bytearray(written(proof_of(state, address)))
+        claim = "-" if value is None else f"={value.hex()}"
+        change = self.random.random()
+        if change < 0.2:
+            found[self.random.randrange(len(found))] ^= 1 << self.random.randrange(8)
+        elif change < 0.3:
+            found = found[: self.random.randint(1, len(found))]
+        elif change < 0.4:
+            found += bytes(self.random.randint(1, 3))
+        return f"check {root_of(state).hex()} {address.hex()} {self.one([claim, claim, claim, '-', '=', '=2a'])} {found.hex()}"
 
     def step(self, circuit, node):
         return self.one([f"tick {node} {circuit}"] * 6 + [f"expire {node} {circuit}"])

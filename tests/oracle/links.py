@@ -3,10 +3,10 @@ import os
 
 from disks import Disk, make
 from records import changes_of, copied, packed, record_of
-from schedules import LONGEST_LINE, MOST_BYTES, UNTAKEN, BadLine, TooMany, World, over_nodes
+from schedules import MOST_BYTES, UNTAKEN, BadLine, TooMany, World, is_too_long, over_nodes
 
 PASSES = 8
-NAMES_NO_CIRCUIT = ("stop", "start", "roll")
+NAMES_NO_CIRCUIT = ("stop", "start", "roll", "check")
 
 
 class Files(World):
@@ -71,7 +71,7 @@ def run(nodes, schedule):
     *lines, rest = schedule[:MOST_BYTES].split(b"\n")
     for count, line in enumerate(lines, 1):
         try:
-            if len(line) > LONGEST_LINE:
+            if is_too_long(line):
                 raise BadLine
             if line and not line.startswith(b"#"):
                 words = line.decode("latin-1").split(" ")
@@ -84,7 +84,7 @@ def run(nodes, schedule):
             return ended(3, f"bad schedule: line {count}\n")
         except TooMany as which:
             return ended(4, f"{which}\n")
-    if len(schedule) > MOST_BYTES and len(rest) <= LONGEST_LINE:
+    if len(schedule) > MOST_BYTES and not is_too_long(rest):
         return ended(11, "input too long\n")
     if rest:
         return ended(3, f"bad schedule: line {len(lines) + 1}\n")

@@ -4,11 +4,13 @@ import copy
 import re
 from dataclasses import dataclass, field
 
+import proofs
 from cells import Bound, Refused, Site
 from registries import BadRegistry, nodes_of
 from values import Batch, Command, Definition, Service, Transaction
 
 LONGEST_LINE = 2048
+LONGEST_CHECK = 98304
 MOST_BYTES = 67108864
 MOST_EVENTS = 32768
 MOST_STOPS = 64
@@ -16,6 +18,8 @@ MOST_STOPS = 64
 UNTAKEN = ("deliver", "tick", "expire", "calm", "cut", "fail")
 # An event writes its record by calls 1 to 4; the third opens the gate, which the fourth makes last.
 CALLS_OF_A_RECORD = 4
+# The line about a circuit at a node that isn't taken in a cut or a fail.
+UNCUT = "prove"
 NODE = "[a-z0-9-]{1,32}"
 CIRCUIT = "[0-9A-Za-z]{5}-[0-9A-Za-z]{5}"
 SERVICE = "[0-9A-Za-z]{4}"
@@ -24,6 +28,7 @@ KIND = "[a-z0-9-]{1,32}"
 HEX = "(?:[0-9a-f]{2})*"
 FILL = "old|new|byte:[0-9a-f]{2}"
 ADDRESS = "[0-9a-f]{70}"
+ROOT = "[0-9a-f]{64}"
 TEXT = "[!-<>-~]{1,64}"
 
 
@@ -126,6 +131,14 @@ def batch_id(word):
     return number(word, 0, 2**64 - 1)
 
 
+def address(word):
+    return bytes.fromhex(match(ADDRESS, word)[0])
+
+
+def is_too_long(line):
+    return len(line) > (LONGEST_CHECK if line.startswith(b"check ") else LONGEST_LINE)
+
+
 # What an event of a cell asks: the readers of its words, and what is called.
 EVENTS = {
     "remove": ([], Site.remove),
@@ -136,7 +149,8 @@ EVENTS = {
     "detail": ([], Site.detail),
     "root": ([], Site.root),
     "history": ([], Site.history),
-    "get": ([lambda w: bytes.fromhex(match(ADDRESS, w)[0])], Site.get),
+    "get": ([address], Site.get),
+    "prove": ([address], Site.prove),
     "list": ([prefix], Site.list),
     "status": ([batch_id], Site.status),
     "receipt": ([batch_id], Site.receipt),
@@ -202,7 +216,7 @@ class World:
             raise BadLine
         word, *rest = text.split(" ")
         ways = {"calm": self.run_calm, "stop": self.run_stop, "start": self.run_start, "roll": self.run_roll}
-        ways |= {"cut": self.run_cut, "fail": self.run_fail}
+        ways |= {"check": self.run_check, "cut": self.run_cut, "fail": self.run_fail}
         if word in ways:
             try:
                 return ways[word](rest)
@@ -321,6 +335,19 @@ class World:
         found = sorted(s.circuit for s in self.sites.values() if s.here == node and isinstance(s.cell, Bound))
         return " ".join(["ok roll", str(len(found)), *found])
 
+    # ---- proofs
+
+    def run_check(self, rest):
+        root, at, claim, found = self.exactly(rest, 4)
+        root, at = bytes.fromhex(match(ROOT, root)[0]), address(at)
+        claim = None if claim == "-" else bytes.fromhex(match(f"=({HEX})", claim)[1])
+        found = bytes.fromhex(match(HEX, found)[0])
+        self.counted()
+        try:
+            return "ok yes" if proofs.accepts(root, at, claim, proofs.read(found)) else "ok no"
+        except proofs.Unreadable as fault:
+            raise Refused(26, *fault.args)
+
     # ---- stops in an event
 
     def run_cut(self, rest):
@@ -335,6 +362,8 @@ class World:
 
     def broken_off(self, word, words, keeps):
         """An event in which its node goes down: nothing is sent, and its changes are made where it keeps them."""
+        if word == UNCUT:
+            raise BadLine
         site, does = self.step(word, words)
         self.counted_stop()
         if site.here in self.down:
@@ -372,7 +401,7 @@ def run_in(world, schedule):
     *lines, rest = schedule[:MOST_BYTES].split(b"\n")
     for count, line in enumerate(lines, 1):
         try:
-            if len(line) > LONGEST_LINE:
+            if is_too_long(line):
                 raise BadLine
             if line and not line.startswith(b"#"):
                 written.append(f"{count} {world.run(line.decode('latin-1'))}\n")
@@ -380,7 +409,7 @@ def run_in(world, schedule):
             return "".join(written), 3, f"bad schedule: line {count}\n"
         except TooMany as which:
             return "".join(written), 4, f"{which}\n"
-    if len(schedule) > MOST_BYTES and len(rest) <= LONGEST_LINE:
+    if len(schedule) > MOST_BYTES and not is_too_long(rest):
         return "".join(written), 11, "input too long\n"
     if rest:
         return "".join(written), 3, f"bad schedule: line {len(lines) + 1}\n"

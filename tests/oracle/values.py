@@ -233,22 +233,6 @@ def receipts_of(state, batch):
     return found
 
 
-def root_of(state):
-    """The root of a state: the node of no digits."""
-    return node_of([(address.hex(), address, value) for address, value in sorted(state.items())], 0)
-
-
-def node_of(entries, digits):
-    """The node of those entries, which have this many digits in common."""
-    if not entries:
-        return bytes(32)
-    if len(entries) == 1:
-        _, address, value = entries[0]
-        return hashlib.sha256(b"\0" + address + value).digest()
-    parts = (node_of([e for e in entries if e[0][digits] == d], digits + 1) for d in "0123456789abcdef")
-    return hashlib.sha256(b"\1" + b"".join(parts)).digest()
-
-
 class Batches:
     """The content of a service group."""
 
