@@ -4,6 +4,7 @@
 mod answers;
 mod journals;
 mod lives;
+mod proofs;
 
 use spl_base::{Malformed, Reader};
 use spl_command::{Batch, execute};
@@ -148,6 +149,9 @@ fn run(rt: &HostRuntime) -> io::Result<Option<u64>> {
         "encode" => encode(rt.alloc(), &bytes, number),
         "frames" => frames(rt.alloc(), &bytes, number),
         "root" => root(rt.alloc(), &bytes, number),
+        "prove" => proofs::proofs(rt.alloc(), &bytes, number),
+        "check" => proofs::checks(rt.alloc(), &bytes, number),
+        "hash" => proofs::hashes(rt.alloc(), &bytes, number),
         "detail" => answers::detail(rt.alloc(), &bytes, number),
         "receipt" => answers::receipt(rt.alloc(), &bytes, number),
         "execute" => execution(rt.alloc(), &bytes, number),
