@@ -8,6 +8,7 @@ mod forms;
 mod frames;
 mod generated;
 mod lines;
+mod proofs;
 mod registries;
 mod runs;
 mod states;
@@ -41,6 +42,10 @@ pub fn answer(alloc: Global, table: &str, rest: &str) -> Answered {
         "under" => states::under(alloc, rest),
         "copy" => states::copied(alloc, rest),
         "sha256" => states::sha256(alloc, rest),
+        "prove" => proofs::proved(alloc, rest),
+        "accept" => proofs::accepted(alloc, rest),
+        "check" => proofs::checked(alloc, rest),
+        "check-changes" => proofs::changed(alloc, rest),
         "registry" => registries::read(alloc, rest),
         "source" => devices::taken(alloc, rest),
         "sink" => devices::kept(alloc, rest),

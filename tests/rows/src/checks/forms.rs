@@ -4,6 +4,7 @@ use crate::words::{Answered, RowFault, bytes, halves, made};
 use spl_base::{Malformed, Reader};
 use spl_circuit::{Act, Definition};
 use spl_command::Batch;
+use spl_proof::Proof;
 use spl_wire::{Message, Record};
 use std::alloc::Global;
 
@@ -15,6 +16,8 @@ enum Kind {
     Batch,
     Message,
     Record,
+    /// A proof, which all of the bytes are.
+    Proof,
 }
 
 fn kind_of(word: &str) -> Result<Kind, RowFault> {
@@ -24,6 +27,7 @@ fn kind_of(word: &str) -> Result<Kind, RowFault> {
         "batch" => Ok(Kind::Batch),
         "message" => Ok(Kind::Message),
         "record" => Ok(Kind::Record),
+        "proof" => Ok(Kind::Proof),
         _ => Err(RowFault::BadRow),
     }
 }
@@ -56,6 +60,11 @@ fn record_size(alloc: Global, bytes: &[u8]) -> Result<usize, Malformed> {
     Ok(size)
 }
 
+fn proof_size(alloc: Global, bytes: &[u8]) -> Result<usize, Malformed> {
+    Proof::read(alloc, bytes)?;
+    Ok(bytes.len())
+}
+
 /// How many bytes a value takes.
 fn size_of(alloc: Global, kind: Kind, bytes: &[u8]) -> Result<usize, Malformed> {
     match kind {
@@ -64,6 +73,7 @@ fn size_of(alloc: Global, kind: Kind, bytes: &[u8]) -> Result<usize, Malformed> 
         Kind::Batch => batch_size(alloc, bytes),
         Kind::Message => message_size(alloc, bytes),
         Kind::Record => record_size(alloc, bytes),
+        Kind::Proof => proof_size(alloc, bytes),
     }
 }
 
@@ -75,7 +85,7 @@ fn size_text(alloc: Global, kind: Kind, bytes: &[u8]) -> Answered {
     }
 }
 
-/// Whether a message or record that takes all of the bytes is written back as it was.
+/// Whether a message, a record or a proof that takes all of the bytes is written back as it was.
 fn is_written_back(alloc: Global, kind: Kind, bytes: &[u8]) -> Result<bool, Malformed> {
     match kind {
         Kind::Message => {
@@ -85,6 +95,10 @@ fn is_written_back(alloc: Global, kind: Kind, bytes: &[u8]) -> Result<bool, Malf
         Kind::Record => {
             let (record, size) = Record::read(alloc, bytes)?;
             Ok(record.write(alloc)?.bytes() == &bytes[..size.min(bytes.len())])
+        }
+        Kind::Proof => {
+            let proof = Proof::read(alloc, bytes)?;
+            Ok(proof.write(alloc)?.bytes() == bytes)
         }
         _ => Ok(false),
     }
