@@ -103,6 +103,9 @@ fn refusal(word: &str) -> Result<Refusal, RowFault> {
         "stale-generation" => Ok(Refusal::StaleGeneration {
             bound: Generation(long(rest)?),
         }),
+        "not-proof" => Ok(Refusal::NotProof {
+            at: long(rest)? as usize,
+        }),
         _ => plain_refusal(name),
     }
 }
@@ -306,6 +309,13 @@ fn status(rest: &str) -> Result<BatchStatus, RowFault> {
     }
 }
 
+fn proof(alloc: Global, rest: &str) -> Result<Answer, RowFault> {
+    Ok(Answer::Proof {
+        root: Boxed::new(alloc, digest())?,
+        bytes: Piece::from(alloc, &bytes(alloc, rest)?)?,
+    })
+}
+
 fn value(alloc: Global, rest: &str) -> Result<Answer, RowFault> {
     Ok(Answer::Value(Some(Piece::from(alloc, &bytes(alloc, rest)?)?)))
 }
@@ -321,6 +331,8 @@ fn plain(name: &str) -> Result<Answer, RowFault> {
         "down" => Answer::Power { up: false },
         "routed" => Answer::Routed,
         "no-value" => Answer::Value(None),
+        "yes" => Answer::Checked { accepted: true },
+        "no" => Answer::Checked { accepted: false },
         _ => return Err(RowFault::BadRow),
     })
 }
@@ -358,6 +370,7 @@ fn answer(alloc: Global, name: &str, rest: &str) -> Result<Answer, RowFault> {
         "detail" => detail(alloc, rest),
         "history" => history(alloc, rest),
         "value" => value(alloc, rest),
+        "proof" => proof(alloc, rest),
         "listed" => entries(alloc, rest),
         "receipt" => receipts(alloc, rest),
         "roll" => roll(alloc, rest),

@@ -1,7 +1,7 @@
 //! Lines of schedules.
 use crate::words::{Answered, RowFault, Telling, halves, made, nodes, text_of};
 use spl_base::NodeId;
-use spl_sched::{Line, LineFault, Step, read_line, write_line};
+use spl_sched::{Line, LineFault, ProofCheck, Step, read_line, write_line};
 use std::alloc::Global;
 
 fn step_text(alloc: Global, step: &Step) -> Answered {
@@ -9,6 +9,17 @@ fn step_text(alloc: Global, step: &Step) -> Answered {
     match step {
         Step::Deliver { number, .. } => made(format!(in alloc; "at {node} number {number}")),
         Step::At { .. } => made(format!(in alloc; "at {node}")),
+    }
+}
+
+fn check_text(alloc: Global, check: &ProofCheck) -> Answered {
+    let size = check.bytes.bytes().len();
+    match &check.claim {
+        Some(value) => {
+            let claimed = value.bytes().len();
+            made(format!(in alloc; "claim of {claimed} bytes, proof of {size}"))
+        }
+        None => made(format!(in alloc; "no claim, proof of {size}")),
     }
 }
 
@@ -27,10 +38,7 @@ fn parts_text(alloc: Global, line: &Line) -> Answered {
         Line::Stop(node) => text_of(alloc, node.bytes()),
         Line::Start(node) => text_of(alloc, node.bytes()),
         Line::Roll(node) => text_of(alloc, node.bytes()),
-        Line::Check(check) => {
-            let count = check.get().bytes.bytes().len();
-            made(format!(in alloc; "bytes {count}"))
-        }
+        Line::Check(check) => check_text(alloc, check.get()),
     }
 }
 
