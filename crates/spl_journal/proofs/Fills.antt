@@ -64,6 +64,18 @@ headed : (e : ℕ) → head_fault ((magic ++ epoch_bytes e) ++ 1 ∷ 0 ∷ []) �
 unfolding epoch_bytes
 headed e = refl
 
+-- all up to the gate, or the whole journal by the byte in its gate
+pub shut_up : (epoch : ℕ) (d : List ℕ) → take 17 d ≡ take 17 (closed_front epoch) → is_open d ≡ false
+shut_up epoch d up = shut_head d (λ one.
+    let nought : get_or (closed_front epoch) 16 0 ≡ 0 = get_or_at (magic ++ epoch_bytes epoch) 0 [] 0 16 (size epoch) in
+    let same : get_or d 16 0 ≡ get_or (closed_front epoch) 16 0 = sym (get_or-take 17 d 16 0 (omega arith)) ∙ ap (λ (l : List ℕ). get_or l 16 0) up ∙ get_or-take 17 (closed_front epoch) 16 0 (omega arith) in
+    omega (arith, one, same, nought))
+
+pub shut_by : (epoch byte : ℕ) (rs : List (List ℕ)) → byte ≢ 1 → is_open (behind 16 (filling rs) (closed_front epoch) byte) ≡ false
+shut_by epoch byte rs other = shut_head (behind 16 (filling rs) (closed_front epoch) byte) (λ one.
+    let same : get_or (behind 16 (filling rs) (closed_front epoch) byte) 16 0 ≡ byte = ap (λ (l : List ℕ). get_or l 16 0) (whole_is epoch byte rs) ∙ get_or_at (magic ++ epoch_bytes epoch) byte (filling rs) 0 16 (size epoch) in
+    other (sym same ∙ one))
+
 module _ (fits : List ℕ → Bool) (epoch : ℕ) (rs : List (List ℕ)) (good : AreGood fits rs) where
   f : List ℕ
   f = magic ++ epoch_bytes epoch
@@ -125,17 +137,12 @@ module _ (fits : List ℕ → Bool) (epoch : ℕ) (rs : List (List ℕ)) (good :
   -- what is left while the gate is opened
   pub closed_or_filled : epoch < 2 ^ 64 → (d : List ℕ) → IsBehindGate 16 (filling rs) (closed_front epoch) d → IsClosedOrFilled fits epoch rs d
   closed_or_filled small d = ⊎_elim
-      (λ (up : IsUpToGate 16 (closed_front epoch) d). inl (shut_head d (λ one.
-      let nought : get_or (closed_front epoch) 16 0 ≡ 0 = get_or_at (magic ++ epoch_bytes epoch) 0 [] 0 16 (size epoch) in
-      let same : get_or d 16 0 ≡ get_or (closed_front epoch) 16 0 = sym (get_or-take 17 d 16 0 (omega arith)) ∙ ap (λ (l : List ℕ). get_or l 16 0) up.same ∙ get_or-take 17 (closed_front epoch) 16 0 (omega arith) in
-      omega (arith, one, same, nought))))
+      (λ (up : IsUpToGate 16 (closed_front epoch) d). inl (shut_up epoch d up.same))
       (λ (byte, is). ⊎_elim
       (λ (one : byte ≡ 1).
       let now : d ≡ whole_bytes epoch 1 rs = is ∙ whole_is epoch byte rs ∙ ap (λ (n : ℕ). whole_bytes epoch n rs) one in
       inr (ap is_open now ∙ ap (λ (h : Option ℕ). is_none h) opened_head, ap epoch_in now ∙ epoch_is epoch (1 ∷ filling rs) small, ap (records fits) now ∙ records_whole))
-      (λ other. inl (shut_head d (λ one.
-      let same : get_or d 16 0 ≡ byte = ap (λ (l : List ℕ). get_or l 16 0) (is ∙ whole_is epoch byte rs) ∙ get_or_at (magic ++ epoch_bytes epoch) byte (filling rs) 0 16 (size epoch) in
-      other (sym same ∙ one))))
+      (λ other. inl (ap is_open is ∙ shut_by epoch byte rs other))
       (cases_eq byte 1))
 
 pub ready_cleared : (epoch : ℕ) (told : Option Image) → IfSome told (IsCleared epoch) → IfSome told (IsReady 16)

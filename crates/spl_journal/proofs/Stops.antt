@@ -5,14 +5,17 @@ use Rattle.std.proofs.lemmas.Bool.{cases_lt, cases_eq}
 use Rattle.std.proofs.lemmas.Bool.Decides.{nat_tests}
 use Rattle.spl_edge.specs.declared.fill.Fill.{Fill}
 use Rattle.spl_edge.specs.declared.fill.Fill.TheVariants.{Old, New, Byte}
-use Rattle.spl_edge.specs.Image.{Image, patched}
+use Rattle.spl_edge.specs.Image.{Image, patched, settled_at}
 use Rattle.spl_edge.specs.Picks.{painted, filled, picked_bytes}
 use Rattle.spl_edge.specs.ImageLaws.{length-patched, length-painted, painted_outside, patched_below, patched_above, patched_within}
+use Rattle.spl_journal.specs.Clear.{IsCleared}
 use Rattle.spl_journal.specs.Gate.{behind, opened, IsBehindGate}
-use Rattle.spl_journal.specs.Records.{sized, records, records_of, IsGood, Standing, SameHead}
+use Rattle.spl_journal.specs.Records.{closed_front, filling, is_open, sized, records, records_of, IsGood, Standing, SameHead}
 use Rattle.spl_journal.specs.Stops.{is_kept, kept_records}
 use Rattle.spl_journal.proofs.Images.{front_of_patched}
 use Rattle.spl_journal.proofs.Walks.{closed, front_same}
+use Rattle.spl_journal.proofs.Fills.{shut_by, shut_up}
+use Rattle.spl_journal.proofs.Sizes.{length-closed_front}
 use Rattle.spl_journal.proofs.Appends.{front_kept, gate_is, long, front_after, shut_after, head_stays}
 
 -- one byte over another
@@ -143,3 +146,44 @@ module _ (fits : List ℕ → Bool) (gate extent epoch : ℕ) (i : Image) (r : L
 
   pub stopped_head : (calls : ℕ) (fill : Fill) → SameHead i.bytes (picked_bytes fill (opened gate (sized r) calls i))
   stopped_head calls fill = head_stays gate (sized r) i.bytes (picked_bytes fill (opened gate (sized r) calls i)) (omega (arith, s.holds.front.place)) s.holds.front.room (left calls fill)
+
+-- ---- a journal that is written whole
+
+not_one : (b : ℕ) → (b == 1) ≡ false → b ≡ 1 → ⊥
+not_one b is one = grind (arith, nat_tests)
+
+module _ (epoch : ℕ) (rs : List (List ℕ)) where
+  long_front : 17 ≤ length (closed_front epoch)
+  long_front = omega (arith, length-closed_front epoch)
+
+  shut_rest : is_open (closed_front epoch) ≡ false
+  shut_rest = shut_up epoch (closed_front epoch) refl
+
+  filled_front : take 17 (patched (closed_front epoch) 17 (filling rs)) ≡ take 17 (closed_front epoch)
+  filled_front = front_of_patched (closed_front epoch) (filling rs) 17 long_front
+
+  shut_filled : is_open (patched (closed_front epoch) 17 (filling rs)) ≡ false
+  shut_filled = shut_up epoch (patched (closed_front epoch) 17 (filling rs)) filled_front
+
+  filled_long : 16 < length (patched (closed_front epoch) 17 (filling rs))
+  filled_long = omega (arith, length-patched (closed_front epoch) (filling rs) 17 long_front, long_front)
+
+  -- until its head gate is kept open the head is shut
+  pub shut_head_kept : (calls : ℕ) (fill : Fill) → is_kept calls fill ≡ false → is_open (picked_bytes fill (opened 16 (filling rs) calls (settled_at (closed_front epoch)))) ≡ false
+  shut_head_kept zero Old lost = shut_rest
+  shut_head_kept zero New lost = shut_rest
+  shut_head_kept zero (Byte b) lost = shut_rest
+  shut_head_kept (suc zero) Old lost = shut_rest
+  shut_head_kept (suc zero) New lost = shut_filled
+  shut_head_kept (suc zero) (Byte b) lost = shut_up epoch (painted b (17, length (filling rs)) (patched (closed_front epoch) 17 (filling rs)))
+      (painted_front b 17 (length (filling rs)) 17 (patched (closed_front epoch) 17 (filling rs)) (omega arith) ∙ filled_front)
+  shut_head_kept (suc (suc zero)) Old lost = shut_filled
+  shut_head_kept (suc (suc zero)) New lost = shut_filled
+  shut_head_kept (suc (suc zero)) (Byte b) lost = shut_filled
+  shut_head_kept (suc (suc (suc zero))) Old lost = shut_filled
+  shut_head_kept (suc (suc (suc zero))) New lost = cc
+  shut_head_kept (suc (suc (suc zero))) (Byte b) lost = ap is_open (patched_again (patched (closed_front epoch) 17 (filling rs)) 16 1 b filled_long) ∙ shut_by epoch b rs (not_one b lost)
+  shut_head_kept (suc (suc (suc (suc n)))) fill lost = cc
+
+pub shut_kept : (epoch : ℕ) (rs : List (List ℕ)) (i : Image) (calls : ℕ) (fill : Fill) → IsCleared epoch i → is_kept calls fill ≡ false → is_open (picked_bytes fill (opened 16 (filling rs) calls i)) ≡ false
+shut_kept epoch rs i calls fill cleared lost = ap (λ (j : Image). is_open (picked_bytes fill (opened 16 (filling rs) calls j))) cleared ∙ shut_head_kept epoch rs calls fill lost

@@ -1,10 +1,11 @@
-//! What a stop in an append leaves, as a law of the definitions.
-ghost use Rattle.std.specs.Prelude.{◌≡◌, List, ℕ, Bool, Ok};
+//! What a stop in an append, or in a journal that is written whole, leaves, as laws of the definitions.
+ghost use Rattle.std.specs.Prelude.{◌≡◌, List, ℕ, Bool, false, Ok};
 ghost use Rattle.spl_edge.specs.Image.{Image};
 ghost use Rattle.spl_edge.specs.Picks.{picked_bytes};
 ghost use Rattle.spl_edge.specs.declared.fill.Fill.{Fill};
+ghost use Rattle.spl_journal.specs.Clear.{IsCleared};
 ghost use Rattle.spl_journal.specs.Gate.{opened};
-ghost use Rattle.spl_journal.specs.Records.{sized, records, records_of, IsGood, Standing, SameHead};
+ghost use Rattle.spl_journal.specs.Records.{filling, is_open, sized, records, records_of, IsGood, Standing, SameHead};
 ghost use Rattle.spl_journal.specs.Stops.{is_kept, kept_records};
 
 /// Where so many calls of an append succeeded and a fill is picked, the records are those of before, with the new one
@@ -16,4 +17,11 @@ pub fn appends_are_kept_or_lost()
     ensures head { (fits : List ℕ → Bool) (end extent epoch : ℕ) (i : Image) (r : List ℕ) (calls : ℕ) (fill : Fill)
         → Standing fits end extent epoch i → IsGood fits r
         → SameHead i.bytes (picked_bytes fill (opened end (sized r) calls i)) }
+{}
+
+/// Where so many calls of `fill` succeeded on a cleared disk and a fill is picked, the head is shut before four calls, and
+/// after three unless the fill leaves its gate open.
+pub fn heads_are_opened_last()
+    ensures { (epoch : ℕ) (rs : List (List ℕ)) (i : Image) (calls : ℕ) (fill : Fill) → IsCleared epoch i → is_kept calls fill ≡ false
+        → is_open (picked_bytes fill (opened 16 (filling rs) calls i)) ≡ false }
 {}

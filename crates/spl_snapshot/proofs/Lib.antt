@@ -6,3 +6,4 @@ mod Findings
 mod Turns
 mod Keeps
 mod Stopped
+mod Shut

@@ -3,12 +3,14 @@ ghost use Rattle.std.specs.Prelude.{◌≡◌, ◌⊎◌, ◌≤◌, ◌<◌, �
 ghost use Rattle.spl_edge.specs.Calls.{fails_at, IsArmed};
 ghost use Rattle.spl_edge.specs.Causes.{Rose};
 ghost use Rattle.spl_edge.specs.Views.{image_now, pair_view};
+ghost use Rattle.spl_edge.specs.declared.fill.Fill.{Fill};
 ghost use Rattle.spl_journal.specs.Gate.{ByCalls, NamesOne, opened};
 ghost use Rattle.spl_journal.specs.Journals.{end_of, len_of, base_of, epoch_of, has_room, IsFilledBy};
 ghost use Rattle.spl_journal.specs.Records.{blocks, sized, IsGood, AreGood};
 ghost use Rattle.spl_journal.specs.declared.journal.TheConstants.{SLACK};
 ghost use Rattle.spl_snapshot.specs.Counting.{chosen, pair_records_of, HaveEither, HaveOneOf, IfBoth, PairLeaves, PairLeavesInTurn, PairOnward, PairTellsAs, HasRisen};
 ghost use Rattle.spl_snapshot.specs.Pairs.{PairStands, is_second, journal_in, is_halted};
+ghost use Rattle.spl_snapshot.specs.Stopped.{PairPicksCount, StopsShut};
 
 use crate::Pairing;
 use spl_edge::{Disk, Pair};
@@ -73,6 +75,13 @@ impl<R: Form> Pairing<R> {
         ensures passed { OnOk result ((is_second self.new ≡ is_second self.old)
             ⊎ ((n : ℕ) → n < 8 → IsTrue (fails_at (D.view (chosen (is_second self.old) disks.old.second disks.old.first)).armed
             ((D.view (chosen (is_second self.old) disks.old.second disks.old.first)).moment + n)) → ⊥)) }
+
+        // Where the other disk stops a checkpoint at a call after which a fill doesn't leave the new head open, a disk that failed leaves
+        // the one that counted as the one that counts in what that fill picks.
+        ensures counts { IsErrOf result JournalFault.Disk → (fill : Fill)
+            → StopsShut fill (D.view (chosen (is_second self.old) disks.old.second disks.old.first)).armed
+            (D.view (chosen (is_second self.old) disks.old.second disks.old.first)).moment
+            → PairPicksCount (pair_view D.view disks.old) (pair_view D.view disks.new) fill (is_second self.old) }
 
         // Where it leaves room no checkpoint is made: the other disk is as it was, and doesn't count.
         ensures no_checkpoint { len_of (journal_in self.old) + 5 + length bytes.now ≤ 2 * base_of (journal_in self.old) + SLACK

@@ -3,12 +3,14 @@ ghost use Rattle.std.specs.Prelude.{◌≡◌, ◌≤◌, ◌<◌, ◌+◌, ◌-
 ghost use Rattle.spl_edge.specs.Calls.{fails_at, Onward};
 ghost use Rattle.spl_edge.specs.Causes.{Rose};
 ghost use Rattle.spl_edge.specs.Views.{image_now, pair_view};
+ghost use Rattle.spl_edge.specs.declared.fill.Fill.{Fill};
 ghost use Rattle.spl_journal.specs.Gate.{ByCalls, opened};
 ghost use Rattle.spl_journal.specs.Journals.{end_of, len_of, base_of, epoch_of, has_room};
 ghost use Rattle.spl_journal.specs.Make.{IsBlank};
 ghost use Rattle.spl_journal.specs.Records.{blocks, sized, IsGood, AreGood};
-ghost use Rattle.spl_snapshot.specs.Counting.{chosen, pair_records_of, HaveRecords, HaveEither, IfBoth, PairLeaves, TellsAs, PairOnward, PairTellsAs};
+ghost use Rattle.spl_snapshot.specs.Counting.{chosen, second_counts, pair_records_of, HaveRecords, HaveEither, IfBoth, PairLeaves, TellsAs, PairOnward, PairTellsAs};
 ghost use Rattle.spl_snapshot.specs.Pairs.{PairStands, is_second, journal_in, is_halted};
+ghost use Rattle.spl_snapshot.specs.Stopped.{PairPicksCount, StopsShut};
 
 use crate::anew::write_anew;
 use spl_edge::{Disk, Pair};
@@ -120,6 +122,10 @@ impl<R: Form> Pairing<R> {
             PairLeaves (pair_view D.view disks.new) (pair_view D.view disks.new)
             (HaveRecords R.is_record (pair_records_of R.is_record i.bytes j.bytes ++ bytes.now ∷ [])))) }
 
+        // A stop at any moment of the call leaves the same disk as the one that counts.
+        ensures counts { IfBoth (image_now (D.view disks.old.first)) (image_now (D.view disks.old.second)) (λ i j.
+            PairLeaves (pair_view D.view disks.old) (pair_view D.view disks.new) (λ c d. second_counts c d ≡ is_second self.old)) }
+
         // After Ok each disk reports where it did.
         ensures told { OnOk result (PairTellsAs (pair_view D.view disks.old) (pair_view D.view disks.new)) }
         ensures by_calls { ByCalls 4 (D.view (chosen (is_second self.old) disks.old.first disks.old.second))
@@ -186,6 +192,12 @@ impl<R: Form> Pairing<R> {
         ensures after { OnOk result (IfBoth (image_now (D.view disks.old.first)) (image_now (D.view disks.old.second)) (λ i j.
             PairLeaves (pair_view D.view disks.new) (pair_view D.view disks.new)
             (HaveRecords R.is_record contents.now))) }
+
+        // Where it stops at a call after which a fill doesn't leave the new head open, the disk that counted counts in what that fill picks.
+        ensures counts { IsErrOf result JournalFault.Disk → (fill : Fill)
+            → StopsShut fill (D.view (chosen (is_second self.old) disks.old.second disks.old.first)).armed
+            (D.view (chosen (is_second self.old) disks.old.second disks.old.first)).moment
+            → PairPicksCount (pair_view D.view disks.old) (pair_view D.view disks.new) fill (is_second self.old) }
         ensures told { OnOk result (PairTellsAs (pair_view D.view disks.old) (pair_view D.view disks.new)) }
         ensures counting { chosen (is_second self.old) disks.new.first disks.new.second ≡ chosen (is_second self.old) disks.old.first disks.old.second }
         ensures eight { OnOk result ((D.view (chosen (is_second self.old) disks.new.second disks.new.first)).moment

@@ -5,6 +5,7 @@ use Rattle.spl_journal.specs.Gate.{ByCalls, opened}
 use Rattle.spl_journal.specs.Records.{sized, Standing}
 use Rattle.spl_snapshot.specs.Counting.{second_counts, chosen, IfBoth}
 use Rattle.spl_snapshot.proofs.Appending.{first_any, second_any, first_after, second_after}
+use Rattle.spl_snapshot.proofs.Shut.{append_first, append_second}
 use Rattle.spl_snapshot.proofs.pairing.Pairing.append.Goals as goal
 
 pub append-requires-clause-running : goal.append-requires-clause-running
@@ -38,3 +39,17 @@ returns-clause-after g c = first_after g.R.Form.is_record c.args.bytes.now c.arg
 pub returns-clause-by_calls : goal.returns-clause-by_calls
 returns-clause-by_calls g c =
     subst (λ (b : Bool). ByCalls 4 (g.D.Disk.view (chosen b c.args.disks.now.first c.args.disks.now.second)) (g.D.Disk.view (chosen b c.append-2.new.disk c.args.disks.now.second)) (opened c.args.self.now.journal.end (sized c.args.bytes.now)) _ _) (sym c.if-self.false) c.in_default-append.ensures.by_calls
+
+-- ---- which disk counts
+
+pub returns-in-Err-clause-counts : goal.returns-in-Err-clause-counts
+returns-in-Err-clause-counts g c = append_second g.R.Form.is_record c.args.self.now.journal.end c.args.self.now.journal.extent c.args.self.now.journal.epoch c.args.self.now.other c.args.self.now.second (image_now (g.D.Disk.view c.args.disks.now.first)) (image_now (g.D.Disk.view c.args.disks.now.second)) (g.D.Disk.view c.args.disks.now.first).image_at (g.D.Disk.view c.append.new.disk).image_at (g.D.Disk.view c.args.disks.now.first).moment (g.D.Disk.view c.args.disks.now.second).moment (g.D.Disk.view c.append.new.disk).moment c.if-self.true c.requires.stands.counting c.requires.stands.other c.requires.stands.counts refl c.in-Err.ensures.head
+
+pub returns-then-self-clause-counts : goal.returns-then-self-clause-counts
+returns-then-self-clause-counts g c = append_second g.R.Form.is_record c.args.self.now.journal.end c.args.self.now.journal.extent c.args.self.now.journal.epoch c.args.self.now.other c.args.self.now.second (image_now (g.D.Disk.view c.args.disks.now.first)) (image_now (g.D.Disk.view c.args.disks.now.second)) (g.D.Disk.view c.args.disks.now.first).image_at (g.D.Disk.view c.append.new.disk).image_at (g.D.Disk.view c.args.disks.now.first).moment (g.D.Disk.view c.args.disks.now.second).moment (g.D.Disk.view c.append.new.disk).moment c.if-self.true c.requires.stands.counting c.requires.stands.other c.requires.stands.counts refl c.in_default.ensures.head
+
+pub returns-in-Err-append-clause-counts : goal.returns-in-Err-append-clause-counts
+returns-in-Err-append-clause-counts g c = append_first g.R.Form.is_record c.args.self.now.journal.end c.args.self.now.journal.extent c.args.self.now.journal.epoch c.args.self.now.other c.args.self.now.second (image_now (g.D.Disk.view c.args.disks.now.first)) (image_now (g.D.Disk.view c.args.disks.now.second)) (g.D.Disk.view c.append-2.new.disk).image_at (g.D.Disk.view c.args.disks.now.second).image_at (g.D.Disk.view c.args.disks.now.first).moment (g.D.Disk.view c.append-2.new.disk).moment (g.D.Disk.view c.args.disks.now.second).moment c.if-self.false c.requires.stands.counting c.requires.stands.other c.requires.stands.counts refl c.in-Err-append.ensures.head
+
+pub returns-clause-counts : goal.returns-clause-counts
+returns-clause-counts g c = append_first g.R.Form.is_record c.args.self.now.journal.end c.args.self.now.journal.extent c.args.self.now.journal.epoch c.args.self.now.other c.args.self.now.second (image_now (g.D.Disk.view c.args.disks.now.first)) (image_now (g.D.Disk.view c.args.disks.now.second)) (g.D.Disk.view c.append-2.new.disk).image_at (g.D.Disk.view c.args.disks.now.second).image_at (g.D.Disk.view c.args.disks.now.first).moment (g.D.Disk.view c.append-2.new.disk).moment (g.D.Disk.view c.args.disks.now.second).moment c.if-self.false c.requires.stands.counting c.requires.stands.other c.requires.stands.counts refl c.in_default-append.ensures.head

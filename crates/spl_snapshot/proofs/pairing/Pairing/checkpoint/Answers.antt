@@ -6,6 +6,8 @@ use Rattle.spl_snapshot.specs.Anew.{IsSameOrAnew}
 use Rattle.spl_snapshot.specs.Counting.{second_counts, chosen, IfBoth}
 use Rattle.spl_snapshot.proofs.Checkpoints.{first_anew, second_anew, counts_first, counts_second, first_records, second_records}
 use Rattle.spl_snapshot.proofs.Findings.{rest_of, stands_with, if_both}
+use Rattle.spl_snapshot.specs.Stopped.{StopsShut}
+use Rattle.spl_snapshot.proofs.Shut.{same_error, shut_first, shut_second}
 use Rattle.spl_snapshot.proofs.pairing.Pairing.checkpoint.Goals as goal
 
 pub returns-in-Err-clause-any_moment : goal.returns-in-Err-clause-any_moment
@@ -45,3 +47,13 @@ returns-clause-stands g c =
     let stands = subst (λ (n : ℕ). IfSome (image_now (g.D.Disk.view c.write_anew-2.new.disk)) (Standing g.R.Form.is_record c.in-Ok-write_anew.journal.end c.in-Ok-write_anew.journal.extent n)) epoch c.in-Ok-write_anew.ensures.stands in
     stands_with g.R.Form.is_record c.take_over-2.new.self c.in-Ok-write_anew.journal true c.args.self.now.journal.extent (image_now (g.D.Disk.view c.args.disks.now.first)) (image_now (g.D.Disk.view c.write_anew-2.new.disk)) c.take_over-2.ensures.journal (c.take_over-2.ensures.turned ∙ ap not c.if-self.false) c.take_over-2.ensures.other c.in-Ok-write_anew.ensures.fresh.1
     c.in-Ok-write_anew.ensures.stands (rest_of g.R.Form.is_record c.args.self.now.journal.end c.args.self.now.journal.extent c.args.self.now.journal.epoch (image_now (g.D.Disk.view c.args.disks.now.first)) (subst (λ (b : Bool). IfSome (chosen b (image_now (g.D.Disk.view c.args.disks.now.first)) (image_now (g.D.Disk.view c.args.disks.now.second))) (Standing g.R.Form.is_record c.args.self.now.journal.end c.args.self.now.journal.extent c.args.self.now.journal.epoch)) c.if-self.false c.requires.stands.counting)) (counts_second g.R.Form.is_record c.args.contents.now c.args.self.now.journal.end c.args.self.now.journal.extent c.args.self.now.journal.epoch c.args.self.now.other c.in-Ok-write_anew.journal.end c.in-Ok-write_anew.journal.extent (image_now (g.D.Disk.view c.args.disks.now.first)) (image_now (g.D.Disk.view c.write_anew-2.new.disk)) (subst (λ (b : Bool). IfSome (chosen b (image_now (g.D.Disk.view c.args.disks.now.first)) (image_now (g.D.Disk.view c.args.disks.now.second))) (Standing g.R.Form.is_record c.args.self.now.journal.end c.args.self.now.journal.extent c.args.self.now.journal.epoch)) c.if-self.false c.requires.stands.counting) stands)
+
+-- ---- which disk counts
+
+pub returns-in-Err-clause-counts : goal.returns-in-Err-clause-counts
+returns-in-Err-clause-counts g c = λ is fill stops. shut_first g.R.Form.is_record c.args.self.now.journal.end c.args.self.now.journal.extent c.args.self.now.journal.epoch c.args.self.now.other c.args.self.now.second fill (image_now (g.D.Disk.view c.args.disks.now.first)) (image_now (g.D.Disk.view c.args.disks.now.second)) (image_now (g.D.Disk.view c.write_anew.new.disk)) c.if-self.true c.requires.stands.counting c.requires.stands.counts
+    (c.in-Err.ensures.shut (same_error is) fill (subst (λ (b : Bool). StopsShut fill (g.D.Disk.view (chosen b c.args.disks.now.second c.args.disks.now.first)).armed (g.D.Disk.view (chosen b c.args.disks.now.second c.args.disks.now.first)).moment) c.if-self.true stops))
+
+pub returns-in-Err-write_anew-clause-counts : goal.returns-in-Err-write_anew-clause-counts
+returns-in-Err-write_anew-clause-counts g c = λ is fill stops. shut_second g.R.Form.is_record c.args.self.now.journal.end c.args.self.now.journal.extent c.args.self.now.journal.epoch c.args.self.now.other c.args.self.now.second fill (image_now (g.D.Disk.view c.args.disks.now.first)) (image_now (g.D.Disk.view c.args.disks.now.second)) (image_now (g.D.Disk.view c.write_anew-2.new.disk)) c.if-self.false c.requires.stands.counting c.requires.stands.counts
+    (c.in-Err-write_anew.ensures.shut (same_error is) fill (subst (λ (b : Bool). StopsShut fill (g.D.Disk.view (chosen b c.args.disks.now.second c.args.disks.now.first)).armed (g.D.Disk.view (chosen b c.args.disks.now.second c.args.disks.now.first)).moment) c.if-self.false stops))

@@ -1,4 +1,4 @@
-use Rattle.std.proofs.Common.{◌≡◌, ℕ, List, Bool, inr, refl, subst, rules}
+use Rattle.std.proofs.Common.{◌≡◌, ℕ, List, Bool, inr, refl, sym, subst, rules}
 use Rattle.spl_edge.specs.Views.{image_now, pair_view}
 use Rattle.spl_journal.specs.Gate.{opened}
 use Rattle.spl_journal.specs.Journals.{end_of}
@@ -6,6 +6,8 @@ use Rattle.spl_journal.specs.Records.{sized}
 use Rattle.spl_snapshot.specs.Counting.{chosen, pair_records_of, HaveRecords, HaveEither, IfBoth, PairLeaves}
 use Rattle.spl_snapshot.specs.Pairs.{journal_in}
 use Rattle.spl_snapshot.proofs.Keeps.{kept_any, kept_after, stands_settled, both_any, both_after, both_last, all_calls}
+use Rattle.spl_snapshot.specs.Stopped.{PairPicksCount, StopsShut}
+use Rattle.spl_snapshot.proofs.Shut.{count_picked, told_before}
 use Rattle.spl_snapshot.proofs.pairing.Pairing.keep.Goals as goal
 
 pub returns-in-Err-clause-any_moment : goal.returns-in-Err-clause-any_moment
@@ -62,3 +64,19 @@ returns-clause-by_calls g c =
           (stands_settled g.R.Form.is_record c.append.new.self (image_now (g.D.Disk.view c.append.new.disks.first)) (image_now (g.D.Disk.view c.append.new.disks.second)) c.in_default.ensures.stands) c.in_default.ensures.told.0 c.in_default.ensures.told.1 c.in_default.ensures.after
           (subst (λ (l : List (List ℕ)). IfBoth (image_now (g.D.Disk.view c.append.new.disks.first)) (image_now (g.D.Disk.view c.append.new.disks.second)) (λ i j. PairLeaves (pair_view g.D.Disk.view c.checkpoint.new.disks) (pair_view g.D.Disk.view c.checkpoint.new.disks) (HaveRecords g.R.Form.is_record l))) full c.in_default-checkpoint.ensures.after),
     )
+
+-- ---- which disk counts
+
+pub returns-in-Err-clause-counts : goal.returns-in-Err-clause-counts
+returns-in-Err-clause-counts g c = λ is fill stops. count_picked c.args.self.now.second fill (image_now (g.D.Disk.view c.args.disks.now.first)) (image_now (g.D.Disk.view c.args.disks.now.second)) (g.D.Disk.view c.append.new.disks.first).image_at (g.D.Disk.view c.append.new.disks.second).image_at
+    (g.D.Disk.view c.args.disks.now.first).moment (g.D.Disk.view c.append.new.disks.first).moment (g.D.Disk.view c.args.disks.now.second).moment (g.D.Disk.view c.append.new.disks.second).moment c.append.ensures.onward.first.later c.append.ensures.onward.second.later c.append.ensures.counts
+
+pub returns-in-Err-checkpoint-clause-counts : goal.returns-in-Err-checkpoint-clause-counts
+returns-in-Err-checkpoint-clause-counts g c = λ is fill stops.
+    let same = c.append.ensures.same.0 in
+    let still : StopsShut fill (g.D.Disk.view (chosen c.args.self.now.second c.append.new.disks.second c.append.new.disks.first)).armed (g.D.Disk.view (chosen c.args.self.now.second c.append.new.disks.second c.append.new.disks.first)).moment =
+    subst (λ (d : _). StopsShut fill (g.D.Disk.view d).armed (g.D.Disk.view d).moment) (sym c.append.ensures.other) stops in
+    let then : StopsShut fill (g.D.Disk.view (chosen c.append.new.self.second c.append.new.disks.second c.append.new.disks.first)).armed (g.D.Disk.view (chosen c.append.new.self.second c.append.new.disks.second c.append.new.disks.first)).moment =
+    subst (λ (b : Bool). StopsShut fill (g.D.Disk.view (chosen b c.append.new.disks.second c.append.new.disks.first)).armed (g.D.Disk.view (chosen b c.append.new.disks.second c.append.new.disks.first)).moment) (sym same) still in
+    told_before (image_now (g.D.Disk.view c.args.disks.now.first)) (image_now (g.D.Disk.view c.args.disks.now.second)) (image_now (g.D.Disk.view c.append.new.disks.first)) (image_now (g.D.Disk.view c.append.new.disks.second)) _ c.in_default.ensures.told.0 c.in_default.ensures.told.1
+    (subst (λ (b : Bool). PairPicksCount (pair_view g.D.Disk.view c.append.new.disks) (pair_view g.D.Disk.view c.checkpoint.new.disks) fill b) same (c.in-Err-checkpoint.ensures.counts is fill then))
