@@ -42,13 +42,13 @@ use Rattle.spl_node.proofs.Stops.{stopped-moved}
 
 -- ---- which calls pass
 
-eq_is : (a b : ℕ) → a ≡ b → (a == b) ≡ true
+pub eq_is : (a b : ℕ) → a ≡ b → (a == b) ≡ true
 eq_is a b h = grind (arith, nat_tests)
 
 is_eq : (a b : ℕ) → (a == b) ≡ true → a ≡ b
 is_eq a b h = grind (arith, nat_tests)
 
-not_le : (a b : ℕ) → nat_le a b ≡ false → b < a
+pub not_le : (a b : ℕ) → nat_le a b ≡ false → b < a
 not_le a b h = grind (arith, nat_tests)
 
 -- the calls from this moment on that pass
@@ -67,7 +67,7 @@ is_after k m n due = let le : k ≤ m + n - m = is_le k (m + n - m) due in omega
 is_at : (k m n : ℕ) → IsTrue (fails_at (armed_with (At k) m) (m + n)) → n ≡ k - 1
 is_at k m n due = let same : m + n - m + 1 ≡ k = is_eq (m + n - m + 1) k due in omega (arith, same)
 
-kept_four : (n : ℕ) (fill : Fill) → 4 ≤ n → is_kept n fill ≡ true
+pub kept_four : (n : ℕ) (fill : Fill) → 4 ≤ n → is_kept n fill ≡ true
 kept_four zero fill le = absurd (omega (arith, le))
 kept_four (suc zero) fill le = absurd (omega (arith, le))
 kept_four (suc (suc zero)) fill le = absurd (omega (arith, le))

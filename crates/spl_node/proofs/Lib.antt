@@ -15,3 +15,4 @@ pub mod Walking
 pub mod Hosting
 pub mod Halting
 pub mod Leaving
+pub mod Counting

@@ -52,6 +52,10 @@ passing (Fail call) = call - 1
 abbrev pub keeps : Stopping → Bool
 keeps h = is_kept (passing h) (fill_of h)
 
+-- whether the other disk may count after it: the head gate of a checkpoint, which the eleventh call opens, may be open on it
+abbrev pub may_turn : Stopping → Bool
+may_turn h = is_kept (passing h - 8) (fill_of h)
+
 -- calls are numbered from 1
 abbrev pub IsStopping : Stopping → Type 0
 IsStopping (Cut calls fill) = Unit {0}

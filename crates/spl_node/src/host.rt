@@ -24,7 +24,7 @@ ghost use Rattle.spl_node.specs.Kept.{cells_after};
 ghost use Rattle.spl_node.specs.Records.{site_at};
 ghost use Rattle.spl_node.specs.Stands.{StandFor};
 ghost use Rattle.spl_node.specs.Stopping.{BothPickAtMostOnce, FillsHost, IsInCheckpoint, IsStopping, PicksArmed, StandForEither, cells_stopped};
-ghost use Rattle.spl_node.specs.Stopping.{counting_arming, event_changes, fill_of, has_changes, keeps, other_arming, passing};
+ghost use Rattle.spl_node.specs.Stopping.{counting_arming, event_changes, fill_of, has_changes, keeps, may_turn, other_arming, passing};
 ghost use Rattle.spl_node.specs.declared.host.Host.{Host as Kept};
 
 use crate::stopping::{arm, handle_armed, pick_both};
@@ -247,6 +247,10 @@ impl Host {
             (chosen (host_second self.old) (counting_arming stopping) (other_arming stopping)) (D.view disks.old.first) (D.view disks.new.first)) }
         ensures picks_second { OnOk result (PicksArmed (fill_of stopping)
             (chosen (host_second self.old) (other_arming stopping) (counting_arming stopping)) (D.view disks.old.second) (D.view disks.new.second)) }
+
+        // What they picked counts on the same disk, unless the head gate of a checkpoint may be open.
+        ensures still { OnOk result (may_turn stopping ≡ false → IfBoth (image_now (D.view disks.new.first)) (image_now (D.view disks.new.second))
+            (λ i j. second_counts i.bytes j.bytes ≡ host_second self.old)) }
 
         // Whatever the result, a stop leaves what stands for the cells before the event or for those after the stop in it.
         ensures leaves { PairLeaves (pair_view D.view disks.new) (pair_view D.view disks.new)

@@ -18,7 +18,7 @@ ghost use Rattle.spl_journal.specs.declared.journal.TheConstants.{SLACK};
 ghost use Rattle.spl_journal.specs.Stops.{is_kept};
 ghost use Rattle.spl_snapshot.specs.Counting.{chosen, IfBoth, PairLeaves, PairLeavesInTurn, TellsAs, PairOnward, PairTellsAs, HasRisen};
 ghost use Rattle.spl_snapshot.specs.Pairs.{PairStands, is_second, journal_in};
-ghost use Rattle.spl_snapshot.specs.Stopped.{kept_on};
+ghost use Rattle.spl_snapshot.specs.Stopped.{PairPicksCount, StopsShut, kept_on};
 ghost use Rattle.spl_wire.specs.Bounds.{AllSendable};
 ghost use Rattle.spl_wire.specs.Grouping.{record_of};
 ghost use Rattle.spl_rules.specs.Cells.{Empty, is_bound};
@@ -203,6 +203,13 @@ impl Node {
         ensures passed { OnOk result ((is_second self.new.pairing ≡ is_second self.old.pairing)
             ⊎ ((n : ℕ) → n < 8 → IsTrue (fails_at (D.view (chosen (is_second self.old.pairing) disks.old.second disks.old.first)).armed
             ((D.view (chosen (is_second self.old.pairing) disks.old.second disks.old.first)).moment + n)) → ⊥)) }
+
+        // Where the other disk stops a checkpoint at a call after which a fill doesn't leave the new head open, a disk that failed leaves
+        // the one that counted as the one that counts in what that fill picks.
+        ensures counts { IsErrOf result JournalFault.Disk → (fill : Fill)
+            → StopsShut fill (D.view (chosen (is_second self.old.pairing) disks.old.second disks.old.first)).armed
+            (D.view (chosen (is_second self.old.pairing) disks.old.second disks.old.first)).moment
+            → PairPicksCount (pair_view D.view disks.old) (pair_view D.view disks.new) fill (is_second self.old.pairing) }
 
         // Where it leaves room no checkpoint is made: the other disk is as it was, and doesn't count.
         ensures no_checkpoint { (plan_of (site_at (here_of self.old) circuit.now) (cell_of self.old circuit.now) event.now).changes ≢ []

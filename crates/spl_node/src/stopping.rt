@@ -6,13 +6,14 @@ ghost use Rattle.spl_edge.specs.Causes.{Rose};
 ghost use Rattle.spl_edge.specs.Views.{image_now, pair_view};
 ghost use Rattle.spl_snapshot.specs.Counting.{chosen, IfBoth, PairLeaves, PairOnward, HasRisen};
 ghost use Rattle.spl_snapshot.specs.Pairs.{is_second};
+ghost use Rattle.spl_snapshot.specs.Stopped.{PicksCount};
 ghost use Rattle.spl_rules.specs.Plans.{plan_of};
 ghost use Rattle.spl_rules.specs.Valid.{IsFor};
 ghost use Rattle.spl_node.specs.Hosts.{PicksWith};
 ghost use Rattle.spl_node.specs.Records.{site_at};
 ghost use Rattle.spl_node.specs.Stands.{NodeStands, here_of, cell_of, is_halted};
 ghost use Rattle.spl_node.specs.Stopping.{Arms, BothPickAtMostOnce, FillsJournal, IsInCheckpoint, IsStopping, LeavesNoMore, PicksMake, StandForEither};
-ghost use Rattle.spl_node.specs.Stopping.{cells_stopped, counting_arming, event_changes, fill_of, has_changes, keeps, other_arming, passing};
+ghost use Rattle.spl_node.specs.Stopping.{cells_stopped, counting_arming, event_changes, fill_of, has_changes, keeps, may_turn, other_arming, passing};
 
 use crate::Node;
 use spl_base::CircuitId;
@@ -142,6 +143,9 @@ fn step_armed<D: StopDisk>(
         (plan_of (site_at (here_of node.old) circuit.now) (cell_of node.old circuit.now) event.now).changes → IsInCheckpoint stopping
         → Rose (D.view (chosen (is_second node.old.pairing) disks.old.second disks.old.first)).faults
         (D.view (chosen (is_second node.old.pairing) disks.new.second disks.new.first)).faults) }
+    // Before the head gate of a checkpoint may be open the disk that counted counts in what is picked.
+    ensures counts { OnOk result (may_turn stopping ≡ false → IfBoth (image_now (D.view disks.new.first)) (image_now (D.view disks.new.second))
+        (PicksCount (fill_of stopping) (is_second node.old.pairing))) }
     ensures onward { PairOnward (pair_view D.view disks.old) (pair_view D.view disks.new) }
 {
     match node.step(alloc, disks, circuit, event) {
@@ -182,6 +186,8 @@ pub(crate) fn handle_armed<D: StopDisk>(
         (event_changes (here_of node.old) (cell_of node.old) circuit.now (option_copied event.entry)) → IsInCheckpoint stopping
         → Rose (D.view (chosen (is_second node.old.pairing) disks.old.second disks.old.first)).faults
         (D.view (chosen (is_second node.old.pairing) disks.new.second disks.new.first)).faults) }
+    ensures counts { OnOk result (may_turn stopping ≡ false → IfBoth (image_now (D.view disks.new.first)) (image_now (D.view disks.new.second))
+        (PicksCount (fill_of stopping) (is_second node.old.pairing))) }
     ensures onward { PairOnward (pair_view D.view disks.old) (pair_view D.view disks.new) }
 {
     match event {

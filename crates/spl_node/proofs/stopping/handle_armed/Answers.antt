@@ -8,6 +8,7 @@ use Rattle.spl_wire.specs.declared.change.Change.{Change}
 use Rattle.spl_node.specs.Records.{is_record}
 use Rattle.spl_node.specs.Stands.{here_of, cell_of}
 use Rattle.spl_node.specs.Stopping.{FillsJournal, IsInCheckpoint, PicksMake, StandForEither, cells_stopped, event_changes, fill_of, keeps, passing}
+use Rattle.spl_node.proofs.Counting.{standing_counts}
 use Rattle.spl_node.proofs.Disks.{settled_pair}
 use Rattle.spl_node.proofs.Halting.{before_cells, picks_rest}
 use Rattle.spl_node.proofs.Leaving.{rest_told}
@@ -43,3 +44,8 @@ returns-in-None-clause-risen_other g c = λ full within. absurd (full.0 (ap (λ 
 pub returns-in-Some-clause-risen_other : goal.returns-in-Some-clause-risen_other
 returns-in-Some-clause-risen_other g c = subst (λ (xs : List Change). OnOk c.step_armed.result (FillsJournal (Some c.args.node.now) c.args.circuit.now xs → IsInCheckpoint c.args.stopping → Rose (g.D.Disk.view (chosen (is_second c.args.node.now.pairing) c.args.disks.now.second c.args.disks.now.first)).faults (g.D.Disk.view (chosen (is_second c.args.node.now.pairing) c.step_armed.new.disks.second c.step_armed.new.disks.first)).faults))
     (sym (ap (λ (o : _). event_changes (here_of c.args.node.now) (cell_of c.args.node.now) c.args.circuit.now (option_copied o)) c.in-Some.is)) c.step_armed.ensures.risen_other
+
+-- ---- which disk counts
+
+pub returns-in-None-clause-counts : goal.returns-in-None-clause-counts
+returns-in-None-clause-counts g c = λ shut. standing_counts is_record c.args.node.now.pairing (fill_of c.args.stopping) (image_now (g.D.Disk.view c.args.disks.now.first)) (image_now (g.D.Disk.view c.args.disks.now.second)) c.requires.stands.pair

@@ -10,6 +10,7 @@ use Rattle.spl_node.specs.Kept.{cells_after}
 use Rattle.spl_node.specs.Records.{is_record, record_bytes, site_at}
 use Rattle.spl_node.specs.Stands.{StandFor, here_of, cell_of}
 use Rattle.spl_node.specs.Stopping.{cells_stopped, fill_of, keeps, passing}
+use Rattle.spl_node.proofs.Counting.{shut_other, told_counts, went_on_counts}
 use Rattle.spl_node.proofs.Disks.{settled_pair}
 use Rattle.spl_node.proofs.Events.{disk_only, no_error}
 use Rattle.spl_node.proofs.Halting.{after_cells, append_stopped, four_kept, four_pass, four_passed, has_some, is_armed, none_of_four, none_or_some, one_of_eight, picks_left, some_rose, stand_then}
@@ -54,3 +55,13 @@ returns-in-Ok-clause-risen_other g c = λ full within. ⊎_elim (λ none. absurd
 
 pub returns-in-Err-Disk-clause-risen_other : goal.returns-in-Err-Disk-clause-risen_other
 returns-in-Err-Disk-clause-risen_other g c = λ full within. ⊎_elim (λ none. absurd (disk_only c.in-Err-Disk.field-0 c.in-Err-Disk.field-0-is none)) (λ rose. rose) (c.in-Err-Disk.ensures.risen full.0 full.1 (is_armed c.args.stopping (g.D.Disk.view (chosen (is_second c.args.node.now.pairing) c.args.disks.now.first c.args.disks.now.second)).armed (g.D.Disk.view (chosen (is_second c.args.node.now.pairing) c.args.disks.now.first c.args.disks.now.second)).moment c.requires.armed) (none_of_four c.args.stopping (g.D.Disk.view (chosen (is_second c.args.node.now.pairing) c.args.disks.now.first c.args.disks.now.second)).armed (g.D.Disk.view (chosen (is_second c.args.node.now.pairing) c.args.disks.now.first c.args.disks.now.second)).moment c.requires.armed within) (one_of_eight c.args.stopping (g.D.Disk.view (chosen (is_second c.args.node.now.pairing) c.args.disks.now.second c.args.disks.now.first)).armed (g.D.Disk.view (chosen (is_second c.args.node.now.pairing) c.args.disks.now.second c.args.disks.now.first)).moment c.requires.other within))
+
+-- ---- which disk counts
+
+pub returns-in-Ok-clause-counts : goal.returns-in-Ok-clause-counts
+returns-in-Ok-clause-counts g c = λ shut. went_on_counts is_record c.step.new.self.pairing (fill_of c.args.stopping) (g.D.Disk.view (chosen (is_second c.args.node.now.pairing) c.args.disks.now.second c.args.disks.now.first)).armed (g.D.Disk.view (chosen (is_second c.args.node.now.pairing) c.args.disks.now.second c.args.disks.now.first)).moment (is_second c.args.node.now.pairing) (image_now (g.D.Disk.view c.step.new.disks.first)) (image_now (g.D.Disk.view c.step.new.disks.second))
+    (shut_other c.args.stopping (g.D.Disk.view (chosen (is_second c.args.node.now.pairing) c.args.disks.now.second c.args.disks.now.first)).armed (g.D.Disk.view (chosen (is_second c.args.node.now.pairing) c.args.disks.now.second c.args.disks.now.first)).moment c.requires.other shut) c.in-Ok.ensures.pair c.in-Ok.ensures.passed
+
+pub returns-in-Err-Disk-clause-counts : goal.returns-in-Err-Disk-clause-counts
+returns-in-Err-Disk-clause-counts g c = λ shut. told_counts (fill_of c.args.stopping) (is_second c.args.node.now.pairing) (image_now (g.D.Disk.view c.args.disks.now.first)) (image_now (g.D.Disk.view c.args.disks.now.second)) (image_now (g.D.Disk.view c.step.new.disks.first)) (image_now (g.D.Disk.view c.step.new.disks.second)) (g.met.D.StopDisk.tells c.args.disks.now.first) (g.met.D.StopDisk.tells c.args.disks.now.second)
+    (c.in-Err-Disk.ensures.counts (ap Err c.in-Err-Disk.field-0-is) (fill_of c.args.stopping) (shut_other c.args.stopping (g.D.Disk.view (chosen (is_second c.args.node.now.pairing) c.args.disks.now.second c.args.disks.now.first)).armed (g.D.Disk.view (chosen (is_second c.args.node.now.pairing) c.args.disks.now.second c.args.disks.now.first)).moment c.requires.other shut))

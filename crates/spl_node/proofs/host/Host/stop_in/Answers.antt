@@ -3,12 +3,14 @@ use Rattle.std.specs.Option.{option_copied}
 use Rattle.spl_edge.specs.Causes.{Rose}
 use Rattle.spl_edge.specs.declared.fill.Fill.{Fill}
 use Rattle.spl_edge.specs.Views.{image_now, pair_view}
-use Rattle.spl_snapshot.specs.Counting.{IfBoth, PairLeaves, chosen}
+use Rattle.spl_snapshot.specs.Counting.{IfBoth, PairLeaves, chosen, second_counts}
 use Rattle.spl_snapshot.specs.Pairs.{is_second}
 use Rattle.spl_node.specs.declared.node.Node.{Node}
 use Rattle.spl_node.specs.Hosts.{counts_second, kept_cell, made_cell}
 use Rattle.spl_node.specs.Stands.{here_of, cell_of}
 use Rattle.spl_node.specs.Stopping.{FillsJournal, IsInCheckpoint, PicksArmed, PicksMake, StandForEither, cells_stopped, counting_arming, event_changes, fill_of, keeps, other_arming}
+use Rattle.spl_snapshot.specs.Stopped.{PicksCount}
+use Rattle.spl_node.proofs.Counting.{picked_counts}
 use Rattle.spl_node.proofs.Halting.{is_one, picked_cells, picks_armed, rose_within}
 use Rattle.spl_node.proofs.Hosting.{as_host, up_runs}
 use Rattle.spl_node.proofs.Leaving.{leaves_picked, picks_then}
@@ -92,3 +94,14 @@ returns-clause-once g c = record {
   first = picks_then (g.D.Disk.view c.args.disks.now.first) (g.D.Disk.view c.handle_armed.new.disks.first) (g.D.Disk.view c.pick_both.new.disks.first) (c.handle_armed.ensures.onward.first.picks ∙ c.arm.ensures.first.picks_stay) c.pick_both.ensures.once.first;
   second = picks_then (g.D.Disk.view c.args.disks.now.second) (g.D.Disk.view c.handle_armed.new.disks.second) (g.D.Disk.view c.pick_both.new.disks.second) (c.handle_armed.ensures.onward.second.picks ∙ c.arm.ensures.second.picks_stay) c.pick_both.ensures.once.second;
 }
+
+-- ---- which disk counts
+
+pub returns-clause-still : goal.returns-clause-still
+returns-clause-still g c = λ shut.
+    let is : c.args.self.now.node ≡ Some c.in-Some.node = search rules in
+    let first = c.in_ok-pick_both.ensures.first.picks in
+    let second = c.in_ok-pick_both.ensures.second.picks in
+    subst (λ (b : Bool). IfBoth (image_now (g.D.Disk.view c.pick_both.new.disks.first)) (image_now (g.D.Disk.view c.pick_both.new.disks.second)) (λ i j. second_counts i.bytes j.bytes ≡ b)) (sym (ap counts_second is))
+    (picked_counts c.fill.result (is_second c.in-Some.node.pairing) (image_now (g.D.Disk.view c.handle_armed.new.disks.first)) (image_now (g.D.Disk.view c.handle_armed.new.disks.second)) (image_now (g.D.Disk.view c.pick_both.new.disks.first)) (image_now (g.D.Disk.view c.pick_both.new.disks.second)) first.image second.image first.told second.told first.allowed second.allowed first.holds second.holds
+    (subst (λ (f : Fill). IfBoth (image_now (g.D.Disk.view c.handle_armed.new.disks.first)) (image_now (g.D.Disk.view c.handle_armed.new.disks.second)) (PicksCount f (is_second c.in-Some.node.pairing))) (sym c.fill.ensures) (c.in_ok-changed.ensures.counts shut)))

@@ -119,3 +119,8 @@ returns-clause-changed g c = has_some (here_of c.args.self.now) c.args.circuit.n
 
 pub returns-clause-running : goal.returns-clause-running
 returns-clause-running g c = or_neither c.args.self.now.halted c.args.self.now.pairing.halted c.keep.new.self.halted c.requires.running c.in_default-keep.ensures.running
+
+-- ---- which disk counts
+
+pub returns-in-Err-keep-clause-counts : goal.returns-in-Err-keep-clause-counts
+returns-in-Err-keep-clause-counts g c = λ is fill stops. c.in-Err-keep.ensures.counts (same_error is) fill stops
