@@ -54,6 +54,7 @@ module _ (ns : List NodeId) (n : NodeId) (t : Point) (x y : ℕ) (p q : Picked) 
     second = one.second;
     first_is = record { fill_is = one.first_is.fill_is; arming_is = one.first_is.arming_is; later = omega (arith, h, one.first_is.later) };
     second_is = record { fill_is = one.second_is.fill_is; arming_is = one.second_is.arming_is; later = omega (arith, k, one.second_is.later) };
+    counts = one.counts;
     risen = λ torn. go (one.risen torn);
     stand = one.stand;
   }

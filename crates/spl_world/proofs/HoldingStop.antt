@@ -1,5 +1,5 @@
 -- A node stops, and each of its disks picks.
-use Rattle.std.proofs.Common.{◌≡◌, ℕ, ◌≤◌, ◌⊎◌, inl, inr, Bool, true, false, true≢false, ◌&&◌, eqb, List, [], ◌∷◌, ◌++◌, slice_get, get_or, Option, Some, refl, ap, sym, subst, ◌∙◌, arith}
+use Rattle.std.proofs.Common.{◌≡◌, ℕ, ◌≤◌, ◌⊎◌, inl, inr, Bool, true, false, true≢false, ◌&&◌, eqb, List, [], ◌∷◌, ◌++◌, slice_get, get_or, Option, Some, None, IfSome, refl, ap, sym, subst, ◌∙◌, arith}
 use Rattle.std.specs.Str.{bytes_eq}
 use Rattle.spl_agree.proofs.Tests.{eqb_is, eqb_not}
 use Rattle.spl_circuit.specs.Nodes.{NodeId, CircuitId}
@@ -10,11 +10,13 @@ use Rattle.spl_model.specs.Answers.{is_up}
 use Rattle.spl_model.specs.Projection.{Ran}
 use Rattle.spl_model.specs.Worlds.{blank, World as CircuitWorld}
 use Rattle.spl_node.specs.Stands.{StandFor}
+use Rattle.spl_node.specs.Stopping.{may_turn}
+use Rattle.spl_node.specs.declared.stopping.Stopping.{Stopping}
 use Rattle.spl_projection.proofs.Ups.{whole-up}
 use Rattle.spl_projection.specs.Whole.{whole_world}
 use Rattle.spl_sched.specs.declared.line.Line.{Line}
 use Rattle.spl_sched.specs.declared.line.Line.TheVariants as line
-use Rattle.spl_snapshot.specs.Counting.{IfBoth, chosen, HasRisen}
+use Rattle.spl_snapshot.specs.Counting.{IfBoth, chosen, second_counts, HasRisen}
 use Rattle.spl_world.specs.Disks.{AllUnarmed, Images, IsPairUnarmed, RoseAt, images}
 use Rattle.spl_world.specs.Held.{AllPicked, FailsIn, HavePicked, HigherAt, IsInCheckpointIn, IsTorn, IsTornIn, KeepsPicks, PickUnarmed, PicksBy, PicksOnce, Point, StopsAt, StopsBy, StopsPair, armed_counting, armed_other, behind_point, cells_behind, pick_fill, picks_at, stopping_of, stops_at}
 use Rattle.spl_world.specs.Views.{Stands, ids_of, over, places_of, slot_id, slot_ids, slot_up}
@@ -31,6 +33,12 @@ use Rattle.spl_base.specs.Booleans.{bytes_are, bytes_same}
 images_are : (o p : Option Image) (a b : Image) (P : Image → Image → Type 0) → o ≡ Some a → p ≡ Some b → IfBoth o p P → P a b
 images_are o p a b P e f h = subst (λ (y : Option Image). IfBoth (Some a) y P) f (subst (λ (x : Option Image). IfBoth x p P) e h)
 
+-- the disk that counts in what they hold counts in the images
+still_there : (how : Option Stopping) (o p : Option Image) (a b : Image) (second : Bool) → o ≡ Some a → p ≡ Some b
+    → IfSome how (λ h. may_turn h ≡ false → IfBoth o p (λ i j. second_counts i.bytes j.bytes ≡ second)) → IfSome how (λ h. may_turn h ≡ false → second_counts a.bytes b.bytes ≡ second)
+still_there None o p a b second e f h = tt
+still_there (Some w) o p a b second e f h = λ shut. images_are o p a b (λ i j. second_counts i.bytes j.bytes ≡ second) e f (h shut)
+
 -- two disks picked by a line, and stand for the cells after it
 pub picked_once : (ns : List NodeId) (t : Point) (n : NodeId) (p q : PairView) → HavePicked (stopping_of t.ran.line) p q → (IsTorn ns t.before t.ran.line → HasRisen p q)
     → IfBoth (image_now q.first) (image_now q.second) (λ i j. StandFor n (cells_behind ns (behind_point t) n) i.bytes j.bytes) → PicksOnce ns t n p q
@@ -44,6 +52,7 @@ picked_once ns t n p q one rose stand =
         second = b;
         first_is = record { fill_is = refl; arming_is = refl; later = one.first_is.no_less };
         second_is = record { fill_is = refl; arming_is = refl; later = one.second_is.no_less };
+        counts = still_there how (image_now q.first) (image_now q.second) (settled_at one.first_is.image) (settled_at one.second_is.image) b one.first_is.holds one.second_is.holds one.still;
         risen = rose;
         stand = images_are (image_now q.first) (image_now q.second) (settled_at one.first_is.image) (settled_at one.second_is.image) (λ i j. StandFor n (cells_behind ns (behind_point t) n) i.bytes j.bytes) one.first_is.holds one.second_is.holds stand;
       };

@@ -48,7 +48,7 @@ pub plain_picks : (p q : PairView) → IsPairUnarmed p → PicksOld p.first q.fi
     → PicksOld p.second q.second → HavePicked None p q
 plain_picks p q off one other =
     let b = counting (image_now p.first) (image_now p.second) in
-    record { second = b.0; counts = b.1; first_is = plain b.0 p.first q.first off.0 one; second_is = plain b.0 p.second q.second off.1 other }
+    record { second = b.0; counts = b.1; still = tt; first_is = plain b.0 p.first q.first off.0 one; second_is = plain b.0 p.second q.second off.1 other }
 
 -- ---- a stop in a checkpoint
 

@@ -1,5 +1,5 @@
 -- What the disks of a node hold after the lines that ran (docs/RULES.md, Journals, Stops in an event).
-use Rattle.std.specs.Prelude.{◌≡◌, ◌≢◌, ◌⊎◌, ◌<◌, ◌≤◌, ℕ, Bool, true, false, ◌&&◌, List, [], ◌∷◌, ◌++◌, length, slice_get, Option, Some, None, if◌then◌else◌}
+use Rattle.std.specs.Prelude.{◌≡◌, ◌≢◌, ◌⊎◌, ◌<◌, ◌≤◌, ℕ, Bool, true, false, ◌&&◌, List, [], ◌∷◌, ◌++◌, length, slice_get, Option, Some, None, IfSome, if◌then◌else◌}
 use Rattle.std.specs.Str.{bytes_eq}
 use Rattle.spl_circuit.specs.Nodes.{NodeId, CircuitId}
 use Rattle.spl_edge.specs.Image.{Image}
@@ -13,7 +13,7 @@ use Rattle.spl_model.specs.Answers.{is_up}
 use Rattle.spl_model.specs.Projection.{Ran}
 use Rattle.spl_model.specs.Worlds.{blank, World as CircuitWorld, step_plan}
 use Rattle.spl_node.specs.Stands.{StandFor}
-use Rattle.spl_node.specs.Stopping.{FillsHost, IsInCheckpoint, PicksArmed, counting_arming, other_arming, fill_of, passing}
+use Rattle.spl_node.specs.Stopping.{FillsHost, IsInCheckpoint, PicksArmed, counting_arming, other_arming, fill_of, may_turn, passing}
 use Rattle.spl_node.specs.declared.stopping.Stopping.{Stopping}
 use Rattle.spl_node.specs.declared.stopping.Stopping.TheVariants as stopping
 use Rattle.spl_projection.specs.Whole.{whole_world}
@@ -118,11 +118,13 @@ pub record IsPick (fill : Fill) (arming : Arming) (count : ℕ) (p : Picked) : T
   pub arming_is : p.arming ≡ arming
   pub later : count ≤ p.faults
 
--- two picks of the disks of a node by a line that stopped it; `second` is whether the second disk counted. The images stand for the cells after the line
+-- two picks of the disks of a node by a line that stopped it; `second` is whether the second disk counted: it counts in the images
+-- too, unless the line may have opened the head of a checkpoint. The images stand for the cells after the line
 pub record ArePicksAt (ns : List NodeId) (n : NodeId) (t : Point) (a b : ℕ) (p q : Picked) : Type 0 where
   pub second : Bool
   pub first_is : IsPick (pick_fill (stopping_of t.ran.line)) (armed_first (stopping_of t.ran.line) second) a p
   pub second_is : IsPick (pick_fill (stopping_of t.ran.line)) (armed_second (stopping_of t.ran.line) second) b q
+  pub counts : IfSome (stopping_of t.ran.line) (λ h. may_turn h ≡ false → second_counts p.image q.image ≡ second)
   pub risen : IsTorn ns t.before t.ran.line → (a < p.faults) ⊎ (b < q.faults)
   pub stand : StandFor n (cells_behind ns (behind_point t) n) p.image q.image
 
@@ -167,10 +169,12 @@ pub record IsHeld (ns : List NodeId) (rs : List Ran) (n : NodeId) (s p : PairVie
 
 -- ---- how disks are picked from
 
--- both disks of a node picked, armed so, and aren't armed any more; `second` is whether the second disk counted
+-- both disks of a node picked, armed so, and aren't armed any more; `second` is whether the second disk counted, and `still` that
+-- it does so after it
 pub record HavePicked (how : Option Stopping) (p q : PairView) : Type 0 where
   pub second : Bool
   pub counts : IfBoth (image_now p.first) (image_now p.second) (λ i j. second_counts i.bytes j.bytes ≡ second)
+  pub still : IfSome how (λ h. may_turn h ≡ false → IfBoth (image_now q.first) (image_now q.second) (λ i j. second_counts i.bytes j.bytes ≡ second))
   pub first_is : PicksArmed (pick_fill how) (armed_first how second) p.first q.first
   pub second_is : PicksArmed (pick_fill how) (armed_second how second) p.second q.second
 

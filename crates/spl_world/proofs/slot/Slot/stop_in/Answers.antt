@@ -9,9 +9,9 @@ use Rattle.spl_world.proofs.slot.Slot.stop_in.Goals as goal
 use Rattle.spl_edge.specs.Views.{pair_view}
 
 pub returns-clause-picks : goal.returns-clause-picks
-returns-clause-picks g c = ok_both c.stop_in.result
-    (λ one other. record { second = host_second c.args.self.now.host; counts = c.stop_in.ensures.counts; first_is = one; second_is = other })
-    c.stop_in.ensures.picks_first c.stop_in.ensures.picks_second
+returns-clause-picks g c = ok_three c.stop_in.result
+    (λ still one other. record { second = host_second c.args.self.now.host; counts = c.stop_in.ensures.counts; still = still; first_is = one; second_is = other })
+    c.stop_in.ensures.still c.stop_in.ensures.picks_first c.stop_in.ensures.picks_second
 
 pub returns-clause-leaves : goal.returns-clause-leaves
 returns-clause-leaves g c = hold_left _ (images_of g.D.Disk.view c.stop_in.new.disks) (g.met.D.Disk.possible c.stop_in.new.disks.first) (g.met.D.Disk.possible c.stop_in.new.disks.second)
