@@ -8,7 +8,8 @@ use Rattle.spl_state.specs.Entries.{Entry}
 use Rattle.spl_command.specs.declared.batch.Batch.{Batch}
 use Rattle.spl_command.specs.declared.receipt.Receipt.{Receipt}
 use Rattle.spl_command.specs.Lists.{with_change, with_receipt, with_receipts, receipts_behind, after_batch, state_of}
-use Rattle.spl_delta.specs.Deltas.{Delta, changes_in, delta_of, delta, and_deltas, deltas, with_delta, replayed, AreCut}
+use Rattle.spl_delta.specs.declared.delta.Delta.{Delta}
+use Rattle.spl_delta.specs.Deltas.{changes_in, delta_of, delta, and_deltas, deltas, with_delta, replayed, AreCut}
 
 -- ---- lists
 

@@ -27,9 +27,14 @@ use Rattle.spl_projection.proofs.Owns.{fits-left}
 use Rattle.spl_agreement.specs.Lists.{batch_list, batches_in}
 use Rattle.spl_agreement.proofs.Occurrences.{begins-batches}
 use Rattle.spl_agreement.proofs.Shown.{list-grows}
-use Rattle.spl_delta.specs.Deltas.{Delta, and_deltas, delta_of, deltas, replayed}
+use Rattle.spl_delta.specs.declared.delta.Delta.{Delta}
+use Rattle.spl_delta.specs.Deltas.{and_deltas, delta_of, deltas, replayed}
 use Rattle.spl_delta.specs.Taken.{WatchersTakeOneList, taken_behind, taken_by, taken_in}
-use Rattle.spl_delta.specs.Watches.{BadPlace, Down, MOST_WATCHERS, NameTaken, NotActive, Pull, Taken, TooManyWatchers, Watch, WatchAnswer, WatchLine, Watcher, Watching, WrongCircuit, is_named, moved_on, pulled_by, told_at, told_by, watch_answer, watch_circuit, watch_node, watcher_named, watchers_after}
+use Rattle.spl_delta.specs.declared.answer.WatchAnswer.{WatchAnswer}
+use Rattle.spl_delta.specs.declared.answer.WatchAnswer.TheVariants.{BadPlace, Down, NameTaken, NotActive, Taken, TooManyWatchers, Watching, WrongCircuit}
+use Rattle.spl_delta.specs.declared.line.WatchLine.{WatchLine}
+use Rattle.spl_delta.specs.declared.line.WatchLine.TheVariants.{Pull, Watch}
+use Rattle.spl_delta.specs.Watches.{MOST_WATCHERS, Watcher, is_named, moved_on, pulled_by, told_at, told_by, watch_answer, watch_circuit, watch_node, watcher_named, watchers_after}
 use Rattle.spl_delta.specs.Worlds.{Line, OfLine, OfWatch, OfWatcher, Task, TaskAnswer, lines_in, task_answer}
 use Rattle.spl_delta.proofs.Replays.{cut, deltas-on, front-deltas, pulled, replays}
 use Rattle.spl_delta.proofs.WholeWatched.{gone-append, lines-both, next, watch-answered, watchers-after_all, watchers_of, world_of}

@@ -15,7 +15,10 @@ use Rattle.spl_projection.specs.Whole.{world_after, whole_from, whole_world}
 use Rattle.spl_projection.proofs.Alike.{same-alike}
 use Rattle.spl_projection.proofs.Owns.{IsPair, AllConcern, concern-left, lines-pair, pair-first, ran-pair}
 use Rattle.spl_projection.proofs.Within.{are_within}
-use Rattle.spl_delta.specs.Watches.{WatchAnswer, WatchLine, Watcher, Down, told_at, watch_answer, watch_circuit, watch_node, watchers_after}
+use Rattle.spl_delta.specs.declared.answer.WatchAnswer.{WatchAnswer}
+use Rattle.spl_delta.specs.declared.answer.WatchAnswer.TheVariants.{Down}
+use Rattle.spl_delta.specs.declared.line.WatchLine.{WatchLine}
+use Rattle.spl_delta.specs.Watches.{Watcher, told_at, watch_answer, watch_circuit, watch_node, watchers_after}
 use Rattle.spl_delta.specs.Worlds.{Task, Line, OfWatcher, OfWatch, Watched, asked_in, circuit_watched, concerned_in, first_watched, lines_in, lines_watched, task_answer, task_done, tasks_done, watch_done, watched_before}
 use Rattle.spl_delta.proofs.LinesAnswered.{asked, concerns, done-world, keeps, watched-lines}
 

@@ -1,23 +1,19 @@
 -- What each committed batch changed in the state (docs/RULES.md, Subscriptions).
-use Rattle.std.specs.Prelude.{◌≡◌, ◌≤◌, ℕ, zero, suc, ◌+◌, List, [], ◌∷◌, ◌++◌, length, fold, take, Option, Some, None, slice_get}
+use Rattle.std.specs.Prelude.{◌≡◌, ◌≤◌, ℕ, zero, suc, ◌+◌, List, [], ◌∷◌, length, fold, take, Option, Some, None, slice_get}
+use Rattle.std.specs.List.{flat_map}
 use Rattle.std.specs.Option.{option_map}
 use Rattle.spl_state.specs.Entries.{Entry}
 use Rattle.spl_command.specs.declared.batch.Batch.{Batch}
 use Rattle.spl_command.specs.declared.receipt.StateChange.{StateChange}
 use Rattle.spl_command.specs.declared.receipt.Receipt.{Receipt}
 use Rattle.spl_command.specs.Lists.{with_change, receipts_behind}
+use Rattle.spl_delta.specs.declared.delta.Delta.{Delta}
 
 -- the changes of receipts, in their order
 abbrev pub changes_in : List Receipt → List StateChange
-changes_in [] = []
-changes_in (r ∷ rs) = r.changes ++ changes_in rs
+changes_in rs = flat_map (λ r. r.changes) rs
 
 -- a batch at its place, and what it changed
-pub record Delta : Type 0 where
-  pub place : ℕ
-  pub batch : ℕ
-  pub changes : List StateChange
-
 abbrev pub delta_of : List Batch → ℕ → Batch → Delta
 delta_of bs place b = record { place = place; batch = b.id; changes = changes_in (receipts_behind (take place bs) b) }
 
@@ -40,6 +36,10 @@ with_delta m d = fold with_change m d.changes
 
 abbrev pub replayed : List Entry → List Delta → List Entry
 replayed m ds = fold with_delta m ds
+
+-- some first of them are replayed
+abbrev pub IsReplayedPart : List Entry → List Delta → List Entry → Type 0
+IsReplayedPart m ds new = (n : ℕ) × (n ≤ length ds) × (new ≡ replayed m (take n ds))
 
 -- as many as these are, all of them of batches that are there
 pub record AreCut (bs : List Batch) (place count : ℕ) (ds : List Delta) : Type 0 where

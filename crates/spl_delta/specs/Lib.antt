@@ -1,5 +1,6 @@
 pub mod Deltas
 pub mod Watches
 pub mod Texts
+pub mod Takers
 pub mod Worlds
 pub mod Taken

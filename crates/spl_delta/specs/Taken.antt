@@ -7,8 +7,11 @@ use Rattle.spl_command.specs.Lists.{state_of}
 use Rattle.spl_model.specs.Worlds.{Origin, blank}
 use Rattle.spl_agreement.specs.Lists.{batch_list}
 use Rattle.spl_projection.specs.Happened.{whole_happened}
-use Rattle.spl_delta.specs.Deltas.{Delta, deltas, replayed}
-use Rattle.spl_delta.specs.Watches.{Pull, Taken, Watcher, watcher_named}
+use Rattle.spl_delta.specs.declared.delta.Delta.{Delta}
+use Rattle.spl_delta.specs.Deltas.{deltas, replayed}
+use Rattle.spl_delta.specs.declared.answer.WatchAnswer.TheVariants.{Taken}
+use Rattle.spl_delta.specs.declared.line.WatchLine.TheVariants.{Pull}
+use Rattle.spl_delta.specs.Watches.{Watcher, watcher_named}
 use Rattle.spl_delta.specs.Worlds.{Task, OfWatcher, TaskAnswer, OfWatch, lines_in, circuit_watched, task_answer}
 
 -- the deltas of an answer to a pull of this watcher of this circuit

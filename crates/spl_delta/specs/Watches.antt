@@ -1,6 +1,6 @@
 -- The lines of watchers, and what they are answered (docs/RULES.md, Subscriptions).
 use Rattle.std.specs.Prelude.{ℕ, ◌+◌, ◌^◌, Bool, ◌&&◌, ◌||◌, nat_le, nat_lt, List, [], ◌∷◌, ◌++◌, length, Option, Some, None, if◌then◌else◌, codes, decimal}
-use Rattle.std.specs.List.{list_all, list_any}
+use Rattle.std.specs.List.{list_all, list_any, join_with_byte}
 use Rattle.std.specs.Str.{bytes_eq}
 use Rattle.spl_agree.specs.Member.{values}
 use Rattle.spl_base.specs.Ids.{is_node_id, is_circuit_id, is_lower, is_digit}
@@ -10,30 +10,31 @@ use Rattle.spl_circuit.specs.Nodes.{NodeId, CircuitId}
 use Rattle.spl_words.specs.Words.{Words, Kind, text, number, joined, end, ◌&◌, that, kind, read_kind}
 use Rattle.spl_rules.specs.Cells.{Bound, Cell, Empty, Held, Purged, runs}
 use Rattle.spl_model.specs.Worlds.{World}
-use Rattle.spl_delta.specs.Deltas.{Delta, deltas}
+use Rattle.spl_delta.specs.declared.answer.WatchAnswer.{WatchAnswer}
+use Rattle.spl_delta.specs.declared.answer.WatchAnswer.TheVariants.{Watching, Taken, Down, NoCircuit, NotActive, NameTaken, BadPlace, NoWatcher, WrongCircuit, TooManyWatchers}
+use Rattle.spl_delta.specs.declared.line.WatchLine.{WatchLine}
+use Rattle.spl_delta.specs.declared.line.WatchLine.TheVariants.{Watch, Pull}
+use Rattle.spl_delta.specs.declared.read.TheConstants.{MOST_PULLED}
+use Rattle.spl_delta.specs.Deltas.{deltas}
 
 -- ---- lines
 
-pub data WatchLine : Type 0 where
-  -- watch NODE ID NAME PLACE
-  Watch : (node : NodeId) → (circuit : CircuitId) → (name : List ℕ) → (place : ℕ) → WatchLine
-  -- pull NODE ID NAME COUNT
-  Pull : (node : NodeId) → (circuit : CircuitId) → (name : List ℕ) → (count : ℕ) → WatchLine
+-- a to z and 0 to 9
+abbrev pub is_name_byte : ℕ → Bool
+is_name_byte b = is_lower b || is_digit b
 
--- 1 to 8 of a to z and 0 to 9
+-- 1 to 8 of them
 abbrev pub is_watcher_name : List ℕ → Bool
-is_watcher_name xs = nat_le 1 (length xs) && (nat_le (length xs) 8 && list_all (λ b. is_lower b || is_digit b) xs)
-
--- the most that a pull may take
-abbrev pub MOST_PULLED : ℕ
-MOST_PULLED = 64
+is_watcher_name xs = nat_le 1 (length xs) && (nat_le (length xs) 8 && list_all is_name_byte xs)
 
 abbrev pub is_count : ℕ → Bool
 is_count n = nat_le 1 n && nat_le n MOST_PULLED
 
+-- watch NODE ID NAME PLACE
 abbrev pub watch : Words (List ℕ × (List ℕ × (List ℕ × (ℕ × Unit {0}))))
 watch = text is_node_id & text is_circuit_id & text is_watcher_name & number (2 ^ 32) & end
 
+-- pull NODE ID NAME COUNT
 abbrev pub pull : Words (List ℕ × (List ℕ × (List ℕ × (ℕ × Unit {0}))))
 pull = text is_node_id & text is_circuit_id & text is_watcher_name & that is_count (number (2 ^ 8)) & end
 
@@ -52,9 +53,15 @@ abbrev pub is_watch_line : WatchLine → Bool
 is_watch_line (Watch n c name place) = is_node_id n && (is_circuit_id c && (is_watcher_name name && nat_lt place (2 ^ 32)))
 is_watch_line (Pull n c name count) = is_node_id n && (is_circuit_id c && (is_watcher_name name && is_count count))
 
+abbrev pub watch_lines : Words WatchLine
+watch_lines = record { spell = watch_words; read = read_watch_words; fits = is_watch_line }
+
 -- the line that bytes spell, its words apart by one space
 abbrev pub watch_line_of : List ℕ → Option WatchLine
-watch_line_of bytes = (joined 32 (record { spell = watch_words; read = read_watch_words; fits = is_watch_line })).read bytes
+watch_line_of bytes = (joined 32 watch_lines).read bytes
+
+abbrev pub watch_spelling : WatchLine → List ℕ
+watch_spelling l = join_with_byte 32 (watch_words l)
 
 abbrev pub watch_circuit : WatchLine → CircuitId
 watch_circuit (Watch n c name place) = c
@@ -84,18 +91,6 @@ watcher_named name [] = None
 watcher_named name (t ∷ ts) = if is_named name t then Some t else watcher_named name ts
 
 -- ---- answers
-
-pub data WatchAnswer : Type 0 where
-  Watching : (place : ℕ) → WatchAnswer
-  Taken : (deltas : List Delta) → WatchAnswer
-  Down : WatchAnswer
-  NoCircuit : WatchAnswer
-  NotActive : WatchAnswer
-  NameTaken : WatchAnswer
-  BadPlace : (committed : ℕ) → WatchAnswer
-  NoWatcher : WatchAnswer
-  WrongCircuit : WatchAnswer
-  TooManyWatchers : WatchAnswer
 
 -- a watcher of a circuit that runs here
 abbrev pub watched : Bound → List Watcher → List ℕ → ℕ → WatchAnswer

@@ -6,7 +6,9 @@ use Rattle.spl_wire.specs.declared.answer.Answer.{Answer}
 use Rattle.spl_model.specs.Worlds.{Origin, World, first_world}
 use Rattle.spl_model.specs.Projection.{Ran, concerned, own_line}
 use Rattle.spl_model.specs.Answers.{line_answer, line_world, roll_answer}
-use Rattle.spl_delta.specs.Watches.{WatchLine, WatchAnswer, Watcher, watch_circuit, watch_node, watch_answer, watchers_after}
+use Rattle.spl_delta.specs.declared.answer.WatchAnswer.{WatchAnswer}
+use Rattle.spl_delta.specs.declared.line.WatchLine.{WatchLine}
+use Rattle.spl_delta.specs.Watches.{Watcher, watch_circuit, watch_node, watch_answer, watchers_after}
 
 -- ---- tasks
 

@@ -1,7 +1,15 @@
-//! What each committed batch changed, and watchers that take it: definitions and their laws.
+//! What each committed batch changed, and watchers that take it: the lines, what is taken, and the laws.
 #![tactic(auto)]
 
-ghost use Rattle.std.specs.Prelude.{◌≡◌, ◌+◌, ◌++◌, ◌∷◌, [], ℕ, ◌≤◌, true, List, length, take};
+mod answer;
+mod changes;
+mod delta;
+mod line;
+mod read;
+mod taker;
+mod text;
+
+ghost use Rattle.std.specs.Prelude.{◌≡◌, ◌+◌, ◌++◌, ◌∷◌, [], ℕ, ◌≤◌, true, IsTrue, List, Some, length, take};
 ghost use Rattle.spl_agree.specs.World.{IsPrefixOf};
 ghost use Rattle.spl_command.specs.Lists.{state_of};
 ghost use Rattle.spl_command.specs.declared.batch.Batch.{Batch};
@@ -11,7 +19,16 @@ ghost use Rattle.spl_circuit.specs.Nodes.{NodeId};
 ghost use Rattle.spl_model.specs.Worlds.{IsOrigin, Origin};
 ghost use Rattle.spl_delta.specs.Deltas.{AreCut, deltas, replayed};
 ghost use Rattle.spl_delta.specs.Taken.{WatchersTakeOneList};
+ghost use Rattle.spl_delta.specs.Watches.{is_watch_line, watch_line_of, watch_spelling};
+ghost use Rattle.spl_delta.specs.declared.line.WatchLine.{WatchLine as WatchLineValue};
 ghost use Rattle.spl_delta.specs.Worlds.{Line, OfLine, Task, lines_in, task_answer};
+
+pub use answer::WatchAnswer;
+pub use changes::replay;
+pub use delta::{Delta, Deltas};
+pub use line::WatchLine;
+pub use read::{MOST_PULLED, read_watch};
+pub use taker::Taker;
 
 /// Deltas from a place on, replayed over the state of the batches before it, give the state of all
 /// that were taken. Those of a list's first batches are its own; a list ends them; what a
@@ -40,4 +57,11 @@ pub fn watchers_change_no_answer()
 /// of the batches before it gives the state of all that they have taken.
 pub fn watchers_take_one_list()
     ensures { (ns : List NodeId) (ts : List Task) → lines_fit (lines_in ts) ≡ true → WatchersTakeOneList ns ts }
+{}
+
+/// The line of a watcher within its bounds is what its spelling says; what is read is within its bounds, and is spelled in no
+/// other way.
+pub fn watch_lines_are_read_back()
+    ensures again { (l : WatchLineValue) → IsTrue (is_watch_line l) → watch_line_of (watch_spelling l) ≡ Some l }
+    ensures only { (bytes : List ℕ) (l : WatchLineValue) → watch_line_of bytes ≡ Some l → (bytes ≡ watch_spelling l) × IsTrue (is_watch_line l) }
 {}

@@ -1,0 +1,6 @@
+use Rattle.std.proofs.Common.{◌∷◌, ◌∙◌, sym}
+use Rattle.spl_delta.proofs.WatchLaws.{by-words}
+use Rattle.spl_delta.proofs.read.read_watch.Goals as goal
+
+pub returns-in-Some-clause-spelled : goal.returns-in-Some-clause-spelled
+returns-in-Some-clause-spelled c = by-words c.args.line.now (c.in-Some.name.now ∷ c.next.new.self) c.read_behind.result (sym c.in-Some.ensures ∙ c.new-words.ensures) c.read_behind.ensures
