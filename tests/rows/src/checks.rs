@@ -12,6 +12,7 @@ mod proofs;
 mod registries;
 mod runs;
 mod states;
+mod watchers;
 
 use crate::words::{Answered, RowFault};
 use std::alloc::Global;
@@ -46,6 +47,8 @@ pub fn answer(alloc: Global, table: &str, rest: &str) -> Answered {
         "accept" => proofs::accepted(alloc, rest),
         "check" => proofs::checked(alloc, rest),
         "check-changes" => proofs::changed(alloc, rest),
+        "watch-line" => watchers::said(alloc, rest),
+        "watch-answer" => watchers::printed(alloc, rest),
         "registry" => registries::read(alloc, rest),
         "source" => devices::taken(alloc, rest),
         "sink" => devices::kept(alloc, rest),

@@ -8,6 +8,7 @@ mod plans;
 mod promises;
 mod queues;
 mod seats;
+mod takers;
 mod votes;
 
 use crate::words::{Answered, RowFault};
@@ -31,6 +32,7 @@ pub fn answer(alloc: Global, table: &str, rest: &str) -> Answered {
         "stray" => ledgers::stray(alloc, rest),
         "same" => ledgers::compared(alloc, rest),
         "batches" => batches::offered(alloc, rest),
+        "taken" => takers::taken(alloc, rest),
         _ => Err(RowFault::BadRow),
     }
 }

@@ -10,13 +10,13 @@ use spl_state::RunCache;
 use std::alloc::Global;
 
 /// The batch of the words behind a circuit.
-fn batch_of(alloc: Global, words: &str) -> Result<Batch, RowFault> {
+pub fn batch_of(alloc: Global, words: &str) -> Result<Batch, RowFault> {
     let line = format!(in alloc; "submit alpha Ab3dE-00001 {}", words.trim())?;
     batch(alloc, line.as_str())
 }
 
 /// The reason against a batch, which is applied where there is none.
-fn offer(alloc: Global, service: &mut Service, batch: Batch) -> Result<Option<Reason>, RowFault> {
+pub fn offer(alloc: Global, service: &mut Service, batch: Batch) -> Result<Option<Reason>, RowFault> {
     if service.history().len() >= 100 {
         return Err(RowFault::BadRow);
     }
