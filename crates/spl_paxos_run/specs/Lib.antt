@@ -1,0 +1,4 @@
+pub mod Schedule
+pub mod Limits
+pub mod Run
+pub mod Stages

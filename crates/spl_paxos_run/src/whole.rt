@@ -1,0 +1,55 @@
+//! A whole run of Paxos Commit.
+ghost use Rattle.std.specs.Prelude.{◌≡◌, ◌≤◌, false, length, IsErrOf};
+ghost use Rattle.std.specs.Io.KnownBytes.{Consumes};
+ghost use Rattle.spl_edge.specs.Views.{bench};
+ghost use Rattle.spl_lines.specs.Given.{run_of};
+ghost use Rattle.spl_paxos_world.specs.Places.{process_count};
+ghost use Rattle.spl_paxos_world.specs.Wholes.{AreFresh};
+ghost use Rattle.spl_paxos_run.specs.Run.{EndsText, Ran, devices, given};
+
+use crate::run::{PaxosEnd, Run, fault_of};
+use spl_acceptor::Group;
+use spl_edge::{Pair, Sink, Source, StopDisk};
+use spl_paxos_world::PaxosFault;
+use std::alloc::Global;
+use std::mem;
+
+// Whether a run ended because memory ran out.
+fn lacks_memory(ended: &Result<PaxosEnd, PaxosFault>) -> bool
+    ensures { result ≡ false → IsErrOf ended.now PaxosFault.NoMemory → ⊥ }
+{
+    matches!(ended, Err(PaxosFault::NoMemory))
+}
+
+/// Runs each line that a source gives over the processes of a run, whose disks are blank, up to the first that a schedule may
+/// not have there or that ends with an error, and writes the answers. Running out of memory is reported before a fault of the
+/// sink. What the run holds in memory is left to the end of the process.
+pub fn run_paxos<S: Source, W: Sink, D: StopDisk>(
+    alloc: Global,
+    group: Group,
+    pairs: &mut Vec<Pair<D>>,
+    source: &mut S,
+    out: &mut W,
+) -> Result<PaxosEnd, PaxosFault>
+    requires members { (2 ≤ group.members) × (group.members ≤ 8) }
+    requires faults { group.faults ≤ 2 }
+    requires room { process_count group ≤ length pairs.old.items }
+    requires fresh { AreFresh group (bench D.view pairs.old.items) }
+    ensures text { EndsText result group (run_of (given (S.view source.old) (S.view source.new))) (S.view source.old) (S.view source.new) }
+    ensures taken { Consumes (S.view source.old).left (S.view source.new).left (given (S.view source.old) (S.view source.new)) }
+    ensures ran { Ran result group (run_of (given (S.view source.old) (S.view source.new)))
+        (devices (W.view out.old) (bench D.view pairs.old.items)) (devices (W.view out.new) (bench D.view pairs.new.items)) }
+{
+    let mut run = Run::new(alloc, group, pairs)?;
+    let ended = run.lines(alloc, pairs, source, out);
+    let flushed = run.flush(out);
+    // The process ends after a run, and gives its memory back at once.
+    mem::forget(run);
+    if lacks_memory(&ended) {
+        return Err(PaxosFault::NoMemory);
+    }
+    match flushed {
+        Ok(()) => ended,
+        Err(fault) => Err(fault_of(fault)),
+    }
+}
