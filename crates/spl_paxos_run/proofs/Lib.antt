@@ -1,2 +1,9 @@
 pub mod Lines
 pub mod Starting
+pub mod Results
+pub mod Bounds
+pub mod Standing
+pub mod Halting
+pub mod Reading
+pub mod Endings
+pub mod Flushing

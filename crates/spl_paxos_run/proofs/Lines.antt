@@ -24,9 +24,9 @@ pub outputs_more : (g : Group) (w : World) (ls : List (ℕ × PaxosLine)) (x : �
 outputs_more g w [] x = append-nil (printed x.0 (answer_text (answer g w (happening_of x.1))))
 outputs_more g w (l ∷ ls) x =
     let first = printed l.0 (answer_text (answer g w (happening_of l.1))) in
-    let then = happens g w (happening_of l.1) in
-    ap (λ (bytes : List ℕ). first ++ bytes) (outputs_more g then ls x)
-    ∙ sym (append_assoc first (outputs g then ls) (printed x.0 (answer_text (answer g (run g then (happenings ls)) (happening_of x.1)))))
+    let next = happens g w (happening_of l.1) in
+    ap (λ (bytes : List ℕ). first ++ bytes) (outputs_more g next ls x)
+    ∙ sym (append_assoc first (outputs g next ls) (printed x.0 (answer_text (answer g (run g next (happenings ls)) (happening_of x.1)))))
 
 numbered_with : (n : ℕ) (o : Option PaxosLine) (xs ys : List (ℕ × PaxosLine)) → with_number n o (xs ++ ys) ≡ with_number n o xs ++ ys
 numbered_with n None xs ys = refl

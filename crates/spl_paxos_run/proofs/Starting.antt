@@ -44,4 +44,5 @@ starts g run sink old new group stands picked spared events stops none = record 
   events = events;
   stops = stops;
   due = subst (λ (l : List ℕ). IsDue sink.written sink.written l []) (sym none) (due_waits sink.written []);
+  later = omega arith;
 }

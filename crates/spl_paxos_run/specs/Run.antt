@@ -72,15 +72,21 @@ EndsText e g lines s t = ⊤
 
 -- ---- how far it came
 
+-- the line after these passes a limit, or the disk of its process failed in it
+abbrev pub IsCut : Group → List (ℕ × PaxosLine) → List (ℕ × PaxosLine) → Devices → Devices → Type 0
+IsCut g before next x y = (t : ℕ × PaxosLine) × (next ≡ t ∷ [])
+    × (((which : ℕ) × IsOver (before ++ t ∷ []) which) ⊎ HasFailedAt g (process_of (happening_of t.1)) x.disks y.disks)
+
 -- where each end came: after all lines given, or those before the bad one; before a line that passes a limit; in a line whose
--- process's disk failed; a failed write after a line; and want of memory anywhere. `read` are the lines read, `before` what ran
--- of them, and `next` the line at which it ended, where it ended at one
+-- process's disk failed; a failed write after a line, or where a line would have ended it for another fault of these; and want of
+-- memory anywhere. `read` are the lines read, `before` what ran of them, and `next` the line at which it ended, where it ended at
+-- one
 abbrev pub Ends : Ended → Group → List (List ℕ) → List (List ℕ) → List (ℕ × PaxosLine) → List (ℕ × PaxosLine) → Devices → Devices → Type 0
 Ends (Ok e) g lines read before next x y = (read ≡ lines) × (next ≡ [])
 Ends (Err (fault.BadLine n)) g lines read before next x y = (read ≡ take (n - 1) lines) × (next ≡ [])
 Ends (Err (fault.TooMany which)) g lines read before next x y = (t : ℕ × PaxosLine) × (next ≡ t ∷ []) × IsOver (before ++ t ∷ []) which
 Ends (Err (fault.Disk n)) g lines read before next x y = (t : ℕ × PaxosLine) × (next ≡ t ∷ []) × (n ≡ process_of (happening_of t.1)) × HasFailedAt g n x.disks y.disks
-Ends (Err fault.Write) g lines read before next x y = (next ≡ []) × Rose x.sink.faults y.sink.faults
+Ends (Err fault.Write) g lines read before next x y = Rose x.sink.faults y.sink.faults × ((next ≡ []) ⊎ IsCut g before next x y)
 Ends (Err fault.NoMemory) g lines read before next x y = ⊤
 
 -- ---- what it leaves

@@ -1,5 +1,5 @@
 -- Where a run of Paxos Commit stands, and where it stopped, while some of the answers wait to be written.
-use Rattle.std.specs.Prelude.{◌≡◌, ◌⊎◌, ℕ, List, [], ◌∷◌, ◌++◌, Option, Result, Ok, Err, ⊤, length, take, ◌-◌}
+use Rattle.std.specs.Prelude.{◌≡◌, ◌⊎◌, ◌≤◌, ℕ, List, [], ◌∷◌, ◌++◌, Option, Result, Ok, Err, ⊤, length, take, ◌-◌}
 use Rattle.spl_edge.specs.Causes.{Rose}
 use Rattle.spl_edge.specs.Views.{PairView, SourceView}
 use Rattle.spl_lines.specs.Due.{IsDue, IsDuePart}
@@ -45,6 +45,7 @@ pub record AreDone (g : Group) (ls : List (ℕ × PaxosLine)) (run : Run) (x y :
   pub events : run.events ≡ length ls
   pub stops : run.stops ≡ stops_of ls
   pub due : IsDue x.sink.written y.sink.written run.output (outputs g (first_world g) ls)
+  pub later : x.sink.faults ≤ y.sink.faults
 
 -- all of these answers were written or wait, and a prefix of them where a write failed or memory ran out
 abbrev pub Due : Ended → Option (List ℕ) → Option (List ℕ) → List ℕ → List ℕ → Type 0

@@ -159,6 +159,7 @@ impl Run {
             → OnOk result (AreDone g (ls ++ (number, line.now) ∷ []) self.new x (devices (W.view out.new) (bench D.view pairs.new.items))) }
         ensures stopped { (g : Group) (ls : List (ℕ × PaxosLine)) (x : Devices) → AreDone g ls self.old x (devices (W.view out.old) (bench D.view pairs.old.items))
             → IfErr result (λ f. StopsAt f g (ls ++ (number, line.now) ∷ []) self.new.output x (devices (W.view out.new) (bench D.view pairs.new.items))) }
+        ensures good { (n : ℕ) → IsErrOf result (PaxosFault.BadLine n) → ⊥ }
         ensures later { (W.view out.old).faults ≤ (W.view out.new).faults }
     {
         self.count(line)?;
