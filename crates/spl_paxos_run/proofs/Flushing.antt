@@ -1,8 +1,7 @@
 -- A whole run, once what waited was handed over.
-use Rattle.std.proofs.Common.{◌≡◌, ◌⊎◌, ◌<◌, ◌≤◌, inl, inr, ℕ, List, [], ◌∷◌, ◌++◌, Option, Ok, Err, sym, subst, refl, append-nil, arith}
+use Rattle.std.proofs.Common.{◌≡◌, ◌⊎◌, ◌<◌, ◌≤◌, inl, inr, ℕ, List, [], ◌∷◌, ◌++◌, Option, Result, Ok, Err, sym, subst, refl, append-nil, arith}
 use Rattle.std.specs.Prelude.{IsErrOf}
 use Rattle.std.specs.Io.KnownBytes.{Appends}
-use Rattle.std.proofs.KnownBytes.{Appends-nil}
 use Rattle.spl_edge.specs.Causes.{AppendsPart, Rose}
 use Rattle.spl_edge.specs.Views.{PairView, SinkView, SourceView}
 use Rattle.spl_edge.specs.declared.fault.DeviceError.{DeviceError}
@@ -14,7 +13,6 @@ use Rattle.spl_acceptor.specs.declared.group.Group.{Group}
 use Rattle.spl_acceptor.specs.declared.message.Name.{Name}
 use Rattle.spl_paxos.specs.Lines.{happening_of}
 use Rattle.spl_paxos.specs.declared.line.PaxosLine.{PaxosLine}
-use Rattle.spl_paxos_world.specs.Faults.{IsOfWorld}
 use Rattle.spl_paxos_world.specs.Wholes.{AreSpared, AreUnmade, HasFailedAt}
 use Rattle.spl_paxos_world.specs.declared.fault.PaxosFault.{PaxosFault}
 use Rattle.spl_paxos_world.specs.declared.fault.PaxosFault.TheVariants as fault
@@ -63,6 +61,10 @@ module _ (g : Group) (before : List (ℕ × PaxosLine)) (start now : List PairVi
   left_unwritten : (next : List (ℕ × PaxosLine)) → Left (Err fault.NoMemory) g before next start now → Left (Err fault.Write) g before next start now
   left_unwritten [] left = left
   left_unwritten (t ∷ ts) left = left
+
+-- a call of the sink that failed
+abbrev pub sink_failed : DeviceError → Result (Unit {0}) DeviceError
+sink_failed d = Err d
 
 -- ---- the end
 
@@ -128,23 +130,3 @@ module _ (g : Group) (lines : List (List ℕ)) (wait : List ℕ) (x : Devices) (
         spared = h.leaves.spared;
       }
       ran_unwritten device.NoMemory room rose later = ran_short
-
--- not all processes were made
-pub ran_unmade : (f : PaxosFault) (g : Group) (lines : List (List ℕ)) (sink : SinkView) (start now : List PairView) → AreUnmade g f start now → AreSpared g start now → Ran (Err f) g lines (devices sink start) (devices sink now)
-ran_unmade f g lines sink start now unmade spared = record {
-  done = inl (record { fault = f; is = refl; disks = unmade; written = Appends-nil sink.written });
-  spared = spared;
-}
-
--- ---- what doesn't end in the text
-
-pub text_world : (f : PaxosFault) (g : Group) (lines : List (List ℕ)) (s t : SourceView) → IsOfWorld f → EndsText (Err f) g lines s t
-text_world (fault.BadLine n) g lines s t is = absurd is
-text_world (fault.TooMany which) g lines s t is = tt
-text_world (fault.Disk n) g lines s t is = tt
-text_world fault.Write g lines s t is = tt
-text_world fault.NoMemory g lines s t is = tt
-
-pub text_sink : (d : DeviceError) (g : Group) (lines : List (List ℕ)) (s t : SourceView) → EndsText (Err (fault_of d)) g lines s t
-text_sink device.Failed g lines s t = tt
-text_sink device.NoMemory g lines s t = tt

@@ -28,7 +28,7 @@ returns-in_err-count-clause-stopped g c = λ run ls x h.
     let y = devices (g.W.Sink.view c.args.out.now) (bench g.D.Disk.view c.args.pairs.now.items) in
     let over = c.in_err-count.ensures.over ls c.args.number h.events h.stops in
     let stops = subst (λ (f : PaxosFault). StopsAt f run (ls ++ t ∷ []) c.args.self.now.output x y) (sym over.1) (stops_over run ls c.args.self.now x y h t over.0 over.2) in
-    err_from c.from_residual.result c.in_err-count.field-0.0 _ c.from_residual.ensures
+    err_from c.from_residual.result c.in_err-count.field-0.0 (λ f. StopsAt f run (ls ++ t ∷ []) c.count.new.self.output x y) c.from_residual.ensures
     (subst (λ (waiting : List ℕ). StopsAt c.in_err-count.field-0.0 run (ls ++ t ∷ []) waiting x y) (sym c.count.ensures.output) stops)
 
 pub returns-in_err-count-clause-good : goal.returns-in_err-count-clause-good
