@@ -1,5 +1,5 @@
 -- The limits, one line more.
-use Rattle.std.proofs.Common.{◌≡◌, ◌∙◌, ◌<◌, ◌≤◌, ◌+◌, ℕ, Bool, true, false, List, [], ◌∷◌, ◌++◌, inl, inr, ap, refl, length, length-append, arith}
+use Rattle.std.proofs.Common.{◌≡◌, ◌∙◌, ◌<◌, ◌≤◌, ◌+◌, ℕ, Bool, true, false, List, [], ◌∷◌, ◌++◌, inr, ap, refl, length, length-append, arith}
 use Rattle.std.specs.Prelude.{if◌then◌else◌}
 use Rattle.spl_model.specs.declared.TheConstants.{MOST_EVENTS, MOST_STOPS}
 use Rattle.spl_paxos.specs.declared.line.PaxosLine.{PaxosLine}
@@ -15,9 +15,6 @@ module _ (ls : List (ℕ × PaxosLine)) (t : ℕ × PaxosLine) where
 
   pub stop_still : is_stop t.1 ≡ false → stops_of (ls ++ t ∷ []) ≡ stops_of ls
   stop_still is = (let same : stops_of (ls ++ t ∷ []) ≡ stops_of ls + 0 = stops_more ls t ∙ ap (λ (b : Bool). stops_of ls + (if b then 1 else 0)) is in omega (arith, same))
-
-  pub over_events : MOST_EVENTS ≤ length ls → IsOver (ls ++ t ∷ []) 1
-  over_events most = inl (refl, omega (arith, lines_more, most))
 
   pub over_stops : length ls < MOST_EVENTS → is_stop t.1 ≡ true → MOST_STOPS ≤ stops_of ls → IsOver (ls ++ t ∷ []) 2
   over_stops few is most = inr (refl, omega (arith, lines_more, few), omega (arith, stop_more is, most))

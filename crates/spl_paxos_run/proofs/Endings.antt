@@ -17,7 +17,7 @@ use Rattle.spl_paxos_world.specs.declared.fault.PaxosFault.{PaxosFault}
 use Rattle.spl_paxos_world.specs.declared.fault.PaxosFault.TheVariants as fault
 use Rattle.spl_paxos_run.specs.Run.{AreLines, Devices, Ends, EndsText, given}
 use Rattle.spl_paxos_run.specs.Schedule.{IsLine, numbered, said, with_number}
-use Rattle.spl_paxos_run.specs.Stages.{AreDone, Comes, EndsAt, Leaves, StopsAt, StopsBy, end_of}
+use Rattle.spl_paxos_run.specs.Stages.{AreDone, Comes, EndsAt, StopsAt, StopsBy, end_of}
 use Rattle.spl_paxos_run.specs.declared.run.PaxosEnd.{PaxosEnd}
 use Rattle.spl_paxos_run.specs.declared.run.PaxosEnd.TheVariants as end
 use Rattle.spl_paxos_run.specs.declared.run.Run.{Run}

@@ -1,9 +1,9 @@
 -- A whole run, once what waited was handed over.
-use Rattle.std.proofs.Common.{◌≡◌, ◌⊎◌, ◌<◌, ◌≤◌, inl, inr, ℕ, List, [], ◌∷◌, ◌++◌, Option, Result, Ok, Err, sym, subst, refl, append-nil, arith}
+use Rattle.std.proofs.Common.{◌≡◌, ◌≤◌, inl, inr, ℕ, List, [], ◌∷◌, Option, Result, Ok, Err, sym, subst, refl, append-nil, arith}
 use Rattle.std.specs.Prelude.{IsErrOf}
 use Rattle.std.specs.Io.KnownBytes.{Appends}
 use Rattle.spl_edge.specs.Causes.{AppendsPart, Rose}
-use Rattle.spl_edge.specs.Views.{PairView, SinkView, SourceView}
+use Rattle.spl_edge.specs.Views.{PairView, SinkView}
 use Rattle.spl_edge.specs.declared.fault.DeviceError.{DeviceError}
 use Rattle.spl_edge.specs.declared.fault.DeviceError.TheVariants as device
 use Rattle.spl_lines.specs.Due.{IsDuePart}
@@ -13,10 +13,9 @@ use Rattle.spl_acceptor.specs.declared.group.Group.{Group}
 use Rattle.spl_acceptor.specs.declared.message.Name.{Name}
 use Rattle.spl_paxos.specs.Lines.{happening_of}
 use Rattle.spl_paxos.specs.declared.line.PaxosLine.{PaxosLine}
-use Rattle.spl_paxos_world.specs.Wholes.{AreSpared, AreUnmade, HasFailedAt}
-use Rattle.spl_paxos_world.specs.declared.fault.PaxosFault.{PaxosFault}
+use Rattle.spl_paxos_world.specs.Wholes.{HasFailedAt}
 use Rattle.spl_paxos_world.specs.declared.fault.PaxosFault.TheVariants as fault
-use Rattle.spl_paxos_run.specs.Run.{Devices, Ended, Ends, EndsText, IsCut, Left, Ran, Run, Written, devices}
+use Rattle.spl_paxos_run.specs.Run.{Devices, Ended, Ends, Left, Ran, Run, Written, devices}
 use Rattle.spl_paxos_run.specs.Schedule.{happenings, outputs}
 use Rattle.spl_paxos_run.specs.Stages.{Comes, Due, fault_of}
 use Rattle.spl_paxos_run.proofs.Standing.{left_fallen}

@@ -1,7 +1,7 @@
 -- Where a run stopped, while some of the answers wait.
-use Rattle.std.proofs.Common.{◌≡◌, ◌∙◌, ◌⊎◌, ◌<◌, inl, inr, ℕ, List, [], ◌∷◌, ◌++◌, Option, Err, sym, ap, subst, refl, append-nil, arith}
+use Rattle.std.proofs.Common.{◌≡◌, ◌∙◌, ◌⊎◌, ◌<◌, inl, inr, ℕ, List, [], ◌∷◌, ◌++◌, Option, Err, sym, ap, subst, refl, append-nil}
 use Rattle.spl_edge.specs.Causes.{Rose}
-use Rattle.spl_edge.specs.Views.{PairView, SinkView}
+use Rattle.spl_edge.specs.Views.{PairView}
 use Rattle.spl_edge.specs.declared.fault.DeviceError.{DeviceError}
 use Rattle.spl_edge.specs.declared.fault.DeviceError.TheVariants as device
 use Rattle.spl_lines.specs.Due.{IsDue, IsDuePart}
@@ -22,7 +22,7 @@ use Rattle.spl_paxos_world.specs.declared.fault.PaxosFault.TheVariants as fault
 use Rattle.spl_paxos_world.specs.declared.world.PaxosWorld.{PaxosWorld}
 use Rattle.spl_quorum.specs.Written.{process_of}
 use Rattle.spl_paxos_run.specs.Limits.{IsOver, IsWithin}
-use Rattle.spl_paxos_run.specs.Run.{Devices, IsLeft, devices}
+use Rattle.spl_paxos_run.specs.Run.{Devices, devices}
 use Rattle.spl_paxos_run.specs.Schedule.{IsLine, happenings, outputs, said, with_number}
 use Rattle.spl_paxos_run.specs.Stages.{AreDone, Due, EndsAt, StopsAt, StopsBy, fault_of}
 use Rattle.spl_paxos_run.specs.declared.run.Run.{Run}
@@ -148,6 +148,10 @@ module _ (g : Group) (ls : List (ℕ × PaxosLine)) (number : ℕ) (line waiting
   stops_ran fault.NoMemory other stops = inr (good, stops)
 
 -- ---- its answer
+
+-- the text of an answer in a list that was emptied
+pub spelled_as : (a : PaxosAnswer) (empty new text : List ℕ) → empty ≡ [] → new ≡ empty ++ answer_text a → text ≡ new → text ≡ answer_text a
+spelled_as a empty new text none is same = same ∙ is ∙ ap (λ (l : List ℕ). l ++ answer_text a) none
 
 module _ (g : Group) (ls : List (ℕ × PaxosLine)) (t : ℕ × PaxosLine) (s o : Option (List ℕ)) (waiting : List ℕ) (due : IsDue s o waiting (outputs g (first_world g) ls)) where
   -- it isn't there yet

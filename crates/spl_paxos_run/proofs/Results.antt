@@ -1,5 +1,5 @@
 -- What follows where a call failed.
-use Rattle.std.proofs.Common.{◌≡◌, Result, Ok, Err, IfErr, OnOk, refl, sym, subst, ap}
+use Rattle.std.proofs.Common.{◌≡◌, Result, Ok, Err, IfErr, OnOk, refl, sym, subst}
 use Rattle.std.specs.Prelude.{IsErr, IsErrOf}
 use Rattle.std.specs.Result.{IsErrAnd}
 
@@ -11,10 +11,6 @@ err_from (Err y) e P h p = subst P (sym h.1) p
 -- a call that failed
 abbrev pub failed : (T E : Type 0) → E → Result T E
 failed T E e = Err e
-
-pub err_is : {T E : Type 0} (r : Result T E) (e : E) → IsErr r × IsErrAnd r (λ y. y ≡ e) → r ≡ Err e
-err_is (Ok a) e h = absurd h.1
-err_is {T} {E} (Err d) e h = (let same : d ≡ e = h.1 in ap (failed T E) same)
 
 -- it is the error of the call in it
 pub err_same : {T E : Type 0} (r : Result T E) (f d : E) → IsErr r × IsErrAnd r (λ y. y ≡ f) → IsErrOf r d → f ≡ d

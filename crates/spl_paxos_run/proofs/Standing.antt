@@ -1,5 +1,5 @@
 -- The disks after lines that ran, and after one more.
-use Rattle.std.proofs.Common.{◌≡◌, ◌∙◌, ◌⊎◌, ◌<◌, ◌≤◌, inl, inr, ⊎_elim, ℕ, List, [], ◌∷◌, ◌++◌, length, Option, None, Some, sym, ap, subst, refl, arith}
+use Rattle.std.proofs.Common.{◌≡◌, ◌∙◌, ◌<◌, inl, ⊎_elim, ℕ, List, [], ◌∷◌, ◌++◌, Option, None, Some, sym, ap, subst, arith}
 use Rattle.std.specs.Prelude.{slice_get, IsSomeAnd, Ok, Err}
 use Rattle.std.proofs.lemmas.Bool.{cases_eq}
 use Rattle.spl_edge.specs.Image.{Image}
@@ -8,7 +8,6 @@ use Rattle.spl_acceptor.specs.Logs.{StandFor}
 use Rattle.spl_acceptor.specs.Worlds.{Happening, World, world_behind}
 use Rattle.spl_acceptor.specs.declared.group.Group.{Group}
 use Rattle.spl_acceptor.specs.declared.message.Name.{Name}
-use Rattle.spl_paxos.specs.Lines.{happening_of}
 use Rattle.spl_paxos.specs.declared.line.PaxosLine.{PaxosLine}
 use Rattle.spl_paxos_world.specs.Places.{EachDisk, name_at, process_count}
 use Rattle.spl_paxos_world.specs.States.{MakeStates, states_in}
@@ -71,6 +70,6 @@ spared_more g start old new spared (k, low, changes) = record {
         let mid = get_at old i (omega (arith, get_below start i p at, spared.as_many)) in
         let before : mid.0.second ≡ p.second = spared.second i p mid.0 at mid.1 in
         ⊎_elim
-            (λ (is : i ≡ k). changes.second mid.0 q (subst (λ (j : ℕ). slice_get old j ≡ Some mid.0) is mid.1) (subst (λ (j : ℕ). slice_get new j ≡ Some q) is there) ∙ before)
-            (λ other. (let same : q ≡ mid.0 = same_item old i q mid.0 (sym (changes.others i other) ∙ there) mid.1 in ap (λ (z : PairView). z.second) same ∙ before))
-            (cases_eq i k)
+        (λ (is : i ≡ k). changes.second mid.0 q (subst (λ (j : ℕ). slice_get old j ≡ Some mid.0) is mid.1) (subst (λ (j : ℕ). slice_get new j ≡ Some q) is there) ∙ before)
+        (λ other. (let same : q ≡ mid.0 = same_item old i q mid.0 (sym (changes.others i other) ∙ there) mid.1 in ap (λ (z : PairView). z.second) same ∙ before))
+        (cases_eq i k)

@@ -85,7 +85,8 @@ abbrev pub Ends : Ended → Group → List (List ℕ) → List (List ℕ) → Li
 Ends (Ok e) g lines read before next x y = (read ≡ lines) × (next ≡ [])
 Ends (Err (fault.BadLine n)) g lines read before next x y = (read ≡ take (n - 1) lines) × (next ≡ [])
 Ends (Err (fault.TooMany which)) g lines read before next x y = (t : ℕ × PaxosLine) × (next ≡ t ∷ []) × IsOver (before ++ t ∷ []) which
-Ends (Err (fault.Disk n)) g lines read before next x y = (t : ℕ × PaxosLine) × (next ≡ t ∷ []) × (n ≡ process_of (happening_of t.1)) × HasFailedAt g n x.disks y.disks
+Ends (Err (fault.Disk n)) g lines read before next x y =
+    (t : ℕ × PaxosLine) × (next ≡ t ∷ []) × (n ≡ process_of (happening_of t.1)) × HasFailedAt g n x.disks y.disks
 Ends (Err fault.Write) g lines read before next x y = Rose x.sink.faults y.sink.faults × ((next ≡ []) ⊎ IsCut g before next x y)
 Ends (Err fault.NoMemory) g lines read before next x y = ⊤
 

@@ -1,5 +1,5 @@
 -- What a run of Paxos Commit does and writes, by the lines of its schedule (docs/RULES.md, Paxos Commit).
-use Rattle.std.specs.Prelude.{◌⊎◌, ◌+◌, ℕ, Bool, List, [], ◌∷◌, ◌++◌, Option, None, Some, IsSomeAnd, IsTrue, if◌then◌else◌}
+use Rattle.std.specs.Prelude.{◌⊎◌, ◌+◌, ℕ, List, [], ◌∷◌, ◌++◌, Option, None, Some, IsSomeAnd, IsTrue, if◌then◌else◌}
 use Rattle.spl_lines.specs.Lines.{IsShort, is_silent}
 use Rattle.spl_lines.specs.Written.{printed}
 use Rattle.spl_acceptor.specs.Worlds.{World, Happening, first_world, happens, answer}

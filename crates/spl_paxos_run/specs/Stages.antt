@@ -1,7 +1,6 @@
 -- Where a run of Paxos Commit stands, and where it stopped, while some of the answers wait to be written.
-use Rattle.std.specs.Prelude.{◌≡◌, ◌⊎◌, ◌≤◌, ℕ, List, [], ◌∷◌, ◌++◌, Option, Result, Ok, Err, ⊤, length, take, ◌-◌}
+use Rattle.std.specs.Prelude.{◌≡◌, ◌⊎◌, ◌≤◌, ℕ, List, [], ◌∷◌, ◌++◌, Option, Ok, Err, ⊤, length}
 use Rattle.spl_edge.specs.Causes.{Rose}
-use Rattle.spl_edge.specs.Views.{PairView, SourceView}
 use Rattle.spl_lines.specs.Due.{IsDue, IsDuePart}
 use Rattle.spl_acceptor.specs.Worlds.{first_world}
 use Rattle.spl_acceptor.specs.declared.group.Group.{Group}
@@ -17,7 +16,7 @@ use Rattle.spl_edge.specs.declared.fault.DeviceError.{DeviceError}
 use Rattle.spl_edge.specs.declared.fault.DeviceError.TheVariants as device
 use Rattle.spl_quorum.specs.Written.{process_of}
 use Rattle.spl_paxos_run.specs.Limits.{IsOver, IsWithin, stops_of}
-use Rattle.spl_paxos_run.specs.Run.{AreLines, Devices, Ended, Ends, EndsText, Left}
+use Rattle.spl_paxos_run.specs.Run.{AreLines, Devices, Ended, Ends, Left}
 use Rattle.spl_paxos_run.specs.Schedule.{IsLine, happenings, numbered, outputs, said, with_number}
 use Rattle.spl_paxos_run.specs.declared.run.Run.{Run}
 use Rattle.spl_paxos_run.specs.declared.run.PaxosEnd.TheVariants as end
@@ -57,7 +56,8 @@ Due e old new waiting all = IsDue old new waiting all
 abbrev pub EndsAt : PaxosFault → Group → List (ℕ × PaxosLine) → List (ℕ × PaxosLine) → Devices → Devices → Type 0
 EndsAt (fault.BadLine n) g before next x y = next ≡ []
 EndsAt (fault.TooMany which) g before next x y = (t : ℕ × PaxosLine) × (next ≡ t ∷ []) × IsOver (before ++ t ∷ []) which
-EndsAt (fault.Disk n) g before next x y = (t : ℕ × PaxosLine) × (next ≡ t ∷ []) × (n ≡ process_of (happening_of t.1)) × HasFailedAt g n x.disks y.disks
+EndsAt (fault.Disk n) g before next x y =
+    (t : ℕ × PaxosLine) × (next ≡ t ∷ []) × (n ≡ process_of (happening_of t.1)) × HasFailedAt g n x.disks y.disks
 EndsAt fault.Write g before next x y = (next ≡ []) × Rose x.sink.faults y.sink.faults
 EndsAt fault.NoMemory g before next x y = ⊤
 
@@ -79,7 +79,8 @@ pub record StopsAt (f : PaxosFault) (g : Group) (ls : List (ℕ × PaxosLine)) (
 -- a line after these, of this number, ended the run: none that the schedule may have, or one of which the run ended so
 abbrev pub StopsBy : PaxosFault → Group → List (ℕ × PaxosLine) → ℕ → List ℕ → List ℕ → Devices → Devices → Type 0
 StopsBy (fault.BadLine n) g ls number line waiting x y = (n ≡ number) × (IsLine g line → ⊥) × StopsAt (fault.BadLine n) g ls waiting x y
-StopsBy f g ls number line waiting x y = StopsAt f g ls waiting x y ⊎ (IsLine g line × StopsAt f g (ls ++ with_number number (said line) []) waiting x y)
+StopsBy f g ls number line waiting x y =
+    StopsAt f g ls waiting x y ⊎ (IsLine g line × StopsAt f g (ls ++ with_number number (said line) []) waiting x y)
 
 -- a run of lines ended so
 pub record Comes (e : Ended) (g : Group) (lines : List (List ℕ)) (waiting : List ℕ) (x y : Devices) : Type 0 where

@@ -85,7 +85,8 @@ impl Run {
         requires faults { group.faults ≤ 2 }
         requires room { process_count group ≤ length pairs.old.items }
         requires fresh { AreFresh group (bench D.view pairs.old.items) }
-        ensures done { (sink : SinkView) → IfOk result (λ run. AreDone group [] run (devices sink (bench D.view pairs.old.items)) (devices sink (bench D.view pairs.new.items))) }
+        ensures done { (sink : SinkView) → IfOk result (λ run.
+            AreDone group [] run (devices sink (bench D.view pairs.old.items)) (devices sink (bench D.view pairs.new.items))) }
         ensures unmade { IfErr result (λ f. AreUnmade group f (bench D.view pairs.old.items) (bench D.view pairs.new.items)) }
         ensures only { IfErr result IsOfWorld }
         ensures spared { AreSpared group (bench D.view pairs.old.items) (bench D.view pairs.new.items) }
@@ -106,7 +107,8 @@ impl Run {
         ensures world { self.new.world ≡ self.old.world }
         ensures output { self.new.output ≡ self.old.output }
         ensures counted { (ls : List (ℕ × PaxosLine)) (n : ℕ) → IsWithin ls → self.old.events ≡ length ls → self.old.stops ≡ stops_of ls
-            → OnOk result (IsWithin (ls ++ (n, line.now) ∷ []) × (self.new.events ≡ length (ls ++ (n, line.now) ∷ [])) × (self.new.stops ≡ stops_of (ls ++ (n, line.now) ∷ []))) }
+            → OnOk result (IsWithin (ls ++ (n, line.now) ∷ []) × (self.new.events ≡ length (ls ++ (n, line.now) ∷ []))
+            × (self.new.stops ≡ stops_of (ls ++ (n, line.now) ∷ []))) }
         ensures over { (ls : List (ℕ × PaxosLine)) (n : ℕ) → self.old.events ≡ length ls → self.old.stops ≡ stops_of ls
             → IfErr result (λ f. (which : ℕ) × (f ≡ PaxosFault.TooMany which) × IsOver (ls ++ (n, line.now) ∷ []) which) }
     {
@@ -128,7 +130,8 @@ impl Run {
         ensures good { OnOk result (IsLine (group_of self.now.world) line.now) }
         ensures said { IfOk result (λ o. o ≡ said line.now) }
         ensures known { IfOk result (λ o. IfSome o (λ l. IsTrue (knows (group_of self.now.world) l))) }
-        ensures bad { IfErr result (λ f. (f ≡ PaxosFault.NoMemory) ⊎ ((f ≡ PaxosFault.BadLine number) × (IsLine (group_of self.now.world) line.now → ⊥))) }
+        ensures bad { IfErr result (λ f. (f ≡ PaxosFault.NoMemory)
+            ⊎ ((f ≡ PaxosFault.BadLine number) × (IsLine (group_of self.now.world) line.now → ⊥))) }
     {
         if line.len() > longest_line(line) {
             return Err(PaxosFault::BadLine(number));
@@ -154,11 +157,15 @@ impl Run {
         line: &PaxosLine,
     ) -> Result<(), PaxosFault>
         requires known { IsTrue (knows (group_of self.old.world) line.now) }
-        requires done { (g : Group) × (ls : List (ℕ × PaxosLine)) × (x : Devices) × AreDone g ls self.old x (devices (W.view out.old) (bench D.view pairs.old.items)) }
-        ensures done { (g : Group) (ls : List (ℕ × PaxosLine)) (x : Devices) → AreDone g ls self.old x (devices (W.view out.old) (bench D.view pairs.old.items))
+        requires done { (g : Group) × (ls : List (ℕ × PaxosLine)) × (x : Devices)
+            × AreDone g ls self.old x (devices (W.view out.old) (bench D.view pairs.old.items)) }
+        ensures done { (g : Group) (ls : List (ℕ × PaxosLine)) (x : Devices)
+            → AreDone g ls self.old x (devices (W.view out.old) (bench D.view pairs.old.items))
             → OnOk result (AreDone g (ls ++ (number, line.now) ∷ []) self.new x (devices (W.view out.new) (bench D.view pairs.new.items))) }
-        ensures stopped { (g : Group) (ls : List (ℕ × PaxosLine)) (x : Devices) → AreDone g ls self.old x (devices (W.view out.old) (bench D.view pairs.old.items))
-            → IfErr result (λ f. StopsAt f g (ls ++ (number, line.now) ∷ []) self.new.output x (devices (W.view out.new) (bench D.view pairs.new.items))) }
+        ensures stopped { (g : Group) (ls : List (ℕ × PaxosLine)) (x : Devices)
+            → AreDone g ls self.old x (devices (W.view out.old) (bench D.view pairs.old.items))
+            → IfErr result (λ f. StopsAt f g (ls ++ (number, line.now) ∷ []) self.new.output x
+            (devices (W.view out.new) (bench D.view pairs.new.items))) }
         ensures good { (n : ℕ) → IsErrOf result (PaxosFault.BadLine n) → ⊥ }
         ensures later { (W.view out.old).faults ≤ (W.view out.new).faults }
     {
@@ -181,10 +188,14 @@ impl Run {
         number: u32,
         line: &[u8],
     ) -> Result<(), PaxosFault>
-        requires done { (g : Group) × (ls : List (ℕ × PaxosLine)) × (x : Devices) × AreDone g ls self.old x (devices (W.view out.old) (bench D.view pairs.old.items)) }
-        ensures done { (g : Group) (ls : List (ℕ × PaxosLine)) (x : Devices) → AreDone g ls self.old x (devices (W.view out.old) (bench D.view pairs.old.items))
-            → OnOk result (IsLine g line.now × AreDone g (ls ++ with_number number (said line.now) []) self.new x (devices (W.view out.new) (bench D.view pairs.new.items))) }
-        ensures stopped { (g : Group) (ls : List (ℕ × PaxosLine)) (x : Devices) → AreDone g ls self.old x (devices (W.view out.old) (bench D.view pairs.old.items))
+        requires done { (g : Group) × (ls : List (ℕ × PaxosLine)) × (x : Devices)
+            × AreDone g ls self.old x (devices (W.view out.old) (bench D.view pairs.old.items)) }
+        ensures done { (g : Group) (ls : List (ℕ × PaxosLine)) (x : Devices)
+            → AreDone g ls self.old x (devices (W.view out.old) (bench D.view pairs.old.items))
+            → OnOk result (IsLine g line.now × AreDone g (ls ++ with_number number (said line.now) []) self.new x
+            (devices (W.view out.new) (bench D.view pairs.new.items))) }
+        ensures stopped { (g : Group) (ls : List (ℕ × PaxosLine)) (x : Devices)
+            → AreDone g ls self.old x (devices (W.view out.old) (bench D.view pairs.old.items))
             → IfErr result (λ f. StopsBy f g ls number line.now self.new.output x (devices (W.view out.new) (bench D.view pairs.new.items))) }
         ensures later { (W.view out.old).faults ≤ (W.view out.new).faults }
     {
@@ -205,7 +216,8 @@ impl Run {
     ) -> Result<PaxosEnd, PaxosFault>
         requires done { (g : Group) × (x : Devices) × AreDone g [] self.old x (devices (W.view out.old) (bench D.view pairs.old.items)) }
         ensures comes { (g : Group) (x : Devices) → AreDone g [] self.old x (devices (W.view out.old) (bench D.view pairs.old.items))
-            → Comes result g (run_of (given (S.view source.old) (S.view source.new))) self.new.output x (devices (W.view out.new) (bench D.view pairs.new.items)) }
+            → Comes result g (run_of (given (S.view source.old) (S.view source.new))) self.new.output x
+            (devices (W.view out.new) (bench D.view pairs.new.items)) }
         ensures text { (g : Group) (x : Devices) → AreDone g [] self.old x (devices (W.view out.old) (bench D.view pairs.old.items))
             → EndsText result g (run_of (given (S.view source.old) (S.view source.new))) (S.view source.old) (S.view source.new) }
         ensures taken { Consumes (S.view source.old).left (S.view source.new).left (given (S.view source.old) (S.view source.new)) }

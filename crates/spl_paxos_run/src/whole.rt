@@ -21,9 +21,12 @@ fn lacks_memory(ended: &Result<PaxosEnd, PaxosFault>) -> bool
     matches!(ended, Err(PaxosFault::NoMemory))
 }
 
-/// Runs each line that a source gives over the processes of a run, whose disks are blank, up to the first that a schedule may
-/// not have there or that ends with an error, and writes the answers. Running out of memory is reported before a fault of the
-/// sink. What the run holds in memory is left to the end of the process.
+/// Runs each line that a source gives over the processes of a run, and writes the answers. Each process has the first disk of a
+/// pair, which is blank: members first, then acceptors, then leaders; second disks, and pairs past them, stay as they were. A run
+/// ends at the first line that a schedule may not have there (`BadLine`), that passes a limit (`TooMany`), or in which its
+/// process's disk fails (`Disk`); where the making of a process fails no line runs. All answers to the lines that ran are written,
+/// and a prefix of them where the sink failed (`Write`) or memory ran out. Running out of memory is reported before a fault of the
+/// sink, and that before any other. What the run holds in memory is left to the end of the process (docs/RULES.md, Paxos Commit).
 pub fn run_paxos<S: Source, W: Sink, D: StopDisk>(
     alloc: Global,
     group: Group,

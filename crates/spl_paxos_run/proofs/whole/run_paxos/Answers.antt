@@ -1,8 +1,8 @@
-use Rattle.std.proofs.Common.{◌≡◌, ◌<◌, List, ℕ, Err, sym, ap, subst}
+use Rattle.std.proofs.Common.{Err, sym, ap, subst}
 use Rattle.spl_edge.specs.Views.{bench}
 use Rattle.spl_lines.specs.Given.{run_of}
 use Rattle.spl_paxos_world.specs.declared.fault.PaxosFault.{PaxosFault}
-use Rattle.spl_paxos_run.specs.Run.{Ended, Ran, devices, given}
+use Rattle.spl_paxos_run.specs.Run.{Ran, devices, given}
 use Rattle.spl_paxos_run.proofs.Flushing.{ran_short, ran_unwritten, ran_whole, sink_failed}
 use Rattle.spl_paxos_run.proofs.whole.run_paxos.Goals as goal
 

@@ -1,12 +1,10 @@
-use Rattle.std.proofs.Common.{◌≡◌, ◌∙◌, ◌<◌, ℕ, List, [], ◌∷◌, ◌++◌, Err, refl, sym, ap, subst, arith}
-use Rattle.spl_edge.specs.Views.{PairView, bench}
-use Rattle.spl_lines.specs.Due.{IsDue, IsDuePart}
-use Rattle.spl_lines.specs.Written.{printed}
+use Rattle.std.proofs.Common.{◌≡◌, ◌∙◌, ◌<◌, ℕ, List, [], ◌∷◌, ◌++◌, sym, ap, subst, arith}
+use Rattle.spl_edge.specs.Views.{bench}
+use Rattle.spl_lines.specs.Due.{IsDue}
 use Rattle.spl_acceptor.specs.Worlds.{answer, first_world, world_behind}
 use Rattle.spl_acceptor.specs.declared.group.Group.{Group}
 use Rattle.spl_acceptor.specs.declared.message.Name.{Name}
 use Rattle.spl_paxos.specs.Lines.{happening_of}
-use Rattle.spl_paxos.specs.Texts.{answer_text}
 use Rattle.spl_paxos.specs.declared.line.PaxosLine.{PaxosLine}
 use Rattle.spl_paxos_world.specs.Places.{EachDisk, process_count}
 use Rattle.spl_paxos_world.specs.Wholes.{ChangesFirst, HasFailedAt, HasFallen, HasPicked, WorldStands, group_of}
@@ -16,8 +14,8 @@ use Rattle.spl_paxos_world.specs.declared.world.PaxosWorld.{PaxosWorld}
 use Rattle.spl_quorum.specs.Written.{process_of}
 use Rattle.spl_paxos_run.specs.Run.{devices}
 use Rattle.spl_paxos_run.specs.Schedule.{happenings, outputs}
-use Rattle.spl_paxos_run.specs.Stages.{StopsAt, fault_of}
-use Rattle.spl_paxos_run.proofs.Halting.{due_answer, due_unanswered, part_answer, stops_fallen, stops_memory, stops_over, stops_sink, stepped}
+use Rattle.spl_paxos_run.specs.Stages.{StopsAt}
+use Rattle.spl_paxos_run.proofs.Halting.{due_answer, due_unanswered, part_answer, spelled_as, stops_fallen, stops_memory, stops_over, stops_sink, stepped}
 use Rattle.spl_paxos_run.proofs.Results.{err_from, err_same, failed}
 use Rattle.spl_paxos_run.proofs.Standing.{spared_more}
 use Rattle.spl_paxos_run.proofs.run.Run.answer.Goals as goal
@@ -56,7 +54,7 @@ returns-in_err-answer-clause-stopped g c = λ run ls x h.
     let why : (n : Name) → f ≡ Disk n → (n ≡ process_of (happening_of t.1)) × HasFailedAt run n x.disks new =
     λ n is. subst (λ (k : Group). (n ≡ process_of (happening_of t.1)) × HasFailedAt k n x.disks new) group (c.in_err-answer.ensures.failed es x.disks stands picked n (ap (failed _ PaxosFault) is)) in
     let stops = stops_fallen run ls c.args.self.now x (devices sink old) h t new fallen spared f c.in_err-answer.ensures.only why in
-    err_from c.from_residual-in_err-answer.result f _ c.from_residual-in_err-answer.ensures
+    err_from c.from_residual-in_err-answer.result f (λ e. StopsAt e run (ls ++ t ∷ []) c.count.new.self.output x (devices sink new)) c.from_residual-in_err-answer.ensures
     (subst (λ (waiting : List ℕ). StopsAt f run (ls ++ t ∷ []) waiting x (devices sink new)) (sym c.count.ensures.output) stops)
 
 pub returns-in_err-append_answer-clause-stopped : goal.returns-in_err-append_answer-clause-stopped
@@ -68,7 +66,7 @@ returns-in_err-append_answer-clause-stopped g c = λ run ls x h.
     let after = stepped run ls t c.args.self.now x (devices sink old) h c.count.new.self.world c.count.ensures.world c.step.new.self c.step.ensures.group new
     c.in_ok-answer.ensures.stands c.in_ok-answer.ensures.picked c.step.ensures.changes (c.in_ok-count.ensures.counted ls c.args.number h.within h.events h.stops).0 in
     let due = subst (λ (waiting : List ℕ). IsDue x.sink.written sink.written waiting (outputs run (first_world run) ls)) (sym c.count.ensures.output) h.due in
-    err_from c.from_residual-in_err-append_answer.result NoMemory _ c.from_residual-in_err-append_answer.ensures
+    err_from c.from_residual-in_err-append_answer.result NoMemory (λ e. StopsAt e run (ls ++ t ∷ []) c.count.new.self.output x (devices sink new)) c.from_residual-in_err-append_answer.ensures
     (stops_memory run (ls ++ t ∷ []) c.step.new.self x (devices sink new) after c.count.new.self.output (due_unanswered run ls t x.sink.written sink.written c.count.new.self.output due))
 
 pub returns-in-Ok-clause-done : goal.returns-in-Ok-clause-done
@@ -85,7 +83,7 @@ returns-in-Ok-clause-done g c = λ run ls x h.
     let group : group_of c.count.new.self.world ≡ run = ap group_of c.count.ensures.world ∙ h.group in
     let stands = subst (λ (w : PaxosWorld). WorldStands es w old) (sym c.count.ensures.world) h.stands in
     let right = subst (λ (k : Group). a ≡ answer k (world_behind k es) (happening_of t.1)) group (c.in_ok-answer.ensures.answer es stands) in
-    let spelled : c.deref.result.now ≡ answer_text a = c.deref.ensures.value ∙ c.in_ok-append_answer.ensures ∙ ap (λ (l : List ℕ). l ++ answer_text a) c.clear.ensures.items in
+    let spelled = spelled_as a c.clear.new.self.items c.append_answer.new.out.items c.deref.result.now c.clear.ensures.items c.in_ok-append_answer.ensures c.deref.ensures.value in
     let due = subst (λ (waiting : List ℕ). IsDue x.sink.written sink.written waiting (outputs run (first_world run) ls)) (sym c.count.ensures.output) h.due in
     record {
       group = after.group;
@@ -113,7 +111,7 @@ returns-in-Err-clause-stopped g c = λ run ls x h.
     let group : group_of c.count.new.self.world ≡ run = ap group_of c.count.ensures.world ∙ h.group in
     let stands = subst (λ (w : PaxosWorld). WorldStands es w old) (sym c.count.ensures.world) h.stands in
     let right = subst (λ (k : Group). a ≡ answer k (world_behind k es) (happening_of t.1)) group (c.in_ok-answer.ensures.answer es stands) in
-    let spelled : c.deref.result.now ≡ answer_text a = c.deref.ensures.value ∙ c.in_ok-append_answer.ensures ∙ ap (λ (l : List ℕ). l ++ answer_text a) c.clear.ensures.items in
+    let spelled = spelled_as a c.clear.new.self.items c.append_answer.new.out.items c.deref.result.now c.clear.ensures.items c.in_ok-append_answer.ensures c.deref.ensures.value in
     let due = subst (λ (waiting : List ℕ). IsDue x.sink.written sink.written waiting (outputs run (first_world run) ls)) (sym c.count.ensures.output) h.due in
     let part = part_answer run ls t x.sink.written sink.written c.count.new.self.output due a right c.deref.result.now spelled later.written c.put.new.self c.in-Err.ensures.part in
     subst (λ (f : PaxosFault). StopsAt f run (ls ++ t ∷ []) c.put.new.self x (devices later new)) (sym c.fault_of.ensures)

@@ -1,7 +1,7 @@
-use Rattle.std.proofs.Common.{◌≡◌, ◌+◌, ℕ, List, [], ◌∷◌, ◌++◌, length, inr, refl, sym, ◌∙◌, ap, arith}
+use Rattle.std.proofs.Common.{◌≡◌, ℕ, [], ◌∷◌, ◌++◌, refl, sym, ◌∙◌, ap, arith}
 use Rattle.spl_paxos.specs.declared.line.PaxosLine.{PaxosLine}
 use Rattle.spl_paxos_run.proofs.Bounds.{lines_more, over_stops, stop_more, stop_still, within_more}
-use Rattle.spl_paxos_run.specs.Limits.{IsWithin, is_stop, stops_of}
+use Rattle.spl_paxos_run.specs.Limits.{IsWithin, stops_of}
 use Rattle.spl_paxos_run.proofs.run.Run.count.Goals.{then-is_stop+else-self-ge-MOST_STOPS, else-is_stop}
 use Rattle.spl_paxos_run.proofs.run.Run.count.Goals as goal
 

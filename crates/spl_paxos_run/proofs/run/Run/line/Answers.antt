@@ -1,8 +1,7 @@
-use Rattle.std.proofs.Common.{◌≡◌, ◌∙◌, ◌⊎◌, inl, inr, ℕ, List, [], ◌∷◌, ◌++◌, Option, Some, OnOk, sym, ap, subst}
+use Rattle.std.proofs.Common.{◌≡◌, ◌∙◌, ◌⊎◌, [], ◌∷◌, ◌++◌, Option, Some, OnOk, sym, ap, subst}
 use Rattle.spl_edge.specs.Views.{bench}
 use Rattle.spl_paxos.specs.declared.line.PaxosLine.{PaxosLine}
 use Rattle.spl_acceptor.specs.declared.group.Group.{Group}
-use Rattle.spl_paxos_world.specs.Wholes.{group_of}
 use Rattle.spl_paxos_world.specs.declared.fault.PaxosFault.{PaxosFault}
 use Rattle.spl_paxos_world.specs.declared.fault.PaxosFault.TheVariants.{BadLine, NoMemory}
 use Rattle.spl_paxos_run.specs.Run.{devices}
@@ -17,7 +16,7 @@ returns-in_err-said-clause-stopped g c = λ run ls x h.
     let y = devices (g.W.Sink.view c.args.out.now) (bench g.D.Disk.view c.args.pairs.now.items) in
     let f = c.in_err-said.field-0.0 in
     let bad = subst (λ (k : Group). (f ≡ NoMemory) ⊎ ((f ≡ BadLine c.args.number) × (IsLine k c.args.line.now → ⊥))) h.group c.in_err-said.ensures.bad in
-    err_from c.from_residual.result f _ c.from_residual.ensures (stops_unread_by run ls c.args.self.now x y h c.args.number c.args.line.now f bad)
+    err_from c.from_residual.result f (λ e. StopsBy e run ls c.args.number c.args.line.now c.args.self.now.output x y) c.from_residual.ensures (stops_unread_by run ls c.args.self.now x y h c.args.number c.args.line.now f bad)
 
 pub returns-clause-done : goal.returns-clause-done
 returns-clause-done g c = λ run ls x h.

@@ -1,14 +1,13 @@
-use Rattle.std.proofs.Common.{◌≡◌, ◌∙◌, ◌+◌, ℕ, List, [], ◌∷◌, ◌++◌, length, Ok, refl, sym, ap, subst, arith, length-append}
+use Rattle.std.proofs.Common.{◌≡◌, ◌+◌, ℕ, List, [], ◌∷◌, ◌++◌, length, Ok, refl, sym, subst, arith, length-append}
 use Rattle.spl_edge.specs.Views.{bench}
 use Rattle.spl_lines.specs.Feed.{Feeds, waiting}
 use Rattle.spl_lines.specs.Given.{run_of}
 use Rattle.spl_lines.specs.Lines.{lines_of}
 use Rattle.spl_lines.proofs.Fed.{few_lines}
 use Rattle.spl_lines.proofs.Given.{limit_is}
-use Rattle.spl_acceptor.specs.declared.group.Group.{Group}
 use Rattle.spl_paxos.specs.declared.line.PaxosLine.{PaxosLine}
-use Rattle.spl_paxos_run.specs.Run.{AreLines, Devices, Ended, EndsText, devices, given}
-use Rattle.spl_paxos_run.specs.Schedule.{IsLine, numbered, said, with_number}
+use Rattle.spl_paxos_run.specs.Run.{Ended, EndsText, devices, given}
+use Rattle.spl_paxos_run.specs.Schedule.{IsLine, numbered}
 use Rattle.spl_paxos_run.specs.Stages.{AreDone, Comes, end_of}
 use Rattle.spl_paxos_run.specs.declared.run.PaxosEnd.TheVariants.{Whole}
 use Rattle.spl_paxos_run.proofs.Endings.{all_given, comes_by, comes_end, comes_none, comes_ok, text_by, text_end, text_whole}
@@ -55,8 +54,7 @@ lines-preserved g c =
       done = (one.0, one.1, subst (λ (ls : List (ℕ × PaxosLine)). AreDone one.0 ls c.line.new.self one.1 y) (sym (numbered_more lines line (c.lines.count + 1) counted)) next.1);
       each = λ run x h.
           let had = c.lines.invariant.each run x h in
-          let more = c.in-Ok-line.ensures.done run (numbered 1 lines) x had.1 in
-          (
+          let more = c.in-Ok-line.ensures.done run (numbered 1 lines) x had.1 in (
             all-push (IsLine run) lines line had.0 more.0,
             subst (λ (ls : List (ℕ × PaxosLine)). AreDone run ls c.line.new.self x y) (sym (numbered_more lines line (c.lines.count + 1) counted)) more.1,
           );
