@@ -12,6 +12,7 @@ use Rattle.spl_acceptor.specs.declared.group.Group.{Group}
 use Rattle.spl_acceptor.specs.declared.message.Name.{Name}
 use Rattle.spl_paxos.specs.Lines.{happening_of}
 use Rattle.spl_paxos.specs.declared.line.PaxosLine.{PaxosLine}
+use Rattle.spl_paxos_world.specs.Faults.{IsOfWorld}
 use Rattle.spl_paxos_world.specs.Places.{EachDisk}
 use Rattle.spl_paxos_world.specs.Wholes.{AreSpared, AreUnmade, HasFailedAt, HasFallen, HasPicked, HoldsAfter}
 use Rattle.spl_paxos_world.specs.declared.fault.PaxosFault.{PaxosFault}
@@ -129,10 +130,11 @@ pub record Run (e : Ended) (g : Group) (lines : List (List ℕ)) (x y : Devices)
   -- what the disks hold and picked
   pub left : Left e g before next x.disks y.disks
 
--- not all processes were made: nothing was written
+-- not all processes were made, since a disk failed or memory ran out: nothing was written
 pub record Unmade (e : Ended) (g : Group) (x y : Devices) : Type 0 where
   pub fault : PaxosFault
   pub is : e ≡ Err fault
+  pub cause : IsOfWorld fault
   pub disks : AreUnmade g fault x.disks y.disks
   pub written : Appends x.sink.written y.sink.written []
 
