@@ -51,7 +51,6 @@ impl Word for NodeId {
 
     ghost word = { text is_node_id };
 
-    #[inline(always)]
     fn read(_alloc: Global, bytes: &[u8]) -> Result<NodeId, LineFault> {
         NodeId::read(bytes).ok_or(LineFault::BadLine)
     }
@@ -69,7 +68,6 @@ impl Word for CircuitId {
 
     ghost word = { text is_circuit_id };
 
-    #[inline(always)]
     fn read(_alloc: Global, bytes: &[u8]) -> Result<CircuitId, LineFault> {
         CircuitId::read(bytes).ok_or(LineFault::BadLine)
     }

@@ -6,7 +6,6 @@ ghost use Rattle.spl_words.specs.Words.{split, behind, read_end, Reads};
 use crate::fault::LineFault;
 use std::marker::Model;
 
-#[inline(always)]
 fn place_of(bytes: &[u8], by: u8) -> Option<usize>
     ensures { result ≡ position (λ b. b == by) bytes.now }
 {
@@ -14,7 +13,6 @@ fn place_of(bytes: &[u8], by: u8) -> Option<usize>
 }
 
 /// What stands before the first such byte, and what stands after it, where there is one.
-#[inline(always)]
 fn first_part(bytes: &[u8], by: u8) -> Option<(&[u8], &[u8])>
     ensures { MatchOption result (split by bytes.now ≡ bytes.now ∷ []) (λ p. split by bytes.now ≡ p.0.now ∷ split by p.1.now) }
 {
@@ -25,7 +23,6 @@ fn first_part(bytes: &[u8], by: u8) -> Option<(&[u8], &[u8])>
 }
 
 /// What stands after these bytes, where a word begins with them.
-#[inline(always)]
 pub fn behind<'a>(front: &[u8], word: &'a [u8]) -> Option<&'a [u8]>
     ensures { MatchOption result (behind front.now word.now ≡ None) (λ rest. behind front.now word.now ≡ Some rest.now) }
 {
@@ -50,7 +47,6 @@ impl<'a> Model for WordReader<'a> {
 }
 
 impl<'a> WordReader<'a> {
-    #[inline(always)]
     pub fn new(bytes: &'a [u8], by: u8) -> WordReader<'a>
         ensures { result ≡ split by bytes.now }
     {
@@ -62,7 +58,6 @@ impl<'a> WordReader<'a> {
     }
 
     /// The next word.
-    #[inline(always)]
     pub fn next(&mut self) -> Option<&'a [u8]>
         ensures { MatchOption result (self.old ≡ []) (λ w. self.old ≡ w.now ∷ self.new) }
     {
@@ -82,7 +77,6 @@ impl<'a> WordReader<'a> {
     }
 
     /// Fails where a word is left.
-    #[inline(always)]
     pub fn end(&self) -> Result<(), LineFault>
         ensures { Reads result (read_end self.now) }
     {
