@@ -8,7 +8,7 @@ returns-in_err-taken-clause-part g c =
     let piece = c.piece_after-piece.result.now in
     let so_far : c.len-in-pieces.result ≡ length c.pieces.got.items = search rules in
     let is : piece ≡ take (min (length c.args.bytes.now - length c.pieces.got.items) PIECE) (drop (length c.pieces.got.items) c.args.bytes.now) =
-        subst (λ (n : ℕ). piece ≡ take (min (length c.args.bytes.now - n) PIECE) (drop n c.args.bytes.now)) so_far c.piece_after-piece.ensures in
+    subst (λ (n : ℕ). piece ≡ take (min (length c.args.bytes.now - n) PIECE) (drop n c.args.bytes.now)) so_far c.piece_after-piece.ensures in
     part_at c.args.from c.args.to (length c.pieces.got.items) _ c.args.bytes.now piece (g.F.Fabric.view c.args.fabric.now).put (g.F.Fabric.view c.pieces.fabric).put (g.F.Fabric.view c.hand_some.new.fabric).put is c.pieces.invariant.put c.hand_some.ensures.part
 
 pub returns-in_err-extend_from_slice-clause-part : goal.returns-in_err-extend_from_slice-clause-part
@@ -16,7 +16,7 @@ returns-in_err-extend_from_slice-clause-part g c =
     let piece = c.piece_after-piece.result.now in
     let so_far : c.len-in-pieces.result ≡ length c.pieces.got.items = search rules in
     let is : piece ≡ take (min (length c.args.bytes.now - length c.pieces.got.items) PIECE) (drop (length c.pieces.got.items) c.args.bytes.now) =
-        subst (λ (n : ℕ). piece ≡ take (min (length c.args.bytes.now - n) PIECE) (drop n c.args.bytes.now)) so_far c.piece_after-piece.ensures in
+    subst (λ (n : ℕ). piece ≡ take (min (length c.args.bytes.now - n) PIECE) (drop n c.args.bytes.now)) so_far c.piece_after-piece.ensures in
     part_at c.args.from c.args.to (length c.pieces.got.items) _ c.args.bytes.now piece (g.F.Fabric.view c.args.fabric.now).put (g.F.Fabric.view c.pieces.fabric).put (g.F.Fabric.view c.hand_some.new.fabric).put is c.pieces.invariant.put c.hand_some.ensures.part
 
 pub pieces-preserved : goal.pieces-preserved
@@ -24,7 +24,7 @@ pieces-preserved g c =
     let piece = c.piece_after-piece.result.now in
     let so_far : c.len-in-pieces.result ≡ length c.pieces.got.items = search rules in
     let is : piece ≡ take (min (length c.args.bytes.now - length c.pieces.got.items) PIECE) (drop (length c.pieces.got.items) c.args.bytes.now) =
-        subst (λ (n : ℕ). piece ≡ take (min (length c.args.bytes.now - n) PIECE) (drop n c.args.bytes.now)) so_far c.piece_after-piece.ensures in
+    subst (λ (n : ℕ). piece ≡ take (min (length c.args.bytes.now - n) PIECE) (drop n c.args.bytes.now)) so_far c.piece_after-piece.ensures in
     let bytes = c.args.bytes.now in
     let got = c.pieces.got.items in
     let taken = c.in_ok-taken.taken.items in
